@@ -1,0 +1,59 @@
+-- How large the degrees of a wanted symbol are.
+use Rattle.std.proofs.Common.{◌≡◌, ℕ, zero, suc, ◌*◌, ◌<◌, ◌≤◌, ◌↔◌, [], ◌∷◌, slice_index_or, subst, sym, arith}
+use Rattle.std.proofs.Math.Nat.{mul-le-mul_left, mul-le-mul_right}
+use Rattle.dd_model.specs.declared.allowed.Allowed.{Allowed}
+use Rattle.dd_model.specs.declared.requests.Request.{Request}
+use Rattle.dd_model.specs.declared.parts.Pair.{Pair}
+use Rattle.dd_model.specs.declared.parts.Pair.TheVariants.{Tile, Vertex}
+use Rattle.dd_model.specs.Symbol.{Symbol, IsSymbol, IsChamber, item, degree}
+use Rattle.dd_model.specs.Cell.{IsBranching}
+use Rattle.dd_model.specs.Allowed.{IsIn, IsFrom}
+use Rattle.dd_model.specs.Request.{IsValid}
+use Rattle.dd_model.specs.Wanted.{IsCrystallographic, Wanted}
+use Rattle.dd_model.proofs.Branching.{branching_exists}
+use Rattle.dd_model.proofs.Turns.{IsLeastTurns-from_period, least_turns_unique}
+use Rattle.dd_model.proofs.CellWalks.{has_period}
+
+one_of_five : (v k : ℕ) → k < 5 → slice_index_or (1 ∷ 2 ∷ 3 ∷ 4 ∷ 6 ∷ []) k v ≡ v → v ≤ 6
+one_of_five v zero h e = omega (arith, e)
+one_of_five v (suc zero) h e = omega (arith, e)
+one_of_five v (suc (suc zero)) h e = omega (arith, e)
+one_of_five v (suc (suc (suc zero))) h e = omega (arith, e)
+one_of_five v (suc (suc (suc (suc zero)))) h e = omega (arith, e)
+one_of_five v (suc (suc (suc (suc (suc k))))) h e = absurd (omega arith)
+
+product_bound : (v r m n : ℕ) → v ≤ 6 → r ≤ n → v * r ≡ m → m ≤ 6 * n
+product_bound v r m n hv hr e =
+    let a = mul-le-mul_right r hv in
+    let b = mul-le-mul_left 6 hr in
+    omega (arith, a, b, e)
+
+-- A degree is the branching value, at most 6, times the turns of the cell, at most the chambers.
+degree_bound : (s : Symbol) → IsSymbol s → (p : Pair) (d : ℕ) → IsChamber s d → ((v : ℕ) → IsBranching s p d v → IsCrystallographic v)
+    → degree s p d ≤ 6 * s.size
+degree_bound s is p d h crystal =
+    let b = branching_exists s is p d h in
+    let crystallographic = crystal b.0 b.1 in
+    let r = has_period s is.table.involutions p d h in
+    let same = least_turns_unique s p d b.1.r r.r b.1.least_turns (IsLeastTurns-from_period s is.table.involutions p d r.r h r.period) in
+    product_bound b.0 b.1.r (degree s p d) s.size
+    (one_of_five b.0 crystallographic.0 crystallographic.1 crystallographic.2)
+    (subst (λ k. k ≤ s.size) (sym same) r.bound)
+    b.1.quotient
+
+in_set : (f m n c : ℕ) (a : Allowed) → IsFrom f a → m ≤ 6 * n → n ≤ c → c ≤ 36 → IsIn a m ↔ (f ≤ m)
+in_set f m n c a from bound few most = (λ h. ((from m).0 h).0, λ h. (from m).1 (h, omega arith))
+
+pub wanted_face : (q : Request) (s : Symbol) (f d : ℕ) (a : Allowed) → IsValid q → Wanted q s → IsFrom f a → IsChamber s d
+    → IsIn a (item s.m01 d) ↔ (f ≤ item s.m01 d)
+wanted_face q s f d a valid w from h =
+    in_set f (item s.m01 d) s.size q.chambers a from
+    (degree_bound s w.symbol Tile d h (λ v. w.face_branching d v h))
+    w.chambers valid.chambers.1
+
+pub wanted_degree : (q : Request) (s : Symbol) (f d : ℕ) (a : Allowed) → IsValid q → Wanted q s → IsFrom f a → IsChamber s d
+    → IsIn a (item s.m12 d) ↔ (f ≤ item s.m12 d)
+wanted_degree q s f d a valid w from h =
+    in_set f (item s.m12 d) s.size q.chambers a from
+    (degree_bound s w.symbol Vertex d h (λ v. w.vertex_branching d v h))
+    w.chambers valid.chambers.1

@@ -1,0 +1,11 @@
+-- Symbols of the size and with the branching values that the workbench keeps.
+use Rattle.std.specs.Prelude.{ℕ, ◌≤◌}
+use Rattle.dd_model.specs.Symbol.{Symbol, IsSymbol, IsChamber}
+use Rattle.dd_model.specs.Cell.{IsBranching}
+use Rattle.dd_model.specs.declared.parts.Pair.{Pair}
+
+-- a symbol of at most 16,384 chambers with branching values of at most 30
+pub record IsSmallSymbol (s : Symbol) : Type 0 where
+  pub symbol : IsSymbol s
+  pub size : s.size ≤ 16384
+  pub branching : (p : Pair) (d v : ℕ) → IsChamber s d → IsBranching s p d v → v ≤ 30

@@ -1,0 +1,36 @@
+ghost use Rattle.std.specs.Prelude.{◌≡◌, ◌≤◌, ◌↔◌, IsTrue};
+
+use crate::Allowed;
+
+/// Which symbols are asked for.
+#[derive(Clone, Copy)]
+pub struct Request {
+    /// At most so many chambers, 1 to 36.
+    pub chambers: u32,
+    /// At most so many classes of tiles, 1 to 36; 0 sets no limit.
+    pub tiles: u32,
+    /// At most so many classes of vertices, 1 to 36; 0 sets no limit.
+    pub vertices: u32,
+    /// The numbers of edges that tiles may have.
+    pub faces: Allowed,
+    /// The degrees that vertices may have.
+    pub degrees: Allowed,
+    /// Whether minimal symbols alone are asked for.
+    pub minimal: bool,
+}
+
+impl Request {
+    ghost use Rattle.dd_model.specs.Request.{IsValid};
+
+    /// Whether each field is in its range.
+    pub fn is_valid(&self) -> bool
+        ensures { IsTrue result ↔ IsValid self.now }
+    {
+        self.chambers >= 1
+            && self.chambers <= 36
+            && self.tiles <= 36
+            && self.vertices <= 36
+            && self.faces.is_some()
+            && self.degrees.is_some()
+    }
+}
