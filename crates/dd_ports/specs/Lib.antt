@@ -1,0 +1,7 @@
+pub mod Causes
+pub mod Grows
+pub mod Texts
+pub mod Shelf
+pub mod Sinks
+pub mod Schedule
+pub mod Stores

@@ -1,0 +1,42 @@
+ghost use Rattle.std.specs.Prelude.{false};
+
+use crate::fault_count::FaultCount;
+use crate::sink::{Sink, SinkFault};
+use std::io::Write;
+
+/// A writer of the system, whose faults are counted. It tells what it holds where the writer does,
+/// which a real stream does not.
+#[derive(Drop)]
+pub struct StdSink<W: Write + Drop> {
+    inner: W,
+    faults: FaultCount,
+}
+
+impl<W: Write + Drop> StdSink<W> {
+    /// A sink that hands all to a writer.
+    pub fn new(inner: W) -> StdSink<W> {
+        StdSink {
+            inner,
+            faults: FaultCount::new(),
+        }
+    }
+}
+
+impl<W: Write + Drop> Sink for StdSink<W> {
+    ghost held = { λ s. W.contents s.inner };
+
+    ghost faults = { λ s. s.faults };
+
+    ghost sure = { λ _. false };
+
+    /// A write that takes nothing counts as a fault.
+    fn write(&mut self, piece: &[u8]) -> Result<usize, SinkFault> {
+        match self.inner.write(piece) {
+            Ok(count) if count > 0 => Ok(count),
+            _ => {
+                self.faults.rise();
+                Err(SinkFault::Failed)
+            }
+        }
+    }
+}
