@@ -1,0 +1,9 @@
+pub mod TableLemmas
+pub mod WalkLemmas
+pub mod CellMarks
+pub mod DegreeLemmas
+pub mod RefusalLemmas
+pub mod RefusalRows
+pub mod SmallLemmas
+pub mod MapLemmas
+pub mod RenumberLemmas

@@ -1,0 +1,70 @@
+ghost use Rattle.std.specs.Prelude.{◌≡◌, IfOk};
+ghost use Rattle.dd_model.specs.Isomorphic.{IsBijection, IsIsomorphism};
+
+use crate::symbol::Symbol;
+use dd_model::Memory;
+use std::alloc::Global;
+use std::marker::Model;
+
+/// A symbol in which some word leads from chamber 1 to each chamber.
+#[derive(Drop)]
+pub struct Connected {
+    symbol: Symbol,
+}
+
+impl Model for Connected {
+    ghost use Rattle.dd_model.specs.Symbol.{Symbol as Tiling, Connected as AllReached};
+
+    ghost Value = { Tiling };
+
+    ghost view = { λ a. a.symbol };
+
+    ghost invariant = { λ a. AllReached a.symbol };
+}
+
+impl Connected {
+    ghost use Rattle.dd_model.specs.Symbol.{Connected as AllReached};
+    ghost use Rattle.dd_model.specs.Small.{IsSmallSymbol};
+
+    pub(crate) fn from_symbol(symbol: Symbol) -> Self
+        requires { AllReached symbol }
+        ensures { result ≡ symbol }
+    {
+        Connected { symbol }
+    }
+
+    /// What holds of every connected symbol.
+    pub fn known(&self)
+        ensures symbol { IsSmallSymbol self.now }
+        ensures connected { AllReached self.now }
+    {
+        self.symbol.known();
+    }
+
+    /// The symbol without what is known of its connectedness.
+    pub fn symbol(&self) -> &Symbol
+        ensures { result.now ≡ self.now }
+    {
+        &self.symbol
+    }
+
+    /// Chamber D becomes chamber map(D).
+    pub fn renumber(&self, alloc: Global, map: &[u32]) -> Result<Connected, Memory>
+        requires { IsBijection self.now.size map.now }
+        ensures { IfOk result (λ other. IsIsomorphism self.now other map.now) }
+    {
+        self.known();
+        Ok(Connected {
+            symbol: self.symbol.renumber(alloc, map)?,
+        })
+    }
+
+    /// An equal symbol.
+    pub fn try_copy(&self, alloc: Global) -> Result<Connected, Memory>
+        ensures { IfOk result (λ copy. copy ≡ self.now) }
+    {
+        Ok(Connected {
+            symbol: self.symbol.try_copy(alloc)?,
+        })
+    }
+}

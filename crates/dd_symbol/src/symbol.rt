@@ -1,0 +1,147 @@
+ghost use Rattle.std.specs.Prelude.{◌≡◌, ◌≤◌, ◌<◌, IfOk};
+ghost use Rattle.dd_model.specs.Isomorphic.{IsBijection, IsIsomorphism};
+ghost use Rattle.dd_model.specs.Code.{code_cmp};
+
+use crate::maps::inverse;
+use crate::table::Table;
+use dd_model::{Code, Index, Memory, Pair};
+use std::alloc::Global;
+use std::cmp::Ordering;
+use std::marker::Model;
+
+/// A symbol of at most 16,384 chambers with branching values of at most 30.
+#[derive(Drop)]
+pub struct Symbol {
+    table: Table,
+}
+
+impl Model for Symbol {
+    ghost use Rattle.dd_model.specs.Symbol.{Symbol as Tiling};
+
+    ghost Value = { Tiling };
+
+    ghost use Rattle.dd_symbol.specs.Table.{symbol_of};
+    ghost use Rattle.dd_model.specs.Small.{IsSmallSymbol};
+
+    ghost view = { λ a. symbol_of a.table };
+
+    ghost invariant = { λ a. IsSmallSymbol (symbol_of a.table) };
+}
+
+impl Symbol {
+    ghost use Rattle.dd_model.specs.Symbol.{IsChamber, op, degree};
+    ghost use Rattle.dd_model.specs.Cell.{IsBranching, AreCells};
+    ghost use Rattle.dd_model.specs.Code.{code};
+    ghost use Rattle.dd_symbol.specs.Table.{symbol_of};
+    ghost use Rattle.dd_model.specs.Small.{IsSmallSymbol};
+
+    /// The symbol of a table.
+    pub(crate) fn from_table(table: Table) -> Self
+        requires { IsSmallSymbol (symbol_of table) }
+        ensures { result ≡ symbol_of table }
+    {
+        Symbol { table }
+    }
+
+    /// What holds of every symbol.
+    pub fn known(&self)
+        ensures { IsSmallSymbol self.now }
+    {
+        let _ = &self.table;
+    }
+
+    /// The number of chambers, at most 16,384.
+    pub fn size(&self) -> u32
+        ensures size { result ≡ self.now.size }
+        ensures small { result ≤ 16384 }
+    {
+        self.table.size()
+    }
+
+    /// The image of a chamber under an involution.
+    pub fn op(&self, i: Index, chamber: u32) -> u32
+        requires { IsChamber self.now chamber }
+        ensures image { result ≡ op self.now i chamber }
+        ensures chamber { IsChamber self.now result }
+    {
+        self.table.op(i, chamber)
+    }
+
+    /// The degree of the tile at a chamber.
+    pub fn m01(&self, chamber: u32) -> u32
+        requires { IsChamber self.now chamber }
+        ensures { result ≡ degree self.now Pair.Tile chamber }
+    {
+        self.table.degree(Pair::Tile, chamber)
+    }
+
+    /// The degree of the vertex at a chamber.
+    pub fn m12(&self, chamber: u32) -> u32
+        requires { IsChamber self.now chamber }
+        ensures { result ≡ degree self.now Pair.Vertex chamber }
+    {
+        self.table.degree(Pair::Vertex, chamber)
+    }
+
+    /// The degree of a pair at a chamber, which for edges is 2.
+    pub fn degree(&self, pair: Pair, chamber: u32) -> u32
+        requires { IsChamber self.now chamber }
+        ensures { result ≡ degree self.now pair chamber }
+    {
+        self.table.degree(pair, chamber)
+    }
+
+    /// The branching value of a pair at a chamber: the degree divided by the least number of turns.
+    pub fn branching(&self, pair: Pair, chamber: u32) -> u32
+        requires { IsChamber self.now chamber }
+        ensures { IsBranching self.now pair chamber result }
+    {
+        self.known();
+        self.table.branching(pair, chamber)
+    }
+
+    /// The least chambers of the cells of a pair, ascending: one for each cell.
+    pub fn least_chambers(&self, alloc: Global, pair: Pair) -> Result<Vec<u32>, Memory>
+        ensures { IfOk result (λ chambers. AreCells self.now pair chambers.items) }
+    {
+        self.known();
+        self.table.least_chambers(alloc, pair)
+    }
+
+    /// A copy of the code.
+    pub fn code(&self, alloc: Global) -> Result<Code, Memory>
+        ensures { IfOk result (λ numbers. numbers ≡ code self.now) }
+    {
+        self.table.code(alloc)
+    }
+
+    /// An equal symbol.
+    pub(crate) fn try_copy(&self, alloc: Global) -> Result<Symbol, Memory>
+        ensures { IfOk result (λ copy. copy ≡ self.now) }
+    {
+        Ok(Symbol {
+            table: self.table.try_copy(alloc)?,
+        })
+    }
+
+    /// Chamber D becomes chamber map(D).
+    pub fn renumber(&self, alloc: Global, map: &[u32]) -> Result<Symbol, Memory>
+        requires { IsBijection self.now.size map.now }
+        ensures { IfOk result (λ other. IsIsomorphism self.now other map.now) }
+    {
+        self.known();
+        match inverse(alloc, map)? {
+            Some(back) => Ok(Symbol {
+                table: self.table.renumbered(alloc, map, &back)?,
+            }),
+            None => unreachable!(),
+        }
+    }
+}
+
+/// By size, and then by code.
+pub fn cmp_code(a: &Symbol, b: &Symbol) -> Ordering
+    ensures { result ≡ code_cmp a.now b.now }
+{
+    a.table.cmp_code(&b.table)
+}
