@@ -1,0 +1,10 @@
+pub mod ChoiceLemmas
+pub mod SameImages
+pub mod DegreeLemmas
+pub mod WantedLemmas
+pub mod FlatLemmas
+pub mod AcceptedLemmas
+pub mod LevelLemmas
+pub mod LeastLemmas
+pub mod AscendingLemmas
+pub mod AddsLemmas

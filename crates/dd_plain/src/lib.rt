@@ -1,0 +1,17 @@
+//! The catalogue of up to three chambers, by a plain filter over everything that could be a member.
+#![tactic(auto)]
+
+mod branching;
+mod choices;
+mod filter;
+mod flatness;
+mod insertion;
+mod leastness;
+mod trials;
+mod wanted;
+
+pub use choices::each_list_has_a_number;
+pub use filter::plain_catalogue;
+
+#[cfg(test)]
+mod tests;
