@@ -1,0 +1,43 @@
+use Rattle.std.proofs.Common.{◌≡◌, ◌<◌, ℕ, List, length, map, sym, ap, ◌∙◌, subst, arith, slice_index}
+use Rattle.std.specs.Prelude.{IfOk}
+use Rattle.dd_model.specs.Symbol.{item}
+use Rattle.dd_model.specs.Spelling.{values}
+use Rattle.dd_model.specs.declared.written.Numeral.{Numeral}
+use Rattle.dd_text.specs.Involutions.{table_of}
+use Rattle.dd_text.specs.Texts.{told_of}
+use Rattle.dd_text.specs.Images.{IsWithin}
+use Rattle.dd_text.proofs.CellReads.{within_cells, within_least, beyond_at, are_degrees, degrees_if}
+use Rattle.dd_text.proofs.involutions.Involutions.degrees.Goals as goal
+
+pub returns-then-len-2-clause-err : goal.returns-then-len-2-clause-err
+returns-then-len-2-clause-err c =
+    let count : c.len-then-len-2.result ≡ length c.in_ok-cells.cells.items = omega (arith, c.len-then-len-2.ensures) in
+    beyond_at (table_of c.args.self.now) c.args.pair (told_of c.args.list.now) c.in_ok-cells.cells.items c.len-then-len-2.result c.index.result.now
+    c.in_ok-cells.ensures.ok count (omega (arith, c.len-3.ensures, c.len-4.ensures)) c.index.ensures
+
+pub at_cells-requires-clause-chambers : goal.at_cells-requires-clause-chambers
+at_cells-requires-clause-chambers c =
+    subst (λ n. (k : ℕ) → k < length c.deref-2.result.now → IsWithin n (slice_index c.deref-2.result.now k)) (sym c.size.ensures)
+    (subst (λ (zs : List ℕ). (k : ℕ) → k < length zs → IsWithin (table_of c.args.self.now).size (slice_index zs k)) (sym c.deref-2.ensures.value)
+    (within_cells (table_of c.args.self.now) c.args.pair c.in_ok-cells.cells.items c.in_ok-cells.ensures.ok))
+
+pub spread-requires : goal.spread-requires
+spread-requires c = record {
+  chambers =
+      subst (λ n. (k : ℕ) → k < length c.deref-4.result.now → IsWithin n (slice_index c.deref-4.result.now k))
+      (sym (ap length c.deref-5.ensures.value ∙ c.in_ok-told.ensures.length ∙ c.size.ensures))
+      (subst (λ (zs : List ℕ). (k : ℕ) → k < length zs → IsWithin (table_of c.args.self.now).size (slice_index zs k)) (sym c.deref-4.ensures.value)
+      (within_least (table_of c.args.self.now) c.args.pair c.in_ok-least.least.items c.in_ok-least.ensures.ok));
+}
+
+pub returns-clause-ok : goal.returns-clause-ok
+returns-clause-ok c =
+    let at_cells : map (item c.deref-5.result.now) c.in_ok-cells.cells.items ≡ values (told_of c.args.list.now) =
+    ap (λ xs. map (item xs) c.in_ok-cells.cells.items) c.deref-5.ensures.value
+    ∙ ap (map (item c.in_ok-told.told.items)) (sym c.deref-2.ensures.value)
+    ∙ c.in_ok-told.ensures.told
+    ∙ ap (λ (xs : List Numeral). map (λ x. x.value) xs) c.deref-3.ensures.value in
+    degrees_if (table_of c.args.self.now) c.args.pair (values (told_of c.args.list.now)) (map (item c.deref-5.result.now) c.in_ok-least.least.items) c.spread.result
+    (are_degrees (table_of c.args.self.now) c.requires.lists c.args.pair (values (told_of c.args.list.now)) c.in_ok-least.least.items c.in_ok-cells.cells.items
+    c.deref-5.result.now c.in_ok-least.ensures.ok c.in_ok-cells.ensures.ok at_cells)
+    (subst (λ (zs : List ℕ). IfOk c.spread.result (λ v. v.items ≡ map (item c.deref-5.result.now) zs)) c.deref-4.ensures.value c.spread.ensures.ok)

@@ -1,0 +1,9 @@
+pub mod Writing
+pub mod Reader
+pub mod TextFaults
+pub mod Texts
+pub mod ListFaults
+pub mod Images
+pub mod Involutions
+pub mod FileFaults
+pub mod Items

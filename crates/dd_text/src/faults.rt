@@ -1,0 +1,84 @@
+ghost use Rattle.std.specs.Prelude.{◌≡◌};
+
+use dd_symbol::Refusal;
+use std::alloc::{AllocError, AllocFailed};
+
+/// Why a file is not read.
+#[derive(Debug, Clone, Copy, PartialEq, Eq)]
+pub enum Why {
+    /// A byte stands where no part may begin or go on with it.
+    Stray,
+    /// The input ends inside a symbol.
+    UnexpectedEnd,
+    /// A number has more than 9 digits.
+    NumberTooLong,
+    /// The second number of a size is not 2.
+    Dimension,
+    /// A size is 0 or over 1,024.
+    Size,
+    /// A list ends before all its values are told.
+    ListShort,
+    /// A list has a number too many.
+    ListLong,
+    /// An image is no chamber, or a chamber whose image is known.
+    Image,
+    /// The lists are no connected symbol with small branching values.
+    Symbol(Refusal),
+    /// There are over 1,000,000 symbols.
+    TooManySymbols,
+    /// There are over 16,777,216 bytes.
+    Long,
+    /// Want of memory.
+    Memory,
+}
+
+/// The first fault of a file.
+#[derive(Debug, Clone, Copy, PartialEq, Eq)]
+pub struct FileFault {
+    /// The number of the symbol, counted from 1; between symbols that of the next one.
+    pub symbol: u32,
+    /// The place in the file, in bytes, counted from 0.
+    pub at: u64,
+    pub why: Why,
+}
+
+/// A fault in the text of one symbol, and its place.
+#[derive(Debug, Clone, Copy, PartialEq, Eq)]
+pub(crate) struct Fault {
+    pub at: u32,
+    pub why: Why,
+}
+
+impl Fault {
+    ghost use Rattle.dd_text.specs.declared.faults.Why.TheVariants as whys;
+
+    /// Want of memory, at no place.
+    fn memory() -> Self
+        ensures { result.why ≡ whys.Memory }
+    {
+        Fault {
+            at: 0,
+            why: Why::Memory,
+        }
+    }
+}
+
+impl From<AllocError> for Fault {
+    ghost use Rattle.dd_text.specs.declared.faults.Why.TheVariants as whys;
+
+    ghost from_gives = { λ _ fault. fault.why ≡ whys.Memory };
+
+    fn from(_: AllocError) -> Self {
+        Fault::memory()
+    }
+}
+
+impl<T: Drop> From<AllocFailed<T>> for Fault {
+    ghost use Rattle.dd_text.specs.declared.faults.Why.TheVariants as whys;
+
+    ghost from_gives = { λ _ fault. fault.why ≡ whys.Memory };
+
+    fn from(_: AllocFailed<T>) -> Self {
+        Fault::memory()
+    }
+}

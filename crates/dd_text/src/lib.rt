@@ -1,0 +1,23 @@
+//! The `.ds` text of symbols.
+#![tactic(auto)]
+
+mod cells;
+mod fault_laws;
+mod faults;
+mod images;
+mod involutions;
+mod lists;
+mod reader;
+mod reading;
+mod texts;
+mod writing;
+
+pub use fault_laws::{a_faulty_file_spells_nothing, a_file_has_one_fault};
+pub use faults::{FileFault, Why};
+pub use reading::read_file;
+pub use writing::{put_line, put_lines};
+
+#[cfg(test)]
+mod reading_tests;
+#[cfg(test)]
+mod tests;

@@ -1,0 +1,171 @@
+ghost use Rattle.std.specs.Prelude.{◌≡◌, ◌++◌, ◌≤◌, List, Bool, decimal, codes, length, map, OnOk, OnErr, All};
+ghost use Rattle.dd_model.specs.Line.{IsLine, spaced, told_images};
+ghost use Rattle.dd_model.specs.Symbol.{IsChamber, degree};
+ghost use Rattle.dd_model.specs.Text.{AreLines};
+ghost use Rattle.dd_text.specs.Writing.{next_number, AddsLine, AddsLines, IsLonger};
+
+use dd_model::{Index, Memory, Pair};
+use dd_symbol::{Connected, Symbol};
+use itoa::Buffer;
+
+/// Appends the line of number k: `<1.k:n:` with the number n of chambers, the images of the three
+/// involutions, the degrees of the tiles and of the vertices, and `>` with a line feed. At `Err` the
+/// text is as before.
+pub fn put_line(out: &mut Vec<u8>, k: u128, symbol: &Symbol) -> Result<(), Memory>
+    ensures line { OnOk result (AddsLine k symbol.now out.old.items out.new.items) }
+    ensures same { OnErr result (out.new.items ≡ out.old.items) }
+{
+    let length = out.len();
+    let written = append_line(out, k, symbol);
+    if written.is_err() {
+        out.truncate(length);
+    }
+    written
+}
+
+/// Appends the lines of some symbols, numbered from `before + 1` on. At `Err` the text is as before.
+pub fn put_lines(out: &mut Vec<u8>, before: u64, symbols: &[Connected]) -> Result<(), Memory>
+    ensures lines { OnOk result (AddsLines before symbols.now out.old.items out.new.items) }
+    ensures same { OnErr result (out.new.items ≡ out.old.items) }
+{
+    let length = out.len();
+    let written = append_lines(out, before, symbols);
+    if written.is_err() {
+        out.truncate(length);
+    }
+    written
+}
+
+fn append_lines(out: &mut Vec<u8>, before: u64, symbols: &[Connected]) -> Result<(), Memory>
+    ensures lines { OnOk result (AddsLines before symbols.now out.old.items out.new.items) }
+    ensures longer { IsLonger out.old.items out.new.items }
+{
+    let mut number = u128::from(before);
+    for symbol in symbols {
+        number += 1;
+        append_line(out, number, symbol.symbol())?;
+    }
+    Ok(())
+}
+
+fn append_line(out: &mut Vec<u8>, k: u128, symbol: &Symbol) -> Result<(), Memory>
+    ensures line { OnOk result (AddsLine k symbol.now out.old.items out.new.items) }
+    ensures longer { IsLonger out.old.items out.new.items }
+{
+    let alloc = *out.allocator();
+    let tiles = symbol.least_chambers(alloc, Pair::Tile)?;
+    let vertices = symbol.least_chambers(alloc, Pair::Vertex)?;
+    put_head(out, k, symbol.size())?;
+    put_involutions(out, symbol)?;
+    put_cells(out, symbol, &tiles, &vertices)?;
+    Ok(())
+}
+
+/// Appends `<1.k:n:`.
+fn put_head(out: &mut Vec<u8>, k: u128, size: u32) -> Result<(), Memory>
+    ensures head { OnOk result (out.new.items ≡ out.old.items ++ codes "<1." ++ decimal k ++ codes ":" ++ decimal size ++ codes ":") }
+    ensures longer { IsLonger out.old.items out.new.items }
+{
+    put_sign(out, b"<1.")?;
+    put_number(out, k)?;
+    put_sign(out, b":")?;
+    put_number(out, u128::from(size))?;
+    put_sign(out, b":")
+}
+
+/// Appends the images of the three involutions, parted by commas.
+fn put_involutions(out: &mut Vec<u8>, symbol: &Symbol) -> Result<(), Memory>
+    ensures images { OnOk result (out.new.items ≡ out.old.items ++ spaced (told_images symbol.now Index.Zero) ++ codes ","
+        ++ spaced (told_images symbol.now Index.One) ++ codes "," ++ spaced (told_images symbol.now Index.Two)) }
+    ensures longer { IsLonger out.old.items out.new.items }
+{
+    put_images(out, symbol, Index::Zero)?;
+    put_sign(out, b",")?;
+    put_images(out, symbol, Index::One)?;
+    put_sign(out, b",")?;
+    put_images(out, symbol, Index::Two)
+}
+
+/// Appends `:`, the degrees of the cells, which are told by their least chambers, and the line's end.
+fn put_cells(
+    out: &mut Vec<u8>,
+    symbol: &Symbol,
+    tiles: &[u32],
+    vertices: &[u32],
+) -> Result<(), Memory>
+    requires tiles { All (IsChamber symbol.now) tiles.now }
+    requires vertices { All (IsChamber symbol.now) vertices.now }
+    ensures degrees { OnOk result (out.new.items ≡ out.old.items ++ codes ":" ++ spaced (map (degree symbol.now Pair.Tile) tiles.now) ++ codes ","
+        ++ spaced (map (degree symbol.now Pair.Vertex) vertices.now) ++ codes ">\n") }
+    ensures longer { IsLonger out.old.items out.new.items }
+{
+    put_sign(out, b":")?;
+    put_degrees(out, symbol, Pair::Tile, tiles)?;
+    put_sign(out, b",")?;
+    put_degrees(out, symbol, Pair::Vertex, vertices)?;
+    put_sign(out, b">\n")
+}
+
+/// Appends the images of an involution, each pair of chambers told once.
+fn put_images(out: &mut Vec<u8>, symbol: &Symbol, i: Index) -> Result<(), Memory>
+    ensures images { OnOk result (out.new.items ≡ out.old.items ++ spaced (told_images symbol.now i)) }
+    ensures longer { IsLonger out.old.items out.new.items }
+{
+    let mut begun = false;
+    for k in 0..symbol.size() {
+        let chamber = k + 1;
+        let image = symbol.op(i, chamber);
+        if chamber <= image {
+            put_next(out, begun, image)?;
+            begun = true;
+        }
+    }
+    Ok(())
+}
+
+/// Appends the degrees of a pair at some chambers.
+fn put_degrees(
+    out: &mut Vec<u8>,
+    symbol: &Symbol,
+    pair: Pair,
+    chambers: &[u32],
+) -> Result<(), Memory>
+    requires { All (IsChamber symbol.now) chambers.now }
+    ensures degrees { OnOk result (out.new.items ≡ out.old.items ++ spaced (map (degree symbol.now pair) chambers.now)) }
+    ensures longer { IsLonger out.old.items out.new.items }
+{
+    let mut begun = false;
+    for chamber in chambers {
+        put_next(out, begun, symbol.degree(pair, *chamber))?;
+        begun = true;
+    }
+    Ok(())
+}
+
+/// Appends a number of a list, after a space where the list has begun.
+fn put_next(out: &mut Vec<u8>, begun: bool, number: u32) -> Result<(), Memory>
+    ensures next { OnOk result (out.new.items ≡ out.old.items ++ next_number begun number) }
+    ensures longer { IsLonger out.old.items out.new.items }
+{
+    if begun {
+        put_sign(out, b" ")?;
+    }
+    put_number(out, u128::from(number))
+}
+
+/// Appends a number in decimal.
+fn put_number(out: &mut Vec<u8>, number: u128) -> Result<(), Memory>
+    ensures number { OnOk result (out.new.items ≡ out.old.items ++ decimal number) }
+    ensures longer { IsLonger out.old.items out.new.items }
+{
+    let mut digits = Buffer::new();
+    put_sign(out, digits.format(number).as_bytes())
+}
+
+/// Appends some bytes.
+fn put_sign(out: &mut Vec<u8>, bytes: &[u8]) -> Result<(), Memory>
+    ensures bytes { OnOk result (out.new.items ≡ out.old.items ++ bytes.now) }
+    ensures longer { IsLonger out.old.items out.new.items }
+{
+    Ok(out.extend_from_slice(bytes)?)
+}
