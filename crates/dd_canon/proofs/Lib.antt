@@ -1,0 +1,4 @@
+mod OrderLemmas
+mod VisitLemmas
+mod StandingLemmas
+mod FormLemmas

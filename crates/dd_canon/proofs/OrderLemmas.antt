@@ -1,0 +1,76 @@
+-- Comparing lists piece by piece.
+use Rattle.std.proofs.Common.{◌≡◌, ◌≢◌, ℕ, suc, true, false, ◌+◌, ◌-◌, ◌<◌, ◌≤◌, List, [], ◌∷◌, ◌++◌, length, get_or, drop, drop-cons, refl, sym, ap, ◌∙◌, subst, arith}
+use Rattle.std.specs.Ordering.{nat_cmp, ordering_then, is_lt, is_gt, is_eq, is_ne}
+use Rattle.std.specs.Cmp.Lexicographic.{slice_cmp}
+use Rattle.std.specs.declared.cmp.Ordering.{Ordering}
+use Rattle.std.specs.declared.cmp.Ordering.TheVariants.{Less, Equal, Greater}
+use Rattle.dd_model.specs.Symbol.{item}
+use Rattle.dd_model.proofs.Traversals.{then_assoc}
+
+-- lists of one length are compared before what follows them
+pub slice_cmp-append : (xs ys us vs : List ℕ) → length xs ≡ length ys
+    → slice_cmp nat_cmp (xs ++ us) (ys ++ vs) ≡ ordering_then (slice_cmp nat_cmp xs ys) (slice_cmp nat_cmp us vs)
+slice_cmp-append [] [] us vs e = refl
+slice_cmp-append [] (y ∷ ys) us vs e = absurd (omega arith)
+slice_cmp-append (x ∷ xs) [] us vs e = absurd (omega arith)
+slice_cmp-append (x ∷ xs) (y ∷ ys) us vs e =
+    ap (ordering_then (nat_cmp x y)) (slice_cmp-append xs ys us vs (omega arith))
+    ∙ sym (then_assoc (nat_cmp x y) (slice_cmp nat_cmp xs ys) (slice_cmp nat_cmp us vs))
+
+-- one item more of two lists, of which the first's is x and the second's is y
+pub drop_step : (xs ys : List ℕ) (k x y : ℕ) → k < length xs → k < length ys → item xs (k + 1) ≡ x → item ys (k + 1) ≡ y
+    → slice_cmp nat_cmp (drop k xs) (drop k ys) ≡ ordering_then (nat_cmp x y) (slice_cmp nat_cmp (drop (k + 1) xs) (drop (k + 1) ys))
+drop_step xs ys k x y hx hy is it =
+    let back : k + 1 - 1 ≡ k = omega arith in
+    let next : suc k ≡ k + 1 = omega arith in
+    let here : get_or xs k 0 ≡ x = sym (ap (λ j. get_or xs j 0) back) ∙ is in
+    let there : get_or ys k 0 ≡ y = sym (ap (λ j. get_or ys j 0) back) ∙ it in
+    ap (λ zs. slice_cmp nat_cmp zs (drop k ys)) (drop-cons xs k 0 hx)
+    ∙ ap (slice_cmp nat_cmp (get_or xs k 0 ∷ drop (suc k) xs)) (drop-cons ys k 0 hy)
+    ∙ ap (λ j. ordering_then (nat_cmp (get_or xs k 0) (get_or ys k 0)) (slice_cmp nat_cmp (drop j xs) (drop j ys))) next
+    ∙ ap (λ z. ordering_then (nat_cmp z (get_or ys k 0)) (slice_cmp nat_cmp (drop (k + 1) xs) (drop (k + 1) ys))) here
+    ∙ ap (λ z. ordering_then (nat_cmp x z) (slice_cmp nat_cmp (drop (k + 1) xs) (drop (k + 1) ys))) there
+
+pub then_first : (a b : Ordering) → is_ne a ≡ true → a ≡ ordering_then a b
+then_first Less b e = refl
+then_first Equal b e = cc
+then_first Greater b e = refl
+
+pub then_second : (a b : Ordering) → is_ne a ≡ false → ordering_then a b ≡ b
+then_second Less b e = cc
+then_second Equal b e = refl
+then_second Greater b e = cc
+
+pub greater_of : (o : Ordering) → is_gt o ≡ true → o ≡ Greater
+greater_of Less e = cc
+greater_of Equal e = cc
+greater_of Greater e = refl
+
+pub less_of : (o : Ordering) → is_lt o ≡ true → o ≡ Less
+less_of Less e = refl
+less_of Equal e = cc
+less_of Greater e = cc
+
+pub equal_of : (o : Ordering) → is_ne o ≡ false → o ≡ Equal
+equal_of Less e = cc
+equal_of Equal e = refl
+equal_of Greater e = cc
+
+pub less_not_greater : (o : Ordering) → is_lt o ≡ true → o ≢ Greater
+less_not_greater Less e g = cc
+less_not_greater Equal e g = cc
+less_not_greater Greater e g = cc
+
+pub equal_not_greater : (o : Ordering) → o ≡ Equal → o ≢ Greater
+equal_not_greater o e g = cc
+
+pub equal_from : (o : Ordering) → is_eq o ≡ true → o ≡ Equal
+equal_from Less e = cc
+equal_from Equal e = refl
+equal_from Greater e = cc
+
+-- what holds of each item holds of the one at a place
+pub inside_of : (xs : List ℕ) (n k : ℕ) → ((d : ℕ) → 1 ≤ d → d ≤ length xs → (1 ≤ item xs d) × (item xs d ≤ n)) → k < length xs → (1 ≤ get_or xs k 0) × (get_or xs k 0 ≤ n)
+inside_of xs n k all inside =
+    let back : k + 1 - 1 ≡ k = omega arith in
+    subst (λ j. (1 ≤ get_or xs j 0) × (get_or xs j 0 ≤ n)) back (all (k + 1) (omega arith) (omega arith))
