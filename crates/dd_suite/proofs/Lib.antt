@@ -1,0 +1,5 @@
+pub mod Numbers
+pub mod Requests
+pub mod CatalogueTexts
+pub mod FileTexts
+pub mod CanonTexts

@@ -1,0 +1,13 @@
+use Rattle.std.proofs.Common.{◌≡◌, ◌⊎◌, map, subst, sym}
+use Rattle.std.specs.Rc.{rc_str_bytes}
+use Rattle.dd_suite.specs.declared.status.Status.TheVariants.{Done, Memory}
+use Rattle.dd_suite.proofs.FileTexts.{complete_ending}
+use Rattle.dd_suite.proofs.top.run.Goals as goal
+
+pub returns-clause-complete : goal.returns-clause-complete
+returns-clause-complete g c taken accepted kept sank =
+    subst (λ status. (status ≡ Done) ⊎ (status ≡ Memory)) (sym c.status.ensures)
+    (complete_ending c.perform-ending.result (map rc_str_bytes c.args.words.now) (g.S.Store.tells c.args.store.now) (g.S.Store.held c.args.store.now)
+    (g.S.Store.faults c.args.store.now) (g.S.Store.faults c.perform-ending.new.store) (g.O.Sink.held c.args.out.now) (g.O.Sink.held c.perform-ending.new.out)
+    (g.O.Sink.faults c.args.out.now) (g.O.Sink.faults c.perform-ending.new.out)
+    c.perform-ending.ensures.cause taken accepted kept sank)

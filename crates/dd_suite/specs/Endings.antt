@@ -1,0 +1,83 @@
+-- What an ending says, and what has caused it.
+use Rattle.std.specs.Prelude.{ℕ, List, [], ◌++◌, Result, Ok, Err, codes, decimal}
+use Rattle.dd_model.specs.declared.parts.Pair.{Pair}
+use Rattle.dd_model.specs.declared.parts.Pair.TheVariants.{Tile, Vertex, Edge}
+use Rattle.dd_symbol.specs.declared.refusals.Refusal.{Refusal}
+use Rattle.dd_symbol.specs.declared.refusals.Refusal.TheVariants.{Empty, TooManyChambers, OpRange, NotInvolution, NotCommuting, NotConnected, DegreeZero, DegreeVaries, NotMultiple, BranchingTooLarge, Memory as WantsMemory}
+use Rattle.dd_text.specs.declared.faults.FileFault.{FileFault}
+use Rattle.dd_text.specs.declared.faults.Why.{Why}
+use Rattle.dd_text.specs.declared.faults.Why.TheVariants.{Stray, UnexpectedEnd, NumberTooLong, Dimension, Size, ListShort, ListLong, Image, Symbol, TooManySymbols, Long, Memory as NoRoom}
+use Rattle.dd_ports.specs.declared.sink.SinkFault.{SinkFault as Fault}
+use Rattle.dd_ports.specs.declared.sink.SinkFault.TheVariants.{Failed, Memory as NoMemory}
+use Rattle.dd_suite.specs.declared.status.Status.{Status}
+use Rattle.dd_suite.specs.declared.status.Status.TheVariants as status
+use Rattle.dd_suite.specs.declared.ending.Ending.{Ending}
+use Rattle.dd_suite.specs.declared.ending.Ending.TheVariants.{Done, Usage, Refused, StoreFault, SinkFault, Memory}
+
+-- the status without its cause
+abbrev pub status_of : Ending → Status
+status_of Done = status.Done
+status_of Usage = status.Usage
+status_of (Refused fault) = status.Refused
+status_of StoreFault = status.StoreFault
+status_of SinkFault = status.SinkFault
+status_of Memory = status.Memory
+
+-- the name of a pair in a message
+abbrev pub pair_text : Pair → List ℕ
+pair_text Tile = codes "tile"
+pair_text Vertex = codes "vertex"
+pair_text Edge = codes "edge"
+
+-- why lists are no symbol
+abbrev pub refusal_text : Refusal → List ℕ
+refusal_text Empty = codes "empty"
+refusal_text (TooManyChambers n) = codes "too many chambers " ++ decimal n
+refusal_text (OpRange i c) = codes "image " ++ decimal c
+refusal_text (NotInvolution i c) = codes "no involution " ++ decimal c
+refusal_text (NotCommuting c) = codes "not commuting " ++ decimal c
+refusal_text (NotConnected c) = codes "not connected " ++ decimal c
+refusal_text (DegreeZero p c) = codes "degree zero " ++ (pair_text p ++ (codes " " ++ decimal c))
+refusal_text (DegreeVaries p c) = codes "degree varies " ++ (pair_text p ++ (codes " " ++ decimal c))
+refusal_text (NotMultiple p c r m) = codes "not multiple " ++ (pair_text p ++ (codes " " ++ (decimal c ++ (codes " r " ++ (decimal r ++ (codes " m " ++ decimal m))))))
+refusal_text (BranchingTooLarge p c v) = codes "branching too large " ++ (pair_text p ++ (codes " " ++ (decimal c ++ (codes " v " ++ decimal v))))
+refusal_text WantsMemory = codes "out of memory"
+
+-- why a file is not read
+abbrev pub why_text : Why → List ℕ
+why_text Stray = codes "stray"
+why_text UnexpectedEnd = codes "unexpected end"
+why_text NumberTooLong = codes "number too long"
+why_text Dimension = codes "dimension"
+why_text Size = codes "size"
+why_text ListShort = codes "list short"
+why_text ListLong = codes "list long"
+why_text Image = codes "image"
+why_text (Symbol refusal) = refusal_text refusal
+why_text TooManySymbols = codes "too many symbols"
+why_text Long = codes "file too long"
+why_text NoRoom = codes "out of memory"
+
+-- the fault of a file, with the symbol and the place
+abbrev pub fault_text : FileFault → List ℕ
+fault_text f = codes "dressline: file: symbol " ++ (decimal f.symbol ++ (codes " at " ++ (decimal f.at ++ (codes ": " ++ (why_text f.why ++ codes "\n")))))
+
+-- the line on the error stream
+abbrev pub message_of : Ending → List ℕ
+message_of Done = []
+message_of Usage = codes "dressline: words not taken\n"
+message_of (Refused fault) = fault_text fault
+message_of StoreFault = codes "dressline: store failed\n"
+message_of SinkFault = codes "dressline: sink failed\n"
+message_of Memory = codes "dressline: out of memory\n"
+
+-- how a command ended whose writes ended so
+abbrev pub written_ending : Result Unit Fault → Ending
+written_ending (Ok u) = Done
+written_ending (Err Failed) = SinkFault
+written_ending (Err NoMemory) = Memory
+
+-- how a command ends whose file has a fault: want of memory is no refusal
+abbrev pub ending_of_why : Why → FileFault → Ending
+ending_of_why NoRoom fault = Memory
+ending_of_why why fault = Refused fault

@@ -1,0 +1,10 @@
+pub mod Status
+pub mod Words
+pub mod Commands
+pub mod Output
+pub mod Catalogue
+pub mod Endings
+pub mod Files
+pub mod Stops
+pub mod Messages
+pub mod Classes

@@ -1,0 +1,47 @@
+-- Why a command on a file ended without its output.
+use Rattle.std.specs.Prelude.{◌≡◌, ℕ, List, [], Option, Bool, true}
+use Rattle.std.specs.Io.KnownBytes.{Appends}
+use Rattle.dd_ports.specs.Causes.{Rose}
+use Rattle.dd_suite.specs.declared.ending.Ending.{Ending}
+use Rattle.dd_suite.specs.declared.ending.Ending.TheVariants.{Done, Usage, Refused, StoreFault, SinkFault, Memory}
+use Rattle.dd_suite.specs.Words.{AreTaken}
+use Rattle.dd_suite.specs.Files.{IsFaulty, HoldsFaulty}
+use Rattle.dd_suite.specs.Output.{NameFaulty}
+
+-- a fetch failed and was counted, or the name holds what no file may be, or memory is wanting
+abbrev pub IsFetchStop : Ending → Bool → Option (List ℕ) → ℕ → ℕ → Type 0
+IsFetchStop (Refused fault) tells held before now = tells ≡ true → HoldsFaulty held fault
+IsFetchStop StoreFault tells held before now = Rose before now
+IsFetchStop Memory tells held before now = Unit {0}
+IsFetchStop ending tells held before now = ⊥
+
+-- the file has a fault, or memory is wanting
+abbrev pub IsFileStop : Ending → List ℕ → Type 0
+IsFileStop (Refused fault) bytes = IsFaulty bytes fault
+IsFileStop Memory bytes = Unit {0}
+IsFileStop ending bytes = ⊥
+
+-- all was written, or a write failed and was counted, or memory is wanting
+abbrev pub IsWriteEnding : Ending → ℕ → ℕ → Type 0
+IsWriteEnding Done before now = Unit {0}
+IsWriteEnding SinkFault before now = Rose before now
+IsWriteEnding Memory before now = Unit {0}
+IsWriteEnding ending before now = ⊥
+
+-- Each ending of a command on a file has its cause. One that is refused has written nothing.
+abbrev pub HasFileCause : Ending → Bool → Option (List ℕ) → ℕ → ℕ → Option (List ℕ) → Option (List ℕ) → ℕ → ℕ → Type 0
+HasFileCause Done tells held faults faults' old new sunk sunk' = Unit {0}
+HasFileCause Usage tells held faults faults' old new sunk sunk' = ⊥
+HasFileCause (Refused fault) tells held faults faults' old new sunk sunk' = (tells ≡ true → HoldsFaulty held fault) × Appends old new []
+HasFileCause StoreFault tells held faults faults' old new sunk sunk' = Rose faults faults' × Appends old new []
+HasFileCause SinkFault tells held faults faults' old new sunk sunk' = Rose sunk sunk'
+HasFileCause Memory tells held faults faults' old new sunk sunk' = Unit {0}
+
+-- Each ending has its cause, and an ending that is Refused or StoreFault has written nothing.
+abbrev pub HasCause : Ending → List (List ℕ) → Bool → (List ℕ → Option (List ℕ)) → ℕ → ℕ → Option (List ℕ) → Option (List ℕ) → ℕ → ℕ → Type 0
+HasCause Done words tells held faults faults' old new sunk sunk' = Unit {0}
+HasCause Usage words tells held faults faults' old new sunk sunk' = ¬ AreTaken words
+HasCause (Refused fault) words tells held faults faults' old new sunk sunk' = NameFaulty words tells held fault × Appends old new []
+HasCause StoreFault words tells held faults faults' old new sunk sunk' = Rose faults faults' × Appends old new []
+HasCause SinkFault words tells held faults faults' old new sunk sunk' = Rose sunk sunk'
+HasCause Memory words tells held faults faults' old new sunk sunk' = Unit {0}

@@ -1,0 +1,39 @@
+ghost use Rattle.std.specs.Prelude.{◌≡◌};
+
+use crate::status::Status;
+use dd_text::FileFault;
+
+/// How a command ended, with all that its line on the error stream tells.
+#[derive(Clone, Copy, Debug, PartialEq, Eq)]
+pub enum Ending {
+    /// The whole output was written.
+    Done,
+    /// The words are not taken.
+    Usage,
+    /// The file is refused.
+    Refused(FileFault),
+    /// A call of the store failed.
+    StoreFault,
+    /// A write on the output failed.
+    SinkFault,
+    /// Want of memory.
+    Memory,
+}
+
+impl Ending {
+    ghost use Rattle.dd_suite.specs.Endings.{status_of};
+
+    /// The status without its cause.
+    pub fn status(self) -> Status
+        ensures { result ≡ status_of self }
+    {
+        match self {
+            Ending::Done => Status::Done,
+            Ending::Usage => Status::Usage,
+            Ending::Refused(_) => Status::Refused,
+            Ending::StoreFault => Status::StoreFault,
+            Ending::SinkFault => Status::SinkFault,
+            Ending::Memory => Status::Memory,
+        }
+    }
+}

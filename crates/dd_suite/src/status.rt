@@ -1,0 +1,36 @@
+ghost use Rattle.std.specs.Prelude.{◌≡◌};
+
+/// How a call of the program ended.
+#[derive(Clone, Copy, Debug, PartialEq, Eq)]
+pub enum Status {
+    /// The whole output was written.
+    Done,
+    /// The words are not taken.
+    Usage,
+    /// The file is refused.
+    Refused,
+    /// A call of the store failed.
+    StoreFault,
+    /// A write on the output failed.
+    SinkFault,
+    /// Want of memory.
+    Memory,
+}
+
+impl Status {
+    ghost use Rattle.dd_suite.specs.Status.{number_of};
+
+    /// The exit status of the program.
+    pub fn number(self) -> u8
+        ensures { result ≡ number_of self }
+    {
+        match self {
+            Status::Done => 0,
+            Status::Refused => 1,
+            Status::Usage => 2,
+            Status::StoreFault => 4,
+            Status::SinkFault => 5,
+            Status::Memory => 6,
+        }
+    }
+}

@@ -1,0 +1,131 @@
+ghost use Rattle.std.specs.Prelude.{◌≡◌, ◌⊎◌, ◌≤◌, ℕ, List, [], true, map};
+ghost use Rattle.std.specs.Rc.{rc_str_bytes};
+ghost use Rattle.std.specs.Io.KnownBytes.{Appends};
+ghost use Rattle.dd_ports.specs.Causes.{Rose};
+ghost use Rattle.dd_ports.specs.Grows.{GrowsByPrefix};
+ghost use Rattle.dd_ports.specs.Texts.{SameTexts};
+ghost use Rattle.dd_text.specs.declared.faults.FileFault.{FileFault};
+ghost use Rattle.dd_suite.specs.Words.{AreTaken};
+ghost use Rattle.dd_suite.specs.Output.{IsOutput, AppendsOutput, NameFile, NameFaulty, IsFileHeld, IsFileAccepted};
+ghost use Rattle.dd_suite.specs.Endings.{message_of, fault_text, written_ending};
+ghost use Rattle.dd_suite.specs.Messages.{TellsOf};
+ghost use Rattle.dd_suite.specs.Stops.{HasCause};
+
+use crate::catalogue::write_catalogue;
+use crate::ending::Ending;
+use crate::file::write_file;
+use crate::messages::fault_message;
+use crate::status::Status;
+use crate::words::{Command, read_words};
+use dd_ports::{Gate, Sink, SinkFault, Store, write_all_of};
+use dd_text::FileFault;
+use std::alloc::Global;
+use std::rc::RcStr;
+use std::sync::Wait;
+use std::thread::Threads;
+
+/// All that the program does: takes the words after its name, writes on `out`, and tells of the
+/// status on `err`. A fault of `err` changes no status.
+pub fn run<R: Threads + Wait + Sync, S: Store, O: Sink, E: Sink, G: Gate + Sync>(
+    _rt: &R,
+    alloc: Global,
+    words: &[RcStr],
+    store: &mut S,
+    out: &mut O,
+    err: &mut E,
+    _gate: &G,
+) -> Status
+    // Whatever the status, a prefix of the output went out, and after Done the whole.
+    ensures prefix { (bytes : List ℕ) → IsOutput (map rc_str_bytes words.now) (S.tells store.old) (S.held store.old) bytes
+        → GrowsByPrefix (O.held out.old) (O.held out.new) bytes }
+    ensures whole { result ≡ Status.Done → (NameFile (map rc_str_bytes words.now) → S.tells store.old ≡ true)
+        → AppendsOutput (map rc_str_bytes words.now) (S.tells store.old) (S.held store.old) (O.held out.old) (O.held out.new) }
+
+    ensures usage { result ≡ Status.Usage → ¬ AreTaken (map rc_str_bytes words.now) }
+    ensures not_taken { (¬ AreTaken (map rc_str_bytes words.now)) → (result ≡ Status.Usage) ⊎ (result ≡ Status.Memory) }
+
+    // A refused command has written nothing.
+    ensures refused { result ≡ Status.Refused → (fault : FileFault) × NameFaulty (map rc_str_bytes words.now) (S.tells store.old) (S.held store.old) fault }
+    ensures quiet { (result ≡ Status.Refused) ⊎ (result ≡ Status.StoreFault) → Appends (O.held out.old) (O.held out.new) [] }
+
+    ensures store { S.tells store.old ≡ true → (S.tells store.new ≡ true) × SameTexts (S.held store.old) (S.held store.new) }
+    ensures store_count { S.faults store.old ≤ S.faults store.new }
+    ensures sink_count { O.faults out.old ≤ O.faults out.new }
+    ensures store_fault { result ≡ Status.StoreFault → Rose (S.faults store.old) (S.faults store.new) }
+    ensures sink_fault { result ≡ Status.SinkFault → Rose (O.faults out.old) (O.faults out.new) }
+    ensures store_sure { S.sure store.old ≡ true → IsFileHeld (map rc_str_bytes words.now) (S.held store.old)
+        → (S.faults store.new ≡ S.faults store.old) × (result ≡ Status.StoreFault → ⊥) }
+    ensures sink_sure { O.sure out.old ≡ true → (O.faults out.new ≡ O.faults out.old) × (result ≡ Status.SinkFault → ⊥) }
+
+    // Taken words end as Done where the file is accepted and no count rose, unless memory is wanting.
+    ensures complete { AreTaken (map rc_str_bytes words.now) → IsFileAccepted (map rc_str_bytes words.now) (S.tells store.old) (S.held store.old)
+        → (¬ Rose (S.faults store.old) (S.faults store.new)) → (¬ Rose (O.faults out.old) (O.faults out.new))
+        → (result ≡ Status.Done) ⊎ (result ≡ Status.Memory) }
+
+    ensures err { TellsOf result (map rc_str_bytes words.now) (S.tells store.old) (S.held store.old) (E.held err.old) (E.held err.new) }
+    ensures err_count { E.faults err.old ≤ E.faults err.new }
+{
+    let ending = perform(alloc, words, store, out);
+    tell(alloc, ending, err);
+    ending.status()
+}
+
+/// Does what the words ask for.
+fn perform<S: Store, O: Sink>(alloc: Global, words: &[RcStr], store: &mut S, out: &mut O) -> Ending
+    ensures prefix { (bytes : List ℕ) → IsOutput (map rc_str_bytes words.now) (S.tells store.old) (S.held store.old) bytes
+        → GrowsByPrefix (O.held out.old) (O.held out.new) bytes }
+    ensures whole { result ≡ Ending.Done → (NameFile (map rc_str_bytes words.now) → S.tells store.old ≡ true)
+        → AppendsOutput (map rc_str_bytes words.now) (S.tells store.old) (S.held store.old) (O.held out.old) (O.held out.new) }
+    ensures cause { HasCause result (map rc_str_bytes words.now) (S.tells store.old) (S.held store.old) (S.faults store.old) (S.faults store.new)
+        (O.held out.old) (O.held out.new) (O.faults out.old) (O.faults out.new) }
+    ensures not_taken { (¬ AreTaken (map rc_str_bytes words.now)) → result ≡ Ending.Usage }
+    ensures store { S.tells store.old ≡ true → (S.tells store.new ≡ true) × SameTexts (S.held store.old) (S.held store.new) }
+    ensures store_count { S.faults store.old ≤ S.faults store.new }
+    ensures sink_count { O.faults out.old ≤ O.faults out.new }
+    ensures store_sure { S.sure store.old ≡ true → IsFileHeld (map rc_str_bytes words.now) (S.held store.old)
+        → (S.faults store.new ≡ S.faults store.old) × (result ≡ Ending.StoreFault → ⊥) }
+    ensures sink_sure { O.sure out.old ≡ true → (O.faults out.new ≡ O.faults out.old) × (result ≡ Ending.SinkFault → ⊥) }
+{
+    match read_words(words) {
+        Some(Command::Catalogue(request)) => ending_of(write_catalogue(alloc, &request, out)),
+        Some(Command::OnFile(command, name)) => write_file(alloc, command, name, store, out),
+        None => Ending::Usage,
+    }
+}
+
+/// How a command ended whose writes ended so.
+fn ending_of(written: Result<(), SinkFault>) -> Ending
+    ensures { result ≡ written_ending written }
+{
+    match written {
+        Ok(()) => Ending::Done,
+        Err(SinkFault::Failed) => Ending::SinkFault,
+        Err(SinkFault::Memory) => Ending::Memory,
+    }
+}
+
+/// Writes the line of an ending.
+fn tell<E: Sink>(alloc: Global, ending: Ending, err: &mut E)
+    ensures err { GrowsByPrefix (E.held err.old) (E.held err.new) (message_of ending) }
+    ensures count { E.faults err.old ≤ E.faults err.new }
+{
+    let text = match ending {
+        Ending::Done => "",
+        Ending::Usage => "dressline: words not taken\n",
+        Ending::Refused(fault) => return tell_fault(alloc, fault, err),
+        Ending::StoreFault => "dressline: store failed\n",
+        Ending::SinkFault => "dressline: sink failed\n",
+        Ending::Memory => "dressline: out of memory\n",
+    };
+    let _ = write_all_of(err, text.as_bytes());
+}
+
+/// Writes the line of a refused file.
+fn tell_fault<E: Sink>(alloc: Global, fault: FileFault, err: &mut E)
+    ensures err { GrowsByPrefix (E.held err.old) (E.held err.new) (fault_text fault) }
+    ensures count { E.faults err.old ≤ E.faults err.new }
+{
+    if let Ok(text) = fault_message(alloc, fault) {
+        let _ = write_all_of(err, text.as_bytes());
+    }
+}
