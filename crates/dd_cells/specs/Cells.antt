@@ -1,0 +1,39 @@
+-- The cells of a pair, as they are told.
+use Rattle.std.specs.Prelude.{◌≡◌, ◌⊎◌, ◌↔◌, ℕ, List, map}
+use Rattle.std.specs.List.{AllByRecursion, Contains}
+use Rattle.std.specs.List.Sorted.{IsStrictlyIncreasing}
+use Rattle.dd_model.specs.Symbol.{Symbol, first, second, op}
+use Rattle.dd_model.specs.Cell.{InCell, IsChain, IsLeastTurns, IsBranching, IsLeastOfCell, AreCells}
+use Rattle.dd_model.specs.declared.parts.Pair.{Pair}
+use Rattle.dd_cells.specs.declared.told.Kind.{Kind}
+use Rattle.dd_cells.specs.declared.told.Kind.TheVariants.{Cycle, Chain}
+use Rattle.dd_cells.specs.declared.told.Cell.{Cell}
+
+-- an involution of the pair fixes a chamber of a list
+pub record HasFixed (s : Symbol) (p : Pair) (ds : List ℕ) : Type 0 where
+  pub chamber : ℕ
+  pub listed : Contains ds chamber
+  pub fixed : (op s (first p) chamber ≡ chamber) ⊎ (op s (second p) chamber ≡ chamber)
+
+-- the chambers of the cell of d, ascending
+pub record AreMembers (s : Symbol) (p : Pair) (d : ℕ) (members : List ℕ) : Type 0 where
+  pub ascending : IsStrictlyIncreasing members
+  pub each : (e : ℕ) → Contains members e ↔ InCell s p d e
+
+-- the kind of the cell of d: a chain where an involution fixes one of its chambers, else a cycle
+abbrev pub IsKindOf : Symbol → Pair → ℕ → Kind → Type 0
+IsKindOf s p d Chain = IsChain s p d
+IsKindOf s p d Cycle = ¬ IsChain s p d
+
+-- a cell with its least chamber, its kind, its least number of turns, its branching value and its chambers
+pub record IsCellOf (s : Symbol) (p : Pair) (c : Cell) : Type 0 where
+  pub least : IsLeastOfCell s p c.least
+  pub kind : IsKindOf s p c.least c.kind
+  pub turns : IsLeastTurns s p c.least c.r
+  pub branching : IsBranching s p c.least c.v
+  pub members : AreMembers s p c.least c.members
+
+-- every cell of the pair once, ascending by least chamber
+pub record AreCellsOf (s : Symbol) (p : Pair) (cells : List Cell) : Type 0 where
+  pub least_chambers : AreCells s p (map (λ c. c.least) cells)
+  pub each : AllByRecursion (IsCellOf s p) cells
