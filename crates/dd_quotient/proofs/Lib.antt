@@ -1,0 +1,4 @@
+mod DualLemmas
+mod SumLemmas
+mod MeetLemmas
+mod ClassLemmas

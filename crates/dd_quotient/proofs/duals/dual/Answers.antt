@@ -1,0 +1,17 @@
+use Rattle.std.proofs.Common.{◌∙◌, ap}
+use Rattle.dd_model.specs.Symbol.{operation}
+use Rattle.dd_model.specs.declared.parts.Index.TheVariants.{Zero, One, Two}
+use Rattle.dd_quotient.proofs.DualLemmas.{listed-dual, lengths-dual}
+use Rattle.dd_quotient.proofs.duals.dual.Goals as goal
+
+pub build-requires-clause-lengths : goal.build-requires-clause-lengths
+build-requires-clause-lengths c =
+    let s = c.args.s.now in
+    let table = c.known.ensures.symbol.symbol.table in
+    lengths-dual s _ table
+    (listed-dual s c.in_ok-images.field-0.items c.in_ok-images-2.field-0.items c.in_ok-images-3.field-0.items c.in_ok-m01.m01.items c.in_ok-m12.m12.items table
+    (c.in_ok-images.ensures ∙ ap (λ t. operation t Two) c.symbol-symbol.ensures)
+    (c.in_ok-images-2.ensures ∙ ap (λ t. operation t One) c.symbol-symbol.ensures)
+    (c.in_ok-images-3.ensures ∙ ap (λ t. operation t Zero) c.symbol-symbol.ensures)
+    (c.in_ok-m01.ensures ∙ ap (λ t. t.m12) c.symbol-symbol.ensures)
+    (c.in_ok-m12.ensures ∙ ap (λ t. t.m01) c.symbol-symbol.ensures))

@@ -1,0 +1,2 @@
+pub mod Dual
+pub mod Alike
