@@ -1,0 +1,5 @@
+use Rattle.dd_template.proofs.ChamferLawful.{chamfer_lawful}
+use Rattle.dd_template.proofs.laws.chamfer_is_lawful.Goals as goal
+
+pub returns : goal.returns
+returns c = chamfer_lawful

@@ -1,0 +1,5 @@
+use Rattle.dd_template.proofs.TruncateLawful.{truncate_lawful}
+use Rattle.dd_template.proofs.laws.truncate_is_lawful.Goals as goal
+
+pub returns : goal.returns
+returns c = truncate_lawful

@@ -1,0 +1,67 @@
+ghost use Rattle.std.specs.Prelude.{◌≡◌, ℕ, ◌≤◌, ◌*◌, ◌/◌, ◌↔◌, IsTrue, length};
+ghost use Rattle.std.specs.List.{sum_by};
+ghost use Rattle.dd_template.specs.Lawful.{share, whole};
+
+use crate::tables::{Degree, Kind, Template};
+use dd_model::Pair;
+
+/// The least common multiple of 1 to 64.
+const WHOLE: u128 = 1182266884102822267511361600;
+
+/// A fraction 1/c, counted in parts of 1.
+fn parts_of_whole(number: u32) -> u128
+    ensures { result ≡ whole / number }
+{
+    if number == 0 {
+        return 0;
+    }
+    WHOLE / number as u128
+}
+
+/// What an entry adds to the sum of a kind.
+fn share_of(kind: Kind, entry: Degree) -> u128
+    ensures share { result ≡ share kind entry }
+    ensures small { result ≤ whole }
+{
+    match (kind, entry) {
+        (Kind::Tile, Degree::OfTile(number)) => parts_of_whole(number),
+        (Kind::Vertex, Degree::OfVertex(number)) => parts_of_whole(number),
+        (Kind::Neither, Degree::Fixed(number)) => parts_of_whole(number),
+        _ => 0,
+    }
+}
+
+impl<const K: usize> Template<K> {
+    ghost use Rattle.dd_template.specs.Table.{table_of};
+    ghost use Rattle.dd_template.specs.Lawful.{KeepsCurvature, entries};
+
+    /// The sum of a kind over the entries that belong to the tiles or to the vertices.
+    fn total(&self, pair: Pair, kind: Kind) -> u128
+        requires few { K ≤ 64 }
+        requires entries { length (entries (table_of self.now) pair) ≡ K }
+        ensures total { result ≡ sum_by (share kind) (entries (table_of self.now) pair) }
+        ensures small { result ≤ 64 * whole }
+    {
+        let mut total = 0u128;
+        for part in 0..K {
+            total += share_of(kind, self.entry_of(pair, part));
+        }
+        total
+    }
+
+    /// Whether the table keeps the curvature of every symbol.
+    pub(crate) fn keeps_curvature(&self) -> bool
+        requires some { 1 ≤ K }
+        requires few { K ≤ 64 }
+        ensures { IsTrue result ↔ KeepsCurvature (table_of self.now) }
+    {
+        if self.total(Pair::Tile, Kind::Tile) + self.total(Pair::Vertex, Kind::Tile) != WHOLE {
+            return false;
+        }
+        if self.total(Pair::Tile, Kind::Vertex) + self.total(Pair::Vertex, Kind::Vertex) != WHOLE {
+            return false;
+        }
+        let fixed = self.total(Pair::Tile, Kind::Neither) + self.total(Pair::Vertex, Kind::Neither);
+        2 * fixed == (K - 1) as u128 * WHOLE
+    }
+}

@@ -1,0 +1,99 @@
+ghost use Rattle.std.specs.Prelude.{◌≡◌, ℕ, ◌<◌, ◌≤◌, ◌↔◌, IsTrue, MatchOption, length};
+
+use crate::tables::Template;
+use dd_model::Index;
+
+impl<const K: usize> Template<K> {
+    ghost use Rattle.dd_template.specs.Table.{table_of};
+    ghost use Rattle.dd_template.specs.Joined.{IsMet, LeadsToMet, IsClosed, IsNext};
+    ghost use Rattle.dd_template.specs.Lawful.{AreUndone, AreJoined, IsUsed, AreUsed};
+
+    /// The part to which a move leads that stays in the chamber, if that part is not met.
+    fn next_by(&self, met: &[bool; K], index: Index, part: usize) -> Option<usize>
+        requires undone { AreUndone (table_of self.now) }
+        requires part { part < K }
+        requires met { IsMet met.now part }
+        ensures { MatchOption result (LeadsToMet (table_of self.now) met.now index part) (λ y. IsNext (table_of self.now) met.now y) }
+    {
+        let there = self.move_of(index, part);
+        if there.by.is_some() {
+            return None;
+        }
+        if met[there.to] {
+            return None;
+        }
+        Some(there.to)
+    }
+
+    /// A part that is not met, to which a move leads from one that is.
+    fn next(&self, met: &[bool; K]) -> Option<usize>
+        requires undone { AreUndone (table_of self.now) }
+        ensures { MatchOption result (IsClosed (table_of self.now) met.now) (λ y. IsNext (table_of self.now) met.now y) }
+    {
+        for part in 0..K {
+            if met[part] {
+                let zero = self.next_by(met, Index::Zero, part);
+                if zero.is_some() {
+                    return zero;
+                }
+                let one = self.next_by(met, Index::One, part);
+                if one.is_some() {
+                    return one;
+                }
+                let two = self.next_by(met, Index::Two, part);
+                if two.is_some() {
+                    return two;
+                }
+            }
+        }
+        None
+    }
+
+    /// Whether moves that stay in the chamber join all parts: each step meets one part more.
+    pub(crate) fn are_joined(&self) -> bool
+        requires undone { AreUndone (table_of self.now) }
+        requires some { 1 ≤ K }
+        ensures { IsTrue result ↔ AreJoined (table_of self.now) }
+    {
+        let mut met = [false; K];
+        met[0] = true;
+        for _step in 1..K {
+            match self.next(&met) {
+                Some(part) => met[part] = true,
+                None => return false,
+            }
+        }
+        true
+    }
+
+    /// Whether some move goes by the involution.
+    fn is_used(&self, index: Index) -> bool
+        ensures { IsTrue result ↔ IsUsed (table_of self.now) index }
+    {
+        for part in 0..K {
+            if self.move_of(Index::Zero, part).by == Some(index) {
+                return true;
+            }
+            if self.move_of(Index::One, part).by == Some(index) {
+                return true;
+            }
+            if self.move_of(Index::Two, part).by == Some(index) {
+                return true;
+            }
+        }
+        false
+    }
+
+    /// Whether each of the three involutions is that of some move.
+    pub(crate) fn are_used(&self) -> bool
+        ensures { IsTrue result ↔ AreUsed (table_of self.now) }
+    {
+        if !self.is_used(Index::Zero) {
+            return false;
+        }
+        if !self.is_used(Index::One) {
+            return false;
+        }
+        self.is_used(Index::Two)
+    }
+}

@@ -1,0 +1,198 @@
+ghost use Rattle.std.specs.Prelude.{◌≡◌, ◌⊎◌, ℕ, ◌+◌, ◌*◌, ◌<◌, ◌≤◌, ◌↔◌, IsTrue, [], length};
+ghost use Rattle.dd_template.specs.Lawful.{GoesBy};
+
+use crate::tables::{Degree, Move, Template};
+use crate::words::Letters;
+use dd_model::{Index, Pair};
+
+/// Where a walk from a part has come to, and the reduced word of its moves.
+#[derive(Drop)]
+pub(crate) struct Walk {
+    pub(crate) part: usize,
+    pub(crate) word: Letters,
+}
+
+/// Whether a move goes by an involution of the pair, or by none.
+pub(crate) fn goes_by(pair: Pair, by: Option<Index>) -> bool
+    ensures { IsTrue result ↔ GoesBy pair by }
+{
+    match by {
+        None => true,
+        Some(index) => index == pair.first() || index == pair.second(),
+    }
+}
+
+/// A row of moves has one for each part.
+fn have_each_part<const K: usize>(moves: &[Move; K])
+    ensures { length moves.now ≡ K }
+{
+    let _ = moves;
+}
+
+impl<const K: usize> Template<K> {
+    ghost use Rattle.dd_model.specs.Symbol.{power, turn};
+    ghost use Rattle.dd_template.specs.Table.{table_of, moves, move, entry, part_after};
+    ghost use Rattle.dd_template.specs.Reduced.{carried};
+    ghost use Rattle.dd_template.specs.Letters.{word_of};
+    ghost use Rattle.dd_template.specs.Lawful.{AreUndoneBy, AreUndone, AreConstant, Commute, IsUndone, IsConstant, LeadsBack, entries};
+
+    /// The moves of all parts by an involution.
+    fn moves_by(&self, index: Index) -> &[Move; K]
+        ensures { result.now ≡ moves (table_of self.now) index }
+    {
+        match index {
+            Index::Zero => &self.ops[0],
+            Index::One => &self.ops[1],
+            Index::Two => &self.ops[2],
+        }
+    }
+
+    /// Each of the three lists has a move for each part.
+    pub(crate) fn known(&self)
+        ensures zero { length (moves (table_of self.now) Index.Zero) ≡ K }
+        ensures one { length (moves (table_of self.now) Index.One) ≡ K }
+        ensures two { length (moves (table_of self.now) Index.Two) ≡ K }
+    {
+        have_each_part(self.moves_by(Index::Zero));
+        have_each_part(self.moves_by(Index::One));
+        have_each_part(self.moves_by(Index::Two));
+    }
+
+    /// The move of a part by an involution.
+    pub(crate) fn move_of(&self, index: Index, part: usize) -> Move
+        requires part { part < K }
+        ensures { result ≡ move (table_of self.now) index part }
+    {
+        self.moves_by(index)[part]
+    }
+
+    /// Whether the move from there leads back by the same involution.
+    fn is_undone(&self, index: Index, part: usize) -> bool
+        requires part { part < K }
+        ensures { IsTrue result ↔ IsUndone (table_of self.now) index part }
+    {
+        let there = self.move_of(index, part);
+        if there.to >= K {
+            return false;
+        }
+        let back = self.move_of(index, there.to);
+        if back.by != there.by {
+            return false;
+        }
+        back.to == part
+    }
+
+    /// Whether all moves by an involution lead back.
+    fn are_undone_by(&self, index: Index) -> bool
+        ensures { IsTrue result ↔ AreUndoneBy (table_of self.now) index }
+    {
+        for part in 0..K {
+            if !self.is_undone(index, part) {
+                return false;
+            }
+        }
+        true
+    }
+
+    /// Whether all moves lead back.
+    pub(crate) fn are_undone(&self) -> bool
+        ensures { IsTrue result ↔ AreUndone (table_of self.now) }
+    {
+        if !self.are_undone_by(Index::Zero) {
+            return false;
+        }
+        if !self.are_undone_by(Index::One) {
+            return false;
+        }
+        self.are_undone_by(Index::Two)
+    }
+
+    /// Where so many turns of a pair lead.
+    pub(crate) fn turned(&self, pair: Pair, part: usize, turns: usize) -> Walk
+        requires undone { AreUndone (table_of self.now) }
+        requires part { part < K }
+        requires turns { turns ≤ 64 }
+        ensures part { result.part ≡ part_after (table_of self.now) (power (turn pair) turns) part }
+        ensures word { word_of result.word ≡ carried (table_of self.now) (power (turn pair) turns) part [] }
+    {
+        let mut place = part;
+        let mut word = Letters::new();
+        let mut left = turns;
+        while left > 0 {
+            let there = self.move_of(pair.first(), place);
+            word.put_move(there.by);
+            let next = self.move_of(pair.second(), there.to);
+            word.put_move(next.by);
+            place = next.to;
+            left -= 1;
+        }
+        Walk { part: place, word }
+    }
+
+    /// Whether so many turns of a pair lead a part back to itself with a word that reduces to none.
+    pub(crate) fn leads_back(&self, pair: Pair, part: usize, turns: usize) -> bool
+        requires undone { AreUndone (table_of self.now) }
+        requires part { part < K }
+        requires turns { turns ≤ 64 }
+        ensures { IsTrue result ↔ LeadsBack (table_of self.now) (power (turn pair) turns) part [] }
+    {
+        let walk = self.turned(pair, part, turns);
+        if walk.part != part {
+            return false;
+        }
+        walk.word.is_empty()
+    }
+
+    /// Whether s0 and s2 commute.
+    pub(crate) fn commute(&self) -> bool
+        requires undone { AreUndone (table_of self.now) }
+        ensures { IsTrue result ↔ Commute (table_of self.now) }
+    {
+        for part in 0..K {
+            if !self.leads_back(Pair::Edge, part, 2) {
+                return false;
+            }
+        }
+        true
+    }
+
+    /// The entry of a part that belongs to its tile or its vertex.
+    pub(crate) fn entry_of(&self, pair: Pair, part: usize) -> Degree
+        requires part { part < K }
+        ensures { result ≡ entry (entries (table_of self.now) pair) part }
+    {
+        match pair {
+            Pair::Tile => self.face[part],
+            Pair::Vertex => self.degree[part],
+            Pair::Edge => Degree::Fixed(0),
+        }
+    }
+
+    /// Whether the entries are equal along the moves of the pair from a part.
+    fn is_constant(&self, pair: Pair, part: usize) -> bool
+        requires undone { AreUndone (table_of self.now) }
+        requires part { part < K }
+        ensures { IsTrue result ↔ IsConstant (table_of self.now) pair part }
+    {
+        let own = self.entry_of(pair, part);
+        let first = self.move_of(pair.first(), part).to;
+        if self.entry_of(pair, first) != own {
+            return false;
+        }
+        let second = self.move_of(pair.second(), part).to;
+        self.entry_of(pair, second) == own
+    }
+
+    /// Whether the entries are equal along all moves of the pair.
+    pub(crate) fn are_constant(&self, pair: Pair) -> bool
+        requires undone { AreUndone (table_of self.now) }
+        ensures { IsTrue result ↔ AreConstant (table_of self.now) pair }
+    {
+        for part in 0..K {
+            if !self.is_constant(pair, part) {
+                return false;
+            }
+        }
+        true
+    }
+}

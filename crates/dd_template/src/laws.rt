@@ -1,0 +1,55 @@
+ghost use Rattle.std.specs.Prelude.{◌≡◌, ℕ, ◌*◌, ◌/◌, ◌≤◌, ◌∷◌, ◌++◌};
+ghost use Rattle.dd_model.specs.Worked.{single, squares, truncated_squares_backwards};
+ghost use Rattle.dd_model.specs.Symbol.{Word};
+ghost use Rattle.dd_model.specs.declared.parts.Index.{Index};
+ghost use Rattle.dd_model.specs.declared.parts.Index.TheVariants.{Zero, Two};
+ghost use Rattle.dd_template.specs.Table.{table_of};
+ghost use Rattle.dd_template.specs.Made.{made};
+ghost use Rattle.dd_template.specs.Reduced.{reduced, IsReduced};
+ghost use Rattle.dd_template.specs.Lawful.{IsLawful, whole};
+ghost use Rattle.dd_template.specs.Worked.{trihexagonal};
+
+use crate::constants::{AMBO, CHAMFER, DUAL, TRUNCATE};
+
+/// Striking equal neighbours and writing 2 0 as 0 2 lead to one word, in which neither can be done.
+pub fn words_have_one_reduced_word()
+    ensures reduced { (w : Word) → IsReduced (reduced w) }
+    ensures stays { (w : Word) → IsReduced w → reduced w ≡ w }
+    ensures struck { (u v : Word) (i : Index) → reduced (u ++ i ∷ i ∷ v) ≡ reduced (u ++ v) }
+    ensures exchanged { (u v : Word) → reduced (u ++ Two ∷ Zero ∷ v) ≡ reduced (u ++ Zero ∷ Two ∷ v) }
+{}
+
+/// Each of 1 to 64 divides the number in whose parts fractions are counted.
+pub fn fractions_are_whole_numbers_of_parts()
+    ensures { (c : ℕ) → 1 ≤ c → c ≤ 64 → c * (whole / c) ≡ whole }
+{}
+
+/// The table of the dual is lawful.
+pub fn dual_is_lawful()
+    ensures { IsLawful (table_of DUAL) }
+{}
+
+/// The table of the ambo is lawful.
+pub fn ambo_is_lawful()
+    ensures { IsLawful (table_of AMBO) }
+{}
+
+/// The table of the truncation is lawful.
+pub fn truncate_is_lawful()
+    ensures { IsLawful (table_of TRUNCATE) }
+{}
+
+/// The table of the chamfer is lawful.
+pub fn chamfer_is_lawful()
+    ensures { IsLawful (table_of CHAMFER) }
+{}
+
+/// The ambo of the triangles is the tiling by triangles and hexagons.
+pub fn ambo_of_triangles()
+    ensures { made (table_of AMBO) (single 3 6) ≡ trihexagonal }
+{}
+
+/// The squares with their vertices cut off are the tiling by squares and octagons.
+pub fn truncated_squares_are_made()
+    ensures { made (table_of TRUNCATE) squares ≡ truncated_squares_backwards }
+{}
