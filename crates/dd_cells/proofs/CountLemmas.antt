@@ -1,5 +1,5 @@
 -- How the cells and the orbits are counted.
-use Rattle.std.proofs.Common.{◌≡◌, ℕ, suc, ◌+◌, ◌<◌, ◌≤◌, true, false, List, [], ◌∷◌, ◌++◌, length, take, get_or, nat_le, refl, sym, ap, ◌∙◌, subst, ⊎_elim, arith}
+use Rattle.std.proofs.Common.{◌≡◌, ℕ, suc, ◌+◌, ◌<◌, ◌≤◌, true, false, List, [], ◌∷◌, ◌++◌, length, take, get_or, nat_le, sym, ap, ◌∙◌, subst, ⊎_elim, arith}
 use Rattle.std.specs.List.{count_by}
 use Rattle.std.proofs.lemmas.Bool.{cases_lt}
 use Rattle.std.proofs.lemmas.List.Sums.{count_by_more_yes, count_by_more_no}
@@ -12,8 +12,8 @@ use Rattle.dd_model.specs.Cell.{InCell, turned, IsLeastOfCell, AreCells}
 use Rattle.dd_cells.specs.Euler.{orbits}
 use Rattle.dd_model.proofs.Bijections.{length-count_from, get_or-count_from}
 use Rattle.dd_model.proofs.Turns.{turned-last, period_bound}
-use Rattle.dd_model.proofs.CellWalks.{IsMet, met_cases, met_from_in_cell, met_none, period_from_first_return, in_cell-turned, in_cell-first}
-use Rattle.dd_model.proofs.CellLists.{AreCellsBelow, cells_below-start, cells_below-push, cells_below-skip, cells_below-end, cells_unique}
+use Rattle.dd_model.proofs.CellWalks.{IsMet, met_cases, met_from_in_cell, period_from_first_return, in_cell-turned, in_cell-first}
+use Rattle.dd_model.proofs.CellLists.{AreCellsBelow, cells_below-push, cells_below-skip, cells_below-end, cells_unique}
 
 -- ## The walk through a cell
 
@@ -24,15 +24,6 @@ pub record IsWalked (s : Symbol) (p : Pair) (d k place : ℕ) : Type 0 where
   pub low : d ≤ place
   pub above : (e : ℕ) → IsMet s p d k e → d ≤ e
   pub unfixed : (j : ℕ) → 1 ≤ j → j < k + 1 → turned s p j d ≡ d → ⊥
-
-pub walk_begins : (s : Symbol) (p : Pair) (d : ℕ) → IsChamber s d → IsWalked s p d 0 d
-walk_begins s p d h = record {
-  at = refl;
-  chamber = h;
-  low = omega arith;
-  above = λ e met. absurd (met_none s p d e met);
-  unfixed = λ j low high. absurd (omega arith);
-}
 
 -- the next place is a turn further
 pub next_place : (s : Symbol) (p : Pair) (d k place : ℕ) → place ≡ turned s p k d → op s (second p) (op s (first p) place) ≡ turned s p (k + 1) d
@@ -101,9 +92,6 @@ pub record IsCount (s : Symbol) (p : Pair) (k c : ℕ) : Type 0 where
   pub cells : AreCellsBelow s p (k + 1) chambers
   pub number : c ≡ length chambers
   pub small : c ≤ k
-
-pub count_begins : (s : Symbol) (p : Pair) → IsCount s p 0 0
-count_begins s p = record { chambers = []; cells = cells_below-start s p; number = refl; small = omega arith }
 
 pub one_more : (s : Symbol) (p : Pair) (k c : ℕ) → IsCount s p k c → IsLeastOfCell s p (k + 1) → IsCount s p (k + 1) (c + 1)
 one_more s p k c is least = record {

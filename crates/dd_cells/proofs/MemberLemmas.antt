@@ -7,7 +7,7 @@ use Rattle.dd_model.specs.declared.parts.Pair.{Pair}
 use Rattle.dd_model.specs.Symbol.{Symbol, IsSymbol, AreInvolutions, IsChamber, first, second, op, degree}
 use Rattle.dd_model.specs.Cell.{InCell, IsChain, turned, IsPeriod, IsLeastTurns, IsBranching}
 use Rattle.dd_model.proofs.Turns.{IsLeastTurns-from_period, least_turns_unique}
-use Rattle.dd_model.proofs.CellWalks.{IsMet, met_cases, met_later, met_none, met_from_in_cell, in_cell_from_met, has_period}
+use Rattle.dd_model.proofs.CellWalks.{IsMet, met_cases, met_later, met_from_in_cell, in_cell_from_met, has_period}
 use Rattle.dd_cells.specs.Cells.{HasFixed, AreMembers}
 use Rattle.dd_cells.specs.declared.told.Cell.{Cell}
 
@@ -16,9 +16,6 @@ use Rattle.dd_cells.specs.declared.told.Cell.{Cell}
 -- the list holds what k turns from d meet
 abbrev pub AreMet : Symbol → Pair → ℕ → ℕ → List ℕ → Type 0
 AreMet s p d k xs = (e : ℕ) → Contains xs e ↔ IsMet s p d k e
-
-pub met_at_start : (s : Symbol) (p : Pair) (d : ℕ) → AreMet s p d 0 []
-met_at_start s p d e = (λ listed. let below = listed.1 in absurd (omega arith), λ met. absurd (met_none s p d e met))
 
 pub met_more : (s : Symbol) (p : Pair) (d k place : ℕ) (xs : List ℕ) → place ≡ turned s p k d → AreMet s p d k xs
     → AreMet s p d (k + 1) ((xs ++ place ∷ []) ++ op s (first p) place ∷ [])
