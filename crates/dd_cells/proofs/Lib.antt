@@ -1,3 +1,14 @@
 pub mod CountLemmas
 pub mod MemberLemmas
 pub mod CellUniqueness
+pub mod ChainLemmas
+pub mod CellSizes
+pub mod CellSums
+pub mod FreeWalks
+pub mod FractionLemmas
+pub mod ReciprocalSums
+pub mod CurvatureLemmas
+pub mod FixedFlags
+pub mod OrbitCounts
+pub mod SurfaceLemmas
+pub mod ColoringLemmas

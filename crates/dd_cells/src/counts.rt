@@ -7,7 +7,7 @@ use dd_model::{Index, Pair};
 use dd_symbol::{Connected, Symbol};
 
 /// Whether a chamber is the least of its cell. The walk through the cell ends at a smaller chamber.
-fn is_least_of_cell(symbol: &Symbol, pair: Pair, chamber: u32) -> bool
+pub(crate) fn is_least_of_cell(symbol: &Symbol, pair: Pair, chamber: u32) -> bool
     requires { IsChamber symbol.now chamber }
     ensures { IsTrue result ↔ IsLeastOfCell symbol.now pair chamber }
 {

@@ -1,6 +1,6 @@
 ghost use Rattle.std.specs.Prelude.{◌≤◌};
 
-use crate::{Kind, cells, count, euler};
+use crate::{Fraction, Kind, Orientation, cells, count, curvature, euler, is_flat, orientation};
 use dd_model::Pair;
 use dd_symbol::{Connected, build};
 use std::alloc::Global;
@@ -26,6 +26,17 @@ fn pillow(alloc: Global) -> Result<Connected, Fail> {
     ];
     let m01 = vec![in alloc; 4u32, 4]?;
     Ok(build(alloc, ops, m01, vec![in alloc; 4u32, 4]?, 2)?)
+}
+
+/// One chamber with these two degrees.
+fn single(alloc: Global, m01: u32, m12: u32) -> Result<Connected, Fail> {
+    let ops = [
+        vec![in alloc; 1u32]?,
+        vec![in alloc; 1u32]?,
+        vec![in alloc; 1u32]?,
+    ];
+    let m01 = vec![in alloc; m01]?;
+    Ok(build(alloc, ops, m01, vec![in alloc; m12]?, 1)?)
 }
 
 #[test]
@@ -73,5 +84,47 @@ fn counts(rt: HostRuntime) -> Result<(), Fail> {
     assert_eq!(rt; count(&s, Pair::Edge), 2);
     assert_eq!(rt; euler(&s), 1);
     assert_eq!(rt; euler(&pillow(alloc)?), 2);
+    Ok(())
+}
+
+/// The numerator and the denominator of the curvature, and whether the symbol is flat.
+fn bend(s: &Connected) -> (i128, i128, bool) {
+    let Fraction { num, den } = curvature(s);
+    (num, den, is_flat(s))
+}
+
+#[test]
+fn bends(rt: HostRuntime) -> Result<(), Fail> {
+    let alloc = rt.alloc();
+    assert_eq!(rt; bend(&octagons(alloc)?), (0, 1, true));
+    assert_eq!(rt; bend(&pillow(alloc)?), (0, 1, true));
+    let rows = [(3, 7, -1, 42), (3, 3, 1, 6)];
+    for (m01, m12, num, den) in rows {
+        assert_eq!(rt; bend(&single(alloc, m01, m12)?), (num, den, false));
+    }
+    Ok(())
+}
+
+/// Squares with half turns about two points, and glides: the quotient is a projective plane.
+fn glides(alloc: Global) -> Result<Connected, Fail> {
+    let ops = [
+        vec![in alloc; 2u32, 1, 4, 3]?,
+        vec![in alloc; 4u32, 3, 2, 1]?,
+        vec![in alloc; 3u32, 4, 1, 2]?,
+    ];
+    let m01 = vec![in alloc; 4u32, 4, 4, 4]?;
+    let m12 = vec![in alloc; 4u32, 4, 4, 4]?;
+    Ok(build(alloc, ops, m01, m12, 4)?)
+}
+
+#[test]
+fn sides(rt: HostRuntime) -> Result<(), Fail> {
+    let alloc = rt.alloc();
+    let weak = orientation(alloc, &octagons(alloc)?)?;
+    assert_eq!(rt; weak, Orientation::Weak);
+    let oriented = orientation(alloc, &pillow(alloc)?)?;
+    assert_eq!(rt; oriented, Orientation::Oriented);
+    let none = orientation(alloc, &glides(alloc)?)?;
+    assert_eq!(rt; none, Orientation::None);
     Ok(())
 }

@@ -1,0 +1,97 @@
+ghost use Rattle.std.specs.Prelude.{◌≡◌, ◌↔◌, ◌*◌, ◌≤◌, ℕ, IsTrue, List};
+ghost use Rattle.dd_model.specs.Symbol.{IsChamber};
+ghost use Rattle.dd_model.specs.Cell.{IsChain};
+ghost use Rattle.dd_model.specs.Code.{chambers};
+ghost use Rattle.dd_model.specs.Flat.{Flat, all_degrees, reciprocals};
+ghost use Rattle.dd_cells.specs.Cells.{AreMembers};
+ghost use Rattle.dd_cells.specs.Curvature.{IsCurvature, IsReciprocalSum};
+
+use crate::counts::is_least_of_cell;
+use crate::fractions::Fraction;
+use dd_model::Pair;
+use dd_symbol::{Connected, Symbol};
+
+/// The least common multiple of the numbers 1 to 30, so a multiple of every branching value.
+pub const COMMON_MULTIPLE: u64 = 2_329_089_562_800;
+
+/// Whether an involution of the pair fixes a chamber of the cell of a chamber.
+fn is_chain(symbol: &Symbol, pair: Pair, chamber: u32) -> bool
+    requires { IsChamber symbol.now chamber }
+    ensures { IsTrue result ↔ IsChain symbol.now pair chamber }
+{
+    symbol.known();
+    let mut place = chamber;
+    for _turn in 0..symbol.size() {
+        let neighbor = symbol.op(pair.first(), place);
+        let next = symbol.op(pair.second(), neighbor);
+        if neighbor == place || next == neighbor {
+            return true;
+        }
+        if next == chamber {
+            return false;
+        }
+        place = next;
+    }
+    unreachable!()
+}
+
+/// The sum of 1/m over the chambers of a cell, in parts of `COMMON_MULTIPLE`: 2/v for a cycle, and
+/// 1/v for a chain.
+fn cell_share(symbol: &Symbol, pair: Pair, chamber: u32) -> u64
+    requires { IsChamber symbol.now chamber }
+    ensures sum { (members : List ℕ) → AreMembers symbol.now pair chamber members
+        → IsReciprocalSum symbol.now pair members COMMON_MULTIPLE result }
+    ensures small { result ≤ 2 * COMMON_MULTIPLE }
+{
+    symbol.known();
+    let sides = if is_chain(symbol, pair, chamber) {
+        1
+    } else {
+        2
+    };
+    sides * (COMMON_MULTIPLE / u64::from(symbol.branching(pair, chamber)))
+}
+
+/// The sum of 1/m over all chambers, in parts of `COMMON_MULTIPLE`.
+fn reciprocal_sum(symbol: &Symbol, pair: Pair) -> u64
+    ensures sum { IsReciprocalSum symbol.now pair (chambers symbol.now) COMMON_MULTIPLE result }
+    ensures small { result ≤ 16384 * (2 * COMMON_MULTIPLE) }
+{
+    symbol.known();
+    let mut sum = 0;
+    for k in 0..symbol.size() {
+        let chamber = k + 1;
+        if is_least_of_cell(symbol, pair, chamber) {
+            sum += cell_share(symbol, pair, chamber);
+        }
+    }
+    sum
+}
+
+/// The sum of 2/m01 + 2/m12 over all chambers, in parts of `COMMON_MULTIPLE`.
+fn gain(symbol: &Symbol) -> u64
+    ensures sum { result * all_degrees symbol.now ≡ COMMON_MULTIPLE * (2 * reciprocals symbol.now) }
+    ensures small { result ≤ 65536 * (2 * COMMON_MULTIPLE) }
+{
+    symbol.known();
+    2 * (reciprocal_sum(symbol, Pair::Tile) + reciprocal_sum(symbol, Pair::Vertex))
+}
+
+/// The curvature: the sum of 1/m01 + 1/m12 - 1/2 over all chambers. It takes no memory.
+pub fn curvature(s: &Connected) -> Fraction
+    ensures { IsCurvature s.now result }
+{
+    s.known();
+    let symbol = s.symbol();
+    let loss = COMMON_MULTIPLE * u64::from(symbol.size());
+    Fraction::of_difference(gain(symbol), loss, 2 * COMMON_MULTIPLE)
+}
+
+/// Whether the curvature is 0. It takes no memory.
+pub fn is_flat(s: &Connected) -> bool
+    ensures { IsTrue result ↔ Flat s.now }
+{
+    s.known();
+    let symbol = s.symbol();
+    gain(symbol) == COMMON_MULTIPLE * u64::from(symbol.size())
+}
