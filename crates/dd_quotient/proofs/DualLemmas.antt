@@ -9,7 +9,7 @@ use Rattle.dd_model.specs.Cell.{IsWordOf, InCell, turned, IsLeastTurns, IsBranch
 use Rattle.dd_model.specs.Small.{IsSmallSymbol}
 use Rattle.dd_model.proofs.Turns.{turned-suc, turned-last, turned_within}
 use Rattle.dd_model.proofs.Transport.{in_cell_within}
-use Rattle.dd_symbol.specs.Building.{listed, HaveOneLength}
+use Rattle.dd_symbol.specs.Building.{listed, HaveOneLength, IsAccepted}
 use Rattle.dd_quotient.specs.Dual.{dual_of}
 
 abbrev flip : Index → Index
@@ -157,3 +157,8 @@ listed-dual s s2 s1 s0 m12 m01 is a b c d e = rw a (rw b (rw c (rw d (rw e (
 pub lengths-dual : (s t : Symbol) → IsTable s → t ≡ dual_of s → HaveOneLength t
 lengths-dual s t is e = subst HaveOneLength (sym e)
     (record { s1 = is.lengths One; s2 = is.lengths Zero; m01 = is.m12_length; m12 = is.m01_length })
+
+-- the dual is a symbol that is taken
+pub accepted-dual : (s t : Symbol) → IsSmallSymbol s → Connected s → t ≡ dual_of s → IsAccepted 16384 t
+accepted-dual s t is all e = subst (IsAccepted 16384) (sym e)
+    (record { symbol = small_symbol-dual s is; connected = connected-dual s all; within = is.size })

@@ -1,2 +1,5 @@
 pub mod Dual
 pub mod Alike
+pub mod MinimalImage
+pub mod Ranks
+pub mod Faults

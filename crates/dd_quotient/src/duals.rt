@@ -4,7 +4,7 @@ ghost use Rattle.dd_model.specs.Small.{IsSmallSymbol};
 ghost use Rattle.dd_quotient.specs.Dual.{dual_of};
 
 use dd_model::{Index, Memory};
-use dd_symbol::{Connected, Symbol, build};
+use dd_symbol::{Connected, Refusal, Symbol, build};
 use std::alloc::Global;
 
 /// The dual of the dual is the symbol.
@@ -69,7 +69,10 @@ pub fn dual(alloc: Global, s: &Connected) -> Result<Connected, Memory>
     let m12 = tile_degrees(alloc, symbol)?;
     match build(alloc, ops, m01, m12, 16384) {
         Ok(dual) => Ok(dual),
-        // The dual of a connected symbol is one, so that only memory can be wanting.
-        Err(_) => Err(Memory),
+        Err(why) => match why {
+            Refusal::Memory => Err(Memory),
+            // The dual of a connected symbol is one, so that only memory can be wanting.
+            _ => unreachable!(),
+        },
     }
 }

@@ -1,11 +1,19 @@
-//! Duals of symbols, and which symbols are minimal.
+//! Duals and minimal images of symbols, and which symbols are minimal.
 #![tactic(auto)]
 
 mod classes;
 mod duals;
+mod image_laws;
+mod images;
 mod minimal;
+mod ranks;
 #[cfg(test)]
 mod tests;
 
 pub use duals::{dual, dual_of_dual, duals_are_connected_symbols};
+pub use image_laws::{
+    first_large_values_are_unique, minimal_images_are_isomorphic, minimal_images_are_minimal,
+    minimal_images_in_order_are_unique, minimal_symbols_are_their_images,
+};
+pub use images::{MinimalFault, minimal_image};
 pub use minimal::is_minimal;

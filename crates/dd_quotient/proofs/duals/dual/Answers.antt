@@ -1,7 +1,7 @@
 use Rattle.std.proofs.Common.{◌∙◌, ap}
 use Rattle.dd_model.specs.Symbol.{operation}
 use Rattle.dd_model.specs.declared.parts.Index.TheVariants.{Zero, One, Two}
-use Rattle.dd_quotient.proofs.DualLemmas.{listed-dual, lengths-dual}
+use Rattle.dd_quotient.proofs.DualLemmas.{listed-dual, lengths-dual, accepted-dual}
 use Rattle.dd_quotient.proofs.duals.dual.Goals as goal
 
 pub build-requires-clause-lengths : goal.build-requires-clause-lengths
@@ -15,3 +15,16 @@ build-requires-clause-lengths c =
     (c.in_ok-images-3.ensures ∙ ap (λ t. operation t Zero) c.symbol-symbol.ensures)
     (c.in_ok-m01.ensures ∙ ap (λ t. t.m12) c.symbol-symbol.ensures)
     (c.in_ok-m12.ensures ∙ ap (λ t. t.m01) c.symbol-symbol.ensures))
+
+pub unreachable-requires : goal.unreachable-requires
+unreachable-requires c =
+    let s = c.args.s.now in
+    let is = c.known.ensures.symbol in
+    c.in-Err.ensures.refused c.in_default.not-Memory
+    (accepted-dual s _ is c.known.ensures.connected
+    (listed-dual s c.in_ok-images.field-0.items c.in_ok-images-2.field-0.items c.in_ok-images-3.field-0.items c.in_ok-m01.m01.items c.in_ok-m12.m12.items is.symbol.table
+    (c.in_ok-images.ensures ∙ ap (λ t. operation t Two) c.symbol-symbol.ensures)
+    (c.in_ok-images-2.ensures ∙ ap (λ t. operation t One) c.symbol-symbol.ensures)
+    (c.in_ok-images-3.ensures ∙ ap (λ t. operation t Zero) c.symbol-symbol.ensures)
+    (c.in_ok-m01.ensures ∙ ap (λ t. t.m12) c.symbol-symbol.ensures)
+    (c.in_ok-m12.ensures ∙ ap (λ t. t.m01) c.symbol-symbol.ensures)))
