@@ -6,3 +6,15 @@ pub mod WordLemmas
 pub mod JoinedLemmas
 pub mod ReducedLemmas
 pub mod WholeLemmas
+pub mod PlaceLemmas
+pub mod ActLemmas
+pub mod TurnLemmas
+pub mod MadeSymbols
+pub mod MadeConnected
+pub mod MadeBranching
+pub mod ApplyLemmas
+pub mod TotalLemmas
+pub mod ProductLemmas
+pub mod MadeCurvature
+pub mod DualTable
+pub mod MetAgain

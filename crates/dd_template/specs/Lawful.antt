@@ -44,7 +44,7 @@ pub record GoWithin (t : Table) (p q : Pair) (x : ℕ) : Type 0 where
 abbrev pub IsApart : Table → Pair → ℕ → ℕ → Type 0
 IsApart t p x c = (k : ℕ) → 1 ≤ k → k < c → part_after t (power (turn p) k) x ≢ x
 
--- The part is first met again after c turns, with two letters of the other pair, and c is at most the number of parts.
+-- The part is first met again after c turns, with two letters of the other pair. That c is at most the number of parts follows from this, and bounds the test.
 pub record IsTurned (t : Table) (p q : Pair) (x c : ℕ) : Type 0 where
   pub positive : 1 ≤ c
   pub within : c ≤ t.parts

@@ -5,3 +5,7 @@ pub mod Made
 pub mod Lawful
 pub mod Joined
 pub mod Worked
+pub mod Kept
+pub mod Applying
+pub mod Dual
+pub mod Named

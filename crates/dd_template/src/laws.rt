@@ -1,12 +1,14 @@
 ghost use Rattle.std.specs.Prelude.{◌≡◌, ℕ, ◌*◌, ◌/◌, ◌≤◌, ◌∷◌, ◌++◌};
 ghost use Rattle.dd_model.specs.Worked.{single, squares, truncated_squares_backwards};
-ghost use Rattle.dd_model.specs.Symbol.{Word};
+ghost use Rattle.dd_model.specs.Symbol.{Symbol, IsTable, Word};
 ghost use Rattle.dd_model.specs.declared.parts.Index.{Index};
 ghost use Rattle.dd_model.specs.declared.parts.Index.TheVariants.{Zero, Two};
-ghost use Rattle.dd_template.specs.Table.{table_of};
+ghost use Rattle.dd_model.specs.declared.parts.Pair.{Pair};
+ghost use Rattle.dd_template.specs.Dual.{exchanged};
+ghost use Rattle.dd_template.specs.Table.{Table, IsPart, table_of};
 ghost use Rattle.dd_template.specs.Made.{made};
 ghost use Rattle.dd_template.specs.Reduced.{reduced, IsReduced};
-ghost use Rattle.dd_template.specs.Lawful.{IsLawful, whole};
+ghost use Rattle.dd_template.specs.Lawful.{AreUndone, IsApart, IsLawful, whole};
 ghost use Rattle.dd_template.specs.Worked.{trihexagonal};
 
 use crate::constants::{AMBO, CHAMFER, DUAL, TRUNCATE};
@@ -22,6 +24,12 @@ pub fn words_have_one_reduced_word()
 /// Each of 1 to 64 divides the number in whose parts fractions are counted.
 pub fn fractions_are_whole_numbers_of_parts()
     ensures { (c : ℕ) → 1 ≤ c → c ≤ 64 → c * (whole / c) ≡ whole }
+{}
+
+/// Where moves lead back and fewer than so many turns never lead a part back to itself, there are
+/// no more turns than parts.
+pub fn parts_are_met_again()
+    ensures { (t : Table) → AreUndone t → (p : Pair) (x c : ℕ) → IsPart t x → IsApart t p x c → c ≤ t.parts }
 {}
 
 /// The table of the dual is lawful.
@@ -52,4 +60,10 @@ pub fn ambo_of_triangles()
 /// The squares with their vertices cut off are the tiling by squares and octagons.
 pub fn truncated_squares_are_made()
     ensures { made (table_of TRUNCATE) squares ≡ truncated_squares_backwards }
+{}
+
+/// The table of the dual exchanges s0 and s2, and the degrees of tiles and vertices, on the same
+/// chambers.
+pub fn duals_are_made()
+    ensures { (s : Symbol) → IsTable s → made (table_of DUAL) s ≡ exchanged s }
 {}

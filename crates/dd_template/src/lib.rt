@@ -1,6 +1,7 @@
 //! Operations on tilings, given by tables.
 #![tactic(auto)]
 
+mod applying;
 mod constants;
 mod curvature;
 mod deciding;
@@ -8,16 +9,26 @@ mod entries;
 mod joined;
 mod lawful;
 mod laws;
+mod made_laws;
+mod named;
 mod tables;
 #[cfg(test)]
 mod tests;
 mod words;
 
+pub use applying::{ApplyFault, apply};
 pub use constants::{AMBO, CHAMFER, DUAL, TRUNCATE};
 pub use deciding::is_lawful;
 pub use laws::{
-    ambo_is_lawful, ambo_of_triangles, chamfer_is_lawful, dual_is_lawful,
-    fractions_are_whole_numbers_of_parts, truncate_is_lawful, truncated_squares_are_made,
-    words_have_one_reduced_word,
+    ambo_is_lawful, ambo_of_triangles, chamfer_is_lawful, dual_is_lawful, duals_are_made,
+    fractions_are_whole_numbers_of_parts, parts_are_met_again, truncate_is_lawful,
+    truncated_squares_are_made, words_have_one_reduced_word,
 };
+pub use made_laws::{
+    branching_values_stay_small, chambers_are_parts_of_chambers,
+    connected_symbols_are_made_of_connected_symbols, flat_symbols_are_made_of_flat_symbols,
+    parts_go_by_their_moves, parts_have_the_branching_values_of_their_chambers,
+    symbols_are_made_of_symbols, the_curvature_stays, words_act_by_their_reduced_words,
+};
+pub use named::tables_have_names;
 pub use tables::{Degree, Move, Template};
