@@ -1,0 +1,9 @@
+pub mod ChainLemmas
+pub mod ListLemmas
+pub mod RoundLemmas
+pub mod TourLemmas
+pub mod DescendingLemmas
+pub mod RotationLemmas
+pub mod SurfaceLemmas
+pub mod OrbifoldLemmas
+pub mod TellingLemmas

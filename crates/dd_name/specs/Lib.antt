@@ -1,0 +1,10 @@
+pub mod Flags
+pub mod Rounds
+pub mod Marks
+pub mod Arranged
+pub mod Cones
+pub mod Boundaries
+pub mod Surface
+pub mod Orbifold
+pub mod Name
+pub mod Longer
