@@ -1,4 +1,4 @@
-ghost use Rattle.std.specs.Prelude.{◌≡◌, ◌≤◌, OnOk, IfOk, false};
+ghost use Rattle.std.specs.Prelude.{◌≡◌, ◌≤◌, OnOk, IfOk};
 ghost use Rattle.dd_model.specs.Request.{IsValid};
 ghost use Rattle.dd_model.specs.Wanted.{IsAscending, IsCatalogue};
 ghost use Rattle.dd_plain.specs.Adds.{Adds};
@@ -20,7 +20,6 @@ fn add_symbol(
     list: &mut Vec<Connected>,
 ) -> Result<(), Memory>
     requires few { symbol.size ≤ 3 }
-    requires all { q.now.minimal ≡ false }
     requires ascending { IsAscending list.old.items }
     ensures { OnOk result (Adds q.now (λ s. s ≡ symbol) list.old.items list.new.items) }
 {
@@ -42,7 +41,6 @@ fn add_trial(
     list: &mut Vec<Connected>,
 ) -> Result<(), Memory>
     requires few { trial.size ≤ 3 }
-    requires all { q.now.minimal ≡ false }
     requires ascending { IsAscending list.old.items }
     ensures { OnOk result (Adds q.now (λ s. s ≡ tried trial) list.old.items list.new.items) }
 {
@@ -60,7 +58,6 @@ fn add_tiles(
     list: &mut Vec<Connected>,
 ) -> Result<(), Memory>
     requires few { trial.size ≤ 3 }
-    requires all { q.now.minimal ≡ false }
     requires ascending { IsAscending list.old.items }
     ensures { OnOk result (Adds q.now (HasTiles (tried trial)) list.old.items list.new.items) }
 {
@@ -87,7 +84,6 @@ fn add_images(
     list: &mut Vec<Connected>,
 ) -> Result<(), Memory>
     requires few { trial.size ≤ 3 }
-    requires all { q.now.minimal ≡ false }
     requires ascending { IsAscending list.old.items }
     ensures { OnOk result (Adds q.now (HasImages (tried trial)) list.old.items list.new.items) }
 {
@@ -109,7 +105,6 @@ fn add_images(
 /// Adds the members of one size, by all triples of lists of chambers.
 fn add_size(alloc: Global, q: &Request, size: u32, list: &mut Vec<Connected>) -> Result<(), Memory>
     requires few { size ≤ 3 }
-    requires all { q.now.minimal ≡ false }
     requires ascending { IsAscending list.old.items }
     ensures { OnOk result (Adds q.now (λ s. s.size ≡ size) list.old.items list.new.items) }
 {
@@ -128,13 +123,11 @@ fn add_size(alloc: Global, q: &Request, size: u32, list: &mut Vec<Connected>) ->
     Ok(())
 }
 
-/// The catalogue of a request of at most three chambers that does not ask for minimal symbols alone,
-/// ascending. All triples of lists of chambers are tried, with all lists of degrees of tiles and of vertices.
-/// `Err` comes for want of memory alone.
+/// The catalogue of a request of at most three chambers, ascending. All triples of lists of chambers are
+/// tried, with all lists of degrees of tiles and of vertices. `Err` comes for want of memory alone.
 pub fn plain_catalogue(alloc: Global, q: &Request) -> Result<Vec<Connected>, Memory>
     requires valid { IsValid q.now }
     requires few { q.now.chambers ≤ 3 }
-    requires all { q.now.minimal ≡ false }
     ensures { IfOk result (λ list. IsCatalogue q.now list.items) }
 {
     let mut list = Vec::new(alloc);

@@ -4,7 +4,6 @@
 mod branching;
 mod choices;
 mod filter;
-mod flatness;
 mod insertion;
 mod leastness;
 mod trials;

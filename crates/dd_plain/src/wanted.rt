@@ -1,11 +1,13 @@
-ghost use Rattle.std.specs.Prelude.{◌≡◌, ◌↔◌, ◌≤◌, ℕ, IfOk, IsTrue, false};
+ghost use Rattle.std.specs.Prelude.{◌≡◌, ◌↔◌, ◌≤◌, ℕ, IfOk, IsTrue};
 ghost use Rattle.dd_model.specs.Symbol.{IsChamber, degree};
+ghost use Rattle.dd_model.specs.Minimal.{Minimal};
 ghost use Rattle.dd_model.specs.Allowed.{IsIn};
 ghost use Rattle.dd_model.specs.Wanted.{AtMost, Wanted};
 
 use crate::branching::has_crystallographic_cells;
-use crate::flatness::is_flat;
+use dd_cells::is_flat;
 use dd_model::{Allowed, Memory, Pair, Request};
+use dd_quotient::is_minimal;
 use dd_symbol::{Connected, Symbol};
 use std::alloc::Global;
 
@@ -32,10 +34,18 @@ fn has_degrees_in(symbol: &Symbol, pair: Pair, set: &Allowed) -> bool
     true
 }
 
-/// Whether a symbol of at most three chambers is one that a request asks for.
+/// Whether a symbol is minimal, where that is asked for.
+fn passes_filter(alloc: Global, minimal: bool, connected: &Connected) -> Result<bool, Memory>
+    ensures { IfOk result (λ yes. IsTrue yes ↔ (IsTrue minimal → Minimal connected.now)) }
+{
+    if !minimal {
+        return Ok(true);
+    }
+    Ok(is_minimal(alloc, connected)?)
+}
+
+/// Whether a symbol is one that a request asks for.
 pub fn is_wanted(alloc: Global, q: &Request, connected: &Connected) -> Result<bool, Memory>
-    requires few { connected.now.size ≤ 3 }
-    requires all { q.now.minimal ≡ false }
     ensures { IfOk result (λ yes. IsTrue yes ↔ Wanted q.now connected.now) }
 {
     connected.known();
@@ -43,7 +53,7 @@ pub fn is_wanted(alloc: Global, q: &Request, connected: &Connected) -> Result<bo
     if symbol.size() > q.chambers {
         return Ok(false);
     }
-    if !is_flat(alloc, symbol)? {
+    if !is_flat(connected) {
         return Ok(false);
     }
     if !has_degrees_in(symbol, Pair::Tile, &q.faces) {
@@ -62,6 +72,9 @@ pub fn is_wanted(alloc: Global, q: &Request, connected: &Connected) -> Result<bo
         return Ok(false);
     }
     if !has_at_most(alloc, symbol, Pair::Vertex, q.vertices)? {
+        return Ok(false);
+    }
+    if !passes_filter(alloc, q.minimal, connected)? {
         return Ok(false);
     }
     Ok(true)

@@ -1,5 +1,7 @@
-use Rattle.std.proofs.Common.{◌≡◌, false, true, refl, sym, ◌∙◌, subst, arith}
+use Rattle.std.proofs.Common.{◌≡◌, refl, sym, ◌∙◌, subst, arith}
 use Rattle.dd_model.specs.Symbol.{IsSymbol, Connected}
+use Rattle.dd_model.specs.Flat.{Flat}
+use Rattle.dd_model.specs.Minimal.{Minimal}
 use Rattle.dd_model.specs.Wanted.{Wanted}
 use Rattle.dd_plain.proofs.wanted.is_wanted.Goals as goal
 
@@ -29,18 +31,15 @@ returns c = (
         symbol = subst IsSymbol (sym same) c.known.ensures.symbol.symbol;
         connected = subst Connected (sym same) c.known.ensures.connected;
         chambers = omega (arith, c.size.ensures.size);
-        tiles = c.in_ok-has_at_most.ensures.0 c.if-not-branch-2.false;
-        vertices = c.in_ok-has_at_most-2.ensures.0 c.if-not-branch-3.false;
+        tiles = c.in_ok-has_at_most.ensures.0 c.if-not-branch.false;
+        vertices = c.in_ok-has_at_most-2.ensures.0 c.if-not-branch-2.false;
         faces = c.has_degrees_in.ensures.0 c.if-not-has_degrees_in.false;
         degrees = c.has_degrees_in-2.ensures.0 c.if-not-has_degrees_in-2.false;
         face_branching = c.has_crystallographic_cells.ensures.0 c.if-not-has_crystallographic_cells.false;
         vertex_branching = c.has_crystallographic_cells-2.ensures.0 c.if-not-has_crystallographic_cells-2.false;
-        flat = c.in_ok-is_flat.ensures.0 c.if-not-branch.false;
-        minimal = λ yes. absurd (no_both (sym c.requires.all ∙ yes));
+        flat = subst Flat (sym same) (c.is_flat.ensures.0 c.if-not-is_flat.false);
+        minimal = λ asked. subst Minimal (sym same) (c.in_ok-passes_filter.ensures.0 c.if-not-branch-3.false asked);
       } in
       subst (Wanted q) same w),
   (λ _. refl),
 )
-  where
-    no_both : false ≡ true → ⊥
-    no_both e = cc
