@@ -1,23 +1,23 @@
 -- The lines of a file: there is one text at most, and what a command says of it carries over to the words.
-use Rattle.std.proofs.Common.{◌≡◌, ◌≢◌, ◌⊎◌, ℕ, List, [], ◌∷◌, ◌++◌, Bool, true, Option, None, Some, append-nil, inl, inr, refl, sym, ap, ◌∙◌, subst}
+use Rattle.std.proofs.Common.{◌≡◌, ◌≢◌, ◌⊎◌, ℕ, List, [], Bool, true, Option, None, Some, append-nil, inl, inr, refl, sym, ◌∙◌, subst}
 use Rattle.std.specs.Io.KnownBytes.{Appends}
 use Rattle.dd_model.specs.Symbol.{Symbol}
-use Rattle.dd_model.specs.Code.{IsLeastForm}
 use Rattle.dd_model.specs.Text.{AreLines}
 use Rattle.dd_model.specs.Reading.{IsReadable, Reads}
 use Rattle.std.specs.List.{AllByRecursion}
-use Rattle.dd_model.proofs.Codes.{least_unique}
-use Rattle.dd_model.proofs.Isomorphisms.{Isomorphic-sym, Isomorphic-trans}
 use Rattle.dd_model.proofs.Texts.{lines_unique}
 use Rattle.dd_model.proofs.ReadingRows.{reads_once}
 use Rattle.dd_ports.specs.Causes.{Rose}
 use Rattle.dd_ports.specs.Grows.{GrowsByPrefix}
-use Rattle.dd_suite.specs.declared.words.FileCommand.{FileCommand}
-use Rattle.dd_suite.specs.declared.words.FileCommand.TheVariants.{Lines, Canon}
+use Rattle.dd_suite.specs.declared.commands.FileCommand.{FileCommand}
+use Rattle.dd_suite.specs.declared.commands.FileCommand.TheVariants.{Symbols, Info}
 use Rattle.dd_suite.specs.declared.ending.Ending.{Ending}
-use Rattle.dd_suite.specs.declared.ending.Ending.TheVariants.{Done, Usage, Refused, StoreFault, SinkFault, Memory}
+use Rattle.dd_suite.specs.declared.ending.Ending.TheVariants.{Done, Usage, Refused, RefusedSymbol, StoreFault, SinkFault, Memory}
 use Rattle.dd_suite.specs.Words.{AreTaken, IsOnFile}
-use Rattle.dd_suite.specs.Files.{AreLeastForms, AreMade, AreLinesOfMade, IsFaulty, IsTextOfHeld, AppendsFileText}
+use Rattle.dd_suite.specs.Files.{IsTextOf, IsRefusalOf, IsFileText, IsRefused, IsFaulty, IsTextOfHeld, AppendsFileText}
+use Rattle.dd_suite.proofs.MadeOnce.{all_made_once, none_all_made}
+use Rattle.dd_suite.proofs.InfoLemmas.{info_once}
+use Rattle.dd_suite.specs.declared.refusals.SymbolRefusal.{SymbolRefusal}
 use Rattle.dd_text.specs.declared.faults.FileFault.{FileFault}
 use Rattle.dd_text.specs.declared.faults.Why.{Why}
 use Rattle.dd_text.specs.declared.faults.Why.TheVariants.{Stray, UnexpectedEnd, NumberTooLong, Dimension, Size, ListShort, ListLong, Image, Symbol as NoSymbol, TooManySymbols, Long, Memory as NoRoom}
@@ -30,41 +30,29 @@ use Rattle.dd_suite.proofs.Requests.{not_both, same_command}
 some_injective : (a b : List ℕ) → Some a ≡ Some b → a ≡ b
 some_injective a b e = cc
 
--- one least form more
-pub one_form_more : (ss ts : List Symbol) (s t : Symbol) → AreLeastForms ss ts → IsLeastForm s t → AreLeastForms (ss ++ s ∷ []) (ts ++ t ∷ [])
-one_form_more [] [] s t a b = (b, tt)
-one_form_more [] (u ∷ ts) s t a b = absurd a
-one_form_more (r ∷ ss) [] s t a b = absurd a
-one_form_more (r ∷ ss) (u ∷ ts) s t a b = (a.0, one_form_more ss ts s t a.1 b)
-
-forms_unique : (ss ts us : List Symbol) → AllByRecursion IsReadable ss → AreLeastForms ss ts → AreLeastForms ss us → ts ≡ us
-forms_unique [] [] [] readable a b = refl
-forms_unique [] [] (u ∷ us) readable a b = absurd b
-forms_unique [] (t ∷ ts) us readable a b = absurd a
-forms_unique (s ∷ ss) [] us readable a b = absurd a
-forms_unique (s ∷ ss) (t ∷ ts) [] readable a b = absurd b
-forms_unique (s ∷ ss) (t ∷ ts) (u ∷ us) readable a b =
-    let is = readable.0.symbol.symbol in
-    let first : t ≡ u = least_unique t u a.0.symbol b.0.symbol a.0.least b.0.least
-    (Isomorphic-trans t s u a.0.symbol.table (Isomorphic-sym s t is.table a.0.renumbering) b.0.renumbering) in
-    ap (λ x. x ∷ ts) first ∙ ap (λ xs. u ∷ xs) (forms_unique ss ts us readable.1 a.1 b.1)
-
-made_unique : (command : FileCommand) (ss ts us : List Symbol) → AllByRecursion IsReadable ss → AreMade command ss ts → AreMade command ss us → ts ≡ us
-made_unique Lines ss ts us readable a b = sym a ∙ b
-made_unique Canon ss ts us readable a b = forms_unique ss ts us readable a b
-
-lines_of_made_unique : (command : FileCommand) (ss : List Symbol) (a b : List ℕ) → AllByRecursion IsReadable ss → AreLinesOfMade command ss a → AreLinesOfMade command ss b → a ≡ b
-lines_of_made_unique command ss a b readable x y =
-    let same : y.made ≡ x.made = made_unique command ss y.made x.made readable y.are_made x.are_made in
+text_unique : (command : FileCommand) (ss : List Symbol) (a b : List ℕ) → AllByRecursion IsReadable ss → IsTextOf command ss a → IsTextOf command ss b → a ≡ b
+text_unique (Symbols command) ss a b readable x y =
+    let same : y.made ≡ x.made = all_made_once command ss y.made x.made readable y.are_made x.are_made in
     lines_unique 0 x.made a b x.lines (subst (λ ts. AreLines 0 ts b) same y.lines)
+text_unique Info ss a b readable x y = info_once ss a b readable x y
+
+pub file_text_unique : (command : FileCommand) (bytes a b : List ℕ) → IsFileText command bytes a → IsFileText command bytes b → a ≡ b
+file_text_unique command bytes a b x y =
+    let symbols : y.symbols ≡ x.symbols = reads_once bytes y.symbols x.symbols y.reads x.reads in
+    text_unique command x.symbols a b x.reads.row.readable x.written (subst (λ ts. IsTextOf command ts b) symbols y.written)
+
+-- a file with a symbol that is refused has no text
+pub refused_without_text : (command : FileCommand) (bytes text : List ℕ) (r : SymbolRefusal) → IsRefused command bytes r → IsFileText command bytes text → ⊥
+refused_without_text (Symbols command) bytes text r refused is =
+    let symbols : is.symbols ≡ refused.symbols = reads_once bytes is.symbols refused.symbols is.reads refused.reads in
+    let made = subst (λ ss. IsTextOf (Symbols command) ss text) symbols is.written in
+    none_all_made command 1 refused.symbols made.made r refused.reads.row.readable refused.first made.are_made
+refused_without_text Info bytes text r refused is = refused.first
 
 held_text_unique : (command : FileCommand) (held : Option (List ℕ)) (a b : List ℕ) → IsTextOfHeld command held a → IsTextOfHeld command held b → a ≡ b
 held_text_unique command held a b x y =
     let bytes : y.bytes ≡ x.bytes = some_injective y.bytes x.bytes (sym y.holds ∙ x.holds) in
-    let ss = x.is_text.symbols in
-    let reads = x.is_text.reads in
-    let symbols : y.is_text.symbols ≡ ss = reads_once x.bytes y.is_text.symbols ss (subst (λ c. Reads c y.is_text.symbols) bytes y.is_text.reads) reads in
-    lines_of_made_unique command ss a b reads.row.readable x.is_text.lines (subst (λ ts. AreLinesOfMade command ts b) symbols y.is_text.lines)
+    file_text_unique command x.bytes a b x.is_text (subst (λ c. IsFileText command c b) bytes y.is_text)
 
 -- What grew by a prefix of one text of the file grew by a prefix of each.
 pub prefix_of_each_file : (command : FileCommand) (held old new : Option (List ℕ)) (mine text : List ℕ) → IsTextOfHeld command held mine → GrowsByPrefix old new mine
@@ -90,11 +78,13 @@ whole_file_output words tells held command name old new asked told appended = re
 
 -- The cause of a command on a file is that of the words.
 pub cause_of_file : (ending : Ending) (words : List (List ℕ)) (tells : Bool) (held : List ℕ → Option (List ℕ)) (command : FileCommand) (name : List ℕ) (faults faults' : ℕ)
-    (old new : Option (List ℕ)) (sunk sunk' : ℕ) → IsOnFile words command name → HasFileCause ending tells (held name) faults faults' old new sunk sunk'
+    (old new : Option (List ℕ)) (sunk sunk' : ℕ) → IsOnFile words command name → HasFileCause command ending tells (held name) faults faults' old new sunk sunk'
     → HasCause ending words tells held faults faults' old new sunk sunk'
 cause_of_file Done words tells held command name faults faults' old new sunk sunk' asked c = tt
 cause_of_file Usage words tells held command name faults faults' old new sunk sunk' asked c = absurd c
 cause_of_file (Refused fault) words tells held command name faults faults' old new sunk sunk' asked c =
+    (record { command = command; name = name; asked = asked; holds = c.0 }, c.1)
+cause_of_file (RefusedSymbol refusal) words tells held command name faults faults' old new sunk sunk' asked c =
     (record { command = command; name = name; asked = asked; holds = c.0 }, c.1)
 cause_of_file StoreFault words tells held command name faults faults' old new sunk sunk' asked c = c
 cause_of_file SinkFault words tells held command name faults faults' old new sunk sunk' asked c = c
@@ -112,36 +102,45 @@ complete_ending (Refused fault) words tells held faults faults' old new sunk sun
     let none = c.0.holds ok.0 in
     let same : ok.1.bytes ≡ none.bytes = some_injective ok.1.bytes none.bytes (sym ok.1.holds ∙ none.holds) in
     absurd (none.faulty.none ok.1.symbols (subst (λ b. Reads b ok.1.symbols) same ok.1.reads))
+complete_ending (RefusedSymbol refusal) words tells held faults faults' old new sunk sunk' c taken accepted kept sank =
+    let ok = accepted c.0.command c.0.name c.0.asked in
+    let none = c.0.holds ok.0 in
+    let same : none.bytes ≡ ok.1.bytes = some_injective none.bytes ok.1.bytes (sym none.holds ∙ ok.1.holds) in
+    let symbols : none.refused.symbols ≡ ok.1.symbols =
+    reads_once ok.1.bytes none.refused.symbols ok.1.symbols (subst (λ b. Reads b none.refused.symbols) same none.refused.reads) ok.1.reads in
+    absurd (ok.1.accepted refusal (subst (λ ss. IsRefusalOf c.0.command ss refusal) symbols none.refused.first))
 complete_ending StoreFault words tells held faults faults' old new sunk sunk' c taken accepted kept sank = absurd (kept c.0)
 complete_ending SinkFault words tells held faults faults' old new sunk sunk' c taken accepted kept sank = absurd (sank c)
 complete_ending Memory words tells held faults faults' old new sunk sunk' c taken accepted kept sank = inr refl
 
 -- A fault other than want of memory means that no list of symbols is spelled.
-pub stop_of_fault : (why : Why) (fault : FileFault) (bytes : List ℕ) → (why ≢ NoRoom → IsFaulty bytes fault) → IsFileStop (ending_of_why why fault) bytes
-stop_of_fault NoRoom fault bytes none = tt
-stop_of_fault Stray fault bytes none = none (λ e. (cc))
-stop_of_fault UnexpectedEnd fault bytes none = none (λ e. (cc))
-stop_of_fault NumberTooLong fault bytes none = none (λ e. (cc))
-stop_of_fault Dimension fault bytes none = none (λ e. (cc))
-stop_of_fault Size fault bytes none = none (λ e. (cc))
-stop_of_fault ListShort fault bytes none = none (λ e. (cc))
-stop_of_fault ListLong fault bytes none = none (λ e. (cc))
-stop_of_fault Image fault bytes none = none (λ e. (cc))
-stop_of_fault (NoSymbol refusal) fault bytes none = none (λ e. (cc))
-stop_of_fault TooManySymbols fault bytes none = none (λ e. (cc))
-stop_of_fault Long fault bytes none = none (λ e. (cc))
+pub stop_of_fault : (command : FileCommand) (why : Why) (fault : FileFault) (bytes : List ℕ) → (why ≢ NoRoom → IsFaulty bytes fault) → IsFileStop command (ending_of_why why fault) bytes
+stop_of_fault command NoRoom fault bytes none = tt
+stop_of_fault command Stray fault bytes none = none (λ e. (cc))
+stop_of_fault command UnexpectedEnd fault bytes none = none (λ e. (cc))
+stop_of_fault command NumberTooLong fault bytes none = none (λ e. (cc))
+stop_of_fault command Dimension fault bytes none = none (λ e. (cc))
+stop_of_fault command Size fault bytes none = none (λ e. (cc))
+stop_of_fault command ListShort fault bytes none = none (λ e. (cc))
+stop_of_fault command ListLong fault bytes none = none (λ e. (cc))
+stop_of_fault command Image fault bytes none = none (λ e. (cc))
+stop_of_fault command (NoSymbol refusal) fault bytes none = none (λ e. (cc))
+stop_of_fault command TooManySymbols fault bytes none = none (λ e. (cc))
+stop_of_fault command Long fault bytes none = none (λ e. (cc))
 
 nothing_appended : (old : Option (List ℕ)) → Appends old old []
 nothing_appended None = tt
 nothing_appended (Some xs) = sym (append-nil xs)
 
 -- A file that stops a command before it writes.
-pub cause_of_stop : (ending : Ending) (bytes : List ℕ) (tells : Bool) (held : Option (List ℕ)) (faults faults' : ℕ) (old : Option (List ℕ)) (sunk : ℕ)
-    → (tells ≡ true → held ≡ Some bytes) → IsFileStop ending bytes → HasFileCause ending tells held faults faults' old old sunk sunk
-cause_of_stop Done bytes tells held faults faults' old sunk holds stop = absurd stop
-cause_of_stop Usage bytes tells held faults faults' old sunk holds stop = absurd stop
-cause_of_stop (Refused fault) bytes tells held faults faults' old sunk holds stop =
+pub cause_of_stop : (command : FileCommand) (ending : Ending) (bytes : List ℕ) (tells : Bool) (held : Option (List ℕ)) (faults faults' : ℕ) (old : Option (List ℕ)) (sunk : ℕ)
+    → (tells ≡ true → held ≡ Some bytes) → IsFileStop command ending bytes → HasFileCause command ending tells held faults faults' old old sunk sunk
+cause_of_stop command Done bytes tells held faults faults' old sunk holds stop = absurd stop
+cause_of_stop command Usage bytes tells held faults faults' old sunk holds stop = absurd stop
+cause_of_stop command (Refused fault) bytes tells held faults faults' old sunk holds stop =
     (λ told. record { bytes = bytes; holds = holds told; faulty = stop }, nothing_appended old)
-cause_of_stop StoreFault bytes tells held faults faults' old sunk holds stop = absurd stop
-cause_of_stop SinkFault bytes tells held faults faults' old sunk holds stop = absurd stop
-cause_of_stop Memory bytes tells held faults faults' old sunk holds stop = tt
+cause_of_stop command (RefusedSymbol refusal) bytes tells held faults faults' old sunk holds stop =
+    (λ told. record { bytes = bytes; holds = holds told; refused = stop }, nothing_appended old)
+cause_of_stop command StoreFault bytes tells held faults faults' old sunk holds stop = absurd stop
+cause_of_stop command SinkFault bytes tells held faults faults' old sunk holds stop = absurd stop
+cause_of_stop command Memory bytes tells held faults faults' old sunk holds stop = tt

@@ -1,5 +1,10 @@
 pub mod Numbers
 pub mod Requests
 pub mod CatalogueTexts
+pub mod InTurnLemmas
+pub mod MadeOnce
+pub mod TotalsLemmas
+pub mod TotalsSteps
+pub mod InfoLemmas
 pub mod FileTexts
 pub mod CanonTexts

@@ -1,7 +1,7 @@
 -- The command of words.
 use Rattle.std.specs.Prelude.{ℕ, List}
-use Rattle.dd_suite.specs.declared.words.Command.{Command}
-use Rattle.dd_suite.specs.declared.words.Command.TheVariants.{Catalogue, OnFile}
+use Rattle.dd_suite.specs.declared.commands.Command.{Command}
+use Rattle.dd_suite.specs.declared.commands.Command.TheVariants.{Catalogue, OnFile}
 use Rattle.dd_suite.specs.Words.{AskFor, IsOnFile}
 
 -- the words ask for this command

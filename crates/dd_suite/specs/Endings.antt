@@ -12,13 +12,17 @@ use Rattle.dd_ports.specs.declared.sink.SinkFault.TheVariants.{Failed, Memory as
 use Rattle.dd_suite.specs.declared.status.Status.{Status}
 use Rattle.dd_suite.specs.declared.status.Status.TheVariants as status
 use Rattle.dd_suite.specs.declared.ending.Ending.{Ending}
-use Rattle.dd_suite.specs.declared.ending.Ending.TheVariants.{Done, Usage, Refused, StoreFault, SinkFault, Memory}
+use Rattle.dd_suite.specs.declared.ending.Ending.TheVariants.{Done, Usage, Refused, RefusedSymbol, StoreFault, SinkFault, Memory}
+use Rattle.dd_suite.specs.declared.refusals.SymbolFault.{SymbolFault}
+use Rattle.dd_suite.specs.declared.refusals.SymbolFault.TheVariants as symbol
+use Rattle.dd_suite.specs.declared.refusals.SymbolRefusal.{SymbolRefusal}
 
 -- the status without its cause
 abbrev pub status_of : Ending → Status
 status_of Done = status.Done
 status_of Usage = status.Usage
 status_of (Refused fault) = status.Refused
+status_of (RefusedSymbol refusal) = status.Refused
 status_of StoreFault = status.StoreFault
 status_of SinkFault = status.SinkFault
 status_of Memory = status.Memory
@@ -62,11 +66,21 @@ why_text NoRoom = codes "out of memory"
 abbrev pub fault_text : FileFault → List ℕ
 fault_text f = codes "dressline: file: symbol " ++ (decimal f.symbol ++ (codes " at " ++ (decimal f.at ++ (codes ": " ++ (why_text f.why ++ codes "\n")))))
 
+-- why nothing is made of a symbol
+abbrev pub symbol_fault_text : SymbolFault → List ℕ
+symbol_fault_text (symbol.TooManyChambers n) = codes "too many chambers " ++ decimal n
+symbol_fault_text (symbol.BranchingTooLarge v) = codes "branching too large " ++ decimal v
+
+-- the symbol of a file of which nothing is made
+abbrev pub symbol_refusal_text : SymbolRefusal → List ℕ
+symbol_refusal_text r = codes "dressline: symbol " ++ (decimal r.symbol ++ (codes ": " ++ (symbol_fault_text r.why ++ codes "\n")))
+
 -- the line on the error stream
 abbrev pub message_of : Ending → List ℕ
 message_of Done = []
 message_of Usage = codes "dressline: words not taken\n"
 message_of (Refused fault) = fault_text fault
+message_of (RefusedSymbol refusal) = symbol_refusal_text refusal
 message_of StoreFault = codes "dressline: store failed\n"
 message_of SinkFault = codes "dressline: sink failed\n"
 message_of Memory = codes "dressline: out of memory\n"

@@ -1,10 +1,16 @@
 pub mod Status
 pub mod Words
 pub mod Commands
+pub mod InTurn
+pub mod Made
+pub mod Facts
+pub mod Totals
+pub mod Info
+pub mod InfoSteps
 pub mod Output
 pub mod Catalogue
 pub mod Endings
 pub mod Files
+pub mod Making
 pub mod Stops
 pub mod Messages
-pub mod Classes

@@ -6,9 +6,10 @@ use Rattle.dd_model.specs.Text.{IsText, beginning}
 use Rattle.dd_model.specs.Reading.{Reads}
 use Rattle.dd_model.specs.declared.requests.Request.{Request}
 use Rattle.dd_text.specs.declared.faults.FileFault.{FileFault}
-use Rattle.dd_suite.specs.declared.words.FileCommand.{FileCommand}
+use Rattle.dd_suite.specs.declared.commands.FileCommand.{FileCommand}
 use Rattle.dd_suite.specs.Words.{AreTaken, AskFor, IsOnFile}
-use Rattle.dd_suite.specs.Files.{IsTextOfHeld, HoldsFaulty}
+use Rattle.dd_suite.specs.declared.refusals.SymbolRefusal.{SymbolRefusal}
+use Rattle.dd_suite.specs.Files.{IsTextOfHeld, IsRefusalOf, HoldsFaulty, HoldsRefused}
 
 -- the text of the catalogue that the words ask for, from its beginning
 pub record IsCatalogueText (words : List (List ℕ)) (bytes : List ℕ) : Type 0 where
@@ -45,17 +46,29 @@ pub record NameFaulty (words : List (List ℕ)) (tells : Bool) (held : List ℕ 
   pub asked : IsOnFile words command name
   pub holds : tells ≡ true → HoldsFaulty (held name) fault
 
+-- the words name a file that the store holds, and this is its first symbol of which their command makes nothing
+pub record NameRefused (words : List (List ℕ)) (tells : Bool) (held : List ℕ → Option (List ℕ)) (r : SymbolRefusal) : Type 0 where
+  pub command : FileCommand
+  pub name : List ℕ
+  pub asked : IsOnFile words command name
+  pub holds : tells ≡ true → HoldsRefused command (held name) r
+
+-- the words name a file with a fault, or with a symbol of which their command makes nothing
+abbrev pub IsRefusedFile : List (List ℕ) → Bool → (List ℕ → Option (List ℕ)) → Type 0
+IsRefusedFile words tells held = ((fault : FileFault) × NameFaulty words tells held fault) ⊎ ((r : SymbolRefusal) × NameRefused words tells held r)
+
 -- the store holds the file that the words name, if they name one
 abbrev pub IsFileHeld : List (List ℕ) → (List ℕ → Option (List ℕ)) → Type 0
 IsFileHeld words held = (command : FileCommand) (name : List ℕ) → IsOnFile words command name → IsSome (held name)
 
--- the symbols of a file that a name holds
-pub record SpellsSymbols (held : Option (List ℕ)) : Type 0 where
+-- the symbols of a file that a name holds, of each of which a command makes something
+pub record SpellsSymbols (command : FileCommand) (held : Option (List ℕ)) : Type 0 where
   pub bytes : List ℕ
   pub holds : held ≡ Some bytes
   pub symbols : List Symbol
   pub reads : Reads bytes symbols
+  pub accepted : (r : SymbolRefusal) → IsRefusalOf command symbols r → ⊥
 
--- the file that the words name, if they name one, spells some list of symbols
+-- the file that the words name, if they name one, spells some list of symbols, and their command refuses none of them
 abbrev pub IsFileAccepted : List (List ℕ) → Bool → (List ℕ → Option (List ℕ)) → Type 0
-IsFileAccepted words tells held = (command : FileCommand) (name : List ℕ) → IsOnFile words command name → (tells ≡ true) × SpellsSymbols (held name)
+IsFileAccepted words tells held = (command : FileCommand) (name : List ℕ) → IsOnFile words command name → (tells ≡ true) × SpellsSymbols command (held name)

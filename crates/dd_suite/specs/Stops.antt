@@ -3,10 +3,11 @@ use Rattle.std.specs.Prelude.{◌≡◌, ℕ, List, [], Option, Bool, true}
 use Rattle.std.specs.Io.KnownBytes.{Appends}
 use Rattle.dd_ports.specs.Causes.{Rose}
 use Rattle.dd_suite.specs.declared.ending.Ending.{Ending}
-use Rattle.dd_suite.specs.declared.ending.Ending.TheVariants.{Done, Usage, Refused, StoreFault, SinkFault, Memory}
+use Rattle.dd_suite.specs.declared.ending.Ending.TheVariants.{Done, Usage, Refused, RefusedSymbol, StoreFault, SinkFault, Memory}
 use Rattle.dd_suite.specs.Words.{AreTaken}
-use Rattle.dd_suite.specs.Files.{IsFaulty, HoldsFaulty}
-use Rattle.dd_suite.specs.Output.{NameFaulty}
+use Rattle.dd_suite.specs.declared.commands.FileCommand.{FileCommand}
+use Rattle.dd_suite.specs.Files.{IsFaulty, IsRefused, HoldsFaulty, HoldsRefused}
+use Rattle.dd_suite.specs.Output.{NameFaulty, NameRefused}
 
 -- a fetch failed and was counted, or the name holds what no file may be, or memory is wanting
 abbrev pub IsFetchStop : Ending → Bool → Option (List ℕ) → ℕ → ℕ → Type 0
@@ -15,11 +16,12 @@ IsFetchStop StoreFault tells held before now = Rose before now
 IsFetchStop Memory tells held before now = Unit {0}
 IsFetchStop ending tells held before now = ⊥
 
--- the file has a fault, or memory is wanting
-abbrev pub IsFileStop : Ending → List ℕ → Type 0
-IsFileStop (Refused fault) bytes = IsFaulty bytes fault
-IsFileStop Memory bytes = Unit {0}
-IsFileStop ending bytes = ⊥
+-- the file has a fault, or a symbol of which nothing is made, or memory is wanting
+abbrev pub IsFileStop : FileCommand → Ending → List ℕ → Type 0
+IsFileStop command (Refused fault) bytes = IsFaulty bytes fault
+IsFileStop command (RefusedSymbol refusal) bytes = IsRefused command bytes refusal
+IsFileStop command Memory bytes = Unit {0}
+IsFileStop command ending bytes = ⊥
 
 -- all was written, or a write failed and was counted, or memory is wanting
 abbrev pub IsWriteEnding : Ending → ℕ → ℕ → Type 0
@@ -29,19 +31,21 @@ IsWriteEnding Memory before now = Unit {0}
 IsWriteEnding ending before now = ⊥
 
 -- Each ending of a command on a file has its cause. One that is refused has written nothing.
-abbrev pub HasFileCause : Ending → Bool → Option (List ℕ) → ℕ → ℕ → Option (List ℕ) → Option (List ℕ) → ℕ → ℕ → Type 0
-HasFileCause Done tells held faults faults' old new sunk sunk' = Unit {0}
-HasFileCause Usage tells held faults faults' old new sunk sunk' = ⊥
-HasFileCause (Refused fault) tells held faults faults' old new sunk sunk' = (tells ≡ true → HoldsFaulty held fault) × Appends old new []
-HasFileCause StoreFault tells held faults faults' old new sunk sunk' = Rose faults faults' × Appends old new []
-HasFileCause SinkFault tells held faults faults' old new sunk sunk' = Rose sunk sunk'
-HasFileCause Memory tells held faults faults' old new sunk sunk' = Unit {0}
+abbrev pub HasFileCause : FileCommand → Ending → Bool → Option (List ℕ) → ℕ → ℕ → Option (List ℕ) → Option (List ℕ) → ℕ → ℕ → Type 0
+HasFileCause command Done tells held faults faults' old new sunk sunk' = Unit {0}
+HasFileCause command Usage tells held faults faults' old new sunk sunk' = ⊥
+HasFileCause command (Refused fault) tells held faults faults' old new sunk sunk' = (tells ≡ true → HoldsFaulty held fault) × Appends old new []
+HasFileCause command (RefusedSymbol refusal) tells held faults faults' old new sunk sunk' = (tells ≡ true → HoldsRefused command held refusal) × Appends old new []
+HasFileCause command StoreFault tells held faults faults' old new sunk sunk' = Rose faults faults' × Appends old new []
+HasFileCause command SinkFault tells held faults faults' old new sunk sunk' = Rose sunk sunk'
+HasFileCause command Memory tells held faults faults' old new sunk sunk' = Unit {0}
 
--- Each ending has its cause, and an ending that is Refused or StoreFault has written nothing.
+-- Each ending has its cause, and an ending that is a refusal or StoreFault has written nothing.
 abbrev pub HasCause : Ending → List (List ℕ) → Bool → (List ℕ → Option (List ℕ)) → ℕ → ℕ → Option (List ℕ) → Option (List ℕ) → ℕ → ℕ → Type 0
 HasCause Done words tells held faults faults' old new sunk sunk' = Unit {0}
 HasCause Usage words tells held faults faults' old new sunk sunk' = ¬ AreTaken words
 HasCause (Refused fault) words tells held faults faults' old new sunk sunk' = NameFaulty words tells held fault × Appends old new []
+HasCause (RefusedSymbol refusal) words tells held faults faults' old new sunk sunk' = NameRefused words tells held refusal × Appends old new []
 HasCause StoreFault words tells held faults faults' old new sunk sunk' = Rose faults faults' × Appends old new []
 HasCause SinkFault words tells held faults faults' old new sunk sunk' = Rose sunk sunk'
 HasCause Memory words tells held faults faults' old new sunk sunk' = Unit {0}

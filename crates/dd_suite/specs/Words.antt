@@ -3,8 +3,9 @@ use Rattle.std.specs.Prelude.{◌≡◌, ◌≢◌, ◌⊎◌, ℕ, ◌+◌, ◌
 use Rattle.std.specs.Char.{IsAsciiDigit}
 use Rattle.dd_model.specs.Allowed.{IsFrom}
 use Rattle.dd_model.specs.declared.requests.Request.{Request}
-use Rattle.dd_suite.specs.declared.words.FileCommand.{FileCommand}
-use Rattle.dd_suite.specs.declared.words.FileCommand.TheVariants.{Lines, Canon}
+use Rattle.dd_suite.specs.declared.commands.FileCommand.{FileCommand}
+use Rattle.dd_suite.specs.declared.commands.FileCommand.TheVariants.{Symbols, Info}
+use Rattle.dd_suite.specs.declared.commands.SymbolCommand.TheVariants.{Lines, Canon, Minimal, Dual, Ambo, Truncate, Chamfer}
 
 -- the value of decimal digits
 abbrev pub value_of : List ℕ → ℕ
@@ -37,8 +38,14 @@ pub record AskFor (words : List (List ℕ)) (q : Request) : Type 0 where
 
 -- the word of a command on a file
 abbrev pub word_of : FileCommand → List ℕ
-word_of Lines = codes "lines"
-word_of Canon = codes "canon"
+word_of Info = codes "info"
+word_of (Symbols Lines) = codes "lines"
+word_of (Symbols Canon) = codes "canon"
+word_of (Symbols Minimal) = codes "minimal"
+word_of (Symbols Dual) = codes "dual"
+word_of (Symbols Ambo) = codes "ambo"
+word_of (Symbols Truncate) = codes "truncate"
+word_of (Symbols Chamfer) = codes "chamfer"
 
 -- a name is not empty and does not begin with a dash
 abbrev pub IsName : List ℕ → Type 0

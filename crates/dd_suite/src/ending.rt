@@ -1,5 +1,6 @@
 ghost use Rattle.std.specs.Prelude.{◌≡◌};
 
+use crate::refusals::SymbolRefusal;
 use crate::status::Status;
 use dd_text::FileFault;
 
@@ -12,6 +13,8 @@ pub enum Ending {
     Usage,
     /// The file is refused.
     Refused(FileFault),
+    /// Nothing is made of a symbol of the file.
+    RefusedSymbol(SymbolRefusal),
     /// A call of the store failed.
     StoreFault,
     /// A write on the output failed.
@@ -30,7 +33,7 @@ impl Ending {
         match self {
             Ending::Done => Status::Done,
             Ending::Usage => Status::Usage,
-            Ending::Refused(_) => Status::Refused,
+            Ending::Refused(_) | Ending::RefusedSymbol(_) => Status::Refused,
             Ending::StoreFault => Status::StoreFault,
             Ending::SinkFault => Status::SinkFault,
             Ending::Memory => Status::Memory,

@@ -1,19 +1,21 @@
-ghost use Rattle.std.specs.Prelude.{◌≡◌, ◌≤◌, ℕ, List, [], true, IfOk, IfErr, IsSome};
+ghost use Rattle.std.specs.Prelude.{◌≡◌, ◌≤◌, ℕ, List, [], true, length, IfOk, IfErr, IsSome};
 ghost use Rattle.std.specs.Io.KnownBytes.{Appends};
 ghost use Rattle.dd_ports.specs.Causes.{Rose};
 ghost use Rattle.dd_ports.specs.Grows.{GrowsByPrefix};
 ghost use Rattle.dd_ports.specs.Texts.{SameTexts};
-ghost use Rattle.dd_suite.specs.Files.{AreMade, AreLinesOfMade, IsFileText, IsTextOfHeld, AppendsFileText};
+ghost use Rattle.dd_suite.specs.Files.{IsTextOf, IsFileText, IsTextOfHeld, AppendsFileText};
+ghost use Rattle.dd_suite.specs.Making.{IsUnwritten};
 ghost use Rattle.dd_suite.specs.Endings.{ending_of_why};
 ghost use Rattle.dd_suite.specs.Stops.{IsFetchStop, IsFileStop, IsWriteEnding, HasFileCause};
 
+use crate::commands::FileCommand;
 use crate::ending::Ending;
-use crate::words::FileCommand;
-use dd_canon::least_form;
-use dd_model::Memory;
+use crate::info::info_of;
+use crate::made::lines_of;
+use crate::refusals::Unwritten;
 use dd_ports::{Fetched, Sink, SinkFault, Store, StoreFault, write_all_of};
 use dd_symbol::Connected;
-use dd_text::{FileFault, Why, put_lines, read_file};
+use dd_text::{FileFault, Why, read_file};
 use std::alloc::Global;
 
 /// The most bytes of a file.
@@ -41,31 +43,6 @@ fn fetch_file<S: Store>(alloc: Global, name: &str, store: &mut S) -> Result<Vec<
     }
 }
 
-/// What a command makes of symbols, in order.
-fn made_of(
-    alloc: Global,
-    command: FileCommand,
-    symbols: Vec<Connected>,
-) -> Result<Vec<Connected>, Memory>
-    ensures { IfOk result (λ made. AreMade command symbols.items made.items) }
-{
-    match command {
-        FileCommand::Lines => Ok(symbols),
-        FileCommand::Canon => least_forms(alloc, &symbols),
-    }
-}
-
-/// The least forms of symbols, in order.
-fn least_forms(alloc: Global, symbols: &[Connected]) -> Result<Vec<Connected>, Memory>
-    ensures { IfOk result (λ forms. AreMade FileCommand.Canon symbols.now forms.items) }
-{
-    let mut forms = Vec::with_capacity(alloc, symbols.len())?;
-    for symbol in symbols {
-        forms.push(least_form(alloc, symbol)?)?;
-    }
-    Ok(forms)
-}
-
 /// How a command ends whose file has a fault. Want of memory is no refusal.
 fn ending_of_fault(fault: FileFault) -> Ending
     ensures { result ≡ ending_of_why fault.why fault }
@@ -76,29 +53,36 @@ fn ending_of_fault(fault: FileFault) -> Ending
     }
 }
 
-/// The lines that a command writes of the symbols of a file.
+/// What a command writes of the symbols of a file.
 fn text_of(alloc: Global, command: FileCommand, bytes: &[u8]) -> Result<Vec<u8>, Ending>
     ensures text { IfOk result (λ text. IsFileText command bytes.now text.items) }
-    ensures stop { IfErr result (λ ending. IsFileStop ending bytes.now) }
+    ensures stop { IfErr result (λ ending. IsFileStop command ending bytes.now) }
 {
     let symbols = match read_file(alloc, bytes) {
         Ok(symbols) => symbols,
         Err(fault) => return Err(ending_of_fault(fault)),
     };
-    match lines_of(alloc, command, symbols) {
+    match written_of(alloc, command, symbols) {
         Ok(text) => Ok(text),
-        Err(Memory) => Err(Ending::Memory),
+        Err(Unwritten::Refused(refusal)) => Err(Ending::RefusedSymbol(refusal)),
+        Err(Unwritten::Memory) => Err(Ending::Memory),
     }
 }
 
-/// The lines of what a command makes of symbols, numbered from 1.
-fn lines_of(alloc: Global, command: FileCommand, symbols: Vec<Connected>) -> Result<Vec<u8>, Memory>
-    ensures { IfOk result (λ text. AreLinesOfMade command symbols.items text.items) }
+/// What a command writes of symbols.
+fn written_of(
+    alloc: Global,
+    command: FileCommand,
+    symbols: Vec<Connected>,
+) -> Result<Vec<u8>, Unwritten>
+    requires { length symbols.items ≤ 1000000 }
+    ensures text { IfOk result (λ text. IsTextOf command symbols.items text.items) }
+    ensures refusal { IfErr result (λ why. IsUnwritten command symbols.items why) }
 {
-    let made = made_of(alloc, command, symbols)?;
-    let mut text = Vec::new(alloc);
-    put_lines(&mut text, 0, &made)?;
-    Ok(text)
+    match command {
+        FileCommand::Symbols(command) => lines_of(alloc, command, symbols),
+        FileCommand::Info => Ok(info_of(alloc, &symbols)?),
+    }
 }
 
 /// Writes a whole text at once.
@@ -128,7 +112,7 @@ pub fn write_file<S: Store, O: Sink>(
         → GrowsByPrefix (O.held out.old) (O.held out.new) text }
     ensures whole { S.tells store.old ≡ true → result ≡ Ending.Done
         → AppendsFileText command (S.held store.old name.now) (O.held out.old) (O.held out.new) }
-    ensures ending { HasFileCause result (S.tells store.old) (S.held store.old name.now) (S.faults store.old) (S.faults store.new)
+    ensures ending { HasFileCause command result (S.tells store.old) (S.held store.old name.now) (S.faults store.old) (S.faults store.new)
         (O.held out.old) (O.held out.new) (O.faults out.old) (O.faults out.new) }
     ensures same { S.tells store.old ≡ true → (S.tells store.new ≡ true) × SameTexts (S.held store.old) (S.held store.new) }
     ensures store_count { S.faults store.old ≤ S.faults store.new }

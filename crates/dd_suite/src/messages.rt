@@ -1,6 +1,7 @@
 ghost use Rattle.std.specs.Prelude.{◌≡◌, IfOk, string_bytes};
-ghost use Rattle.dd_suite.specs.Endings.{pair_text, refusal_text, why_text, fault_text};
+ghost use Rattle.dd_suite.specs.Endings.{pair_text, refusal_text, why_text, fault_text, symbol_fault_text, symbol_refusal_text};
 
+use crate::refusals::{SymbolFault, SymbolRefusal};
 use dd_model::Pair;
 use dd_symbol::Refusal;
 use dd_text::{FileFault, Why};
@@ -15,6 +16,23 @@ pub fn fault_message(alloc: Global, fault: FileFault) -> Result<String, AllocErr
         "dressline: file: symbol {} at {}: {why}\n",
         fault.symbol, fault.at
     )
+}
+
+/// The line that tells of a symbol of which nothing is made.
+pub fn symbol_message(alloc: Global, refusal: SymbolRefusal) -> Result<String, AllocError>
+    ensures { IfOk result (λ text. string_bytes text ≡ symbol_refusal_text refusal) }
+{
+    let why = symbol_fault_message(alloc, refusal.why)?;
+    format!(in alloc; "dressline: symbol {}: {why}\n", refusal.symbol)
+}
+
+fn symbol_fault_message(alloc: Global, fault: SymbolFault) -> Result<String, AllocError>
+    ensures { IfOk result (λ text. string_bytes text ≡ symbol_fault_text fault) }
+{
+    match fault {
+        SymbolFault::TooManyChambers { n } => format!(in alloc; "too many chambers {n}"),
+        SymbolFault::BranchingTooLarge { v } => format!(in alloc; "branching too large {v}"),
+    }
 }
 
 fn why_message(alloc: Global, why: Why) -> Result<String, AllocError>

@@ -7,7 +7,7 @@ pub enum Status {
     Done,
     /// The words are not taken.
     Usage,
-    /// The file is refused.
+    /// The file is refused, or a symbol of it.
     Refused,
     /// A call of the store failed.
     StoreFault,

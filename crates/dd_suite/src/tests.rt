@@ -34,7 +34,7 @@ fn words_of(alloc: Global, texts: &[&str]) -> Result<Vec<RcStr>, AllocError> {
     Ok(words)
 }
 
-fn run_words<R: Threads + Wait + Sync, S: Store, O: Sink>(
+pub(crate) fn run_words<R: Threads + Wait + Sync, S: Store, O: Sink>(
     rt: &R,
     alloc: Global,
     texts: &[&str],
@@ -145,7 +145,7 @@ const TWO_LINES: &str = "<1.1:1:1,1,1:4,4>\n<1.2:1:1,1,1:6,3>\n";
 const OTHER: &str = "<7.3:3:1 2 3,2 3,3 2:8 4,3>";
 
 /// What a command writes of a file.
-fn written<R: Threads + Wait + Sync + Abort>(
+pub(crate) fn written<R: Threads + Wait + Sync + Abort>(
     rt: &R,
     alloc: Global,
     words: &[&str],

@@ -4,19 +4,20 @@ ghost use Rattle.std.specs.Io.KnownBytes.{Appends};
 ghost use Rattle.dd_ports.specs.Causes.{Rose};
 ghost use Rattle.dd_ports.specs.Grows.{GrowsByPrefix};
 ghost use Rattle.dd_ports.specs.Texts.{SameTexts};
-ghost use Rattle.dd_text.specs.declared.faults.FileFault.{FileFault};
 ghost use Rattle.dd_suite.specs.Words.{AreTaken};
-ghost use Rattle.dd_suite.specs.Output.{IsOutput, AppendsOutput, NameFile, NameFaulty, IsFileHeld, IsFileAccepted};
-ghost use Rattle.dd_suite.specs.Endings.{message_of, fault_text, written_ending};
+ghost use Rattle.dd_suite.specs.Output.{IsOutput, AppendsOutput, NameFile, IsRefusedFile, IsFileHeld, IsFileAccepted};
+ghost use Rattle.dd_suite.specs.Endings.{message_of, fault_text, symbol_refusal_text, written_ending};
 ghost use Rattle.dd_suite.specs.Messages.{TellsOf};
 ghost use Rattle.dd_suite.specs.Stops.{HasCause};
 
 use crate::catalogue::write_catalogue;
+use crate::commands::Command;
 use crate::ending::Ending;
 use crate::file::write_file;
-use crate::messages::fault_message;
+use crate::messages::{fault_message, symbol_message};
+use crate::refusals::SymbolRefusal;
 use crate::status::Status;
-use crate::words::{Command, read_words};
+use crate::words::read_words;
 use dd_ports::{Gate, Sink, SinkFault, Store, write_all_of};
 use dd_text::FileFault;
 use std::alloc::Global;
@@ -45,7 +46,7 @@ pub fn run<R: Threads + Wait + Sync, S: Store, O: Sink, E: Sink, G: Gate + Sync>
     ensures not_taken { (¬ AreTaken (map rc_str_bytes words.now)) → (result ≡ Status.Usage) ⊎ (result ≡ Status.Memory) }
 
     // A refused command has written nothing.
-    ensures refused { result ≡ Status.Refused → (fault : FileFault) × NameFaulty (map rc_str_bytes words.now) (S.tells store.old) (S.held store.old) fault }
+    ensures refused { result ≡ Status.Refused → IsRefusedFile (map rc_str_bytes words.now) (S.tells store.old) (S.held store.old) }
     ensures quiet { (result ≡ Status.Refused) ⊎ (result ≡ Status.StoreFault) → Appends (O.held out.old) (O.held out.new) [] }
 
     ensures store { S.tells store.old ≡ true → (S.tells store.new ≡ true) × SameTexts (S.held store.old) (S.held store.new) }
@@ -57,7 +58,8 @@ pub fn run<R: Threads + Wait + Sync, S: Store, O: Sink, E: Sink, G: Gate + Sync>
         → (S.faults store.new ≡ S.faults store.old) × (result ≡ Status.StoreFault → ⊥) }
     ensures sink_sure { O.sure out.old ≡ true → (O.faults out.new ≡ O.faults out.old) × (result ≡ Status.SinkFault → ⊥) }
 
-    // Taken words end as Done where the file is accepted and no count rose, unless memory is wanting.
+    // Taken words end as Done where the file is accepted, nothing is refused and no count rose, unless memory
+    // is wanting.
     ensures complete { AreTaken (map rc_str_bytes words.now) → IsFileAccepted (map rc_str_bytes words.now) (S.tells store.old) (S.held store.old)
         → (¬ Rose (S.faults store.old) (S.faults store.new)) → (¬ Rose (O.faults out.old) (O.faults out.new))
         → (result ≡ Status.Done) ⊎ (result ≡ Status.Memory) }
@@ -113,6 +115,7 @@ fn tell<E: Sink>(alloc: Global, ending: Ending, err: &mut E)
         Ending::Done => "",
         Ending::Usage => "dressline: words not taken\n",
         Ending::Refused(fault) => return tell_fault(alloc, fault, err),
+        Ending::RefusedSymbol(refusal) => return tell_refusal(alloc, refusal, err),
         Ending::StoreFault => "dressline: store failed\n",
         Ending::SinkFault => "dressline: sink failed\n",
         Ending::Memory => "dressline: out of memory\n",
@@ -126,6 +129,16 @@ fn tell_fault<E: Sink>(alloc: Global, fault: FileFault, err: &mut E)
     ensures count { E.faults err.old ≤ E.faults err.new }
 {
     if let Ok(text) = fault_message(alloc, fault) {
+        let _ = write_all_of(err, text.as_bytes());
+    }
+}
+
+/// Writes the line of a symbol of which nothing is made.
+fn tell_refusal<E: Sink>(alloc: Global, refusal: SymbolRefusal, err: &mut E)
+    ensures err { GrowsByPrefix (E.held err.old) (E.held err.new) (symbol_refusal_text refusal) }
+    ensures count { E.faults err.old ≤ E.faults err.new }
+{
+    if let Ok(text) = symbol_message(alloc, refusal) {
         let _ = write_all_of(err, text.as_bytes());
     }
 }

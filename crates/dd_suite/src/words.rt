@@ -1,31 +1,14 @@
 ghost use Rattle.std.specs.Prelude.{◌≡◌, ℕ, map, IfSome, IfNone, IsTrue, ◌↔◌};
 ghost use Rattle.std.specs.Rc.{rc_str_bytes};
-ghost use Rattle.dd_suite.specs.Words.{IsNumber, IsCatalogue, IsName, AreTaken, HasDefaults};
+ghost use Rattle.dd_suite.specs.Words.{IsNumber, IsCatalogue, IsName, AreTaken, HasDefaults, word_of};
 ghost use Rattle.dd_suite.specs.Commands.{AskForCommand};
 
+use crate::commands::{Command, FileCommand, SymbolCommand};
 use dd_model::{Allowed, Request};
 use std::rc::RcStr;
 
 /// The least degree of faces and of vertices where the words ask for no other.
 const LEAST_DEGREE: u32 = 3;
-
-/// A command that writes a line for each symbol of a file.
-#[derive(Clone, Copy, Debug, PartialEq, Eq)]
-pub enum FileCommand {
-    /// The symbols as they were read.
-    Lines,
-    /// Their least forms.
-    Canon,
-}
-
-/// What words ask for.
-#[derive(Clone, Copy)]
-pub enum Command<'a> {
-    /// The catalogue of a request.
-    Catalogue(Request),
-    /// A command on the file of a name.
-    OnFile(FileCommand, &'a str),
-}
 
 /// What the words ask for, and None exactly where they are not taken.
 pub fn read_words(words: &[RcStr]) -> Option<Command<'_>>
@@ -41,8 +24,27 @@ pub fn read_words(words: &[RcStr]) -> Option<Command<'_>>
             Some(chambers @ 1..=3) => Some(Command::Catalogue(request_of(chambers as u32))),
             _ => None,
         },
-        "lines" if is_name(argument) => Some(Command::OnFile(FileCommand::Lines, argument)),
-        "canon" if is_name(argument) => Some(Command::OnFile(FileCommand::Canon, argument)),
+        word => match file_command(word) {
+            Some(command) if is_name(argument) => Some(Command::OnFile(command, argument)),
+            _ => None,
+        },
+    }
+}
+
+/// The command on a file that a word names.
+fn file_command(word: &str) -> Option<FileCommand>
+    ensures some { IfSome result (λ command. word.now ≡ word_of command) }
+    ensures none { IfNone result ((command : FileCommand) → word.now ≡ word_of command → ⊥) }
+{
+    match word {
+        "info" => Some(FileCommand::Info),
+        "lines" => Some(FileCommand::Symbols(SymbolCommand::Lines)),
+        "canon" => Some(FileCommand::Symbols(SymbolCommand::Canon)),
+        "minimal" => Some(FileCommand::Symbols(SymbolCommand::Minimal)),
+        "dual" => Some(FileCommand::Symbols(SymbolCommand::Dual)),
+        "ambo" => Some(FileCommand::Symbols(SymbolCommand::Ambo)),
+        "truncate" => Some(FileCommand::Symbols(SymbolCommand::Truncate)),
+        "chamfer" => Some(FileCommand::Symbols(SymbolCommand::Chamfer)),
         _ => None,
     }
 }

@@ -7,9 +7,9 @@ use Rattle.dd_suite.proofs.file.write_file.Goals as goal
 
 pub returns-in-Err-text_of-clause-ending : goal.returns-in-Err-text_of-clause-ending
 returns-in-Err-text_of-clause-ending g c =
-    cause_of_stop c.in-Err-text_of.ending c.in-Ok.bytes.items (g.S.Store.tells c.args.store.now) (g.S.Store.held c.args.store.now c.args.name.now)
+    cause_of_stop c.args.command c.in-Err-text_of.ending c.in-Ok.bytes.items (g.S.Store.tells c.args.store.now) (g.S.Store.held c.args.store.now c.args.name.now)
     (g.S.Store.faults c.args.store.now) (g.S.Store.faults c.fetch_file.new.store) (g.O.Sink.held c.args.out.now) (g.O.Sink.faults c.args.out.now)
-    c.in-Ok.ensures.bytes (subst (IsFileStop c.in-Err-text_of.ending) c.deref.ensures.value c.in-Err-text_of.ensures.stop)
+    c.in-Ok.ensures.bytes (subst (IsFileStop c.args.command c.in-Err-text_of.ending) c.deref.ensures.value c.in-Err-text_of.ensures.stop)
 
 pub returns-clause-prefix : goal.returns-clause-prefix
 returns-clause-prefix g c told text is =
