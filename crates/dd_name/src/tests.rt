@@ -13,7 +13,7 @@ fn list(alloc: Global, numbers: &[u32]) -> Result<Vec<u32>, Fail>
     Ok(Vec::from_slice(alloc, numbers)?)
 }
 
-/// A symbol of at most three chambers by its involutions and its degrees.
+/// A symbol of at most eight chambers by its involutions and its degrees.
 fn symbol(alloc: Global, ops: [&[u32]; 3], m01: &[u32], m12: &[u32]) -> Result<Connected, Fail> {
     let [s0, s1, s2] = ops;
     let n = s0.len();
@@ -21,7 +21,7 @@ fn symbol(alloc: Global, ops: [&[u32]; 3], m01: &[u32], m12: &[u32]) -> Result<C
         return Err(Fail::from("lists of different lengths"));
     }
     let ops = [list(alloc, s0)?, list(alloc, s1)?, list(alloc, s2)?];
-    Ok(build(alloc, ops, list(alloc, m01)?, list(alloc, m12)?, 3)?)
+    Ok(build(alloc, ops, list(alloc, m01)?, list(alloc, m12)?, 8)?)
 }
 
 /// The orbifold of a symbol. Without a contract, so that no test reads that of `orbifold`.
@@ -130,5 +130,27 @@ fn names_of_data(rt: HostRuntime) -> Result<(), Fail> {
     );
     expect(&rt, named(alloc, &data(alloc, 0, &[12], 0, 0)?)?, b"= (12)");
     expect(&rt, named(alloc, &data(alloc, 0, &[], 0, 0)?)?, b"= 1");
+    Ok(())
+}
+
+/// Squares with groups that move no square to itself. Side k has two chambers, the one at its beginning and
+/// the one at its end, and s2 tells to which side it is glued, and whether turned.
+#[test]
+fn names_of_squares(rt: HostRuntime) -> Result<(), Fail> {
+    let alloc = rt.alloc();
+    let s0 = [2u32, 1, 4, 3, 6, 5, 8, 7];
+    let s1 = [8u32, 3, 2, 5, 4, 7, 6, 1];
+    let rows = [
+        ([6u32, 5, 8, 7, 2, 1, 4, 3], b"= o".as_slice()),
+        ([5u32, 6, 8, 7, 1, 2, 4, 3], b"= xx".as_slice()),
+        ([6u32, 5, 3, 4, 2, 1, 7, 8], b"= **".as_slice()),
+        ([5u32, 6, 3, 4, 1, 2, 7, 8], b"= *x".as_slice()),
+        ([2u32, 1, 4, 3, 6, 5, 8, 7], b"= 2222".as_slice()),
+        ([2u32, 1, 3, 4, 6, 5, 7, 8], b"= 22*".as_slice()),
+    ];
+    for (s2, text) in rows {
+        let ops = [s0.as_slice(), s1.as_slice(), s2.as_slice()];
+        expect(&rt, name_of(alloc, ops, &[4; 8], &[4; 8])?, text);
+    }
     Ok(())
 }
