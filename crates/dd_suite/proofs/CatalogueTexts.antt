@@ -40,7 +40,7 @@ pub prefix_of_output : (words : List (List ℕ)) (tells : Bool) (held : List ℕ
     → ((text : List ℕ) → IsText q beginning 0 text → GrowsByPrefix old new text) → (bytes : List ℕ) → IsOutput words tells held bytes → GrowsByPrefix old new bytes
 prefix_of_output words tells held q old new asked prefix bytes (inl is) =
     prefix bytes (subst (λ r. IsText r beginning 0 bytes) (same_request words is.request q is.asked asked) is.text)
-prefix_of_output words tells held q old new asked prefix bytes (inr (inl file)) = absurd (not_both words q.chambers file.command file.name asked.chambers file.asked)
+prefix_of_output words tells held q old new asked prefix bytes (inr (inl file)) = absurd (not_both words q file.command file.name asked file.asked)
 prefix_of_output words tells held q old new asked prefix bytes (inr (inr none)) = absurd (none.0 (taken words q asked))
 
 pub whole_output : (words : List (List ℕ)) (tells : Bool) (held : List ℕ → Option (List ℕ)) (q : Request) (old new : Option (List ℕ)) → AskFor words q → AppendsText q old new

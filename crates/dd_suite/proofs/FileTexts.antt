@@ -62,7 +62,7 @@ prefix_of_each_file command held old new mine text is grown other = subst (Grows
 pub prefix_of_file_output : (words : List (List ℕ)) (tells : Bool) (held : List ℕ → Option (List ℕ)) (command : FileCommand) (name : List ℕ) (old new : Option (List ℕ))
     → IsOnFile words command name → (tells ≡ true → (text : List ℕ) → IsTextOfHeld command (held name) text → GrowsByPrefix old new text)
     → (bytes : List ℕ) → IsOutput words tells held bytes → GrowsByPrefix old new bytes
-prefix_of_file_output words tells held command name old new asked prefix bytes (inl is) = absurd (not_both words is.request.chambers command name is.asked.chambers asked)
+prefix_of_file_output words tells held command name old new asked prefix bytes (inl is) = absurd (not_both words is.request command name is.asked asked)
 prefix_of_file_output words tells held command name old new asked prefix bytes (inr (inl file)) =
     let same = same_command words file.command command file.name name file.asked asked in
     prefix file.told bytes (subst (λ k. IsTextOfHeld k (held name) bytes) same.0 (subst (λ n. IsTextOfHeld file.command (held n) bytes) same.1 file.text))
@@ -144,3 +144,13 @@ cause_of_stop command (RefusedSymbol refusal) bytes tells held faults faults' ol
 cause_of_stop command StoreFault bytes tells held faults faults' old sunk holds stop = absurd stop
 cause_of_stop command SinkFault bytes tells held faults faults' old sunk holds stop = absurd stop
 cause_of_stop command Memory bytes tells held faults faults' old sunk holds stop = tt
+
+-- only Done has its status
+pub done_ending : (ending : Ending) → status_of ending ≡ status.Done → ending ≡ Done
+done_ending Done e = refl
+done_ending Usage e = absurd (cc)
+done_ending (Refused fault) e = absurd (cc)
+done_ending (RefusedSymbol refusal) e = absurd (cc)
+done_ending StoreFault e = absurd (cc)
+done_ending SinkFault e = absurd (cc)
+done_ending Memory e = absurd (cc)

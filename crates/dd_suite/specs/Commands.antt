@@ -1,10 +1,17 @@
--- The command of words.
-use Rattle.std.specs.Prelude.{ℕ, List}
-use Rattle.dd_suite.specs.declared.commands.Command.{Command}
-use Rattle.dd_suite.specs.declared.commands.Command.TheVariants.{Catalogue, OnFile}
-use Rattle.dd_suite.specs.Words.{AskFor, IsOnFile}
+-- The task of words.
+use Rattle.std.specs.Prelude.{◌≡◌, ℕ, ◌≤◌, List, None}
+use Rattle.dd_words.specs.declared.commands.Command.{Command}
+use Rattle.dd_words.specs.declared.commands.Command.TheVariants as command
+use Rattle.dd_suite.specs.declared.commands.Task.{Task}
+use Rattle.dd_suite.specs.declared.commands.Task.TheVariants.{Catalogue, OnFile}
+use Rattle.dd_suite.specs.Words.{AskFor, IsOnFile, kind_of}
 
--- the words ask for this command
-abbrev pub AskForCommand : List (List ℕ) → Command → Type 0
-AskForCommand words (Catalogue q) = AskFor words q
-AskForCommand words (OnFile kind name) = IsOnFile words kind name.now
+-- the command is that of a task
+abbrev pub IsTaskOf : Command → Task → Type 0
+IsTaskOf c (Catalogue q) = (c ≡ command.Catalogue q 1 64 None None) × (q.chambers ≤ 3)
+IsTaskOf c (OnFile kind name) = c ≡ command.File (kind_of kind) name
+
+-- the words ask for this task
+abbrev pub AskForTask : List (List ℕ) → Task → Type 0
+AskForTask words (Catalogue q) = AskFor words q
+AskForTask words (OnFile kind name) = IsOnFile words kind name

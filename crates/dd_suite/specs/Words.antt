@@ -1,62 +1,35 @@
--- Which words are taken, and what they ask for.
-use Rattle.std.specs.Prelude.{◌≡◌, ◌≢◌, ◌⊎◌, ℕ, ◌+◌, ◌-◌, ◌*◌, ◌≤◌, List, [], ◌∷◌, length, fold, false, codes, All}
-use Rattle.std.specs.Char.{IsAsciiDigit}
-use Rattle.dd_model.specs.Allowed.{IsFrom}
+-- Which words the program takes, and what they ask for.
+use Rattle.std.specs.Prelude.{ℕ, ◌≤◌, ◌⊎◌, List, None}
 use Rattle.dd_model.specs.declared.requests.Request.{Request}
+use Rattle.dd_words.specs.Grammar.{IsCommand}
+use Rattle.dd_words.specs.declared.commands.Command.{Command}
+use Rattle.dd_words.specs.declared.commands.Command.TheVariants.{Catalogue, File}
+use Rattle.dd_words.specs.declared.commands.FileKind.{FileKind}
+use Rattle.dd_words.specs.declared.commands.FileKind.TheVariants as kind
 use Rattle.dd_suite.specs.declared.commands.FileCommand.{FileCommand}
 use Rattle.dd_suite.specs.declared.commands.FileCommand.TheVariants.{Symbols, Info}
 use Rattle.dd_suite.specs.declared.commands.SymbolCommand.TheVariants.{Lines, Canon, Minimal, Dual, Ambo, Truncate, Chamfer}
 
--- the value of decimal digits
-abbrev pub value_of : List ℕ → ℕ
-value_of digits = fold (λ n digit. 10 * n + (digit - 48)) 0 digits
-
--- one to ten decimal digits with this value; leading zeros are allowed
-pub record IsNumber (word : List ℕ) (n : ℕ) : Type 0 where
-  pub some : 1 ≤ length word
-  pub short : length word ≤ 10
-  pub digits : All IsAsciiDigit word
-  pub value : value_of word ≡ n
-
--- the word `catalogue` and a number of chambers, from 1 to 3
-abbrev pub IsCatalogue : List (List ℕ) → ℕ → Type 0
-IsCatalogue (command ∷ number ∷ []) n = (command ≡ codes "catalogue") × IsNumber number n × (1 ≤ n) × (n ≤ 3)
-IsCatalogue words n = ⊥
-
--- no limit on tiles and vertices, both sets 3 to 216, and no filter
-pub record HasDefaults (q : Request) : Type 0 where
-  pub tiles : q.tiles ≡ 0
-  pub vertices : q.vertices ≡ 0
-  pub faces : IsFrom 3 q.faces
-  pub degrees : IsFrom 3 q.degrees
-  pub minimal : q.minimal ≡ false
-
--- the request of the words: so many chambers, and else the defaults
+-- the words of a catalogue of at most 3 chambers, with the default number of workers and length of a round, and no checkpoint
 pub record AskFor (words : List (List ℕ)) (q : Request) : Type 0 where
-  pub chambers : IsCatalogue words q.chambers
-  pub defaults : HasDefaults q
+  pub command : IsCommand words (Catalogue q 1 64 None None)
+  pub few : q.chambers ≤ 3
 
--- the word of a command on a file
-abbrev pub word_of : FileCommand → List ℕ
-word_of Info = codes "info"
-word_of (Symbols Lines) = codes "lines"
-word_of (Symbols Canon) = codes "canon"
-word_of (Symbols Minimal) = codes "minimal"
-word_of (Symbols Dual) = codes "dual"
-word_of (Symbols Ambo) = codes "ambo"
-word_of (Symbols Truncate) = codes "truncate"
-word_of (Symbols Chamfer) = codes "chamfer"
+-- the words of the commands on files that the program has
+abbrev pub kind_of : FileCommand → FileKind
+kind_of Info = kind.Info
+kind_of (Symbols Lines) = kind.Lines
+kind_of (Symbols Canon) = kind.Canon
+kind_of (Symbols Minimal) = kind.Minimal
+kind_of (Symbols Dual) = kind.Dual
+kind_of (Symbols Ambo) = kind.Ambo
+kind_of (Symbols Truncate) = kind.Truncate
+kind_of (Symbols Chamfer) = kind.Chamfer
 
--- a name is not empty and does not begin with a dash
-abbrev pub IsName : List ℕ → Type 0
-IsName [] = ⊥
-IsName (byte ∷ bytes) = byte ≢ 45
-
--- the word of a command on a file, and a name
+-- the words of a command on the file of a name
 abbrev pub IsOnFile : List (List ℕ) → FileCommand → List ℕ → Type 0
-IsOnFile (command ∷ argument ∷ []) kind name = (command ≡ word_of kind) × IsName argument × (argument ≡ name)
-IsOnFile words kind name = ⊥
+IsOnFile words command name = IsCommand words (File (kind_of command) name)
 
--- some command has these words
+-- The words are taken: they are those of a command that the program has. Those of other commands are not taken yet.
 abbrev pub AreTaken : List (List ℕ) → Type 0
-AreTaken words = ((n : ℕ) × IsCatalogue words n) ⊎ ((kind : FileCommand) × (name : List ℕ) × IsOnFile words kind name)
+AreTaken words = ((q : Request) × AskFor words q) ⊎ ((command : FileCommand) × (name : List ℕ) × IsOnFile words command name)

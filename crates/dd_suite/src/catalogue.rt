@@ -1,4 +1,4 @@
-ghost use Rattle.std.specs.Prelude.{◌≡◌, ◌≤◌, ℕ, List, OnOk, IfOk, false, true};
+ghost use Rattle.std.specs.Prelude.{◌≡◌, ◌≤◌, ℕ, List, OnOk, IfOk, true};
 ghost use Rattle.std.specs.Io.KnownBytes.{Appends};
 ghost use Rattle.dd_model.specs.Request.{IsValid};
 ghost use Rattle.dd_model.specs.Text.{IsText, beginning};
@@ -17,7 +17,6 @@ use std::alloc::Global;
 pub fn write_catalogue<O: Sink>(alloc: Global, q: &Request, out: &mut O) -> Result<(), SinkFault>
     requires valid { IsValid q.now }
     requires few { q.now.chambers ≤ 3 }
-    requires all { q.now.minimal ≡ false }
     ensures prefix { (text : List ℕ) → IsText q.now beginning 0 text → GrowsByPrefix (O.held out.old) (O.held out.new) text }
     ensures whole { OnOk result (AppendsText q.now (O.held out.old) (O.held out.new)) }
     ensures cause { HasCause Failed (O.faults out.old) (O.faults out.new) result }
@@ -33,7 +32,6 @@ pub fn write_catalogue<O: Sink>(alloc: Global, q: &Request, out: &mut O) -> Resu
 fn catalogue_text(alloc: Global, q: &Request) -> Result<Vec<u8>, Memory>
     requires valid { IsValid q.now }
     requires few { q.now.chambers ≤ 3 }
-    requires all { q.now.minimal ≡ false }
     ensures { IfOk result (λ text. IsText q.now beginning 0 text.items) }
 {
     let members = plain_catalogue(alloc, q)?;

@@ -1,4 +1,5 @@
 use dd_model::Request;
+use dd_words::Name;
 
 /// A command that writes a line for each symbol of a file.
 #[derive(Clone, Copy, Debug, PartialEq, Eq)]
@@ -28,11 +29,11 @@ pub enum FileCommand {
     Info,
 }
 
-/// What words ask for.
-#[derive(Clone, Copy)]
-pub enum Command<'a> {
+/// What the program does.
+#[derive(Drop)]
+pub enum Task {
     /// The catalogue of a request.
     Catalogue(Request),
     /// A command on the file of a name.
-    OnFile(FileCommand, &'a str),
+    OnFile(FileCommand, Name),
 }

@@ -24,6 +24,8 @@ pub use status::Status;
 pub use top::run;
 
 #[cfg(test)]
+mod catalogue_tests;
+#[cfg(test)]
 mod command_tests;
 #[cfg(test)]
 mod tests;

@@ -9,23 +9,6 @@ use std::thread::Threads;
 
 const ONE_CHAMBER: &str = "<1.1:1:1,1,1:3,6>\n<1.2:1:1,1,1:4,4>\n<1.3:1:1,1,1:6,3>\n";
 
-const TWO_CHAMBERS: &str = "<1.4:2:1 2,1 2,2:3 3,6>
-<1.5:2:1 2,1 2,2:3 6,4>
-<1.6:2:1 2,1 2,2:4 4,4>
-<1.7:2:1 2,2,1 2:4,4>
-<1.8:2:1 2,2,2:4,4>
-<1.9:2:1 2,2,2:6,3>
-<1.10:2:2,1 2,1 2:4,3 6>
-<1.11:2:2,1 2,1 2:4,4 4>
-<1.12:2:2,1 2,1 2:6,3 3>
-<1.13:2:2,1 2,2:4,4>
-<1.14:2:2,2,1 2:3,6>
-<1.15:2:2,2,1 2:4,4>
-<1.16:2:2,2,2:3,6>
-<1.17:2:2,2,2:4,4>
-<1.18:2:2,2,2:6,3>
-";
-
 fn words_of(alloc: Global, texts: &[&str]) -> Result<Vec<RcStr>, AllocError> {
     let mut words = Vec::new(alloc);
     for text in texts {
@@ -48,51 +31,23 @@ pub(crate) fn run_words<R: Threads + Wait + Sync, S: Store, O: Sink>(
 }
 
 #[test]
-fn catalogues(rt: HostRuntime) -> Result<(), Fail> {
-    let alloc = rt.alloc();
-    for (words, text) in [
-        (["catalogue", "1"], format!(in alloc; "{ONE_CHAMBER}")?),
-        (
-            ["catalogue", "0000000002"],
-            format!(in alloc; "{ONE_CHAMBER}{TWO_CHAMBERS}")?,
-        ),
-    ] {
-        let mut out = SureSink::new(alloc);
-        let mut err = SureSink::new(alloc);
-        let status = run_words(
-            &rt,
-            alloc,
-            &words,
-            &mut SureStore::new(alloc),
-            &mut out,
-            &mut err,
-        )?;
-        assert_eq!(rt; status, Status::Done);
-        assert_eq!(rt; out.held(), text.as_bytes());
-        assert_eq!(rt; err.held(), b"".as_slice());
-    }
-    Ok(())
-}
-
-#[test]
 fn words_that_are_not_taken(rt: HostRuntime) -> Result<(), Fail> {
     let alloc = rt.alloc();
-    let rows: [&[&str]; 15] = [
+    let rows: [&[&str]; 14] = [
         &[],
         &["catalogue"],
-        &["catalogue", ""],
-        &["catalogue", "0"],
         &["catalogue", "4"],
-        &["catalogue", "37"],
-        &["catalogue", "00000000002"],
-        &["catalogue", "+2"],
-        &["catalogue", "2 "],
         &["catalogue", "2", "2"],
-        &["Catalogue", "2"],
-        &["2", "catalogue"],
-        &["lines"],
-        &["lines", ""],
-        &["canon", "-f"],
+        &["catalogue", "2", "--min"],
+        &["catalogue", "2", "--workers", "2"],
+        &["catalogue", "2", "--checkpoint", "c"],
+        &["catalogue", "2", "--help"],
+        &["--version"],
+        &["resume", "c"],
+        &["oriented", "f"],
+        &["torus", "f"],
+        &["draw", "f"],
+        &["exercise", "1", "1"],
     ];
     for words in rows {
         let mut out = SureSink::new(alloc);

@@ -11,13 +11,14 @@ ghost use Rattle.dd_suite.specs.Messages.{TellsOf};
 ghost use Rattle.dd_suite.specs.Stops.{HasCause};
 
 use crate::catalogue::write_catalogue;
-use crate::commands::Command;
+use crate::commands::Task;
 use crate::ending::Ending;
 use crate::file::write_file;
 use crate::messages::{fault_message, symbol_message};
 use crate::refusals::SymbolRefusal;
 use crate::status::Status;
-use crate::words::read_words;
+use crate::words::read_task;
+use dd_model::Memory;
 use dd_ports::{Gate, Sink, SinkFault, Store, write_all_of};
 use dd_text::FileFault;
 use std::alloc::Global;
@@ -80,7 +81,7 @@ fn perform<S: Store, O: Sink>(alloc: Global, words: &[RcStr], store: &mut S, out
         → AppendsOutput (map rc_str_bytes words.now) (S.tells store.old) (S.held store.old) (O.held out.old) (O.held out.new) }
     ensures cause { HasCause result (map rc_str_bytes words.now) (S.tells store.old) (S.held store.old) (S.faults store.old) (S.faults store.new)
         (O.held out.old) (O.held out.new) (O.faults out.old) (O.faults out.new) }
-    ensures not_taken { (¬ AreTaken (map rc_str_bytes words.now)) → result ≡ Ending.Usage }
+    ensures not_taken { (¬ AreTaken (map rc_str_bytes words.now)) → (result ≡ Ending.Usage) ⊎ (result ≡ Ending.Memory) }
     ensures store { S.tells store.old ≡ true → (S.tells store.new ≡ true) × SameTexts (S.held store.old) (S.held store.new) }
     ensures store_count { S.faults store.old ≤ S.faults store.new }
     ensures sink_count { O.faults out.old ≤ O.faults out.new }
@@ -88,10 +89,14 @@ fn perform<S: Store, O: Sink>(alloc: Global, words: &[RcStr], store: &mut S, out
         → (S.faults store.new ≡ S.faults store.old) × (result ≡ Ending.StoreFault → ⊥) }
     ensures sink_sure { O.sure out.old ≡ true → (O.faults out.new ≡ O.faults out.old) × (result ≡ Ending.SinkFault → ⊥) }
 {
-    match read_words(words) {
-        Some(Command::Catalogue(request)) => ending_of(write_catalogue(alloc, &request, out)),
-        Some(Command::OnFile(command, name)) => write_file(alloc, command, name, store, out),
-        None => Ending::Usage,
+    let task = match read_task(alloc, words) {
+        Ok(Some(task)) => task,
+        Ok(None) => return Ending::Usage,
+        Err(Memory) => return Ending::Memory,
+    };
+    match task {
+        Task::Catalogue(request) => ending_of(write_catalogue(alloc, &request, out)),
+        Task::OnFile(command, name) => write_file(alloc, command, name.as_str(), store, out),
     }
 }
 

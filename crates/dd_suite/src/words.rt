@@ -1,93 +1,72 @@
-ghost use Rattle.std.specs.Prelude.{◌≡◌, ℕ, map, IfSome, IfNone, IsTrue, ◌↔◌};
+ghost use Rattle.std.specs.Prelude.{◌≡◌, map, IfOk, MatchOption};
 ghost use Rattle.std.specs.Rc.{rc_str_bytes};
-ghost use Rattle.dd_suite.specs.Words.{IsNumber, IsCatalogue, IsName, AreTaken, HasDefaults, word_of};
-ghost use Rattle.dd_suite.specs.Commands.{AskForCommand};
+ghost use Rattle.dd_words.specs.declared.commands.FileKind.TheVariants as kind;
+ghost use Rattle.dd_suite.specs.Words.{AreTaken, kind_of};
+ghost use Rattle.dd_suite.specs.Commands.{IsTaskOf, AskForTask};
+ghost use Rattle.dd_suite.specs.declared.commands.Task.{Task as Asked};
+ghost use Rattle.dd_suite.specs.declared.commands.FileCommand.{FileCommand as OfFile};
 
-use crate::commands::{Command, FileCommand, SymbolCommand};
-use dd_model::{Allowed, Request};
+use crate::commands::{FileCommand, SymbolCommand, Task};
+use dd_model::Memory;
+use dd_words::{Command, FileKind, WordsFault, read_words};
+use std::alloc::Global;
 use std::rc::RcStr;
 
-/// The least degree of faces and of vertices where the words ask for no other.
-const LEAST_DEGREE: u32 = 3;
+/// The most chambers of a catalogue.
+const MOST_CHAMBERS: u32 = 3;
 
-/// What the words ask for, and None exactly where they are not taken.
-pub fn read_words(words: &[RcStr]) -> Option<Command<'_>>
-    ensures some { IfSome result (AskForCommand (map rc_str_bytes words.now)) }
-    ensures none { IfNone result (¬ AreTaken (map rc_str_bytes words.now)) }
+/// The number of workers where the words ask for no other.
+const WORKERS: u32 = 1;
+
+/// The length of a round where the words ask for no other.
+const ROUND: u32 = 64;
+
+/// What the words ask the program to do, and None exactly where they are not taken.
+pub fn read_task(alloc: Global, words: &[RcStr]) -> Result<Option<Task>, Memory>
+    ensures { IfOk result (λ task. MatchOption task (¬ AreTaken (map rc_str_bytes words.now)) (AskForTask (map rc_str_bytes words.now))) }
 {
-    let [command, argument] = words else {
-        return None;
-    };
-    let argument = argument.as_str();
-    match command.as_str() {
-        "catalogue" => match read_number(argument) {
-            Some(chambers @ 1..=3) => Some(Command::Catalogue(request_of(chambers as u32))),
-            _ => None,
-        },
-        word => match file_command(word) {
-            Some(command) if is_name(argument) => Some(Command::OnFile(command, argument)),
-            _ => None,
+    match read_words(alloc, words) {
+        Ok(command) => Ok(task_of(command)),
+        Err(fault) => match fault {
+            WordsFault::NotTaken => Ok(None),
+            WordsFault::Memory => Err(Memory),
         },
     }
 }
 
-/// The command on a file that a word names.
-fn file_command(word: &str) -> Option<FileCommand>
-    ensures some { IfSome result (λ command. word.now ≡ word_of command) }
-    ensures none { IfNone result ((command : FileCommand) → word.now ≡ word_of command → ⊥) }
+/// The task of a command, and None where the program does not have the command.
+fn task_of(command: Command) -> Option<Task>
+    ensures { MatchOption result ((task : Asked) → IsTaskOf command task → ⊥) (IsTaskOf command) }
 {
-    match word {
-        "info" => Some(FileCommand::Info),
-        "lines" => Some(FileCommand::Symbols(SymbolCommand::Lines)),
-        "canon" => Some(FileCommand::Symbols(SymbolCommand::Canon)),
-        "minimal" => Some(FileCommand::Symbols(SymbolCommand::Minimal)),
-        "dual" => Some(FileCommand::Symbols(SymbolCommand::Dual)),
-        "ambo" => Some(FileCommand::Symbols(SymbolCommand::Ambo)),
-        "truncate" => Some(FileCommand::Symbols(SymbolCommand::Truncate)),
-        "chamfer" => Some(FileCommand::Symbols(SymbolCommand::Chamfer)),
+    match command {
+        Command::Catalogue {
+            request,
+            workers: WORKERS,
+            round: ROUND,
+            pause: None,
+            checkpoint: None,
+        } if request.chambers <= MOST_CHAMBERS => Some(Task::Catalogue(request)),
+        Command::File { kind, file } => match command_of(kind) {
+            Some(command) => Some(Task::OnFile(command, file)),
+            None => None,
+        },
         _ => None,
     }
 }
 
-/// Whether a word may name a file: it is not empty and does not begin with a dash.
-fn is_name(word: &str) -> bool
-    ensures { IsTrue result ↔ IsName word.now }
+/// The command on files of a kind, and None where the program does not have it.
+fn command_of(kind: FileKind) -> Option<FileCommand>
+    ensures { MatchOption result ((command : OfFile) → kind ≡ kind_of command → ⊥) (λ command. kind ≡ kind_of command) }
 {
-    match word.as_bytes().first() {
-        Some(byte) => *byte != b'-',
-        None => false,
+    match kind {
+        FileKind::Info => Some(FileCommand::Info),
+        FileKind::Lines => Some(FileCommand::Symbols(SymbolCommand::Lines)),
+        FileKind::Canon => Some(FileCommand::Symbols(SymbolCommand::Canon)),
+        FileKind::Minimal => Some(FileCommand::Symbols(SymbolCommand::Minimal)),
+        FileKind::Dual => Some(FileCommand::Symbols(SymbolCommand::Dual)),
+        FileKind::Ambo => Some(FileCommand::Symbols(SymbolCommand::Ambo)),
+        FileKind::Truncate => Some(FileCommand::Symbols(SymbolCommand::Truncate)),
+        FileKind::Chamfer => Some(FileCommand::Symbols(SymbolCommand::Chamfer)),
+        FileKind::Oriented | FileKind::Torus => None,
     }
-}
-
-fn request_of(chambers: u32) -> Request
-    ensures chambers { result.chambers ≡ chambers }
-    ensures defaults { HasDefaults result }
-{
-    Request {
-        chambers,
-        tiles: 0,
-        vertices: 0,
-        faces: Allowed::least(LEAST_DEGREE),
-        degrees: Allowed::least(LEAST_DEGREE),
-        minimal: false,
-    }
-}
-
-/// The value of one to ten decimal digits.
-fn read_number(text: &str) -> Option<u64>
-    ensures some { IfSome result (λ n. IsNumber text.now n) }
-    ensures none { IfNone result ((n : ℕ) → ¬ IsNumber text.now n) }
-{
-    let digits = text.as_bytes();
-    if digits.is_empty() || digits.len() > 10 {
-        return None;
-    }
-    let mut value = 0;
-    for digit in digits {
-        if !digit.is_ascii_digit() {
-            return None;
-        }
-        value = 10 * value + u64::from(*digit - b'0');
-    }
-    Some(value)
 }

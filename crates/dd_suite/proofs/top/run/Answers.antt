@@ -1,7 +1,7 @@
-use Rattle.std.proofs.Common.{◌≡◌, ◌⊎◌, map, subst, sym}
+use Rattle.std.proofs.Common.{◌≡◌, ◌⊎◌, map, subst, sym, ◌∙◌}
 use Rattle.std.specs.Rc.{rc_str_bytes}
 use Rattle.dd_suite.specs.declared.status.Status.TheVariants.{Done, Memory}
-use Rattle.dd_suite.proofs.FileTexts.{complete_ending}
+use Rattle.dd_suite.proofs.FileTexts.{complete_ending, done_ending}
 use Rattle.dd_suite.proofs.top.run.Goals as goal
 
 pub returns-clause-complete : goal.returns-clause-complete
@@ -11,3 +11,6 @@ returns-clause-complete g c taken accepted kept sank =
     (g.S.Store.faults c.args.store.now) (g.S.Store.faults c.perform-ending.new.store) (g.O.Sink.held c.args.out.now) (g.O.Sink.held c.perform-ending.new.out)
     (g.O.Sink.faults c.args.out.now) (g.O.Sink.faults c.perform-ending.new.out)
     c.perform-ending.ensures.cause taken accepted kept sank)
+
+pub returns-clause-whole : goal.returns-clause-whole
+returns-clause-whole g c done tells = c.perform-ending.ensures.whole (done_ending c.perform-ending.result (sym c.status.ensures ∙ done)) tells

@@ -1,6 +1,6 @@
 use Rattle.std.proofs.Common.{sym, ◌∙◌}
-use Rattle.dd_suite.proofs.Numbers.{one_more_read}
-use Rattle.dd_suite.proofs.words.read_number.Goals as goal
+use Rattle.dd_words.proofs.Numbers.{one_more_read}
+use Rattle.dd_words.proofs.values.read_number.Goals as goal
 
 pub loop-digit-preserved : goal.loop-digit-preserved
 loop-digit-preserved c =

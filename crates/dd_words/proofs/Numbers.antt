@@ -6,7 +6,7 @@ use Rattle.std.proofs.Math.Seq.{take-suc}
 use Rattle.std.proofs.lemmas.Bool.Decides.{nat_tests}
 use Rattle.std.proofs.lemmas.List.Sums.{fold-append}
 use Rattle.std.proofs.lemmas.List.Elements.{All-append}
-use Rattle.dd_suite.specs.Words.{value_of}
+use Rattle.dd_words.specs.Values.{value_of}
 
 -- the first i bytes are digits of this value, which fits in as many
 pub record AreRead (xs : List ℕ) (i value : ℕ) : Type 0 where
@@ -40,10 +40,3 @@ one_more_read xs i value digit h test is read =
       bound = omega arith;
       digits = subst (λ ys. All IsAsciiDigit ys) (sym (take_one_more xs i h)) (All-append IsAsciiDigit (take i xs) (get_or xs i 0 ∷ []) read.digits (one_digit (get_or xs i 0) range));
     }
-
--- a list of two words
-pub two_words : {A : Type 0} (ws : List A) (a b : A) → 2 ≤ length ws → length ws < 3 → a ≡ get_or ws 0 a → b ≡ get_or ws 1 b → ws ≡ a ∷ b ∷ []
-two_words [] a b low high e f = absurd (omega arith)
-two_words (x ∷ []) a b low high e f = absurd (omega arith)
-two_words (x ∷ y ∷ []) a b low high e f = ap (λ u. u ∷ y ∷ []) (sym e) ∙ ap (λ v. a ∷ v ∷ []) (sym f)
-two_words (x ∷ y ∷ z ∷ ws) a b low high e f = absurd (omega arith)

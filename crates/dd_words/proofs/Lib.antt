@@ -1,0 +1,13 @@
+pub mod Parting
+pub mod Told
+pub mod FormLemmas
+pub mod FrontWords
+pub mod NoForms
+pub mod Taking
+pub mod Numbers
+pub mod TakingSteps
+pub mod Items
+pub mod OneValue
+pub mod Faults
+pub mod ReadCommands
+pub mod Validity

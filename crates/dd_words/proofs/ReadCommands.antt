@@ -1,0 +1,194 @@
+-- What a verb, its arguments and settings ask for.
+use Rattle.std.proofs.Common.{◌≡◌, ◌≤◌, ◌<◌, ℕ, List, [], ◌∷◌, length, get_or, Option, Some, None, Bool, true, not, Bor, rules, refl, sym, ◌∙◌, subst, arith}
+use Rattle.std.specs.Prelude.{IsSome, is_some}
+use Rattle.dd_model.specs.declared.requests.Request.{Request}
+use Rattle.dd_words.specs.declared.commands.Command.{Command}
+use Rattle.dd_words.specs.declared.commands.Command.TheVariants as command
+use Rattle.dd_words.specs.declared.commands.Frame.{Frame}
+use Rattle.dd_words.specs.declared.commands.FileKind.{FileKind}
+use Rattle.dd_words.specs.declared.settings.Setting.TheVariants.{Pause, Checkpoint}
+use Rattle.dd_words.specs.declared.verbs.Verb.{Verb}
+use Rattle.dd_words.specs.declared.verbs.Verb.TheVariants as verb
+use Rattle.dd_words.specs.Values.{Text}
+use Rattle.dd_words.specs.Layout.{Given, IsLaid, AreSingle}
+use Rattle.dd_words.specs.Laying.{texts, CanBeLaid}
+use Rattle.dd_words.specs.Grammar.{first_word, verb_of, IsCatalogue, IsResumed, IsDrawn, IsNumberIfGiven, IsNameIfGiven, IsRequested, IsSaid, IsCommand}
+use Rattle.dd_words.specs.Reading.{IsReadAs}
+use Rattle.dd_words.proofs.Told.{same_verb}
+use Rattle.dd_words.proofs.FrontWords.{same_laid}
+use Rattle.dd_words.proofs.OneValue.{one_number_in, one_number, one_given, one_name, one_flag, one_set, one_frame}
+
+-- a list of one text
+pub one_text : (xs : List (Bor Text)) (d : Bor Text) → 1 ≤ length xs → length xs < 2 → texts xs ≡ (get_or xs 0 d).now ∷ []
+one_text [] d low high = absurd (omega arith)
+one_text (x ∷ []) d low high = refl
+one_text (x ∷ y ∷ xs) d low high = absurd (omega arith)
+
+pub record IsOneText (xs : List (Bor Text)) : Type 0 where
+  pub text : Text
+  pub is : texts xs ≡ text ∷ []
+
+pub some_one_text : (xs : List (Bor Text)) → 1 ≤ length xs → length xs < 2 → IsOneText xs
+some_one_text [] low high = absurd (omega arith)
+some_one_text (x ∷ []) low high = record { text = x.now; is = refl }
+some_one_text (x ∷ y ∷ xs) low high = absurd (omega arith)
+
+pub no_catalogue : (xs : List Text) (ss : List Given) (w : Text) → xs ≡ w ∷ []
+    → ((q : Request) (workers round : ℕ) (pause : Option ℕ) (checkpoint : Option Text) → IsCatalogue w ss q workers round pause checkpoint → ⊥)
+    → (c : Command) → IsReadAs verb.Catalogue xs ss c → ⊥
+no_catalogue xs ss w e none (command.Catalogue q workers round pause checkpoint) h =
+    none q workers round pause checkpoint (subst (λ ys. IsSaid (command.Catalogue q workers round pause checkpoint) ys ss) e h.said)
+no_catalogue xs ss w e none other h = let same = h.verb_is in absurd (cc)
+
+pub no_resume : (xs : List Text) (ss : List Given) (w : Text) → xs ≡ w ∷ []
+    → ((name : Text) (workers round : ℕ) (pause : Option ℕ) → IsResumed w ss name workers round pause → ⊥)
+    → (c : Command) → IsReadAs verb.Resume xs ss c → ⊥
+no_resume xs ss w e none (command.Resume name workers round pause) h =
+    none name workers round pause (subst (λ ys. IsSaid (command.Resume name workers round pause) ys ss) e h.said)
+no_resume xs ss w e none other h = let same = h.verb_is in absurd (cc)
+
+pub no_drawing : (xs : List Text) (ss : List Given) (w : Text) → xs ≡ w ∷ []
+    → ((file : Text) (frame : Frame) → IsDrawn w ss file frame → ⊥)
+    → (c : Command) → IsReadAs verb.Draw xs ss c → ⊥
+no_drawing xs ss w e none (command.Draw file frame) h = none file frame (subst (λ ys. IsSaid (command.Draw file frame) ys ss) e h.said)
+no_drawing xs ss w e none other h = let same = h.verb_is in absurd (cc)
+
+pub some_told : {A : Type 0} (o : Option A) → is_some o ≡ true → IsSome o
+some_told None e = absurd (cc)
+some_told (Some x) e = search rules
+
+pub none_told : {A : Type 0} (o : Option A) (none : Bool) → is_some o ≡ not none → none ≡ true → IsSome o → ⊥
+none_told None none e f h = search rules
+none_told (Some x) none e f h = absurd (cc)
+
+-- no pause without a checkpoint
+pub no_checkpoint : (ss : List Given) (w : Text) (pause : Option ℕ) (checkpoint : Option Text) → AreSingle ss → IsNumberIfGiven ss Pause 1 1000000000 pause
+    → IsNameIfGiven ss Checkpoint checkpoint → IsSome pause → (IsSome checkpoint → ⊥)
+    → (q : Request) (workers round : ℕ) (p : Option ℕ) (k : Option Text) → IsCatalogue w ss q workers round p k → ⊥
+no_checkpoint ss w pause checkpoint single a b some none q workers round p k h =
+    let pause_is : pause ≡ p = one_given ss Pause 1 1000000000 pause p single a h.run.pause_is in
+    let checkpoint_is : k ≡ checkpoint = one_name ss Checkpoint k checkpoint single h.checkpoint_is b in
+    none (subst IsSome checkpoint_is (h.resumable (subst IsSome pause_is some)))
+
+-- the parts of a command's words, once the first word is known
+pub record AreParts (v : Verb) (ws : List Text) (c : Command) : Type 0 where
+  pub arguments : List Text
+  pub settings : List Given
+  pub laid : IsLaid v ws arguments settings
+  pub single : AreSingle settings
+  pub read : IsReadAs v arguments settings c
+
+same_head : (w x : Text) (ws xs : List Text) → w ∷ ws ≡ x ∷ xs → w ≡ x
+same_head w x ws xs e = cc
+
+same_tail : (w x : Text) (ws xs : List Text) → w ∷ ws ≡ x ∷ xs → xs ≡ ws
+same_tail w x ws xs e = cc
+
+pub parts : (v : Verb) (w : Text) (ws : List Text) (c : Command) → w ≡ first_word v → IsCommand (w ∷ ws) c → AreParts v ws c
+parts v w ws c e h =
+    let verb_is : verb_of c ≡ v = same_verb (verb_of c) v (sym (same_head w (first_word (verb_of c)) ws h.rest h.first) ∙ e) in
+    let rest_is : h.rest ≡ ws = same_tail w (first_word (verb_of c)) ws h.rest h.first in
+    record {
+      arguments = h.arguments;
+      settings = h.settings;
+      laid = subst (λ u. IsLaid u ws h.arguments h.settings) verb_is (subst (λ xs. IsLaid (verb_of c) xs h.arguments h.settings) rest_is h.laid);
+      single = h.single;
+      read = record { verb_is = verb_is; said = h.said };
+    }
+
+pub not_laid : (v : Verb) (w : Text) (ws : List Text) → w ≡ first_word v → (CanBeLaid v ws → ⊥) → (c : Command) → IsCommand (w ∷ ws) c → ⊥
+not_laid v w ws e none c h = let p = parts v w ws c e h in none (record { arguments = p.arguments; settings = p.settings; laid = p.laid })
+
+pub not_single : (v : Verb) (w : Text) (ws xs : List Text) (ss : List Given) → w ≡ first_word v → IsLaid v ws xs ss → (AreSingle ss → ⊥)
+    → (c : Command) → IsCommand (w ∷ ws) c → ⊥
+not_single v w ws xs ss e laid none c h =
+    let p = parts v w ws c e h in none (subst AreSingle (same_laid v ws p.arguments xs p.settings ss p.laid laid).1 p.single)
+
+pub not_read : (v : Verb) (w : Text) (ws xs : List Text) (ss : List Given) → w ≡ first_word v → IsLaid v ws xs ss → ((c : Command) → IsReadAs v xs ss c → ⊥)
+    → (c : Command) → IsCommand (w ∷ ws) c → ⊥
+not_read v w ws xs ss e laid none c h =
+    let p = parts v w ws c e h in
+    let same = same_laid v ws p.arguments xs p.settings ss p.laid laid in
+    none c (subst (λ ts. IsReadAs v xs ts c) same.1 (subst (λ ys. IsReadAs v ys p.settings c) same.0 p.read))
+
+pub no_words : (c : Command) → IsCommand [] c → ⊥
+no_words c h = let e = h.first in absurd (cc)
+
+-- at most one command
+one_request : (w : Text) (ss : List Given) (p q : Request) → AreSingle ss → IsRequested w ss p → IsRequested w ss q → p ≡ q
+one_request w ss p q single a b = λ i. record {
+  chambers = one_number_in 1 36 w p.chambers q.chambers a.chambers b.chambers i;
+  tiles = one_number ss _ 1 36 0 p.tiles q.tiles single a.tiles b.tiles i;
+  vertices = one_number ss _ 1 36 0 p.vertices q.vertices single a.vertices b.vertices i;
+  faces = one_set ss _ _ p.faces q.faces single a.faces b.faces i;
+  degrees = one_set ss _ _ p.degrees q.degrees single a.degrees b.degrees i;
+  minimal = one_flag ss _ p.minimal q.minimal a.minimal b.minimal i;
+}
+
+one_catalogue : (xs : List Text) (ss : List Given) (p q : Request) (w r u s : ℕ) (o m : Option ℕ) (k j : Option Text) → AreSingle ss
+    → IsSaid (command.Catalogue p w r o k) xs ss → IsSaid (command.Catalogue q u s m j) xs ss → command.Catalogue p w r o k ≡ command.Catalogue q u s m j
+one_catalogue (x ∷ []) ss p q w r u s o m k j single a b =
+    let request = one_request x ss p q single a.request b.request in
+    let workers = one_number ss _ 1 64 1 w u single a.run.workers_are b.run.workers_are in
+    let round = one_number ss _ 1 4096 64 r s single a.run.round_is b.run.round_is in
+    let pause = one_given ss _ 1 1000000000 o m single a.run.pause_is b.run.pause_is in
+    let checkpoint = one_name ss _ k j single a.checkpoint_is b.checkpoint_is in
+    λ i. command.Catalogue (request i) (workers i) (round i) (pause i) (checkpoint i)
+one_catalogue [] ss p q w r u s o m k j single a b = absurd a
+one_catalogue (x ∷ y ∷ xs) ss p q w r u s o m k j single a b = absurd a
+
+one_resume : (xs : List Text) (ss : List Given) (n k : Text) (w r u s : ℕ) (o m : Option ℕ) → AreSingle ss
+    → IsSaid (command.Resume n w r o) xs ss → IsSaid (command.Resume k u s m) xs ss → command.Resume n w r o ≡ command.Resume k u s m
+one_resume (x ∷ []) ss n k w r u s o m single a b =
+    let name = sym a.same ∙ b.same in
+    let workers = one_number ss _ 1 64 1 w u single a.run.workers_are b.run.workers_are in
+    let round = one_number ss _ 1 4096 64 r s single a.run.round_is b.run.round_is in
+    let pause = one_given ss _ 1 1000000000 o m single a.run.pause_is b.run.pause_is in
+    λ i. command.Resume (name i) (workers i) (round i) (pause i)
+one_resume [] ss n k w r u s o m single a b = absurd a
+one_resume (x ∷ y ∷ xs) ss n k w r u s o m single a b = absurd a
+
+one_drawing : (xs : List Text) (ss : List Given) (f k : Text) (g j : Frame) → AreSingle ss
+    → IsSaid (command.Draw f g) xs ss → IsSaid (command.Draw k j) xs ss → command.Draw f g ≡ command.Draw k j
+one_drawing (x ∷ []) ss f k g j single a b =
+    let file = sym a.same ∙ b.same in
+    let frame = one_frame ss g j single a.frame_is b.frame_is in
+    λ i. command.Draw (file i) (frame i)
+one_drawing [] ss f k g j single a b = absurd a
+one_drawing (x ∷ y ∷ xs) ss f k g j single a b = absurd a
+
+one_exercise : (xs : List Text) (ss : List Given) (s n t m : ℕ) → IsSaid (command.Exercise s n) xs ss → IsSaid (command.Exercise t m) xs ss
+    → command.Exercise s n ≡ command.Exercise t m
+one_exercise (x ∷ y ∷ []) ss s n t m a b =
+    let start = one_number_in 0 2147483647 x s t a.start_is b.start_is in
+    let count = one_number_in 0 10000 y n m a.count_is b.count_is in
+    λ i. command.Exercise (start i) (count i)
+one_exercise [] ss s n t m a b = absurd a
+one_exercise (x ∷ []) ss s n t m a b = absurd a
+one_exercise (x ∷ y ∷ z ∷ xs) ss s n t m a b = absurd a
+
+one_file : (xs : List Text) (ss : List Given) (g j : FileKind) (f k : Text) → g ≡ j → IsSaid (command.File g f) xs ss → IsSaid (command.File j k) xs ss
+    → command.File g f ≡ command.File j k
+one_file (x ∷ []) ss g j f k kind a b =
+    let file = sym a.same ∙ b.same in
+    λ i. command.File (kind i) (file i)
+one_file [] ss g j f k kind a b = absurd a
+one_file (x ∷ y ∷ xs) ss g j f k kind a b = absurd a
+
+same_kind : (g j : FileKind) → verb.File g ≡ verb.File j → g ≡ j
+same_kind g j e = cc
+
+one_said : (xs : List Text) (ss : List Given) (c d : Command) → AreSingle ss → verb_of c ≡ verb_of d → IsSaid c xs ss → IsSaid d xs ss → c ≡ d
+one_said xs ss (command.Catalogue p w r o k) (command.Catalogue q u s m j) single e a b = one_catalogue xs ss p q w r u s o m k j single a b
+one_said xs ss (command.Resume n w r o) (command.Resume k u s m) single e a b = one_resume xs ss n k w r u s o m single a b
+one_said xs ss (command.Draw f g) (command.Draw k j) single e a b = one_drawing xs ss f k g j single a b
+one_said xs ss (command.Exercise s n) (command.Exercise t m) single e a b = one_exercise xs ss s n t m a b
+one_said xs ss (command.File g f) (command.File j k) single e a b = one_file xs ss g j f k (same_kind g j e) a b
+one_said xs ss c d single e a b = absurd (cc)
+
+pub one_command : (ws : List Text) (c d : Command) → IsCommand ws c → IsCommand ws d → c ≡ d
+one_command ws c d a b =
+    let p = parts (verb_of c) (first_word (verb_of c)) a.rest d refl (subst (λ xs. IsCommand xs d) a.first b) in
+    let same = same_laid (verb_of c) a.rest p.arguments a.arguments p.settings a.settings p.laid a.laid in
+    let said = subst (λ ts. IsSaid d a.arguments ts) same.1 (subst (λ ys. IsSaid d ys p.settings) same.0 p.read.said) in
+    one_said a.arguments a.settings c d a.single (sym p.read.verb_is) a.said said

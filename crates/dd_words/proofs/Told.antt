@@ -1,0 +1,86 @@
+-- Settings and verbs are told by their words.
+use Rattle.std.proofs.Common.{◌≡◌, ◌≢◌, ℕ, cond, List, [], codes, Option, Some, None, refl, sym, ap, ◌∙◌, bytes_eq, rules}
+use Rattle.dd_words.specs.declared.settings.Setting.{Setting}
+use Rattle.dd_words.specs.declared.settings.Setting.TheVariants.{Tiles, Vertices, LeastFace, LeastDegree, Faces, Degrees, Minimal, Workers, Round, Pause, Checkpoint, Cell}
+use Rattle.dd_words.specs.declared.verbs.Verb.{Verb}
+use Rattle.dd_words.specs.declared.verbs.Verb.TheVariants as verb
+use Rattle.dd_words.specs.declared.commands.FileKind.TheVariants as kind
+use Rattle.dd_words.specs.Layout.{word_of}
+use Rattle.dd_words.specs.Grammar.{first_word}
+use Rattle.dd_words.specs.Parted.{Avoids}
+use Rattle.dd_words.proofs.Parting.{avoids_by_test}
+
+-- the setting of a word
+abbrev pub setting_of : List ℕ → Option Setting
+setting_of w = cond (bytes_eq w (codes "tiles")) (Some Tiles) (cond (bytes_eq w (codes "vertices")) (Some Vertices) (cond (bytes_eq w (codes "least-face")) (Some LeastFace) (cond (bytes_eq w (codes "least-degree")) (Some LeastDegree) (cond (bytes_eq w (codes "faces")) (Some Faces) (cond (bytes_eq w (codes "degrees")) (Some Degrees) (cond (bytes_eq w (codes "minimal")) (Some Minimal) (cond (bytes_eq w (codes "workers")) (Some Workers) (cond (bytes_eq w (codes "round")) (Some Round) (cond (bytes_eq w (codes "pause")) (Some Pause) (cond (bytes_eq w (codes "checkpoint")) (Some Checkpoint) (cond (bytes_eq w (codes "cell")) (Some Cell) None)))))))))))
+
+pub setting_told : (s : Setting) → setting_of (word_of s) ≡ Some s
+setting_told Tiles = refl
+setting_told Vertices = refl
+setting_told LeastFace = refl
+setting_told LeastDegree = refl
+setting_told Faces = refl
+setting_told Degrees = refl
+setting_told Minimal = refl
+setting_told Workers = refl
+setting_told Round = refl
+setting_told Pause = refl
+setting_told Checkpoint = refl
+setting_told Cell = refl
+
+some_same : {A : Type 0} (a b : A) → Some a ≡ Some b → a ≡ b
+some_same a b e = cc
+
+pub same_setting : (s t : Setting) → word_of s ≡ word_of t → s ≡ t
+same_setting s t e = some_same s t (sym (setting_told s) ∙ ap setting_of e ∙ setting_told t)
+
+pub no_equals : (s : Setting) → Avoids 61 (word_of s)
+no_equals Tiles = avoids_by_test 61 (word_of Tiles) (search rules)
+no_equals Vertices = avoids_by_test 61 (word_of Vertices) (search rules)
+no_equals LeastFace = avoids_by_test 61 (word_of LeastFace) (search rules)
+no_equals LeastDegree = avoids_by_test 61 (word_of LeastDegree) (search rules)
+no_equals Faces = avoids_by_test 61 (word_of Faces) (search rules)
+no_equals Degrees = avoids_by_test 61 (word_of Degrees) (search rules)
+no_equals Minimal = avoids_by_test 61 (word_of Minimal) (search rules)
+no_equals Workers = avoids_by_test 61 (word_of Workers) (search rules)
+no_equals Round = avoids_by_test 61 (word_of Round) (search rules)
+no_equals Pause = avoids_by_test 61 (word_of Pause) (search rules)
+no_equals Checkpoint = avoids_by_test 61 (word_of Checkpoint) (search rules)
+no_equals Cell = avoids_by_test 61 (word_of Cell) (search rules)
+
+pub some_word : (s : Setting) → word_of s ≢ []
+some_word Tiles e = cc
+some_word Vertices e = cc
+some_word LeastFace e = cc
+some_word LeastDegree e = cc
+some_word Faces e = cc
+some_word Degrees e = cc
+some_word Minimal e = cc
+some_word Workers e = cc
+some_word Round e = cc
+some_word Pause e = cc
+some_word Checkpoint e = cc
+some_word Cell e = cc
+
+-- the verb of a word
+abbrev pub verb_told_by : List ℕ → Option Verb
+verb_told_by w = cond (bytes_eq w (codes "catalogue")) (Some verb.Catalogue) (cond (bytes_eq w (codes "resume")) (Some verb.Resume) (cond (bytes_eq w (codes "draw")) (Some verb.Draw) (cond (bytes_eq w (codes "exercise")) (Some verb.Exercise) (cond (bytes_eq w (codes "canon")) (Some (verb.File kind.Canon)) (cond (bytes_eq w (codes "lines")) (Some (verb.File kind.Lines)) (cond (bytes_eq w (codes "info")) (Some (verb.File kind.Info)) (cond (bytes_eq w (codes "minimal")) (Some (verb.File kind.Minimal)) (cond (bytes_eq w (codes "dual")) (Some (verb.File kind.Dual)) (cond (bytes_eq w (codes "ambo")) (Some (verb.File kind.Ambo)) (cond (bytes_eq w (codes "truncate")) (Some (verb.File kind.Truncate)) (cond (bytes_eq w (codes "chamfer")) (Some (verb.File kind.Chamfer)) (cond (bytes_eq w (codes "oriented")) (Some (verb.File kind.Oriented)) (cond (bytes_eq w (codes "torus")) (Some (verb.File kind.Torus)) None)))))))))))))
+
+pub verb_told : (v : Verb) → verb_told_by (first_word v) ≡ Some v
+verb_told verb.Catalogue = refl
+verb_told verb.Resume = refl
+verb_told verb.Draw = refl
+verb_told verb.Exercise = refl
+verb_told (verb.File kind.Canon) = refl
+verb_told (verb.File kind.Lines) = refl
+verb_told (verb.File kind.Info) = refl
+verb_told (verb.File kind.Minimal) = refl
+verb_told (verb.File kind.Dual) = refl
+verb_told (verb.File kind.Ambo) = refl
+verb_told (verb.File kind.Truncate) = refl
+verb_told (verb.File kind.Chamfer) = refl
+verb_told (verb.File kind.Oriented) = refl
+verb_told (verb.File kind.Torus) = refl
+
+pub same_verb : (v w : Verb) → first_word v ≡ first_word w → v ≡ w
+same_verb v w e = some_same v w (sym (verb_told v) ∙ ap verb_told_by e ∙ verb_told w)

@@ -1,0 +1,59 @@
+-- The request of taken words is valid.
+use Rattle.std.proofs.Common.{◌≡◌, ◌≤◌, ℕ, inl, inr, Option, List, [], ◌∷◌, refl, arith}
+use Rattle.std.specs.List.{AllByRecursion, onto_first}
+use Rattle.std.specs.Prelude.{◌==◌, Bool, true, false, cond}
+use Rattle.dd_model.specs.Request.{IsValid, HasNumber}
+use Rattle.dd_model.specs.declared.allowed.Allowed.{Allowed}
+use Rattle.dd_model.specs.declared.requests.Request.{Request}
+use Rattle.dd_words.specs.declared.settings.Setting.{Setting}
+use Rattle.dd_words.specs.declared.commands.Command.TheVariants.{Catalogue}
+use Rattle.dd_words.specs.Values.{Text, AsksForNumbers, IsCovered, items_of}
+use Rattle.dd_words.specs.Layout.{Given}
+use Rattle.dd_words.specs.Grammar.{IsNumberOr, IsSet, IsSaid, IsCommand}
+use Rattle.dd_words.proofs.OneValue.{least_range}
+
+-- the first item has a number
+front : (ws : List Text) → (ws ≡ [] → ⊥) → AllByRecursion AsksForNumbers ws → (m : ℕ) × IsCovered ws m
+front [] some all = absurd (some refl)
+front (w ∷ ws) some all =
+    (all.0.low, record { word = w; low = all.0.low; high = all.0.high; contains = (0, omega arith, refl); item = all.0.item; from = omega arith; to = all.0.item.ordered })
+
+not_empty : (b : ℕ) (xs : List Text) → onto_first b xs ≡ [] → ⊥
+not_empty b [] e = cc
+not_empty b (x ∷ xs) e = cc
+
+some_items : (w : Text) → items_of w ≡ [] → ⊥
+some_items [] e = cc
+some_items (b ∷ bs) e = go (b == 44) e
+  where
+    go : (t : Bool) → cond t ([] ∷ items_of bs) (onto_first b (items_of bs)) ≡ [] → ⊥
+    go true f = cc
+    go false f = not_empty b (items_of bs) f
+
+has_number : (ss : List Given) (set least : Setting) (a : Allowed) → IsSet ss set least a → HasNumber a
+has_number ss set least a (inl h) =
+    let m = front (items_of h.word) (some_items h.word) h.is_set.items in (m.0, (h.is_set.members m.0).1 m.1)
+has_number ss set least a (inr h) =
+    let range = least_range ss least h.first h.is_first in
+    let high = range.1 in
+    (h.first, (h.is_set h.first).1 (omega arith, omega arith))
+
+at_most : (ss : List Given) (s : Setting) (n : ℕ) → IsNumberOr ss s 1 36 0 n → n ≤ 36
+at_most ss s n (inl h) = let e = h.1 in omega arith
+at_most ss s n (inr h) = h.number.to
+
+valid_request : (xs : List Text) (ss : List Given) (q : Request) (workers round : ℕ) (pause : Option ℕ) (checkpoint : Option Text)
+    → IsSaid (Catalogue q workers round pause checkpoint) xs ss → IsValid q
+valid_request (x ∷ []) ss q workers round pause checkpoint h = record {
+  chambers = (h.request.chambers.from, h.request.chambers.to);
+  tiles = at_most ss _ q.tiles h.request.tiles;
+  vertices = at_most ss _ q.vertices h.request.vertices;
+  faces = has_number ss _ _ q.faces h.request.faces;
+  degrees = has_number ss _ _ q.degrees h.request.degrees;
+}
+valid_request [] ss q workers round pause checkpoint h = absurd h
+valid_request (x ∷ y ∷ xs) ss q workers round pause checkpoint h = absurd h
+
+pub valid : (words : List Text) (q : Request) (workers round : ℕ) (pause : Option ℕ) (checkpoint : Option Text)
+    → IsCommand words (Catalogue q workers round pause checkpoint) → IsValid q
+valid words q workers round pause checkpoint h = valid_request h.arguments h.settings q workers round pause checkpoint h.said

@@ -1,0 +1,10 @@
+use Rattle.std.proofs.Common.{map}
+use Rattle.dd_words.specs.Settings.{given_of}
+use Rattle.dd_words.proofs.NoForms.{given_none}
+use Rattle.dd_words.proofs.OneValue.{only_given}
+use Rattle.dd_words.proofs.given.number_if_given.Goals as goal
+
+pub returns-in_err-number-clause-none : goal.returns-in_err-number-clause-none
+returns-in_err-number-clause-none c =
+    given_none c.from_residual.result c.from_residual.ensures
+    (λ n. only_given (map given_of c.args.settings.now) c.args.setting c.args.low c.args.high n c.in-Some.word.now c.requires c.in-Some.ensures.some c.in_err-number.ensures.none)

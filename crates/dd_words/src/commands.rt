@@ -1,0 +1,86 @@
+use crate::names::Name;
+use dd_model::Request;
+
+/// What a command does with the symbols of a file.
+#[derive(Debug, Clone, Copy, PartialEq, Eq)]
+pub enum FileKind {
+    /// Least forms.
+    Canon,
+    /// Lines with positions.
+    Lines,
+    /// What is told of each symbol.
+    Info,
+    /// Minimal images.
+    Minimal,
+    /// Duals.
+    Dual,
+    /// Ambo.
+    Ambo,
+    /// Truncation.
+    Truncate,
+    /// Chamfering.
+    Chamfer,
+    /// Oriented covers.
+    Oriented,
+    /// Covers by a torus.
+    Torus,
+}
+
+/// The shape of the cell in which a tiling is drawn.
+#[derive(Debug, Clone, Copy, PartialEq, Eq)]
+pub enum Frame {
+    /// A square.
+    Square,
+    /// A regular hexagon.
+    Hex,
+}
+
+/// What the words ask for.
+#[derive(Drop)]
+pub enum Command {
+    /// A catalogue.
+    Catalogue {
+        /// Which symbols are asked for.
+        request: Request,
+        /// The number of workers, 1 to 64.
+        workers: u32,
+        /// The number of symbols in a round, 1 to 4096.
+        round: u32,
+        /// The number of lines before a pause.
+        pause: Option<u32>,
+        /// The checkpoint to which a pause is written.
+        checkpoint: Option<Name>,
+    },
+    /// A catalogue that is taken up again at a checkpoint.
+    Resume {
+        /// The checkpoint.
+        name: Name,
+        /// The number of workers, 1 to 64.
+        workers: u32,
+        /// The number of symbols in a round, 1 to 4096.
+        round: u32,
+        /// The number of lines before the next pause.
+        pause: Option<u32>,
+    },
+    /// A drawing of the symbol of a file.
+    Draw {
+        /// The file.
+        file: Name,
+        /// The shape of the cell.
+        frame: Frame,
+    },
+    /// Tasks that test the program itself.
+    Exercise {
+        /// The number of the first task.
+        start: u32,
+        /// The number of tasks.
+        count: u32,
+    },
+    /// A command on the symbols of a file.
+    File {
+        /// What is done with them.
+        kind: FileKind,
+        /// The file.
+        file: Name,
+    },
+}

@@ -1,0 +1,32 @@
+use std::alloc::{AllocError, AllocFailed};
+
+/// Why no command was read.
+#[derive(Debug, Clone, Copy, PartialEq, Eq)]
+pub enum WordsFault {
+    /// No command fits the words.
+    NotTaken,
+    /// Want of memory.
+    Memory,
+}
+
+impl From<AllocError> for WordsFault {
+    ghost use Rattle.dd_words.specs.declared.fault.WordsFault.TheVariants as fault;
+    ghost use Rattle.std.specs.Prelude.{◌≡◌};
+
+    ghost from_gives = { λ _ result. result ≡ fault.Memory };
+
+    fn from(_: AllocError) -> Self {
+        WordsFault::Memory
+    }
+}
+
+impl<T: Drop> From<AllocFailed<T>> for WordsFault {
+    ghost use Rattle.dd_words.specs.declared.fault.WordsFault.TheVariants as fault;
+    ghost use Rattle.std.specs.Prelude.{◌≡◌};
+
+    ghost from_gives = { λ _ result. result ≡ fault.Memory };
+
+    fn from(_: AllocFailed<T>) -> Self {
+        WordsFault::Memory
+    }
+}

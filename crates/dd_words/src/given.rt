@@ -1,0 +1,134 @@
+//! The values of settings and arguments.
+ghost use Rattle.std.specs.Prelude.{◌≡◌, ◌≤◌, ℕ, Option, Bool, List, map, IfSome, IfNone, IfOk};
+ghost use Rattle.dd_model.specs.declared.allowed.Allowed.{Allowed};
+ghost use Rattle.dd_words.specs.Layout.{AreSingle};
+ghost use Rattle.dd_words.specs.Settings.{given_of};
+ghost use Rattle.dd_words.specs.Values.{IsName};
+ghost use Rattle.dd_words.specs.Grammar.{IsNumberOr, IsNumberIfGiven, IsNameIfGiven, IsFlagIfGiven, IsSet, IsFramed};
+
+use crate::commands::Frame;
+use crate::fault::WordsFault;
+use crate::names::Name;
+use crate::sets::read_set;
+use crate::settings::{Given, Setting, value_of};
+use crate::values::{is_name, read_number_in};
+use dd_model::Allowed;
+use std::alloc::Global;
+
+/// The least number of edges of tiles, and the least degree of vertices, where none is given.
+const LEAST: u32 = 3;
+
+/// A number in a range, or its default where none is given.
+pub fn number_or(
+    settings: &[Given<'_>],
+    setting: Setting,
+    low: u32,
+    high: u32,
+    default: u32,
+) -> Option<u32>
+    requires { AreSingle (map given_of settings.now) }
+    ensures some { IfSome result (λ n. IsNumberOr (map given_of settings.now) setting low high default n) }
+    ensures none { IfNone result ((n : ℕ) → IsNumberOr (map given_of settings.now) setting low high default n → ⊥) }
+{
+    match value_of(settings, setting) {
+        Some(word) => read_number_in(word, low, high),
+        None => Some(default),
+    }
+}
+
+/// A number in a range where it is given.
+pub fn number_if_given(
+    settings: &[Given<'_>],
+    setting: Setting,
+    low: u32,
+    high: u32,
+) -> Option<Option<u32>>
+    requires { AreSingle (map given_of settings.now) }
+    ensures some { IfSome result (λ n. IsNumberIfGiven (map given_of settings.now) setting low high n) }
+    ensures none { IfNone result ((n : Option ℕ) → IsNumberIfGiven (map given_of settings.now) setting low high n → ⊥) }
+{
+    let Some(word) = value_of(settings, setting) else {
+        return Some(None);
+    };
+    let number = read_number_in(word, low, high)?;
+    Some(Some(number))
+}
+
+/// Whether a flag is given.
+pub fn flag_if_given(settings: &[Given<'_>], setting: Setting) -> Option<bool>
+    requires { AreSingle (map given_of settings.now) }
+    ensures some { IfSome result (λ flag. IsFlagIfGiven (map given_of settings.now) setting flag) }
+    ensures none { IfNone result ((flag : Bool) → IsFlagIfGiven (map given_of settings.now) setting flag → ⊥) }
+{
+    let Some(word) = value_of(settings, setting) else {
+        return Some(false);
+    };
+    if !word.is_empty() {
+        return None;
+    }
+    Some(true)
+}
+
+/// A set that is given by its items or by its least number, or the default.
+pub fn set_of(settings: &[Given<'_>], set: Setting, least: Setting) -> Option<Allowed>
+    requires { AreSingle (map given_of settings.now) }
+    ensures some { IfSome result (λ a. IsSet (map given_of settings.now) set least a) }
+    ensures none { IfNone result ((a : Allowed) → IsSet (map given_of settings.now) set least a → ⊥) }
+{
+    match value_of(settings, set) {
+        Some(word) => {
+            if value_of(settings, least).is_some() {
+                return None;
+            }
+            read_set(word)
+        }
+        None => {
+            let first = number_or(settings, least, 1, 36, LEAST)?;
+            Some(Allowed::least(first))
+        }
+    }
+}
+
+/// The shape of a cell.
+pub fn frame_of(settings: &[Given<'_>]) -> Option<Frame>
+    requires { AreSingle (map given_of settings.now) }
+    ensures some { IfSome result (λ frame. IsFramed (map given_of settings.now) frame) }
+    ensures none { IfNone result ((frame : Frame) → IsFramed (map given_of settings.now) frame → ⊥) }
+{
+    match value_of(settings, Setting::Cell) {
+        Some("square") => Some(Frame::Square),
+        Some("hex") => Some(Frame::Hex),
+        Some(_) => None,
+        None => Some(Frame::Square),
+    }
+}
+
+/// The name of a file or of a checkpoint.
+pub fn read_name(alloc: Global, word: &str) -> Result<Name, WordsFault>
+    ensures same { IfOk result (λ name. word.now ≡ name) }
+    ensures name { IfOk result IsName }
+    ensures not_taken { result ≡ Err WordsFault.NotTaken → IsName word.now → ⊥ }
+{
+    if !is_name(word) {
+        return Err(WordsFault::NotTaken);
+    }
+    let name = Name::new(alloc, word)?;
+    Ok(name)
+}
+
+/// A name where it is given.
+pub fn name_if_given(
+    alloc: Global,
+    settings: &[Given<'_>],
+    setting: Setting,
+) -> Result<Option<Name>, WordsFault>
+    requires { AreSingle (map given_of settings.now) }
+    ensures given { IfOk result (λ name. IsNameIfGiven (map given_of settings.now) setting name) }
+    ensures not_taken { result ≡ Err WordsFault.NotTaken → (name : Option (List ℕ)) → IsNameIfGiven (map given_of settings.now) setting name → ⊥ }
+{
+    let Some(word) = value_of(settings, setting) else {
+        return Ok(None);
+    };
+    let name = read_name(alloc, word)?;
+    Ok(Some(name))
+}

@@ -1,0 +1,25 @@
+//! The words of a command line, and the commands that they ask for.
+#![tactic(auto)]
+
+mod commands;
+mod fault;
+mod forms;
+mod given;
+mod laws;
+mod layouts;
+mod names;
+mod reading;
+mod requests;
+mod sets;
+mod settings;
+mod values;
+mod verbs;
+
+pub use commands::{Command, FileKind, Frame};
+pub use fault::WordsFault;
+pub use laws::{taken_requests_are_valid, words_ask_for_one_command};
+pub use names::Name;
+pub use reading::read_words;
+
+#[cfg(test)]
+mod tests;

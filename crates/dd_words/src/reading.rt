@@ -1,0 +1,196 @@
+ghost use Rattle.std.specs.Prelude.{◌≡◌, ◌∷◌, map, IfOk};
+ghost use Rattle.std.specs.Rc.{rc_str_bytes};
+ghost use Rattle.dd_words.specs.declared.commands.Command.{Command};
+ghost use Rattle.dd_words.specs.Layout.{AreSingle};
+ghost use Rattle.dd_words.specs.Laying.{texts};
+ghost use Rattle.dd_words.specs.Settings.{given_of};
+ghost use Rattle.dd_words.specs.Grammar.{IsCommand};
+ghost use Rattle.dd_words.specs.Reading.{IsReadAs};
+
+use crate::commands::{Command, FileKind};
+use crate::fault::WordsFault;
+use crate::given::{frame_of, name_if_given, read_name};
+use crate::layouts::lay_out;
+use crate::requests::{Run, read_request, read_run};
+use crate::settings::{Given, Setting, are_single};
+use crate::values::read_number_in;
+use crate::verbs::Verb;
+use std::alloc::Global;
+use std::rc::RcStr;
+
+/// The greatest number of a first task.
+const LAST_START: u32 = 2_147_483_647;
+
+/// The greatest number of tasks.
+const MOST_TASKS: u32 = 10_000;
+
+/// The command that the words after the program's name ask for.
+pub fn read_words(alloc: Global, words: &[RcStr]) -> Result<Command, WordsFault>
+    ensures command { IfOk result (IsCommand (map rc_str_bytes words.now)) }
+    ensures not_taken { result ≡ Err WordsFault.NotTaken → (c : Command) → IsCommand (map rc_str_bytes words.now) c → ⊥ }
+{
+    let [first, rest @ ..] = words else {
+        return Err(WordsFault::NotTaken);
+    };
+    read_from(alloc, first, rest)
+}
+
+/// The command of a first word and the others.
+fn read_from(alloc: Global, first: &RcStr, rest: &[RcStr]) -> Result<Command, WordsFault>
+    ensures command { IfOk result (IsCommand (rc_str_bytes first.now ∷ map rc_str_bytes rest.now)) }
+    ensures not_taken { result ≡ Err WordsFault.NotTaken → (c : Command) → IsCommand (rc_str_bytes first.now ∷ map rc_str_bytes rest.now) c → ⊥ }
+{
+    let Some(verb) = Verb::named(first.as_str()) else {
+        return Err(WordsFault::NotTaken);
+    };
+    let laid = lay_out(alloc, verb, rest)?;
+    let arguments = laid.arguments.as_slice();
+    let settings = laid.settings.as_slice();
+    if !are_single(settings) {
+        return Err(WordsFault::NotTaken);
+    }
+    read_command(alloc, verb, arguments, settings)
+}
+
+/// The command of a verb with these arguments and settings.
+fn read_command(
+    alloc: Global,
+    verb: Verb,
+    arguments: &[&str],
+    settings: &[Given<'_>],
+) -> Result<Command, WordsFault>
+    requires { AreSingle (map given_of settings.now) }
+    ensures command { IfOk result (IsReadAs verb (texts arguments.now) (map given_of settings.now)) }
+    ensures not_taken { result ≡ Err WordsFault.NotTaken → (c : Command) → IsReadAs verb (texts arguments.now) (map given_of settings.now) c → ⊥ }
+{
+    match verb {
+        Verb::Catalogue => read_catalogue(alloc, arguments, settings),
+        Verb::Resume => read_resume(alloc, arguments, settings),
+        Verb::Draw => read_drawing(alloc, arguments, settings),
+        Verb::Exercise => read_exercise(arguments, settings),
+        Verb::File(kind) => read_file(alloc, kind, arguments, settings),
+    }
+}
+
+/// A catalogue with these arguments and settings.
+fn read_catalogue(
+    alloc: Global,
+    arguments: &[&str],
+    settings: &[Given<'_>],
+) -> Result<Command, WordsFault>
+    requires { AreSingle (map given_of settings.now) }
+    ensures command { IfOk result (IsReadAs Verb.Catalogue (texts arguments.now) (map given_of settings.now)) }
+    ensures not_taken { result ≡ Err WordsFault.NotTaken → (c : Command) → IsReadAs Verb.Catalogue (texts arguments.now) (map given_of settings.now) c → ⊥ }
+{
+    let [chambers] = arguments else {
+        return Err(WordsFault::NotTaken);
+    };
+    let Some(request) = read_request(chambers, settings) else {
+        return Err(WordsFault::NotTaken);
+    };
+    let Some(run) = read_run(settings) else {
+        return Err(WordsFault::NotTaken);
+    };
+    let checkpoint = name_if_given(alloc, settings, Setting::Checkpoint)?;
+    let Run {
+        workers,
+        round,
+        pause,
+    } = run;
+    if pause.is_some() && checkpoint.is_none() {
+        return Err(WordsFault::NotTaken);
+    }
+    Ok(Command::Catalogue {
+        request,
+        workers,
+        round,
+        pause,
+        checkpoint,
+    })
+}
+
+/// A catalogue that is taken up again, with these arguments and settings.
+fn read_resume(
+    alloc: Global,
+    arguments: &[&str],
+    settings: &[Given<'_>],
+) -> Result<Command, WordsFault>
+    requires { AreSingle (map given_of settings.now) }
+    ensures command { IfOk result (IsReadAs Verb.Resume (texts arguments.now) (map given_of settings.now)) }
+    ensures not_taken { result ≡ Err WordsFault.NotTaken → (c : Command) → IsReadAs Verb.Resume (texts arguments.now) (map given_of settings.now) c → ⊥ }
+{
+    let [name] = arguments else {
+        return Err(WordsFault::NotTaken);
+    };
+    let Some(run) = read_run(settings) else {
+        return Err(WordsFault::NotTaken);
+    };
+    let name = read_name(alloc, name)?;
+    let Run {
+        workers,
+        round,
+        pause,
+    } = run;
+    Ok(Command::Resume {
+        name,
+        workers,
+        round,
+        pause,
+    })
+}
+
+/// A drawing with these arguments and settings.
+fn read_drawing(
+    alloc: Global,
+    arguments: &[&str],
+    settings: &[Given<'_>],
+) -> Result<Command, WordsFault>
+    requires { AreSingle (map given_of settings.now) }
+    ensures command { IfOk result (IsReadAs Verb.Draw (texts arguments.now) (map given_of settings.now)) }
+    ensures not_taken { result ≡ Err WordsFault.NotTaken → (c : Command) → IsReadAs Verb.Draw (texts arguments.now) (map given_of settings.now) c → ⊥ }
+{
+    let [file] = arguments else {
+        return Err(WordsFault::NotTaken);
+    };
+    let Some(frame) = frame_of(settings) else {
+        return Err(WordsFault::NotTaken);
+    };
+    let file = read_name(alloc, file)?;
+    Ok(Command::Draw { file, frame })
+}
+
+/// An exercise with these arguments.
+fn read_exercise(arguments: &[&str], settings: &[Given<'_>]) -> Result<Command, WordsFault>
+    requires { AreSingle (map given_of settings.now) }
+    ensures command { IfOk result (IsReadAs Verb.Exercise (texts arguments.now) (map given_of settings.now)) }
+    ensures not_taken { result ≡ Err WordsFault.NotTaken → (c : Command) → IsReadAs Verb.Exercise (texts arguments.now) (map given_of settings.now) c → ⊥ }
+{
+    let [start, count] = arguments else {
+        return Err(WordsFault::NotTaken);
+    };
+    let Some(start) = read_number_in(start, 0, LAST_START) else {
+        return Err(WordsFault::NotTaken);
+    };
+    let Some(count) = read_number_in(count, 0, MOST_TASKS) else {
+        return Err(WordsFault::NotTaken);
+    };
+    Ok(Command::Exercise { start, count })
+}
+
+/// A command on the file of these arguments.
+fn read_file(
+    alloc: Global,
+    kind: FileKind,
+    arguments: &[&str],
+    settings: &[Given<'_>],
+) -> Result<Command, WordsFault>
+    requires { AreSingle (map given_of settings.now) }
+    ensures command { IfOk result (IsReadAs (Verb.File kind) (texts arguments.now) (map given_of settings.now)) }
+    ensures not_taken { result ≡ Err WordsFault.NotTaken → (c : Command) → IsReadAs (Verb.File kind) (texts arguments.now) (map given_of settings.now) c → ⊥ }
+{
+    let [file] = arguments else {
+        return Err(WordsFault::NotTaken);
+    };
+    let file = read_name(alloc, file)?;
+    Ok(Command::File { kind, file })
+}

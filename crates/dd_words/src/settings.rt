@@ -1,0 +1,123 @@
+ghost use Rattle.std.specs.Prelude.{◌≡◌, ◌↔◌, IfSome, IfNone, IsTrue, map};
+ghost use Rattle.dd_words.specs.Layout.{word_of, has_value, has_setting, Has, Lacks, AreSingle};
+ghost use Rattle.dd_words.specs.Settings.{given_of};
+
+use crate::verbs::Verb;
+
+/// What an option of a command sets.
+#[derive(Debug, Clone, Copy, PartialEq, Eq)]
+pub enum Setting {
+    /// The most classes of tiles.
+    Tiles,
+    /// The most classes of vertices.
+    Vertices,
+    /// The least number of edges of a tile.
+    LeastFace,
+    /// The least degree of a vertex.
+    LeastDegree,
+    /// The numbers of edges of tiles.
+    Faces,
+    /// The degrees of vertices.
+    Degrees,
+    /// Minimal symbols alone, a flag.
+    Minimal,
+    /// The number of workers.
+    Workers,
+    /// The number of symbols in a round.
+    Round,
+    /// The number of lines before a pause.
+    Pause,
+    /// The checkpoint to which a pause is written.
+    Checkpoint,
+    /// The shape of a cell.
+    Cell,
+}
+
+/// A setting that was given, and its value; that of a flag is empty.
+#[derive(Clone, Copy)]
+pub struct Given<'a> {
+    /// The setting.
+    pub setting: Setting,
+    /// Its value.
+    pub value: &'a str,
+}
+
+impl Setting {
+    /// The setting of an option's name, and None where the name is none.
+    pub fn named(name: &str) -> Option<Setting>
+        ensures some { IfSome result (λ setting. name.now ≡ word_of setting) }
+        ensures none { IfNone result ((setting : Setting) → name.now ≡ word_of setting → ⊥) }
+    {
+        match name {
+            "tiles" => Some(Setting::Tiles),
+            "vertices" => Some(Setting::Vertices),
+            "least-face" => Some(Setting::LeastFace),
+            "least-degree" => Some(Setting::LeastDegree),
+            "faces" => Some(Setting::Faces),
+            "degrees" => Some(Setting::Degrees),
+            "minimal" => Some(Setting::Minimal),
+            "workers" => Some(Setting::Workers),
+            "round" => Some(Setting::Round),
+            "pause" => Some(Setting::Pause),
+            "checkpoint" => Some(Setting::Checkpoint),
+            "cell" => Some(Setting::Cell),
+            _ => None,
+        }
+    }
+
+    /// Whether the setting has a value, and is no flag.
+    pub fn has_value(self) -> bool
+        ensures { result ≡ has_value self }
+    {
+        match self {
+            Setting::Minimal => false,
+            _ => true,
+        }
+    }
+
+    /// Whether the setting is one of the command.
+    pub fn is_of(self, verb: Verb) -> bool
+        ensures { result ≡ has_setting verb self }
+    {
+        match verb {
+            Verb::Catalogue => !matches!(self, Setting::Cell),
+            Verb::Resume => matches!(self, Setting::Workers | Setting::Round | Setting::Pause),
+            Verb::Draw => matches!(self, Setting::Cell),
+            _ => false,
+        }
+    }
+
+    /// Whether the two settings are one.
+    pub fn is(self, other: Setting) -> bool
+        ensures { IsTrue result ↔ (self ≡ other) }
+    {
+        self == other
+    }
+}
+
+/// The value that a setting is given, and None where it is not given.
+pub fn value_of<'a>(settings: &[Given<'a>], setting: Setting) -> Option<&'a str>
+    ensures some { IfSome result (λ value. Has (map given_of settings.now) setting value.now) }
+    ensures none { IfNone result (Lacks (map given_of settings.now) setting) }
+{
+    for given in settings {
+        if given.setting.is(setting) {
+            return Some(given.value);
+        }
+    }
+    None
+}
+
+/// Whether each setting stands at most once. Of any thirteen settings two are one, so that few are looked at.
+pub fn are_single(settings: &[Given<'_>]) -> bool
+    ensures { IsTrue result ↔ AreSingle (map given_of settings.now) }
+{
+    let mut rest = settings;
+    while let [given, after @ ..] = rest {
+        if value_of(after, given.setting).is_some() {
+            return false;
+        }
+        rest = after;
+    }
+    true
+}

@@ -1,0 +1,45 @@
+ghost use Rattle.std.specs.Prelude.{◌≡◌, IfSome, IfNone};
+ghost use Rattle.dd_words.specs.Grammar.{first_word};
+
+use crate::commands::FileKind;
+
+/// What the first word of a command says.
+#[derive(Debug, Clone, Copy, PartialEq, Eq)]
+pub enum Verb {
+    /// `catalogue`.
+    Catalogue,
+    /// `resume`.
+    Resume,
+    /// `draw`.
+    Draw,
+    /// `exercise`.
+    Exercise,
+    /// A command on the symbols of a file.
+    File(FileKind),
+}
+
+impl Verb {
+    /// The verb of a first word, and None where the word is none.
+    pub fn named(word: &str) -> Option<Verb>
+        ensures some { IfSome result (λ verb. word.now ≡ first_word verb) }
+        ensures none { IfNone result ((verb : Verb) → word.now ≡ first_word verb → ⊥) }
+    {
+        match word {
+            "catalogue" => Some(Verb::Catalogue),
+            "resume" => Some(Verb::Resume),
+            "draw" => Some(Verb::Draw),
+            "exercise" => Some(Verb::Exercise),
+            "canon" => Some(Verb::File(FileKind::Canon)),
+            "lines" => Some(Verb::File(FileKind::Lines)),
+            "info" => Some(Verb::File(FileKind::Info)),
+            "minimal" => Some(Verb::File(FileKind::Minimal)),
+            "dual" => Some(Verb::File(FileKind::Dual)),
+            "ambo" => Some(Verb::File(FileKind::Ambo)),
+            "truncate" => Some(Verb::File(FileKind::Truncate)),
+            "chamfer" => Some(Verb::File(FileKind::Chamfer)),
+            "oriented" => Some(Verb::File(FileKind::Oriented)),
+            "torus" => Some(Verb::File(FileKind::Torus)),
+            _ => None,
+        }
+    }
+}
