@@ -1,0 +1,146 @@
+-- A stem that grows and is shortened again.
+use Rattle.std.proofs.Common.{◌≡◌, ◌≢◌, ℕ, zero, suc, ◌+◌, ◌-◌, ◌*◌, ◌/◌, ◌%◌, ◌<◌, ◌≤◌, ◌⊎◌, max, List, [], ◌∷◌, ◌++◌, length, take, refl, sym, ap, ◌∙◌, subst, inl, inr, ⊎_elim, arith}
+use Rattle.std.proofs.lemmas.Bool.{cases_lt}
+use Rattle.std.proofs.lemmas.List.{length_push, take-take, take_at}
+use Rattle.dd_model.specs.declared.parts.Index.{Index}
+use Rattle.dd_model.specs.Symbol.{Symbol, op}
+use Rattle.dd_invol.specs.Places.{index_at}
+use Rattle.dd_invol.specs.FirstVisit.{greatest}
+use Rattle.dd_invol.specs.Rows.{partial_of, depth_of, IsReady, Learns}
+use Rattle.dd_invol.specs.Under.{IsUnder, HasNothingUnder, HasNoNumberFrom, SkipsTo, Follows, next_number}
+use Rattle.dd_invol.specs.Stem.{Any, prefix_of, size_of, shortened, IsStem}
+use Rattle.dd_invol.specs.declared.stem.Stem.{Stem}
+use Rattle.dd_invol.specs.Beaten.{IsBeaten}
+use Rattle.dd_invol.proofs.Places.{code_at, chamber_at}
+use Rattle.dd_invol.proofs.Follows.{Puts, follows_put, follows_none}
+use Rattle.dd_model.specs.Code.{code}
+use Rattle.dd_invol.proofs.CodeFronts.{leads_out}
+use Rattle.dd_invol.proofs.Growth.{next_small, begins_take, one_le_greatest}
+use Rattle.dd_invol.proofs.Leastness.{none_under_beaten}
+
+-- what is looked for is orderly
+pub any_under : (W : Symbol → Type 0) (n : ℕ) (prefix : List ℕ) (s : Symbol) → IsUnder W n prefix s → IsUnder Any n prefix s
+any_under W n prefix s under = record { wanted = tt; orderly = under.orderly; size = under.size; begins = under.begins }
+
+-- the stem with one number more
+pub record IsGrown (old new : Stem) (k : ℕ) : Type 0 where
+  pub learns : Learns (Puts (length (prefix_of old)) k) old.rows new.rows
+  pub ready : IsReady new.rows
+  pub longer : prefix_of new ≡ prefix_of old ++ k ∷ []
+
+pub grown_stem : (old new : Stem) (k : ℕ) → IsStem old → length (prefix_of old) < 3 * size_of old → IsGrown old new k → IsStem new
+grown_stem old new k is low grown =
+    let count : length (prefix_of new) ≡ length (prefix_of old) + 1 = ap length grown.longer ∙ length_push (prefix_of old) k in
+    let size = grown.learns.size in
+    record {
+      ready = grown.ready;
+      short = omega arith;
+      follows =
+          let a = follows_put Any (size_of old) (prefix_of old) k (length (prefix_of old)) old.rows new.rows refl low is.follows grown.learns in
+          let b = subst (λ xs. Follows Any (size_of old) xs (partial_of new.rows)) (sym grown.longer) a in
+          subst (λ n. Follows Any n (prefix_of new) (partial_of new.rows)) (sym size) b;
+    }
+
+pub grown_shortened : (old new : Stem) (k : ℕ) → IsGrown old new k → shortened new (depth_of old.rows) ≡ old
+grown_shortened old new k grown =
+    let count : length (prefix_of new) ≡ length (prefix_of old) + 1 = ap length grown.longer ∙ length_push (prefix_of old) k in
+    let last : length (prefix_of new) - 1 ≡ length (prefix_of old) = omega arith in
+    let items : take (length (prefix_of new) - 1) (prefix_of new) ≡ prefix_of old =
+    ap (λ j. take j (prefix_of new)) last ∙ ap (take (length (prefix_of old))) grown.longer ∙ take_at (prefix_of old) (k ∷ []) (length (prefix_of old)) refl in
+    let rows = grown.learns.undone in
+    λ x. record { rows = rows x; prefix = record { items = items x } }
+
+-- nothing is under the longer prefix where it is beaten
+pub grown_beaten : (old new : Stem) (k : ℕ) → IsStem old → length (prefix_of old) < 3 * size_of old → IsGrown old new k → IsBeaten (partial_of new.rows) (prefix_of new)
+    → HasNothingUnder Any (size_of old) (prefix_of old ++ k ∷ [])
+grown_beaten old new k is low grown beaten =
+    let stem = grown_stem old new k is low grown in
+    let none = none_under_beaten Any (size_of new) (prefix_of new) (partial_of new.rows) stem.follows stem.short beaten in
+    let one = subst (λ n. HasNothingUnder Any n (prefix_of new)) grown.learns.size none in
+    subst (HasNothingUnder Any (size_of old)) grown.longer one
+
+-- the image that is known at the next place comes next
+pub known_next : (stem : Stem) (e : ℕ) → IsStem stem → length (prefix_of stem) < 3 * size_of stem → e ≡ op (partial_of stem.rows) (index_at (length (prefix_of stem) % 3)) (1 + length (prefix_of stem) / 3) → e ≢ 0
+    → (s : Symbol) → IsUnder Any (size_of stem) (prefix_of stem) s → next_number (prefix_of stem) s ≡ e
+known_next stem e is low known some s under =
+    let t = length (prefix_of stem) in
+    let size = under.size in
+    code_at s t (omega arith) ∙ (is.follows s under).images (index_at (t % 3)) (1 + t / 3) (λ z. some (known ∙ z)) ∙ sym known
+
+pub skips_known : (stem : Stem) (k e : ℕ) → IsStem stem → length (prefix_of stem) < 3 * size_of stem → e ≡ op (partial_of stem.rows) (index_at (length (prefix_of stem) % 3)) (1 + length (prefix_of stem) / 3) → e ≢ 0
+    → k ≤ e → e ≤ 216 → SkipsTo Any (size_of stem) (prefix_of stem) k e
+skips_known stem k e is low known some up small = record {
+  later = up;
+  small = small;
+  none_between = λ s under. let next = known_next stem e is low known some s under in inr (omega arith);
+}
+
+pub none_from_known : (stem : Stem) (k e : ℕ) → IsStem stem → length (prefix_of stem) < 3 * size_of stem → e ≡ op (partial_of stem.rows) (index_at (length (prefix_of stem) % 3)) (1 + length (prefix_of stem) / 3) → e ≢ 0
+    → e < k → HasNoNumberFrom Any (size_of stem) (prefix_of stem) k
+none_from_known stem k e is low known some less s under = let next = known_next stem e is low known some s under in omega arith
+
+-- a next number is a chamber, and at most one more than the greatest before it
+next_inside : (stem : Stem) (s : Symbol) → length (prefix_of stem) < 3 * size_of stem → IsUnder Any (size_of stem) (prefix_of stem) s
+    → (1 ≤ next_number (prefix_of stem) s) × (next_number (prefix_of stem) s ≤ size_of stem) × (next_number (prefix_of stem) s ≤ greatest (prefix_of stem) + 1)
+next_inside stem s low under =
+    let size = under.size in
+    let inside = chamber_at s under.orderly.table (length (prefix_of stem)) (omega arith) in
+    let most = inside.1 in
+    (inside.0, omega arith, next_small Any (size_of stem) (prefix_of stem) s low under)
+
+pub skips_to_least : (stem : Stem) (k m : ℕ) → length (prefix_of stem) < 3 * size_of stem → (m ≡ k) ⊎ ((k ≡ 0) × (m ≡ 1)) → m ≤ 216 → SkipsTo Any (size_of stem) (prefix_of stem) k m
+skips_to_least stem k m low cases small = record {
+  later = ⊎_elim (λ same. omega arith) (λ first. let a = first.0 in omega arith) cases;
+  small = small;
+  none_between = λ s under.
+      let inside = next_inside stem s low under in
+      let one = inside.0 in
+      ⊎_elim
+      (λ same. ⊎_elim (λ less. inl less) (λ more. inr (omega arith)) (cases_lt (next_number (prefix_of stem) s) k))
+      (λ first. let b = first.1 in inr (omega arith))
+      cases;
+}
+
+pub none_past_size : (stem : Stem) (k m : ℕ) → length (prefix_of stem) < 3 * size_of stem → 1 ≤ size_of stem → (m ≡ k) ⊎ ((k ≡ 0) × (m ≡ 1)) → size_of stem < m → HasNoNumberFrom Any (size_of stem) (prefix_of stem) k
+none_past_size stem k m low pos cases past s under =
+    let inside = next_inside stem s low under in
+    let most = inside.1 in
+    ⊎_elim (λ same. omega arith) (λ first. let b = first.1 in absurd (omega arith)) cases
+
+pub none_past_greatest : (stem : Stem) (k m : ℕ) → length (prefix_of stem) < 3 * size_of stem → (m ≡ k) ⊎ ((k ≡ 0) × (m ≡ 1)) → greatest (prefix_of stem) < m - 1 → HasNoNumberFrom Any (size_of stem) (prefix_of stem) k
+none_past_greatest stem k m low cases past s under =
+    let inside = next_inside stem s low under in
+    let next = inside.2 in
+    ⊎_elim (λ same. omega arith) (λ first. let b = first.1 in absurd (omega arith)) cases
+
+-- the larger of a number and 1
+pub at_least_one : (k m : ℕ) → m ≡ (max k 1) → (m ≡ k) ⊎ ((k ≡ 0) × (m ≡ 1))
+at_least_one k m e = ⊎_elim (λ none. inr (omega arith, omega arith)) (λ some. inl (omega arith)) (cases_lt k 1)
+
+pub empty_stem : (stem : Stem) → IsReady stem.rows → prefix_of stem ≡ [] → ((i : Index) (d : ℕ) → op (partial_of stem.rows) i d ≡ 0) → IsStem stem
+empty_stem stem ready empty nothing =
+    let count : length (prefix_of stem) ≡ 0 = ap length empty in
+    record {
+      ready = ready;
+      short = omega arith;
+      follows = subst (λ xs. Follows Any (size_of stem) xs (partial_of stem.rows)) (sym empty) (follows_none Any (size_of stem) (partial_of stem.rows) refl nothing);
+    }
+
+greatest_take : (xs : List ℕ) (j : ℕ) → greatest (take j xs) ≤ greatest xs
+greatest_take xs zero = one_le_greatest xs
+greatest_take [] (suc j) = omega arith
+greatest_take (x ∷ xs) (suc j) = let rest = greatest_take xs j in omega arith
+
+-- Nothing is under a prefix that comes to a chamber which it has not met.
+pub none_unmet : (stem : Stem) (k : ℕ) → length (prefix_of stem) < 3 * size_of stem → greatest (prefix_of stem) < 1 + length (prefix_of stem) / 3 → HasNoNumberFrom Any (size_of stem) (prefix_of stem) k
+none_unmet stem k low past s under =
+    let xs = prefix_of stem in
+    let t = length xs in
+    let size = under.size in
+    let one = one_le_greatest xs in
+    let out = leads_out s under.orderly (t / 3) (omega arith) (omega arith) in
+    let front : take (3 * (t / 3)) (code s) ≡ take (3 * (t / 3)) xs =
+    sym (take-take (3 * (t / 3)) t (code s) (omega arith)) ∙ ap (take (3 * (t / 3))) (begins_take xs (code s) under.begins) in
+    let same : greatest (take (3 * (t / 3)) (code s)) ≡ greatest (take (3 * (t / 3)) xs) = ap greatest front in
+    let less = greatest_take xs (3 * (t / 3)) in
+    absurd (omega arith)

@@ -1,0 +1,11 @@
+use Rattle.dd_invol.specs.Rows.{partial_of}
+use Rattle.dd_invol.specs.Visit.{IsVisiting}
+use Rattle.dd_invol.proofs.Traversing.{AreInside, ReadsSo}
+use Rattle.dd_invol.proofs.traversal.beats.Given as goal
+
+abbrev pub invariant-loop-place : goal.invariant-loop-place
+invariant-loop-place l = record {
+  visiting : IsVisiting l.visit;
+  inside : AreInside (partial_of l.rows).size l.visit.order.items;
+  reads : ReadsSo (partial_of l.rows) l.prefix l.visit.order.items l.place;
+}

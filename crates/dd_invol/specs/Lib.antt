@@ -1,0 +1,14 @@
+pub mod Places
+pub mod Orderly
+pub mod Under
+pub mod Frame
+pub mod FirstVisit
+pub mod Distinct
+pub mod Beaten
+pub mod Rows
+pub mod Visit
+pub mod Stem
+pub mod Growth
+pub mod Jobs
+pub mod Opening
+pub mod Children

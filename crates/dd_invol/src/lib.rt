@@ -1,0 +1,24 @@
+//! Prefixes of codes, and the tables of involutions under them.
+#![tactic(auto)]
+
+mod beginning;
+mod frame;
+mod laws;
+mod numbering;
+mod rows;
+mod splitting;
+mod stem;
+mod tables;
+#[cfg(test)]
+mod tests;
+mod traversal;
+
+pub use beginning::{is_opening, opening};
+pub use frame::{Leaves, Tests, find};
+pub use laws::each_least_code_begins_with_one_job;
+pub use numbering::{can_follow, greatest, is_first_visit};
+pub use rows::Rows;
+pub use splitting::children;
+pub use stem::Stem;
+pub use tables::Tables;
+pub use traversal::{Visit, any_beats};

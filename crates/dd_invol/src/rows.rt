@@ -1,0 +1,207 @@
+ghost use Rattle.std.specs.Prelude.{◌≡◌, ℕ, ◌+◌, ◌-◌, ◌*◌, ◌/◌, ◌%◌, ◌≤◌, ◌<◌, length};
+ghost use Rattle.std.specs.Bool.{OnTrue, OnFalse};
+ghost use Rattle.dd_model.specs.Symbol.{op};
+ghost use Rattle.dd_invol.specs.Places.{index_at, place};
+
+use arrayvec::ArrayVec;
+use dd_model::Index;
+
+/// The place of the image of a chamber in a code, places being counted from 0.
+fn place_of(i: Index, chamber: u8) -> u8
+    requires low { 1 ≤ chamber }
+    requires high { chamber ≤ 36 }
+    ensures place { result ≡ place i chamber }
+    ensures inside { result < 108 }
+{
+    let row = 3 * (chamber - 1);
+    match i {
+        Index::Zero => row,
+        Index::One => row + 1,
+        Index::Two => row + 2,
+    }
+}
+
+/// The involution of a place.
+pub(crate) fn index_at(place: u8) -> Index
+    ensures { result ≡ index_at (place % 3) }
+{
+    match place % 3 {
+        0 => Index::Zero,
+        1 => Index::One,
+        _ => Index::Two,
+    }
+}
+
+/// What is known of three involutions of at most 36 chambers, in the order of codes, where 0
+/// stands for an image that is not known; and the places that were filled, in order, so that they
+/// can be cleared again. No call allocates.
+#[derive(Drop)]
+pub struct Rows {
+    size: u8,
+    numbers: [u8; 108],
+    trail: ArrayVec<u8, 108>,
+}
+
+impl Rows {
+    ghost use Rattle.dd_invol.specs.Rows.{partial_of, depth_of, unwound, IsReady, Learns, Excludes, Commutes};
+
+    /// Rows in which nothing is known.
+    pub fn empty(size: u8) -> Rows
+        requires { (1 ≤ size) × (size ≤ 36) }
+        ensures ready { IsReady result }
+        ensures size { (partial_of result).size ≡ size }
+        ensures nothing { (i : Index) (d : ℕ) → op (partial_of result) i d ≡ 0 }
+        ensures depth { depth_of result ≡ 0 }
+    {
+        let trail = ArrayVec::new();
+        let numbers = [0; 108];
+        Rows {
+            size,
+            numbers,
+            trail,
+        }
+    }
+
+    /// The number of chambers.
+    pub fn size(&self) -> u8
+        ensures { result ≡ (partial_of self.now).size }
+    {
+        self.size
+    }
+
+    /// The image of a chamber, or 0 where it is not known.
+    pub fn known(&self, i: Index, chamber: u8) -> u8
+        requires ready { IsReady self.now }
+        requires low { 1 ≤ chamber }
+        requires high { chamber ≤ 36 }
+        ensures image { result ≡ op (partial_of self.now) i chamber }
+        ensures within { result ≤ (partial_of self.now).size }
+    {
+        self.numbers[place_of(i, chamber) as usize]
+    }
+
+    /// How much was put in.
+    pub fn mark(&self) -> usize
+        ensures { result ≡ depth_of self.now }
+    {
+        self.trail.len()
+    }
+
+    /// Takes out what was put in after a mark.
+    pub fn undo(&mut self, mark: usize)
+        requires { IsReady self.old }
+        ensures ready { IsReady self.new }
+        ensures undone { self.new ≡ unwound self.old mark }
+    {
+        while self.trail.len() > mark {
+            if let Some(place) = self.trail.pop() {
+                self.numbers[place as usize] = 0;
+            }
+        }
+    }
+
+    /// Puts in the image at a place, unless another is known there.
+    fn tell(&mut self, place: u8, image: u8) -> bool
+        requires ready { IsReady self.old }
+        requires place { place < 108 }
+        requires low { 1 ≤ image }
+        requires high { image ≤ (partial_of self.old).size }
+        ensures ready { IsReady self.new }
+        ensures learnt { OnTrue result (Learns (λ s. op s (index_at (place % 3)) (1 + place / 3) ≡ image) self.old self.new) }
+        ensures told { OnTrue result (op (partial_of self.new) (index_at (place % 3)) (1 + place / 3) ≡ image) }
+        ensures same { OnFalse result (self.new ≡ self.old) }
+        ensures clash { OnFalse result (Excludes (λ s. op s (index_at (place % 3)) (1 + place / 3) ≡ image) self.old) }
+    {
+        let known = self.numbers[place as usize];
+        if known == image {
+            return true;
+        }
+        if known != 0 {
+            return false;
+        }
+        self.numbers[place as usize] = image;
+        self.trail.push(place);
+        true
+    }
+
+    /// Puts in that an involution exchanges two chambers, or fixes one, unless that cannot be.
+    pub fn join(&mut self, i: Index, chamber: u8, image: u8) -> bool
+        requires ready { IsReady self.old }
+        requires chamber { (1 ≤ chamber) × (chamber ≤ (partial_of self.old).size) }
+        requires image { (1 ≤ image) × (image ≤ (partial_of self.old).size) }
+        ensures ready { IsReady self.new }
+        ensures learnt { OnTrue result (Learns (λ s. op s i chamber ≡ image) self.old self.new) }
+        ensures told { OnTrue result (op (partial_of self.new) i chamber ≡ image) }
+        ensures same { OnFalse result (self.new ≡ self.old) }
+        ensures clash { OnFalse result (Excludes (λ s. op s i chamber ≡ image) self.old) }
+    {
+        let mark = self.mark();
+        if !self.tell(place_of(i, chamber), image) {
+            return false;
+        }
+        if !self.tell(place_of(i, image), chamber) {
+            self.undo(mark);
+            return false;
+        }
+        true
+    }
+
+    /// Puts in the image that commuting forces round a chamber, unless it cannot be.
+    fn fill(&mut self, chamber: u8) -> bool
+        requires ready { IsReady self.old }
+        requires chamber { (1 ≤ chamber) × (chamber ≤ (partial_of self.old).size) }
+        ensures ready { IsReady self.new }
+        ensures learnt { OnTrue result (Learns Commutes self.old self.new) }
+        ensures same { OnFalse result (self.new ≡ self.old) }
+        ensures clash { OnFalse result (Excludes Commutes self.old) }
+    {
+        let zero = self.known(Index::Zero, chamber);
+        let two = self.known(Index::Two, chamber);
+        if zero == 0 || two == 0 {
+            return true;
+        }
+        let opposite = self.known(Index::Two, zero);
+        if opposite != 0 {
+            let fits = self.join(Index::Zero, two, opposite);
+            return fits;
+        }
+        let opposite = self.known(Index::Zero, two);
+        if opposite != 0 {
+            let fits = self.join(Index::Two, zero, opposite);
+            return fits;
+        }
+        true
+    }
+
+    /// Puts in the number at a place of a code, and what follows by commuting, unless it cannot be.
+    pub fn put(&mut self, place: u8, number: u8) -> bool
+        requires ready { IsReady self.old }
+        requires place { place < 3 * (partial_of self.old).size }
+        ensures ready { IsReady self.new }
+        ensures learnt { OnTrue result (Learns (λ s. Commutes s × (op s (index_at (place % 3)) (1 + place / 3) ≡ number)) self.old self.new) }
+        ensures told { OnTrue result (op (partial_of self.new) (index_at (place % 3)) (1 + place / 3) ≡ number) }
+        ensures same { OnFalse result (self.new ≡ self.old) }
+        ensures clash { OnFalse result (Excludes (λ s. Commutes s × (op s (index_at (place % 3)) (1 + place / 3) ≡ number)) self.old) }
+    {
+        if number == 0 {
+            return false;
+        }
+        if number > self.size {
+            return false;
+        }
+        let mark = self.mark();
+        let chamber = 1 + place / 3;
+        if !self.join(index_at(place), chamber, number) {
+            return false;
+        }
+        if !self.fill(chamber) {
+            self.undo(mark);
+            return false;
+        }
+        if !self.fill(number) {
+            self.undo(mark);
+            return false;
+        }
+        true
+    }
+}

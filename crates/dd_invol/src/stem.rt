@@ -1,0 +1,136 @@
+ghost use Rattle.std.specs.Prelude.{◌≡◌, ℕ, ◌+◌, [], ◌∷◌, ◌++◌, ◌*◌, ◌≤◌, ◌<◌, ◌↔◌, IsTrue, MatchOption, length};
+ghost use Rattle.std.specs.Bool.{OnTrue, OnFalse};
+ghost use Rattle.dd_invol.specs.Rows.{depth_of, IsReady};
+ghost use Rattle.dd_invol.specs.Visit.{IsVisiting};
+ghost use Rattle.dd_invol.specs.Under.{HasNothingUnder, HasNoNumberFrom, SkipsTo};
+
+use crate::numbering::greatest;
+use crate::rows::{Rows, index_at};
+use crate::traversal::{Visit, any_beats};
+use arrayvec::ArrayVec;
+
+/// A prefix of the codes of tables of one size, with the partial table that follows from it. A
+/// number is put at its end and taken away again in place, and no call allocates.
+#[derive(Drop)]
+pub struct Stem {
+    rows: Rows,
+    prefix: ArrayVec<u8, 108>,
+}
+
+impl Stem {
+    ghost use Rattle.dd_invol.specs.Stem.{Any, IsStem, prefix_of, size_of, shortened};
+
+    /// The empty prefix.
+    pub fn new(size: u8) -> Stem
+        requires { (1 ≤ size) × (size ≤ 36) }
+        ensures stem { IsStem result }
+        ensures size { size_of result ≡ size }
+        ensures empty { prefix_of result ≡ [] }
+    {
+        let rows = Rows::empty(size);
+        let prefix = ArrayVec::new();
+        Stem { rows, prefix }
+    }
+
+    /// The numbers of the prefix.
+    pub fn prefix(&self) -> &[u8]
+        ensures { result.now ≡ prefix_of self.now }
+    {
+        self.prefix.as_slice()
+    }
+
+    /// The number of chambers.
+    pub fn size(&self) -> u8
+        ensures { result ≡ size_of self.now }
+    {
+        self.rows.size()
+    }
+
+    /// The table, as far as it is known.
+    pub fn rows(&self) -> &Rows
+        ensures { result.now ≡ self.now.rows }
+    {
+        &self.rows
+    }
+
+    /// Whether all images are told.
+    pub fn is_whole(&self) -> bool
+        requires { IsStem self.now }
+        ensures { IsTrue result ↔ (length (prefix_of self.now) ≡ 3 * size_of self.now) }
+    {
+        self.prefix.len() == 3 * self.rows.size() as usize
+    }
+
+    /// How much has been put into the table.
+    pub fn mark(&self) -> usize
+        ensures { result ≡ depth_of self.now.rows }
+    {
+        self.rows.mark()
+    }
+
+    /// The least number from k on that may come next; None where no such number may come, or where
+    /// the chamber whose image is next has not been met.
+    pub fn next_from(&self, k: u8) -> Option<u8>
+        requires stem { IsStem self.now }
+        requires room { length (prefix_of self.now) < 3 * size_of self.now }
+        ensures { MatchOption result (HasNoNumberFrom Any (size_of self.now) (prefix_of self.now) k) (λ m. SkipsTo Any (size_of self.now) (prefix_of self.now) k m) }
+    {
+        let place = self.prefix.len() as u8;
+        let chamber = 1 + place / 3;
+        let most = greatest(&self.prefix);
+        if chamber > most {
+            return None;
+        }
+        let known = self.rows.known(index_at(place), chamber);
+        if known != 0 {
+            if known < k {
+                return None;
+            }
+            return Some(known);
+        }
+        let least = k.max(1);
+        if least > self.rows.size() {
+            return None;
+        }
+        if least - 1 > most {
+            return None;
+        }
+        Some(least)
+    }
+
+    /// Puts a number at the end with what follows from it, unless nothing is under the longer
+    /// prefix: commuting forbids it, or the traversal from some chamber gives a smaller code.
+    pub fn enter(&mut self, number: u8, visit: &mut Visit) -> bool
+        requires stem { IsStem self.old }
+        requires room { length (prefix_of self.old) < 3 * size_of self.old }
+        requires visiting { IsVisiting visit.old }
+        ensures stem { IsStem self.new }
+        ensures visiting { IsVisiting visit.new }
+        ensures longer { OnTrue result (prefix_of self.new ≡ prefix_of self.old ++ number ∷ []) }
+        ensures size { size_of self.new ≡ size_of self.old }
+        ensures undone { OnTrue result (shortened self.new (depth_of self.old.rows) ≡ self.old) }
+        ensures same { OnFalse result (self.new ≡ self.old) }
+        ensures dead { OnFalse result (HasNothingUnder Any (size_of self.old) (prefix_of self.old ++ number ∷ [])) }
+    {
+        let mark = self.mark();
+        let place = self.prefix.len() as u8;
+        if !self.rows.put(place, number) {
+            return false;
+        }
+        self.prefix.push(number);
+        if any_beats(&self.rows, &self.prefix, visit) {
+            self.leave(mark);
+            return false;
+        }
+        true
+    }
+
+    /// Takes away the last number, and what was put into the table after a mark.
+    pub fn leave(&mut self, mark: usize)
+        requires { IsReady self.old.rows }
+        ensures { self.new ≡ shortened self.old mark }
+    {
+        self.rows.undo(mark);
+        self.prefix.pop();
+    }
+}
