@@ -1,0 +1,10 @@
+pub mod Rotation
+pub mod OddSizes
+pub mod FlatBound
+pub mod CountBound
+pub mod PathLemmas
+pub mod Walks
+pub mod Bounds
+pub mod SideLemmas
+pub mod GrowthLemmas
+pub mod ClosedLemmas

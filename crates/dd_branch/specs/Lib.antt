@@ -1,0 +1,6 @@
+pub mod Paths
+pub mod Shares
+pub mod Walked
+pub mod Sides
+pub mod Kept
+pub mod Closed

@@ -1,0 +1,99 @@
+ghost use Rattle.std.specs.Prelude.{◌≤◌};
+
+use crate::{Shares, is_odd, put};
+use dd_invol::Rows;
+use dd_model::{Allowed, Request};
+use std::test::Fail;
+
+/// Requests for at most so many classes of tiles, with degrees from a least one on.
+fn asked(tiles: u32, least: u32) -> Request
+    requires { (1 ≤ least) × (least ≤ 36) }
+{
+    Request {
+        chambers: 36,
+        tiles,
+        vertices: 0,
+        faces: Allowed::least(least),
+        degrees: Allowed::least(least),
+        minimal: false,
+    }
+}
+
+/// Whether nothing with so many chambers is sought.
+fn is_empty(tiles: u32, least: u32, size: u8) -> bool
+    requires least { (1 ≤ least) × (least ≤ 36) }
+    requires size { (1 ≤ size) × (size ≤ 36) }
+{
+    let rows = Rows::empty(size);
+    Shares::start(&asked(tiles, least), size).exceeds(&rows)
+}
+
+#[test]
+fn a_tile_has_at_most_twelve_chambers(rt: HostRuntime) -> Result<(), Fail> {
+    assert!(rt; !is_empty(1, 3, 12));
+    assert!(rt; is_empty(1, 3, 13));
+    assert!(rt; !is_empty(2, 3, 24));
+    assert!(rt; is_empty(2, 3, 25));
+    assert!(rt; !is_empty(0, 4, 36));
+    assert!(rt; is_empty(0, 5, 1));
+    Ok(())
+}
+
+/// What is answered before a chain of five chambers is put in, while it is open, when it is closed,
+/// and when its shares are taken back.
+fn answers() -> [bool; 6] {
+    let mut rows = Rows::empty(6);
+    let mut shares = Shares::start(&asked(0, 4), 6);
+    let mark = shares.mark();
+    let before = shares.exceeds(&rows);
+    let one = put(&mut rows, &mut shares, 0, 2);
+    let two = put(&mut rows, &mut shares, 4, 3);
+    let three = put(&mut rows, &mut shares, 6, 4);
+    let four = put(&mut rows, &mut shares, 10, 5);
+    let put_in = one && two && three && four;
+    let open = shares.exceeds(&rows);
+    let capped = put(&mut rows, &mut shares, 12, 5);
+    let after = shares.exceeds(&rows);
+    shares.undo(mark);
+    let end = shares.mark();
+    [before, put_in, open, capped, after, end == mark]
+}
+
+#[test]
+fn a_long_chain_exceeds(rt: HostRuntime) -> Result<(), Fail> {
+    let [before, put_in, open, capped, after, back] = answers();
+    assert!(rt; !before);
+    assert!(rt; put_in);
+    assert!(rt; !open);
+    assert!(rt; capped);
+    assert!(rt; after);
+    assert!(rt; back);
+    Ok(())
+}
+
+/// Whether nothing with three chambers is sought, where chamber 1 is a whole tile.
+fn is_empty_with_a_tile(tiles: u32) -> bool {
+    let mut rows = Rows::empty(3);
+    let mut shares = Shares::start(&asked(tiles, 3), 3);
+    put(&mut rows, &mut shares, 0, 1) && put(&mut rows, &mut shares, 1, 1) && shares.exceeds(&rows)
+}
+
+#[test]
+fn a_whole_tile_leaves_no_room(rt: HostRuntime) -> Result<(), Fail> {
+    assert!(rt; is_empty_with_a_tile(1));
+    assert!(rt; !is_empty_with_a_tile(2));
+    assert!(rt; !is_empty_with_a_tile(0));
+    Ok(())
+}
+
+#[test]
+fn odd_sizes_have_fixed_chambers(rt: HostRuntime) -> Result<(), Fail> {
+    let mut odd = Rows::empty(3);
+    let mut even = Rows::empty(4);
+    assert!(rt; !is_odd(&odd));
+    assert!(rt; odd.put(0, 2));
+    assert!(rt; even.put(0, 2));
+    assert!(rt; is_odd(&odd));
+    assert!(rt; !is_odd(&even));
+    Ok(())
+}
