@@ -11,8 +11,8 @@ use Rattle.dd_model.specs.Code.{code}
 use Rattle.dd_model.specs.declared.jobs.Job.{Job}
 use Rattle.dd_model.specs.declared.requests.Request.{Request}
 use Rattle.dd_invol.specs.FirstVisit.{IsFirstVisitPrefix, CanFollow}
-use Rattle.dd_invol.specs.Jobs.{IsJobBelow, AreAscendingJobs, extended}
-use Rattle.dd_invol.specs.Children.{IsMemberUnder, AreExtensions, AreChildren}
+use Rattle.dd_model.specs.Jobs.{IsJobBelow, AreAscendingJobs, extended}
+use Rattle.dd_model.specs.Jobs.{IsMemberUnder, AreExtensions, AreChildren}
 use Rattle.dd_invol.proofs.Ascending.{begins_from, begins_less}
 use Rattle.dd_invol.proofs.Growth.{begins_take}
 use Rattle.dd_invol.proofs.Follows.{member_orderly}

@@ -12,7 +12,7 @@ use Rattle.dd_model.specs.Lists.{Begins}
 use Rattle.dd_model.specs.declared.jobs.Job.{Job}
 use Rattle.dd_model.specs.declared.requests.Request.{Request}
 use Rattle.dd_invol.specs.FirstVisit.{IsFirstVisitPrefix, CanFollow}
-use Rattle.dd_invol.specs.Jobs.{IsJobBelow, AreAscendingJobs}
+use Rattle.dd_model.specs.Jobs.{IsJobBelow, AreAscendingJobs}
 use Rattle.dd_invol.specs.Opening.{IsOpening, IsJobUnder, AreJobsUnder}
 use Rattle.dd_invol.specs.Under.{Appends}
 use Rattle.dd_invol.proofs.Ascending.{all-append, all_from_members, nat_cmp-same, less_at, agree_from, begins_more, begins_less, begins_from}

@@ -9,6 +9,5 @@ pub mod Rows
 pub mod Visit
 pub mod Stem
 pub mod Growth
-pub mod Jobs
 pub mod Opening
 pub mod Children

@@ -1,8 +1,8 @@
 ghost use Rattle.std.specs.Prelude.{◌≡◌, ◌+◌, [], ◌∷◌, ◌++◌, ◌*◌, ◌≤◌, ◌<◌, IfOk, MatchOption, length};
 ghost use Rattle.std.specs.Bool.{OnFalse};
 ghost use Rattle.dd_model.specs.Request.{IsValid};
-ghost use Rattle.dd_invol.specs.Jobs.{extended};
-ghost use Rattle.dd_invol.specs.Children.{AreExtensions, AreChildren, IsStemOf};
+ghost use Rattle.dd_model.specs.Jobs.{extended, AreExtensions, AreChildren};
+ghost use Rattle.dd_invol.specs.Children.{IsStemOf};
 ghost use Rattle.dd_invol.specs.Stem.{Any, IsStem, prefix_of, size_of};
 ghost use Rattle.dd_invol.specs.Under.{HasNothingUnder};
 ghost use Rattle.dd_invol.specs.Visit.{IsVisiting};

@@ -19,3 +19,4 @@ pub mod Worked
 pub mod Parts
 pub mod Spelling
 pub mod Reading
+pub mod Jobs

@@ -1,7 +1,6 @@
 pub mod ChoiceLemmas
 pub mod SameImages
 pub mod DegreeLemmas
-pub mod WantedLemmas
 pub mod AcceptedLemmas
 pub mod LevelLemmas
 pub mod LeastLemmas

@@ -1,5 +1,5 @@
 use Rattle.std.proofs.Common.{◌++◌, ◌∷◌, [], length, vec_len, sym, ap, ◌∙◌, subst}
-use Rattle.dd_invol.specs.Children.{AreChildren}
+use Rattle.dd_model.specs.Jobs.{AreChildren}
 use Rattle.dd_invol.proofs.Extensions.{one_child, some_children, no_items, no_length, some_length}
 use Rattle.dd_invol.proofs.splitting.children.Goals as goal
 use Rattle.dd_invol.proofs.splitting.children.Goals.{then-is_empty+in_ok-child+in_ok-push, else-is_empty}

@@ -1,6 +1,7 @@
 use Rattle.std.proofs.Common.{◌≡◌, ◌+◌, ◌++◌, ◌∷◌, [], sym, ap, ◌∙◌, subst, arith}
-use Rattle.dd_invol.specs.Jobs.{extended}
-use Rattle.dd_invol.specs.Children.{AreExtensions, IsStemOf}
+use Rattle.dd_model.specs.Jobs.{extended}
+use Rattle.dd_model.specs.Jobs.{AreExtensions}
+use Rattle.dd_invol.specs.Children.{IsStemOf}
 use Rattle.dd_invol.specs.Stem.{Any, prefix_of}
 use Rattle.dd_invol.specs.Under.{HasNothingUnder}
 use Rattle.dd_invol.proofs.Extensions.{AreExtensionsBelow, none_of_any, extensions_none, extensions_first, extensions_more, extensions_skip, extensions_all}

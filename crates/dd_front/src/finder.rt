@@ -1,0 +1,31 @@
+ghost use Rattle.std.specs.Prelude.{◌≡◌, ◌*◌, ◌<◌, IfOk, length};
+ghost use Rattle.dd_model.specs.Request.{IsValid};
+ghost use Rattle.dd_model.specs.Jobs.{IsJobOf, AreMembersUnder, AreChildren};
+ghost use Rattle.dd_model.specs.declared.requests.Request.{Request as Asked};
+
+use dd_model::{Job, Memory, Request};
+use dd_symbol::Connected;
+use std::alloc::Global;
+
+/// Finds what is under a job of a catalogue, or splits the job into smaller ones. `Err` comes for
+/// want of memory alone.
+pub trait Finder {
+    ghost request: { Self → Asked };
+
+    /// What is asked for.
+    fn request(&self) -> Request
+        ensures { result ≡ request self.now };
+
+    /// The members of the catalogue under a job, ascending.
+    fn find(&self, alloc: Global, job: &Job) -> Result<Vec<Connected>, Memory>
+        requires valid { IsValid (request self.now) }
+        requires job { IsJobOf (request self.now) job.now }
+        ensures { IfOk result (λ list. AreMembersUnder (request self.now) job.now list.items) };
+
+    /// Jobs with one number more, ascending, at least one; no member is under one that is left out.
+    fn split(&self, alloc: Global, job: &Job) -> Result<Vec<Job>, Memory>
+        requires valid { IsValid (request self.now) }
+        requires job { IsJobOf (request self.now) job.now }
+        requires shorter { length job.now.prefix < 3 * job.now.size }
+        ensures { IfOk result (λ jobs. AreChildren (request self.now) job.now jobs.items) };
+}

@@ -1,0 +1,6 @@
+//! What finds the members of a catalogue, job by job.
+#![tactic(auto)]
+
+mod finder;
+
+pub use finder::Finder;

@@ -1,0 +1,80 @@
+-- A table that is filled knows what it knew before.
+use Rattle.std.proofs.Common.{◌≡◌, ◌≢◌, ℕ, zero, suc, ◌-◌, ◌≤◌, ◌⊎◌, List, [], ◌∷◌, length, map, get_or, set, refl, sym, ◌∙◌, subst, inl, inr, ⊎_elim, arith}
+use Rattle.std.proofs.lemmas.Bool.{cases_lt}
+use Rattle.dd_model.specs.declared.parts.Index.{Index}
+use Rattle.dd_model.specs.declared.parts.Pair.TheVariants.{Tile, Vertex}
+use Rattle.dd_model.specs.Symbol.{Symbol, op}
+use Rattle.dd_model.specs.declared.parts.Index.TheVariants.{Zero, One, Two}
+use Rattle.dd_model.specs.Code.{count_from}
+use Rattle.dd_model.specs.Partial.{Completes}
+use Rattle.dd_model.proofs.Bijections.{length-count_from}
+use Rattle.std.proofs.lemmas.List.{length-map, get_or_past}
+use Rattle.dd_invol.specs.Places.{place}
+use Rattle.dd_invol.specs.declared.rows.Rows.{Rows}
+use Rattle.dd_invol.specs.Rows.{images_in, partial_of, partial_from, depth_of, popped, unwind, unwound}
+use Rattle.dd_invol.proofs.RowsLemmas.{op_partial}
+use Rattle.dd_shares.specs.Kept.{AreKept}
+use Rattle.dd_shares.specs.declared.shares.Shares.{Shares}
+use Rattle.dd_shares.proofs.Bounds.{shares_of_larger}
+
+-- no chamber beyond the thirty-sixth has an image
+images_past : (numbers : List ℕ) (i : Index) (d : ℕ) → 36 ≤ d - 1 → get_or (images_in numbers i) (d - 1) 0 ≡ 0
+unfolding images_in
+images_past numbers i d high =
+    let size = length-map (count_from 1 36) (λ d. get_or numbers (place i d) 0) in
+    let count = length-count_from 1 36 in
+    get_or_past (map (λ d. get_or numbers (place i d) 0) (count_from 1 36)) (d - 1) 0 (omega arith)
+
+op_past : (n : ℕ) (numbers : List ℕ) (i : Index) (d : ℕ) → 36 ≤ d - 1 → op (partial_from n numbers) i d ≡ 0
+op_past n numbers Zero d high = images_past numbers Zero d high
+op_past n numbers One d high = images_past numbers One d high
+op_past n numbers Two d high = images_past numbers Two d high
+
+-- a list with a place cleared
+cleared : (xs : List ℕ) (t u : ℕ) → (get_or (set xs t 0) u 0 ≡ get_or xs u 0) ⊎ (get_or (set xs t 0) u 0 ≡ 0)
+cleared [] t u = inl refl
+cleared (x ∷ xs) zero zero = inr refl
+cleared (x ∷ xs) zero (suc u) = inl refl
+cleared (x ∷ xs) (suc t) zero = inl refl
+cleared (x ∷ xs) (suc t) (suc u) = cleared xs t u
+
+known_before : (r : Rows) (i : Index) (d : ℕ) → op (partial_of (popped r)) i d ≢ 0 → op (partial_of r) i d ≡ op (partial_of (popped r)) i d
+known_before r i d some =
+    let t = get_or r.trail.items (length r.trail.items - 1) 0 in
+    ⊎_elim
+    (λ low.
+    let now = op_partial r.size r.numbers i d low in
+    let before : op (partial_of (popped r)) i d ≡ get_or (set r.numbers t 0) (place i d) 0 = op_partial r.size (set r.numbers t 0) i d low in
+    ⊎_elim (λ same. now ∙ sym same ∙ sym before) (λ none. absurd (some (before ∙ none))) (cleared r.numbers t (place i d)))
+    (λ high. absurd (some (op_past r.size (set r.numbers t 0) i d high)))
+    (cases_lt (d - 1) 36)
+
+completes_popped : (r : Rows) (s : Symbol) → Completes (partial_of r) s → Completes (partial_of (popped r)) s
+completes_popped r s full = record {
+  table = full.table;
+  connected = full.connected;
+  size = full.size;
+  images = λ i d some. let same = known_before r i d some in full.images i d (λ none. some (sym same ∙ none)) ∙ same;
+}
+
+completes_unwind : (k : ℕ) (r : Rows) (s : Symbol) → Completes (partial_of r) s → Completes (partial_of (unwind k r)) s
+completes_unwind zero r s full = full
+completes_unwind (suc k) r s full = completes_unwind k (popped r) s (completes_popped r s full)
+
+-- The shares of a table are shares of each table that it is filled to.
+pub kept_of_longer : (old new : Rows) (shares : Shares) → new.size ≡ old.size → unwound new (depth_of old) ≡ old → AreKept (partial_of old) shares → AreKept (partial_of new) shares
+kept_of_longer old new shares same undone kept =
+    let more : (s : Symbol) → Completes (partial_of new) s → Completes (partial_of old) s =
+    λ s full. subst (λ r. Completes (partial_of r) s) undone (completes_unwind (depth_of new - depth_of old) new s full) in
+    record {
+      tiles = record {
+        shares = shares_of_larger shares.request (partial_of old) (partial_of new) Tile 144403552893600 shares.tiles.shares same more kept.tiles.shares;
+        total = kept.tiles.total;
+        small = kept.tiles.small;
+      };
+      vertices = record {
+        shares = shares_of_larger shares.request (partial_of old) (partial_of new) Vertex 144403552893600 shares.vertices.shares same more kept.vertices.shares;
+        total = kept.vertices.total;
+        small = kept.vertices.small;
+      };
+    }

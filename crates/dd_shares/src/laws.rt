@@ -1,0 +1,65 @@
+ghost use Rattle.std.specs.Prelude.{◌≡◌, ◌≢◌, ◌⊎◌, ◌+◌, ◌-◌, ◌*◌, ◌/◌, ◌%◌, ◌≤◌, ℕ, List, length};
+ghost use Rattle.std.specs.List.{AllByRecursion, sum_by};
+ghost use Rattle.dd_model.specs.Symbol.{Symbol, IsTable, IsSymbol, IsChamber, Connected, degree, op};
+ghost use Rattle.dd_model.specs.Cell.{InCell, IsChain, AreCells};
+ghost use Rattle.dd_model.specs.Code.{chambers};
+ghost use Rattle.dd_model.specs.FirstVisit.{LeastTable};
+ghost use Rattle.dd_model.specs.Flat.{Flat};
+ghost use Rattle.dd_model.specs.declared.parts.Index.{Index};
+ghost use Rattle.dd_model.specs.declared.parts.Index.TheVariants.{Zero};
+ghost use Rattle.dd_model.specs.declared.parts.Pair.{Pair};
+ghost use Rattle.dd_model.specs.declared.parts.Pair.TheVariants.{Tile, Vertex};
+ghost use Rattle.dd_invol.specs.Distinct.{AreDistinct};
+ghost use Rattle.dd_invol.specs.Rows.{partial_of, depth_of, unwound};
+ghost use Rattle.dd_invol.specs.declared.rows.Rows.{Rows};
+ghost use Rattle.dd_model.specs.declared.requests.Request.{Request};
+ghost use Rattle.dd_model.specs.Wanted.{AtMost, Wanted};
+ghost use Rattle.dd_shares.specs.Closed.{AreWhole};
+ghost use Rattle.dd_shares.specs.Shares.{IsTotal};
+ghost use Rattle.dd_shares.specs.Kept.{AreKept};
+ghost use Rattle.dd_shares.specs.declared.shares.Shares.{Shares};
+
+use crate::sides::WHOLE;
+
+/// A cell has at most twice as many chambers as its degree, and a chain at most as many.
+pub fn a_cell_has_at_most_two_chambers_for_each_turn()
+    ensures cell { (s : Symbol) (p : Pair) (d : ℕ) (es : List ℕ) → IsSymbol s → IsChamber s d
+        → AreDistinct es → AllByRecursion (InCell s p d) es → length es ≤ 2 * degree s p d }
+    ensures chain { (s : Symbol) (p : Pair) (d : ℕ) (es : List ℕ) → IsSymbol s → IsChamber s d → IsChain s p d
+        → AreDistinct es → AllByRecursion (InCell s p d) es → length es ≤ degree s p d }
+{}
+
+/// Where each chamber of a flat symbol has two shares, no less than some number divided by its two
+/// degrees, twice the sum of all shares is at least that number for each chamber.
+pub fn flat_symbols_have_large_shares()
+    ensures { (s : Symbol) (whole : ℕ) (tiles vertices : ℕ → ℕ) → IsSymbol s → Flat s
+        → ((d : ℕ) → IsChamber s d → whole ≤ tiles d * degree s Tile d) → ((d : ℕ) → IsChamber s d → whole ≤ vertices d * degree s Vertex d)
+        → s.size * whole ≤ 2 * (sum_by tiles (chambers s) + sum_by vertices (chambers s)) }
+{}
+
+/// The cells of a pair add at most 2 each to the sum of 1/m over all chambers, in parts of any
+/// number that is divided by the degrees.
+pub fn each_cell_adds_at_most_two()
+    ensures { (s : Symbol) (p : Pair) (cells : List ℕ) (whole : ℕ) → IsSymbol s → AreCells s p cells
+        → sum_by (λ d. whole / degree s p d) (chambers s) ≤ length cells * (2 * whole) }
+{}
+
+/// An involution of an odd number of chambers fixes one; a least table of odd size begins with 1.
+pub fn odd_tables_have_fixed_chambers()
+    ensures fixed { (s : Symbol) (i : Index) → IsTable s → s.size % 2 ≡ 1 → ¬ ((d : ℕ) → IsChamber s d → op s i d ≢ d) }
+    ensures first { (s : Symbol) → IsTable s → Connected s → LeastTable s → s.size % 2 ≡ 1 → op s Zero 1 ≤ 1 }
+{}
+
+/// The shares of a table are shares of each table that it is filled to.
+pub fn shares_stay_while_a_table_is_filled()
+    ensures { (old new : Rows) (shares : Shares) → new.size ≡ old.size → unwound new (depth_of old) ≡ old
+        → AreKept (partial_of old) shares → AreKept (partial_of new) shares }
+{}
+
+/// Cells that are whole in each sought symbol add what they add, and each further cell at most 2
+/// WHOLE: no more cells are whole than the request allows.
+pub fn whole_cells_count()
+    ensures { (q : Request) (partial : Symbol) (p : Pair) (k count total limit : ℕ) → (p ≡ Tile) ⊎ (p ≡ Vertex)
+        → ((s : Symbol) → Wanted q s → AtMost s p limit) → 1 ≤ limit → AreWhole q partial p WHOLE k count total
+        → IsTotal q partial p WHOLE (total + 2 * (limit - count) * WHOLE) }
+{}
