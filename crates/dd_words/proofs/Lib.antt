@@ -11,3 +11,7 @@ pub mod OneValue
 pub mod Faults
 pub mod ReadCommands
 pub mod Validity
+pub mod ClapSteps
+pub mod SettingWords
+pub mod ClapWalks
+pub mod ClapPasses

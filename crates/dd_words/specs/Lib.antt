@@ -6,3 +6,4 @@ pub mod Settings
 pub mod Parted
 pub mod Laying
 pub mod Reading
+pub mod Apps
