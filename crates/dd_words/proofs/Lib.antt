@@ -15,3 +15,4 @@ pub mod ClapSteps
 pub mod SettingWords
 pub mod ClapWalks
 pub mod ClapPasses
+pub mod LongWords
