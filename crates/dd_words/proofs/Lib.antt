@@ -16,3 +16,4 @@ pub mod SettingWords
 pub mod ClapWalks
 pub mod ClapPasses
 pub mod LongWords
+pub mod ClapLayouts

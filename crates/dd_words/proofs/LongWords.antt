@@ -33,7 +33,7 @@ rejoined (x ∷ xs) = go (x == 61) (λ e. grind (arith, nat_tests)) (rejoined xs
         }
 
 -- the name and the value of a text
-abbrev spelled : Text → Option Text → Text
+abbrev pub spelled : Text → Option Text → Text
 spelled name None = name
 spelled name (Some x) = name ++ 61 ∷ x
 
