@@ -1,12 +1,13 @@
 -- Layouts, as clap walks over their words.
-use Rattle.std.proofs.Common.{◌≡◌, ◌∙◌, ◌⊎◌, ◌+◌, ◌++◌, ◌&&◌, ◌||◌, ℕ, suc, zero, Bool, true, false, not, List, [], ◌∷◌, codes, Option, Some, None, refl, sym, ap, ap₂, subst, cond, bytes_eq, min, length, inl, inr}
+use Rattle.std.proofs.Common.{◌≡◌, ◌∙◌, ◌⊎◌, ◌+◌, ◌++◌, ◌&&◌, ◌||◌, ◌≤◌, ℕ, suc, zero, Bool, true, false, not, List, [], ◌∷◌, codes, Option, Some, None, refl, sym, ap, ap₂, subst, cond, bytes_eq, min, length, inl, inr}
 use Rattle.std.specs.Prelude.{if◌then◌else◌, fold, nat_lt}
 use Rattle.std.specs.Option.{option_map_or}
+use Rattle.std.specs.List.{AllByRecursion}
 use Rattle.std.proofs.lemmas.Slice.Eq.{bytes_eq-Decides}
 use Rattle.clap.specs.Lexer.{long_of, short_of, usize_max}
 use Rattle.clap.specs.Words.{Rule, Row, Shape, new_rule}
 use Rattle.clap.specs.Walk.{Held, Walk, Step, Waiting, idle, option, next, trailing, value, word_met, walked, after_step, to_positional, arg_by_long, arg_by_id, arg_by_index, arg_by_short, settled, settled_rows, used_by_id, reacted, used, pushed, option_word, most_values, positional_held, is_pending, takes_several, has_row, after_flag, long_met, nothing_held, after_flag}
-use Rattle.clap.specs.Faults.{turn_fault, walk_fault, word_fault, long_fault, react_fault, settle_fault, use_fault, step_fault, positional_fault, stray_fault, values_fault}
+use Rattle.clap.specs.Faults.{turn_fault, walk_fault, word_fault, long_fault, react_fault, settle_fault, use_fault, step_fault, positional_fault, stray_fault, values_fault, check_fault}
 use Rattle.clap.specs.Kinds.{Kinds, or_else}
 use Rattle.clap.specs.declared.error.kind.ErrorKind.TheVariants as kind
 use Rattle.dd_words.specs.declared.settings.Setting.{Setting}
@@ -25,6 +26,10 @@ pub record IsPlace (c : List Rule) (k : ℕ) : Type 0 where
   pub by_index : arg_by_index c k ≡ Some (placed (place_of k) k)
   pub by_id : arg_by_id c (place_of k) ≡ Some (placed (place_of k) k)
 
+-- the rule has no value of its own, or is the flag
+abbrev pub IsQuiet : Rule → Type 0
+IsQuiet a = (a.defaults ≡ []) ⊎ (a ≡ flagged (codes "minimal"))
+
 -- the rules are those of the verb
 pub record IsReader (v : Verb) (c : List Rule) : Type 0 where
   pub valued_long : (s : Setting) → IsValuedOf v s → arg_by_long c (word_of s) ≡ Some (valued (word_of s))
@@ -33,6 +38,9 @@ pub record IsReader (v : Verb) (c : List Rule) : Type 0 where
   pub known : (name : Text) → (arg_by_long c name ≡ None) ⊎ ((s : Setting) × (has_setting v s ≡ true) × (name ≡ word_of s))
   pub no_short : (x : ℕ) → arg_by_short c x ≡ None
   pub places : (k : ℕ) → (arg_by_index c k ≡ None) ⊎ IsPlace c k
+  pub few : (k : ℕ) → IsPlace c k → k ≤ 2
+  pub quiet : AllByRecursion IsQuiet c
+  pub checks : (rows : List Row) → check_fault (shape_with c) rows false ≡ []
 
 abbrev pub place_after : ℕ → ℕ
 place_after k = min (k + 1) usize_max

@@ -17,3 +17,4 @@ pub mod ClapWalks
 pub mod ClapPasses
 pub mod LongWords
 pub mod ClapLayouts
+pub mod ClapRules
