@@ -19,7 +19,7 @@ use Rattle.dd_words.proofs.ClapSteps.{shape_with, valued, flagged, placed, holdi
 use Rattle.dd_words.proofs.ClapWalks.{IsPlace, IsReader, place_of, place_after, row_placed, row_valued, row_flagged, Placed, Walks, end_of, free_moves, free_asks, late_moves, late_asks, dashes_move, long_moves, place_asked, value_moves}
 use Rattle.dd_words.proofs.SettingWords.{not_dashes_alone, not_dashes_tied, long_alone, long_tied}
 
-both : (a b : Kinds) → or_else a b ≡ [] → (a ≡ []) × (b ≡ [])
+pub both : (a b : Kinds) → or_else a b ≡ [] → (a ≡ []) × (b ≡ [])
 both [] b e = (refl, e)
 both (k ∷ ks) b e = absurd (cc)
 

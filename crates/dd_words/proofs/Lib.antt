@@ -18,3 +18,6 @@ pub mod ClapPasses
 pub mod LongWords
 pub mod ClapLayouts
 pub mod ClapRules
+pub mod ClapWhole
+pub mod ClapRows
+pub mod ClapReads

@@ -7,3 +7,4 @@ pub mod Parted
 pub mod Laying
 pub mod Reading
 pub mod Apps
+pub mod Matching

@@ -1,0 +1,156 @@
+-- What is read of the matches is what the layout has.
+use Rattle.std.proofs.Common.{◌≡◌, ◌≢◌, ◌∙◌, ◌||◌, ◌⊎◌, ◌++◌, ◌+◌, ◌≤◌, ◌<◌, ℕ, suc, zero, Bool, true, false, cond, codes, List, [], ◌∷◌, Option, Some, None, length, option_map, refl, sym, ap, ap₂, subst, inl, inr, bytes_eq, append_assoc, arith, min}
+use Rattle.std.specs.Prelude.{if◌then◌else◌, fold, find, slice_get, option_and_then}
+use Rattle.std.specs.List.{AllByRecursion, list_any, Contains}
+use Rattle.std.proofs.lemmas.List.{append-nil}
+use Rattle.std.proofs.lemmas.Slice.Eq.{bytes_eq-Decides}
+use Rattle.clap.specs.Lexer.{usize_max}
+use Rattle.clap.specs.Words.{Rule, Row}
+use Rattle.clap.specs.Walk.{has_row, is_empty, with_default, default_rows, first_of, one_of, row_text, reading_by}
+use Rattle.clap.specs.declared.parser.matches.ValueSource.TheVariants.{DefaultValue}
+use Rattle.dd_words.specs.declared.settings.Setting.{Setting}
+use Rattle.dd_words.specs.declared.settings.Setting.TheVariants.{Tiles, Vertices, LeastFace, LeastDegree, Faces, Degrees, Minimal, Workers, Round, Pause, Checkpoint, Cell}
+use Rattle.dd_words.specs.declared.verbs.Verb.{Verb}
+use Rattle.dd_words.specs.Values.{Text}
+use Rattle.dd_words.specs.Layout.{Layout, nothing, ended, argument, flag, spaced, tied, arguments_of, settings_of, word_of, has_value, Given, AreSingle, Has, Lacks}
+use Rattle.dd_words.specs.Apps.{first_place, second_place, all_settings}
+use Rattle.dd_words.specs.Matching.{IsValueRead, given_by, BeginsWith, AreRead, listed, arguments_read}
+use Rattle.dd_words.proofs.Told.{same_setting}
+use Rattle.dd_words.proofs.OneValue.{not_both, same_value}
+use Rattle.dd_words.proofs.ClapSteps.{flagged}
+use Rattle.dd_words.proofs.ClapWalks.{IsPlace, IsQuiet, IsReader, place_of, place_after, row_placed, row_valued, row_flagged, Placed, Walks}
+use Rattle.dd_words.proofs.ClapRows.{at_missing, list_of, list_placed, placed_row, valued_row, flagged_row, same_word, value_in, flag_text, first_is, one_is, is_no_place, first_of_cons, one_of_cons, first_passes}
+
+-- ---- the rows with defaults
+
+pub has_pushed : (id : Text) (rows : List Row) (r : Row) → has_row id (rows ++ r ∷ []) ≡ (has_row id rows || bytes_eq r.id id)
+has_pushed id [] r = go (bytes_eq r.id id)
+  where
+    go : (b : Bool) → (b || false) ≡ b
+    go true = refl
+    go false = refl
+has_pushed id (x ∷ rows) r = ap (λ b. bytes_eq x.id id || b) (has_pushed id rows r) ∙ go (bytes_eq x.id id)
+  where
+    go : (b : Bool) → (b || (has_row id rows || bytes_eq r.id id)) ≡ ((b || has_row id rows) || bytes_eq r.id id)
+    go true = refl
+    go false = refl
+
+abbrev default_row : Row
+default_row = record { id = codes "minimal"; values = codes "false" ∷ []; count = None; source = Some DefaultValue; reading = reading_by (flagged (codes "minimal")) }
+
+-- nothing was added, or the flag as it is when it is not given
+abbrev IsFilled : List Row → List Row → Type 0
+IsFilled rows now = (now ≡ rows) ⊎ ((has_row (codes "minimal") rows ≡ false) × (now ≡ rows ++ default_row ∷ []))
+
+flag_filled : (rows : List Row) (b : Bool) → has_row (codes "minimal") rows ≡ b
+    → IsFilled rows (if b then rows else default_rows (codes "minimal") (reading_by (flagged (codes "minimal"))) (codes "false" ∷ []) rows)
+flag_filled rows true e = inl refl
+flag_filled rows false e = inr (e, at_missing (codes "minimal") _ (default_row ∷ []) rows e)
+
+fill_one : (rows now : List Row) (a : Rule) → IsQuiet a → IsFilled rows now → IsFilled rows (with_default now a)
+fill_one rows now a (inl none) h = subst (IsFilled rows) (sym (go (has_row a.id now) ∙ refl)) h
+  where
+    go : (b : Bool) → (if b then now else default_rows a.id (reading_by a) a.defaults now) ≡ now
+    go true = refl
+    go false = ap (λ xs. default_rows a.id (reading_by a) xs now) none
+fill_one rows now a (inr is) (inl same) =
+    subst (λ z. IsFilled rows (with_default z a)) (sym same) (subst (λ z. IsFilled rows (with_default rows z)) (sym is) (flag_filled rows (has_row (codes "minimal") rows) refl))
+fill_one rows now a (inr is) (inr p) =
+    let has : has_row (codes "minimal") now ≡ true = ap (has_row (codes "minimal")) p.1 ∙ has_pushed (codes "minimal") rows default_row ∙ ap (λ b. b || true) p.0 in
+    let kept : with_default now (flagged (codes "minimal")) ≡ now =
+        ap (λ b. if b then now else default_rows (codes "minimal") (reading_by (flagged (codes "minimal"))) (codes "false" ∷ []) now) has in
+    inr (p.0, ap (with_default now) is ∙ kept ∙ p.1)
+
+filled : (c : List Rule) (rows now : List Row) → AllByRecursion IsQuiet c → IsFilled rows now → IsFilled rows (fold with_default now c)
+filled [] rows now q h = h
+filled (a ∷ c) rows now q h = filled c rows (with_default now a) q.1 (fill_one rows now a q.0 h)
+
+-- a row at the end with another id
+first_pushed : (id : Text) (rows : List Row) (r : Row) → bytes_eq r.id id ≡ false → first_of id (rows ++ r ∷ []) ≡ first_of id rows
+first_pushed id [] r e = ap (λ b. option_and_then (λ (x : Row). slice_get x.values 0) (cond b (Some r) None)) e
+first_pushed id (x ∷ rows) r e =
+    first_of_cons id x (rows ++ r ∷ []) ∙ ap (λ o. cond (bytes_eq x.id id) (slice_get x.values 0) o) (first_pushed id rows r e) ∙ sym (first_of_cons id x rows)
+
+one_pushed : (id : Text) (rows : List Row) (r : Row) → has_row id rows ≡ false → bytes_eq r.id id ≡ true → one_of id (rows ++ r ∷ []) ≡ row_text r
+one_pushed id [] r h e = ap (λ b. option_and_then row_text (cond b (Some r) None)) e
+one_pushed id (x ∷ rows) r h e = go (bytes_eq x.id id) h (one_pushed id rows r) (one_of_cons id x (rows ++ r ∷ []))
+  where
+    go : (b : Bool) → (b || has_row id rows) ≡ false → (has_row id rows ≡ false → bytes_eq r.id id ≡ true → one_of id (rows ++ r ∷ []) ≡ row_text r)
+        → one_of id (x ∷ rows ++ r ∷ []) ≡ cond b (row_text x) (one_of id (rows ++ r ∷ [])) → one_of id (x ∷ rows ++ r ∷ []) ≡ row_text r
+    go true f more is = absurd (cc)
+    go false f more is = is ∙ more f e
+
+one_missing : (id : Text) (rows : List Row) → has_row id rows ≡ false → one_of id rows ≡ None
+one_missing id [] h = refl
+one_missing id (x ∷ rows) h = go (bytes_eq x.id id) h (one_missing id rows) (one_of_cons id x rows)
+  where
+    go : (b : Bool) → (b || has_row id rows) ≡ false → (has_row id rows ≡ false → one_of id rows ≡ None)
+        → one_of id (x ∷ rows) ≡ cond b (row_text x) (one_of id rows) → one_of id (x ∷ rows) ≡ None
+    go true f more is = absurd (cc)
+    go false f more is = is ∙ more f
+
+minimal_not : (s : Setting) → has_value s ≡ true → bytes_eq (codes "minimal") (word_of s) ≡ false
+minimal_not Tiles e = refl
+minimal_not Vertices e = refl
+minimal_not LeastFace e = refl
+minimal_not LeastDegree e = refl
+minimal_not Faces e = refl
+minimal_not Degrees e = refl
+minimal_not Minimal e = absurd (cc)
+minimal_not Workers e = refl
+minimal_not Round e = refl
+minimal_not Pause e = refl
+minimal_not Checkpoint e = refl
+minimal_not Cell e = refl
+
+only_flag : (s : Setting) → has_value s ≡ false → s ≡ Minimal
+only_flag Tiles e = absurd (cc)
+only_flag Vertices e = absurd (cc)
+only_flag LeastFace e = absurd (cc)
+only_flag LeastDegree e = absurd (cc)
+only_flag Faces e = absurd (cc)
+only_flag Degrees e = absurd (cc)
+only_flag Minimal e = refl
+only_flag Workers e = absurd (cc)
+only_flag Round e = absurd (cc)
+only_flag Pause e = absurd (cc)
+only_flag Checkpoint e = absurd (cc)
+only_flag Cell e = absurd (cc)
+
+no_flag_text : (o : Option Text) → flag_text o ≡ None → o ≡ None
+no_flag_text None e = refl
+no_flag_text (Some x) e = absurd (cc)
+
+-- ---- the value of a setting
+
+module _ (v : Verb) (c : List Rule) (r : IsReader v c) (l : Layout) (w : Walks v c [] 1 l) where
+  abbrev last : List Row
+  last = fold with_default (list_of 1 l) c
+
+  filled_last : IsFilled (list_of 1 l) last
+  filled_last = filled c (list_of 1 l) (list_of 1 l) r.quiet (inl refl)
+
+  valued_read : (s : Setting) → has_value s ≡ true → first_of (word_of s) last ≡ value_in (settings_of l) s
+  valued_read s h = go filled_last
+    where
+      go : IsFilled (list_of 1 l) last → first_of (word_of s) last ≡ value_in (settings_of l) s
+      go (inl same) = ap (first_of (word_of s)) same ∙ first_is v c l [] 1 s h w
+      go (inr p) = ap (first_of (word_of s)) p.1 ∙ first_pushed (word_of s) (list_of 1 l) default_row (minimal_not s h) ∙ first_is v c l [] 1 s h w
+
+  place_read : (k : ℕ) → bytes_eq (codes "minimal") (place_of k) ≡ false → first_of (place_of k) last ≡ first_of (place_of k) (list_of 1 l)
+  place_read k e = go filled_last
+    where
+      go : IsFilled (list_of 1 l) last → first_of (place_of k) last ≡ first_of (place_of k) (list_of 1 l)
+      go (inl same) = ap (first_of (place_of k)) same
+      go (inr p) = ap (first_of (place_of k)) p.1 ∙ first_pushed (place_of k) (list_of 1 l) default_row e
+
+  -- the flag
+  flag_read : (value : Option Text) → IsValueRead last Minimal value → value ≡ value_in (settings_of l) Minimal
+  flag_read value h = go filled_last (value_in (settings_of l) Minimal) (one_is v c l [] 1 Minimal refl w)
+    where
+      go : IsFilled (list_of 1 l) last → (o : Option Text) → one_of (codes "minimal") (list_of 1 l) ≡ flag_text o → value ≡ o
+      go (inl same) None e = h.absent refl (ap (one_of (codes "minimal")) same ∙ e)
+      go (inl same) (Some x) e = h.raised refl (ap (one_of (codes "minimal")) same ∙ e) ∙ ?
+      go (inr p) o e =
+          let none = no_flag_text o (sym e ∙ one_missing (codes "minimal") (list_of 1 l) p.0) in
+          h.lowered refl (ap (one_of (codes "minimal")) p.1 ∙ one_pushed (codes "minimal") (list_of 1 l) default_row p.0 refl) ∙ sym none
