@@ -6,7 +6,7 @@ use Rattle.std.proofs.lemmas.List.{append-nil}
 use Rattle.std.proofs.lemmas.Slice.Eq.{bytes_eq-Decides}
 use Rattle.clap.specs.Lexer.{usize_max}
 use Rattle.clap.specs.Words.{Rule, Row}
-use Rattle.clap.specs.Walk.{has_row, is_empty, with_default, default_rows, first_of, one_of, row_text, reading_by}
+use Rattle.clap.specs.Walk.{has_row, is_empty, with_default, default_rows, first_of, one_of, row_text, reading_by, more_values}
 use Rattle.clap.specs.declared.parser.matches.ValueSource.TheVariants.{DefaultValue}
 use Rattle.dd_words.specs.declared.settings.Setting.{Setting}
 use Rattle.dd_words.specs.declared.settings.Setting.TheVariants.{Tiles, Vertices, LeastFace, LeastDegree, Faces, Degrees, Minimal, Workers, Round, Pause, Checkpoint, Cell}
@@ -19,7 +19,7 @@ use Rattle.dd_words.proofs.Told.{same_setting}
 use Rattle.dd_words.proofs.OneValue.{not_both, same_value}
 use Rattle.dd_words.proofs.ClapSteps.{flagged}
 use Rattle.dd_words.proofs.ClapWalks.{IsPlace, IsQuiet, IsReader, place_of, place_after, row_placed, row_valued, row_flagged, Placed, Walks}
-use Rattle.dd_words.proofs.ClapRows.{at_missing, list_of, list_placed, placed_row, valued_row, flagged_row, same_word, value_in, flag_text, first_is, one_is, is_no_place, first_of_cons, one_of_cons, first_passes}
+use Rattle.dd_words.proofs.ClapRows.{at_missing, list_of, list_placed, placed_row, valued_row, flagged_row, same_word, value_in, flag_text, first_is, one_is, is_no_place, first_of_cons, one_of_cons, first_passes, apart, same_word_sym}
 
 -- ---- the rows with defaults
 
@@ -45,7 +45,7 @@ IsFilled rows now = (now ≡ rows) ⊎ ((has_row (codes "minimal") rows ≡ fals
 flag_filled : (rows : List Row) (b : Bool) → has_row (codes "minimal") rows ≡ b
     → IsFilled rows (if b then rows else default_rows (codes "minimal") (reading_by (flagged (codes "minimal"))) (codes "false" ∷ []) rows)
 flag_filled rows true e = inl refl
-flag_filled rows false e = inr (e, at_missing (codes "minimal") _ (default_row ∷ []) rows e)
+flag_filled rows false e = inr (e, at_missing (codes "minimal") (more_values DefaultValue (codes "false" ∷ [])) (default_row ∷ []) rows e)
 
 fill_one : (rows now : List Row) (a : Rule) → IsQuiet a → IsFilled rows now → IsFilled rows (with_default now a)
 fill_one rows now a (inl none) h = subst (IsFilled rows) (sym (go (has_row a.id now) ∙ refl)) h
@@ -121,6 +121,90 @@ no_flag_text : (o : Option Text) → flag_text o ≡ None → o ≡ None
 no_flag_text None e = refl
 no_flag_text (Some x) e = absurd (cc)
 
+-- ---- the settings in the order of the program
+
+abbrev pub picked : List Given → List Setting → List Given
+picked gs [] = []
+picked gs (s ∷ ss) = given_by s (value_in gs s) ++ picked gs ss
+
+-- a flag has no value
+empty_flag : (v : Verb) (c : List Rule) (l : Layout) (rows : List Row) (k : ℕ) (t : Setting) → has_value t ≡ false → Walks v c rows k l
+    → (x : Text) → value_in (settings_of l) t ≡ Some x → x ≡ []
+empty_flag v c nothing rows k t f w x e = absurd (cc)
+empty_flag v c (ended ws) rows k t f w x e = absurd (cc)
+empty_flag v c (argument word l) rows k t f w x e = empty_flag v c l (row_placed rows k word) (place_after k) t f w.3 x e
+empty_flag v c (flag s l) rows k t f w x e = go (same_word s t) e (empty_flag v c l (row_flagged rows s) k t f w.2 x)
+  where
+    go : (b : Bool) → cond b (Some []) (value_in (settings_of l) t) ≡ Some x → (value_in (settings_of l) t ≡ Some x → x ≡ []) → x ≡ []
+    go true h more = cc
+    go false h more = more h
+empty_flag v c (spaced s y l) rows k t f w x e =
+    empty_flag v c l (row_valued rows s y) k t f w.3 x (ap (λ b. cond b (Some y) (value_in (settings_of l) t)) (sym (same_word_sym t s (apart t s f w.0.valued))) ∙ e)
+empty_flag v c (tied s y l) rows k t f w x e =
+    empty_flag v c l (row_valued rows s y) k t f w.2 x (ap (λ b. cond b (Some y) (value_in (settings_of l) t)) (sym (same_word_sym t s (apart t s f w.0.valued))) ∙ e)
+
+-- ---- the arguments
+
+is_not_first : (s : Setting) → bytes_eq (word_of s) first_place ≡ false
+is_not_first s = is_no_place 1 s
+
+is_not_second : (s : Setting) → bytes_eq (word_of s) second_place ≡ false
+is_not_second s = is_no_place 2 s
+
+placed_here : (id : Text) (k : ℕ) (w : Text) (rows : List Row) → place_of k ≡ id → first_of id (placed_row k w ∷ rows) ≡ Some w
+placed_here id k w rows e = first_of_cons id (placed_row k w) rows ∙ ap (λ b. cond b (Some w) (first_of id rows)) ((bytes_eq-Decides (place_of k) id).1 e)
+
+head_at : (id : Text) → ((s : Setting) → bytes_eq (word_of s) id ≡ false) → (l : Layout) (k : ℕ) → place_of k ≡ id → first_of id (list_of k l) ≡ slice_get (arguments_of l) 0
+head_at id apart nothing k e = refl
+head_at id apart (ended []) k e = refl
+head_at id apart (ended (w ∷ ws)) k e = placed_here id k w (list_placed (place_after k) ws) e
+head_at id apart (argument w l) k e = placed_here id k w (list_of (place_after k) l) e
+head_at id apart (flag s l) k e = first_passes id (flagged_row s) (list_of k l) _ (apart s) (head_at id apart l k e)
+head_at id apart (spaced s x l) k e = first_passes id (valued_row s x) (list_of k l) _ (apart s) (head_at id apart l k e)
+head_at id apart (tied s x l) k e = first_passes id (valued_row s x) (list_of k l) _ (apart s) (head_at id apart l k e)
+
+second_at : (l : Layout) → first_of second_place (list_of 1 l) ≡ slice_get (arguments_of l) 1
+second_at nothing = refl
+second_at (ended []) = refl
+second_at (ended (w ∷ [])) = refl
+second_at (ended (w ∷ x ∷ ws)) = refl
+second_at (argument w l) = first_passes second_place (placed_row 1 w) (list_of (place_after 1) l) _ refl (head_at second_place is_not_second l (place_after 1) refl)
+second_at (flag s l) = first_passes second_place (flagged_row s) (list_of 1 l) _ (is_not_second s) (second_at l)
+second_at (spaced s x l) = first_passes second_place (valued_row s x) (list_of 1 l) _ (is_not_second s) (second_at l)
+second_at (tied s x l) = first_passes second_place (valued_row s x) (list_of 1 l) _ (is_not_second s) (second_at l)
+
+listed_all : (xs : List Text) → length xs + 1 ≤ 3 → listed (slice_get xs 0) ++ listed (slice_get xs 1) ≡ xs
+listed_all [] h = refl
+listed_all (x ∷ []) h = refl
+listed_all (x ∷ y ∷ []) h = refl
+listed_all (x ∷ y ∷ z ∷ xs) h = absurd (omega arith)
+
+next_place : (k : ℕ) → k ≤ 2 → place_after k ≡ k + 1
+next_place zero h = refl
+next_place (suc zero) h = refl
+next_place (suc (suc zero)) h = refl
+next_place (suc (suc (suc k))) h = absurd (omega arith)
+
+few_placed : (v : Verb) (c : List Rule) → IsReader v c → (ws : List Text) (rows : List Row) (k : ℕ) → k ≤ 3 → Placed c rows k ws → length ws + k ≤ 3
+few_placed v c r [] rows k h p = omega arith
+few_placed v c r (w ∷ ws) rows k h p =
+    let low = r.few k p.0 in
+    let after = next_place k low in
+    let more = few_placed v c r ws (row_placed rows k w) (place_after k) (omega arith) p.2 in
+    omega arith
+
+few_arguments : (v : Verb) (c : List Rule) → IsReader v c → (l : Layout) (rows : List Row) (k : ℕ) → k ≤ 3 → Walks v c rows k l → length (arguments_of l) + k ≤ 3
+few_arguments v c r nothing rows k h p = omega arith
+few_arguments v c r (ended ws) rows k h p = few_placed v c r ws rows k h p
+few_arguments v c r (argument w l) rows k h p =
+    let low = r.few k p.1 in
+    let after = next_place k low in
+    let more = few_arguments v c r l (row_placed rows k w) (place_after k) (omega arith) p.3 in
+    omega arith
+few_arguments v c r (flag s l) rows k h p = few_arguments v c r l (row_flagged rows s) k h p.2
+few_arguments v c r (spaced s x l) rows k h p = few_arguments v c r l (row_valued rows s x) k h p.3
+few_arguments v c r (tied s x l) rows k h p = few_arguments v c r l (row_valued rows s x) k h p.2
+
 -- ---- the value of a setting
 
 module _ (v : Verb) (c : List Rule) (r : IsReader v c) (l : Layout) (w : Walks v c [] 1 l) where
@@ -146,11 +230,30 @@ module _ (v : Verb) (c : List Rule) (r : IsReader v c) (l : Layout) (w : Walks v
 
   -- the flag
   flag_read : (value : Option Text) → IsValueRead last Minimal value → value ≡ value_in (settings_of l) Minimal
-  flag_read value h = go filled_last (value_in (settings_of l) Minimal) (one_is v c l [] 1 Minimal refl w)
+  flag_read value h = go filled_last (value_in (settings_of l) Minimal) refl (one_is v c l [] 1 Minimal refl w)
     where
-      go : IsFilled (list_of 1 l) last → (o : Option Text) → one_of (codes "minimal") (list_of 1 l) ≡ flag_text o → value ≡ o
-      go (inl same) None e = h.absent refl (ap (one_of (codes "minimal")) same ∙ e)
-      go (inl same) (Some x) e = h.raised refl (ap (one_of (codes "minimal")) same ∙ e) ∙ ?
-      go (inr p) o e =
+      go : IsFilled (list_of 1 l) last → (o : Option Text) → value_in (settings_of l) Minimal ≡ o → one_of (codes "minimal") (list_of 1 l) ≡ flag_text o → value ≡ o
+      go (inl same) None is e = h.absent refl (ap (one_of (codes "minimal")) same ∙ e)
+      go (inl same) (Some x) is e = h.raised refl (ap (one_of (codes "minimal")) same ∙ e) ∙ ap (λ z. Some z) (sym (empty_flag v c l [] 1 Minimal refl w x is))
+      go (inr p) o is e =
           let none = no_flag_text o (sym e ∙ one_missing (codes "minimal") (list_of 1 l) p.0) in
           h.lowered refl (ap (one_of (codes "minimal")) p.1 ∙ one_pushed (codes "minimal") (list_of 1 l) default_row p.0 refl) ∙ sym none
+
+  value_read : (s : Setting) (value : Option Text) → IsValueRead last s value → value ≡ value_in (settings_of l) s
+  value_read s value h = go (has_value s) refl
+    where
+      go : (b : Bool) → has_value s ≡ b → value ≡ value_in (settings_of l) s
+      go true e = h.valued e ∙ valued_read s e
+      go false e =
+          let is = only_flag s e in
+          flag_read value (subst (λ z. IsValueRead last z value) is h) ∙ ap (value_in (settings_of l)) (sym is)
+
+  pub settings_read : (ss : List Setting) (given : List Given) → AreRead last ss given → given ≡ picked (settings_of l) ss
+  settings_read [] given h = h
+  settings_read (s ∷ ss) given h =
+      h.given_are ∙ ap (λ o. given_by s o ++ h.others) (value_read s h.value h.is_read) ∙ ap (λ gs. given_by s (value_in (settings_of l) s) ++ gs) (settings_read ss h.others h.more)
+
+  pub arguments_are : arguments_read last ≡ arguments_of l
+  arguments_are =
+      ap₂ (λ a b. listed a ++ listed b) (place_read 1 refl ∙ head_at first_place is_not_first l 1 refl) (place_read 2 refl ∙ second_at l)
+      ∙ listed_all (arguments_of l) (few_arguments v c r l [] 1 (omega arith) w)

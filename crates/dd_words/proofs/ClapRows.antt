@@ -190,14 +190,14 @@ one_passes : (id : Text) (r : Row) (rs : List Row) (o : Option Text) → bytes_e
 one_passes id r rs o e f = one_of_cons id r rs ∙ ap (λ b. cond b (row_text r) (one_of id rs)) e ∙ f
 
 -- a flag and a setting with a value are apart
-apart : (s t : Setting) → has_value s ≡ false → has_value t ≡ true → same_word s t ≡ false
+pub apart : (s t : Setting) → has_value s ≡ false → has_value t ≡ true → same_word s t ≡ false
 apart s t f v = go (same_word s t) ((bytes_eq-Decides (word_of s) (word_of t)).0)
   where
     go : (b : Bool) → (b ≡ true → word_of s ≡ word_of t) → b ≡ false
     go true same = let e : has_value s ≡ has_value t = ap has_value (same_setting s t (same refl)) in absurd (cc)
     go false same = refl
 
-same_word_sym : (s t : Setting) → same_word s t ≡ false → same_word t s ≡ false
+pub same_word_sym : (s t : Setting) → same_word s t ≡ false → same_word t s ≡ false
 same_word_sym s t e = go (same_word t s) ((bytes_eq-Decides (word_of t) (word_of s)).0)
   where
     go : (b : Bool) → (b ≡ true → word_of t ≡ word_of s) → b ≡ false
