@@ -64,7 +64,7 @@ passed v ws e =
 pub found_layout : (v : Verb) (ws : List Text) → fault_of (app_for v) ws ≡ [] → Found v (rules_for v) (reader_for v) [] None 1 ws
 found_layout v ws e = layout_found v (rules_for v) (reader_for v) ws (passed v ws e)
 
-abbrev rows_with : List Rule → List Row → List Row
+abbrev pub rows_with : List Rule → List Row → List Row
 rows_with c rows = fold with_default rows c
 
 pub layout_end : (v : Verb) (l : Layout) → Walks v (rules_for v) [] 1 l → Ends (rules_for v) start (words_of l) (rows_from [] 1 l)

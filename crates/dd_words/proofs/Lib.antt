@@ -21,3 +21,6 @@ pub mod ClapRules
 pub mod ClapWhole
 pub mod ClapRows
 pub mod ClapReads
+pub mod GivenValues
+pub mod PlainWords
+pub mod ClapCommands

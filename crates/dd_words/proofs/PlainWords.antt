@@ -1,0 +1,148 @@
+-- Arguments and values of a command begin with no dash.
+use Rattle.std.proofs.Common.{◌≡◌, ◌≢◌, ◌≤◌, ◌<◌, ◌++◌, ◌==◌, ℕ, suc, zero, inl, inr, Bool, true, false, cond, Option, Some, None, List, [], ◌∷◌, length, refl, sym, ap, ◌∙◌, subst, arith}
+use Rattle.std.specs.Char.{IsAsciiDigit}
+use Rattle.std.specs.List.{All, AllByRecursion, onto_first, slice_split}
+use Rattle.std.proofs.lemmas.List.Elements.{All-get_or}
+use Rattle.dd_model.specs.declared.allowed.Allowed.{Allowed}
+use Rattle.dd_words.specs.declared.settings.Setting.{Setting}
+use Rattle.dd_words.specs.declared.settings.Setting.TheVariants.{Tiles, Vertices, LeastFace, LeastDegree, Faces, Degrees, Minimal, Workers, Round, Pause, Checkpoint, Cell}
+use Rattle.dd_words.specs.declared.commands.Command.{Command}
+use Rattle.dd_words.specs.declared.commands.Command.TheVariants as command
+use Rattle.dd_words.specs.declared.commands.Frame.{Frame}
+use Rattle.dd_words.specs.declared.commands.Frame.TheVariants.{Square, Hex}
+use Rattle.dd_words.specs.Values.{Text, IsNumber, IsNumberIn, IsRange, IsItem, AreBounds, AsksForNumbers, IsSetWord, IsName, items_of}
+use Rattle.dd_words.specs.Layout.{Given, AreSingle, Has, Lacks, IsPlain, has_setting, has_value}
+use Rattle.dd_words.specs.Grammar.{IsNumberOr, IsNumberIfGiven, IsNameIfGiven, IsSet, IsFramed, IsRun, word_of_frame, verb_of, IsSaid}
+use Rattle.dd_words.proofs.OneValue.{not_both, same_value, only_number}
+
+digit_is_no_dash : (b : ℕ) → IsAsciiDigit b → b ≢ 45
+digit_is_no_dash b h e = omega arith
+
+number_plain : (w : Text) (n : ℕ) → IsNumber w n → IsPlain w
+number_plain [] n h = tt
+number_plain (b ∷ bs) n h = digit_is_no_dash b (All-get_or IsAsciiDigit (b ∷ bs) 0 b (omega arith) h.digits)
+
+pub name_plain : (w : Text) → IsName w → IsPlain w
+name_plain [] h = tt
+name_plain (b ∷ bs) h = h
+
+-- a list of digits and more
+front_plain : (w rest : Text) (n : ℕ) → IsNumber w n → IsPlain (w ++ rest)
+front_plain [] rest n h = absurd (let some = h.some in omega arith)
+front_plain (b ∷ bs) rest n h = digit_is_no_dash b (All-get_or IsAsciiDigit (b ∷ bs) 0 b (omega arith) h.digits)
+
+item_plain : (w : Text) → AsksForNumbers w → IsPlain w
+item_plain w h = go h.item.bounds
+  where
+    go : AreBounds h.low h.high w → IsPlain w
+    go (inl b) = number_plain w h.low b.0
+    go (inr r) = subst IsPlain (sym r.spelled) (front_plain r.from (45 ∷ r.to) h.low r.is_from)
+
+-- the first item begins as the word does
+first_item : (b : ℕ) (items : List Text) → AllByRecursion AsksForNumbers (onto_first b items) → b ≢ 45
+first_item b [] h = item_plain (b ∷ []) h.0
+first_item b (x ∷ xs) h = item_plain (b ∷ x) h.0
+
+set_plain : (w : Text) (a : Allowed) → IsSetWord w a → IsPlain w
+set_plain [] a h = tt
+set_plain (b ∷ bs) a h = λ e. first_item b (items_of bs) (split e h.items) e
+  where
+    split : b ≡ 45 → AllByRecursion AsksForNumbers (items_of (b ∷ bs)) → AllByRecursion AsksForNumbers (onto_first b (items_of bs))
+    split e all = subst (λ t. AllByRecursion AsksForNumbers (cond t ([] ∷ items_of bs) (onto_first b (items_of bs)))) (ap (λ z. z == 44) e) all
+
+frame_plain : (f : Frame) → IsPlain (word_of_frame f)
+frame_plain Square = λ e. absurd (omega (arith, e))
+frame_plain Hex = λ e. absurd (omega (arith, e))
+
+module _ (gs : List Given) (single : AreSingle gs) where
+  or_plain : (s : Setting) (low high default n : ℕ) (x : Text) → IsNumberOr gs s low high default n → Has gs s x → IsPlain x
+  or_plain s low high default n x h has = number_plain x n (only_number gs s low high default n x single has h).number
+
+  if_plain : (s : Setting) (low high : ℕ) (n : Option ℕ) (x : Text) → IsNumberIfGiven gs s low high n → Has gs s x → IsPlain x
+  if_plain s low high None x h has = absurd (not_both gs s x has h)
+  if_plain s low high (Some n) x h has = subst IsPlain (same_value gs s h.word x single h.has has) (number_plain h.word n h.number.number)
+
+  name_if_plain : (s : Setting) (n : Option Text) (x : Text) → IsNameIfGiven gs s n → Has gs s x → IsPlain x
+  name_if_plain s None x h has = absurd (not_both gs s x has h)
+  name_if_plain s (Some n) x h has = subst IsPlain (same_value gs s n x single h.0 has) (name_plain n h.1)
+
+  items_plain : (s least : Setting) (a : Allowed) (x : Text) → IsSet gs s least a → Has gs s x → IsPlain x
+  items_plain s least a x (inl h) has = subst IsPlain (same_value gs s h.word x single h.has has) (set_plain h.word a h.is_set)
+  items_plain s least a x (inr h) has = absurd (not_both gs s x has h.alone)
+
+  least_plain : (s least : Setting) (a : Allowed) (x : Text) → IsSet gs s least a → Has gs least x → IsPlain x
+  least_plain s least a x (inl h) has = absurd (not_both gs least x has h.alone)
+  least_plain s least a x (inr h) has = or_plain least 1 36 3 h.first x h.is_first has
+
+  cell_plain : (f : Frame) (x : Text) → IsFramed gs f → Has gs Cell x → IsPlain x
+  cell_plain f x (inl h) has = absurd (not_both gs Cell x has h.0)
+  cell_plain f x (inr h) has = subst IsPlain (same_value gs Cell (word_of_frame f) x single h has) (frame_plain f)
+
+  run_plain : (s : Setting) (workers round : ℕ) (pause : Option ℕ) (x : Text) → IsRun gs workers round pause → Rattle.dd_words.specs.Layout.is_of_run s ≡ true → Has gs s x → IsPlain x
+  run_plain Workers workers round pause x h o has = or_plain Workers 1 64 1 workers x h.workers_are has
+  run_plain Round workers round pause x h o has = or_plain Round 1 4096 64 round x h.round_is has
+  run_plain Pause workers round pause x h o has = if_plain Pause 1 1000000000 pause x h.pause_is has
+  run_plain Tiles workers round pause x h o has = absurd (cc)
+  run_plain Vertices workers round pause x h o has = absurd (cc)
+  run_plain LeastFace workers round pause x h o has = absurd (cc)
+  run_plain LeastDegree workers round pause x h o has = absurd (cc)
+  run_plain Faces workers round pause x h o has = absurd (cc)
+  run_plain Degrees workers round pause x h o has = absurd (cc)
+  run_plain Minimal workers round pause x h o has = absurd (cc)
+  run_plain Checkpoint workers round pause x h o has = absurd (cc)
+  run_plain Cell workers round pause x h o has = absurd (cc)
+
+  -- the value of each setting
+  pub value_plain : (c : Command) (xs : List Text) → IsSaid c xs gs → (s : Setting) (x : Text) → has_setting (verb_of c) s ≡ true → has_value s ≡ true → Has gs s x → IsPlain x
+  value_plain (command.Catalogue q workers round pause checkpoint) (n ∷ []) h Tiles x o v has = or_plain Tiles 1 36 0 q.tiles x h.request.tiles has
+  value_plain (command.Catalogue q workers round pause checkpoint) (n ∷ []) h Vertices x o v has = or_plain Vertices 1 36 0 q.vertices x h.request.vertices has
+  value_plain (command.Catalogue q workers round pause checkpoint) (n ∷ []) h LeastFace x o v has = least_plain Faces LeastFace q.faces x h.request.faces has
+  value_plain (command.Catalogue q workers round pause checkpoint) (n ∷ []) h LeastDegree x o v has = least_plain Degrees LeastDegree q.degrees x h.request.degrees has
+  value_plain (command.Catalogue q workers round pause checkpoint) (n ∷ []) h Faces x o v has = items_plain Faces LeastFace q.faces x h.request.faces has
+  value_plain (command.Catalogue q workers round pause checkpoint) (n ∷ []) h Degrees x o v has = items_plain Degrees LeastDegree q.degrees x h.request.degrees has
+  value_plain (command.Catalogue q workers round pause checkpoint) (n ∷ []) h Minimal x o v has = absurd (cc)
+  value_plain (command.Catalogue q workers round pause checkpoint) (n ∷ []) h Workers x o v has = run_plain Workers workers round pause x h.run refl has
+  value_plain (command.Catalogue q workers round pause checkpoint) (n ∷ []) h Round x o v has = run_plain Round workers round pause x h.run refl has
+  value_plain (command.Catalogue q workers round pause checkpoint) (n ∷ []) h Pause x o v has = run_plain Pause workers round pause x h.run refl has
+  value_plain (command.Catalogue q workers round pause checkpoint) (n ∷ []) h Checkpoint x o v has = name_if_plain Checkpoint checkpoint x h.checkpoint_is has
+  value_plain (command.Catalogue q workers round pause checkpoint) (n ∷ []) h Cell x o v has = absurd (cc)
+  value_plain (command.Catalogue q workers round pause checkpoint) [] h s x o v has = elim h [ ]
+  value_plain (command.Catalogue q workers round pause checkpoint) (n ∷ m ∷ ns) h s x o v has = elim h [ ]
+  value_plain (command.Resume name workers round pause) (word ∷ []) h s x o v has = run_plain s workers round pause x h.run o has
+  value_plain (command.Resume name workers round pause) [] h s x o v has = elim h [ ]
+  value_plain (command.Resume name workers round pause) (n ∷ m ∷ ns) h s x o v has = elim h [ ]
+  value_plain (command.Draw file frame) (word ∷ []) h Tiles x o v has = absurd (cc)
+  value_plain (command.Draw file frame) (word ∷ []) h Vertices x o v has = absurd (cc)
+  value_plain (command.Draw file frame) (word ∷ []) h LeastFace x o v has = absurd (cc)
+  value_plain (command.Draw file frame) (word ∷ []) h LeastDegree x o v has = absurd (cc)
+  value_plain (command.Draw file frame) (word ∷ []) h Faces x o v has = absurd (cc)
+  value_plain (command.Draw file frame) (word ∷ []) h Degrees x o v has = absurd (cc)
+  value_plain (command.Draw file frame) (word ∷ []) h Minimal x o v has = absurd (cc)
+  value_plain (command.Draw file frame) (word ∷ []) h Workers x o v has = absurd (cc)
+  value_plain (command.Draw file frame) (word ∷ []) h Round x o v has = absurd (cc)
+  value_plain (command.Draw file frame) (word ∷ []) h Pause x o v has = absurd (cc)
+  value_plain (command.Draw file frame) (word ∷ []) h Checkpoint x o v has = absurd (cc)
+  value_plain (command.Draw file frame) (word ∷ []) h Cell x o v has = cell_plain frame x h.frame_is has
+  value_plain (command.Draw file frame) [] h s x o v has = elim h [ ]
+  value_plain (command.Draw file frame) (n ∷ m ∷ ns) h s x o v has = elim h [ ]
+  value_plain (command.Exercise start count) xs h s x o v has = absurd (cc)
+  value_plain (command.File kind file) xs h s x o v has = absurd (cc)
+
+-- the arguments
+pub argument_plain : (c : Command) (xs : List Text) (gs : List Given) → IsSaid c xs gs → AllByRecursion IsPlain xs
+argument_plain (command.Catalogue q workers round pause checkpoint) (n ∷ []) gs h = (number_plain n q.chambers h.request.chambers.number, tt)
+argument_plain (command.Catalogue q workers round pause checkpoint) [] gs h = tt
+argument_plain (command.Catalogue q workers round pause checkpoint) (n ∷ m ∷ ns) gs h = elim h [ ]
+argument_plain (command.Resume name workers round pause) (word ∷ []) gs h = (name_plain word (subst IsName (sym h.same) h.is_name), tt)
+argument_plain (command.Resume name workers round pause) [] gs h = tt
+argument_plain (command.Resume name workers round pause) (n ∷ m ∷ ns) gs h = elim h [ ]
+argument_plain (command.Draw file frame) (word ∷ []) gs h = (name_plain word (subst IsName (sym h.same) h.is_name), tt)
+argument_plain (command.Draw file frame) [] gs h = tt
+argument_plain (command.Draw file frame) (n ∷ m ∷ ns) gs h = elim h [ ]
+argument_plain (command.Exercise start count) (first ∷ second ∷ []) gs h = (number_plain first start h.start_is.number, (number_plain second count h.count_is.number, tt))
+argument_plain (command.Exercise start count) [] gs h = tt
+argument_plain (command.Exercise start count) (n ∷ []) gs h = elim h [ ]
+argument_plain (command.Exercise start count) (n ∷ m ∷ o ∷ ns) gs h = elim h [ ]
+argument_plain (command.File kind file) (word ∷ []) gs h = (name_plain word (subst IsName (sym h.same) h.is_name), tt)
+argument_plain (command.File kind file) [] gs h = tt
+argument_plain (command.File kind file) (n ∷ m ∷ ns) gs h = elim h [ ]
