@@ -5,7 +5,7 @@ use Rattle.std.specs.Option.{option_map_or}
 use Rattle.std.proofs.lemmas.Bool.Decides.{nat_tests}
 use Rattle.std.specs.List.{AllByRecursion}
 use Rattle.std.proofs.lemmas.Slice.Eq.{bytes_eq-Decides}
-use Rattle.clap.specs.Words.{Rule, Row, App, built}
+use Rattle.clap.specs.Words.{is_simple, Rule, Row, App, built}
 use Rattle.clap.specs.Walk.{arg_by_long, arg_by_id, arg_by_index, arg_by_short, with_default, has_row, is_empty, default_rows, reading_by}
 use Rattle.clap.specs.Simple.{filled}
 use Rattle.clap.specs.Faults.{is_simple_and_free, default_fault, defaults_fault, given_default_fault, check_fault}
@@ -40,6 +40,14 @@ simple_for verb.Resume = refl
 simple_for verb.Draw = refl
 simple_for verb.Exercise = refl
 simple_for (verb.File kind) = refl
+
+pub plain_for : (v : Verb) → is_simple (app_for v) ≡ true
+unfolding clap_on_literals
+plain_for verb.Catalogue = refl
+plain_for verb.Resume = refl
+plain_for verb.Draw = refl
+plain_for verb.Exercise = refl
+plain_for (verb.File kind) = refl
 
 -- no rule stands at a place that is none of its own
 not_at : (a : Rule) (c : List Rule) (k i : ℕ) → a.index ≡ Some i → (i == k) ≡ false → arg_by_index c k ≡ None → arg_by_index (a ∷ c) k ≡ None

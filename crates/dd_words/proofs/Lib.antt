@@ -2,10 +2,7 @@ pub mod Parting
 pub mod Told
 pub mod FormLemmas
 pub mod FrontWords
-pub mod NoForms
-pub mod Taking
 pub mod Numbers
-pub mod TakingSteps
 pub mod Items
 pub mod OneValue
 pub mod Faults
@@ -24,3 +21,6 @@ pub mod ClapReads
 pub mod GivenValues
 pub mod PlainWords
 pub mod ClapCommands
+pub mod WordLists
+pub mod MatchLemmas
+pub mod NoneGiven

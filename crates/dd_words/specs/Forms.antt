@@ -2,8 +2,6 @@
 use Rattle.std.specs.Prelude.{◌≡◌}
 use Rattle.dd_words.specs.declared.settings.Setting.{Setting}
 use Rattle.dd_words.specs.declared.verbs.Verb.{Verb}
-use Rattle.dd_words.specs.declared.forms.Form.{Form as Word}
-use Rattle.dd_words.specs.declared.forms.Form.TheVariants as word
 use Rattle.dd_words.specs.Values.{Text}
 use Rattle.dd_words.specs.Layout.{IsPlain, IsFlagOf, IsValuedOf, dashes, dashed, assigned}
 
@@ -22,11 +20,3 @@ IsForm verb word end = word ≡ dashes
 IsForm verb word (flag setting) = IsFlagOf verb setting × (word ≡ dashed setting)
 IsForm verb word (spaced setting) = IsValuedOf verb setting × (word ≡ dashed setting)
 IsForm verb word (tied setting value) = IsValuedOf verb setting × (word ≡ assigned setting value)
-
--- the form that the program names
-abbrev pub form_of : Word → Form
-form_of word.Argument = argument
-form_of word.End = end
-form_of (word.Flag setting) = flag setting
-form_of (word.Spaced setting) = spaced setting
-form_of (word.Tied setting value) = tied setting value.now

@@ -1,3 +1,8 @@
+ghost use Rattle.std.specs.Prelude.{◌≡◌, ◌≢◌};
+ghost use Rattle.clap.specs.Words.{kind_of};
+
+use clap::Error;
+use clap::error::ErrorKind;
 use std::alloc::{AllocError, AllocFailed};
 
 /// Why no command was read.
@@ -7,6 +12,18 @@ pub enum WordsFault {
     NotTaken,
     /// Want of memory.
     Memory,
+}
+
+impl WordsFault {
+    /// What it means that clap reads no words: want of memory, or that it does not take them.
+    pub(crate) fn of(error: &Error) -> WordsFault
+        ensures { result ≡ WordsFault.NotTaken → kind_of error.now ≢ ErrorKind.OutOfMemory }
+    {
+        match error.kind() {
+            ErrorKind::OutOfMemory => WordsFault::Memory,
+            _ => WordsFault::NotTaken,
+        }
+    }
 }
 
 impl From<AllocError> for WordsFault {

@@ -1,102 +1,110 @@
-ghost use Rattle.std.specs.Prelude.{◌≡◌, ◌≢◌, ◌∷◌, ◌++◌, ◌≤◌, map, length, IfOk};
+ghost use Rattle.std.specs.Prelude.{◌≡◌, ◌≢◌, ◌++◌, [], map, option_map, IfOk};
 ghost use Rattle.std.specs.Rc.{rc_str_bytes};
-ghost use Rattle.dd_words.specs.Layout.{IsLaid};
-ghost use Rattle.dd_words.specs.Laying.{CanBeLaid, IsTaken, IsValueTaken, arguments_in, settings_in};
+ghost use Rattle.clap.specs.Words.{fault_of, found_of, rows_of};
+ghost use Rattle.dd_words.specs.Apps.{app_for};
+ghost use Rattle.dd_words.specs.Laying.{texts, arguments_in, settings_in};
+ghost use Rattle.dd_words.specs.Settings.{given_of};
+ghost use Rattle.dd_words.specs.Matching.{IsValueRead, AreRead, AreMatched, arguments_read, listed, given_by};
 
+use crate::apps::{FIRST, SECOND, SETTINGS, app_for};
 use crate::fault::WordsFault;
-use crate::forms::{Form, read_form};
 use crate::settings::{Given, Setting};
 use crate::verbs::Verb;
-use std::alloc::Global;
+use clap::ArgMatches;
+use std::alloc::{AllocError, Global};
 use std::rc::RcStr;
 
-/// The arguments and the settings of a command, each in its order.
+/// The arguments and the settings of a command.
 #[derive(Drop)]
 pub struct Laid<'a> {
-    /// The arguments.
+    /// The arguments, in their order.
     pub arguments: Vec<&'a str>,
     /// The settings.
     pub settings: Vec<Given<'a>>,
 }
 
-/// The arguments and the settings of the words after a verb.
+/// The arguments and the settings of the words after a verb, as clap reads them.
 pub fn lay_out<'a>(alloc: Global, verb: Verb, words: &'a [RcStr]) -> Result<Laid<'a>, WordsFault>
-    ensures laid { IfOk result (λ laid. IsLaid verb (map rc_str_bytes words.now) (arguments_in laid) (settings_in laid)) }
-    ensures not_taken { result ≡ Err WordsFault.NotTaken → CanBeLaid verb (map rc_str_bytes words.now) → ⊥ }
+    ensures matched { IfOk result (λ laid. AreMatched verb (map rc_str_bytes words.now) (arguments_in laid) (settings_in laid)) }
+    ensures not_taken { result ≡ Err WordsFault.NotTaken → fault_of (app_for verb) (map rc_str_bytes words.now) ≢ [] }
 {
-    let mut laid = Laid {
-        arguments: Vec::new(alloc),
-        settings: Vec::new(alloc),
+    let matches = match app_for(alloc, verb)?.try_get_matches_from(words) {
+        Ok(matches) => matches,
+        Err(error) => return Err(WordsFault::of(&error)),
     };
-    let mut rest = words;
-    while let [word, after @ ..] = rest {
-        rest = laid.take_front(verb, word, after)?;
-    }
-    Ok(laid)
+    let arguments = read_arguments(alloc, &matches)?;
+    let settings = read_settings(alloc, &matches, SETTINGS.as_slice())?;
+    Ok(Laid {
+        arguments,
+        settings,
+    })
 }
 
-impl<'a> Laid<'a> {
-    /// Takes a word, with its value where that is the next word, and answers the words that are left.
-    fn take_front(
-        &mut self,
-        verb: Verb,
-        word: &'a RcStr,
-        after: &'a [RcStr],
-    ) -> Result<&'a [RcStr], WordsFault>
-        ensures taken { IfOk result (λ left. IsTaken verb (rc_str_bytes word.now ∷ map rc_str_bytes after.now) (map rc_str_bytes left.now) self.old self.new) }
-        ensures shorter { IfOk result (λ left. length left.now ≤ length after.now) }
-        ensures not_taken { result ≡ Err WordsFault.NotTaken → CanBeLaid verb (rc_str_bytes word.now ∷ map rc_str_bytes after.now) → ⊥ }
-    {
-        match read_form(verb, word.as_str()) {
-            None => Err(WordsFault::NotTaken),
-            Some(Form::Argument) => {
-                self.arguments.push(word.as_str())?;
-                Ok(after)
-            }
-            Some(Form::End) => {
-                self.take_arguments(after)?;
-                Ok(&after[after.len()..])
-            }
-            Some(Form::Flag(setting)) => {
-                self.settings.push(Given { setting, value: "" })?;
-                Ok(after)
-            }
-            Some(Form::Tied(setting, value)) => {
-                self.settings.push(Given { setting, value })?;
-                Ok(after)
-            }
-            Some(Form::Spaced(setting)) => self.take_value(setting, after),
-        }
-    }
+/// The arguments that clap found.
+fn read_arguments<'a>(
+    alloc: Global,
+    matches: &ArgMatches<'a>,
+) -> Result<Vec<&'a str>, AllocError>
+    ensures { IfOk result (λ arguments. texts arguments.items ≡ arguments_read (rows_of (found_of matches.now))) }
+{
+    let mut arguments = Vec::new(alloc);
+    add_argument(&mut arguments, matches.get_str(FIRST))?;
+    add_argument(&mut arguments, matches.get_str(SECOND))?;
+    Ok(arguments)
+}
 
-    /// All words that are left are arguments.
-    fn take_arguments(&mut self, words: &'a [RcStr]) -> Result<(), WordsFault>
-        ensures taken { IfOk result (λ _. arguments_in self.new ≡ arguments_in self.old ++ map rc_str_bytes words.now) }
-        ensures kept { IfOk result (λ _. settings_in self.new ≡ settings_in self.old) }
-        ensures not_taken { result ≢ Err WordsFault.NotTaken }
-    {
-        for word in words {
-            self.arguments.push(word.as_str())?;
-        }
-        Ok(())
+/// An argument that may be there joins the others.
+fn add_argument<'a>(
+    arguments: &mut Vec<&'a str>,
+    argument: Option<&'a str>,
+) -> Result<(), AllocError>
+    ensures { IfOk result (λ _. texts arguments.new.items ≡ texts arguments.old.items ++ listed (option_map (λ s. s.now) argument.entry)) }
+{
+    if let Some(word) = argument {
+        arguments.push(word)?;
     }
+    Ok(())
+}
 
-    /// The next word is the value of a setting.
-    fn take_value(
-        &mut self,
-        setting: Setting,
-        words: &'a [RcStr],
-    ) -> Result<&'a [RcStr], WordsFault>
-        ensures taken { IfOk result (λ left. IsValueTaken setting (map rc_str_bytes words.now) (map rc_str_bytes left.now) self.old self.new) }
-        ensures not_taken { result ≡ Err WordsFault.NotTaken → length words.now ≡ 0 }
-    {
-        let [value, after @ ..] = words else {
-            return Err(WordsFault::NotTaken);
-        };
-        self.settings.push(Given {
-            setting,
-            value: value.as_str(),
-        })?;
-        Ok(after)
+/// The settings that clap found, of these.
+fn read_settings<'a>(
+    alloc: Global,
+    matches: &ArgMatches<'a>,
+    settings: &[Setting],
+) -> Result<Vec<Given<'a>>, AllocError>
+    ensures { IfOk result (λ given. AreRead (rows_of (found_of matches.now)) settings.now (map given_of given.items)) }
+{
+    let mut given = Vec::new(alloc);
+    for setting in settings {
+        add_setting(&mut given, *setting, value_in(matches, *setting))?;
+    }
+    Ok(given)
+}
+
+/// A setting that may be given joins the others.
+fn add_setting<'a>(
+    given: &mut Vec<Given<'a>>,
+    setting: Setting,
+    value: Option<&'a str>,
+) -> Result<(), AllocError>
+    ensures { IfOk result (λ _. map given_of given.new.items ≡ map given_of given.old.items ++ given_by setting (option_map (λ s. s.now) value.entry)) }
+{
+    if let Some(value) = value {
+        given.push(Given { setting, value })?;
+    }
+    Ok(())
+}
+
+/// The value that clap found of a setting; that of a flag is empty.
+fn value_in<'a>(matches: &ArgMatches<'a>, setting: Setting) -> Option<&'a str>
+    ensures { IsValueRead (rows_of (found_of matches.now)) setting (option_map (λ s. s.now) result) }
+{
+    if setting.has_value() {
+        return matches.get_str(setting.name());
+    }
+    if matches.get_flag(setting.name()) {
+        Some("")
+    } else {
+        None
     }
 }

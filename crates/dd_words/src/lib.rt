@@ -1,9 +1,9 @@
 //! The words of a command line, and the commands that they ask for.
 #![tactic(auto)]
 
+mod apps;
 mod commands;
 mod fault;
-mod forms;
 mod given;
 mod laws;
 mod layouts;

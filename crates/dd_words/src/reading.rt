@@ -12,7 +12,7 @@ use crate::fault::WordsFault;
 use crate::given::{frame_of, name_if_given, read_name};
 use crate::layouts::lay_out;
 use crate::requests::{Run, read_request, read_run};
-use crate::settings::{Given, Setting, are_single};
+use crate::settings::{Given, Setting};
 use crate::values::read_number_in;
 use crate::verbs::Verb;
 use std::alloc::Global;
@@ -46,9 +46,6 @@ fn read_from(alloc: Global, first: &RcStr, rest: &[RcStr]) -> Result<Command, Wo
     let laid = lay_out(alloc, verb, rest)?;
     let arguments = laid.arguments.as_slice();
     let settings = laid.settings.as_slice();
-    if !are_single(settings) {
-        return Err(WordsFault::NotTaken);
-    }
     read_command(alloc, verb, arguments, settings)
 }
 

@@ -1,8 +1,8 @@
-ghost use Rattle.std.specs.Prelude.{◌≡◌, ◌⊎◌, ◌↔◌, ◌≤◌, ℕ, true, false, IfSome, IfNone};
+ghost use Rattle.std.specs.Prelude.{◌≡◌, ◌⊎◌, ◌↔◌, ◌≤◌, ◌<◌, ℕ, true, false, IfSome, IfNone};
 ghost use Rattle.dd_model.specs.Allowed.{IsIn};
+ghost use Rattle.dd_words.specs.Parted.{IsParted, Avoids};
 ghost use Rattle.dd_words.specs.Values.{AreBounds, IsItem, AsksForNumbers, IsAdded, IsSetWord};
 
-use crate::forms::parted;
 use crate::values::read_number;
 use dd_model::Allowed;
 
@@ -84,4 +84,13 @@ fn read_bounds(word: &str) -> Option<(u64, u64)>
             Some((number, number))
         }
     }
+}
+
+/// What stands before and after the first separator, and None where there is none.
+fn parted(text: &str, separator: char) -> Option<(&str, &str)>
+    requires { separator < 128 }
+    ensures some { IfSome result (λ parts. IsParted separator text.now parts.0.now parts.1.now) }
+    ensures none { IfNone result (Avoids separator text.now) }
+{
+    text.split_once(separator)
 }

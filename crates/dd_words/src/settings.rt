@@ -1,5 +1,5 @@
 ghost use Rattle.std.specs.Prelude.{◌≡◌, ◌↔◌, IfSome, IfNone, IsTrue, map};
-ghost use Rattle.dd_words.specs.Layout.{word_of, has_value, has_setting, Has, Lacks, AreSingle};
+ghost use Rattle.dd_words.specs.Layout.{word_of, has_value, has_setting, Has, Lacks};
 ghost use Rattle.dd_words.specs.Settings.{given_of};
 
 use crate::verbs::Verb;
@@ -43,25 +43,23 @@ pub struct Given<'a> {
 }
 
 impl Setting {
-    /// The setting of an option's name, and None where the name is none.
-    pub fn named(name: &str) -> Option<Setting>
-        ensures some { IfSome result (λ setting. name.now ≡ word_of setting) }
-        ensures none { IfNone result ((setting : Setting) → name.now ≡ word_of setting → ⊥) }
+    /// The name of the option.
+    pub fn name(self) -> &'static str
+        ensures { result.now ≡ word_of self }
     {
-        match name {
-            "tiles" => Some(Setting::Tiles),
-            "vertices" => Some(Setting::Vertices),
-            "least-face" => Some(Setting::LeastFace),
-            "least-degree" => Some(Setting::LeastDegree),
-            "faces" => Some(Setting::Faces),
-            "degrees" => Some(Setting::Degrees),
-            "minimal" => Some(Setting::Minimal),
-            "workers" => Some(Setting::Workers),
-            "round" => Some(Setting::Round),
-            "pause" => Some(Setting::Pause),
-            "checkpoint" => Some(Setting::Checkpoint),
-            "cell" => Some(Setting::Cell),
-            _ => None,
+        match self {
+            Setting::Tiles => "tiles",
+            Setting::Vertices => "vertices",
+            Setting::LeastFace => "least-face",
+            Setting::LeastDegree => "least-degree",
+            Setting::Faces => "faces",
+            Setting::Degrees => "degrees",
+            Setting::Minimal => "minimal",
+            Setting::Workers => "workers",
+            Setting::Round => "round",
+            Setting::Pause => "pause",
+            Setting::Checkpoint => "checkpoint",
+            Setting::Cell => "cell",
         }
     }
 
@@ -106,18 +104,4 @@ pub fn value_of<'a>(settings: &[Given<'a>], setting: Setting) -> Option<&'a str>
         }
     }
     None
-}
-
-/// Whether each setting stands at most once. Of any thirteen settings two are one, so that few are looked at.
-pub fn are_single(settings: &[Given<'_>]) -> bool
-    ensures { IsTrue result ↔ AreSingle (map given_of settings.now) }
-{
-    let mut rest = settings;
-    while let [given, after @ ..] = rest {
-        if value_of(after, given.setting).is_some() {
-            return false;
-        }
-        rest = after;
-    }
-    true
 }

@@ -1,6 +1,6 @@
 use Rattle.std.proofs.Common.{map}
 use Rattle.dd_words.specs.Settings.{given_of}
-use Rattle.dd_words.proofs.NoForms.{none_then}
+use Rattle.dd_words.proofs.NoneGiven.{none_then}
 use Rattle.dd_words.proofs.OneValue.{only_number}
 use Rattle.dd_words.proofs.given.number_or.Goals as goal
 

@@ -1,7 +1,7 @@
 use Rattle.std.proofs.Common.{sym, subst}
 use Rattle.dd_words.specs.declared.commands.Command.{Command}
 use Rattle.dd_words.specs.Grammar.{IsCommand}
-use Rattle.dd_words.proofs.TakingSteps.{first_and_rest}
+use Rattle.dd_words.proofs.WordLists.{first_and_rest}
 use Rattle.dd_words.proofs.reading.read_words.Goals as goal
 
 pub returns-clause-not_taken : goal.returns-clause-not_taken

@@ -1,4 +1,4 @@
-use Rattle.dd_words.proofs.NoForms.{given_none}
+use Rattle.dd_words.proofs.NoneGiven.{given_none}
 use Rattle.dd_words.proofs.requests.read_request.Goals as goal
 
 pub returns-in_err-tiles-clause-none : goal.returns-in_err-tiles-clause-none

@@ -1,4 +1,4 @@
-use Rattle.dd_words.proofs.NoForms.{given_none}
+use Rattle.dd_words.proofs.NoneGiven.{given_none}
 use Rattle.dd_words.proofs.Items.{no_bounds_parted, no_bounds_alone}
 use Rattle.dd_words.proofs.sets.read_bounds.Goals as goal
 

@@ -1,6 +1,6 @@
 use Rattle.std.proofs.lemmas.Str.Pattern.{split_parts}
 use Rattle.dd_words.proofs.Parting.{parted_some, parted_none}
-use Rattle.dd_words.proofs.forms.parted.Goals as goal
+use Rattle.dd_words.proofs.sets.parted.Goals as goal
 
 pub returns-clause-some : goal.returns-clause-some
 returns-clause-some c =

@@ -1,0 +1,115 @@
+-- What the program reads of clap's matches.
+use Rattle.std.proofs.Common.{◌≡◌, ◌≢◌, ◌∙◌, inl, inr, ◌++◌, ◌<◌, ◌+◌, ℕ, Bool, true, false, codes, List, [], ◌∷◌, Option, Some, None, length, take, get_or, map, refl, sym, ap, ap₂, subst, suc, arith, take-suc, append_assoc, Result, Ok, Err, IfOk}
+use Rattle.std.proofs.lemmas.List.{append-nil}
+use Rattle.clap.specs.Words.{App, Row, HasKind, Kinds, fault_of, kind_of, is_simple_and_free, first_value, first_of, one_text, one_of, rows_of, matches_of, app_of, is_simple, HasMatchesOf, found_of}
+use Rattle.clap.specs.declared.parser.matches.Found.{Found}
+use Rattle.clap.specs.declared.parser.matches.ArgMatches.{ArgMatches}
+use Rattle.clap.proofs.WalkLemmas.{first_value-rows, one_text-rows}
+use Rattle.clap.specs.declared.builder.command.Command.{Command}
+use Rattle.std.specs.declared.alloc.AllocError.{AllocError}
+use Rattle.clap.specs.declared.error.Error.{Error}
+use Rattle.clap.specs.declared.error.kind.ErrorKind.TheVariants as kind
+use Rattle.dd_words.specs.declared.settings.Setting.{Setting}
+use Rattle.dd_words.specs.declared.verbs.Verb.{Verb}
+use Rattle.dd_words.specs.Values.{Text}
+use Rattle.dd_words.specs.Layout.{Given, word_of, has_value}
+use Rattle.dd_words.specs.Apps.{first_place, second_place, app_for, all_settings, with_places, with_settings}
+use Rattle.dd_words.specs.Matching.{IsValueRead, given_by, BeginsWith, AreRead, AreMatched, listed, arguments_read}
+use Rattle.dd_words.proofs.ClapRules.{simple_for, plain_for}
+
+-- ---- one setting
+
+pub text_read : (f : Found) (s : Setting) (value : Option Text) (name : Text) → name ≡ word_of s → has_value s ≡ true → value ≡ first_value f name → IsValueRead (rows_of f) s value
+text_read f s value name is has e = record {
+  valued = λ _. e ∙ first_value-rows f name ∙ ap (λ z. first_of z (rows_of f)) is;
+  absent = λ no _. absurd (cc);
+  raised = λ no _. absurd (cc);
+  lowered = λ no _. absurd (cc);
+}
+
+text_at : (f : Found) (name id : Text) (o : Option Text) → name ≡ id → one_of id (rows_of f) ≡ o → one_text f name ≡ o
+text_at f name id o is e = one_text-rows f name ∙ ap (λ z. one_of z (rows_of f)) is ∙ e
+
+pub flag_raised : (f : Found) (s : Setting) (name : Text) (flag : Bool) → name ≡ word_of s → has_value s ≡ false → flag ≡ true
+    → (one_text f name ≡ None → flag ≡ false) → (one_text f name ≡ Some (codes "false") → flag ≡ false) → IsValueRead (rows_of f) s (Some [])
+flag_raised f s name flag is has up none down = record {
+  valued = λ other. absurd (cc);
+  absent = λ _ e. let bad = none (text_at f name (word_of s) None is e) in absurd (cc);
+  raised = λ _ _. refl;
+  lowered = λ _ e. let bad = down (text_at f name (word_of s) _ is e) in absurd (cc);
+}
+
+pub flag_lowered : (f : Found) (s : Setting) (name : Text) (flag : Bool) → name ≡ word_of s → has_value s ≡ false → flag ≡ false
+    → (one_text f name ≡ Some (codes "true") → flag ≡ true) → IsValueRead (rows_of f) s None
+flag_lowered f s name flag is has low up = record {
+  valued = λ other. absurd (cc);
+  absent = λ _ _. refl;
+  raised = λ _ e. let bad = up (text_at f name (word_of s) _ is e) in absurd (cc);
+  lowered = λ _ _. refl;
+}
+
+-- ---- the settings
+
+pub read_more : (rows : List Row) (ss : List Setting) (s : Setting) (gs : List Given) (x : Option Text) → AreRead rows ss gs → IsValueRead rows s x
+    → AreRead rows (ss ++ s ∷ []) (gs ++ given_by s x)
+read_more rows [] s gs x h r = record {
+  value = x;
+  others = [];
+  is_read = r;
+  given_are = ap (λ z. z ++ given_by s x) h ∙ sym (append-nil (given_by s x));
+  more = refl;
+}
+read_more rows (t ∷ ss) s gs x h r = record {
+  value = h.value;
+  others = h.others ++ given_by s x;
+  is_read = h.is_read;
+  given_are = ap (λ z. z ++ given_by s x) h.given_are ∙ append_assoc (given_by t h.value) h.others (given_by s x);
+  more = read_more rows ss s h.others x h.more r;
+}
+
+-- ---- the arguments
+
+pub both_read : (f : Found) (xs ys : List Text) (first second : Option Text) → xs ≡ listed first → ys ≡ xs ++ listed second → first ≡ first_value f first_place → second ≡ first_value f second_place
+    → ys ≡ arguments_read (rows_of f)
+both_read f xs ys first second e g a b =
+    g ∙ ap (λ z. z ++ listed second) e
+    ∙ ap (λ o. listed o ++ listed second) (a ∙ first_value-rows f first_place)
+    ∙ ap (λ o. listed (first_of first_place (rows_of f)) ++ listed o) (b ∙ first_value-rows f second_place)
+
+-- ---- all words
+
+pub not_taken_by_clap : (v : Verb) (a : App) (ws : List Text) (e : Error) → a ≡ app_for v → (is_simple_and_free a ≡ true → HasKind (fault_of a ws) e) → (kind_of e ≢ kind.OutOfMemory)
+    → fault_of (app_for v) ws ≢ []
+not_taken_by_clap v a ws e is kinds other none = go (fault_of a ws) (ap (λ z. fault_of z ws) is ∙ none) (kinds (ap is_simple_and_free is ∙ simple_for v))
+  where
+    go : (ks : Kinds) → ks ≡ [] → HasKind ks e → ⊥
+    go [] f (inl h) = other h
+    go [] f (inr h) = h
+    go (k ∷ ks) f h = absurd (cc)
+
+pub taken_by_clap : (v : Verb) (a : App) (ws xs : List Text) (gs : List Given) (m : ArgMatches) → a ≡ app_for v → (is_simple_and_free a ≡ true → fault_of a ws ≡ []) → HasMatchesOf a ws m
+    → xs ≡ arguments_read (rows_of (found_of m)) → AreRead (rows_of (found_of m)) all_settings gs → AreMatched v ws xs gs
+taken_by_clap v a ws xs gs m is kinds matches arguments settings =
+    let rows : rows_of (found_of m) ≡ matches_of (app_for v) ws = (matches (ap is_simple is ∙ plain_for v)).0 ∙ ap (λ z. matches_of z ws) is in
+    record {
+      taken = ap (λ z. fault_of z ws) (sym is) ∙ kinds (ap is_simple_and_free is ∙ simple_for v);
+      arguments_are = arguments ∙ ap arguments_read rows;
+      settings_are = subst (λ z. AreRead z all_settings gs) rows settings;
+    }
+
+-- ---- loops
+
+pub read_step : (rows : List Row) (ss : List Setting) (i : ℕ) (d : Setting) (gs now : List Given) (x : Option Text) → i < length ss → AreRead rows (take i ss) gs
+    → IsValueRead rows (get_or ss i d) x → now ≡ gs ++ given_by (get_or ss i d) x → AreRead rows (take (i + 1) ss) now
+read_step rows ss i d gs now x low h r e =
+    let s = get_or ss i d in
+    let next : i + 1 ≡ suc i = omega arith in
+    let taken : take (i + 1) ss ≡ take i ss ++ s ∷ [] = ap (λ k. take k ss) next ∙ take-suc ss i d low in
+    subst (λ z. AreRead rows z now) (sym taken) (subst (AreRead rows (take i ss ++ s ∷ [])) (sym e) (read_more rows (take i ss) s gs x h r))
+
+pub all_told : (v : Verb) (a : App) (ss : List Setting) → a ≡ with_places v → ss ≡ all_settings → with_settings v a ss ≡ app_for v
+all_told v a ss e f = ap₂ (with_settings v) e f
+
+pub told_as : (r : Result Command AllocError) (s t : App) → s ≡ t → IfOk r (λ m. app_of m ≡ s) → IfOk r (λ m. app_of m ≡ t)
+told_as (Ok m) s t e h = h ∙ e
+told_as (Err f) s t e h = tt
