@@ -1,9 +1,9 @@
 -- Clap takes the words of each command, and its matches ask for the commands that the words ask for.
-use Rattle.std.proofs.Common.{◌≡◌, ◌≢◌, ◌∙◌, ◌||◌, ◌++◌, ◌==◌, ℕ, suc, zero, Bool, true, false, List, [], ◌∷◌, Option, Some, None, refl, sym, ap, ap₂, subst, bytes_eq, arith}
+use Rattle.std.proofs.Common.{◌≡◌, ◌≢◌, ◌∙◌, ◌||◌, ◌++◌, ◌==◌, ℕ, suc, Bool, true, false, List, [], ◌∷◌, None, refl, sym, ap, ap₂, subst, bytes_eq, arith}
 use Rattle.std.specs.List.{AllByRecursion}
 use Rattle.std.proofs.lemmas.Bool.Decides.{nat_tests}
 use Rattle.std.proofs.lemmas.Slice.Eq.{bytes_eq-Decides}
-use Rattle.clap.specs.Lexer.{long_of, short_of, strip_byte}
+use Rattle.clap.specs.Lexer.{long_of, short_of}
 use Rattle.clap.specs.Words.{Rule, Row, matches_of, fault_of}
 use Rattle.clap.specs.Walk.{has_row}
 use Rattle.dd_words.specs.declared.settings.Setting.{Setting}
@@ -12,20 +12,19 @@ use Rattle.dd_words.specs.declared.verbs.Verb.TheVariants as verb
 use Rattle.dd_words.specs.declared.commands.Command.{Command}
 use Rattle.dd_words.specs.declared.commands.Command.TheVariants as command
 use Rattle.dd_words.specs.Values.{Text}
-use Rattle.dd_words.specs.Layout.{Layout, nothing, ended, argument, flag, spaced, tied, words_of, arguments_of, settings_of, word_of, has_setting, has_value, IsPlain, IsFlagOf, IsValuedOf, Fits, IsLaid, Given, AreSingle, Has, Lacks}
+use Rattle.dd_words.specs.Layout.{Layout, nothing, ended, argument, flag, spaced, tied, words_of, arguments_of, settings_of, word_of, has_setting, has_value, IsPlain, Fits, Given, AreSingle, Has, Lacks}
 use Rattle.dd_words.specs.Grammar.{first_word, verb_of, IsSaid, IsCommand}
 use Rattle.dd_words.specs.Reading.{IsReadAs}
-use Rattle.dd_words.specs.Apps.{app_for, all_settings, first_place, second_place}
+use Rattle.dd_words.specs.Apps.{app_for, all_settings}
 use Rattle.dd_words.specs.Matching.{AreMatched, AreRead, arguments_read}
 use Rattle.dd_words.proofs.ReadCommands.{parts}
 use Rattle.dd_words.proofs.ClapSteps.{IsFree, free_word, dash_dash}
-use Rattle.dd_words.proofs.ClapWalks.{IsPlace, IsReader, place_of, place_after, row_placed, row_valued, row_flagged, Placed, Walks}
-use Rattle.dd_words.proofs.ClapLayouts.{Found}
+use Rattle.dd_words.proofs.ClapWalks.{IsPlace, place_of, place_after, row_placed, row_valued, row_flagged, Placed, Walks}
 use Rattle.dd_words.proofs.ClapRules.{rules_for, reader_for}
 use Rattle.dd_words.proofs.ClapWhole.{found_layout, layout_end, no_fault_at_end, matches_are, rows_with}
 use Rattle.dd_words.proofs.ClapRows.{placed_joins, valued_joins, flagged_joins, rows_are, list_of, same_word, no_place_is, is_no_place, placed_row, valued_row, flagged_row}
 use Rattle.dd_words.proofs.ClapReads.{picked, has_pushed, settings_read, arguments_are}
-use Rattle.dd_words.proofs.GivenValues.{SameValues, picked_from, picked_to, said, all_single}
+use Rattle.dd_words.proofs.GivenValues.{picked_from, picked_to, said, all_single}
 use Rattle.dd_words.proofs.PlainWords.{value_plain, argument_plain}
 
 -- ---- a word that begins with no dash
@@ -77,17 +76,20 @@ single_walks v c (argument x l) rows k w =
     let more = single_walks v c l (row_placed rows k x) (place_after k) w.3 in
     (more.0, new_before (settings_of l) rows _ (placed_row k x) (placed_joins k x rows w.2) more.1)
 single_walks v c (flag s l) rows k w =
-    let more = single_walks v c l (row_flagged rows s) k w.2 in
-    ((lacks_before (settings_of l) rows _ (flagged_row s) s refl (flagged_joins s rows w.1) more.1, more.0),
-    (w.1, new_before (settings_of l) rows _ (flagged_row s) (flagged_joins s rows w.1) more.1))
+    let more = single_walks v c l (row_flagged rows s) k w.2 in (
+      (lacks_before (settings_of l) rows _ (flagged_row s) s refl (flagged_joins s rows w.1) more.1, more.0),
+      (w.1, new_before (settings_of l) rows _ (flagged_row s) (flagged_joins s rows w.1) more.1),
+    )
 single_walks v c (spaced s x l) rows k w =
-    let more = single_walks v c l (row_valued rows s x) k w.3 in
-    ((lacks_before (settings_of l) rows _ (valued_row s x) s refl (valued_joins s x rows w.2) more.1, more.0),
-    (w.2, new_before (settings_of l) rows _ (valued_row s x) (valued_joins s x rows w.2) more.1))
+    let more = single_walks v c l (row_valued rows s x) k w.3 in (
+      (lacks_before (settings_of l) rows _ (valued_row s x) s refl (valued_joins s x rows w.2) more.1, more.0),
+      (w.2, new_before (settings_of l) rows _ (valued_row s x) (valued_joins s x rows w.2) more.1),
+    )
 single_walks v c (tied s x l) rows k w =
-    let more = single_walks v c l (row_valued rows s x) k w.2 in
-    ((lacks_before (settings_of l) rows _ (valued_row s x) s refl (valued_joins s x rows w.1) more.1, more.0),
-    (w.1, new_before (settings_of l) rows _ (valued_row s x) (valued_joins s x rows w.1) more.1))
+    let more = single_walks v c l (row_valued rows s x) k w.2 in (
+      (lacks_before (settings_of l) rows _ (valued_row s x) s refl (valued_joins s x rows w.1) more.1, more.0),
+      (w.1, new_before (settings_of l) rows _ (valued_row s x) (valued_joins s x rows w.1) more.1),
+    )
 
 fits_walks : (v : Verb) (c : List Rule) (l : Layout) (rows : List Row) (k : ℕ) → Walks v c rows k l → AllByRecursion IsPlain (arguments_of l) → Fits v l
 fits_walks v c nothing rows k w p = tt
@@ -106,10 +108,13 @@ SamePlaces rows now = (j : ℕ) → has_row (place_of j) now ≡ has_row (place_
 placed_moves : (c : List Rule) (ws : List Text) (rows now : List Row) (k : ℕ) → SamePlaces rows now → Placed c rows k ws → Placed c now k ws
 placed_moves c [] rows now k same p = tt
 placed_moves c (w ∷ ws) rows now k same p =
-    let free = same k ∙ p.1 in
-    (p.0, free, placed_moves c ws (row_placed rows k w) (row_placed now k w) (place_after k)
-    (λ j. ap (has_row (place_of j)) (placed_joins k w now free) ∙ has_pushed (place_of j) now (placed_row k w)
-    ∙ ap (λ b. b || bytes_eq (place_of k) (place_of j)) (same j) ∙ sym (has_pushed (place_of j) rows (placed_row k w)) ∙ sym (ap (has_row (place_of j)) (placed_joins k w rows p.1))) p.2)
+    let free = same k ∙ p.1 in (
+      p.0,
+      free,
+      placed_moves c ws (row_placed rows k w) (row_placed now k w) (place_after k)
+          (λ j. ap (has_row (place_of j)) (placed_joins k w now free) ∙ has_pushed (place_of j) now (placed_row k w)
+          ∙ ap (λ b. b || bytes_eq (place_of k) (place_of j)) (same j) ∙ sym (has_pushed (place_of j) rows (placed_row k w)) ∙ sym (ap (has_row (place_of j)) (placed_joins k w rows p.1))) p.2,
+    )
 
 or_false : (b : Bool) → (b || false) ≡ b
 or_false true = refl
@@ -123,9 +128,11 @@ setting_places rows now r s i e j = ap (has_row (place_of j)) e ∙ has_pushed (
 -- a place takes no setting
 new_after_place : (gs : List Given) (rows now : List Row) (r : Row) (k : ℕ) → r.id ≡ place_of k → now ≡ rows ++ r ∷ [] → AreNew rows gs → AreNew now gs
 new_after_place [] rows now r k i e h = tt
-new_after_place (g ∷ gs) rows now r k i e h =
-    (ap (has_row (word_of g.setting)) e ∙ has_pushed (word_of g.setting) rows r
-    ∙ ap₂ (λ a b. a || b) h.0 (ap (λ z. bytes_eq z (word_of g.setting)) i ∙ no_place_is k g.setting), new_after_place gs rows now r k i e h.1)
+new_after_place (g ∷ gs) rows now r k i e h = (
+  ap (has_row (word_of g.setting)) e ∙ has_pushed (word_of g.setting) rows r
+      ∙ ap₂ (λ a b. a || b) h.0 (ap (λ z. bytes_eq z (word_of g.setting)) i ∙ no_place_is k g.setting),
+  new_after_place gs rows now r k i e h.1,
+)
 
 apart_settings : (s t : Setting) → t ≢ s → same_word s t ≡ false
 apart_settings s t ne = go (same_word s t) refl
@@ -136,9 +143,11 @@ apart_settings s t ne = go (same_word s t) refl
 
 new_after_setting : (gs : List Given) (rows now : List Row) (r : Row) (s : Setting) → r.id ≡ word_of s → now ≡ rows ++ r ∷ [] → Lacks gs s → AreNew rows gs → AreNew now gs
 new_after_setting [] rows now r s i e l h = tt
-new_after_setting (g ∷ gs) rows now r s i e l h =
-    (ap (has_row (word_of g.setting)) e ∙ has_pushed (word_of g.setting) rows r
-    ∙ ap₂ (λ a b. a || b) h.0 (ap (λ z. bytes_eq z (word_of g.setting)) i ∙ apart_settings s g.setting l.0), new_after_setting gs rows now r s i e l.1 h.1)
+new_after_setting (g ∷ gs) rows now r s i e l h = (
+  ap (has_row (word_of g.setting)) e ∙ has_pushed (word_of g.setting) rows r
+      ∙ ap₂ (λ a b. a || b) h.0 (ap (λ z. bytes_eq z (word_of g.setting)) i ∙ apart_settings s g.setting l.0),
+  new_after_setting gs rows now r s i e l.1 h.1,
+)
 
 -- each value begins with no dash
 abbrev ArePlain : Verb → List Given → Type 0
@@ -151,22 +160,36 @@ walks_from : (v : Verb) (c : List Rule) (l : Layout) (rows : List Row) (k : ℕ)
     → Placed c rows k (arguments_of l) → ArePlain v (settings_of l) → Walks v c rows k l
 walks_from v c nothing rows k f s n p a = tt
 walks_from v c (ended ws) rows k f s n p a = p
-walks_from v c (argument w l) rows k f s n p a =
-    (free_plain c w f.0, p.0, p.1, walks_from v c l (row_placed rows k w) (place_after k) f.1 s
-    (new_after_place (settings_of l) rows _ (placed_row k w) k refl (placed_joins k w rows p.1) n) p.2 a)
+walks_from v c (argument w l) rows k f s n p a = (
+  free_plain c w f.0,
+  p.0,
+  p.1,
+  walks_from v c l (row_placed rows k w) (place_after k) f.1 s
+      (new_after_place (settings_of l) rows _ (placed_row k w) k refl (placed_joins k w rows p.1) n) p.2 a,
+)
 walks_from v c (flag t l) rows k f s n p a =
-    let joins = flagged_joins t rows n.0 in
-    (f.0, n.0, walks_from v c l (row_flagged rows t) k f.1 s.1 (new_after_setting (settings_of l) rows _ (flagged_row t) t refl joins s.0 n.1)
-    (placed_moves c (arguments_of l) rows _ k (setting_places rows _ (flagged_row t) t refl joins) p) (plain_later v _ (settings_of l) a))
+    let joins = flagged_joins t rows n.0 in (
+      f.0,
+      n.0,
+      walks_from v c l (row_flagged rows t) k f.1 s.1 (new_after_setting (settings_of l) rows _ (flagged_row t) t refl joins s.0 n.1)
+          (placed_moves c (arguments_of l) rows _ k (setting_places rows _ (flagged_row t) t refl joins) p) (plain_later v _ (settings_of l) a),
+    )
 walks_from v c (spaced t x l) rows k f s n p a =
-    let joins = valued_joins t x rows n.0 in
-    (f.0, free_plain c x (a t x f.0.owned f.0.valued (0, omega arith, refl)), n.0, walks_from v c l (row_valued rows t x) k f.1 s.1
-    (new_after_setting (settings_of l) rows _ (valued_row t x) t refl joins s.0 n.1)
-    (placed_moves c (arguments_of l) rows _ k (setting_places rows _ (valued_row t x) t refl joins) p) (plain_later v _ (settings_of l) a))
+    let joins = valued_joins t x rows n.0 in (
+      f.0,
+      free_plain c x (a t x f.0.owned f.0.valued (0, omega arith, refl)),
+      n.0,
+      walks_from v c l (row_valued rows t x) k f.1 s.1
+          (new_after_setting (settings_of l) rows _ (valued_row t x) t refl joins s.0 n.1)
+          (placed_moves c (arguments_of l) rows _ k (setting_places rows _ (valued_row t x) t refl joins) p) (plain_later v _ (settings_of l) a),
+    )
 walks_from v c (tied t x l) rows k f s n p a =
-    let joins = valued_joins t x rows n.0 in
-    (f.0, n.0, walks_from v c l (row_valued rows t x) k f.1 s.1 (new_after_setting (settings_of l) rows _ (valued_row t x) t refl joins s.0 n.1)
-    (placed_moves c (arguments_of l) rows _ k (setting_places rows _ (valued_row t x) t refl joins) p) (plain_later v _ (settings_of l) a))
+    let joins = valued_joins t x rows n.0 in (
+      f.0,
+      n.0,
+      walks_from v c l (row_valued rows t x) k f.1 s.1 (new_after_setting (settings_of l) rows _ (valued_row t x) t refl joins s.0 n.1)
+          (placed_moves c (arguments_of l) rows _ k (setting_places rows _ (valued_row t x) t refl joins) p) (plain_later v _ (settings_of l) a),
+    )
 
 none_new : (gs : List Given) → AreNew [] gs
 none_new [] = tt
@@ -238,7 +261,7 @@ told : (v : Verb) (l : Layout) (ws xs : List Text) (gs : List Given) → Walks v
 told v l ws xs gs w e m =
     let c = rules_for v in
     let rows : matches_of (app_for v) ws ≡ rows_with c (list_of 1 l) =
-        ap (matches_of (app_for v)) (sym e) ∙ matches_are v (words_of l) _ (layout_end v l w) ∙ ap (rows_with c) (rows_are v c l [] 1 w) in
+    ap (matches_of (app_for v)) (sym e) ∙ matches_are v (words_of l) _ (layout_end v l w) ∙ ap (rows_with c) (rows_are v c l [] 1 w) in
     record {
       arguments_are = m.arguments_are ∙ ap arguments_read rows ∙ arguments_are v c (reader_for v) l w;
       settings_are = settings_read v c (reader_for v) l w all_settings gs (subst (λ z. AreRead z all_settings gs) rows m.settings_are);

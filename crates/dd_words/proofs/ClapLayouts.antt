@@ -1,12 +1,12 @@
 -- Words that clap passes are the words of a layout.
-use Rattle.std.proofs.Common.{◌≡◌, ◌≢◌, ◌∙◌, ◌⊎◌, ◌||◌, ◌&&◌, ℕ, Bool, true, false, List, [], ◌∷◌, Option, Some, None, refl, sym, ap, subst, inl, inr, bytes_eq}
-use Rattle.std.specs.Prelude.{if◌then◌else◌, slice_get, is_some, ◌==◌}
+use Rattle.std.proofs.Common.{◌≡◌, ◌∙◌, ◌⊎◌, ◌&&◌, ℕ, Bool, true, false, List, [], ◌∷◌, Option, Some, None, refl, sym, ap, subst, inl, inr, bytes_eq}
+use Rattle.std.specs.Prelude.{if◌then◌else◌, slice_get, is_some}
 use Rattle.std.specs.Str.{chars}
 use Rattle.std.specs.Option.{option_map_or}
 use Rattle.std.proofs.lemmas.Slice.Eq.{bytes_eq-Decides}
 use Rattle.clap.specs.Lexer.{long_of, short_of}
 use Rattle.clap.specs.Words.{Rule, Row}
-use Rattle.clap.specs.Walk.{Held, Walk, Waiting, Step, idle, option, next, value, walked, settled_rows, used_by_id, has_row, takes_values, arg_by_id, arg_by_index, arg_by_long, word_met}
+use Rattle.clap.specs.Walk.{Held, Walk, Waiting, idle, option, next, value, walked, settled_rows, used_by_id, has_row, takes_values, arg_by_index, arg_by_long}
 use Rattle.clap.specs.Faults.{turn_fault, walk_fault, word_fault, long_fault, option_fault, react_fault, settle_fault, use_fault, step_fault, positional_fault, stray_fault}
 use Rattle.clap.specs.Kinds.{Kinds, or_else}
 use Rattle.clap.specs.declared.error.kind.ErrorKind.TheVariants as kind
@@ -174,7 +174,7 @@ module _ (v : Verb) (c : List Rule) (r : IsReader v c) where
       → Passes c (standing (holding held pending) idle k false) (assigned s x ∷ ws) → Found held pending k (assigned s x ∷ ws)
   tied_found ws more held pending k s x o e f h =
       let rest = more.at_rest (row_valued (settled_rows c pending held) s x) None k (pass_on c _ _ _ ws
-          (long_moves c held pending k (assigned s x) (word_of s) (Some x) (Some (valued (word_of s))) _ (next idle) (not_dashes_tied s x) (long_tied s x) (r.valued_long s o) refl) h) in
+      (long_moves c held pending k (assigned s x) (word_of s) (Some x) (Some (valued (word_of s))) _ (next idle) (not_dashes_tied s x) (long_tied s x) (r.valued_long s o) refl) h) in
       record {
         layout = tied s x rest.layout;
         words_are = ap (λ z. assigned s x ∷ z) rest.words_are;
@@ -187,7 +187,7 @@ module _ (v : Verb) (c : List Rule) (r : IsReader v c) where
       → Passes c (standing (holding held pending) idle k false) (dashed s ∷ ws) → Found held pending k (dashed s ∷ ws)
   flag_found ws more held pending k s o e f h =
       let rest = more.at_rest (row_flagged (settled_rows c pending held) s) None k (pass_on c _ _ _ ws
-          (long_moves c held pending k (dashed s) (word_of s) None (Some (flagged (word_of s))) _ (next idle) (not_dashes_alone s) (long_alone s) (r.flagged_long s o) refl) h) in
+      (long_moves c held pending k (dashed s) (word_of s) None (Some (flagged (word_of s))) _ (next idle) (not_dashes_alone s) (long_alone s) (r.flagged_long s o) refl) h) in
       record {
         layout = flag s rest.layout;
         words_are = ap (λ z. dashed s ∷ z) rest.words_are;
@@ -200,7 +200,7 @@ module _ (v : Verb) (c : List Rule) (r : IsReader v c) where
       → Passes c (standing (holding held pending) idle k false) (dashed s ∷ ws) → Found held pending k (dashed s ∷ ws)
   spaced_found ws more held pending k s o e h =
       let rest = more.waiting (settled_rows c pending held) s k o (pass_on c _ (standing (holding (settled_rows c pending held) (Some (word_of s, []))) (option (word_of s)) k false) _ ws
-          (long_moves c held pending k (dashed s) (word_of s) None (Some (valued (word_of s))) _ (next (option (word_of s))) (not_dashes_alone s) (long_alone s) (r.valued_long s o) refl) h) in
+      (long_moves c held pending k (dashed s) (word_of s) None (Some (valued (word_of s))) _ (next (option (word_of s))) (not_dashes_alone s) (long_alone s) (r.valued_long s o) refl) h) in
       record {
         layout = spaced s rest.x rest.layout;
         words_are = ap (λ z. dashed s ∷ z) rest.words_are;

@@ -1,5 +1,5 @@
 -- Clap passes the words of a layout, and comes to its rows.
-use Rattle.std.proofs.Common.{◌≡◌, ◌∙◌, ℕ, true, false, List, [], ◌∷◌, Option, Some, None, refl, sym, ap}
+use Rattle.std.proofs.Common.{◌≡◌, ◌∙◌, ℕ, true, false, List, [], ◌∷◌, Option, Some, None, refl, ap}
 use Rattle.clap.specs.Words.{Rule, Row}
 use Rattle.clap.specs.Walk.{idle, option, next, settled_rows, has_row}
 use Rattle.clap.specs.Faults.{use_fault}
@@ -10,7 +10,7 @@ use Rattle.dd_words.specs.Values.{Text}
 use Rattle.dd_words.specs.Layout.{Layout, nothing, ended, argument, flag, spaced, tied, words_of, word_of, dashed, assigned, IsFlagOf, IsValuedOf}
 use Rattle.dd_words.proofs.SettingWords.{not_dashes_alone, not_dashes_tied, long_alone, long_tied}
 use Rattle.dd_words.proofs.ClapSteps.{valued, flagged, holding, standing, IsFree}
-use Rattle.dd_words.proofs.ClapWalks.{IsPlace, IsReader, place_of, place_after, row_placed, row_valued, row_flagged, Placed, Walks, rows_placed, rows_from, Ends, Sound, ends_here, ends_after, sound_none, sound_valued, sound_placed, use_valued, use_flagged, free_moves, free_asks, late_moves, late_asks, dashes_move, dashes_ask, long_moves, long_asks, place_asked, value_moves, value_asks}
+use Rattle.dd_words.proofs.ClapWalks.{IsReader, place_of, place_after, row_placed, row_valued, row_flagged, Placed, Walks, rows_placed, rows_from, Ends, Sound, ends_here, ends_after, sound_valued, sound_placed, use_valued, use_flagged, free_moves, free_asks, late_moves, late_asks, dashes_move, dashes_ask, long_moves, long_asks, place_asked, value_moves, value_asks}
 
 module _ (v : Verb) (c : List Rule) (r : IsReader v c) where
   sound_after_valued : (held rows : List Row) (pending : Option (Text × List Text)) (s : Setting) (x : Text) → Sound c held pending rows
@@ -29,9 +29,9 @@ module _ (v : Verb) (c : List Rule) (r : IsReader v c) where
       ends_after c _ _ (assigned s x) ws end
       (long_moves c held pending k (assigned s x) (word_of s) (Some x) (Some (valued (word_of s))) _ (next idle) (not_dashes_tied s x) (long_tied s x) (r.valued_long s o) refl)
       (long_asks c held pending k (assigned s x) (word_of s) (Some x) (Some (valued (word_of s))) _ idle (not_dashes_tied s x) (long_tied s x) (r.valued_long s o) refl
-          ∙ ap (λ z. or_else (or_else z (use_fault false (valued (word_of s)) (x ∷ []) (settled_rows c pending held))) []) h.settles
-          ∙ ap (λ z. or_else (use_fault false (valued (word_of s)) (x ∷ []) z) []) h.rows_are
-          ∙ ap (λ z. or_else z []) (use_valued (word_of s) x rows f))
+      ∙ ap (λ z. or_else (or_else z (use_fault false (valued (word_of s)) (x ∷ []) (settled_rows c pending held))) []) h.settles
+      ∙ ap (λ z. or_else (use_fault false (valued (word_of s)) (x ∷ []) z) []) h.rows_are
+      ∙ ap (λ z. or_else z []) (use_valued (word_of s) x rows f))
       ends
 
   flag_ends : (held rows : List Row) (pending : Option (Text × List Text)) (k : ℕ) (s : Setting) (ws : List Text) (end : List Row)
@@ -42,9 +42,9 @@ module _ (v : Verb) (c : List Rule) (r : IsReader v c) where
       ends_after c _ _ (dashed s) ws end
       (long_moves c held pending k (dashed s) (word_of s) None (Some (flagged (word_of s))) _ (next idle) (not_dashes_alone s) (long_alone s) (r.flagged_long s o) refl)
       (long_asks c held pending k (dashed s) (word_of s) None (Some (flagged (word_of s))) _ idle (not_dashes_alone s) (long_alone s) (r.flagged_long s o) refl
-          ∙ ap (λ z. or_else (or_else z (use_fault false (flagged (word_of s)) [] (settled_rows c pending held))) []) h.settles
-          ∙ ap (λ z. or_else (use_fault false (flagged (word_of s)) [] z) []) h.rows_are
-          ∙ ap (λ z. or_else z []) (use_flagged (word_of s) rows f))
+      ∙ ap (λ z. or_else (or_else z (use_fault false (flagged (word_of s)) [] (settled_rows c pending held))) []) h.settles
+      ∙ ap (λ z. or_else (use_fault false (flagged (word_of s)) [] z) []) h.rows_are
+      ∙ ap (λ z. or_else z []) (use_flagged (word_of s) rows f))
       ends
 
   spaced_ends : (held rows : List Row) (pending : Option (Text × List Text)) (k : ℕ) (s : Setting) (x : Text) (ws : List Text) (end : List Row)
@@ -55,7 +55,7 @@ module _ (v : Verb) (c : List Rule) (r : IsReader v c) where
       ends_after c _ (standing (holding (settled_rows c pending held) (Some (word_of s, []))) (option (word_of s)) k false) (dashed s) (x ∷ ws) end
       (long_moves c held pending k (dashed s) (word_of s) None (Some (valued (word_of s))) _ (next (option (word_of s))) (not_dashes_alone s) (long_alone s) (r.valued_long s o) refl)
       (long_asks c held pending k (dashed s) (word_of s) None (Some (valued (word_of s))) _ (option (word_of s)) (not_dashes_alone s) (long_alone s) (r.valued_long s o) refl
-          ∙ ap (λ z. or_else z []) h.settles)
+      ∙ ap (λ z. or_else z []) h.settles)
       (ends_after c _ _ x ws end (value_moves c (settled_rows c pending held) k (word_of s) x f (r.valued_id s o)) (value_asks c (settled_rows c pending held) k (word_of s) x f) ends)
 
   placed_end : (ws : List Text) (held rows : List Row) (pending : Option (Text × List Text)) (k : ℕ)

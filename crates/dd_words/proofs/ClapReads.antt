@@ -1,24 +1,20 @@
 -- What is read of the matches is what the layout has.
-use Rattle.std.proofs.Common.{◌≡◌, ◌≢◌, ◌∙◌, ◌||◌, ◌⊎◌, ◌++◌, ◌+◌, ◌≤◌, ◌<◌, ℕ, suc, zero, Bool, true, false, cond, codes, List, [], ◌∷◌, Option, Some, None, length, option_map, refl, sym, ap, ap₂, subst, inl, inr, bytes_eq, append_assoc, arith, min}
-use Rattle.std.specs.Prelude.{if◌then◌else◌, fold, find, slice_get, option_and_then}
-use Rattle.std.specs.List.{AllByRecursion, list_any, Contains}
-use Rattle.std.proofs.lemmas.List.{append-nil}
+use Rattle.std.proofs.Common.{◌≡◌, ◌∙◌, ◌||◌, ◌⊎◌, ◌++◌, ◌+◌, ◌≤◌, ℕ, suc, zero, Bool, true, false, cond, codes, List, [], ◌∷◌, Option, Some, None, length, refl, sym, ap, ap₂, subst, inl, inr, bytes_eq, arith}
+use Rattle.std.specs.Prelude.{if◌then◌else◌, fold, slice_get, option_and_then}
+use Rattle.std.specs.List.{AllByRecursion}
 use Rattle.std.proofs.lemmas.Slice.Eq.{bytes_eq-Decides}
-use Rattle.clap.specs.Lexer.{usize_max}
 use Rattle.clap.specs.Words.{Rule, Row}
-use Rattle.clap.specs.Walk.{has_row, is_empty, with_default, default_rows, first_of, one_of, row_text, reading_by, more_values}
+use Rattle.clap.specs.Walk.{has_row, with_default, default_rows, first_of, one_of, row_text, reading_by, more_values}
 use Rattle.clap.specs.declared.parser.matches.ValueSource.TheVariants.{DefaultValue}
 use Rattle.dd_words.specs.declared.settings.Setting.{Setting}
 use Rattle.dd_words.specs.declared.settings.Setting.TheVariants.{Tiles, Vertices, LeastFace, LeastDegree, Faces, Degrees, Minimal, Workers, Round, Pause, Checkpoint, Cell}
 use Rattle.dd_words.specs.declared.verbs.Verb.{Verb}
 use Rattle.dd_words.specs.Values.{Text}
-use Rattle.dd_words.specs.Layout.{Layout, nothing, ended, argument, flag, spaced, tied, arguments_of, settings_of, word_of, has_value, Given, AreSingle, Has, Lacks}
-use Rattle.dd_words.specs.Apps.{first_place, second_place, all_settings}
-use Rattle.dd_words.specs.Matching.{IsValueRead, given_by, BeginsWith, AreRead, listed, arguments_read}
-use Rattle.dd_words.proofs.Told.{same_setting}
-use Rattle.dd_words.proofs.OneValue.{not_both, same_value}
+use Rattle.dd_words.specs.Layout.{Layout, nothing, ended, argument, flag, spaced, tied, arguments_of, settings_of, word_of, has_value, Given}
+use Rattle.dd_words.specs.Apps.{first_place, second_place}
+use Rattle.dd_words.specs.Matching.{IsValueRead, given_by, AreRead, listed, arguments_read}
 use Rattle.dd_words.proofs.ClapSteps.{flagged}
-use Rattle.dd_words.proofs.ClapWalks.{IsPlace, IsQuiet, IsReader, place_of, place_after, row_placed, row_valued, row_flagged, Placed, Walks}
+use Rattle.dd_words.proofs.ClapWalks.{IsQuiet, IsReader, place_of, place_after, row_placed, row_valued, row_flagged, Placed, Walks}
 use Rattle.dd_words.proofs.ClapRows.{at_missing, list_of, list_placed, placed_row, valued_row, flagged_row, same_word, value_in, flag_text, first_is, one_is, is_no_place, first_of_cons, one_of_cons, first_passes, apart, same_word_sym}
 
 -- ---- the rows with defaults
@@ -58,7 +54,7 @@ fill_one rows now a (inr is) (inl same) =
 fill_one rows now a (inr is) (inr p) =
     let has : has_row (codes "minimal") now ≡ true = ap (has_row (codes "minimal")) p.1 ∙ has_pushed (codes "minimal") rows default_row ∙ ap (λ b. b || true) p.0 in
     let kept : with_default now (flagged (codes "minimal")) ≡ now =
-        ap (λ b. if b then now else default_rows (codes "minimal") (reading_by (flagged (codes "minimal"))) (codes "false" ∷ []) now) has in
+    ap (λ b. if b then now else default_rows (codes "minimal") (reading_by (flagged (codes "minimal"))) (codes "false" ∷ []) now) has in
     inr (p.0, ap (with_default now) is ∙ kept ∙ p.1)
 
 filled : (c : List Rule) (rows now : List Row) → AllByRecursion IsQuiet c → IsFilled rows now → IsFilled rows (fold with_default now c)

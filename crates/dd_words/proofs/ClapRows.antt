@@ -1,21 +1,20 @@
 -- The rows of a layout, and what is read of them.
-use Rattle.std.proofs.Common.{◌≡◌, ◌∙◌, ◌||◌, ◌⊎◌, ◌++◌, ◌+◌, ◌≤◌, ℕ, suc, zero, Bool, true, false, cond, codes, List, [], ◌∷◌, Option, Some, None, length, option_map, refl, sym, ap, ap₂, subst, inl, inr, bytes_eq, append_assoc, arith}
-use Rattle.std.specs.Prelude.{if◌then◌else◌, fold, is_some, find, slice_get, option_and_then}
-use Rattle.std.specs.List.{AllByRecursion, list_any}
+use Rattle.std.proofs.Common.{◌≡◌, ◌∙◌, ◌||◌, ◌++◌, ℕ, suc, zero, Bool, true, false, cond, codes, List, [], ◌∷◌, Option, Some, None, option_map, refl, sym, ap, bytes_eq, append_assoc}
+use Rattle.std.specs.Prelude.{if◌then◌else◌, find, slice_get, option_and_then}
 use Rattle.std.proofs.lemmas.List.{append-nil}
 use Rattle.std.proofs.lemmas.Slice.Eq.{bytes_eq-Decides}
 use Rattle.clap.specs.Words.{Rule, Row}
-use Rattle.clap.specs.Walk.{has_row, is_empty, with_default, default_rows, at_row, without, with_values, more_values, used, first_of, one_of, row_text, reading_by}
-use Rattle.clap.specs.declared.parser.matches.ValueSource.TheVariants.{DefaultValue, CommandLine}
+use Rattle.clap.specs.Walk.{has_row, at_row, without, more_values, first_of, one_of, row_text, reading_by}
+use Rattle.clap.specs.declared.parser.matches.ValueSource.TheVariants.{CommandLine}
 use Rattle.dd_words.specs.declared.settings.Setting.{Setting}
 use Rattle.dd_words.specs.declared.settings.Setting.TheVariants.{Tiles, Vertices, LeastFace, LeastDegree, Faces, Degrees, Minimal, Workers, Round, Pause, Checkpoint, Cell}
 use Rattle.dd_words.specs.declared.verbs.Verb.{Verb}
 use Rattle.dd_words.specs.Values.{Text}
-use Rattle.dd_words.specs.Layout.{Layout, nothing, ended, argument, flag, spaced, tied, arguments_of, settings_of, word_of, has_value, Given, IsFlagOf, IsValuedOf}
+use Rattle.dd_words.specs.Layout.{Layout, nothing, ended, argument, flag, spaced, tied, settings_of, word_of, has_value, Given}
 use Rattle.dd_words.specs.Apps.{first_place, second_place}
 use Rattle.dd_words.proofs.Told.{same_setting}
 use Rattle.dd_words.proofs.ClapSteps.{valued, flagged, placed}
-use Rattle.dd_words.proofs.ClapWalks.{IsPlace, IsQuiet, IsReader, place_of, place_after, row_placed, row_valued, row_flagged, Placed, Walks, rows_placed, rows_from}
+use Rattle.dd_words.proofs.ClapWalks.{place_of, place_after, row_placed, row_valued, row_flagged, Placed, Walks, rows_placed, rows_from}
 
 -- ---- an id that no row has
 
@@ -164,9 +163,6 @@ is_no_place (suc (suc k)) s = second_not s
 abbrev pub value_in : List Given → Setting → Option Text
 value_in [] t = None
 value_in (g ∷ gs) t = cond (same_word g.setting t) (Some g.value) (value_in gs t)
-
-abbrev first_in : Text → Row → Option Text → Option Text
-first_in id r more = cond (bytes_eq r.id id) (slice_get r.values 0) more
 
 pub first_of_cons : (id : Text) (r : Row) (rs : List Row) → first_of id (r ∷ rs) ≡ cond (bytes_eq r.id id) (slice_get r.values 0) (first_of id rs)
 first_of_cons id r rs = go (bytes_eq r.id id)

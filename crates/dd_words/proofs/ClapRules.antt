@@ -1,15 +1,14 @@
 -- The rules that clap has of each verb.
-use Rattle.std.proofs.Common.{◌≡◌, ◌∙◌, ◌⊎◌, ◌||◌, ◌≤◌, ℕ, suc, zero, Bool, true, false, not, cond, List, [], ◌∷◌, map, Option, Some, None, refl, sym, ap, arith, inl, inr, bytes_eq}
-use Rattle.std.specs.Prelude.{if◌then◌else◌, ◌==◌}
+use Rattle.std.proofs.Common.{◌≡◌, ◌∙◌, ◌⊎◌, ◌||◌, ◌≤◌, ℕ, suc, zero, Bool, true, false, cond, List, [], ◌∷◌, map, Some, None, refl, sym, ap, arith, inl, inr, bytes_eq}
+use Rattle.std.specs.Prelude.{◌==◌}
 use Rattle.std.specs.Option.{option_map_or}
 use Rattle.std.proofs.lemmas.Bool.Decides.{nat_tests}
 use Rattle.std.specs.List.{AllByRecursion}
 use Rattle.std.proofs.lemmas.Slice.Eq.{bytes_eq-Decides}
-use Rattle.clap.specs.Words.{is_simple, Rule, Row, App, built}
-use Rattle.clap.specs.Walk.{arg_by_long, arg_by_id, arg_by_index, arg_by_short, with_default, has_row, is_empty, default_rows, reading_by}
+use Rattle.clap.specs.Words.{is_simple, Rule, built}
+use Rattle.clap.specs.Walk.{arg_by_long, arg_by_id, arg_by_index}
 use Rattle.clap.specs.Simple.{filled}
-use Rattle.clap.specs.Faults.{is_simple_and_free, default_fault, defaults_fault, given_default_fault, check_fault}
-use Rattle.clap.specs.Kinds.{or_else}
+use Rattle.clap.specs.Faults.{is_simple_and_free}
 use Rattle.clap.proofs.OnLiterals.{clap_on_literals}
 use Rattle.dd_words.specs.declared.settings.Setting.{Setting}
 use Rattle.dd_words.specs.declared.settings.Setting.TheVariants.{Tiles, Vertices, LeastFace, LeastDegree, Faces, Degrees, Minimal, Workers, Round, Pause, Checkpoint, Cell}

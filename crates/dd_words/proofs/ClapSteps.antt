@@ -1,17 +1,17 @@
 -- What clap makes of one word.
-use Rattle.std.proofs.Common.{◌≡◌, ◌∙◌, ℕ, suc, zero, drop, Bool, true, false, List, [], ◌∷◌, codes, Option, Some, None, refl, sym, ap, ap₂, cond, bytes_eq, min, length}
+use Rattle.std.proofs.Common.{◌≡◌, ◌∙◌, ℕ, suc, zero, drop, Bool, true, false, List, [], ◌∷◌, codes, Option, Some, None, refl, ap, bytes_eq, length}
 use Rattle.std.specs.Prelude.{if◌then◌else◌, slice_get, encode_utf8}
 use Rattle.std.specs.Str.{chars}
 use Rattle.std.specs.Option.{option_map_or}
-use Rattle.clap.specs.Lexer.{long_of, short_of, usize_max}
+use Rattle.clap.specs.Lexer.{long_of, short_of}
 use Rattle.clap.specs.Words.{Rule, Row, Shape, Text, new_rule}
 use Rattle.clap.specs.Walk.{Held, Walk, Step, Waiting, Names, idle, option, next, trailing, value, subcommand, word_met, walked, after_step, to_positional, subcommand_met, subcommand_or_other, long_or_other, long_word, long_met, option_met, flag_met, after_flag, short_or_plain, short_word, bundle, bundle_met, bundle_step, plain, plain_word, option_word, arg_by_long, arg_by_id, arg_by_index, arg_by_short, settled, settled_rows, reacted, used, pushed, takes_values, pending_count, most_values, positional_held}
 use Rattle.clap.specs.Simple.{filled, with_index}
-use Rattle.clap.specs.Faults.{turn_fault, walk_fault, word_fault, other_fault, flag_word_fault, long_fault, option_fault, react_fault, settle_fault, use_fault, step_fault, positional_fault, stray_fault, bundle_fault, flags_fault, bundle_step_fault, short_fault}
-use Rattle.clap.specs.Kinds.{Kinds, or_else}
+use Rattle.clap.specs.Faults.{turn_fault, word_fault, other_fault, flag_word_fault, long_fault, step_fault, bundle_fault, flags_fault, bundle_step_fault, short_fault}
+use Rattle.clap.specs.Kinds.{or_else}
 use Rattle.clap.specs.declared.builder.action.ArgAction.TheVariants.{Set, SetTrue}
 use Rattle.clap.specs.declared.error.kind.ErrorKind.TheVariants as kind
-use Rattle.dd_words.specs.Apps.{first_place, second_place, place_rule}
+use Rattle.dd_words.specs.Apps.{place_rule}
 
 -- the built command with these rules
 abbrev pub shape_with : List Rule → Shape

@@ -1,19 +1,19 @@
 -- Layouts, as clap walks over their words.
-use Rattle.std.proofs.Common.{◌≡◌, ◌∙◌, ◌⊎◌, ◌+◌, ◌++◌, ◌&&◌, ◌||◌, ◌≤◌, ℕ, suc, zero, Bool, true, false, not, List, [], ◌∷◌, codes, Option, Some, None, refl, sym, ap, ap₂, subst, cond, bytes_eq, min, length, inl, inr}
+use Rattle.std.proofs.Common.{◌≡◌, ◌∙◌, ◌⊎◌, ◌+◌, ◌&&◌, ◌||◌, ◌≤◌, ℕ, suc, zero, Bool, true, false, List, [], ◌∷◌, codes, Option, Some, None, refl, sym, ap, subst, bytes_eq, min}
 use Rattle.std.specs.Prelude.{if◌then◌else◌, fold, nat_lt}
 use Rattle.std.specs.Option.{option_map_or}
 use Rattle.std.specs.List.{AllByRecursion}
 use Rattle.std.proofs.lemmas.Slice.Eq.{bytes_eq-Decides}
-use Rattle.clap.specs.Lexer.{long_of, short_of, usize_max}
-use Rattle.clap.specs.Words.{Rule, Row, Shape, new_rule}
-use Rattle.clap.specs.Walk.{Held, Walk, Step, Waiting, idle, option, next, trailing, value, word_met, walked, after_step, to_positional, arg_by_long, arg_by_id, arg_by_index, arg_by_short, settled, settled_rows, used_by_id, reacted, used, pushed, option_word, most_values, positional_held, is_pending, takes_several, has_row, after_flag, long_met, nothing_held, after_flag}
-use Rattle.clap.specs.Faults.{turn_fault, walk_fault, word_fault, long_fault, react_fault, settle_fault, use_fault, step_fault, positional_fault, stray_fault, values_fault, check_fault}
-use Rattle.clap.specs.Kinds.{Kinds, or_else}
+use Rattle.clap.specs.Lexer.{long_of, usize_max}
+use Rattle.clap.specs.Words.{Rule, Row}
+use Rattle.clap.specs.Walk.{Held, Walk, Step, Waiting, idle, option, next, trailing, value, walked, after_step, to_positional, arg_by_long, arg_by_id, arg_by_index, arg_by_short, settled, settled_rows, used_by_id, used, pushed, option_word, is_pending, has_row, after_flag, long_met, after_flag}
+use Rattle.clap.specs.Faults.{turn_fault, walk_fault, long_fault, settle_fault, use_fault, step_fault, positional_fault, stray_fault, check_fault}
+use Rattle.clap.specs.Kinds.{or_else}
 use Rattle.clap.specs.declared.error.kind.ErrorKind.TheVariants as kind
 use Rattle.dd_words.specs.declared.settings.Setting.{Setting}
 use Rattle.dd_words.specs.declared.verbs.Verb.{Verb}
 use Rattle.dd_words.specs.Values.{Text}
-use Rattle.dd_words.specs.Layout.{Layout, nothing, ended, argument, flag, spaced, tied, words_of, word_of, dashed, assigned, has_setting, IsFlagOf, IsValuedOf}
+use Rattle.dd_words.specs.Layout.{Layout, nothing, ended, argument, flag, spaced, tied, word_of, has_setting, IsFlagOf, IsValuedOf}
 use Rattle.dd_words.specs.Apps.{first_place, second_place}
 use Rattle.dd_words.proofs.ClapSteps.{shape_with, valued, flagged, placed, holding, standing, dash_dash, moved, turned, met_dashes, fault_dashes, met_long, fault_long, long_word_is, IsFree}
 
@@ -150,7 +150,7 @@ positional_asks c h false = refl
 
 place_taken : (c : List Rule) (held : List Row) (pending : Option (Text × List Text)) (wt : Waiting) (k : ℕ) (t : Bool) (w : Text) → IsPlace c k
     → to_positional c (arg_by_index c k) w (standing (holding held pending) wt k t) (holding held pending)
-        ≡ standing (holding (settled_rows c pending held) (Some (place_of k, w ∷ []))) idle (place_after k) (t || false)
+    ≡ standing (holding (settled_rows c pending held) (Some (place_of k, w ∷ []))) idle (place_after k) (t || false)
 place_taken c held pending wt k t w p = ap (λ o. to_positional c o w (standing (holding held pending) wt k t) (holding held pending)) p.by_index
     ∙ ap (λ g. standing g idle (place_after k) (t || false)) (positional_is c held pending k w (is_pending (placed (place_of k) k) pending))
 

@@ -1,20 +1,19 @@
 -- What clap makes of all the words of a verb.
-use Rattle.std.proofs.Common.{◌≡◌, ◌∙◌, ◌||◌, ◌⊎◌, ℕ, Bool, true, false, List, [], ◌∷◌, Option, Some, None, refl, sym, ap, inl, inr, codes}
+use Rattle.std.proofs.Common.{◌≡◌, ◌∙◌, ◌||◌, Bool, true, false, List, [], ◌∷◌, Option, None, refl, sym, ap, inl, inr, codes}
 use Rattle.std.specs.Prelude.{if◌then◌else◌, fold, is_some}
 use Rattle.std.specs.List.{AllByRecursion}
-use Rattle.clap.specs.Words.{Rule, Row, App, built}
+use Rattle.clap.specs.Words.{Rule, Row, App}
 use Rattle.clap.specs.Walk.{Walk, idle, has_row, is_empty, with_default, settled_rows, nothing_held}
 use Rattle.clap.specs.Simple.{argument_words, matches_of, entered}
-use Rattle.clap.specs.Faults.{fault_of, built_fault, level_fault, entered_fault, walk_fault, settle_fault, default_fault, defaults_fault, given_default_fault, check_fault}
+use Rattle.clap.specs.Faults.{fault_of, built_fault, entered_fault, walk_fault, settle_fault, default_fault, defaults_fault, given_default_fault, check_fault}
 use Rattle.clap.specs.Kinds.{Kinds, or_else}
-use Rattle.dd_words.specs.declared.commands.FileKind.{FileKind}
 use Rattle.dd_words.specs.declared.verbs.Verb.{Verb}
 use Rattle.dd_words.specs.declared.verbs.Verb.TheVariants as verb
 use Rattle.dd_words.specs.Values.{Text}
 use Rattle.dd_words.specs.Layout.{Layout, words_of}
 use Rattle.dd_words.specs.Apps.{app_for}
 use Rattle.dd_words.proofs.ClapSteps.{shape_with, flagged, holding, standing}
-use Rattle.dd_words.proofs.ClapWalks.{IsQuiet, IsReader, Walks, rows_from, Ends, Sound, sound_none, end_of}
+use Rattle.dd_words.proofs.ClapWalks.{IsQuiet, Walks, rows_from, Ends, sound_none, end_of}
 use Rattle.dd_words.proofs.ClapPasses.{layout_ends}
 use Rattle.dd_words.proofs.ClapLayouts.{Passes, Found, layout_found, both}
 use Rattle.dd_words.proofs.ClapRules.{rules_for, built_for, reader_for}

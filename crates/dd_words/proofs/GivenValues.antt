@@ -1,6 +1,6 @@
 -- Settings that have the same values ask for the same commands.
-use Rattle.std.proofs.Common.{◌≡◌, ◌≢◌, ◌∙◌, ◌||◌, ◌⊎◌, ◌++◌, ℕ, suc, zero, Bool, true, false, cond, List, [], ◌∷◌, Option, Some, None, refl, sym, ap, inl, inr, bytes_eq, arith}
-use Rattle.std.specs.List.{AllByRecursion, list_any}
+use Rattle.std.proofs.Common.{◌≡◌, ◌∙◌, ◌||◌, ◌++◌, ℕ, suc, Bool, true, false, cond, List, [], ◌∷◌, Option, Some, None, refl, sym, ap, inl, inr, arith}
+use Rattle.std.specs.List.{list_any}
 use Rattle.std.proofs.lemmas.Slice.Eq.{bytes_eq-Decides}
 use Rattle.dd_model.specs.declared.allowed.Allowed.{Allowed}
 use Rattle.dd_model.specs.declared.requests.Request.{Request}
@@ -11,7 +11,7 @@ use Rattle.dd_words.specs.declared.commands.Command.TheVariants as command
 use Rattle.dd_words.specs.declared.commands.Frame.{Frame}
 use Rattle.dd_words.specs.Values.{Text}
 use Rattle.dd_words.specs.Layout.{word_of, Given, AreSingle, Has, Lacks}
-use Rattle.dd_words.specs.Grammar.{IsNumberGiven, IsNumberOr, IsNumberIfGiven, IsNameIfGiven, IsFlagIfGiven, IsSet, IsRun, IsRequested, IsFramed, IsCatalogue, IsResumed, IsDrawn, OnOne, OnTwo, IsSaid}
+use Rattle.dd_words.specs.Grammar.{IsNumberGiven, IsNumberOr, IsNumberIfGiven, IsNameIfGiven, IsFlagIfGiven, IsSet, IsRun, IsRequested, IsFramed, IsSaid}
 use Rattle.dd_words.specs.Apps.{all_settings}
 use Rattle.dd_words.specs.Matching.{given_by}
 use Rattle.dd_words.proofs.Told.{same_setting}

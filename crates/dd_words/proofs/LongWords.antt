@@ -1,5 +1,5 @@
 -- What a word is, of which clap reads a name and a value.
-use Rattle.std.proofs.Common.{◌≡◌, ◌∙◌, ◌+◌, ◌++◌, ◌||◌, ◌==◌, ℕ, suc, zero, Bool, true, false, not, cond, List, [], ◌∷◌, Option, Some, None, refl, sym, ap, arith, take, drop, bytes_eq}
+use Rattle.std.proofs.Common.{◌≡◌, ◌∙◌, ◌+◌, ◌++◌, ◌||◌, ◌==◌, ℕ, suc, Bool, true, false, not, cond, [], ◌∷◌, Option, Some, None, refl, sym, ap, arith, take, drop}
 use Rattle.std.specs.Prelude.{option_and_then, if◌then◌else◌}
 use Rattle.std.proofs.lemmas.Bool.Decides.{nat_tests}
 use Rattle.std.specs.List.{position_or_len, before_first, after_first}

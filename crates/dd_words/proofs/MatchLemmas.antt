@@ -1,5 +1,5 @@
 -- What the program reads of clap's matches.
-use Rattle.std.proofs.Common.{◌≡◌, ◌≢◌, ◌∙◌, inl, inr, ◌++◌, ◌<◌, ◌+◌, ℕ, Bool, true, false, codes, List, [], ◌∷◌, Option, Some, None, length, take, get_or, map, refl, sym, ap, ap₂, subst, suc, arith, take-suc, append_assoc, Result, Ok, Err, IfOk}
+use Rattle.std.proofs.Common.{◌≡◌, ◌≢◌, ◌∙◌, inl, inr, ◌++◌, ◌<◌, ◌+◌, ℕ, Bool, true, false, codes, List, [], ◌∷◌, Option, Some, None, length, take, get_or, refl, sym, ap, ap₂, subst, suc, arith, take-suc, append_assoc, Result, Ok, Err, IfOk}
 use Rattle.std.proofs.lemmas.List.{append-nil}
 use Rattle.clap.specs.Words.{App, Row, HasKind, Kinds, fault_of, kind_of, is_simple_and_free, first_value, first_of, one_text, one_of, rows_of, matches_of, app_of, is_simple, HasMatchesOf, found_of}
 use Rattle.clap.specs.declared.parser.matches.Found.{Found}
@@ -14,7 +14,7 @@ use Rattle.dd_words.specs.declared.verbs.Verb.{Verb}
 use Rattle.dd_words.specs.Values.{Text}
 use Rattle.dd_words.specs.Layout.{Given, word_of, has_value}
 use Rattle.dd_words.specs.Apps.{first_place, second_place, app_for, all_settings, with_places, with_settings}
-use Rattle.dd_words.specs.Matching.{IsValueRead, given_by, BeginsWith, AreRead, AreMatched, listed, arguments_read}
+use Rattle.dd_words.specs.Matching.{IsValueRead, given_by, AreRead, AreMatched, listed, arguments_read}
 use Rattle.dd_words.proofs.ClapRules.{simple_for, plain_for}
 
 -- ---- one setting

@@ -1,9 +1,7 @@
 -- A text is parted at a byte in one way.
-use Rattle.std.proofs.Common.{◌≡◌, ◌≢◌, ◌==◌, ◌<◌, ℕ, suc, true, List, [], ◌∷◌, ◌++◌, length, get_or, refl, ap, ◌∙◌, arith}
-use Rattle.std.specs.Prelude.{not, MatchOption, IfSome, IfNone, Option, Some, None}
+use Rattle.std.proofs.Common.{◌≡◌, ◌≢◌, ◌<◌, ℕ, suc, List, [], ◌∷◌, ◌++◌, length, get_or, refl, arith}
+use Rattle.std.specs.Prelude.{MatchOption, IfSome, IfNone, Option, Some, None}
 use Rattle.std.specs.Borrow.{Bor}
-use Rattle.std.specs.List.{AllByRecursion}
-use Rattle.std.proofs.lemmas.Bool.Decides.{nat_tests}
 use Rattle.dd_model.proofs.Digits.{same_front}
 use Rattle.dd_words.specs.Parted.{Avoids, IsParted}
 
@@ -21,13 +19,6 @@ pub avoids_each : (byte : ℕ) (xs : List ℕ) → ((i : ℕ) → i < length xs 
 avoids_each byte [] h = tt
 avoids_each byte (x ∷ xs) h = (h 0 (omega arith), avoids_each byte xs (λ i low. h (suc i) (omega arith)))
 
-differs : (x byte : ℕ) → not (x == byte) ≡ true → x ≢ byte
-differs x byte h e = grind (arith, nat_tests)
-
-pub avoids_by_test : (byte : ℕ) (xs : List ℕ) → AllByRecursion (λ x. not (x == byte) ≡ true) xs → Avoids byte xs
-avoids_by_test byte [] h = tt
-avoids_by_test byte (x ∷ xs) h = (differs x byte h.0, avoids_by_test byte xs h.1)
-
 -- the clause of `split_once` at a byte
 abbrev Splits : ℕ → List ℕ → Option (Bor (List ℕ) × Bor (List ℕ)) → Type 0
 Splits c bs r = MatchOption r ((i : ℕ) → i < length bs → get_or bs i 0 ≢ c)
@@ -40,15 +31,3 @@ parted_some c bs (Some parts) h = record { joined = h.0; first = avoids_each c p
 pub parted_none : (c : ℕ) (bs : List ℕ) (r : Option (Bor (List ℕ) × Bor (List ℕ))) → Splits c bs r → IfNone r (Avoids c bs)
 parted_none c bs None h = avoids_each c bs h
 parted_none c bs (Some parts) h = tt
-
--- the clause of `strip_prefix` at a byte
-abbrev Strips : ℕ → List ℕ → Option (Bor (List ℕ)) → Type 0
-Strips c bs r = MatchOption r ((rest : List ℕ) → bs ≢ c ∷ rest) (λ x. bs ≡ c ∷ x.now)
-
-pub stripped_some : (c : ℕ) (front : List ℕ) (bs ds : List ℕ) (r : Option (Bor (List ℕ))) → ds ≡ front ++ bs → Strips c bs r → IfSome r (λ x. ds ≡ front ++ c ∷ x.now)
-stripped_some c front bs ds None e h = tt
-stripped_some c front bs ds (Some x) e h = e ∙ ap (λ y. front ++ y) h
-
-pub stripped_none : (c : ℕ) (bs : List ℕ) (r : Option (Bor (List ℕ))) → Strips c bs r → IfNone r ((rest : List ℕ) → bs ≢ c ∷ rest)
-stripped_none c bs None h = h
-stripped_none c bs (Some x) h = tt

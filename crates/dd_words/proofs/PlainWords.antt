@@ -1,7 +1,7 @@
 -- Arguments and values of a command begin with no dash.
-use Rattle.std.proofs.Common.{◌≡◌, ◌≢◌, ◌≤◌, ◌<◌, ◌++◌, ◌==◌, ℕ, suc, zero, inl, inr, Bool, true, false, cond, Option, Some, None, List, [], ◌∷◌, length, refl, sym, ap, ◌∙◌, subst, arith}
+use Rattle.std.proofs.Common.{◌≡◌, ◌≢◌, ◌++◌, ◌==◌, ℕ, inl, inr, true, cond, Option, Some, None, List, [], ◌∷◌, refl, sym, ap, subst, arith}
 use Rattle.std.specs.Char.{IsAsciiDigit}
-use Rattle.std.specs.List.{All, AllByRecursion, onto_first, slice_split}
+use Rattle.std.specs.List.{AllByRecursion, onto_first}
 use Rattle.std.proofs.lemmas.List.Elements.{All-get_or}
 use Rattle.dd_model.specs.declared.allowed.Allowed.{Allowed}
 use Rattle.dd_words.specs.declared.settings.Setting.{Setting}
@@ -10,7 +10,7 @@ use Rattle.dd_words.specs.declared.commands.Command.{Command}
 use Rattle.dd_words.specs.declared.commands.Command.TheVariants as command
 use Rattle.dd_words.specs.declared.commands.Frame.{Frame}
 use Rattle.dd_words.specs.declared.commands.Frame.TheVariants.{Square, Hex}
-use Rattle.dd_words.specs.Values.{Text, IsNumber, IsNumberIn, IsRange, IsItem, AreBounds, AsksForNumbers, IsSetWord, IsName, items_of}
+use Rattle.dd_words.specs.Values.{Text, IsNumber, AreBounds, AsksForNumbers, IsSetWord, IsName, items_of}
 use Rattle.dd_words.specs.Layout.{Given, AreSingle, Has, Lacks, IsPlain, has_setting, has_value}
 use Rattle.dd_words.specs.Grammar.{IsNumberOr, IsNumberIfGiven, IsNameIfGiven, IsSet, IsFramed, IsRun, word_of_frame, verb_of, IsSaid}
 use Rattle.dd_words.proofs.OneValue.{not_both, same_value, only_number}

@@ -11,7 +11,7 @@ use Rattle.dd_words.specs.declared.verbs.Verb.{Verb}
 use Rattle.dd_words.specs.declared.verbs.Verb.TheVariants as verb
 use Rattle.dd_words.specs.Values.{Text}
 use Rattle.dd_words.specs.Layout.{Given, IsLaid, AreSingle}
-use Rattle.dd_words.specs.Laying.{texts, CanBeLaid}
+use Rattle.dd_words.specs.Laying.{texts}
 use Rattle.dd_words.specs.Grammar.{first_word, verb_of, IsCatalogue, IsResumed, IsDrawn, IsNumberIfGiven, IsNameIfGiven, IsRequested, IsSaid, IsCommand}
 use Rattle.dd_words.specs.Reading.{IsReadAs}
 use Rattle.dd_words.proofs.Told.{same_verb}
@@ -95,21 +95,6 @@ parts v w ws c e h =
       single = h.single;
       read = record { verb_is = verb_is; said = h.said };
     }
-
-pub not_laid : (v : Verb) (w : Text) (ws : List Text) → w ≡ first_word v → (CanBeLaid v ws → ⊥) → (c : Command) → IsCommand (w ∷ ws) c → ⊥
-not_laid v w ws e none c h = let p = parts v w ws c e h in none (record { arguments = p.arguments; settings = p.settings; laid = p.laid })
-
-pub not_single : (v : Verb) (w : Text) (ws xs : List Text) (ss : List Given) → w ≡ first_word v → IsLaid v ws xs ss → (AreSingle ss → ⊥)
-    → (c : Command) → IsCommand (w ∷ ws) c → ⊥
-not_single v w ws xs ss e laid none c h =
-    let p = parts v w ws c e h in none (subst AreSingle (same_laid v ws p.arguments xs p.settings ss p.laid laid).1 p.single)
-
-pub not_read : (v : Verb) (w : Text) (ws xs : List Text) (ss : List Given) → w ≡ first_word v → IsLaid v ws xs ss → ((c : Command) → IsReadAs v xs ss c → ⊥)
-    → (c : Command) → IsCommand (w ∷ ws) c → ⊥
-not_read v w ws xs ss e laid none c h =
-    let p = parts v w ws c e h in
-    let same = same_laid v ws p.arguments xs p.settings ss p.laid laid in
-    none c (subst (λ ts. IsReadAs v xs ts c) same.1 (subst (λ ys. IsReadAs v ys p.settings c) same.0 p.read))
 
 pub no_words : (c : Command) → IsCommand [] c → ⊥
 no_words c h = let e = h.first in absurd (cc)

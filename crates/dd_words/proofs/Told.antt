@@ -1,5 +1,5 @@
 -- Settings and verbs are told by their words.
-use Rattle.std.proofs.Common.{◌≡◌, ◌≢◌, ℕ, cond, List, [], codes, Option, Some, None, refl, sym, ap, ◌∙◌, bytes_eq, rules}
+use Rattle.std.proofs.Common.{◌≡◌, ℕ, cond, List, codes, Option, Some, None, refl, sym, ap, ◌∙◌, bytes_eq}
 use Rattle.dd_words.specs.declared.settings.Setting.{Setting}
 use Rattle.dd_words.specs.declared.settings.Setting.TheVariants.{Tiles, Vertices, LeastFace, LeastDegree, Faces, Degrees, Minimal, Workers, Round, Pause, Checkpoint, Cell}
 use Rattle.dd_words.specs.declared.verbs.Verb.{Verb}
@@ -7,8 +7,6 @@ use Rattle.dd_words.specs.declared.verbs.Verb.TheVariants as verb
 use Rattle.dd_words.specs.declared.commands.FileKind.TheVariants as kind
 use Rattle.dd_words.specs.Layout.{word_of}
 use Rattle.dd_words.specs.Grammar.{first_word}
-use Rattle.dd_words.specs.Parted.{Avoids}
-use Rattle.dd_words.proofs.Parting.{avoids_by_test}
 
 -- the setting of a word
 abbrev pub setting_of : List ℕ → Option Setting
@@ -33,34 +31,6 @@ some_same a b e = cc
 
 pub same_setting : (s t : Setting) → word_of s ≡ word_of t → s ≡ t
 same_setting s t e = some_same s t (sym (setting_told s) ∙ ap setting_of e ∙ setting_told t)
-
-pub no_equals : (s : Setting) → Avoids 61 (word_of s)
-no_equals Tiles = avoids_by_test 61 (word_of Tiles) (search rules)
-no_equals Vertices = avoids_by_test 61 (word_of Vertices) (search rules)
-no_equals LeastFace = avoids_by_test 61 (word_of LeastFace) (search rules)
-no_equals LeastDegree = avoids_by_test 61 (word_of LeastDegree) (search rules)
-no_equals Faces = avoids_by_test 61 (word_of Faces) (search rules)
-no_equals Degrees = avoids_by_test 61 (word_of Degrees) (search rules)
-no_equals Minimal = avoids_by_test 61 (word_of Minimal) (search rules)
-no_equals Workers = avoids_by_test 61 (word_of Workers) (search rules)
-no_equals Round = avoids_by_test 61 (word_of Round) (search rules)
-no_equals Pause = avoids_by_test 61 (word_of Pause) (search rules)
-no_equals Checkpoint = avoids_by_test 61 (word_of Checkpoint) (search rules)
-no_equals Cell = avoids_by_test 61 (word_of Cell) (search rules)
-
-pub some_word : (s : Setting) → word_of s ≢ []
-some_word Tiles e = cc
-some_word Vertices e = cc
-some_word LeastFace e = cc
-some_word LeastDegree e = cc
-some_word Faces e = cc
-some_word Degrees e = cc
-some_word Minimal e = cc
-some_word Workers e = cc
-some_word Round e = cc
-some_word Pause e = cc
-some_word Checkpoint e = cc
-some_word Cell e = cc
 
 -- the verb of a word
 abbrev pub verb_told_by : List ℕ → Option Verb

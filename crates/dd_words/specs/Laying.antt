@@ -1,22 +1,16 @@
--- How words are laid out from the front.
+-- The arguments and the settings that the program keeps.
 use Rattle.std.specs.Prelude.{List, map}
 use Rattle.std.specs.Borrow.{Bor}
-use Rattle.dd_words.specs.declared.verbs.Verb.{Verb}
 use Rattle.dd_words.specs.declared.layouts.Laid.{Laid}
 use Rattle.dd_words.specs.Values.{Text}
-use Rattle.dd_words.specs.Layout.{Given, IsLaid}
+use Rattle.dd_words.specs.Layout.{Given}
 use Rattle.dd_words.specs.Settings.{given_of}
 
--- the words can be laid out
-pub record CanBeLaid (verb : Verb) (words : List Text) : Type 0 where
-  pub arguments : List Text
-  pub settings : List Given
-  pub laid : IsLaid verb words arguments settings
-
--- the arguments and the settings that the program keeps
+-- the texts behind references
 abbrev pub texts : List (Bor Text) → List Text
 texts = map (λ text. text.now)
 
+-- the arguments, and the settings with their values
 abbrev pub arguments_in : Laid → List Text
 arguments_in laid = texts laid.arguments.items
 

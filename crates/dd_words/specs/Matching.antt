@@ -1,5 +1,5 @@
 -- What is read of clap's matches.
-use Rattle.std.specs.Prelude.{◌≡◌, ◌≢◌, List, [], ◌∷◌, ◌++◌, Option, Some, None, true, false, codes}
+use Rattle.std.specs.Prelude.{◌≡◌, List, [], ◌∷◌, ◌++◌, Option, Some, None, true, false, codes}
 use Rattle.clap.specs.Words.{Row, first_of, one_of, matches_of, fault_of}
 use Rattle.dd_words.specs.declared.settings.Setting.{Setting}
 use Rattle.dd_words.specs.declared.verbs.Verb.{Verb}

@@ -41,10 +41,7 @@ pub fn lay_out<'a>(alloc: Global, verb: Verb, words: &'a [RcStr]) -> Result<Laid
 }
 
 /// The arguments that clap found.
-fn read_arguments<'a>(
-    alloc: Global,
-    matches: &ArgMatches<'a>,
-) -> Result<Vec<&'a str>, AllocError>
+fn read_arguments<'a>(alloc: Global, matches: &ArgMatches<'a>) -> Result<Vec<&'a str>, AllocError>
     ensures { IfOk result (λ arguments. texts arguments.items ≡ arguments_read (rows_of (found_of matches.now))) }
 {
     let mut arguments = Vec::new(alloc);

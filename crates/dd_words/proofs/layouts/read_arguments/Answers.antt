@@ -1,4 +1,4 @@
-use Rattle.std.proofs.Common.{option_map, map, ap, sym, ◌∙◌, ◌++◌}
+use Rattle.std.proofs.Common.{option_map, ap, ◌∙◌, ◌++◌}
 use Rattle.clap.specs.Words.{found_of}
 use Rattle.dd_words.specs.Laying.{texts}
 use Rattle.dd_words.specs.Matching.{listed}
