@@ -6,7 +6,7 @@ use Rattle.dd_words.specs.declared.settings.Setting.TheVariants.{Tiles, Vertices
 use Rattle.dd_words.specs.declared.verbs.Verb.{Verb}
 use Rattle.dd_words.specs.Values.{Text}
 use Rattle.dd_words.specs.Layout.{has_value, dashed, assigned}
-use Rattle.dd_words.specs.Forms.{Form, argument, end, flag, spaced, tied, IsForm}
+use Rattle.dd_words.proofs.Forms.{Form, argument, end, flag, spaced, tied, IsForm}
 use Rattle.dd_words.proofs.Told.{setting_of}
 
 -- what stands before the first `=`, and what stands after it

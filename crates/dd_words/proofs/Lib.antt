@@ -1,3 +1,4 @@
+pub mod Forms
 pub mod Parting
 pub mod Told
 pub mod FormLemmas
