@@ -11,3 +11,4 @@ pub mod Stem
 pub mod Growth
 pub mod Opening
 pub mod Children
+pub mod Table

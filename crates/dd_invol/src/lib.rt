@@ -8,6 +8,7 @@ mod numbering;
 mod rows;
 mod splitting;
 mod stem;
+mod table;
 mod tables;
 #[cfg(test)]
 mod tests;
@@ -20,5 +21,6 @@ pub use numbering::{can_follow, greatest, is_first_visit};
 pub use rows::Rows;
 pub use splitting::children;
 pub use stem::Stem;
+pub use table::Table;
 pub use tables::Tables;
 pub use traversal::{Visit, any_beats};
