@@ -20,3 +20,4 @@ pub mod SameInvolutions
 pub mod TableFronts
 pub mod Unbranched
 pub mod TableLemmas
+pub mod WalkLemmas

@@ -12,3 +12,4 @@ pub mod Growth
 pub mod Opening
 pub mod Children
 pub mod Table
+pub mod Walk
