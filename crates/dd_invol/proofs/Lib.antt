@@ -21,3 +21,4 @@ pub mod TableFronts
 pub mod Unbranched
 pub mod TableLemmas
 pub mod WalkLemmas
+pub mod WalkOrder

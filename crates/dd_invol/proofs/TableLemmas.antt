@@ -21,7 +21,7 @@ use Rattle.dd_invol.proofs.SameInvolutions.{chamber-same, involutions-same, conn
 use Rattle.dd_invol.proofs.Unbranched.{HasPeriods, unbranched_of_periods, small_of_periods}
 use Rattle.dd_symbol.specs.Building.{listed, HaveOneLength, IsAccepted}
 
-count_last : (k n : ℕ) → count_from k (n + 1) ≡ count_from k n ++ (k + n) ∷ []
+pub count_last : (k n : ℕ) → count_from k (n + 1) ≡ count_from k n ++ (k + n) ∷ []
 count_last k zero = let e : k ≡ k + 0 = omega arith in ap (λ x. x ∷ []) e
 count_last k (suc n) =
     let e : k + 1 + n ≡ k + suc n = omega arith in

@@ -1,5 +1,5 @@
 -- The steps of a walk over tables.
-use Rattle.std.proofs.Common.{◌≡◌, ◌≢◌, ◌↔◌, IsTrue, leb, Option, Some, None, MatchOption, ℕ, zero, suc, ◌+◌, ◌*◌, ◌<◌, ◌≤◌, ◌⊎◌, List, [], ◌∷◌, ◌++◌, length, get_or, refl, sym, ap, ◌∙◌, subst, inl, inr, ⊎_elim, arith}
+use Rattle.std.proofs.Common.{◌≡◌, ◌≢◌, ◌↔◌, IsTrue, leb, Option, Some, None, MatchOption, ℕ, ◌+◌, ◌*◌, ◌<◌, ◌≤◌, List, [], ◌∷◌, ◌++◌, length, get_or, refl, sym, ap, ◌∙◌, subst, inl, inr, ⊎_elim, arith}
 use Rattle.std.proofs.lemmas.Bool.{cases_lt, cases_eq}
 use Rattle.std.proofs.lemmas.List.{ext_get_or, get_or_append_left, append_assoc}
 use Rattle.std.proofs.lemmas.Cmp.{nat_list_cmp_total}
@@ -14,7 +14,7 @@ use Rattle.dd_model.specs.Wanted.{AtMost}
 use Rattle.dd_model.proofs.CellLists.{cells_unique}
 use Rattle.dd_invol.specs.Frame.{IsLonger}
 use Rattle.dd_invol.specs.Growth.{Growing}
-use Rattle.dd_model.specs.Symbol.{Symbol, IsTable, IsSymbol, Connected}
+use Rattle.dd_model.specs.Symbol.{Symbol, IsSymbol, Connected}
 use Rattle.dd_model.specs.Lists.{Begins}
 use Rattle.dd_model.specs.Code.{code, code_cmp, all_images}
 use Rattle.dd_model.specs.Jobs.{extended}
@@ -27,7 +27,7 @@ use Rattle.dd_invol.specs.Stem.{Any, prefix_of, size_of}
 use Rattle.dd_invol.specs.Table.{IsUnbranched, HaveSameInvolutions, HasNoTable, IsTableOf}
 use Rattle.dd_invol.specs.Under.{IsUnder, HasNothingUnder, HasNoNumberFrom, SkipsTo, next_number}
 use Rattle.dd_invol.specs.Walk.{IsSought, IsListed, IsPast, IsNext, HasNoneLeft, IsLeastNext, here}
-use Rattle.dd_invol.proofs.Ascending.{AgreeBefore, begins_at, begins_length, begins_from, begins_more, begins_less, agree_from, less_at}
+use Rattle.dd_invol.proofs.Ascending.{begins_at, begins_length, begins_from, begins_more, begins_less, agree_from, less_at}
 use Rattle.dd_invol.proofs.Prefixes.{below_next}
 use Rattle.dd_invol.proofs.TableFronts.{front_same}
 use Rattle.dd_invol.proofs.Unbranched.{unbranched_unique}

@@ -9,6 +9,8 @@ use Rattle.dd_model.specs.Symbol.{Symbol, IsSymbol, Connected}
 use Rattle.dd_model.specs.Lists.{Begins}
 use Rattle.dd_model.specs.Code.{code, code_cmp, all_images}
 use Rattle.dd_model.specs.FirstVisit.{LeastTable}
+use Rattle.dd_model.specs.Request.{IsValid}
+use Rattle.dd_model.specs.Jobs.{IsJobOf}
 use Rattle.dd_model.specs.Wanted.{AtMost, IsAscending}
 use Rattle.dd_model.specs.declared.requests.Request.{Request}
 use Rattle.dd_model.specs.declared.jobs.Job.{Job}
@@ -67,3 +69,8 @@ here stem = record { size = size_of stem; prefix = prefix_of stem }
 -- Lists past some numbers that begin with a prefix have k or more next.
 abbrev pub IsLeastNext : List ℕ → List ℕ → ℕ → Type 0
 IsLeastNext prefix numbers k = (xs : List ℕ) → Begins prefix xs → length prefix < length xs → slice_cmp nat_cmp numbers xs ≡ Less → k ≤ slice_index xs (length prefix)
+
+-- a request, and a job of it
+pub record IsWalk (q : Request) (job : Job) : Type 0 where
+  pub valid : IsValid q
+  pub job_of : IsJobOf q job

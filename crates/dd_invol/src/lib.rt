@@ -14,6 +14,7 @@ mod tables;
 #[cfg(test)]
 mod tests;
 mod traversal;
+mod walk;
 
 pub use beginning::{is_opening, opening};
 pub use frame::{Leaves, Tests, find};
@@ -25,3 +26,4 @@ pub use stem::Stem;
 pub use table::Table;
 pub use tables::Tables;
 pub use traversal::{Visit, any_beats};
+pub use walk::{Walk, tables_under};

@@ -153,7 +153,8 @@ impl Table {
     /// The image of a chamber under an involution.
     pub fn at(&self, i: Index, chamber: u32) -> u32
         requires { IsChamber self.now chamber }
-        ensures { result ≡ op self.now i chamber }
+        ensures image { result ≡ op self.now i chamber }
+        ensures chamber { IsChamber self.now result }
     {
         self.symbol.symbol().op(i, chamber)
     }

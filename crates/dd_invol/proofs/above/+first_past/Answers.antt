@@ -1,13 +1,13 @@
-use Rattle.std.proofs.Common.{◌≡◌, ℕ, ◌+◌, ◌∷◌, [], ◌++◌, ◌*◌, ◌<◌, length, refl, sym, ap, ◌∙◌, subst, arith}
+use Rattle.std.proofs.Common.{◌≡◌, ℕ, ◌∷◌, [], ◌++◌, ◌*◌, length, refl, ap, ◌∙◌, subst}
 use Rattle.dd_model.specs.Jobs.{extended}
 use Rattle.dd_invol.specs.Frame.{IsLonger}
-use Rattle.dd_invol.specs.Stem.{Any, IsStem, prefix_of, size_of, shortened}
+use Rattle.dd_invol.specs.Stem.{Any, prefix_of, size_of, shortened}
 use Rattle.dd_invol.specs.Rows.{depth_of}
 use Rattle.dd_invol.specs.Under.{HasNothingUnder, HasNoNumberFrom, SkipsTo}
 use Rattle.dd_invol.specs.Growth.{Growing}
 use Rattle.dd_invol.specs.Walk.{here, HasNoneLeft, IsNext, IsLeastNext}
 use Rattle.dd_invol.proofs.Frames.{not_whole}
-use Rattle.dd_invol.proofs.WalkLemmas.{HasNoneBelow, none_before, none_dead, none_listed, next_found, none_left, moved_next, moved_none, with_some, with_none}
+use Rattle.dd_invol.proofs.WalkLemmas.{none_before, none_dead, none_listed, next_found, none_left, moved_next, moved_none, with_some, with_none}
 use Rattle.dd_invol.proofs.above.+first_past.Goals as goal
 use Rattle.dd_invol.proofs.above.+first_past.Goals.{then-enter+in_ok-found-2+in_default-found, else-enter}
 

@@ -1,6 +1,5 @@
 use Rattle.std.proofs.Common.{refl, sym, subst}
 use Rattle.dd_model.specs.Code.{Least}
-use Rattle.dd_model.specs.FirstVisit.{LeastTable}
 use Rattle.dd_model.proofs.LeastForms.{least_as_table, least_as_symbol}
 use Rattle.dd_invol.proofs.above.is_sought.Goals as goal
 

@@ -1,9 +1,9 @@
-use Rattle.std.proofs.Common.{◌≡◌, ◌≢◌, ◌*◌, ◌≤◌, Bool, true, false, IsTrue, MatchOption, length, refl, sym, ap, ◌∙◌, subst}
+use Rattle.std.proofs.Common.{◌≡◌, ◌≢◌, true, false, refl, sym, ap, ◌∙◌, subst}
 use Rattle.std.specs.Ordering.{nat_cmp, is_lt}
 use Rattle.std.specs.Cmp.Lexicographic.{slice_cmp}
 use Rattle.std.specs.declared.cmp.Ordering.{Ordering}
 use Rattle.std.specs.declared.cmp.Ordering.TheVariants.{Less, Equal, Greater}
-use Rattle.dd_invol.specs.Stem.{prefix_of, size_of}
+use Rattle.dd_invol.specs.Stem.{prefix_of}
 use Rattle.dd_invol.specs.Table.{IsTableOf, HasNoTable}
 use Rattle.dd_invol.specs.Walk.{IsSought, here}
 use Rattle.dd_invol.proofs.WalkLemmas.{IsRead, none_past, none_read, none_sought, next_read, with_some, with_none}
