@@ -22,3 +22,4 @@ pub mod Unbranched
 pub mod TableLemmas
 pub mod WalkLemmas
 pub mod WalkOrder
+pub mod BareTables

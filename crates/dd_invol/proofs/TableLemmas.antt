@@ -149,7 +149,7 @@ told_table n numbers m01 m12 some both inv = record {
   involutions = inv;
 }
 
-commuting-same : (s t : Symbol) → HaveSameInvolutions s t → ((d : ℕ) → IsChamber s d → HasDegree s Edge d) → (d : ℕ) → IsChamber t d → HasDegree t Edge d
+pub commuting-same : (s t : Symbol) → HaveSameInvolutions s t → ((d : ℕ) → IsChamber s d → HasDegree s Edge d) → (d : ℕ) → IsChamber t d → HasDegree t Edge d
 commuting-same s t same commuting d h = record {
   positive = omega arith;
   along_first = refl;

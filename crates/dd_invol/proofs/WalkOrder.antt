@@ -52,12 +52,12 @@ row_pushed s n a b c xs us vs ws is first second third ea eb ec =
 
 -- ## Lists as in a dictionary
 
-three : (o : Ordering) → (o ≡ Less) ⊎ ((o ≡ Equal) ⊎ (o ≡ Greater))
+pub three : (o : Ordering) → (o ≡ Less) ⊎ ((o ≡ Equal) ⊎ (o ≡ Greater))
 three Less = inl refl
 three Equal = inr (inl refl)
 three Greater = inr (inr refl)
 
-turned_round : (xs ys : List ℕ) → slice_cmp nat_cmp xs ys ≡ Greater → slice_cmp nat_cmp ys xs ≡ Less
+pub turned_round : (xs ys : List ℕ) → slice_cmp nat_cmp xs ys ≡ Greater → slice_cmp nat_cmp ys xs ≡ Less
 turned_round xs ys e = nat_list_cmp_total.antisymm ys xs ∙ ap ordering_reverse e
 
 not_both : (xs ys : List ℕ) → slice_cmp nat_cmp xs ys ≡ Less → slice_cmp nat_cmp ys xs ≡ Less → ⊥
@@ -92,10 +92,10 @@ less_longer (x ∷ xs) (y ∷ ys) us vs size less =
     others)
     (three (nat_cmp x y))
 
-length-front : (s : Symbol) → length (all_images s) ≡ 3 * s.size
+pub length-front : (s : Symbol) → length (all_images s) ≡ 3 * s.size
 length-front s = length-flat_images s 1 s.size
 
-below_by_images : (s t : Symbol) → s.size ≡ t.size → slice_cmp nat_cmp (all_images s) (all_images t) ≡ Less → IsBelow s t
+pub below_by_images : (s t : Symbol) → s.size ≡ t.size → slice_cmp nat_cmp (all_images s) (all_images t) ≡ Less → IsBelow s t
 below_by_images s t size less =
     let ls = length-front s in
     let lt = length-front t in
@@ -130,7 +130,7 @@ only x y (u, low, e) = let first : u ≡ 0 = omega arith in sym (ap (λ k. slot 
     slot : ℕ → Symbol
     slot k = get_or (x ∷ []) k y
 
-own_begins : (s : Symbol) → Begins (all_images s) (code s)
+pub own_begins : (s : Symbol) → Begins (all_images s) (code s)
 own_begins s = subst (Begins (all_images s)) (sym (append_assoc (all_images s) s.m01 s.m12)) (begins_appended (all_images s) (s.m01 ++ s.m12))
 
 -- listed tables with the same images are the same

@@ -15,7 +15,7 @@ use Rattle.dd_model.specs.Wanted.{AtMost, IsAscending}
 use Rattle.dd_model.specs.declared.requests.Request.{Request}
 use Rattle.dd_model.specs.declared.jobs.Job.{Job}
 use Rattle.dd_invol.specs.Stem.{prefix_of, size_of}
-use Rattle.dd_invol.specs.Table.{IsUnbranched}
+use Rattle.dd_invol.specs.Table.{IsUnbranched, HaveSameInvolutions}
 use Rattle.dd_invol.specs.declared.stem.Stem.{Stem}
 
 -- what a request asks of a table: that no renumbering is smaller, and that it has no more tiles and vertices than asked for
@@ -51,6 +51,12 @@ HasNoneLeft q job numbers = (s : Symbol) → IsListed q job s → IsPast numbers
 pub record AreListed (q : Request) (job : Job) (ts : List Symbol) : Type 0 where
   pub ascending : IsAscending ts
   pub members : (t : Symbol) → Contains ts t ↔ IsListed q job t
+
+-- a listed table with the involutions of a symbol
+pub record HasTable (q : Request) (job : Job) (s : Symbol) : Type 0 where
+  pub table : Symbol
+  pub listed : IsListed q job table
+  pub same : HaveSameInvolutions s table
 
 -- What a walk goes over, and the images of the table that it gave last: no numbers before the first one.
 pub record Walking : Type 0 where

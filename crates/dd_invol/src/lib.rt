@@ -18,7 +18,7 @@ mod walk;
 
 pub use beginning::{is_opening, opening};
 pub use frame::{Leaves, Tests, find};
-pub use laws::each_least_code_begins_with_one_job;
+pub use laws::{each_least_code_begins_with_one_job, each_member_has_one_table};
 pub use numbering::{can_follow, greatest, is_first_visit};
 pub use rows::Rows;
 pub use splitting::children;
