@@ -1,6 +1,8 @@
-ghost use Rattle.std.specs.Prelude.{◌≤◌};
+ghost use Rattle.std.specs.Prelude.{◌≡◌, ◌*◌, ◌<◌, ◌≤◌};
+ghost use Rattle.dd_invol.specs.Rows.{partial_of, IsReady};
+ghost use Rattle.dd_shares.specs.Kept.{AreKept};
 
-use crate::{Shares, is_odd, put};
+use crate::{Shares, is_odd};
 use dd_invol::Rows;
 use dd_model::{Allowed, Request};
 use std::test::Fail;
@@ -37,6 +39,23 @@ fn a_tile_has_at_most_twelve_chambers(rt: HostRuntime) -> Result<(), Fail> {
     assert!(rt; !is_empty(0, 4, 36));
     assert!(rt; is_empty(0, 5, 1));
     Ok(())
+}
+
+/// Puts a number in at a place of a code, and learns from it.
+fn put(rows: &mut Rows, shares: &mut Shares, place: u8, number: u8) -> bool
+    requires ready { IsReady rows.old }
+    requires place { place < 3 * (partial_of rows.old).size }
+    requires kept { AreKept (partial_of rows.old) shares.old }
+    ensures ready { IsReady rows.new }
+    ensures size { (partial_of rows.new).size ≡ (partial_of rows.old).size }
+    ensures kept { AreKept (partial_of rows.new) shares.new }
+{
+    let mark = rows.mark();
+    if !rows.put(place, number) {
+        return false;
+    }
+    shares.learn(rows, mark);
+    true
 }
 
 /// What is answered before a chain of five chambers is put in, while it is open, when it is closed,
