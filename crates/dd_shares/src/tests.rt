@@ -1,9 +1,11 @@
 ghost use Rattle.std.specs.Prelude.{◌≡◌, ◌*◌, ◌<◌, ◌≤◌};
 ghost use Rattle.dd_invol.specs.Rows.{partial_of, IsReady};
+ghost use Rattle.dd_invol.specs.Stem.{IsStem};
+ghost use Rattle.dd_invol.specs.Visit.{IsVisiting};
 ghost use Rattle.dd_shares.specs.Kept.{AreKept};
 
 use crate::{Shares, is_odd};
-use dd_invol::Rows;
+use dd_invol::{Rows, Stem, Visit};
 use dd_model::{Allowed, Request};
 use std::test::Fail;
 
@@ -114,5 +116,62 @@ fn odd_sizes_have_fixed_chambers(rt: HostRuntime) -> Result<(), Fail> {
     assert!(rt; even.put(0, 2));
     assert!(rt; is_odd(&odd));
     assert!(rt; !is_odd(&even));
+    Ok(())
+}
+
+/// How many numbers a search puts in under a stem that no test refuses, without those that follow
+/// from others. The stem's last number was put in after a mark.
+fn count_nodes(stem: &mut Stem, visit: &mut Visit, shares: &mut Shares, mark: usize) -> u64
+    requires stem { IsStem stem.old }
+    requires visiting { IsVisiting visit.old }
+    requires kept { AreKept (partial_of stem.old.rows) shares.old }
+    ensures stem { stem.new ≡ stem.old }
+    ensures visiting { IsVisiting visit.new }
+    ensures shares { shares.new ≡ shares.old }
+{
+    let back = shares.mark();
+    shares.learn(stem.rows(), mark);
+    if shares.exceeds(stem.rows()) {
+        shares.undo(back);
+        return 0;
+    }
+    if is_odd(stem.rows()) {
+        shares.undo(back);
+        return 0;
+    }
+    let here = stem.mark();
+    let mut count = u64::from(here > mark);
+    if stem.is_whole() {
+        shares.undo(back);
+        return count;
+    }
+    let mut k = 0;
+    while let Some(number) = stem.next_from(k) {
+        if stem.enter(number, visit) {
+            count = count_nodes(stem, visit, shares, here).saturating_add(count);
+            stem.leave(here);
+        }
+        k = number + 1;
+    }
+    shares.undo(back);
+    count
+}
+
+/// How many numbers a search for a size puts in.
+fn nodes_of(tiles: u32, size: u8) -> u64
+    requires { (1 ≤ size) × (size ≤ 36) }
+{
+    let mut stem = Stem::new(size);
+    let mut visit = Visit::new();
+    let mut shares = Shares::start(&asked(tiles, 3), size);
+    count_nodes(&mut stem, &mut visit, &mut shares, 0)
+}
+
+#[test]
+fn a_search_turns_back_in_time(rt: HostRuntime) -> Result<(), Fail> {
+    assert_eq!(rt; nodes_of(0, 6), 296);
+    assert_eq!(rt; nodes_of(0, 8), 999);
+    assert_eq!(rt; nodes_of(0, 10), 3019);
+    assert_eq!(rt; nodes_of(1, 13), 0);
     Ok(())
 }
