@@ -1,5 +1,5 @@
 -- Cells that are whole, and what the other cells can add.
-use Rattle.std.proofs.Common.{◌≡◌, ℕ, zero, suc, ◌+◌, ◌-◌, ◌*◌, ◌/◌, ◌≤◌, ◌⊎◌, IsTrue, Bool, true, false, List, [], ◌∷◌, ◌++◌, length, length-append, refl, sym, ap, ◌∙◌, subst, ⊎_elim, arith}
+use Rattle.std.proofs.Common.{◌≡◌, ℕ, zero, suc, ◌+◌, ◌-◌, ◌*◌, ◌/◌, ◌≤◌, ◌⊎◌, IsTrue, Bool, true, false, List, [], ◌∷◌, ◌++◌, eqb, length, length-append, refl, sym, ap, ◌∙◌, subst, ⊎_elim, arith}
 use Rattle.std.proofs.lemmas.List.Elements.{Contains-append_cases}
 use Rattle.std.proofs.lemmas.List.Sums.{sum_by-append, sum_by-cons}
 use Rattle.std.proofs.Math.Nat.{mul-le-mul_left, mul-le-mul_right}
@@ -92,6 +92,10 @@ known_flag P s full i d some =
     omega (arith, a, b))
     (λ moved. let a = ap one_if (ne_eqb (op P i d) d moved) in omega (arith, a))
     (cases_eq (op P i d) d)
+
+-- a flag, by the image
+pub same_flag : (P : Symbol) (i j : Index) (d image : ℕ) → image ≡ op P i d → i ≡ j → one_if (eqb image d) ≡ fixed_flag P j d
+same_flag P i j d image is same = ap (λ x. one_if (eqb x d)) is ∙ ap (λ k. fixed_flag P k d) same
 
 -- the flags of one more chamber
 pub fixed_more : (q : Request) (P : Symbol) (p : Pair) (k fixed a b : ℕ) → ((s : Symbol) → IsSought q P s → fixed ≤ sum_by (fixed_flags s p) (count_from 1 k))

@@ -1,7 +1,7 @@
 ghost use Rattle.std.specs.Prelude.{◌≡◌, ◌⊎◌, ℕ, ◌+◌, ◌*◌, ◌/◌, ◌≤◌, ◌<◌, cond, nat_eq, sum};
 ghost use Rattle.std.specs.List.{sum_by};
 ghost use Rattle.dd_model.specs.Flat.{all_degrees};
-ghost use Rattle.dd_model.specs.Symbol.{Symbol as Tiling, op};
+ghost use Rattle.dd_model.specs.Symbol.{Symbol as Tiling};
 ghost use Rattle.dd_model.specs.Wanted.{AtMost, Wanted};
 ghost use Rattle.dd_model.specs.declared.parts.Pair.TheVariants.{Tile, Vertex};
 ghost use Rattle.dd_invol.specs.Rows.{partial_of, IsReady};
@@ -11,7 +11,7 @@ ghost use Rattle.dd_shares.specs.Sides.{IsSide};
 use crate::cells::WholeCell;
 use crate::sides::{Side, WHOLE};
 use dd_invol::Rows;
-use dd_model::{Index, Pair, Request};
+use dd_model::{Pair, Request};
 
 /// At most so many cells of a pair are asked for; 0 sets no limit.
 fn limit_of(request: &Request, pair: Pair) -> u32
@@ -24,19 +24,12 @@ fn limit_of(request: &Request, pair: Pair) -> u32
     }
 }
 
-/// 1 where an involution is known to fix a chamber.
-fn fixes(table: &Rows, i: Index, chamber: u8) -> u32
-    requires ready { IsReady table.now }
-    requires low { 1 ≤ chamber }
-    requires high { chamber ≤ 36 }
-    ensures one { result ≡ cond (nat_eq (op (partial_of table.now) i chamber) chamber) 1 0 }
+/// 1 where the image of a chamber is the chamber.
+fn fixes(image: u8, chamber: u8) -> u32
+    ensures one { result ≡ cond (nat_eq image chamber) 1 0 }
     ensures small { result ≤ 1 }
 {
-    if table.known(i, chamber) == chamber {
-        1
-    } else {
-        0
-    }
+    if image == chamber { 1 } else { 0 }
 }
 
 /// What a table tells of the cells of a pair: the cells that are whole, how many of them are chains,
@@ -81,7 +74,12 @@ impl Census {
         ensures small { IsSmall (k + 1) self.new }
     {
         let chamber = k + 1;
-        self.fixed += fixes(table, pair.first(), chamber) + fixes(table, pair.second(), chamber);
+        let beside = table.known(pair.first(), chamber);
+        let across = table.known(pair.second(), chamber);
+        self.fixed += fixes(beside, chamber) + fixes(across, chamber);
+        if across < chamber {
+            return;
+        }
         let Some(cell) = WholeCell::from(table, pair, chamber, chamber) else {
             return;
         };

@@ -144,10 +144,22 @@ impl Shares {
         if self.vertices.is_void() {
             return true;
         }
+        if is_too_small(self.tiles.total, self.vertices.total, table.size()) {
+            return true;
+        }
         let tiles = self.tiles.limited(&self.request, table, Pair::Tile);
         let vertices = self.vertices.limited(&self.request, table, Pair::Vertex);
-        2 * (tiles + vertices) < u64::from(table.size()) * WHOLE
+        is_too_small(tiles, vertices, table.size())
     }
+}
+
+/// Whether two totals are less than those of a flat symbol of a size.
+fn is_too_small(tiles: u64, vertices: u64, size: u8) -> bool
+    requires tiles { tiles ≤ 36 * 144403552893600 }
+    requires vertices { vertices ≤ 36 * 144403552893600 }
+    ensures { IsTrue result → 2 * (tiles + vertices) < size * 144403552893600 }
+{
+    2 * (tiles + vertices) < u64::from(size) * WHOLE
 }
 
 /// Whether it is sure that no least table completes the table: its size is odd, and s0 moves

@@ -107,6 +107,47 @@ fn a_whole_tile_leaves_no_room(rt: HostRuntime) -> Result<(), Fail> {
     Ok(())
 }
 
+/// Whether nothing is sought where faces have five edges, before and after chambers 1 and 2 are a
+/// whole tile, of which the degree is even.
+fn answers_for_pentagons() -> [bool; 3] {
+    let mut faces = Allowed::none();
+    faces.add(5);
+    let mut request = asked(0, 3);
+    request.faces = faces;
+    let mut rows = Rows::empty(20);
+    let mut shares = Shares::start(&request, 20);
+    let before = shares.exceeds(&rows);
+    let put_in = put(&mut rows, &mut shares, 0, 2)
+        && put(&mut rows, &mut shares, 1, 1)
+        && put(&mut rows, &mut shares, 4, 2);
+    [before, put_in, shares.exceeds(&rows)]
+}
+
+#[test]
+fn a_whole_tile_has_an_allowed_degree(rt: HostRuntime) -> Result<(), Fail> {
+    let [before, put_in, after] = answers_for_pentagons();
+    assert!(rt; !before);
+    assert!(rt; put_in);
+    assert!(rt; after);
+    Ok(())
+}
+
+/// Whether nothing of a size is sought that has one tile, in which s0 fixes chamber 1.
+fn is_empty_with_a_chain(size: u8) -> bool
+    requires { (1 ≤ size) × (size ≤ 36) }
+{
+    let mut rows = Rows::empty(size);
+    let mut shares = Shares::start(&asked(1, 3), size);
+    put(&mut rows, &mut shares, 0, 1) && shares.exceeds(&rows)
+}
+
+#[test]
+fn a_tile_with_a_fixed_chamber_has_at_most_six(rt: HostRuntime) -> Result<(), Fail> {
+    assert!(rt; !is_empty_with_a_chain(6));
+    assert!(rt; is_empty_with_a_chain(7));
+    Ok(())
+}
+
 #[test]
 fn odd_sizes_have_fixed_chambers(rt: HostRuntime) -> Result<(), Fail> {
     let mut odd = Rows::empty(3);

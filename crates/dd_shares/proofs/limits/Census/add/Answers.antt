@@ -1,10 +1,22 @@
 use Rattle.std.proofs.Common.{◌≡◌, ◌+◌, ◌*◌, sym, ap, ◌∙◌, subst, arith}
 use Rattle.dd_invol.specs.Rows.{partial_of}
-use Rattle.dd_model.specs.Symbol.{item}
-use Rattle.dd_cells.proofs.FixedFlags.{fixed_flag}
+use Rattle.dd_model.specs.Symbol.{first, second, item}
 use Rattle.dd_shares.specs.Closed.{AreWhole, IsWhole}
-use Rattle.dd_shares.proofs.ClosedLemmas.{whole_skip, whole_more, whole_from_cell, fixed_more}
+use Rattle.dd_shares.proofs.ClosedLemmas.{whole_skip, whole_more, whole_from_cell, fixed_more, same_flag}
 use Rattle.dd_shares.proofs.limits.Census.add.Goals as goal
+
+pub returns-then-across-chamber-clause-census : goal.returns-then-across-chamber-clause-census
+returns-then-across-chamber-clause-census c q side census =
+    let P = partial_of c.args.table.now in
+    let p = c.args.pair in
+    let old = c.args.self.now in
+    let d = c.args.k + 1 in
+    record {
+      whole = whole_skip q P p 144403552893600 c.args.k old.cells old.chains old.chambers old.most census.whole;
+      fixed = fixed_more q P p c.args.k old.fixed c.fixes.result c.fixes-2.result census.fixed
+          (c.fixes.ensures.one ∙ same_flag P c.first.result (first p) d c.known-beside.result c.known-beside.ensures.image c.first.ensures)
+          (c.fixes-2.ensures.one ∙ same_flag P c.second.result (second p) d c.known-across.result c.known-across.ensures.image c.second.ensures);
+    }
 
 pub returns-in_default-clause-census : goal.returns-in_default-clause-census
 returns-in_default-clause-census c q side census =
@@ -15,7 +27,8 @@ returns-in_default-clause-census c q side census =
     record {
       whole = whole_skip q P p 144403552893600 c.args.k old.cells old.chains old.chambers old.most census.whole;
       fixed = fixed_more q P p c.args.k old.fixed c.fixes.result c.fixes-2.result census.fixed
-          (c.fixes.ensures.one ∙ ap (λ i. fixed_flag P i d) c.first.ensures) (c.fixes-2.ensures.one ∙ ap (λ i. fixed_flag P i d) c.second.ensures);
+          (c.fixes.ensures.one ∙ same_flag P c.first.result (first p) d c.known-beside.result c.known-beside.ensures.image c.first.ensures)
+          (c.fixes-2.ensures.one ∙ same_flag P c.second.result (second p) d c.known-across.result c.known-across.ensures.image c.second.ensures);
     }
 
 pub returns-clause-census : goal.returns-clause-census
@@ -37,5 +50,6 @@ returns-clause-census c q side census =
           (subst (λ m. AreWhole q P p 144403552893600 d (old.cells + 1) (old.chains + c.chains.result) (old.chambers + count) (old.most + m)) (sym own)
           (whole_more q P p 144403552893600 c.args.k old.cells old.chains old.chambers old.most c.chains.result count (count * share) census.whole one));
       fixed = fixed_more q P p c.args.k old.fixed c.fixes.result c.fixes-2.result census.fixed
-          (c.fixes.ensures.one ∙ ap (λ i. fixed_flag P i d) c.first.ensures) (c.fixes-2.ensures.one ∙ ap (λ i. fixed_flag P i d) c.second.ensures);
+          (c.fixes.ensures.one ∙ same_flag P c.first.result (first p) d c.known-beside.result c.known-beside.ensures.image c.first.ensures)
+          (c.fixes-2.ensures.one ∙ same_flag P c.second.result (second p) d c.known-across.result c.known-across.ensures.image c.second.ensures);
     }
