@@ -6,7 +6,7 @@ ghost use Rattle.dd_shares.specs.Turning.{IsTurn, IsWholeCell};
 use dd_invol::Rows;
 use dd_model::Pair;
 
-/// Where one turn leads, and whether one of its two involutions fixes the chamber that it comes to.
+/// Where one turn leads, and whether one of its two steps stays in its place.
 #[derive(Clone, Copy, Drop)]
 pub(crate) struct Turn {
     chamber: u8,
