@@ -13,7 +13,7 @@ use dd_invol::Rows;
 use dd_model::{Index, Pair, Request};
 
 /// How much was exchanged.
-#[derive(Debug, Clone, Copy, PartialEq, Eq)]
+#[derive(Debug, Clone, Copy, Default, PartialEq, Eq)]
 pub struct Mark {
     tiles: usize,
     vertices: usize,
