@@ -16,3 +16,10 @@ pub mod JobLists
 pub mod OpeningLaws
 pub mod Extensions
 pub mod Stems
+pub mod SameInvolutions
+pub mod TableFronts
+pub mod Unbranched
+pub mod TableLemmas
+pub mod WalkLemmas
+pub mod WalkOrder
+pub mod BareTables

@@ -11,3 +11,5 @@ pub mod Stem
 pub mod Growth
 pub mod Opening
 pub mod Children
+pub mod Table
+pub mod Walk

@@ -1,4 +1,4 @@
-ghost use Rattle.std.specs.Prelude.{◌≡◌, ℕ, ◌+◌, ◌-◌, ◌*◌, ◌/◌, ◌%◌, ◌≤◌, ◌<◌, length};
+ghost use Rattle.std.specs.Prelude.{◌≡◌, ℕ, ◌+◌, ◌-◌, ◌*◌, ◌/◌, ◌%◌, ◌≤◌, ◌<◌, length, drop, slice_index};
 ghost use Rattle.std.specs.Bool.{OnTrue, OnFalse};
 ghost use Rattle.dd_model.specs.Symbol.{op};
 ghost use Rattle.dd_invol.specs.Places.{index_at, place};
@@ -85,6 +85,16 @@ impl Rows {
         ensures { result ≡ depth_of self.now }
     {
         self.trail.len()
+    }
+
+    /// The places that were filled after a mark, in order.
+    pub fn filled(&self, mark: usize) -> &[u8]
+        requires { IsReady self.now }
+        ensures places { result.now ≡ drop mark self.now.trail.items }
+        ensures inside { (k : ℕ) → k < length result.now → slice_index result.now k < 108 }
+    {
+        let places = self.trail.as_slice();
+        &places[mark.min(places.len())..]
     }
 
     /// Takes out what was put in after a mark.

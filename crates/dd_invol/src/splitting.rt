@@ -27,9 +27,9 @@ fn child(alloc: Global, job: &Job, number: u8) -> Result<Job, Memory>
 }
 
 /// The stem of a job, unless it is sure that nothing is under it.
-fn stem_of(job: &Job, visit: &mut Visit) -> Option<Stem>
+pub(crate) fn stem_of(job: &Job, visit: &mut Visit) -> Option<Stem>
     requires size { (1 ≤ job.now.size) × (job.now.size ≤ 36) }
-    requires shorter { length job.now.prefix < 3 * job.now.size }
+    requires short { length job.now.prefix ≤ 3 * job.now.size }
     requires visiting { IsVisiting visit.old }
     ensures visiting { IsVisiting visit.new }
     ensures stem { MatchOption result (HasNothingUnder Any job.now.size job.now.prefix) (λ stem. IsStemOf job.now stem) }

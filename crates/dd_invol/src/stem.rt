@@ -98,6 +98,36 @@ impl Stem {
         Some(least)
     }
 
+    /// Puts a number at the end, with what follows by commuting, unless commuting forbids it.
+    pub fn put(&mut self, number: u8) -> bool
+        requires stem { IsStem self.old }
+        requires room { length (prefix_of self.old) < 3 * size_of self.old }
+        ensures stem { IsStem self.new }
+        ensures longer { OnTrue result (prefix_of self.new ≡ prefix_of self.old ++ number ∷ []) }
+        ensures size { size_of self.new ≡ size_of self.old }
+        ensures undone { OnTrue result (shortened self.new (depth_of self.old.rows) ≡ self.old) }
+        ensures same { OnFalse result (self.new ≡ self.old) }
+        ensures dead { OnFalse result (HasNothingUnder Any (size_of self.old) (prefix_of self.old ++ number ∷ [])) }
+    {
+        let place = self.prefix.len() as u8;
+        if !self.rows.put(place, number) {
+            return false;
+        }
+        self.prefix.push(number);
+        true
+    }
+
+    /// Whether the traversal from some chamber gives a smaller code, so that nothing is under the
+    /// prefix. A tie is none.
+    pub fn is_beaten(&self, visit: &mut Visit) -> bool
+        requires stem { IsStem self.now }
+        requires visiting { IsVisiting visit.old }
+        ensures visiting { IsVisiting visit.new }
+        ensures dead { IsTrue result → HasNothingUnder Any (size_of self.now) (prefix_of self.now) }
+    {
+        any_beats(&self.rows, &self.prefix, visit)
+    }
+
     /// Puts a number at the end with what follows from it, unless nothing is under the longer
     /// prefix: commuting forbids it, or the traversal from some chamber gives a smaller code.
     pub fn enter(&mut self, number: u8, visit: &mut Visit) -> bool
@@ -113,12 +143,10 @@ impl Stem {
         ensures dead { OnFalse result (HasNothingUnder Any (size_of self.old) (prefix_of self.old ++ number ∷ [])) }
     {
         let mark = self.mark();
-        let place = self.prefix.len() as u8;
-        if !self.rows.put(place, number) {
+        if !self.put(number) {
             return false;
         }
-        self.prefix.push(number);
-        if any_beats(&self.rows, &self.prefix, visit) {
+        if self.is_beaten(visit) {
             self.leave(mark);
             return false;
         }

@@ -28,6 +28,7 @@ impl Model for Tables {
 }
 
 impl Tables {
+    ghost use Rattle.dd_invol.specs.Visit.{IsVisiting};
     ghost use Rattle.dd_invol.specs.Stem.{IsStem, prefix_of, size_of};
 
     /// The search from the empty prefix.
@@ -43,6 +44,40 @@ impl Tables {
             stem: Stem::new(size),
             visit: Visit::new(),
         }
+    }
+
+    /// The search from a stem on, with the room for its traversals.
+    pub(crate) fn from_stem(request: &Request, stem: Stem, visit: Visit) -> Tables
+        requires { IsVisiting visit }
+        ensures request { result.request ≡ request.now }
+        ensures stem { result.stem ≡ stem }
+    {
+        Tables {
+            request: *request,
+            stem,
+            visit,
+        }
+    }
+
+    /// What is asked for.
+    pub(crate) fn request(&self) -> &Request
+        ensures { result.now ≡ self.now.request }
+    {
+        &self.request
+    }
+
+    /// The number of chambers.
+    pub(crate) fn size(&self) -> u8
+        ensures { result ≡ size_of self.now.stem }
+    {
+        self.stem.size()
+    }
+
+    /// The numbers of the prefix.
+    pub(crate) fn prefix(&self) -> &[u8]
+        ensures { result.now ≡ prefix_of self.now.stem }
+    {
+        self.stem.prefix()
     }
 }
 

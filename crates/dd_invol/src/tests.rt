@@ -3,7 +3,7 @@ ghost use Rattle.dd_invol.specs.Stem.{IsStem};
 ghost use Rattle.dd_invol.specs.Visit.{IsVisiting};
 
 use super::*;
-use dd_model::{Allowed, Job, Prefix, Request};
+use dd_model::{Allowed, Index, Job, Prefix, Request};
 use std::alloc::Global;
 use std::test::Fail;
 
@@ -158,5 +158,121 @@ fn least_tables_by_size(rt: HostRuntime) -> Result<(), Fail> {
     for (size, expected) in counts {
         assert_eq!(rt; tables_of(size), expected);
     }
+    Ok(())
+}
+
+/// Whether numbers are those of a table of two chambers.
+fn is_table(alloc: Global, numbers: &[u8]) -> Result<bool, Fail> {
+    if numbers.len() != 6 {
+        return Ok(false);
+    }
+    Ok(Table::of(alloc, 2, numbers)?.is_some())
+}
+
+#[test]
+fn tables_from_numbers(rt: HostRuntime) -> Result<(), Fail> {
+    let cases: [([u8; 6], bool); 6] = [
+        ([2, 1, 1, 1, 2, 2], true),
+        ([2, 2, 1, 1, 1, 2], true),
+        // the chambers are not connected
+        ([1, 1, 1, 2, 2, 2], false),
+        // no involution
+        ([2, 1, 1, 2, 2, 2], false),
+        // no chambers
+        ([0, 1, 1, 1, 2, 2], false),
+        ([2, 1, 3, 1, 2, 2], false),
+    ];
+    for (numbers, expected) in cases {
+        assert_eq!(rt; is_table(rt.alloc(), numbers.as_slice())?, expected);
+    }
+    Ok(())
+}
+
+/// The images of chamber 1 in each table of a walk.
+fn walked(alloc: Global, q: &Request, job: &Job) -> Result<Vec<[u32; 3]>, Fail> {
+    let mut firsts = Vec::new(alloc);
+    let fits = job.prefix.as_slice().len() as u64 <= 3 * job.size as u64;
+    if !q.is_valid() || job.size == 0 || job.size > q.chambers || !fits {
+        return Ok(firsts);
+    }
+    let tables = tables_under(alloc, q, job)?;
+    for table in tables.iter() {
+        table.known();
+        firsts.push([
+            table.at(Index::Zero, 1),
+            table.at(Index::One, 1),
+            table.at(Index::Two, 1),
+        ])?;
+    }
+    Ok(firsts)
+}
+
+/// How many tables of a size all jobs of the opening have.
+fn count_walked(alloc: Global, size: u32) -> Result<usize, Fail> {
+    let q = asked(5);
+    let mut count = 0usize;
+    let jobs = opened(alloc, 5)?;
+    for job in jobs.iter() {
+        if job.size == size {
+            count = count.saturating_add(walked(alloc, &q, job)?.len());
+        }
+    }
+    Ok(count)
+}
+
+#[test]
+fn walks_by_size(rt: HostRuntime) -> Result<(), Fail> {
+    for (size, expected) in [(1, 1), (2, 7), (3, 3), (4, 22), (5, 13)] {
+        assert_eq!(rt; count_walked(rt.alloc(), size)?, expected);
+    }
+    Ok(())
+}
+
+#[test]
+fn a_walk_ascends(rt: HostRuntime) -> Result<(), Fail> {
+    let firsts = walked(rt.alloc(), &asked(2), &job(rt.alloc(), 2, &[1])?)?;
+    assert_eq!(rt;
+        firsts.as_slice(),
+        [[1, 1, 2], [1, 2, 1], [1, 2, 2]].as_slice()
+    );
+    Ok(())
+}
+
+/// The tables of two chambers, where only so many classes of tiles and of vertices are asked for.
+fn limited(alloc: Global, tiles: u32, vertices: u32) -> Result<Vec<[u32; 3]>, Fail> {
+    let mut q = asked(2);
+    q.tiles = tiles;
+    q.vertices = vertices;
+    walked(alloc, &q, &job(alloc, 2, &[])?)
+}
+
+#[test]
+fn a_walk_keeps_within_limits(rt: HostRuntime) -> Result<(), Fail> {
+    let tiles = limited(rt.alloc(), 1, 0)?;
+    let vertices = limited(rt.alloc(), 0, 1)?;
+    assert_eq!(rt;
+        tiles.as_slice(),
+        [
+            [1, 2, 1],
+            [1, 2, 2],
+            [2, 1, 1],
+            [2, 1, 2],
+            [2, 2, 1],
+            [2, 2, 2]
+        ]
+        .as_slice()
+    );
+    assert_eq!(rt;
+        vertices.as_slice(),
+        [
+            [1, 1, 2],
+            [1, 2, 1],
+            [1, 2, 2],
+            [2, 1, 2],
+            [2, 2, 1],
+            [2, 2, 2]
+        ]
+        .as_slice()
+    );
     Ok(())
 }

@@ -1,87 +1,145 @@
--- Paths that are whole cells, and what the other cells can add.
-use Rattle.std.proofs.Common.{◌≡◌, ℕ, ◌+◌, ◌-◌, ◌*◌, ◌/◌, ◌≤◌, ◌⊎◌, List, [], ◌∷◌, ◌++◌, length, length-append, refl, sym, ap, ◌∙◌, subst, ⊎_elim, arith}
+-- Cells that are whole, and what the other cells can add.
+use Rattle.std.proofs.Common.{◌≡◌, ℕ, zero, suc, ◌+◌, ◌-◌, ◌*◌, ◌/◌, ◌≤◌, ◌⊎◌, IsTrue, Bool, true, false, List, [], ◌∷◌, ◌++◌, eqb, length, length-append, refl, sym, ap, ◌∙◌, subst, ⊎_elim, arith}
 use Rattle.std.proofs.lemmas.List.Elements.{Contains-append_cases}
 use Rattle.std.proofs.lemmas.List.Sums.{sum_by-append, sum_by-cons}
 use Rattle.std.proofs.Math.Nat.{mul-le-mul_left, mul-le-mul_right}
 use Rattle.std.specs.List.{Contains, sum_by}
-use Rattle.dd_model.specs.declared.parts.Index.{Index}
 use Rattle.dd_model.specs.declared.parts.Pair.{Pair}
 use Rattle.dd_model.specs.declared.parts.Pair.TheVariants.{Tile, Vertex}
 use Rattle.dd_model.specs.declared.requests.Request.{Request}
-use Rattle.dd_model.specs.Symbol.{Symbol, IsChamber, Word, first, second, op, act, degree}
-use Rattle.dd_model.specs.Cell.{IsWordOf, InCell, IsLeastOfCell}
+use Rattle.dd_model.specs.Symbol.{Symbol, IsSymbol, IsChamber, first, second, op, degree}
+use Rattle.dd_model.specs.Code.{chambers, count_from}
+use Rattle.dd_model.specs.Cell.{IsLeastOfCell}
 use Rattle.dd_model.specs.Flat.{all_degrees}
-use Rattle.dd_model.specs.Partial.{Completes}
 use Rattle.dd_model.specs.Wanted.{AtMost, Wanted}
+use Rattle.dd_model.proofs.Bijections.{length-count_from}
 use Rattle.dd_model.proofs.CellLists.{Contains-cases, increasing-push}
 use Rattle.dd_model.proofs.Counts.{length-le_from_partners}
-use Rattle.dd_cells.proofs.CellSums.{has_roots, members_at, members_at_are}
-use Rattle.dd_shares.specs.Closed.{LeadsInto, IsClosed, IsWhole, AreWhole}
-use Rattle.dd_shares.specs.Shares.{IsSought, IsShare, degrees_of, IsTotal}
+use Rattle.dd_model.proofs.Transport.{in_cell_within}
+use Rattle.dd_cells.specs.Cells.{AreMembers}
+use Rattle.dd_cells.proofs.CellSizes.{chain_size, cycle_size}
+use Rattle.dd_cells.proofs.CellSums.{has_roots, members_at, members_at_are, sum_by_both, sum_by_same, chamber_listed}
+use Rattle.dd_cells.proofs.FixedFlags.{one_if, fixed_flag}
+use Rattle.dd_model.specs.declared.parts.Index.{Index}
+use Rattle.dd_model.specs.Partial.{Completes}
+use Rattle.std.proofs.lemmas.Bool.{cases_eq, eq-eqb, ne_eqb}
+use Rattle.dd_shares.specs.Closed.{fixed_flags, IsWhole, AreMembersOf, AreWhole}
+use Rattle.dd_shares.specs.Census.{IsCensus, HasRoom}
+use Rattle.dd_shares.specs.Shares.{IsSought, IsShare}
+use Rattle.dd_shares.specs.Turning.{IsWholeCell}
+use Rattle.dd_shares.specs.declared.cells.WholeCell.{WholeCell}
+use Rattle.dd_shares.specs.declared.limits.Census.{Census}
 use Rattle.dd_shares.proofs.Bounds.{sum_over_degrees}
-use Rattle.dd_shares.proofs.CountBound.{count_bound, cell_sum}
+use Rattle.dd_shares.proofs.CountBound.{cell_sum, flags_of_cell, flags_at_most, flagged_weight, sum_beyond_cells, even_flags}
 use Rattle.dd_shares.proofs.FlatBound.{part, add_parts}
 
--- words of the pair do not lead out of a closed list
-stays : (P s : Symbol) → Completes P s → (p : Pair) (es : List ℕ) → IsClosed P p es → (w : Word) → IsWordOf p w → (x : ℕ) → Contains es x → Contains es (act s w x)
-stays P s c p es closed [] letters x here = here
-stays P s c p es closed (i ∷ w) letters x here =
-    let go : (j : Index) → LeadsInto P j es x → Contains es (op s j x) = λ j into. subst (Contains es) (sym (c.images j x into.known)) into.listed in
-    stays P s c p es closed w letters.1 (op s i x)
-    (⊎_elim
-    (λ e. subst (λ j. Contains es (op s j x)) (sym e) (go (first p) (closed.by_first x here)))
-    (λ e. subst (λ j. Contains es (op s j x)) (sym e) (go (second p) (closed.by_second x here)))
-    letters.0)
+-- ## One whole cell
 
-pub cell_in_closed : (P s : Symbol) → Completes P s → (p : Pair) (es : List ℕ) (d e : ℕ) → IsClosed P p es → Contains es d → InCell s p d e → Contains es e
-cell_in_closed P s c p es d e closed here there = subst (Contains es) there.leads (stays P s c p es closed there.word there.letters d here)
+-- a chain or not, by a test
+by_kind : (b : Bool) (A : Type 0) → (IsTrue b → A) → ((IsTrue b → ⊥) → A) → A
+by_kind true A chain cycle = chain refl
+by_kind false A chain cycle = cycle (λ no. let clash : false ≡ true = no in cc)
 
--- a closed path from its least chamber
-pub whole_from_closed : (q : Request) (P : Symbol) (p : Pair) (L d share : ℕ) (es : List ℕ) → 1 ≤ d → d ≤ P.size → Contains es d → IsClosed P p es
-    → ((e : ℕ) → Contains es e → d ≤ e) → IsShare q P p L d share → IsWhole q P p L d (length es * share)
-whole_from_closed q P p L d share es low high here closed least is_share = record {
-  least = λ s sought. let c = sought.completes in let size = c.size in
-      ((low, omega (arith, size, high)), λ e there. least e (cell_in_closed P s c p es d e closed here there));
-  weight = λ s sought members are.
-      let c = sought.completes in
-      let size = c.size in
-      let h : IsChamber s d = (low, omega (arith, size, high)) in
-      let D = all_degrees s in
-      let m = degree s p d in
-      let sum = cell_sum s sought.wanted.symbol p D d members h are in
-      let few : length members ≤ length es = length-le_from_partners (λ x y. x ≡ y) members es are.ascending
-      (λ x listed. (x, cell_in_closed P s c p es d x closed here ((are.each x).0 listed), refl))
-      (λ x x' y lx lx' e e'. e ∙ sym e') in
-      let one : D / m * L ≤ D * share = part D L share m (is_share s sought) in
-      let a : length members * (D / m * L) ≤ length es * (D / m * L) = mul-le-mul_right (D / m * L) few in
-      let b : length es * (D / m * L) ≤ length es * (D * share) = mul-le-mul_left (length es) one in
-      let left : sum_by (λ x. D / degree s p x) members * L ≡ length members * (D / m * L) = ap (λ n. n * L) sum ∙ grind arith in
-      let right : length es * (D * share) ≡ D * (length es * share) = grind arith in
-      omega (arith, a, b, left, right);
-}
+pub whole_from_cell : (q : Request) (P : Symbol) (p : Pair) (L d share chains count : ℕ) (cell : WholeCell) → 1 ≤ d → d ≤ P.size → IsWholeCell P p d d cell → IsShare q P p L d share
+    → (IsTrue cell.is_chain → chains ≡ 1) → (IsTrue cell.is_chain → count ≡ cell.turns) → ((IsTrue cell.is_chain → ⊥) → count ≡ 2 * cell.turns) → IsWhole q P p L d chains count (count * share)
+whole_from_cell q P p L d share chains count cell low high whole is_share one as_chain as_cycle =
+    let chamber : (s : Symbol) → IsSought q P s → IsChamber s d = λ s sought. let size = sought.completes.size in (low, omega (arith, size, high)) in
+    let sized : (s : Symbol) → IsSought q P s → (members : List ℕ) → AreMembers s p d members → length members ≡ count = λ s sought members are.
+    let full = sought.completes in
+    let inv = full.table.involutions in
+    let h = chamber s sought in
+    by_kind cell.is_chain (length members ≡ count)
+    (λ chain. chain_size s inv p d cell.turns members h (whole.period s full) ((whole.kind s full).0 chain) are ∙ sym (as_chain chain))
+    (λ cycle. cycle_size s inv p d cell.turns members h (whole.period s full) (λ chain. cycle ((whole.kind s full).1 chain)) are ∙ sym (as_cycle cycle)) in
+    record {
+      least = λ s sought. (chamber s sought, whole.above s sought.completes);
+      size = λ s sought members are. let e = sized s sought members are in omega (arith, e);
+      fixed = λ s sought members are. ⊎_elim
+          (λ none. omega (arith, none))
+          (λ two. let e = one ((whole.kind s sought.completes).1 two.0) in let f = two.1 in omega (arith, e, f))
+          (flags_of_cell s sought.wanted.symbol p d members (chamber s sought) are);
+      weight = λ s sought members are.
+          let D = all_degrees s in
+          let m = degree s p d in
+          let sum = cell_sum s sought.wanted.symbol p D d members (chamber s sought) are in
+          let unit : D / m * L ≤ D * share = part D L share m (is_share s sought) in
+          let all : count * (D / m * L) ≤ count * (D * share) = mul-le-mul_left count unit in
+          let left : sum_by (λ x. D / degree s p x) members * L ≡ count * (D / m * L) = ap (λ n. n * L) (sum ∙ ap (λ n. n * (D / m)) (sized s sought members are)) ∙ grind arith in
+          let right : count * (D * share) ≡ D * (count * share) = grind arith in
+          omega (arith, all, left, right);
+    }
 
-pub whole_none : (q : Request) (P : Symbol) (p : Pair) (L : ℕ) → AreWhole q P p L 0 0 0
+-- ## Fixed flags that are known
+
+-- a sum with one more term
+pushed : (f : ℕ → ℕ) (ds : List ℕ) (d : ℕ) → sum_by f (ds ++ d ∷ []) ≡ sum_by f ds + f d
+pushed f ds d = let split = sum_by-append f ds (d ∷ []) in let last = sum_by-cons f d [] in omega (arith, split, last)
+
+count_from-last : (a k : ℕ) → count_from a (k + 1) ≡ count_from a k ++ (a + k) ∷ []
+count_from-last a zero = let e : a + 0 ≡ a = omega arith in ap (λ n. n ∷ []) (sym e)
+count_from-last a (suc k) =
+    let e : suc k + 1 ≡ suc (k + 1) = omega arith in
+    let f : a + 1 + k ≡ a + suc k = omega arith in
+    ap (count_from a) e ∙ ap (λ xs. a ∷ xs) (count_from-last (a + 1) k) ∙ ap (λ n. a ∷ (count_from (a + 1) k ++ n ∷ [])) f
+
+known_flag : (P s : Symbol) → Completes P s → (i : Index) (d : ℕ) → 1 ≤ d → fixed_flag P i d ≤ fixed_flag s i d
+known_flag P s full i d some =
+    ⊎_elim
+    (λ fixed.
+    let now : op s i d ≡ d = full.images i d (λ none. absurd (omega (arith, none, fixed, some))) ∙ fixed in
+    let a = ap one_if (eq-eqb (op P i d) d fixed) in
+    let b = ap one_if (eq-eqb (op s i d) d now) in
+    omega (arith, a, b))
+    (λ moved. let a = ap one_if (ne_eqb (op P i d) d moved) in omega (arith, a))
+    (cases_eq (op P i d) d)
+
+-- a flag, by the image
+pub same_flag : (P : Symbol) (i j : Index) (d image : ℕ) → image ≡ op P i d → i ≡ j → one_if (eqb image d) ≡ fixed_flag P j d
+same_flag P i j d image is same = ap (λ x. one_if (eqb x d)) is ∙ ap (λ k. fixed_flag P k d) same
+
+-- the flags of one more chamber
+pub fixed_more : (q : Request) (P : Symbol) (p : Pair) (k fixed a b : ℕ) → ((s : Symbol) → IsSought q P s → fixed ≤ sum_by (fixed_flags s p) (count_from 1 k))
+    → a ≡ fixed_flag P (first p) (k + 1) → b ≡ fixed_flag P (second p) (k + 1) → (s : Symbol) → IsSought q P s → fixed + (a + b) ≤ sum_by (fixed_flags s p) (count_from 1 (k + 1))
+fixed_more q P p k fixed a b before one two s sought =
+    let full = sought.completes in
+    let old = before s sought in
+    let e : 1 + k ≡ k + 1 = omega arith in
+    let list : count_from 1 (k + 1) ≡ count_from 1 k ++ (k + 1) ∷ [] = count_from-last 1 k ∙ ap (λ n. count_from 1 k ++ n ∷ []) e in
+    let sum : sum_by (fixed_flags s p) (count_from 1 (k + 1)) ≡ sum_by (fixed_flags s p) (count_from 1 k) + fixed_flags s p (k + 1) =
+    ap (sum_by (fixed_flags s p)) list ∙ pushed (fixed_flags s p) (count_from 1 k) (k + 1) in
+    let low = known_flag P s full (first p) (k + 1) (omega arith) in
+    let high = known_flag P s full (second p) (k + 1) (omega arith) in
+    omega (arith, old, sum, low, high, one, two)
+
+-- ## Some whole cells
+
+pub whole_none : (q : Request) (P : Symbol) (p : Pair) (L : ℕ) → AreWhole q P p L 0 0 0 0 0
 whole_none q P p L = record {
   least = [];
   ascending = λ i low. absurd (omega arith);
   below = λ d none. let no = none.1 in absurd (omega arith);
   count = refl;
   are = λ s sought d none. let no = none.1 in absurd (omega arith);
+  size = λ s sought members are. omega arith;
+  fixed = λ s sought members are. omega arith;
   total = λ s sought members are. let e : 0 * L ≡ 0 = omega arith in omega (arith, e);
 }
 
-pub whole_skip : (q : Request) (P : Symbol) (p : Pair) (L k count total : ℕ) → AreWhole q P p L k count total → AreWhole q P p L (k + 1) count total
-whole_skip q P p L k count total w = record {
+pub whole_skip : (q : Request) (P : Symbol) (p : Pair) (L k cells chains count most : ℕ) → AreWhole q P p L k cells chains count most → AreWhole q P p L (k + 1) cells chains count most
+whole_skip q P p L k cells chains count most w = record {
   least = w.least;
   ascending = w.ascending;
   below = λ d here. let b = w.below d here in omega (arith, b);
   count = w.count;
   are = w.are;
+  size = w.size;
+  fixed = w.fixed;
   total = w.total;
 }
 
-pub whole_more : (q : Request) (P : Symbol) (p : Pair) (L k count total most : ℕ) → AreWhole q P p L k count total → IsWhole q P p L (k + 1) most → AreWhole q P p L (k + 1) (count + 1) (total + most)
-whole_more q P p L k count total most w one = record {
+pub whole_more : (q : Request) (P : Symbol) (p : Pair) (L k cells chains count most chain size own : ℕ) → AreWhole q P p L k cells chains count most → IsWhole q P p L (k + 1) chain size own
+    → AreWhole q P p L (k + 1) (cells + 1) (chains + chain) (count + size) (most + own)
+whole_more q P p L k cells chains count most chain size own w one = record {
   least = w.least ++ (k + 1) ∷ [];
   ascending = increasing-push (k + 1) w.least (λ d here. let b = w.below d here in omega (arith, b)) w.ascending;
   below = λ d here. ⊎_elim
@@ -93,53 +151,128 @@ whole_more q P p L k count total most w one = record {
       (λ before. w.are s sought d before)
       (λ last. subst (IsLeastOfCell s p) (sym (at_end d (k + 1) last)) (one.least s sought))
       (Contains-append_cases w.least ((k + 1) ∷ []) d here);
+  size = λ s sought members are.
+      let now = pushed (λ d. length (members d)) w.least (k + 1) in
+      let before = w.size s sought members are in
+      let more = one.size s sought (members (k + 1)) (are (k + 1) (one.least s sought)) in
+      omega (arith, now, before, more);
+  fixed = λ s sought members are.
+      let now = pushed (λ d. sum_by (fixed_flags s p) (members d)) w.least (k + 1) in
+      let before = w.fixed s sought members are in
+      let more = one.fixed s sought (members (k + 1)) (are (k + 1) (one.least s sought)) in
+      omega (arith, now, before, more);
   total = λ s sought members are.
       let D = all_degrees s in
       let f : ℕ → ℕ = λ d. sum_by (λ x. D / degree s p x) (members d) in
-      let split = sum_by-append f w.least ((k + 1) ∷ []) in
-      let last = sum_by-cons f (k + 1) [] in
-      let now : sum_by f (w.least ++ (k + 1) ∷ []) ≡ sum_by f w.least + f (k + 1) = omega (arith, split, last) in
       let before = w.total s sought members are in
       let more = one.weight s sought (members (k + 1)) (are (k + 1) (one.least s sought)) in
-      subst (λ x. x * L ≤ D * (total + most)) (sym now) (add_parts D L (sum_by f w.least) (f (k + 1)) total most before more);
+      subst (λ x. x * L ≤ D * (most + own)) (sym (pushed f w.least (k + 1))) (add_parts D L (sum_by f w.least) (f (k + 1)) most own before more);
 }
   where
     at_end : (d x : ℕ) → Contains (x ∷ []) d → d ≡ x
     at_end d x here = ⊎_elim (λ e. sym e) (λ none. let no = none.1 in absurd (omega arith)) (Contains-cases x d [] here)
 
--- Whole cells add what they add, each other cell at most 2 L; there are no more whole cells than cells.
-pub total_of_whole : (q : Request) (P : Symbol) (p : Pair) (L k count total limit : ℕ) → (p ≡ Tile) ⊎ (p ≡ Vertex) → ((s : Symbol) → Wanted q s → AtMost s p limit) → 1 ≤ limit
-    → AreWhole q P p L k count total → (s : Symbol) → IsSought q P s
-    → (count ≤ limit) × (sum_by (λ m. all_degrees s / m) (degrees_of s p) * L ≤ all_degrees s * (total + 2 * (limit - count) * L))
-total_of_whole q P p L k count total limit which few some w s sought =
+-- ## All cells
+
+sum_by_times : (c : ℕ) (f : ℕ → ℕ) (xs : List ℕ) → sum_by (λ x. c * f x) xs ≡ c * sum_by f xs
+sum_by_times c f [] = omega arith
+sum_by_times c f (x ∷ xs) =
+    let a = sum_by-cons (λ y. c * f y) x xs in
+    let b = ap (λ n. c * n) (sum_by-cons f x xs) in
+    let rest = sum_by_times c f xs in
+    omega arith
+
+-- twice one sum and D times another
+sum_by_mixed : (D : ℕ) (f g : ℕ → ℕ) (xs : List ℕ) → sum_by (λ x. 2 * f x + D * g x) xs ≡ 2 * sum_by f xs + D * sum_by g xs
+sum_by_mixed D f g xs =
+    let a = sum_by_both (λ x. 2 * f x) (λ x. D * g x) xs in
+    let b = sum_by_times 2 f xs in
+    let e = sum_by_times D g xs in
+    omega arith
+
+cell_size_at_most : (s : Symbol) → IsSymbol s → (p : Pair) (d : ℕ) (members : List ℕ) → IsChamber s d → AreMembers s p d members → sum_by (λ x. 1) members ≤ s.size
+cell_size_at_most s is p d members h are =
+    let few : length members ≤ length (chambers s) =
+    length-le_from_partners (λ x y. x ≡ y) members (chambers s) are.ascending
+    (λ x listed. (x, chamber_listed s x (in_cell_within s is.table.involutions p d x h ((are.each x).0 listed)), refl))
+    (λ x x' y lx lx' e e'. e ∙ sym e') in
+    let all = length-count_from 1 s.size in
+    let ones = sum_by_same (λ x. 1) 1 members (λ x listed. refl) in
+    omega (arith, few, all, ones)
+
+-- the weights of all cells, from those of the whole ones
+weights : (D L W flags own_weight own_flags most chains left h : ℕ) → 2 * W + D * flags ≤ 2 * own_weight + D * own_flags + left * (4 * D) → own_weight * L ≤ D * most → own_flags ≤ 2 * chains
+    → 2 * h ≤ flags → h ≤ chains + left → W * L ≤ D * (most + (chains + 2 * left - h) * L)
+weights D L W flags own_weight own_flags most chains left h all own few known fits =
+    let rest = chains + 2 * left - h in
+    let sum : rest + h ≡ chains + 2 * left = omega (arith, fits) in
+    let a : D * own_flags ≤ D * (2 * chains) = mul-le-mul_left D few in
+    let b : D * (2 * h) ≤ D * flags = mul-le-mul_left D known in
+    let bound : 2 * W + D * (2 * h) ≤ 2 * own_weight + D * (2 * chains) + left * (4 * D) = omega (arith, all, a, b) in
+    let shape : D * (2 * chains) + left * (4 * D) ≡ 2 * (D * (chains + 2 * left)) = grind arith in
+    let whole : D * (chains + 2 * left) ≡ D * rest + D * h = ap (λ n. D * n) (sym sum) ∙ grind arith in
+    let twice : D * (2 * h) ≡ 2 * (D * h) = grind arith in
+    let less : W ≤ own_weight + D * rest = omega (arith, bound, shape, whole, twice) in
+    let times : W * L ≤ (own_weight + D * rest) * L = mul-le-mul_right L less in
+    let split : (own_weight + D * rest) * L ≡ own_weight * L + D * (rest * L) = grind arith in
+    let join : D * (most + rest * L) ≡ D * most + D * (rest * L) = grind arith in
+    omega (arith, times, split, join, own)
+
+-- What a census tells holds of each sought symbol.
+pub has_room : (q : Request) (P : Symbol) (p : Pair) (c : Census) (limit : ℕ) → (p ≡ Tile) ⊎ (p ≡ Vertex) → ((s : Symbol) → Wanted q s → AtMost s p limit) → 1 ≤ limit
+    → IsCensus q P p P.size c → (s : Symbol) → IsSought q P s → HasRoom s p c limit
+has_room q P p c limit which few some census s sought =
+    let w = census.whole in
     let is = sought.wanted.symbol in
     let D = all_degrees s in
     let inv = is.table.involutions in
     let roots = has_roots s inv p in
     let members = members_at s roots.root in
+    let are : AreMembersOf s p members = λ d least. members_at_are s inv p roots.root roots.are d least in
     ⊎_elim
     (λ none. absurd (omega (arith, none, some)))
     (λ listed.
     let ds = listed.0 in
     let fits = listed.2 in
-    let bound = count_bound s is p roots.root roots.are ds w.least listed.1 w.ascending (λ g here. w.are s sought g here) D in
-    let same = sum_over_degrees s is p (λ m. D / m) which in
+    let beyond = sum_beyond_cells s is p roots.root roots.are ds w.least listed.1 w.ascending (λ g here. w.are s sought g here) in
     let counted = w.count in
-    let enough = bound.0 in
-    let f : ℕ → ℕ = λ d. sum_by (λ x. D / degree s p x) (members d) in
-    let own : sum_by f w.least * L ≤ D * total = w.total s sought members (λ d least. members_at_are s inv p roots.root roots.are d least) in
-    let sums : sum_by (λ m. D / m) (degrees_of s p) ≤ sum_by f w.least + (length ds - length w.least) * (2 * D) = omega (arith, same, bound.1) in
-    let left : (length ds - length w.least) * (2 * D) ≤ (limit - count) * (2 * D) = mul-le-mul_right (2 * D) (omega (arith, fits, counted, enough)) in
-    let rest : (limit - count) * (2 * D) * L ≤ D * (2 * (limit - count) * L) = turned D L (limit - count) in
-    let two = add_parts D L (sum_by f w.least) ((limit - count) * (2 * D)) total (2 * (limit - count) * L) own rest in
-    let all : sum_by (λ m. D / m) (degrees_of s p) * L ≤ (sum_by f w.least + (limit - count) * (2 * D)) * L = mul-le-mul_right L (omega (arith, sums, left)) in
-    (omega (arith, fits, counted, enough), omega (arith, all, two)))
+    let left = length ds - length w.least in
+    let part : ℕ → ℕ = λ x. D / degree s p x in
+    let flags = sum_by (fixed_flags s p) (chambers s) in
+    let weigh = beyond (λ x. 2 * part x + D * fixed_flags s p x) (4 * D)
+    (λ j ms h am. let e = sum_by_mixed D part (fixed_flags s p) ms in let b = flagged_weight s is p D j ms h am in omega (arith, e, b)) in
+    let enough = weigh.0 in
+    let even = even_flags s is p roots.root roots.are ds listed.1 in
+    let known : c.fixed ≤ flags = subst (λ n. c.fixed ≤ sum_by (fixed_flags s p) (count_from 1 n)) (sym sought.completes.size) (census.fixed s sought) in
+    let own_flags = sum_by (λ g. sum_by (fixed_flags s p) (members g)) w.least in
+    let own = w.fixed s sought members are in
+    let rest : flags ≤ own_flags + left * 2 = (beyond (fixed_flags s p) 2 (flags_at_most s is p)).1 in
+    let fewer : left ≤ limit - c.cells = omega (arith, fits, counted, enough) in
+    record {
+      cells = omega (arith, fits, counted, enough);
+      chambers = λ all.
+          let size = (beyond (λ x. 1) s.size (cell_size_at_most s is p)).1 in
+          let none : left ≡ 0 = omega (arith, fewer, all) in
+          let zero_ : left * s.size ≡ 0 = ap (λ n. n * s.size) none ∙ omega arith in
+          let ones = sum_by_same (λ x. 1) 1 (chambers s) (λ x listed. refl) in
+          let count = length-count_from 1 s.size in
+          let sizes : sum_by (λ g. sum_by (λ x. 1) (members g)) w.least ≡ sum_by (λ g. length (members g)) w.least =
+          ap (λ (f : ℕ → ℕ). sum_by f w.least) (λ i g. ones_of (members g) i) in
+          let have = w.size s sought members are in
+          omega (arith, size, zero_, ones, count, sizes, have);
+      chains = omega (arith, rest, own, known, even, fewer);
+      total =
+          let all = weigh.1 in
+          let mixed = sum_by_mixed D part (fixed_flags s p) (chambers s) in
+          let inner : sum_by (λ g. sum_by (λ x. 2 * part x + D * fixed_flags s p x) (members g)) w.least ≡ sum_by (λ g. 2 * sum_by part (members g) + D * sum_by (fixed_flags s p) (members g)) w.least =
+          ap (λ (f : ℕ → ℕ). sum_by f w.least) (λ i g. sum_by_mixed D part (fixed_flags s p) (members g) i) in
+          let outer = sum_by_mixed D (λ g. sum_by part (members g)) (λ g. sum_by (fixed_flags s p) (members g)) w.least in
+          let more : left * (4 * D) ≤ (limit - c.cells) * (4 * D) = mul-le-mul_right (4 * D) fewer in
+          let bound = weights D 144403552893600 (sum_by part (chambers s)) flags (sum_by (λ g. sum_by part (members g)) w.least) own_flags c.most c.chains (limit - c.cells) ((c.fixed + 1) / 2)
+          (omega (arith, all, mixed, inner, outer, more)) (w.total s sought members are) own (omega (arith, known, even)) (omega (arith, rest, own, known, even, fewer)) in
+          subst (λ x. x * 144403552893600 ≤ D * (c.most + (c.chains + 2 * (limit - c.cells) - (c.fixed + 1) / 2) * 144403552893600)) (sum_over_degrees s is p (λ m. D / m) which) bound;
+    })
     (few s sought.wanted)
   where
-    turned : (D L n : ℕ) → n * (2 * D) * L ≤ D * (2 * n * L)
-    turned D L n = let e : n * (2 * D) * L ≡ D * (2 * n * L) = grind arith in omega (arith, e)
-
--- the total of a pair of which so many cells are whole
-pub limited_total : (q : Request) (P : Symbol) (p : Pair) (L k count total limit : ℕ) → (p ≡ Tile) ⊎ (p ≡ Vertex) → ((s : Symbol) → Wanted q s → AtMost s p limit) → 1 ≤ limit
-    → AreWhole q P p L k count total → IsTotal q P p L (total + 2 * (limit - count) * L)
-limited_total q P p L k count total limit which few some w s sought = (total_of_whole q P p L k count total limit which few some w s sought).1
+    ones_of : (xs : List ℕ) → sum_by (λ x. 1) xs ≡ length xs
+    ones_of xs = let e = sum_by_same (λ x. 1) 1 xs (λ x listed. refl) in omega (arith, e)

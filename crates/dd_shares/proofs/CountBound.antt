@@ -1,22 +1,25 @@
 -- What the chambers of at most so many cells can add to the curvature: the count bound.
-use Rattle.std.proofs.Common.{◌≡◌, ℕ, suc, ◌+◌, ◌-◌, ◌*◌, ◌/◌, ◌<◌, ◌≤◌, List, [], ◌∷◌, length, get_or, sym, ap, ◌∙◌, ⊎_elim, arith}
-use Rattle.std.proofs.lemmas.Bool.{cases_eq}
+use Rattle.std.proofs.Common.{◌≡◌, ℕ, zero, suc, ◌+◌, ◌-◌, ◌*◌, ◌/◌, ◌%◌, ◌<◌, ◌≤◌, ◌⊎◌, List, [], ◌∷◌, length, get_or, refl, sym, ap, ◌∙◌, inl, inr, ⊎_elim, arith}
+use Rattle.std.proofs.lemmas.Bool.{cases_eq, ne_eqb}
 use Rattle.std.proofs.lemmas.List.Elements.{Contains-get_or}
 use Rattle.std.proofs.lemmas.List.Sums.{sum_by-cons}
 use Rattle.std.proofs.Math.Nat.{mul-le-mul_right}
 use Rattle.std.specs.List.{Contains, sum_by}
 use Rattle.std.specs.List.Sorted.{IsStrictlyIncreasing}
 use Rattle.dd_model.specs.declared.parts.Pair.{Pair}
-use Rattle.dd_model.specs.Symbol.{Symbol, IsSymbol, IsChamber, degree}
+use Rattle.dd_model.specs.Symbol.{Symbol, IsSymbol, IsChamber, first, second, op, degree}
 use Rattle.dd_model.specs.Code.{chambers}
-use Rattle.dd_model.specs.Cell.{InCell, IsLeastOfCell, AreCells}
+use Rattle.dd_model.specs.Cell.{InCell, IsChain, IsLeastOfCell, AreCells}
 use Rattle.dd_model.proofs.CellLists.{Contains-head, Contains-later, Contains-cases, increasing-head, increasing-tail}
 use Rattle.dd_model.proofs.Branching.{degree_same}
 use Rattle.dd_cells.specs.Cells.{AreMembers}
 use Rattle.dd_cells.proofs.CellSums.{AreRoots, has_roots, members_at, members_at_are, sum_over_cells, sum_by_same}
 use Rattle.dd_invol.specs.Distinct.{AreDistinct}
 use Rattle.dd_invol.proofs.Distinct.{all_from}
-use Rattle.dd_shares.proofs.Rotation.{cell_bound}
+use Rattle.dd_cells.proofs.FixedFlags.{one_if, flags_of_chain}
+use Rattle.dd_model.proofs.CellWalks.{has_period}
+use Rattle.dd_shares.specs.Closed.{fixed_flags}
+use Rattle.dd_shares.proofs.Rotation.{cell_bound, chain_bound}
 
 -- ## Sums over two lists
 
@@ -98,28 +101,133 @@ cell_weight s is p D d members h are =
     let bound = weigh D (degree s p d) (length members) few in
     omega (arith, sum, bound)
 
+-- ## Fixed flags
+
+-- a term of a sum that is not 0
+record HasTerm (f : ℕ → ℕ) (xs : List ℕ) : Type 0 where
+  pub term : ℕ
+  pub listed : Contains xs term
+  pub positive : 1 ≤ f term
+
+some_term : (f : ℕ → ℕ) (xs : List ℕ) → (sum_by f xs ≡ 0) ⊎ HasTerm f xs
+some_term f [] = inl refl
+some_term f (x ∷ xs) =
+    let e = sum_by-cons f x xs in
+    ⊎_elim
+    (λ none. ⊎_elim
+    (λ rest. inl (omega (arith, e, none, rest)))
+    (λ later. inr (record { term = later.term; listed = Contains-later x later.term xs later.listed; positive = later.positive }))
+    (some_term f xs))
+    (λ some. inr (record { term = x; listed = Contains-head x xs; positive = some }))
+    (zero_or_more (f x))
+  where
+    zero_or_more : (n : ℕ) → (n ≡ 0) ⊎ (1 ≤ n)
+    zero_or_more zero = inl refl
+    zero_or_more (suc n) = inr (omega arith)
+
+-- A cell has two fixed flags and is a chain, or has none.
+pub flags_of_cell : (s : Symbol) → IsSymbol s → (p : Pair) (d : ℕ) (members : List ℕ) → IsChamber s d → AreMembers s p d members
+    → (sum_by (fixed_flags s p) members ≡ 0) ⊎ (IsChain s p d × (sum_by (fixed_flags s p) members ≡ 2))
+flags_of_cell s is p d members h are =
+    let inv = is.table.involutions in
+    ⊎_elim
+    (λ none. inl none)
+    (λ some.
+    let e = some.term in
+    let there = (are.each e).0 some.listed in
+    let chain : IsChain s p d =
+    ⊎_elim
+    (λ one. record { chamber = e; in_cell = there; fixed = inl one })
+    (λ moved. ⊎_elim
+    (λ two. record { chamber = e; in_cell = there; fixed = inr two })
+    (λ also.
+    let a = ap one_if (ne_eqb (op s (first p) e) e moved) in
+    let b = ap one_if (ne_eqb (op s (second p) e) e also) in
+    let positive = some.positive in
+    absurd (omega (arith, a, b, positive)))
+    (cases_eq (op s (second p) e) e))
+    (cases_eq (op s (first p) e) e) in
+    let period = has_period s inv p d h in
+    inr (chain, flags_of_chain s inv p d period.r members h period.period chain are))
+    (some_term (fixed_flags s p) members)
+
+pub flags_at_most : (s : Symbol) → IsSymbol s → (p : Pair) (d : ℕ) (members : List ℕ) → IsChamber s d → AreMembers s p d members → sum_by (fixed_flags s p) members ≤ 2
+flags_at_most s is p d members h are = ⊎_elim (λ none. omega (arith, none)) (λ two. let e = two.1 in omega (arith, e)) (flags_of_cell s is p d members h are)
+
+weigh_once : (D m n : ℕ) → n ≤ m → n * (D / m) ≤ D
+weigh_once D m n few =
+    let a : n * (D / m) ≤ m * (D / m) = mul-le-mul_right (D / m) few in
+    let b : D / m * m ≤ D = grind arith in
+    let e : m * (D / m) ≡ D / m * m = grind arith in
+    omega (arith, a, b, e)
+
+-- the sum of D/m over the chambers of a chain is at most D
+chain_weight : (s : Symbol) → IsSymbol s → (p : Pair) (D d : ℕ) (members : List ℕ) → IsChamber s d → IsChain s p d → AreMembers s p d members
+    → sum_by (λ x. D / degree s p x) members ≤ D
+chain_weight s is p D d members h chain are =
+    let few = chain_bound s is p d h chain members (distinct_increasing members are.ascending)
+    (all_from (InCell s p d) members (λ j low. (are.each (get_or members j 0)).0 (Contains-get_or members j 0 low))) in
+    let sum = cell_sum s is p D d members h are in
+    let bound = weigh_once D (degree s p d) (length members) few in
+    omega (arith, sum, bound)
+
+-- twice what a cell adds and D for each of its fixed flags are at most 4 D
+pub flagged_weight : (s : Symbol) → IsSymbol s → (p : Pair) (D d : ℕ) (members : List ℕ) → IsChamber s d → AreMembers s p d members
+    → 2 * sum_by (λ x. D / degree s p x) members + D * sum_by (fixed_flags s p) members ≤ 4 * D
+flagged_weight s is p D d members h are =
+    ⊎_elim
+    (λ none.
+    let w = cell_weight s is p D d members h are in
+    let f : D * sum_by (fixed_flags s p) members ≡ 0 = ap (λ n. D * n) none ∙ omega arith in
+    omega (arith, w, f))
+    (λ two.
+    let w = chain_weight s is p D d members h two.0 are in
+    let f : D * sum_by (fixed_flags s p) members ≡ 2 * D = ap (λ n. D * n) two.1 ∙ omega arith in
+    omega (arith, w, f))
+    (flags_of_cell s is p d members h are)
+
+-- terms that are 0 or 2
+even_sum : (f : ℕ → ℕ) (xs : List ℕ) → ((x : ℕ) → Contains xs x → (f x ≡ 0) ⊎ (f x ≡ 2)) → sum_by f xs % 2 ≡ 0
+even_sum f [] each = refl
+even_sum f (x ∷ xs) each =
+    let e = sum_by-cons f x xs in
+    let rest = even_sum f xs (λ y later. each y (Contains-later x y xs later)) in
+    ⊎_elim (λ none. omega (arith, e, rest, none)) (λ two. omega (arith, e, rest, two)) (each x (Contains-head x xs))
+
 -- ## All chambers
 
--- The cells of gs weigh what they weigh, each other cell at most 2 D.
-pub count_bound : (s : Symbol) → IsSymbol s → (p : Pair) (root : ℕ → ℕ) → AreRoots s p root → (ds gs : List ℕ) → AreCells s p ds
-    → IsStrictlyIncreasing gs → ((g : ℕ) → Contains gs g → IsLeastOfCell s p g) → (D : ℕ)
-    → (length gs ≤ length ds) × (sum_by (λ d. D / degree s p d) (chambers s) ≤ sum_by (λ g. sum_by (λ d. D / degree s p d) (members_at s root g)) gs + (length ds - length gs) * (2 * D))
-count_bound s is p root roots ds gs cells rise least D =
+-- Of a sum over all chambers, the cells of gs have what they have, and each other cell at most most.
+pub sum_beyond_cells : (s : Symbol) → IsSymbol s → (p : Pair) (root : ℕ → ℕ) → AreRoots s p root → (ds gs : List ℕ) → AreCells s p ds
+    → IsStrictlyIncreasing gs → ((g : ℕ) → Contains gs g → IsLeastOfCell s p g) → (w : ℕ → ℕ) (most : ℕ)
+    → ((j : ℕ) (members : List ℕ) → IsChamber s j → AreMembers s p j members → sum_by w members ≤ most)
+    → (length gs ≤ length ds) × (sum_by w (chambers s) ≤ sum_by (λ g. sum_by w (members_at s root g)) gs + (length ds - length gs) * most)
+sum_beyond_cells s is p root roots ds gs cells rise least w most each =
     let inv = is.table.involutions in
-    let w : ℕ → ℕ = λ d. D / degree s p d in
     let f : ℕ → ℕ = λ j. sum_by w (members_at s root j) in
     let parts = sum_over_cells s p root w ds roots cells in
-    let beyond = sum_beyond f (2 * D) ds gs cells.ascending rise
-    (λ j listed. let own = (cells.members j).0 listed in cell_weight s is p D j (members_at s root j) own.0 (members_at_are s inv p root roots j own))
+    let beyond = sum_beyond f most ds gs cells.ascending rise
+    (λ j listed. let own = (cells.members j).0 listed in each j (members_at s root j) own.0 (members_at_are s inv p root roots j own))
     (λ g listed. (cells.members g).1 (least g listed)) in
     let bound = beyond.1 in
     (beyond.0, omega (arith, parts, bound))
+
+-- the fixed flags of all chambers are twice some number
+pub even_flags : (s : Symbol) → IsSymbol s → (p : Pair) (root : ℕ → ℕ) → AreRoots s p root → (ds : List ℕ) → AreCells s p ds
+    → sum_by (fixed_flags s p) (chambers s) % 2 ≡ 0
+even_flags s is p root roots ds cells =
+    let inv = is.table.involutions in
+    let f : ℕ → ℕ = λ j. sum_by (fixed_flags s p) (members_at s root j) in
+    ap (λ n. n % 2) (sym (sum_over_cells s p root (fixed_flags s p) ds roots cells))
+    ∙ even_sum f ds (λ j listed.
+    let own = (cells.members j).0 listed in
+    ⊎_elim (λ none. inl none) (λ two. inr two.1) (flags_of_cell s is p j (members_at s root j) own.0 (members_at_are s inv p root roots j own)))
 
 -- Each cell adds at most 2 D.
 pub count_bound_plain : (s : Symbol) → IsSymbol s → (p : Pair) (ds : List ℕ) → AreCells s p ds → (D : ℕ) → sum_by (λ d. D / degree s p d) (chambers s) ≤ length ds * (2 * D)
 count_bound_plain s is p ds cells D =
     let roots = has_roots s is.table.involutions p in
-    let all = count_bound s is p roots.root roots.are ds [] cells (λ i low. absurd (omega arith)) (λ g none. let no = none.1 in absurd (omega arith)) D in
+    let all = sum_beyond_cells s is p roots.root roots.are ds [] cells (λ i low. absurd (omega arith)) (λ g none. let no = none.1 in absurd (omega arith))
+    (λ d. D / degree s p d) (2 * D) (λ j members h are. cell_weight s is p D j members h are) in
     let bound : sum_by (λ d. D / degree s p d) (chambers s) ≤ 0 + (length ds - 0) * (2 * D) = all.1 in
     let none : length ds - 0 ≡ length ds = omega arith in
     omega (arith, bound, ap (λ n. n * (2 * D)) none)

@@ -1,5 +1,5 @@
 -- A table that is filled knows what it knew before.
-use Rattle.std.proofs.Common.{◌≡◌, ◌≢◌, ℕ, zero, suc, ◌-◌, ◌≤◌, ◌⊎◌, List, [], ◌∷◌, length, map, get_or, set, refl, sym, ◌∙◌, subst, inl, inr, ⊎_elim, arith}
+use Rattle.std.proofs.Common.{◌≡◌, ◌≢◌, ℕ, zero, suc, ◌-◌, ◌≤◌, ◌⊎◌, List, [], ◌∷◌, length, map, get_or, set, refl, sym, ap, ◌∙◌, subst, inl, inr, ⊎_elim, arith}
 use Rattle.std.proofs.lemmas.Bool.{cases_lt}
 use Rattle.dd_model.specs.declared.parts.Index.{Index}
 use Rattle.dd_model.specs.declared.parts.Pair.TheVariants.{Tile, Vertex}
@@ -12,6 +12,8 @@ use Rattle.std.proofs.lemmas.List.{length-map, get_or_past}
 use Rattle.dd_invol.specs.Places.{place}
 use Rattle.dd_invol.specs.declared.rows.Rows.{Rows}
 use Rattle.dd_invol.specs.Rows.{images_in, partial_of, partial_from, depth_of, popped, unwind, unwound}
+use Rattle.dd_invol.specs.Stem.{size_of, shortened}
+use Rattle.dd_invol.specs.declared.stem.Stem.{Stem}
 use Rattle.dd_invol.proofs.RowsLemmas.{op_partial}
 use Rattle.dd_shares.specs.Kept.{AreKept}
 use Rattle.dd_shares.specs.declared.shares.Shares.{Shares}
@@ -78,3 +80,7 @@ kept_of_longer old new shares same undone kept =
         small = kept.vertices.small;
       };
     }
+
+-- The shares of a stem are shares of each stem with more numbers.
+pub kept_of_longer_stem : (old new : Stem) (shares : Shares) → size_of new ≡ size_of old → shortened new (depth_of old.rows) ≡ old → AreKept (partial_of old.rows) shares → AreKept (partial_of new.rows) shares
+kept_of_longer_stem old new shares same undone kept = kept_of_longer old.rows new.rows shares same (ap (λ (s : Stem). s.rows) undone) kept

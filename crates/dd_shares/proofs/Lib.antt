@@ -4,6 +4,7 @@ pub mod FlatBound
 pub mod CountBound
 pub mod PathLemmas
 pub mod Walks
+pub mod TurnLemmas
 pub mod Bounds
 pub mod SideLemmas
 pub mod GrowthLemmas

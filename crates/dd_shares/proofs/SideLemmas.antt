@@ -3,7 +3,7 @@ use Rattle.std.proofs.Common.{◌≡◌, ℕ, zero, suc, ◌+◌, ◌-◌, ◌*�
 use Rattle.std.proofs.lemmas.List.{set-set, set-get_or}
 use Rattle.std.proofs.lemmas.Option.{slice_get-get_or}
 use Rattle.std.proofs.Math.Seq.{get_or-append_seam}
-use Rattle.std.specs.List.{Contains, slice_get}
+use Rattle.std.specs.List.{slice_get, sum}
 use Rattle.std.specs.declared.option.Option.TheVariants.{Some}
 use Rattle.dd_model.specs.declared.parts.Pair.{Pair}
 use Rattle.dd_model.specs.declared.requests.Request.{Request}
@@ -12,12 +12,19 @@ use Rattle.dd_model.specs.Symbol.{Symbol, IsChamber, degree}
 use Rattle.dd_shares.specs.declared.changes.Change.{Change}
 use Rattle.dd_shares.specs.declared.paths.Path.{Path}
 use Rattle.dd_shares.specs.declared.sides.Side.{Side}
-use Rattle.dd_shares.specs.Shares.{IsAllowed, IsShare, AreShares, IsTotal}
-use Rattle.dd_shares.specs.Sides.{depth_of, put_back, popped, unwind, unwound, IsSide}
-use Rattle.dd_shares.specs.Closed.{IsClosed, IsWhole}
+use Rattle.dd_shares.specs.Shares.{IsSought, IsAllowed, IsShare, AreShares, IsTotal}
+use Rattle.dd_shares.specs.Sides.{depth_of, put_back, popped, unwind, unwound, IsSide, HasExchanged}
+use Rattle.dd_shares.specs.Kept.{mark_of, rolled_back, HaveExchanged}
+use Rattle.dd_shares.specs.Paths.{InPath}
+use Rattle.dd_shares.specs.Turning.{IsWholeCell}
+use Rattle.dd_shares.specs.declared.cells.WholeCell.{WholeCell}
+use Rattle.dd_shares.specs.declared.shares.Shares.{Shares}
+use Rattle.dd_model.specs.Cell.{IsPeriod, IsBranching}
+use Rattle.dd_model.specs.Wanted.{IsCrystallographic, Wanted}
+use Rattle.dd_model.proofs.Branching.{branching_exists}
+use Rattle.dd_model.proofs.Turns.{IsLeastTurns-from_period, least_turns_unique}
 use Rattle.dd_shares.specs.Walked.{IsWalked}
-use Rattle.dd_shares.proofs.Bounds.{path_share, shares_set, rounded, wanted_allowed, total_of_shares}
-use Rattle.dd_shares.proofs.ClosedLemmas.{whole_from_closed}
+use Rattle.dd_shares.proofs.Bounds.{path_share, same_degree, shares_set, rounded, wanted_allowed, total_of_shares}
 use Rattle.dd_shares.proofs.Walks.{path_at}
 
 pub unwound_none : (r : Side) (mark : ℕ) → depth_of r ≤ mark → unwound r mark ≡ r
@@ -104,11 +111,91 @@ zero_at (suc m) (suc t) = zero_at m t
 pub kept_total : (q : Request) (P : Symbol) (p : Pair) (side : Side) → (p ≡ Tile) ⊎ (p ≡ Vertex) → IsSide q P p side → IsTotal q P p 144403552893600 side.total
 kept_total q P p side which is = subst (IsTotal q P p 144403552893600) (sym is.total) (total_of_shares q P p 144403552893600 side.shares which is.shares)
 
--- a path that is a whole cell
-pub whole_of_path : (q : Request) (P : Symbol) (p : Pair) (d share : ℕ) (path : Path) → IsWalked P path → path.pair ≡ p → path.start ≡ d → 1 ≤ d → d ≤ P.size
-    → IsClosed P path.pair path.chambers.items → ((e : ℕ) → Contains path.chambers.items e → path.start ≤ e) → IsShare q P p 144403552893600 d share
-    → IsWhole q P p 144403552893600 d (length path.chambers.items * share)
-whole_of_path q P p d share path walked same_pair same_start low high closed least is =
-    let es = path.chambers.items in
-    whole_from_closed q P p 144403552893600 d share es low high (subst (Contains es) same_start walked.begun) (subst (λ p. IsClosed P p es) same_pair closed)
-    (λ e here. let low = least e here in omega (arith, low, same_start)) is
+-- ## Whole cells
+
+-- the degree of a cell of a wanted symbol is a branching value times its turns
+record HasBranching (q : Request) (s : Symbol) (p : Pair) (d r : ℕ) : Type 0 where
+  pub v : ℕ
+  pub crystallographic : IsCrystallographic v
+  pub product : v * r ≡ degree s p d
+
+branching_of : (q : Request) (s : Symbol) (p : Pair) (d r : ℕ) → (p ≡ Tile) ⊎ (p ≡ Vertex) → Wanted q s → IsChamber s d → IsPeriod s p d r → HasBranching q s p d r
+branching_of q s p d r which wanted h period =
+    let found = branching_exists s wanted.symbol p d h in
+    let own = IsLeastTurns-from_period s wanted.symbol.table.involutions p d r h period in
+    let same : found.1.r ≡ r = least_turns_unique s p d found.1.r r found.1.least_turns own in
+    record {
+      v = found.0;
+      crystallographic = ⊎_elim
+          (λ e. wanted.face_branching d found.0 h (subst (λ p. IsBranching s p d found.0) e found.1))
+          (λ e. wanted.vertex_branching d found.0 h (subst (λ p. IsBranching s p d found.0) e found.1))
+          which;
+      product = ap (λ n. found.0 * n) (sym same) ∙ found.1.quotient;
+    }
+
+-- a number that is right for each branching value is a share of the chambers of the path
+pub whole_share : (q : Request) (P : Symbol) (p : Pair) (path : Path) (cell : WholeCell) (lowest share : ℕ) → (p ≡ Tile) ⊎ (p ≡ Vertex) → IsWalked P path → path.pair ≡ p → IsWholeCell P p path.start lowest cell
+    → ((v : ℕ) → IsCrystallographic v → IsAllowed q p (v * cell.turns) → 144403552893600 ≤ share * (v * cell.turns)) → (j : ℕ) → j < length path.chambers.items
+    → IsShare q P p 144403552893600 (get_or path.chambers.items j 0) share
+whole_share q P p path cell lowest share which walked same_pair whole right j below s sought =
+    let full = sought.completes in
+    let d = path.start in
+    let size = full.size in
+    let begins = walked.begins in
+    let h : IsChamber s d = (begins.0, let high = begins.1 in omega (arith, high, size)) in
+    let has = branching_of q s p d cell.turns which sought.wanted h (whole.period s full) in
+    let allowed : IsAllowed q p (has.v * cell.turns) = subst (IsAllowed q p) (sym has.product) (wanted_allowed q s p d sought.wanted h) in
+    let up = right has.v has.crystallographic allowed in
+    let there : InPath P p d (get_or path.chambers.items j 0) =
+    subst (λ p. InPath P p d (get_or path.chambers.items j 0)) same_pair (path_at P path.pair d path.chambers.items j walked.chambers below) in
+    let same = same_degree P p d (get_or path.chambers.items j 0) s sought.wanted.symbol full h there in
+    subst (λ m. 144403552893600 ≤ share * m) (has.product ∙ sym same) up
+
+-- a share of 0 is a share of each chamber, since nothing is sought
+pub none_from_zero : (q : Request) (P : Symbol) (p : Pair) (d e : ℕ) → IsShare q P p 144403552893600 d 0 → IsShare q P p 144403552893600 e 0
+none_from_zero q P p d e is s sought = let none = is s sought in let zero_ : 0 * degree s p d ≡ 0 = omega arith in absurd (omega (arith, none, zero_))
+
+-- ## Exchanges
+
+pub exchanged_none : (r : Side) → HasExchanged r r
+exchanged_none r = record { deeper = omega arith; undone = λ mark low. refl }
+
+pub exchanged_both : (a b c : Side) → HasExchanged a b → HasExchanged b c → HasExchanged a c
+exchanged_both a b c one two =
+    let d = one.deeper in
+    let e = two.deeper in
+    record { deeper = omega (arith, d, e); undone = λ mark low. two.undone mark (omega (arith, low, d)) ∙ one.undone mark low }
+
+pub have_exchanged_none : (a : Shares) → HaveExchanged a a
+have_exchanged_none a = record { request = refl; tiles = exchanged_none a.tiles; vertices = exchanged_none a.vertices }
+
+pub have_exchanged_both : (a b c : Shares) → HaveExchanged a b → HaveExchanged b c → HaveExchanged a c
+have_exchanged_both a b c one two = record {
+  request = two.request ∙ one.request;
+  tiles = exchanged_both a.tiles b.tiles c.tiles one.tiles two.tiles;
+  vertices = exchanged_both a.vertices b.vertices c.vertices one.vertices two.vertices;
+}
+
+pub back_again : (old new : Shares) → HaveExchanged old new → rolled_back new (mark_of old) ≡ old
+back_again old new have =
+    let tiles : unwound new.tiles (depth_of old.tiles) ≡ old.tiles = have.tiles.undone (depth_of old.tiles) (omega arith) ∙ unwound_none old.tiles (depth_of old.tiles) (omega arith) in
+    let vertices : unwound new.vertices (depth_of old.vertices) ≡ old.vertices =
+    have.vertices.undone (depth_of old.vertices) (omega arith) ∙ unwound_none old.vertices (depth_of old.vertices) (omega arith) in
+    let request = have.request in
+    λ i. record { request = request i; tiles = tiles i; vertices = vertices i }
+
+-- the side after one exchange
+pub side_exchanged : (q : Request) (P : Symbol) (p : Pair) (r r' : Side) (d share : ℕ) → IsSide q P p r → 1 ≤ d → IsShare q P p 144403552893600 d share
+    → r'.total ≡ sum r'.shares → r'.total ≤ r.total → (r'.shares ≡ r.shares) ⊎ (r'.shares ≡ set r.shares (d - 1) share) → IsSide q P p r'
+side_exchanged q P p r r' d share kept low is total smaller cases = record {
+  shares = shares_exchanged q P p r r' d share kept.shares low is cases;
+  total = total;
+  small = let small = kept.small in omega (arith, small, smaller);
+}
+
+-- nothing is sought where the share of chamber 1 is 0
+pub none_sought : (q : Request) (P : Symbol) (p : Pair) (side : Side) → IsSide q P p side → 1 ≤ P.size → get_or side.shares 0 0 ≡ 0 → (s : Symbol) → IsSought q P s → ⊥
+none_sought q P p side kept some none s sought =
+    let share = kept.shares.each 1 (omega arith) some s sought in
+    let zero_ : get_or side.shares 0 0 * degree s p 1 ≡ 0 = ap (λ n. n * degree s p 1) none ∙ omega arith in
+    absurd (omega (arith, share, zero_))

@@ -1,7 +1,8 @@
 -- The shares that a search keeps beside its table.
+use Rattle.std.specs.Prelude.{◌≡◌}
 use Rattle.dd_model.specs.declared.parts.Pair.TheVariants.{Tile, Vertex}
 use Rattle.dd_model.specs.Symbol.{Symbol}
-use Rattle.dd_shares.specs.Sides.{depth_of, unwound, IsSide}
+use Rattle.dd_shares.specs.Sides.{depth_of, unwound, IsSide, HasExchanged}
 use Rattle.dd_shares.specs.declared.shares.Mark.{Mark}
 use Rattle.dd_shares.specs.declared.shares.Shares.{Shares}
 
@@ -9,6 +10,12 @@ use Rattle.dd_shares.specs.declared.shares.Shares.{Shares}
 pub record AreKept (partial : Symbol) (shares : Shares) : Type 0 where
   pub tiles : IsSide shares.request partial Tile shares.tiles
   pub vertices : IsSide shares.request partial Vertex shares.vertices
+
+-- what was exchanged of either pair can be taken back
+pub record HaveExchanged (old new : Shares) : Type 0 where
+  pub request : new.request ≡ old.request
+  pub tiles : HasExchanged old.tiles new.tiles
+  pub vertices : HasExchanged old.vertices new.vertices
 
 -- how much was exchanged
 abbrev pub mark_of : Shares → Mark

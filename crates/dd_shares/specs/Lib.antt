@@ -4,3 +4,5 @@ pub mod Walked
 pub mod Sides
 pub mod Kept
 pub mod Closed
+pub mod Census
+pub mod Turning

@@ -37,3 +37,8 @@ pub record IsSide (q : Request) (partial : Symbol) (p : Pair) (side : Side) : Ty
   pub shares : AreShares q partial p 144403552893600 side.shares
   pub total : side.total ≡ sum side.shares
   pub small : side.total ≤ 36 * 144403552893600
+
+-- what was exchanged can be taken back
+pub record HasExchanged (old new : Side) : Type 0 where
+  pub deeper : depth_of old ≤ depth_of new
+  pub undone : (mark : ℕ) → mark ≤ depth_of old → unwound new mark ≡ unwound old mark

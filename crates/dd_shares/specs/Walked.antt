@@ -1,6 +1,6 @@
 -- A walk along a path.
 use Rattle.std.specs.Prelude.{◌≡◌, ◌≤◌, length, slice_index_or, true, false, IsTrue}
-use Rattle.std.specs.List.{AllByRecursion, Contains}
+use Rattle.std.specs.List.{AllByRecursion}
 use Rattle.dd_model.specs.Symbol.{Symbol}
 use Rattle.dd_shares.specs.Paths.{IsCapped, ArePath}
 use Rattle.dd_shares.specs.declared.paths.Path.{Path}
@@ -10,7 +10,7 @@ pub record IsWalked (partial : Symbol) (path : Path) : Type 0 where
   pub chambers : ArePath partial path.pair path.start path.chambers.items
   pub within : AllByRecursion (λ e. (1 ≤ e) × (e ≤ partial.size)) path.chambers.items
   pub marked : AllByRecursion (λ e. slice_index_or path.met e false ≡ true) path.chambers.items
-  pub begun : Contains path.chambers.items path.start
+  pub begins : (1 ≤ path.start) × (path.start ≤ partial.size)
   pub some : 1 ≤ length path.chambers.items
   pub marks : length path.met ≡ 37
   pub capped : IsTrue path.is_capped → IsCapped partial path.pair path.start

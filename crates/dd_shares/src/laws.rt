@@ -1,4 +1,4 @@
-ghost use Rattle.std.specs.Prelude.{◌≡◌, ◌≢◌, ◌⊎◌, ◌+◌, ◌-◌, ◌*◌, ◌/◌, ◌%◌, ◌≤◌, ℕ, List, length};
+ghost use Rattle.std.specs.Prelude.{◌≡◌, ◌≢◌, ◌⊎◌, ◌+◌, ◌*◌, ◌/◌, ◌%◌, ◌≤◌, ℕ, List, length};
 ghost use Rattle.std.specs.List.{AllByRecursion, sum_by};
 ghost use Rattle.dd_model.specs.Symbol.{Symbol, IsTable, IsSymbol, IsChamber, Connected, degree, op};
 ghost use Rattle.dd_model.specs.Cell.{InCell, IsChain, AreCells};
@@ -14,12 +14,13 @@ ghost use Rattle.dd_invol.specs.Rows.{partial_of, depth_of, unwound};
 ghost use Rattle.dd_invol.specs.declared.rows.Rows.{Rows};
 ghost use Rattle.dd_model.specs.declared.requests.Request.{Request};
 ghost use Rattle.dd_model.specs.Wanted.{AtMost, Wanted};
-ghost use Rattle.dd_shares.specs.Closed.{AreWhole};
-ghost use Rattle.dd_shares.specs.Shares.{IsTotal};
+ghost use Rattle.dd_cells.specs.Cells.{AreMembers};
+ghost use Rattle.dd_shares.specs.Census.{IsCensus, HasRoom};
+ghost use Rattle.dd_shares.specs.Closed.{fixed_flags};
+ghost use Rattle.dd_shares.specs.Shares.{IsSought};
+ghost use Rattle.dd_shares.specs.declared.limits.Census.{Census};
 ghost use Rattle.dd_shares.specs.Kept.{AreKept};
 ghost use Rattle.dd_shares.specs.declared.shares.Shares.{Shares};
-
-use crate::sides::WHOLE;
 
 /// A cell has at most twice as many chambers as its degree, and a chain at most as many.
 pub fn a_cell_has_at_most_two_chambers_for_each_turn()
@@ -56,10 +57,22 @@ pub fn shares_stay_while_a_table_is_filled()
         → AreKept (partial_of old) shares → AreKept (partial_of new) shares }
 {}
 
-/// Cells that are whole in each sought symbol add what they add, and each further cell at most 2
-/// WHOLE: no more cells are whole than the request allows.
+/// A cell has no fixed flags or two, where a flag is a chamber with an involution of the pair that
+/// fixes it. Twice what a cell adds to the sum of 1/m and the number of its fixed flags are at most 4
+/// together, in parts of any number that is divided by the degrees.
+pub fn fixed_flags_halve_a_cell()
+    ensures flags { (s : Symbol) (p : Pair) (d : ℕ) (members : List ℕ) → IsSymbol s → IsChamber s d → AreMembers s p d members
+        → (sum_by (fixed_flags s p) members ≡ 0) ⊎ (IsChain s p d × (sum_by (fixed_flags s p) members ≡ 2)) }
+    ensures weight { (s : Symbol) (p : Pair) (d : ℕ) (members : List ℕ) (whole : ℕ) → IsSymbol s → IsChamber s d → AreMembers s p d members
+        → 2 * sum_by (λ x. whole / degree s p x) members + whole * sum_by (fixed_flags s p) members ≤ 4 * whole }
+{}
+
+/// What a census tells of the cells of a pair holds of each sought symbol, where a request sets a
+/// limit: no more cells are whole than the limit, each chamber is in a whole cell where as many are,
+/// and the sum of 1/m is at most what whole cells add, 1 for each further chain and 2 for each further
+/// cycle.
 pub fn whole_cells_count()
-    ensures { (q : Request) (partial : Symbol) (p : Pair) (k count total limit : ℕ) → (p ≡ Tile) ⊎ (p ≡ Vertex)
-        → ((s : Symbol) → Wanted q s → AtMost s p limit) → 1 ≤ limit → AreWhole q partial p WHOLE k count total
-        → IsTotal q partial p WHOLE (total + 2 * (limit - count) * WHOLE) }
+    ensures { (q : Request) (partial : Symbol) (p : Pair) (c : Census) (limit : ℕ) → (p ≡ Tile) ⊎ (p ≡ Vertex)
+        → ((s : Symbol) → Wanted q s → AtMost s p limit) → 1 ≤ limit → IsCensus q partial p partial.size c
+        → (s : Symbol) → IsSought q partial s → HasRoom s p c limit }
 {}

@@ -1,6 +1,7 @@
 //! What cuts the search for the catalogue: bounds on the degrees of what completes a partial table.
 #![tactic(auto)]
 
+mod cells;
 mod changes;
 mod laws;
 mod limits;
@@ -10,10 +11,10 @@ mod sides;
 
 pub use laws::{
     a_cell_has_at_most_two_chambers_for_each_turn, each_cell_adds_at_most_two,
-    flat_symbols_have_large_shares, odd_tables_have_fixed_chambers,
+    fixed_flags_halve_a_cell, flat_symbols_have_large_shares, odd_tables_have_fixed_chambers,
     shares_stay_while_a_table_is_filled, whole_cells_count,
 };
-pub use shares::{Mark, Shares, is_odd, put};
+pub use shares::{Mark, Shares, is_odd};
 pub use sides::WHOLE;
 
 #[cfg(test)]

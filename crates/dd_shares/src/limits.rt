@@ -1,14 +1,14 @@
-ghost use Rattle.std.specs.Prelude.{◌≡◌, ◌⊎◌, ℕ, ◌*◌, ◌≤◌, ◌<◌};
-ghost use Rattle.std.specs.Option.{IfSome};
+ghost use Rattle.std.specs.Prelude.{◌≡◌, ◌⊎◌, ℕ, ◌+◌, ◌*◌, ◌/◌, ◌≤◌, ◌<◌, cond, nat_eq, sum};
+ghost use Rattle.std.specs.List.{sum_by};
+ghost use Rattle.dd_model.specs.Flat.{all_degrees};
 ghost use Rattle.dd_model.specs.Symbol.{Symbol as Tiling};
 ghost use Rattle.dd_model.specs.Wanted.{AtMost, Wanted};
 ghost use Rattle.dd_model.specs.declared.parts.Pair.TheVariants.{Tile, Vertex};
 ghost use Rattle.dd_invol.specs.Rows.{partial_of, IsReady};
-ghost use Rattle.dd_shares.specs.Closed.{IsWhole};
-ghost use Rattle.dd_shares.specs.Shares.{IsTotal};
+ghost use Rattle.dd_shares.specs.Shares.{degrees_of, IsTotal};
 ghost use Rattle.dd_shares.specs.Sides.{IsSide};
 
-use crate::paths::Path;
+use crate::cells::WholeCell;
 use crate::sides::{Side, WHOLE};
 use dd_invol::Rows;
 use dd_model::{Pair, Request};
@@ -24,26 +24,97 @@ fn limit_of(request: &Request, pair: Pair) -> u32
     }
 }
 
-impl Side {
-    /// What a cell adds at most, where it is sure that the chamber is the least of its cell and that
-    /// the cell will not grow.
-    fn whole_cell(&self, request: &Request, table: &Rows, pair: Pair, chamber: u8) -> Option<u64>
-        requires ready { IsReady table.now }
-        requires low { 1 ≤ chamber }
-        requires high { chamber ≤ (partial_of table.now).size }
-        requires kept { IsSide request.now (partial_of table.now) pair self.now }
-        ensures whole { IfSome result (λ most. IsWhole request.now (partial_of table.now) pair 144403552893600 chamber most) }
-        ensures small { IfSome result (λ most. most ≤ 36 * (36 * 144403552893600)) }
+/// 1 where the image of a chamber is the chamber.
+fn fixes(image: u8, chamber: u8) -> u32
+    ensures one { result ≡ cond (nat_eq image chamber) 1 0 }
+    ensures small { result ≤ 1 }
+{
+    if image == chamber { 1 } else { 0 }
+}
+
+/// What a table tells of the cells of a pair: the cells that are whole, how many of them are chains,
+/// their chambers, what they add at most, and how often an involution of the pair is known to fix a
+/// chamber.
+#[derive(Drop)]
+pub(crate) struct Census {
+    cells: u32,
+    chains: u32,
+    chambers: u32,
+    most: u64,
+    fixed: u32,
+}
+
+impl Census {
+    ghost use Rattle.dd_shares.specs.Census.{IsCensus, IsSmall, HasRoom};
+
+    /// What no chambers tell.
+    fn none() -> Census
+        ensures census { (q : Request) (partial : Tiling) (p : Pair) → IsCensus q partial p 0 result }
+        ensures small { IsSmall 0 result }
     {
-        let path = Path::from(table, pair, chamber);
-        if !path.is_whole(table) {
-            return None;
+        Census {
+            cells: 0,
+            chains: 0,
+            chambers: 0,
+            most: 0,
+            fixed: 0,
         }
-        Some(path.chambers.len() as u64 * self.shares[(chamber - 1) as usize])
     }
 
-    /// The total of a pair, or less where a request sets a limit: cells that will not grow add what
-    /// they add, and each further cell at most 2 WHOLE.
+    /// With what the chamber after k tells, and its cell, where the chamber is the least of a whole
+    /// one.
+    fn add(&mut self, side: &Side, table: &Rows, pair: Pair, k: u8)
+        requires ready { IsReady table.now }
+        requires low { k < (partial_of table.now).size }
+        requires total { side.now.total ≡ sum side.now.shares }
+        requires fits { side.now.total ≤ 36 * 144403552893600 }
+        requires small { IsSmall k self.old }
+        ensures census { (q : Request) → IsSide q (partial_of table.now) pair side.now
+            → IsCensus q (partial_of table.now) pair k self.old → IsCensus q (partial_of table.now) pair (k + 1) self.new }
+        ensures small { IsSmall (k + 1) self.new }
+    {
+        let chamber = k + 1;
+        let beside = table.known(pair.first(), chamber);
+        let across = table.known(pair.second(), chamber);
+        self.fixed += fixes(beside, chamber) + fixes(across, chamber);
+        if across < chamber {
+            return;
+        }
+        let Some(cell) = WholeCell::from(table, pair, chamber, chamber) else {
+            return;
+        };
+        let chambers = cell.chambers();
+        self.cells += 1;
+        self.chains += cell.chains();
+        self.chambers += u32::from(chambers);
+        self.most += u64::from(chambers) * side.share(chamber);
+    }
+
+    /// What all cells add at most, where there are no more than a limit.
+    fn bound(&self, limit: u32, size: u8) -> u64
+        requires small { IsSmall 36 self.now }
+        requires limit { limit ≤ 36 }
+        ensures { (s : Tiling) (p : Pair) → s.size ≡ size → HasRoom s p self.now limit
+            → sum_by (λ m. all_degrees s / m) (degrees_of s p) * 144403552893600 ≤ all_degrees s * result }
+    {
+        if self.cells > limit {
+            return 0;
+        }
+        let left = limit - self.cells;
+        if left == 0 && self.chambers < u32::from(size) {
+            return 0;
+        }
+        let chains = (self.fixed + 1) / 2;
+        if chains > self.chains + left {
+            return 0;
+        }
+        self.most + u64::from(self.chains + 2 * left - chains) * WHOLE
+    }
+}
+
+impl Side {
+    /// The total of a pair, or less where a request sets a limit: whole cells add what they add, a
+    /// further chain at most WHOLE, and a further cycle at most twice that.
     pub(crate) fn limited(&self, request: &Request, table: &Rows, pair: Pair) -> u64
         requires ready { IsReady table.now }
         requires pair { (pair ≡ Tile) ⊎ (pair ≡ Vertex) }
@@ -55,18 +126,11 @@ impl Side {
         if limit == 0 || limit > 36 {
             return self.total;
         }
-        let mut cells = 0;
-        let mut most = 0;
+        let mut census = Census::none();
         for k in 0..table.size() {
-            if let Some(weight) = self.whole_cell(request, table, pair, k + 1) {
-                cells += 1;
-                most += weight;
-            }
+            census.add(self, table, pair, k);
         }
-        if cells > limit {
-            return 0;
-        }
-        let total = most + 2 * u64::from(limit - cells) * WHOLE;
+        let total = census.bound(limit, table.size());
         if total < self.total {
             return total;
         }

@@ -2,9 +2,6 @@ ghost use Rattle.std.specs.Prelude.{ℕ, ◌≡◌, ◌⊎◌, [], ◌∷◌, �
 ghost use Rattle.dd_model.specs.Symbol.{first, second};
 ghost use Rattle.dd_invol.specs.Rows.{partial_of, IsReady};
 ghost use Rattle.dd_shares.specs.Paths.{InPath};
-ghost use Rattle.std.specs.Bool.{OnTrue};
-ghost use Rattle.std.specs.List.{Contains};
-ghost use Rattle.dd_shares.specs.Closed.{LeadsInto, IsClosed};
 ghost use Rattle.dd_shares.specs.Walked.{IsWalked};
 
 use arrayvec::ArrayVec;
@@ -93,41 +90,11 @@ impl Path {
         path
     }
 
-    /// Whether an image of a chamber is known and in the path.
-    fn leads_back(&self, table: &Rows, i: Index, chamber: u8) -> bool
-        requires ready { IsReady table.now }
-        requires low { 1 ≤ chamber }
-        requires high { chamber ≤ (partial_of table.now).size }
-        ensures { IsTrue result → LeadsInto (partial_of table.now) i self.now.chambers.items chamber }
+    /// The first chamber.
+    pub(crate) fn start(&self) -> u8
+        ensures { result ≡ self.now.start }
     {
-        let image = table.known(i, chamber);
-        if image == 0 {
-            return false;
-        }
-        self.chambers.as_slice().contains(&image)
-    }
-
-    /// Whether the path is a whole cell, whatever completes the table, and starts at its least
-    /// chamber.
-    pub(crate) fn is_whole(&self, table: &Rows) -> bool
-        requires ready { IsReady table.now }
-        requires walked { IsWalked (partial_of table.now) self.now }
-        ensures closed { OnTrue result (IsClosed (partial_of table.now) self.now.pair self.now.chambers.items) }
-        ensures least { OnTrue result ((e : ℕ) → Contains self.now.chambers.items e → self.now.start ≤ e) }
-    {
-        for k in 0..self.chambers.len() {
-            let chamber = self.chambers.as_slice()[k];
-            if chamber < self.start {
-                return false;
-            }
-            if !self.leads_back(table, self.pair.first(), chamber) {
-                return false;
-            }
-            if !self.leads_back(table, self.pair.second(), chamber) {
-                return false;
-            }
-        }
-        true
+        self.start
     }
 
     /// No degree of a cell with these chambers is less.

@@ -6,14 +6,14 @@ ghost use Rattle.dd_model.specs.FirstVisit.{LeastTable};
 ghost use Rattle.dd_invol.specs.Places.{index_at};
 ghost use Rattle.dd_invol.specs.Rows.{partial_of, IsReady, Learns, Excludes, Commutes};
 ghost use Rattle.dd_shares.specs.Shares.{IsSought};
-ghost use Rattle.dd_shares.specs.Kept.{AreKept, mark_of, rolled_back};
+ghost use Rattle.dd_shares.specs.Kept.{AreKept, HaveExchanged, mark_of, rolled_back};
 
 use crate::sides::{Side, WHOLE};
 use dd_invol::Rows;
 use dd_model::{Index, Pair, Request};
 
 /// How much was exchanged.
-#[derive(Debug, Clone, Copy, PartialEq, Eq)]
+#[derive(Debug, Clone, Copy, Default, PartialEq, Eq)]
 pub struct Mark {
     tiles: usize,
     vertices: usize,
@@ -65,22 +65,71 @@ impl Shares {
         self.vertices.undo(mark.vertices);
     }
 
-    /// Exchanges the shares of the paths near a chamber, after an image of it was told, with what
-    /// follows by commuting.
-    pub fn learn(&mut self, table: &Rows, chamber: u8)
+    /// Exchanges the shares of the paths that have grown by what was put into the table after a mark.
+    pub fn learn(&mut self, table: &Rows, mark: usize)
         requires ready { IsReady table.now }
-        requires low { 1 ≤ chamber }
-        requires high { chamber ≤ (partial_of table.now).size }
         requires kept { AreKept (partial_of table.now) self.old }
         ensures kept { AreKept (partial_of table.now) self.new }
         ensures request { self.new.request ≡ self.old.request }
         ensures undone { rolled_back self.new (mark_of self.old) ≡ self.old }
     {
-        let request = self.request;
-        self.tiles
-            .renew_near(&request, table, Pair::Tile, Index::Two, chamber);
+        let places = table.filled(mark);
+        for k in 0..places.len() {
+            self.renew_at(table, places[k]);
+        }
+    }
+
+    /// Exchanges the shares of the paths on which an image stands that was put in at a place.
+    fn renew_at(&mut self, table: &Rows, place: u8)
+        requires ready { IsReady table.now }
+        requires place { place < 108 }
+        requires kept { AreKept (partial_of table.now) self.old }
+        ensures kept { AreKept (partial_of table.now) self.new }
+        ensures exchanged { HaveExchanged self.old self.new }
+    {
+        let chamber = 1 + place / 3;
+        if chamber > table.size() {
+            return;
+        }
+        match place % 3 {
+            0 => self.renew_tile(table, Index::Zero, chamber),
+            1 => {
+                self.renew_tile(table, Index::One, chamber);
+                self.renew_vertex(table, Index::One, chamber);
+            }
+            _ => self.renew_vertex(table, Index::Two, chamber),
+        }
+    }
+
+    /// Exchanges the shares of the tile path of a chamber, unless they are exchanged at its image.
+    fn renew_tile(&mut self, table: &Rows, i: Index, chamber: u8)
+        requires ready { IsReady table.now }
+        requires low { 1 ≤ chamber }
+        requires high { chamber ≤ (partial_of table.now).size }
+        requires kept { AreKept (partial_of table.now) self.old }
+        ensures kept { AreKept (partial_of table.now) self.new }
+        ensures exchanged { HaveExchanged self.old self.new }
+    {
+        if table.known(i, chamber) < chamber {
+            return;
+        }
+        self.tiles.renew(&self.request, table, Pair::Tile, chamber);
+    }
+
+    /// Exchanges the shares of the vertex path of a chamber, unless they are exchanged at its image.
+    fn renew_vertex(&mut self, table: &Rows, i: Index, chamber: u8)
+        requires ready { IsReady table.now }
+        requires low { 1 ≤ chamber }
+        requires high { chamber ≤ (partial_of table.now).size }
+        requires kept { AreKept (partial_of table.now) self.old }
+        ensures kept { AreKept (partial_of table.now) self.new }
+        ensures exchanged { HaveExchanged self.old self.new }
+    {
+        if table.known(i, chamber) < chamber {
+            return;
+        }
         self.vertices
-            .renew_near(&request, table, Pair::Vertex, Index::Zero, chamber);
+            .renew(&self.request, table, Pair::Vertex, chamber);
     }
 
     /// Whether it is sure that no wanted symbol completes the table: the shares are too small.
@@ -89,32 +138,28 @@ impl Shares {
         requires kept { AreKept (partial_of table.now) self.now }
         ensures { IsTrue result → (s : Tiling) → ¬ IsSought self.now.request (partial_of table.now) s }
     {
+        if self.tiles.is_void() {
+            return true;
+        }
+        if self.vertices.is_void() {
+            return true;
+        }
+        if is_too_small(self.tiles.total, self.vertices.total, table.size()) {
+            return true;
+        }
         let tiles = self.tiles.limited(&self.request, table, Pair::Tile);
         let vertices = self.vertices.limited(&self.request, table, Pair::Vertex);
-        2 * (tiles + vertices) < u64::from(table.size()) * WHOLE
+        is_too_small(tiles, vertices, table.size())
     }
 }
 
-/// Puts the number at a place of a code into a table, with what follows by commuting, unless it
-/// cannot be, and exchanges the shares of the paths that have grown.
-pub fn put(table: &mut Rows, shares: &mut Shares, place: u8, number: u8) -> bool
-    requires ready { IsReady table.old }
-    requires place { place < 3 * (partial_of table.old).size }
-    requires kept { AreKept (partial_of table.old) shares.old }
-    ensures ready { IsReady table.new }
-    ensures kept { AreKept (partial_of table.new) shares.new }
-    ensures learnt { OnTrue result (Learns (λ s. Commutes s × (op s (index_at (place % 3)) (1 + place / 3) ≡ number)) table.old table.new) }
-    ensures told { OnTrue result (op (partial_of table.new) (index_at (place % 3)) (1 + place / 3) ≡ number) }
-    ensures clash { OnFalse result (Excludes (λ s. Commutes s × (op s (index_at (place % 3)) (1 + place / 3) ≡ number)) table.old) }
-    ensures same { OnFalse result (table.new ≡ table.old) }
-    ensures request { shares.new.request ≡ shares.old.request }
-    ensures undone { rolled_back shares.new (mark_of shares.old) ≡ shares.old }
+/// Whether two totals are less than those of a flat symbol of a size.
+fn is_too_small(tiles: u64, vertices: u64, size: u8) -> bool
+    requires tiles { tiles ≤ 36 * 144403552893600 }
+    requires vertices { vertices ≤ 36 * 144403552893600 }
+    ensures { IsTrue result → 2 * (tiles + vertices) < size * 144403552893600 }
 {
-    if !table.put(place, number) {
-        return false;
-    }
-    shares.learn(table, 1 + place / 3);
-    true
+    2 * (tiles + vertices) < u64::from(size) * WHOLE
 }
 
 /// Whether it is sure that no least table completes the table: its size is odd, and s0 moves

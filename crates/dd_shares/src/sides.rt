@@ -1,14 +1,18 @@
-ghost use Rattle.std.specs.Prelude.{◌≡◌, ◌⊎◌, ℕ, ◌+◌, ◌-◌, ◌*◌, ◌/◌, ◌≤◌, ◌<◌, ◌↔◌, IsTrue, slice_index, slice_set, sum};
-ghost use Rattle.dd_model.specs.Symbol.{Symbol as Tiling};
-ghost use Rattle.dd_shares.specs.Shares.{IsAllowed};
-ghost use Rattle.dd_shares.specs.Sides.{depth_of, unwound, IsSide};
+ghost use Rattle.std.specs.Prelude.{◌≡◌, ◌⊎◌, ℕ, ◌+◌, ◌-◌, ◌*◌, ◌/◌, ◌≤◌, ◌<◌, ◌↔◌, IsTrue, length, slice_index, slice_set, sum};
+ghost use Rattle.dd_model.specs.Symbol.{Symbol as Tiling, item};
+ghost use Rattle.dd_model.specs.Wanted.{IsCrystallographic};
+ghost use Rattle.dd_model.specs.declared.parts.Pair.TheVariants.{Tile, Vertex};
+ghost use Rattle.dd_shares.specs.Shares.{IsAllowed, IsShare};
+ghost use Rattle.dd_shares.specs.Sides.{depth_of, unwound, IsSide, HasExchanged};
+ghost use Rattle.dd_shares.specs.Walked.{IsWalked};
 ghost use Rattle.dd_invol.specs.Rows.{partial_of, IsReady};
 
+use crate::cells::WholeCell;
 use crate::changes::Change;
 use crate::paths::Path;
 use arrayvec::ArrayVec;
 use dd_invol::Rows;
-use dd_model::{Index, Pair, Request};
+use dd_model::{Pair, Request};
 
 /// A number that each of 1 to 36 divides. Shares are parts of it.
 pub const WHOLE: u64 = 144_403_552_893_600;
@@ -47,6 +51,43 @@ fn share_of(degree: u32) -> u64
     (WHOLE - 1) / u64::from(degree) + 1
 }
 
+/// Whether a cell of so many turns may have the branching value.
+fn allows_cell(request: &Request, pair: Pair, branching: u32, turns: u8) -> bool
+    requires branching { branching ≤ 6 }
+    ensures { IsTrue result ↔ (IsCrystallographic branching × IsAllowed request.now pair (branching * turns)) }
+{
+    [1, 2, 3, 4, 6].contains(&branching) && allows(request, pair, branching * u32::from(turns))
+}
+
+/// WHOLE divided by the least degree that a request allows to a cell of so many turns, rounded up; 0
+/// where it allows none. The degree is the branching value times the turns.
+fn share_of_cell(request: &Request, pair: Pair, turns: u8) -> u64
+    requires { 1 ≤ turns }
+    ensures { (v : ℕ) → IsCrystallographic v → IsAllowed request.now pair (v * turns) → 144403552893600 ≤ result * (v * turns) }
+{
+    for branching in 1..7 {
+        if allows_cell(request, pair, branching, turns) {
+            return share_of(branching * u32::from(turns));
+        }
+    }
+    0
+}
+
+/// The share of the chambers of a path; 0 where no wanted symbol completes the table.
+fn share_near(request: &Request, table: &Rows, pair: Pair, path: &Path) -> u64
+    requires ready { IsReady table.now }
+    requires pair { (pair ≡ Tile) ⊎ (pair ≡ Vertex) }
+    requires walked { IsWalked (partial_of table.now) path.now }
+    requires same { path.now.pair ≡ pair }
+    ensures { (k : ℕ) → k < length path.now.chambers.items
+        → IsShare request.now (partial_of table.now) pair 144403552893600 (slice_index path.now.chambers.items k) result }
+{
+    if let Some(cell) = WholeCell::from(table, pair, path.start(), 1) {
+        return share_of_cell(request, pair, cell.turns);
+    }
+    share_of(least_degree(request, pair, path.bound()))
+}
+
 /// The shares of a pair, one for each chamber, their sum, and what was exchanged, so that it can be
 /// taken back. Where there is no more room for that, a share stays as it is: it is then greater
 /// than it need be, and still a share.
@@ -54,7 +95,7 @@ fn share_of(degree: u32) -> u64
 pub(crate) struct Side {
     pub(crate) shares: [u64; 36],
     pub(crate) total: u64,
-    trail: ArrayVec<Change, 1024>,
+    trail: ArrayVec<Change, 384>,
 }
 
 impl Side {
@@ -75,6 +116,21 @@ impl Side {
             total,
             trail: ArrayVec::new(),
         }
+    }
+
+    /// The share of a chamber.
+    pub(crate) fn share(&self, chamber: u8) -> u64
+        requires { (1 ≤ chamber) × (chamber ≤ 36) }
+        ensures { result ≡ item self.now.shares chamber }
+    {
+        self.shares[(chamber - 1) as usize]
+    }
+
+    /// Whether a path had no room, so that no wanted symbol completes the table.
+    pub(crate) fn is_void(&self) -> bool
+        ensures { IsTrue result → item self.now.shares 1 ≡ 0 }
+    {
+        self.shares[0] == 0
     }
 
     /// How much was exchanged.
@@ -103,8 +159,7 @@ impl Side {
         ensures total { self.new.total ≡ sum self.new.shares }
         ensures smaller { self.new.total ≤ self.old.total }
         ensures shares { (self.new.shares ≡ self.old.shares) ⊎ (self.new.shares ≡ slice_set self.old.shares (chamber - 1) share) }
-        ensures deeper { depth_of self.old ≤ depth_of self.new }
-        ensures undone { (mark : ℕ) → mark ≤ depth_of self.old → unwound self.new mark ≡ unwound self.old mark }
+        ensures exchanged { HasExchanged self.old self.new }
     {
         let place = chamber - 1;
         let before = self.shares[place as usize];
@@ -120,47 +175,26 @@ impl Side {
         self.total -= before - share;
     }
 
-    /// Gives each chamber of a path the share that the path has room for.
+    /// Gives each chamber of a path the share that the path has room for. Where it has none, no
+    /// wanted symbol completes the table, and chamber 1 gets the share 0.
     pub(crate) fn renew(&mut self, request: &Request, table: &Rows, pair: Pair, start: u8)
         requires ready { IsReady table.now }
         requires low { 1 ≤ start }
         requires high { start ≤ (partial_of table.now).size }
+        requires pair { (pair ≡ Tile) ⊎ (pair ≡ Vertex) }
         requires kept { IsSide request.now (partial_of table.now) pair self.old }
         ensures kept { IsSide request.now (partial_of table.now) pair self.new }
-        ensures deeper { depth_of self.old ≤ depth_of self.new }
-        ensures undone { (mark : ℕ) → mark ≤ depth_of self.old → unwound self.new mark ≡ unwound self.old mark }
+        ensures exchanged { HasExchanged self.old self.new }
     {
         let path = Path::from(table, pair, start);
-        let share = share_of(least_degree(request, pair, path.bound()));
+        let share = share_near(request, table, pair, &path);
+        if share == 0 {
+            self.exchange(1, 0);
+            return;
+        }
         for k in 0..path.chambers.len() {
             let chamber = path.chambers.as_slice()[k];
             self.exchange(chamber, share);
         }
-    }
-
-    /// Renews the path of a chamber, and that of its image under the involution that is not of the
-    /// pair.
-    pub(crate) fn renew_near(
-        &mut self,
-        request: &Request,
-        table: &Rows,
-        pair: Pair,
-        across: Index,
-        chamber: u8,
-    )
-        requires ready { IsReady table.now }
-        requires low { 1 ≤ chamber }
-        requires high { chamber ≤ (partial_of table.now).size }
-        requires kept { IsSide request.now (partial_of table.now) pair self.old }
-        ensures kept { IsSide request.now (partial_of table.now) pair self.new }
-        ensures deeper { depth_of self.old ≤ depth_of self.new }
-        ensures undone { (mark : ℕ) → mark ≤ depth_of self.old → unwound self.new mark ≡ unwound self.old mark }
-    {
-        self.renew(request, table, pair, chamber);
-        let image = table.known(across, chamber);
-        if image == 0 {
-            return;
-        }
-        self.renew(request, table, pair, image);
     }
 }

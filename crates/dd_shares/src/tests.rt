@@ -1,7 +1,11 @@
-ghost use Rattle.std.specs.Prelude.{◌≤◌};
+ghost use Rattle.std.specs.Prelude.{◌≡◌, ◌*◌, ◌<◌, ◌≤◌};
+ghost use Rattle.dd_invol.specs.Rows.{partial_of, IsReady};
+ghost use Rattle.dd_invol.specs.Stem.{IsStem};
+ghost use Rattle.dd_invol.specs.Visit.{IsVisiting};
+ghost use Rattle.dd_shares.specs.Kept.{AreKept};
 
-use crate::{Shares, is_odd, put};
-use dd_invol::Rows;
+use crate::{Shares, is_odd};
+use dd_invol::{Rows, Stem, Visit};
 use dd_model::{Allowed, Request};
 use std::test::Fail;
 
@@ -37,6 +41,23 @@ fn a_tile_has_at_most_twelve_chambers(rt: HostRuntime) -> Result<(), Fail> {
     assert!(rt; !is_empty(0, 4, 36));
     assert!(rt; is_empty(0, 5, 1));
     Ok(())
+}
+
+/// Puts a number in at a place of a code, and learns from it.
+fn put(rows: &mut Rows, shares: &mut Shares, place: u8, number: u8) -> bool
+    requires ready { IsReady rows.old }
+    requires place { place < 3 * (partial_of rows.old).size }
+    requires kept { AreKept (partial_of rows.old) shares.old }
+    ensures ready { IsReady rows.new }
+    ensures size { (partial_of rows.new).size ≡ (partial_of rows.old).size }
+    ensures kept { AreKept (partial_of rows.new) shares.new }
+{
+    let mark = rows.mark();
+    if !rows.put(place, number) {
+        return false;
+    }
+    shares.learn(rows, mark);
+    true
 }
 
 /// What is answered before a chain of five chambers is put in, while it is open, when it is closed,
@@ -86,6 +107,47 @@ fn a_whole_tile_leaves_no_room(rt: HostRuntime) -> Result<(), Fail> {
     Ok(())
 }
 
+/// Whether nothing is sought where faces have five edges, before and after chambers 1 and 2 are a
+/// whole tile, of which the degree is even.
+fn answers_for_pentagons() -> [bool; 3] {
+    let mut faces = Allowed::none();
+    faces.add(5);
+    let mut request = asked(0, 3);
+    request.faces = faces;
+    let mut rows = Rows::empty(20);
+    let mut shares = Shares::start(&request, 20);
+    let before = shares.exceeds(&rows);
+    let put_in = put(&mut rows, &mut shares, 0, 2)
+        && put(&mut rows, &mut shares, 1, 1)
+        && put(&mut rows, &mut shares, 4, 2);
+    [before, put_in, shares.exceeds(&rows)]
+}
+
+#[test]
+fn a_whole_tile_has_an_allowed_degree(rt: HostRuntime) -> Result<(), Fail> {
+    let [before, put_in, after] = answers_for_pentagons();
+    assert!(rt; !before);
+    assert!(rt; put_in);
+    assert!(rt; after);
+    Ok(())
+}
+
+/// Whether nothing of a size is sought that has one tile, in which s0 fixes chamber 1.
+fn is_empty_with_a_chain(size: u8) -> bool
+    requires { (1 ≤ size) × (size ≤ 36) }
+{
+    let mut rows = Rows::empty(size);
+    let mut shares = Shares::start(&asked(1, 3), size);
+    put(&mut rows, &mut shares, 0, 1) && shares.exceeds(&rows)
+}
+
+#[test]
+fn a_tile_with_a_fixed_chamber_has_at_most_six(rt: HostRuntime) -> Result<(), Fail> {
+    assert!(rt; !is_empty_with_a_chain(6));
+    assert!(rt; is_empty_with_a_chain(7));
+    Ok(())
+}
+
 #[test]
 fn odd_sizes_have_fixed_chambers(rt: HostRuntime) -> Result<(), Fail> {
     let mut odd = Rows::empty(3);
@@ -95,5 +157,62 @@ fn odd_sizes_have_fixed_chambers(rt: HostRuntime) -> Result<(), Fail> {
     assert!(rt; even.put(0, 2));
     assert!(rt; is_odd(&odd));
     assert!(rt; !is_odd(&even));
+    Ok(())
+}
+
+/// How many numbers a search puts in under a stem that no test refuses, without those that follow
+/// from others. The stem's last number was put in after a mark.
+fn count_nodes(stem: &mut Stem, visit: &mut Visit, shares: &mut Shares, mark: usize) -> u64
+    requires stem { IsStem stem.old }
+    requires visiting { IsVisiting visit.old }
+    requires kept { AreKept (partial_of stem.old.rows) shares.old }
+    ensures stem { stem.new ≡ stem.old }
+    ensures visiting { IsVisiting visit.new }
+    ensures shares { shares.new ≡ shares.old }
+{
+    let back = shares.mark();
+    shares.learn(stem.rows(), mark);
+    if shares.exceeds(stem.rows()) {
+        shares.undo(back);
+        return 0;
+    }
+    if is_odd(stem.rows()) {
+        shares.undo(back);
+        return 0;
+    }
+    let here = stem.mark();
+    let mut count = u64::from(here > mark);
+    if stem.is_whole() {
+        shares.undo(back);
+        return count;
+    }
+    let mut k = 0;
+    while let Some(number) = stem.next_from(k) {
+        if stem.enter(number, visit) {
+            count = count_nodes(stem, visit, shares, here).saturating_add(count);
+            stem.leave(here);
+        }
+        k = number + 1;
+    }
+    shares.undo(back);
+    count
+}
+
+/// How many numbers a search for a size puts in.
+fn nodes_of(tiles: u32, size: u8) -> u64
+    requires { (1 ≤ size) × (size ≤ 36) }
+{
+    let mut stem = Stem::new(size);
+    let mut visit = Visit::new();
+    let mut shares = Shares::start(&asked(tiles, 3), size);
+    count_nodes(&mut stem, &mut visit, &mut shares, 0)
+}
+
+#[test]
+fn a_search_turns_back_in_time(rt: HostRuntime) -> Result<(), Fail> {
+    assert_eq!(rt; nodes_of(0, 6), 296);
+    assert_eq!(rt; nodes_of(0, 8), 999);
+    assert_eq!(rt; nodes_of(0, 10), 3019);
+    assert_eq!(rt; nodes_of(1, 13), 0);
     Ok(())
 }

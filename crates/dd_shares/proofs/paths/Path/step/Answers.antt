@@ -1,7 +1,6 @@
-use Rattle.std.proofs.Common.{◌≡◌, [], ◌∷◌, ◌<◌, ◌≤◌, true, false, length, length-set, get_or, set, sym, ◌∙◌, subst, arith}
+use Rattle.std.proofs.Common.{◌≡◌, ◌<◌, ◌≤◌, true, false, length, length-set, get_or, set, sym, ◌∙◌, subst, arith}
 use Rattle.std.proofs.lemmas.List.{get_or-set_same}
-use Rattle.std.proofs.lemmas.List.Elements.{Contains-append_left}
-use Rattle.std.specs.List.{AllByRecursion, Contains}
+use Rattle.std.specs.List.{AllByRecursion}
 use Rattle.dd_invol.specs.Distinct.{AreDistinct}
 use Rattle.dd_shares.specs.Paths.{InPath}
 use Rattle.dd_invol.proofs.Orders.{all-push}
@@ -35,7 +34,7 @@ returns-clause-walked c =
       within = subst (AllByRecursion (λ x. (1 ≤ x) × (x ≤ P.size))) (sym items) (all-push (λ x. (1 ≤ x) × (x ≤ P.size)) es image walked.within (omega (arith, some), within));
       marked = subst (AllByRecursion (λ x. get_or (set old.met image true) x false ≡ true)) (sym items)
           (all-push (λ x. get_or (set old.met image true) x false ≡ true) es image (marked_more old.met image room es walked.marked) (get_or-set_same old.met image true false room));
-      begun = subst (λ xs. Contains xs old.start) (sym items) (Contains-append_left es (image ∷ []) old.start walked.begun);
+      begins = walked.begins;
       some = let len = c.push.ensures.len in omega (arith, len);
       marks = length-set old.met image true ∙ marks;
       capped = walked.capped;

@@ -1,0 +1,156 @@
+-- The first members of a catalogue.
+use Rattle.std.proofs.Common.{◌≡◌, ◌≢◌, ◌⊎◌, ℕ, zero, suc, ◌+◌, ◌<◌, ◌≤◌, List, [], ◌∷◌, ◌++◌, length, get_or, take, drop, refl, sym, ap, ◌∙◌, subst, inl, inr, ⊎_elim, arith, take-append-drop}
+use Rattle.std.proofs.lemmas.List.{take_more}
+use Rattle.std.proofs.lemmas.List.Elements.{Contains-append_right, Contains-append_left, Contains-append_cases, Contains-push}
+use Rattle.std.specs.List.{AllByRecursion, Contains}
+use Rattle.std.specs.Cmp.{IsTotalOrder}
+use Rattle.std.specs.declared.cmp.Ordering.TheVariants.{Less, Equal, Greater}
+use Rattle.dd_model.specs.Symbol.{Symbol}
+use Rattle.dd_model.specs.Code.{code_cmp, IsBelow}
+use Rattle.dd_model.specs.Wanted.{IsMember, IsAscending, IsCatalogue}
+use Rattle.dd_model.specs.Jobs.{IsJobBelow, AreAscendingJobs, IsMemberUnder, AreMembersUnder}
+use Rattle.dd_model.specs.declared.requests.Request.{Request}
+use Rattle.dd_model.specs.declared.jobs.Job.{Job}
+use Rattle.dd_model.proofs.Codes.{code_cmp_total}
+use Rattle.dd_invol.specs.Opening.{IsOpening}
+use Rattle.dd_invol.proofs.Ascending.{all_from_members}
+use Rattle.dd_invol.proofs.JobLists.{only}
+use Rattle.dd_invol.proofs.OpeningLaws.{covered}
+use Rattle.dd_branch.specs.Joined.{IsUnderOne, AreUnderJobs, IsPartBelow, AreFirstMembers}
+use Rattle.dd_branch.proofs.JoinedLists.{each_of, under_append, under_one, under_below, opening_as_long}
+
+none_there : {A : Type 0} (x : A) → Contains [] x → ⊥
+none_there x there = let below = there.1 in omega arith
+
+-- nothing is below itself, and of two symbols at most one is below the other
+not_below_itself : (s : Symbol) → IsBelow s s → ⊥
+not_below_itself s less = let turned = code_cmp_total.antisymm s s in absurd (cc)
+
+not_both_below : (s t : Symbol) → IsBelow s t → IsBelow t s → ⊥
+not_both_below s t one two = let turned = code_cmp_total.antisymm s t in absurd (cc)
+
+-- An ascending list that has the members of another, and besides only symbols that come after all of these, begins with it.
+pub begins_with : (ss ts : List Symbol) → IsAscending ss → IsAscending ts → ((s : Symbol) → Contains ss s → Contains ts s)
+    → ((t : Symbol) → Contains ts t → Contains ss t ⊎ AllByRecursion (λ m. IsBelow m t) ss) → (rest : List Symbol) × (ts ≡ ss ++ rest)
+begins_with [] ts hs ht inside after = (ts, refl)
+begins_with (s ∷ ss) [] hs ht inside after = absurd (none_there s (inside s (Contains-append_left (s ∷ []) ss s (Contains-push [] s))))
+begins_with (s ∷ ss) (t ∷ ts) hs ht inside after =
+    let same : t ≡ s = heads in
+    let tail = begins_with ss ts hs.1 ht.1 inner later in
+    (tail.0, ap (λ x. x ∷ ts) same ∙ ap (λ xs. s ∷ xs) tail.1)
+  where
+    own : Contains (s ∷ ss) s
+    own = Contains-append_left (s ∷ []) ss s (Contains-push [] s)
+
+    first_of : {A : Type 0} (a b : A) → Contains (a ∷ []) b → a ≡ b
+    first_of a b (zero, low, e) = e
+    first_of a b (suc i, low, e) = absurd (omega arith)
+
+    heads : t ≡ s
+    heads =
+        ⊎_elim
+        (λ here. first_of t s here)
+        (λ further.
+        let t_below : IsBelow t s = each_of (IsBelow t) ts s ht.0 further in
+        ⊎_elim
+        (λ among. ⊎_elim
+        (λ first. sym (first_of s t first))
+        (λ past. absurd (not_both_below s t (each_of (IsBelow s) ss t hs.0 past) t_below))
+        (Contains-append_cases (s ∷ []) ss t among))
+        (λ above. absurd (not_both_below s t above.0 t_below))
+        (after t (Contains-append_left (t ∷ []) ts t (Contains-push [] t))))
+        (Contains-append_cases (t ∷ []) ts s (inside s own))
+
+    inner : (x : Symbol) → Contains ss x → Contains ts x
+    inner x there =
+        ⊎_elim
+        (λ first. absurd (not_below_itself s (subst (IsBelow s) (sym (first_of t x first) ∙ heads) (each_of (IsBelow s) ss x hs.0 there))))
+        (λ past. past)
+        (Contains-append_cases (t ∷ []) ts x (inside x (Contains-append_right (s ∷ []) ss x there)))
+
+    later : (x : Symbol) → Contains ts x → Contains ss x ⊎ AllByRecursion (λ m. IsBelow m x) ss
+    later x there =
+        ⊎_elim
+        (λ among. ⊎_elim
+        (λ first. absurd (not_below_itself s (subst (λ z. IsBelow z s) heads (subst (IsBelow t) (sym (first_of s x first)) (each_of (IsBelow t) ts x ht.0 there)))))
+        (λ past. inl past)
+        (Contains-append_cases (s ∷ []) ss x among))
+        (λ above. inr above.1)
+        (after x (Contains-append_right (t ∷ []) ts x there))
+
+-- each catalogue begins with its first members
+pub catalogue_begins : (q : Request) (ss ts : List Symbol) → AreFirstMembers q ss → IsCatalogue q ts → (rest : List Symbol) × (ts ≡ ss ++ rest)
+catalogue_begins q ss ts first is =
+    begins_with ss ts first.ascending is.ascending (λ s there. (is.members s).1 (first.members s there)) (λ t there. first.first t ((is.members t).0 there))
+
+-- the whole catalogue is a list of its first members
+pub catalogue_first : (q : Request) (ss : List Symbol) → IsCatalogue q ss → AreFirstMembers q ss
+catalogue_first q ss is = record { ascending = is.ascending; members = λ s there. (is.members s).0 there; first = λ s member. inl ((is.members s).1 member) }
+
+-- a job of an ascending list is among the first k, or after all of them
+where_listed : (js : List Job) (k : ℕ) (job : Job) → AreAscendingJobs js → Contains js job → Contains (take k js) job ⊎ ((j : Job) → Contains (take k js) j → IsJobBelow j job)
+where_listed js zero job ascending there = inr (λ j none. absurd (nothing js j none))
+  where
+    nothing : (xs : List Job) (x : Job) → Contains (take 0 xs) x → ⊥
+    nothing [] x h = none_there x h
+    nothing (y ∷ ys) x h = none_there x h
+where_listed [] (suc k) job ascending there = absurd (none_there job there)
+where_listed (x ∷ xs) (suc k) job ascending there =
+    ⊎_elim
+    (λ first. inl (Contains-append_left (x ∷ []) (take k xs) job first))
+    (λ past. ⊎_elim
+    (λ early. inl (Contains-append_right (x ∷ []) (take k xs) job early))
+    (λ late. inr (λ j hj. ⊎_elim
+    (λ first. subst (λ z. IsJobBelow z job) (only x j first) (each_of (IsJobBelow x) xs job ascending.0 past))
+    (λ further. late j further)
+    (Contains-append_cases (x ∷ []) (take k xs) j hj)))
+    (where_listed xs k job ascending.1 past))
+    (Contains-append_cases (x ∷ []) xs job there)
+
+taken_there : (js : List Job) (k : ℕ) (job : Job) → Contains (take k js) job → Contains js job
+taken_there js k job there = subst (λ xs. Contains xs job) (take-append-drop k js) (Contains-append_left (take k js) (drop k js) job there)
+
+-- what is under the first jobs of an opening are the first members
+pub under_first_jobs : (q : Request) (js : List Job) (k : ℕ) (ss : List Symbol) → IsOpening q js → AreUnderJobs q (take k js) ss → AreFirstMembers q ss
+under_first_jobs q js k ss is are = record {
+  ascending = are.ascending;
+  members = λ s there. ((are.members s).0 there).under.member;
+  first = λ s member.
+      let c = covered q s member.wanted.symbol member.wanted.connected member.least member.wanted.chambers in
+      let listed = (is.members c.job).1 c.opening in
+      let under : IsMemberUnder q c.job s = record { member = member; size = c.size; begins = c.begins } in
+      ⊎_elim
+      (λ early. inl ((are.members s).1 (record { job = c.job; listed = early; under = under })))
+      (λ late. inr (all_from_members (λ m. IsBelow m s) ss (λ m there.
+      let a = (are.members m).0 there in
+      let part : IsPartBelow a.job c.job = record { below = late a.job a.listed; as_long = opening_as_long q js is a.job c.job (taken_there js k a.job a.listed) listed } in
+      under_below q a.job c.job m s part a.under under)))
+      (where_listed js k c.job is.ascending listed);
+}
+
+-- one job more
+pub under_next_job : (q : Request) (js : List Job) (k : ℕ) (d : Job) (ss ts : List Symbol) → IsOpening q js → k < length js → AreUnderJobs q (take k js) ss → AreMembersUnder q (get_or js k d) ts
+    → AreUnderJobs q (take (k + 1) js) (ss ++ ts)
+under_next_job q js k d ss ts is low are more =
+    let job = get_or js k d in
+    subst (λ xs. AreUnderJobs q xs (ss ++ ts)) (sym (take_more js k d low))
+    (under_append q (take k js) (job ∷ []) ss ts
+    (λ i j hi hj.
+    let same : job ≡ j = only job j hj in
+    let listed : Contains js job = (k, low, get_same js k d low) in
+    subst (IsPartBelow i) same (record { below = before js k i is.ascending low hi; as_long = opening_as_long q js is i job (taken_there js k i hi) listed }))
+    are (under_one q job ts more))
+  where
+    get_same : (xs : List Job) (i : ℕ) (e : Job) → i < length xs → get_or xs i (get_or xs i e) ≡ get_or xs i e
+    get_same [] i e low = absurd (omega arith)
+    get_same (x ∷ xs) zero e low = refl
+    get_same (x ∷ xs) (suc i) e low = get_same xs i e (omega arith)
+
+    before : (xs : List Job) (i : ℕ) (j : Job) → AreAscendingJobs xs → i < length xs → Contains (take i xs) j → IsJobBelow j (get_or xs i d)
+    before [] i j ascending low there = absurd (omega arith)
+    before (x ∷ xs) zero j ascending low there = absurd (none_there j there)
+    before (x ∷ xs) (suc i) j ascending low there =
+        ⊎_elim
+        (λ first. subst (λ y. IsJobBelow y (get_or xs i d)) (only x j first) (each_of (IsJobBelow x) xs (get_or xs i d) ascending.0 (i, omega arith, get_same xs i d (omega arith))))
+        (λ further. before xs i j ascending.1 (omega arith) further)
+        (Contains-append_cases (x ∷ []) (take i xs) j there)

@@ -1,0 +1,12 @@
+pub mod FlatShares
+pub mod Choices
+pub mod Roots
+pub mod Assigned
+pub mod Leaves
+pub mod Placed
+pub mod Advancing
+pub mod Beginnings
+pub mod Descents
+pub mod Splits
+pub mod JoinedLists
+pub mod FirstMembers

@@ -1,0 +1,326 @@
+ghost use Rattle.std.specs.Prelude.{◌≡◌, ℕ, ◌+◌, ◌-◌, [], ◌∷◌, ◌++◌, ◌*◌, ◌≤◌, ◌<◌, IsTrue, IfOk, MatchOption, length, take, slice_index, slice_index_or};
+ghost use Rattle.std.specs.Bool.{OnTrue};
+ghost use Rattle.dd_model.specs.Symbol.{Symbol as Tiling};
+ghost use Rattle.dd_model.specs.Code.{code};
+ghost use Rattle.dd_model.specs.Wanted.{IsMember};
+ghost use Rattle.dd_symbol.specs.Table.{column, part, symbol_with};
+ghost use Rattle.dd_symbol.specs.Building.{given, HaveOneLength, IsAccepted};
+ghost use Rattle.dd_invol.specs.Under.{HasNothingUnder, IsUnder};
+ghost use Rattle.dd_branch.specs.Assignment.{IsAssignment, IsBeginning, degree_at, prefix_of, told};
+
+use crate::parts::{WHOLE, parts};
+use crate::places::{Place, add_places, least_choice};
+use arrayvec::ArrayVec;
+use dd_canon::is_least;
+use dd_invol::{Leaves, Tests};
+use dd_model::{Memory, Pair, Request};
+use dd_symbol::{Connected, Refusal, Symbol, build};
+use dd_wanted::is_wanted;
+use std::alloc::Global;
+
+/// A search for the degrees of a table: a prefix of codes with all images and maybe some degrees.
+/// A degree is put at its end and taken away again in place, and no such step allocates.
+#[derive(Drop)]
+pub(crate) struct Assignment {
+    alloc: Global,
+    request: Request,
+    /// The number of chambers.
+    size: u8,
+    /// WHOLE divided by each degree.
+    parts: [u64; 217],
+    /// What the table tells of each degree.
+    places: ArrayVec<Place, 72>,
+    /// The numbers of the code.
+    prefix: ArrayVec<u8, 180>,
+}
+
+/// The symbol with these lists, if they have at most 36 chambers and are one.
+fn built(
+    alloc: Global,
+    ops: [Vec<u32>; 3],
+    m01: Vec<u32>,
+    m12: Vec<u32>,
+) -> Result<Option<Connected>, Memory>
+    requires { HaveOneLength (given ops m01.items m12.items) }
+    ensures { IfOk result (λ found. MatchOption found (IsAccepted 36 (given ops m01.items m12.items) → ⊥) (λ c. c ≡ given ops m01.items m12.items)) }
+{
+    match build(alloc, ops, m01, m12, 36) {
+        Ok(symbol) => Ok(Some(symbol)),
+        Err(why) => match why {
+            Refusal::Memory => Err(Memory),
+            _ => Ok(None),
+        },
+    }
+}
+
+impl Assignment {
+    /// What is known of a place.
+    fn place(&self, place: usize) -> Place
+        requires { place < length self.now.places.items }
+        ensures { result ≡ slice_index_or self.now.places.items place result }
+    {
+        self.places.as_slice()[place]
+    }
+
+    /// How many degrees are told.
+    fn told(&self) -> usize
+        requires { IsAssignment self.now }
+        ensures { result ≡ told self.now }
+    {
+        self.prefix.len() - 3 * self.size as usize
+    }
+
+    /// WHOLE divided by a degree that is told, rounded down.
+    fn part_at(&self, place: usize) -> u64
+        requires ready { IsAssignment self.now }
+        requires inside { place < told self.now }
+        ensures { result ≡ slice_index self.now.parts (slice_index (prefix_of self.now) (3 * self.now.size + place)) }
+    {
+        self.parts[self.prefix.as_slice()[3 * self.size as usize + place] as usize]
+    }
+
+    /// At least WHOLE divided by the degree at a place.
+    fn upper_at(&self, place: usize) -> u64
+        requires ready { IsAssignment self.now }
+        requires inside { place < 2 * self.now.size }
+        ensures share { (s : Tiling) → IsUnder (IsMember self.now.request) self.now.size (prefix_of self.now) s → WHOLE ≤ result * degree_at s place }
+        ensures small { result ≤ WHOLE + 1 }
+    {
+        if place < self.told() {
+            return self.part_at(place) + 1;
+        }
+        self.place(place).most
+    }
+
+    /// At most WHOLE divided by the degree at a place.
+    fn lower_at(&self, place: usize) -> u64
+        requires ready { IsAssignment self.now }
+        requires inside { place < 2 * self.now.size }
+        ensures share { (s : Tiling) → IsUnder (IsMember self.now.request) self.now.size (prefix_of self.now) s → result * degree_at s place ≤ WHOLE }
+        ensures small { result ≤ WHOLE }
+    {
+        if place < self.told() {
+            return self.part_at(place);
+        }
+        self.place(place).least
+    }
+
+    /// At least the sum of WHOLE divided by the degree over all places, and so at least half of
+    /// WHOLE for each chamber where the curvature is 0.
+    fn upper_sum(&self) -> u64
+        requires { IsAssignment self.now }
+        ensures flat { (s : Tiling) → IsUnder (IsMember self.now.request) self.now.size (prefix_of self.now) s → self.now.size * WHOLE ≤ 2 * result }
+        ensures small { result ≤ 72 * (WHOLE + 1) }
+    {
+        let mut sum = 0;
+        for place in 0..2 * self.size as usize {
+            sum += self.upper_at(place);
+        }
+        sum
+    }
+
+    /// At most the sum of WHOLE divided by the degree over all places, and so at most half of
+    /// WHOLE for each chamber where the curvature is 0.
+    fn lower_sum(&self) -> u64
+        requires { IsAssignment self.now }
+        ensures flat { (s : Tiling) → IsUnder (IsMember self.now.request) self.now.size (prefix_of self.now) s → 2 * result ≤ self.now.size * WHOLE }
+        ensures small { result ≤ 72 * WHOLE }
+    {
+        let mut sum = 0;
+        for place in 0..2 * self.size as usize {
+            sum += self.lower_at(place);
+        }
+        sum
+    }
+
+    /// The degree that is told at an earlier place of the cell, if it is k or more.
+    fn forced(&self, root: u8, k: u8) -> Option<u8>
+        requires ready { IsAssignment self.now }
+        requires earlier { root < told self.now }
+        ensures { MatchOption result (slice_index (prefix_of self.now) (3 * self.now.size + root) < k) (λ m. (m ≡ slice_index (prefix_of self.now) (3 * self.now.size + root)) × (k ≤ m)) }
+    {
+        let number = self.prefix.as_slice()[3 * self.size as usize + root as usize];
+        if number < k {
+            return None;
+        }
+        Some(number)
+    }
+
+    /// Whether it is sure that no flat symbol is under the prefix: the shares add up to too little or
+    /// to too much. This is looked at where the last degree is that of a least chamber, since the
+    /// others follow from those.
+    fn is_dead(&self) -> bool
+        requires ready { IsAssignment self.now }
+        requires some { 3 * self.now.size < length (prefix_of self.now) }
+        ensures { OnTrue result (HasNothingUnder (IsMember self.now.request) self.now.size (prefix_of self.now)) }
+    {
+        let last = self.told() - 1;
+        if (self.place(last).root as usize) < last {
+            return false;
+        }
+        let flat = u64::from(self.size) * WHOLE;
+        if 2 * self.upper_sum() < flat {
+            return true;
+        }
+        2 * self.lower_sum() > flat
+    }
+
+    /// The images of the prefix under an involution.
+    fn images(&self, i: usize) -> Result<Vec<u32>, Memory>
+        requires whole { length (prefix_of self.now) ≡ 5 * self.now.size }
+        requires involution { i < 3 }
+        ensures { IfOk result (λ images. images.items ≡ column (prefix_of self.now) i self.now.size) }
+    {
+        let mut images = Vec::with_capacity(self.alloc, self.size as usize)?;
+        for k in 0..self.size as usize {
+            images.push(u32::from(self.prefix.as_slice()[3 * k + i]))?;
+        }
+        Ok(images)
+    }
+
+    /// The degrees of the prefix from a place on, one for each chamber.
+    fn degrees(&self, from: usize) -> Result<Vec<u32>, Memory>
+        requires { from + self.now.size ≤ length (prefix_of self.now) }
+        ensures { IfOk result (λ degrees. degrees.items ≡ part (prefix_of self.now) from self.now.size) }
+    {
+        let mut degrees = Vec::with_capacity(self.alloc, self.size as usize)?;
+        for k in 0..self.size as usize {
+            degrees.push(u32::from(self.prefix.as_slice()[from + k]))?;
+        }
+        Ok(degrees)
+    }
+
+    /// The symbol whose code is the prefix, if there is one.
+    fn symbol(&self) -> Result<Option<Connected>, Memory>
+        requires ready { IsAssignment self.now }
+        requires whole { length (prefix_of self.now) ≡ 5 * self.now.size }
+        ensures { IfOk result (λ found. MatchOption found (HasNothingUnder (IsMember self.now.request) self.now.size (prefix_of self.now)) (λ c. c ≡ symbol_with self.now.size (prefix_of self.now))) }
+    {
+        let n = self.size as usize;
+        let s0 = self.images(0)?;
+        let s1 = self.images(1)?;
+        let s2 = self.images(2)?;
+        let m01 = self.degrees(3 * n)?;
+        let m12 = self.degrees(4 * n)?;
+        let found = built(self.alloc, [s0, s1, s2], m01, m12)?;
+        Ok(found)
+    }
+
+    /// The member whose code is the prefix, if there is one.
+    fn member(&self) -> Result<Option<Connected>, Memory>
+        requires ready { IsAssignment self.now }
+        requires whole { length (prefix_of self.now) ≡ 5 * self.now.size }
+        ensures { IfOk result (λ found. MatchOption found (HasNothingUnder (IsMember self.now.request) self.now.size (prefix_of self.now)) (λ c. IsUnder (IsMember self.now.request) self.now.size (prefix_of self.now) c)) }
+    {
+        let Some(symbol) = self.symbol()? else {
+            return Ok(None);
+        };
+        if !is_wanted(self.alloc, &self.request, &symbol)? {
+            return Ok(None);
+        }
+        if !is_least(self.alloc, &symbol)? {
+            return Ok(None);
+        }
+        Ok(Some(symbol))
+    }
+
+    /// The images of a table, in the order of codes.
+    fn images_of(alloc: Global, symbol: &Symbol) -> Result<ArrayVec<u8, 180>, Memory>
+        requires { symbol.now.size ≤ 36 }
+        ensures { IfOk result (λ prefix. prefix.items ≡ take (3 * symbol.now.size) (code symbol.now)) }
+    {
+        symbol.known();
+        let numbers = symbol.code(alloc)?;
+        let mut prefix = ArrayVec::new();
+        for k in 0..3 * symbol.size() as usize {
+            prefix.push(numbers.as_slice()[k] as u8);
+        }
+        Ok(prefix)
+    }
+
+    /// The images of a table, without degrees.
+    pub(crate) fn new(alloc: Global, table: &Connected, q: &Request) -> Result<Assignment, Memory>
+        requires { table.now.size ≤ 36 }
+        ensures { IfOk result (λ a. IsBeginning q.now table.now a) }
+    {
+        table.known();
+        let symbol = table.symbol();
+        let prefix = Assignment::images_of(alloc, symbol)?;
+        let mut places = ArrayVec::new();
+        add_places(&mut places, symbol, &q.faces, Pair::Tile);
+        add_places(&mut places, symbol, &q.degrees, Pair::Vertex);
+        Ok(Assignment {
+            alloc,
+            request: *q,
+            size: symbol.size() as u8,
+            parts: parts(),
+            places,
+            prefix,
+        })
+    }
+}
+
+impl Tests for Assignment {
+    ghost use Rattle.dd_model.specs.Wanted.{IsMember};
+    ghost use Rattle.dd_branch.specs.Assignment.{IsAssignment, prefix_of, shortened};
+
+    ghost request = { λ a. a.request };
+
+    ghost wanted = { λ q s. IsMember q s };
+
+    ghost size = { λ a. a.size };
+
+    ghost prefix = { λ a. prefix_of a };
+
+    ghost end = { λ n. 5 * n };
+
+    ghost depth = { λ a. length (prefix_of a) };
+
+    ghost undone = { λ a mark. shortened a mark };
+
+    ghost valid = { λ a. IsAssignment a };
+
+    fn is_whole(&self) -> bool {
+        self.prefix.len() == 5 * self.size as usize
+    }
+
+    fn mark(&self) -> usize {
+        self.prefix.len()
+    }
+
+    fn next_from(&self, k: u8) -> Option<u8> {
+        let next = self.told();
+        let place = self.place(next);
+        if (place.root as usize) < next {
+            return self.forced(place.root, k);
+        }
+        if next < self.size as usize {
+            return least_choice(&self.request.faces, place.turns, k);
+        }
+        least_choice(&self.request.degrees, place.turns, k)
+    }
+
+    fn enter(&mut self, number: u8) -> bool {
+        let mark = self.prefix.len();
+        self.prefix.push(number);
+        if self.is_dead() {
+            self.prefix.truncate(mark);
+            return false;
+        }
+        true
+    }
+
+    fn leave(&mut self, mark: usize) {
+        self.prefix.truncate(mark);
+    }
+}
+
+impl Leaves for Assignment {
+    fn add(&mut self, list: &mut Vec<Connected>) -> Result<(), Memory> {
+        let Some(member) = self.member()? else {
+            return Ok(());
+        };
+        list.push(member)?;
+        Ok(())
+    }
+}

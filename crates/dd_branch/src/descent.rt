@@ -1,0 +1,204 @@
+ghost use Rattle.std.specs.Prelude.{◌≡◌, ℕ, ◌*◌, ◌+◌, ◌≤◌, ◌<◌, [], ◌∷◌, ◌++◌, IsTrue, length};
+ghost use Rattle.std.specs.Bool.{OnTrue, OnFalse};
+ghost use Rattle.dd_model.specs.Request.{IsValid};
+ghost use Rattle.dd_model.specs.Wanted.{IsMember};
+ghost use Rattle.dd_invol.specs.Under.{HasNothingUnder};
+
+use crate::levels::Level;
+use crate::members::add_degrees;
+use arrayvec::ArrayVec;
+use dd_invol::{Leaves, Stem, Table, Tests, Visit};
+use dd_model::{Memory, Request};
+use dd_shares::{Shares, is_odd};
+use dd_symbol::Connected;
+use std::alloc::Global;
+use std::marker::Model;
+
+/// A search for the members of one size of a catalogue: a prefix with its table, the shares of the
+/// table's chambers, and what each number put in. It grows and is shortened in place, and no call
+/// but `add` allocates.
+#[derive(Drop)]
+pub struct Descent {
+    alloc: Global,
+    request: Request,
+    stem: Stem,
+    shares: Shares,
+    levels: ArrayVec<Level, 108>,
+    visit: Visit,
+}
+
+impl Model for Descent {
+    ghost use Rattle.dd_branch.specs.Descent.{Descending};
+
+    ghost Value = { Descending };
+
+    ghost use Rattle.dd_invol.specs.Visit.{IsVisiting};
+
+    ghost view = { λ a. record { request = a.request; stem = a.stem; shares = a.shares; levels = a.levels.items } };
+
+    ghost invariant = { λ a. IsVisiting a.visit };
+}
+
+impl Descent {
+    ghost use Rattle.dd_invol.specs.Rows.{depth_of, IsReady};
+    ghost use Rattle.dd_invol.specs.Stem.{prefix_of, size_of, shortened};
+    ghost use Rattle.dd_shares.specs.Kept.{mark_of, rolled_back};
+    ghost use Rattle.dd_branch.specs.Descent.{IsDescent, shorter};
+    ghost use Rattle.dd_branch.specs.declared.levels.Level.{Level};
+
+    /// The search from the empty prefix.
+    pub fn new(alloc: Global, request: &Request, size: u8) -> Descent
+        requires valid { IsValid request.now }
+        requires size { (1 ≤ size) × (size ≤ 36) }
+        ensures descent { IsDescent result }
+        ensures request { result.request ≡ request.now }
+        ensures size { size_of result.stem ≡ size }
+        ensures empty { prefix_of result.stem ≡ [] }
+    {
+        Descent {
+            alloc,
+            request: *request,
+            stem: Stem::new(size),
+            shares: Shares::start(request, size),
+            levels: ArrayVec::new(),
+            visit: Visit::new(),
+        }
+    }
+
+    /// How much there is to be kept.
+    fn level(&self) -> Level
+        ensures rows { result.rows ≡ depth_of self.now.stem.rows }
+        ensures shares { result.shares ≡ mark_of self.now.shares }
+    {
+        Level {
+            rows: self.stem.mark(),
+            shares: self.shares.mark(),
+        }
+    }
+
+    /// Takes away the last number of the stem, and what was put in and exchanged after a level.
+    fn take_back(&mut self, level: Level)
+        requires { IsReady self.old.stem.rows }
+        ensures { self.new ≡ record { request = self.old.request; stem = shortened self.old.stem level.rows; shares = rolled_back self.old.shares level.shares; levels = self.old.levels } }
+    {
+        self.stem.leave(level.rows);
+        self.shares.undo(level.shares);
+    }
+
+    /// Whether it is sure that no member is under the prefix: its size is odd and s0 moves chamber
+    /// 1, the shares are too small, or another numbering has a smaller code.
+    fn is_dead(&mut self) -> bool
+        requires { IsDescent self.old }
+        ensures same { self.new ≡ self.old }
+        ensures dead { IsTrue result → HasNothingUnder (IsMember self.old.request) (size_of self.old.stem) (prefix_of self.old.stem) }
+    {
+        if is_odd(self.stem.rows()) {
+            return true;
+        }
+        if self.shares.exceeds(self.stem.rows()) {
+            return true;
+        }
+        self.stem.is_beaten(&mut self.visit)
+    }
+
+    /// Puts a number at the end of the prefix, unless it is sure that no member is under the longer
+    /// one.
+    fn grow(&mut self, number: u8) -> bool
+        requires descent { IsDescent self.old }
+        requires room { length (prefix_of self.old.stem) < 3 * size_of self.old.stem }
+        ensures descent { IsDescent self.new }
+        ensures request { self.new.request ≡ self.old.request }
+        ensures size { size_of self.new.stem ≡ size_of self.old.stem }
+        ensures longer { OnTrue result (prefix_of self.new.stem ≡ prefix_of self.old.stem ++ number ∷ []) }
+        ensures undone { OnTrue result (shorter self.new ≡ self.old) }
+        ensures same { OnFalse result (self.new ≡ self.old) }
+        ensures dead { OnFalse result (HasNothingUnder (IsMember self.old.request) (size_of self.old.stem) (prefix_of self.old.stem ++ number ∷ [])) }
+    {
+        let level = self.level();
+        if !self.stem.put(number) {
+            return false;
+        }
+        self.shares.learn(self.stem.rows(), level.rows);
+        if self.is_dead() {
+            self.take_back(level);
+            return false;
+        }
+        self.levels.push(level);
+        true
+    }
+
+    /// Puts the numbers of a prefix in, one after the other, unless it is sure that no member is
+    /// under it.
+    pub fn reach(&mut self, prefix: &[u8]) -> bool
+        requires descent { IsDescent self.old }
+        requires empty { prefix_of self.old.stem ≡ [] }
+        requires short { length prefix.now ≤ 3 * size_of self.old.stem }
+        ensures descent { OnTrue result (IsDescent self.new) }
+        ensures request { OnTrue result (self.new.request ≡ self.old.request) }
+        ensures size { OnTrue result (size_of self.new.stem ≡ size_of self.old.stem) }
+        ensures prefix { OnTrue result (prefix_of self.new.stem ≡ prefix.now) }
+        ensures dead { OnFalse result (HasNothingUnder (IsMember self.old.request) (size_of self.old.stem) prefix.now) }
+    {
+        for number in prefix {
+            if !self.grow(*number) {
+                return false;
+            }
+        }
+        true
+    }
+}
+
+impl Tests for Descent {
+    ghost use Rattle.dd_invol.specs.Stem.{prefix_of, size_of};
+    ghost use Rattle.dd_branch.specs.Descent.{IsDescent, shorter};
+
+    ghost request = { λ d. d.request };
+
+    ghost wanted = { λ q s. IsMember q s };
+
+    ghost size = { λ d. size_of d.stem };
+
+    ghost prefix = { λ d. prefix_of d.stem };
+
+    ghost end = { λ n. 3 * n };
+
+    ghost depth = { λ d. length d.levels };
+
+    ghost undone = { λ d _. shorter d };
+
+    ghost valid = { λ d. IsDescent d };
+
+    fn is_whole(&self) -> bool {
+        self.stem.is_whole()
+    }
+
+    fn mark(&self) -> usize {
+        self.levels.len()
+    }
+
+    fn next_from(&self, k: u8) -> Option<u8> {
+        self.stem.next_from(k)
+    }
+
+    fn enter(&mut self, number: u8) -> bool {
+        self.grow(number)
+    }
+
+    fn leave(&mut self, _mark: usize) {
+        if let Some(level) = self.levels.pop() {
+            self.take_back(level);
+        }
+    }
+}
+
+impl Leaves for Descent {
+    fn add(&mut self, list: &mut Vec<Connected>) -> Result<(), Memory> {
+        let found = Table::of(self.alloc, self.stem.size(), self.stem.prefix())?;
+        let Some(table) = found else {
+            return Ok(());
+        };
+        table.known();
+        add_degrees(self.alloc, &table, &self.request, list)?;
+        Ok(())
+    }
+}

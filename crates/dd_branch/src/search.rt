@@ -1,0 +1,86 @@
+ghost use Rattle.std.specs.Prelude.{◌≡◌, ◌⊎◌, ◌*◌, ◌≤◌, ◌<◌, IfOk, IsTrue, length};
+ghost use Rattle.std.specs.Bool.{OnFalse};
+ghost use Rattle.dd_model.specs.Symbol.{Symbol as Tiling};
+ghost use Rattle.dd_model.specs.Request.{IsValid};
+ghost use Rattle.dd_model.specs.Jobs.{IsJobOf, IsMemberUnder, AreExtensions};
+
+use crate::descent::Descent;
+use dd_front::Finder;
+use dd_invol::{children, find};
+use dd_model::{Job, Memory, Request};
+use dd_symbol::Connected;
+use std::alloc::Global;
+
+/// The search for the members of the catalogue of a request, job by job.
+#[derive(Drop)]
+pub struct Search {
+    request: Request,
+}
+
+impl Search {
+    /// The search for a request.
+    pub fn new(request: &Request) -> Search
+        ensures { result.request ≡ request.now }
+    {
+        Search { request: *request }
+    }
+
+    /// Whether a member may be under a job.
+    fn may_have(&self, alloc: Global, job: &Job) -> bool
+        requires valid { IsValid self.now.request }
+        requires job { IsJobOf self.now.request job.now }
+        ensures { OnFalse result ((s : Tiling) → IsMemberUnder self.now.request job.now s → ⊥) }
+    {
+        let mut descent = Descent::new(alloc, &self.request, job.size as u8);
+        if !descent.reach(job.prefix.as_slice()) {
+            return false;
+        }
+        true
+    }
+
+    /// Those of some extensions of a job under which a member may be.
+    fn alive(&self, alloc: Global, job: &Job, jobs: &[Job]) -> Result<Vec<Job>, Memory>
+        requires valid { IsValid self.now.request }
+        requires job { IsJobOf self.now.request job.now }
+        requires shorter { length job.now.prefix < 3 * job.now.size }
+        requires extensions { AreExtensions self.now.request job.now jobs.now }
+        ensures { IfOk result (λ alive. AreExtensions self.now.request job.now alive.items) }
+    {
+        let mut alive = Vec::new(alloc);
+        for child in jobs {
+            if self.may_have(alloc, child) {
+                alive.push(child.try_copy()?)?;
+            }
+        }
+        Ok(alive)
+    }
+}
+
+impl Finder for Search {
+    ghost request = { λ s. s.request };
+
+    fn request(&self) -> Request {
+        self.request
+    }
+
+    fn find(&self, alloc: Global, job: &Job) -> Result<Vec<Connected>, Memory> {
+        let mut list = Vec::new(alloc);
+        let mut descent = Descent::new(alloc, &self.request, job.size as u8);
+        if !descent.reach(job.prefix.as_slice()) {
+            return Ok(list);
+        }
+        find(&mut descent, &mut list)?;
+        Ok(list)
+    }
+
+    fn split(&self, alloc: Global, job: &Job) -> Result<Vec<Job>, Memory> {
+        let mut jobs = children(alloc, &self.request, job)?;
+        let alive = self.alive(alloc, job, &jobs)?;
+        if !alive.is_empty() {
+            return Ok(alive);
+        }
+        // Nothing is under any of them, and the list of children may not be empty.
+        jobs.truncate(1);
+        Ok(jobs)
+    }
+}

@@ -1,0 +1,82 @@
+-- A walk over tables, one after another.
+use Rattle.std.specs.Prelude.{◌≡◌, ◌≢◌, ◌↔◌, ℕ, ◌<◌, ◌≤◌, List, length, slice_index}
+use Rattle.std.specs.List.{Contains}
+use Rattle.std.specs.Ordering.{nat_cmp}
+use Rattle.std.specs.Cmp.Lexicographic.{slice_cmp}
+use Rattle.std.specs.declared.cmp.Ordering.TheVariants.{Less, Greater}
+use Rattle.dd_model.specs.declared.parts.Pair.TheVariants.{Tile, Vertex}
+use Rattle.dd_model.specs.Symbol.{Symbol, IsSymbol, Connected}
+use Rattle.dd_model.specs.Lists.{Begins}
+use Rattle.dd_model.specs.Code.{code, code_cmp, all_images}
+use Rattle.dd_model.specs.FirstVisit.{LeastTable}
+use Rattle.dd_model.specs.Request.{IsValid}
+use Rattle.dd_model.specs.Jobs.{IsJobOf}
+use Rattle.dd_model.specs.Wanted.{AtMost, IsAscending}
+use Rattle.dd_model.specs.declared.requests.Request.{Request}
+use Rattle.dd_model.specs.declared.jobs.Job.{Job}
+use Rattle.dd_invol.specs.Stem.{prefix_of, size_of}
+use Rattle.dd_invol.specs.Table.{IsUnbranched, HaveSameInvolutions}
+use Rattle.dd_invol.specs.declared.stem.Stem.{Stem}
+
+-- what a request asks of a table: that no renumbering is smaller, and that it has no more tiles and vertices than asked for
+pub record IsSought (q : Request) (t : Symbol) : Type 0 where
+  pub least : LeastTable t
+  pub tiles : AtMost t Tile q.tiles
+  pub vertices : AtMost t Vertex q.vertices
+
+-- A table that is sought under a job. Its degrees are those with which each branching value is 1.
+pub record IsListed (q : Request) (job : Job) (t : Symbol) : Type 0 where
+  pub symbol : IsSymbol t
+  pub connected : Connected t
+  pub unbranched : IsUnbranched t
+  pub sought : IsSought q t
+  pub size : t.size ≡ job.size
+  pub begins : Begins job.prefix (code t)
+
+-- the images of the table come after some numbers, as in a dictionary
+abbrev pub IsPast : List ℕ → Symbol → Type 0
+IsPast numbers t = slice_cmp nat_cmp numbers (all_images t) ≡ Less
+
+-- of the listed tables past some numbers the first
+pub record IsNext (q : Request) (job : Job) (numbers : List ℕ) (t : Symbol) : Type 0 where
+  pub listed : IsListed q job t
+  pub past : IsPast numbers t
+  pub first : (s : Symbol) → IsListed q job s → IsPast numbers s → code_cmp t s ≢ Greater
+
+-- no listed table is past some numbers
+abbrev pub HasNoneLeft : Request → Job → List ℕ → Type 0
+HasNoneLeft q job numbers = (s : Symbol) → IsListed q job s → IsPast numbers s → ⊥
+
+-- the listed tables, ascending
+pub record AreListed (q : Request) (job : Job) (ts : List Symbol) : Type 0 where
+  pub ascending : IsAscending ts
+  pub members : (t : Symbol) → Contains ts t ↔ IsListed q job t
+
+-- a listed table with the involutions of a symbol
+pub record HasTable (q : Request) (job : Job) (s : Symbol) : Type 0 where
+  pub table : Symbol
+  pub listed : IsListed q job table
+  pub same : HaveSameInvolutions s table
+
+-- What a walk goes over, and the images of the table that it gave last: no numbers before the first one.
+pub record Walking : Type 0 where
+  pub request : Request
+  pub job : Job
+  pub last : List ℕ
+
+-- the walk after it gave a table
+abbrev pub after : Walking → Symbol → Walking
+after w t = record { request = w.request; job = w.job; last = all_images t }
+
+-- the job of a stem
+abbrev pub here : Stem → Job
+here stem = record { size = size_of stem; prefix = prefix_of stem }
+
+-- Lists past some numbers that begin with a prefix have k or more next.
+abbrev pub IsLeastNext : List ℕ → List ℕ → ℕ → Type 0
+IsLeastNext prefix numbers k = (xs : List ℕ) → Begins prefix xs → length prefix < length xs → slice_cmp nat_cmp numbers xs ≡ Less → k ≤ slice_index xs (length prefix)
+
+-- a request, and a job of it
+pub record IsWalk (q : Request) (job : Job) : Type 0 where
+  pub valid : IsValid q
+  pub job_of : IsJobOf q job

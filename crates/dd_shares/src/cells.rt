@@ -1,0 +1,103 @@
+ghost use Rattle.std.specs.Prelude.{◌≡◌, ◌⊎◌, ◌↔◌, ◌*◌, ◌≤◌, IsTrue};
+ghost use Rattle.std.specs.Option.{IfSome};
+ghost use Rattle.dd_invol.specs.Rows.{partial_of, IsReady};
+ghost use Rattle.dd_shares.specs.Turning.{IsTurn, IsWholeCell};
+
+use dd_invol::Rows;
+use dd_model::Pair;
+
+/// Where one turn leads, and whether one of its two steps stays in its place.
+#[derive(Clone, Copy, Drop)]
+pub(crate) struct Turn {
+    chamber: u8,
+    fixes: bool,
+}
+
+/// A cell whose images are all known: how many turns lead back to a chamber of it, and whether it
+/// is a chain.
+#[derive(Clone, Copy, Drop)]
+pub(crate) struct WholeCell {
+    pub(crate) turns: u8,
+    pub(crate) is_chain: bool,
+}
+
+/// Whether one of two holds.
+fn either(one: bool, other: bool) -> bool
+    ensures { IsTrue result ↔ (IsTrue one ⊎ IsTrue other) }
+{
+    one || other
+}
+
+impl Turn {
+    /// One turn; None where an image is not known, or less than a lowest chamber.
+    fn from(table: &Rows, pair: Pair, chamber: u8, lowest: u8) -> Option<Turn>
+        requires ready { IsReady table.now }
+        requires low { 1 ≤ chamber }
+        requires high { chamber ≤ 36 }
+        requires lowest { 1 ≤ lowest }
+        ensures { IfSome result (IsTurn (partial_of table.now) pair chamber lowest) }
+    {
+        let beside = table.known(pair.first(), chamber);
+        if beside < lowest {
+            return None;
+        }
+        let next = table.known(pair.second(), beside);
+        if next < lowest {
+            return None;
+        }
+        let fixes = either(beside == chamber, next == beside);
+        Some(Turn {
+            chamber: next,
+            fixes,
+        })
+    }
+}
+
+impl WholeCell {
+    /// The cell of a chamber; None where an image is not known, or some chamber of the cell is less
+    /// than a lowest one.
+    pub(crate) fn from(table: &Rows, pair: Pair, start: u8, lowest: u8) -> Option<WholeCell>
+        requires ready { IsReady table.now }
+        requires low { 1 ≤ start }
+        requires high { start ≤ (partial_of table.now).size }
+        requires lowest { (1 ≤ lowest) × (lowest ≤ start) }
+        ensures { IfSome result (IsWholeCell (partial_of table.now) pair start lowest) }
+    {
+        let mut chamber = start;
+        let mut is_chain = false;
+        for done in 0..36 {
+            let Some(turn) = Turn::from(table, pair, chamber, lowest) else {
+                return None;
+            };
+            is_chain = either(is_chain, turn.fixes);
+            chamber = turn.chamber;
+            if chamber == start {
+                let turns = done + 1;
+                return Some(WholeCell { turns, is_chain });
+            }
+        }
+        None
+    }
+
+    /// The number of its chambers.
+    pub(crate) fn chambers(&self) -> u8
+        requires { self.now.turns ≤ 36 }
+        ensures chain { IsTrue self.now.is_chain → result ≡ self.now.turns }
+        ensures cycle { (IsTrue self.now.is_chain → ⊥) → result ≡ 2 * self.now.turns }
+        ensures small { result ≤ 72 }
+    {
+        if self.is_chain {
+            self.turns
+        } else {
+            2 * self.turns
+        }
+    }
+
+    /// 1 where it is a chain.
+    pub(crate) fn chains(&self) -> u32
+        ensures chain { IsTrue self.now.is_chain → result ≡ 1 }
+        ensures small { result ≤ 1 }
+    {
+        if self.is_chain { 1 } else { 0 }
+    }
+}
