@@ -1,5 +1,5 @@
 -- The text of a catalogue from its beginning is the lines of all its members.
-use Rattle.std.proofs.Common.{◌≡◌, ℕ, zero, suc, List, [], ◌∷◌, Bool, Option, Result, Ok, Err, OnOk, inl, inr, refl, sym, subst, arith}
+use Rattle.std.proofs.Common.{◌≡◌, ℕ, zero, suc, List, [], ◌∷◌, Bool, Option, Result, Ok, Err, IfOk, ◌≤◌, length, inl, inr, refl, sym, subst, arith}
 use Rattle.std.specs.List.{AllByRecursion, Contains}
 use Rattle.dd_model.specs.Symbol.{Symbol, IsSymbol}
 use Rattle.dd_model.specs.Wanted.{IsCatalogue}
@@ -10,14 +10,20 @@ use Rattle.dd_ports.specs.Grows.{GrowsByPrefix}
 use Rattle.dd_text.specs.Writing.{AddsLines}
 use Rattle.dd_ports.specs.declared.sink.SinkFault.{SinkFault}
 use Rattle.dd_ports.specs.declared.sink.SinkFault.TheVariants.{Failed, Memory}
-use Rattle.dd_suite.specs.declared.ending.Ending.TheVariants.{Done}
+use Rattle.dd_suite.specs.declared.ending.Ending.TheVariants.{Done, TooManyLines}
+use Rattle.dd_suite.specs.declared.catalogue.Finish.{Finish}
+use Rattle.dd_suite.specs.declared.catalogue.Finish.TheVariants.{Whole, CutShort}
+use Rattle.dd_suite.specs.Finishes.{Finishes}
+use Rattle.dd_suite.specs.Stops.{HasCause}
+use Rattle.dd_ports.specs.Causes.{HasCause as SinkCause}
+use Rattle.dd_model.proofs.Catalogues.{catalogue_unique}
 use Rattle.dd_suite.specs.Endings.{written_ending}
 use Rattle.dd_suite.specs.Words.{AskFor}
-use Rattle.dd_suite.specs.Catalogue.{AppendsText}
+use Rattle.dd_suite.specs.Catalogue.{most_lines, AppendsText, AppendsFirstLines}
 use Rattle.dd_suite.specs.Output.{IsOutput, AppendsOutput}
 use Rattle.dd_suite.proofs.Requests.{same_request, taken, not_both}
 
-each_member : (P : Symbol → Type 0) (ss : List Symbol) → ((s : Symbol) → Contains ss s → P s) → AllByRecursion P ss
+pub each_member : (P : Symbol → Type 0) (ss : List Symbol) → ((s : Symbol) → Contains ss s → P s) → AllByRecursion P ss
 each_member P [] all = tt
 each_member P (s ∷ ss) all = (all s (zero, omega arith, refl), each_member P ss (λ t h. all t (suc h.0, (let below = h.1 in omega arith), h.2)))
 
@@ -51,8 +57,29 @@ whole_output words tells held q old new asked appended = record {
   appended = appended.appended;
 }
 
--- Done comes only where all was written.
-pub what_done_says : (written : Result Unit SinkFault) (P : Type 0) → written_ending written ≡ Done → OnOk written P → P
-what_done_says (Ok u) P is p = p
-what_done_says (Err Failed) P is p = absurd (cc)
-what_done_says (Err Memory) P is p = absurd (cc)
+-- Done comes only where all was written, and TooManyLines only where the first lines were.
+pub what_done_says : (written : Result Finish SinkFault) (q : Request) (old new : Option (List ℕ)) → written_ending written ≡ Done → IfOk written (λ finish. Finishes finish q old new) → AppendsText q old new
+what_done_says (Ok Whole) q old new is p = p
+what_done_says (Ok CutShort) q old new is p = absurd (cc)
+what_done_says (Err Failed) q old new is p = absurd (cc)
+what_done_says (Err Memory) q old new is p = absurd (cc)
+
+pub what_cut_says : (written : Result Finish SinkFault) (q : Request) (old new : Option (List ℕ)) → written_ending written ≡ TooManyLines → IfOk written (λ finish. Finishes finish q old new) → AppendsFirstLines q old new
+what_cut_says (Ok Whole) q old new is p = absurd (cc)
+what_cut_says (Ok CutShort) q old new is p = p
+what_cut_says (Err Failed) q old new is p = absurd (cc)
+what_cut_says (Err Memory) q old new is p = absurd (cc)
+
+-- the cause of the ending of a catalogue
+pub cause_of_catalogue : (words : List (List ℕ)) (tells : Bool) (held : List ℕ → Option (List ℕ)) (q : Request) (faults faults' : ℕ) (old new : Option (List ℕ)) (sunk sunk' : ℕ)
+    (written : Result Finish SinkFault) → AskFor words q → IfOk written (λ finish. Finishes finish q old new) → SinkCause Failed sunk sunk' written
+    → HasCause (written_ending written) words tells held faults faults' old new sunk sunk'
+cause_of_catalogue words tells held q faults faults' old new sunk sunk' (Ok Whole) asked p cause = tt
+cause_of_catalogue words tells held q faults faults' old new sunk sunk' (Ok CutShort) asked p cause = record { request = q; asked = asked; cut = p }
+cause_of_catalogue words tells held q faults faults' old new sunk sunk' (Err Failed) asked p cause = cause.failed refl
+cause_of_catalogue words tells held q faults faults' old new sunk sunk' (Err Memory) asked p cause = tt
+
+-- The catalogue of a text that was written has no more members than lines may be.
+pub few_members : (q : Request) (old new : Option (List ℕ)) (members : List Symbol) → AppendsText q old new → IsCatalogue q members → length members ≤ most_lines
+few_members q old new members appended is =
+    subst (λ ss. length ss ≤ most_lines) (catalogue_unique q appended.is_text.members members appended.is_text.catalogue is) appended.within

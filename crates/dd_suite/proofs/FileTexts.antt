@@ -12,7 +12,8 @@ use Rattle.dd_ports.specs.Grows.{GrowsByPrefix}
 use Rattle.dd_suite.specs.declared.commands.FileCommand.{FileCommand}
 use Rattle.dd_suite.specs.declared.commands.FileCommand.TheVariants.{Symbols, Info}
 use Rattle.dd_suite.specs.declared.ending.Ending.{Ending}
-use Rattle.dd_suite.specs.declared.ending.Ending.TheVariants.{Done, Usage, Refused, RefusedSymbol, StoreFault, SinkFault, Memory}
+use Rattle.dd_suite.specs.declared.ending.Ending.TheVariants.{Done, Usage, Refused, RefusedSymbol, StoreFault, SinkFault, Memory, TooManyLines}
+use Rattle.dd_suite.specs.Messages.{IsItsFault}
 use Rattle.dd_suite.specs.Words.{AreTaken, IsOnFile}
 use Rattle.dd_suite.specs.Files.{IsTextOf, IsRefusalOf, IsFileText, IsRefused, IsFaulty, IsTextOfHeld, AppendsFileText}
 use Rattle.dd_suite.proofs.MadeOnce.{all_made_once, none_all_made}
@@ -89,12 +90,13 @@ cause_of_file (RefusedSymbol refusal) words tells held command name faults fault
 cause_of_file StoreFault words tells held command name faults faults' old new sunk sunk' asked c = c
 cause_of_file SinkFault words tells held command name faults faults' old new sunk sunk' asked c = c
 cause_of_file Memory words tells held command name faults faults' old new sunk sunk' asked c = tt
+cause_of_file TooManyLines words tells held command name faults faults' old new sunk sunk' asked c = absurd c
 
--- Where words are taken, the file is accepted and no count rose, the ending is Done or Memory.
+-- Where words are taken, the file is accepted and no count rose, the ending is Done, TooManyLines or Memory.
 pub complete_ending : (ending : Ending) (words : List (List ℕ)) (tells : Bool) (held : List ℕ → Option (List ℕ)) (faults faults' : ℕ)
     (old new : Option (List ℕ)) (sunk sunk' : ℕ) → HasCause ending words tells held faults faults' old new sunk sunk'
     → AreTaken words → IsFileAccepted words tells held → (¬ Rose faults faults') → (¬ Rose sunk sunk')
-    → (status_of ending ≡ status.Done) ⊎ (status_of ending ≡ status.Memory)
+    → (status_of ending ≡ status.Done) ⊎ ((status_of ending ≡ status.TooManyLines) ⊎ (status_of ending ≡ status.Memory))
 complete_ending Done words tells held faults faults' old new sunk sunk' c taken accepted kept sank = inl refl
 complete_ending Usage words tells held faults faults' old new sunk sunk' c taken accepted kept sank = absurd (c taken)
 complete_ending (Refused fault) words tells held faults faults' old new sunk sunk' c taken accepted kept sank =
@@ -111,7 +113,8 @@ complete_ending (RefusedSymbol refusal) words tells held faults faults' old new 
     absurd (ok.1.accepted refusal (subst (λ ss. IsRefusalOf c.0.command ss refusal) symbols none.refused.first))
 complete_ending StoreFault words tells held faults faults' old new sunk sunk' c taken accepted kept sank = absurd (kept c.0)
 complete_ending SinkFault words tells held faults faults' old new sunk sunk' c taken accepted kept sank = absurd (sank c)
-complete_ending Memory words tells held faults faults' old new sunk sunk' c taken accepted kept sank = inr refl
+complete_ending Memory words tells held faults faults' old new sunk sunk' c taken accepted kept sank = inr (inr refl)
+complete_ending TooManyLines words tells held faults faults' old new sunk sunk' c taken accepted kept sank = inr (inl refl)
 
 -- A fault other than want of memory means that no list of symbols is spelled.
 pub stop_of_fault : (command : FileCommand) (why : Why) (fault : FileFault) (bytes : List ℕ) → (why ≢ NoRoom → IsFaulty bytes fault) → IsFileStop command (ending_of_why why fault) bytes
@@ -144,6 +147,7 @@ cause_of_stop command (RefusedSymbol refusal) bytes tells held faults faults' ol
 cause_of_stop command StoreFault bytes tells held faults faults' old sunk holds stop = absurd stop
 cause_of_stop command SinkFault bytes tells held faults faults' old sunk holds stop = absurd stop
 cause_of_stop command Memory bytes tells held faults faults' old sunk holds stop = tt
+cause_of_stop command TooManyLines bytes tells held faults faults' old sunk holds stop = absurd stop
 
 -- only Done has its status
 pub done_ending : (ending : Ending) → status_of ending ≡ status.Done → ending ≡ Done
@@ -154,3 +158,27 @@ done_ending (RefusedSymbol refusal) e = absurd (cc)
 done_ending StoreFault e = absurd (cc)
 done_ending SinkFault e = absurd (cc)
 done_ending Memory e = absurd (cc)
+done_ending TooManyLines e = absurd (cc)
+
+-- only TooManyLines has its status
+pub cut_ending : (ending : Ending) → status_of ending ≡ status.TooManyLines → ending ≡ TooManyLines
+cut_ending Done e = absurd (cc)
+cut_ending Usage e = absurd (cc)
+cut_ending (Refused fault) e = absurd (cc)
+cut_ending (RefusedSymbol refusal) e = absurd (cc)
+cut_ending StoreFault e = absurd (cc)
+cut_ending SinkFault e = absurd (cc)
+cut_ending Memory e = absurd (cc)
+cut_ending TooManyLines e = refl
+
+-- the cause of a refusal is the fault that is told
+pub its_fault : (ending : Ending) (words : List (List ℕ)) (tells : Bool) (held : List ℕ → Option (List ℕ)) (faults faults' : ℕ) (old new : Option (List ℕ)) (sunk sunk' : ℕ)
+    → HasCause ending words tells held faults faults' old new sunk sunk' → IsItsFault ending words tells held
+its_fault Done words tells held faults faults' old new sunk sunk' c = tt
+its_fault Usage words tells held faults faults' old new sunk sunk' c = tt
+its_fault (Refused fault) words tells held faults faults' old new sunk sunk' c = c.0
+its_fault (RefusedSymbol refusal) words tells held faults faults' old new sunk sunk' c = c.0
+its_fault StoreFault words tells held faults faults' old new sunk sunk' c = tt
+its_fault SinkFault words tells held faults faults' old new sunk sunk' c = tt
+its_fault Memory words tells held faults faults' old new sunk sunk' c = tt
+its_fault TooManyLines words tells held faults faults' old new sunk sunk' c = tt

@@ -1,5 +1,7 @@
 pub mod Requests
 pub mod CatalogueTexts
+pub mod PageLemmas
+pub mod CatalogueSteps
 pub mod InTurnLemmas
 pub mod MadeOnce
 pub mod TotalsLemmas

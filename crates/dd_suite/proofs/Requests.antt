@@ -66,12 +66,12 @@ same_command words k l a b h i =
 
 -- the words of a command ask for its task
 pub task_asked : (words : List (List ℕ)) (c : Command) (t : Task) → IsCommand words c → IsTaskOf c t → AskForTask words t
-task_asked words c (task.Catalogue q) is of = record { command = subst (IsCommand words) of.0 is; few = of.1 }
+task_asked words c (task.Catalogue q) is of = record { command = subst (IsCommand words) of is }
 task_asked words c (task.OnFile k name) is of = subst (IsCommand words) of is
 
 -- the words of a command without a task are not taken
 pub no_task : (words : List (List ℕ)) (c : Command) → IsCommand words c → ((t : Task) → IsTaskOf c t → ⊥) → AreTaken words → ⊥
-no_task words c is none (inl (q, a)) = none (task.Catalogue q) (one_command words c (Catalogue q 1 64 None None) is a.command, a.few)
+no_task words c is none (inl (q, a)) = none (task.Catalogue q) (one_command words c (Catalogue q 1 64 None None) is a.command)
 no_task words c is none (inr (k, name, a)) = none (task.OnFile k name) (one_command words c (File (kind_of k) name) is a)
 
 -- the task of a command is that of its words

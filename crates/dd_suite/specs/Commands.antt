@@ -1,5 +1,5 @@
 -- The task of words.
-use Rattle.std.specs.Prelude.{◌≡◌, ℕ, ◌≤◌, List, None}
+use Rattle.std.specs.Prelude.{◌≡◌, ℕ, List, None}
 use Rattle.dd_words.specs.declared.commands.Command.{Command}
 use Rattle.dd_words.specs.declared.commands.Command.TheVariants as command
 use Rattle.dd_suite.specs.declared.commands.Task.{Task}
@@ -8,7 +8,7 @@ use Rattle.dd_suite.specs.Words.{AskFor, IsOnFile, kind_of}
 
 -- the command is that of a task
 abbrev pub IsTaskOf : Command → Task → Type 0
-IsTaskOf c (Catalogue q) = (c ≡ command.Catalogue q 1 64 None None) × (q.chambers ≤ 3)
+IsTaskOf c (Catalogue q) = c ≡ command.Catalogue q 1 64 None None
 IsTaskOf c (OnFile kind name) = c ≡ command.File (kind_of kind) name
 
 -- the words ask for this task

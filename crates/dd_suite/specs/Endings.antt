@@ -12,7 +12,9 @@ use Rattle.dd_ports.specs.declared.sink.SinkFault.TheVariants.{Failed, Memory as
 use Rattle.dd_suite.specs.declared.status.Status.{Status}
 use Rattle.dd_suite.specs.declared.status.Status.TheVariants as status
 use Rattle.dd_suite.specs.declared.ending.Ending.{Ending}
-use Rattle.dd_suite.specs.declared.ending.Ending.TheVariants.{Done, Usage, Refused, RefusedSymbol, StoreFault, SinkFault, Memory}
+use Rattle.dd_suite.specs.declared.ending.Ending.TheVariants.{Done, Usage, Refused, RefusedSymbol, StoreFault, SinkFault, Memory, TooManyLines}
+use Rattle.dd_suite.specs.declared.catalogue.Finish.{Finish}
+use Rattle.dd_suite.specs.declared.catalogue.Finish.TheVariants as finish
 use Rattle.dd_suite.specs.declared.refusals.SymbolFault.{SymbolFault}
 use Rattle.dd_suite.specs.declared.refusals.SymbolFault.TheVariants as symbol
 use Rattle.dd_suite.specs.declared.refusals.SymbolRefusal.{SymbolRefusal}
@@ -26,6 +28,7 @@ status_of (RefusedSymbol refusal) = status.Refused
 status_of StoreFault = status.StoreFault
 status_of SinkFault = status.SinkFault
 status_of Memory = status.Memory
+status_of TooManyLines = status.TooManyLines
 
 -- the name of a pair in a message
 abbrev pub pair_text : Pair → List ℕ
@@ -84,10 +87,12 @@ message_of (RefusedSymbol refusal) = symbol_refusal_text refusal
 message_of StoreFault = codes "dressline: store failed\n"
 message_of SinkFault = codes "dressline: sink failed\n"
 message_of Memory = codes "dressline: out of memory\n"
+message_of TooManyLines = codes "dressline: too many lines\n"
 
 -- how a command ended whose writes ended so
-abbrev pub written_ending : Result Unit Fault → Ending
-written_ending (Ok u) = Done
+abbrev pub written_ending : Result Finish Fault → Ending
+written_ending (Ok finish.Whole) = Done
+written_ending (Ok finish.CutShort) = TooManyLines
 written_ending (Err Failed) = SinkFault
 written_ending (Err NoMemory) = Memory
 

@@ -14,3 +14,5 @@ pub mod Files
 pub mod Making
 pub mod Stops
 pub mod Messages
+pub mod Pages
+pub mod Finishes

@@ -8,6 +8,7 @@ use Rattle.dd_model.specs.declared.requests.Request.{Request}
 use Rattle.dd_text.specs.declared.faults.FileFault.{FileFault}
 use Rattle.dd_suite.specs.declared.commands.FileCommand.{FileCommand}
 use Rattle.dd_suite.specs.Words.{AreTaken, AskFor, IsOnFile}
+use Rattle.dd_suite.specs.Catalogue.{AppendsFirstLines}
 use Rattle.dd_suite.specs.declared.refusals.SymbolRefusal.{SymbolRefusal}
 use Rattle.dd_suite.specs.Files.{IsTextOfHeld, IsRefusalOf, HoldsFaulty, HoldsRefused}
 
@@ -34,6 +35,12 @@ pub record AppendsOutput (words : List (List ℕ)) (tells : Bool) (held : List �
   pub bytes : List ℕ
   pub output : IsOutput words tells held bytes
   pub appended : Appends old new bytes
+
+-- the words ask for a catalogue that is cut short
+pub record CutsShort (words : List (List ℕ)) (old new : Option (List ℕ)) : Type 0 where
+  pub request : Request
+  pub asked : AskFor words request
+  pub cut : AppendsFirstLines request old new
 
 -- the words name a file
 abbrev pub NameFile : List (List ℕ) → Type 0

@@ -1,7 +1,7 @@
 -- What tells of a status outside the program.
 use Rattle.std.specs.Prelude.{ℕ}
 use Rattle.dd_suite.specs.declared.status.Status.{Status}
-use Rattle.dd_suite.specs.declared.status.Status.TheVariants.{Done, Refused, Usage, StoreFault, SinkFault, Memory}
+use Rattle.dd_suite.specs.declared.status.Status.TheVariants.{Done, Refused, Usage, StoreFault, SinkFault, Memory, TooManyLines}
 
 -- the exit status of the program
 abbrev pub number_of : Status → ℕ
@@ -11,3 +11,4 @@ number_of Usage = 2
 number_of StoreFault = 4
 number_of SinkFault = 5
 number_of Memory = 6
+number_of TooManyLines = 7

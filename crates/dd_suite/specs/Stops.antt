@@ -3,11 +3,11 @@ use Rattle.std.specs.Prelude.{◌≡◌, ℕ, List, [], Option, Bool, true}
 use Rattle.std.specs.Io.KnownBytes.{Appends}
 use Rattle.dd_ports.specs.Causes.{Rose}
 use Rattle.dd_suite.specs.declared.ending.Ending.{Ending}
-use Rattle.dd_suite.specs.declared.ending.Ending.TheVariants.{Done, Usage, Refused, RefusedSymbol, StoreFault, SinkFault, Memory}
+use Rattle.dd_suite.specs.declared.ending.Ending.TheVariants.{Done, Usage, Refused, RefusedSymbol, StoreFault, SinkFault, Memory, TooManyLines}
 use Rattle.dd_suite.specs.Words.{AreTaken}
 use Rattle.dd_suite.specs.declared.commands.FileCommand.{FileCommand}
 use Rattle.dd_suite.specs.Files.{IsFaulty, IsRefused, HoldsFaulty, HoldsRefused}
-use Rattle.dd_suite.specs.Output.{NameFaulty, NameRefused}
+use Rattle.dd_suite.specs.Output.{CutsShort, NameFaulty, NameRefused}
 
 -- a fetch failed and was counted, or the name holds what no file may be, or memory is wanting
 abbrev pub IsFetchStop : Ending → Bool → Option (List ℕ) → ℕ → ℕ → Type 0
@@ -39,6 +39,7 @@ HasFileCause command (RefusedSymbol refusal) tells held faults faults' old new s
 HasFileCause command StoreFault tells held faults faults' old new sunk sunk' = Rose faults faults' × Appends old new []
 HasFileCause command SinkFault tells held faults faults' old new sunk sunk' = Rose sunk sunk'
 HasFileCause command Memory tells held faults faults' old new sunk sunk' = Unit {0}
+HasFileCause command TooManyLines tells held faults faults' old new sunk sunk' = ⊥
 
 -- Each ending has its cause, and an ending that is a refusal or StoreFault has written nothing.
 abbrev pub HasCause : Ending → List (List ℕ) → Bool → (List ℕ → Option (List ℕ)) → ℕ → ℕ → Option (List ℕ) → Option (List ℕ) → ℕ → ℕ → Type 0
@@ -49,3 +50,4 @@ HasCause (RefusedSymbol refusal) words tells held faults faults' old new sunk su
 HasCause StoreFault words tells held faults faults' old new sunk sunk' = Rose faults faults' × Appends old new []
 HasCause SinkFault words tells held faults faults' old new sunk sunk' = Rose sunk sunk'
 HasCause Memory words tells held faults faults' old new sunk sunk' = Unit {0}
+HasCause TooManyLines words tells held faults faults' old new sunk sunk' = CutsShort words old new

@@ -1,5 +1,5 @@
 -- Which words the program takes, and what they ask for.
-use Rattle.std.specs.Prelude.{ℕ, ◌≤◌, ◌⊎◌, List, None}
+use Rattle.std.specs.Prelude.{ℕ, ◌⊎◌, List, None}
 use Rattle.dd_model.specs.declared.requests.Request.{Request}
 use Rattle.dd_words.specs.Grammar.{IsCommand}
 use Rattle.dd_words.specs.declared.commands.Command.{Command}
@@ -10,10 +10,9 @@ use Rattle.dd_suite.specs.declared.commands.FileCommand.{FileCommand}
 use Rattle.dd_suite.specs.declared.commands.FileCommand.TheVariants.{Symbols, Info}
 use Rattle.dd_suite.specs.declared.commands.SymbolCommand.TheVariants.{Lines, Canon, Minimal, Dual, Ambo, Truncate, Chamfer}
 
--- the words of a catalogue of at most 3 chambers, with the default number of workers and length of a round, and no checkpoint
+-- the words of a catalogue with the default number of workers and length of a round, and no checkpoint
 pub record AskFor (words : List (List ℕ)) (q : Request) : Type 0 where
   pub command : IsCommand words (Catalogue q 1 64 None None)
-  pub few : q.chambers ≤ 3
 
 -- the words of the commands on files that the program has
 abbrev pub kind_of : FileCommand → FileKind

@@ -21,6 +21,8 @@ pub enum Ending {
     SinkFault,
     /// Want of memory.
     Memory,
+    /// The catalogue has a line of a number that is too large.
+    TooManyLines,
 }
 
 impl Ending {
@@ -37,6 +39,7 @@ impl Ending {
             Ending::StoreFault => Status::StoreFault,
             Ending::SinkFault => Status::SinkFault,
             Ending::Memory => Status::Memory,
+            Ending::TooManyLines => Status::TooManyLines,
         }
     }
 }

@@ -10,6 +10,7 @@ mod file_laws;
 mod info;
 mod made;
 mod messages;
+mod pages;
 mod refusals;
 mod status;
 mod top;

@@ -15,6 +15,8 @@ pub enum Status {
     SinkFault,
     /// Want of memory.
     Memory,
+    /// The output has a line of a number that is too large.
+    TooManyLines,
 }
 
 impl Status {
@@ -31,6 +33,7 @@ impl Status {
             Status::StoreFault => 4,
             Status::SinkFault => 5,
             Status::Memory => 6,
+            Status::TooManyLines => 7,
         }
     }
 }

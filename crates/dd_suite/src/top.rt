@@ -1,16 +1,20 @@
-ghost use Rattle.std.specs.Prelude.{◌≡◌, ◌⊎◌, ◌≤◌, ℕ, List, [], true, map};
+ghost use Rattle.std.specs.Prelude.{◌≡◌, ◌⊎◌, ◌≤◌, ℕ, List, [], true, map, length};
 ghost use Rattle.std.specs.Rc.{rc_str_bytes};
 ghost use Rattle.std.specs.Io.KnownBytes.{Appends};
 ghost use Rattle.dd_ports.specs.Causes.{Rose};
 ghost use Rattle.dd_ports.specs.Grows.{GrowsByPrefix};
 ghost use Rattle.dd_ports.specs.Texts.{SameTexts};
-ghost use Rattle.dd_suite.specs.Words.{AreTaken};
-ghost use Rattle.dd_suite.specs.Output.{IsOutput, AppendsOutput, NameFile, IsRefusedFile, IsFileHeld, IsFileAccepted};
+ghost use Rattle.dd_model.specs.Symbol.{Symbol};
+ghost use Rattle.dd_model.specs.Wanted.{IsCatalogue};
+ghost use Rattle.dd_model.specs.declared.requests.Request.{Request};
+ghost use Rattle.dd_suite.specs.Words.{AreTaken, AskFor};
+ghost use Rattle.dd_suite.specs.Catalogue.{most_lines};
+ghost use Rattle.dd_suite.specs.Output.{IsOutput, AppendsOutput, CutsShort, NameFile, IsRefusedFile, IsFileHeld, IsFileAccepted};
 ghost use Rattle.dd_suite.specs.Endings.{message_of, fault_text, symbol_refusal_text, written_ending};
 ghost use Rattle.dd_suite.specs.Messages.{TellsOf};
 ghost use Rattle.dd_suite.specs.Stops.{HasCause};
 
-use crate::catalogue::write_catalogue;
+use crate::catalogue::{Finish, write_catalogue};
 use crate::commands::Task;
 use crate::ending::Ending;
 use crate::file::write_file;
@@ -18,6 +22,7 @@ use crate::messages::{fault_message, symbol_message};
 use crate::refusals::SymbolRefusal;
 use crate::status::Status;
 use crate::words::read_task;
+use dd_branch::Search;
 use dd_model::Memory;
 use dd_ports::{Gate, Sink, SinkFault, Store, write_all_of};
 use dd_text::FileFault;
@@ -59,11 +64,15 @@ pub fn run<R: Threads + Wait + Sync, S: Store, O: Sink, E: Sink, G: Gate + Sync>
         → (S.faults store.new ≡ S.faults store.old) × (result ≡ Status.StoreFault → ⊥) }
     ensures sink_sure { O.sure out.old ≡ true → (O.faults out.new ≡ O.faults out.old) × (result ≡ Status.SinkFault → ⊥) }
 
-    // Taken words end as Done where the file is accepted, nothing is refused and no count rose, unless memory
-    // is wanting.
+    // A catalogue is cut short exactly where it has over ten to the 18th lines; those up to that number went out.
+    ensures cut_short { result ≡ Status.TooManyLines → CutsShort (map rc_str_bytes words.now) (O.held out.old) (O.held out.new) }
+    ensures not_cut { result ≡ Status.Done → (q : Request) (members : List Symbol) → AskFor (map rc_str_bytes words.now) q → IsCatalogue q members → length members ≤ most_lines }
+
+    // Taken words end as Done or are cut short where the file is accepted, nothing is refused and no count rose,
+    // unless memory is wanting.
     ensures complete { AreTaken (map rc_str_bytes words.now) → IsFileAccepted (map rc_str_bytes words.now) (S.tells store.old) (S.held store.old)
         → (¬ Rose (S.faults store.old) (S.faults store.new)) → (¬ Rose (O.faults out.old) (O.faults out.new))
-        → (result ≡ Status.Done) ⊎ (result ≡ Status.Memory) }
+        → (result ≡ Status.Done) ⊎ ((result ≡ Status.TooManyLines) ⊎ (result ≡ Status.Memory)) }
 
     ensures err { TellsOf result (map rc_str_bytes words.now) (S.tells store.old) (S.held store.old) (E.held err.old) (E.held err.new) }
     ensures err_count { E.faults err.old ≤ E.faults err.new }
@@ -82,6 +91,7 @@ fn perform<S: Store, O: Sink>(alloc: Global, words: &[RcStr], store: &mut S, out
     ensures cause { HasCause result (map rc_str_bytes words.now) (S.tells store.old) (S.held store.old) (S.faults store.old) (S.faults store.new)
         (O.held out.old) (O.held out.new) (O.faults out.old) (O.faults out.new) }
     ensures not_taken { (¬ AreTaken (map rc_str_bytes words.now)) → (result ≡ Ending.Usage) ⊎ (result ≡ Ending.Memory) }
+    ensures not_cut { result ≡ Ending.Done → (q : Request) (members : List Symbol) → AskFor (map rc_str_bytes words.now) q → IsCatalogue q members → length members ≤ most_lines }
     ensures store { S.tells store.old ≡ true → (S.tells store.new ≡ true) × SameTexts (S.held store.old) (S.held store.new) }
     ensures store_count { S.faults store.old ≤ S.faults store.new }
     ensures sink_count { O.faults out.old ≤ O.faults out.new }
@@ -95,17 +105,21 @@ fn perform<S: Store, O: Sink>(alloc: Global, words: &[RcStr], store: &mut S, out
         Err(Memory) => return Ending::Memory,
     };
     match task {
-        Task::Catalogue(request) => ending_of(write_catalogue(alloc, &request, out)),
+        Task::Catalogue(request) => {
+            let search = Search::new(&request);
+            ending_of(write_catalogue(alloc, &search, out))
+        }
         Task::OnFile(command, name) => write_file(alloc, command, name.as_str(), store, out),
     }
 }
 
 /// How a command ended whose writes ended so.
-fn ending_of(written: Result<(), SinkFault>) -> Ending
+fn ending_of(written: Result<Finish, SinkFault>) -> Ending
     ensures { result ≡ written_ending written }
 {
     match written {
-        Ok(()) => Ending::Done,
+        Ok(Finish::Whole) => Ending::Done,
+        Ok(Finish::CutShort) => Ending::TooManyLines,
         Err(SinkFault::Failed) => Ending::SinkFault,
         Err(SinkFault::Memory) => Ending::Memory,
     }
@@ -124,6 +138,7 @@ fn tell<E: Sink>(alloc: Global, ending: Ending, err: &mut E)
         Ending::StoreFault => "dressline: store failed\n",
         Ending::SinkFault => "dressline: sink failed\n",
         Ending::Memory => "dressline: out of memory\n",
+        Ending::TooManyLines => "dressline: too many lines\n",
     };
     let _ = write_all_of(err, text.as_bytes());
 }

@@ -12,9 +12,6 @@ use dd_words::{Command, FileKind, WordsFault, read_words};
 use std::alloc::Global;
 use std::rc::RcStr;
 
-/// The most chambers of a catalogue.
-const MOST_CHAMBERS: u32 = 3;
-
 /// The number of workers where the words ask for no other.
 const WORKERS: u32 = 1;
 
@@ -45,7 +42,7 @@ fn task_of(command: Command) -> Option<Task>
             round: ROUND,
             pause: None,
             checkpoint: None,
-        } if request.chambers <= MOST_CHAMBERS => Some(Task::Catalogue(request)),
+        } => Some(Task::Catalogue(request)),
         Command::File { kind, file } => match command_of(kind) {
             Some(command) => Some(Task::OnFile(command, file)),
             None => None,
