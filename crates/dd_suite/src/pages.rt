@@ -76,7 +76,11 @@ impl Page {
 
     /// Collects the next lines and writes them once there are enough. Where their numbers become too
     /// large, writes those up to the last number, and answers false.
-    pub(crate) fn add<O: Sink>(&mut self, members: &[Connected], out: &mut O) -> Result<bool, SinkFault>
+    pub(crate) fn add<O: Sink>(
+        &mut self,
+        members: &[Connected],
+        out: &mut O,
+    ) -> Result<bool, SinkFault>
         requires few { self.old.count ≤ 1000000000000000000 }
         ensures all { IfOk result (λ all. OnTrue all (AddsAll (O.held out.old) (O.held out.new) self.old self.new members.now)) }
         ensures cut { IfOk result (λ all. OnFalse all (AddsTooMany (O.held out.old) (O.held out.new) self.old members.now)) }

@@ -69,8 +69,7 @@ loop-job-preserved g c =
     let is : IsOpening q js = subst (IsOpening q) (sym c.deref-job-items.ensures.value) (subst (λ r. IsOpening r c.in-Ok.jobs.items) c.request.ensures c.in-Ok.ensures) in
     let all = rw c.if-not-branch.false at c.in_ok-add.ensures.all in
     let adds = subst (AddsAll old new c.loop-job.page c.add.new.self) c.deref.ensures.value all in
-    let ih = c.loop-job.invariant in
-    (
+    let ih = c.loop-job.invariant in (
       found_next q (g.O.Sink.held c.args.out.now) old new c.loop-job.page c.add.new.self js c.loop-job.job-index c.job-item.result c.in-Ok-find.members.items is c.loop-job-test.true
           c.job-item.is c.in-Ok-find.ensures adds ih.0,
       omega (arith, c.add.ensures.cause.later, ih.1),
