@@ -21,7 +21,9 @@ use Rattle.dd_invol.proofs.Stems.{any_under}
 use Rattle.dd_invol.proofs.Follows.{member_orderly}
 use Rattle.dd_invol.proofs.TableFronts.{front_same, front_begins}
 use Rattle.dd_branch.specs.Members.{AreMembersWith}
-use Rattle.dd_shares.specs.Kept.{rolled_back}
+use Rattle.dd_shares.specs.Kept.{mark_of, rolled_back}
+use Rattle.dd_shares.specs.Sides.{depth_of}
+use Rattle.dd_shares.proofs.SideLemmas.{unwound_none}
 use Rattle.dd_shares.specs.declared.shares.Shares.{Shares}
 use Rattle.dd_branch.specs.Descent.{Descending, without_last, shorter}
 use Rattle.dd_branch.specs.declared.levels.Level.{Level}
@@ -129,3 +131,10 @@ found_members q job d old new request size prefix empty added =
 -- nothing was added to a list that was empty
 pub found_none : (q : Request) (job : Job) (old : List Symbol) → old ≡ [] → HasNothingUnder (IsMember q) job.size job.prefix → AreMembersUnder q job old
 found_none q job old empty none = members_under q job old (subst (AreUnder (IsMember q) job.size job.prefix) (sym empty) (none_under (IsMember q) job.size job.prefix none))
+
+-- where nothing was exchanged nothing is taken back
+pub nothing_exchanged : (shares : Shares) → rolled_back shares (mark_of shares) ≡ shares
+nothing_exchanged shares =
+    let tiles = unwound_none shares.tiles (depth_of shares.tiles) (omega arith) in
+    let vertices = unwound_none shares.vertices (depth_of shares.vertices) (omega arith) in
+    λ i. record { request = shares.request; tiles = tiles i; vertices = vertices i }

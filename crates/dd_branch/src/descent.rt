@@ -7,7 +7,7 @@ ghost use Rattle.dd_invol.specs.Under.{HasNothingUnder};
 use crate::levels::Level;
 use crate::members::add_degrees;
 use arrayvec::ArrayVec;
-use dd_invol::{Leaves, Stem, Table, Tests, Visit};
+use dd_invol::{Leaves, Starts, Stem, Table, Tests, Visit};
 use dd_model::{Memory, Request};
 use dd_shares::{Shares, is_odd};
 use dd_symbol::Connected;
@@ -24,6 +24,7 @@ pub struct Descent {
     stem: Stem,
     shares: Shares,
     levels: ArrayVec<Level, 108>,
+    starts: Starts,
     visit: Visit,
 }
 
@@ -61,6 +62,7 @@ impl Descent {
             stem: Stem::new(size),
             shares: Shares::start(request, size),
             levels: ArrayVec::new(),
+            starts: Starts::all(),
             visit: Visit::new(),
         }
     }
@@ -73,6 +75,7 @@ impl Descent {
         Level {
             rows: self.stem.mark(),
             shares: self.shares.mark(),
+            starts: self.starts,
         }
     }
 
@@ -83,6 +86,7 @@ impl Descent {
     {
         self.stem.leave(level.rows);
         self.shares.undo(level.shares);
+        self.starts = level.starts;
     }
 
     /// Whether it is sure that no member is under the prefix: its size is odd and s0 moves chamber
@@ -98,7 +102,7 @@ impl Descent {
         if self.shares.exceeds(self.stem.rows()) {
             return true;
         }
-        self.stem.is_beaten(&mut self.visit)
+        self.stem.is_beaten(&mut self.starts, &mut self.visit)
     }
 
     /// Puts a number at the end of the prefix, unless it is sure that no member is under the longer
@@ -117,6 +121,11 @@ impl Descent {
         let level = self.level();
         if !self.stem.put(number) {
             return false;
+        }
+        // A number that was known before tells nothing new, and the tests wait for the next one.
+        if self.stem.mark() == level.rows && !self.stem.is_whole() {
+            self.levels.push(level);
+            return true;
         }
         self.shares.learn(self.stem.rows(), level.rows);
         if self.is_dead() {

@@ -25,5 +25,5 @@ pub use splitting::children;
 pub use stem::Stem;
 pub use table::Table;
 pub use tables::Tables;
-pub use traversal::{Visit, any_beats};
+pub use traversal::{Starts, Visit, any_beats};
 pub use walk::{Walk, tables_under};

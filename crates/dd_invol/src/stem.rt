@@ -6,7 +6,7 @@ ghost use Rattle.dd_invol.specs.Under.{HasNothingUnder, HasNoNumberFrom, SkipsTo
 
 use crate::numbering::greatest;
 use crate::rows::{Rows, index_at};
-use crate::traversal::{Visit, any_beats};
+use crate::traversal::{Starts, Visit, any_beats};
 use arrayvec::ArrayVec;
 
 /// A prefix of the codes of tables of one size, with the partial table that follows from it. A
@@ -117,15 +117,15 @@ impl Stem {
         true
     }
 
-    /// Whether the traversal from some chamber gives a smaller code, so that nothing is under the
-    /// prefix. A tie is none.
-    pub fn is_beaten(&self, visit: &mut Visit) -> bool
+    /// Whether the traversal from some start gives a smaller code, so that nothing is under the
+    /// prefix. A tie is none. Starts that give a larger one are left out.
+    pub fn is_beaten(&self, starts: &mut Starts, visit: &mut Visit) -> bool
         requires stem { IsStem self.now }
         requires visiting { IsVisiting visit.old }
         ensures visiting { IsVisiting visit.new }
         ensures dead { IsTrue result → HasNothingUnder Any (size_of self.now) (prefix_of self.now) }
     {
-        any_beats(&self.rows, &self.prefix, visit)
+        any_beats(&self.rows, &self.prefix, starts, visit)
     }
 
     /// Puts a number at the end with what follows from it, unless nothing is under the longer
@@ -146,7 +146,7 @@ impl Stem {
         if !self.put(number) {
             return false;
         }
-        if self.is_beaten(visit) {
+        if self.is_beaten(&mut Starts::all(), visit) {
             self.leave(mark);
             return false;
         }

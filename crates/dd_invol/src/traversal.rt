@@ -70,40 +70,80 @@ impl Visit {
     }
 }
 
-/// Whether the traversal from a start chamber reads as the prefix and then smaller. Where it
-/// comes to an image that is not known, or to the end of the prefix, it does not.
-fn beats(rows: &Rows, prefix: &[u8], start: u8, visit: &mut Visit) -> bool
+/// How the traversal from a start chamber stands to a prefix: it reads as the prefix and then smaller,
+/// or larger, whatever else is put in; or that is not decided yet.
+#[derive(Clone, Copy, Debug, PartialEq, Eq)]
+enum Standing {
+    Smaller,
+    Larger,
+    Open,
+}
+
+/// Where the traversal from a start chamber stands. Where it comes to an image that is not known, or
+/// to the end of the prefix, nothing is decided.
+fn stand(rows: &Rows, prefix: &[u8], start: u8, visit: &mut Visit) -> Standing
     requires ready { IsReady rows.now }
     requires visiting { IsVisiting visit.old }
     requires start { (1 ≤ start) × (start ≤ (partial_of rows.now).size) }
     requires short { length prefix.now ≤ 108 }
     ensures visiting { IsVisiting visit.new }
-    ensures beaten { IsTrue result → IsBeaten (partial_of rows.now) prefix.now }
+    ensures beaten { result ≡ Standing.Smaller → IsBeaten (partial_of rows.now) prefix.now }
 {
     visit.begin(start);
     for place in 0..prefix.len() {
         let row = place / 3;
         if row >= visit.order.len() {
-            return false;
+            return Standing::Open;
         }
         let chamber = visit.order[row];
         let image = rows.known(index_at(place as u8), chamber);
         if image == 0 {
-            return false;
+            return Standing::Open;
         }
         let number = visit.meet(image);
         if number < prefix[place] {
-            return true;
+            return Standing::Smaller;
         }
         if number > prefix[place] {
-            return false;
+            return Standing::Larger;
         }
     }
-    false
+    Standing::Open
 }
 
-/// Whether the traversal from some chamber reads as the prefix and then smaller. A tie is none.
-pub fn any_beats(rows: &Rows, prefix: &[u8], visit: &mut Visit) -> bool
+/// Start chambers whose traversals may still read smaller than a prefix that grows. One that is left
+/// out in error is not tried, and nothing is cut for it.
+#[derive(Clone, Copy, Debug, Default, PartialEq, Eq)]
+pub struct Starts {
+    left_out: u64,
+}
+
+impl Starts {
+    /// All chambers.
+    pub fn all() -> Starts {
+        Starts { left_out: 0 }
+    }
+
+    /// Whether a chamber is one of them.
+    fn has(self, chamber: u8) -> bool
+        requires { chamber ≤ 36 }
+    {
+        self.left_out >> chamber & 1 == 0
+    }
+
+    /// The chambers without one.
+    fn without(self, chamber: u8) -> Starts
+        requires { chamber ≤ 36 }
+    {
+        Starts {
+            left_out: self.left_out | 1 << chamber,
+        }
+    }
+}
+
+/// Whether the traversal from some start reads as the prefix and then smaller. A tie is none. Starts
+/// that read larger are left out.
+pub fn any_beats(rows: &Rows, prefix: &[u8], starts: &mut Starts, visit: &mut Visit) -> bool
     requires ready { IsReady rows.now }
     requires visiting { IsVisiting visit.old }
     requires short { length prefix.now ≤ 108 }
@@ -111,8 +151,13 @@ pub fn any_beats(rows: &Rows, prefix: &[u8], visit: &mut Visit) -> bool
     ensures beaten { IsTrue result → IsBeaten (partial_of rows.now) prefix.now }
 {
     for k in 0..rows.size() {
-        if beats(rows, prefix, k + 1, visit) {
-            return true;
+        let start = k + 1;
+        if starts.has(start) {
+            match stand(rows, prefix, start, visit) {
+                Standing::Smaller => return true,
+                Standing::Larger => *starts = starts.without(start),
+                Standing::Open => {}
+            }
         }
     }
     false

@@ -3,7 +3,7 @@ use Rattle.dd_model.specs.Symbol.{op}
 use Rattle.dd_invol.specs.Places.{index_at}
 use Rattle.dd_invol.specs.Rows.{partial_of}
 use Rattle.dd_invol.proofs.Traversing.{inside_met, met_at, reads_more, beats_here}
-use Rattle.dd_invol.proofs.traversal.beats.Goals as goal
+use Rattle.dd_invol.proofs.traversal.stand.Goals as goal
 
 pub returns-then-number-prefix-clause-beaten : goal.returns-then-number-prefix-clause-beaten
 returns-then-number-prefix-clause-beaten c _ =

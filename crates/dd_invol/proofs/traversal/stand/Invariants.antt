@@ -1,7 +1,7 @@
 use Rattle.dd_invol.specs.Rows.{partial_of}
 use Rattle.dd_invol.specs.Visit.{IsVisiting}
 use Rattle.dd_invol.proofs.Traversing.{AreInside, ReadsSo}
-use Rattle.dd_invol.proofs.traversal.beats.Given as goal
+use Rattle.dd_invol.proofs.traversal.stand.Given as goal
 
 abbrev pub invariant-loop-place : goal.invariant-loop-place
 invariant-loop-place l = record {
