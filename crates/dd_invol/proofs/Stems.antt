@@ -88,30 +88,65 @@ next_inside stem s low under =
     let most = inside.1 in
     (inside.0, omega arith, next_small Any (size_of stem) (prefix_of stem) s low under)
 
-pub skips_to_least : (stem : Stem) (k m : ℕ) → length (prefix_of stem) < 3 * size_of stem → (m ≡ k) ⊎ ((k ≡ 0) × (m ≡ 1)) → m ≤ 216 → SkipsTo Any (size_of stem) (prefix_of stem) k m
-skips_to_least stem k m low cases small = record {
-  later = ⊎_elim (λ same. omega arith) (λ first. let a = first.0 in omega arith) cases;
-  small = small;
-  none_between = λ s under.
-      let inside = next_inside stem s low under in
-      let one = inside.0 in
-      ⊎_elim
-      (λ same. ⊎_elim (λ less. inl less) (λ more. inr (omega arith)) (cases_lt (next_number (prefix_of stem) s) k))
-      (λ first. let b = first.1 in inr (omega arith))
-      cases;
-}
+-- From one number up to another, each has an image, and another than the chamber.
+abbrev pub AreTaken : Symbol → Index → ℕ → ℕ → ℕ → Type 0
+AreTaken partial i chamber least m = (d : ℕ) → least ≤ d → d < m → (op partial i d ≢ 0) × (op partial i d ≢ chamber)
 
-pub none_past_size : (stem : Stem) (k m : ℕ) → length (prefix_of stem) < 3 * size_of stem → 1 ≤ size_of stem → (m ≡ k) ⊎ ((k ≡ 0) × (m ≡ 1)) → size_of stem < m → HasNoNumberFrom Any (size_of stem) (prefix_of stem) k
-none_past_size stem k m low pos cases past s under =
+-- where the search for a next number from k on comes to
+pub record ComesTo (stem : Stem) (k m : ℕ) : Type 0 where
+  pub least : ℕ
+  pub cases : (least ≡ k) ⊎ ((k ≡ 0) × (least ≡ 1))
+  pub later : least ≤ m
+  pub taken : AreTaken (partial_of stem.rows) (index_at (length (prefix_of stem) % 3)) (1 + length (prefix_of stem) / 3) least m
+
+-- A number with another image is no image of the chamber, since twice the involution leads back.
+not_taken : (stem : Stem) (least m : ℕ) → IsStem stem → length (prefix_of stem) < 3 * size_of stem → AreTaken (partial_of stem.rows) (index_at (length (prefix_of stem) % 3)) (1 + length (prefix_of stem) / 3) least m
+    → (s : Symbol) → IsUnder Any (size_of stem) (prefix_of stem) s → least ≤ next_number (prefix_of stem) s → m ≤ next_number (prefix_of stem) s
+not_taken stem least m is low taken s under up =
+    let t = length (prefix_of stem) in
+    let i = index_at (t % 3) in
+    let chamber = 1 + t / 3 in
+    let next = next_number (prefix_of stem) s in
+    let size = under.size in
+    let image : next ≡ op s i chamber = code_at s t (omega arith) in
+    let back : op s i next ≡ chamber = ap (op s i) image ∙ (under.orderly.table.involutions i).involutive chamber (omega arith, omega arith) in
+    ⊎_elim
+    (λ less. let here = taken next up less in absurd (here.1 (sym ((is.follows s under).images i next here.0) ∙ back)))
+    (λ more. more)
+    (cases_lt next m)
+
+comes_past : (stem : Stem) (k m : ℕ) → IsStem stem → length (prefix_of stem) < 3 * size_of stem → (to : ComesTo stem k m)
+    → (s : Symbol) → IsUnder Any (size_of stem) (prefix_of stem) s → (next_number (prefix_of stem) s < k) ⊎ (m ≤ next_number (prefix_of stem) s)
+comes_past stem k m is low to s under =
+    let next = next_number (prefix_of stem) s in
+    let inside = next_inside stem s low under in
+    let one = inside.0 in
+    let far = not_taken stem to.least m is low to.taken s under in
+    ⊎_elim
+    (λ same. ⊎_elim (λ less. inl less) (λ more. inr (far (omega arith))) (cases_lt next k))
+    (λ first. let b = first.1 in inr (far (omega arith)))
+    to.cases
+
+pub skips_to_free : (stem : Stem) (k m : ℕ) → IsStem stem → length (prefix_of stem) < 3 * size_of stem → ComesTo stem k m → m ≤ 216 → SkipsTo Any (size_of stem) (prefix_of stem) k m
+skips_to_free stem k m is low to small =
+    let later = to.later in
+    record {
+      later = ⊎_elim (λ same. omega arith) (λ first. let a = first.0 in omega arith) to.cases;
+      small = small;
+      none_between = comes_past stem k m is low to;
+    }
+
+pub none_past_size : (stem : Stem) (k m : ℕ) → IsStem stem → length (prefix_of stem) < 3 * size_of stem → ComesTo stem k m → size_of stem < m → HasNoNumberFrom Any (size_of stem) (prefix_of stem) k
+none_past_size stem k m is low to past s under =
     let inside = next_inside stem s low under in
     let most = inside.1 in
-    ⊎_elim (λ same. omega arith) (λ first. let b = first.1 in absurd (omega arith)) cases
+    ⊎_elim (λ less. less) (λ more. absurd (omega arith)) (comes_past stem k m is low to s under)
 
-pub none_past_greatest : (stem : Stem) (k m : ℕ) → length (prefix_of stem) < 3 * size_of stem → (m ≡ k) ⊎ ((k ≡ 0) × (m ≡ 1)) → greatest (prefix_of stem) < m - 1 → HasNoNumberFrom Any (size_of stem) (prefix_of stem) k
-none_past_greatest stem k m low cases past s under =
+pub none_past_greatest : (stem : Stem) (k m : ℕ) → IsStem stem → length (prefix_of stem) < 3 * size_of stem → ComesTo stem k m → greatest (prefix_of stem) < m - 1 → HasNoNumberFrom Any (size_of stem) (prefix_of stem) k
+none_past_greatest stem k m is low to past s under =
     let inside = next_inside stem s low under in
     let next = inside.2 in
-    ⊎_elim (λ same. omega arith) (λ first. let b = first.1 in absurd (omega arith)) cases
+    ⊎_elim (λ less. less) (λ more. absurd (omega arith)) (comes_past stem k m is low to s under)
 
 -- the larger of a number and 1
 pub at_least_one : (k m : ℕ) → m ≡ (max k 1) → (m ≡ k) ⊎ ((k ≡ 0) × (m ≡ 1))

@@ -1,6 +1,7 @@
-ghost use Rattle.std.specs.Prelude.{◌≡◌, ℕ, ◌+◌, [], ◌∷◌, ◌++◌, ◌*◌, ◌≤◌, ◌<◌, ◌↔◌, IsTrue, MatchOption, length};
+ghost use Rattle.std.specs.Prelude.{◌≡◌, ◌≢◌, ℕ, ◌+◌, [], ◌∷◌, ◌++◌, ◌*◌, ◌≤◌, ◌<◌, ◌↔◌, IsTrue, MatchOption, length};
 ghost use Rattle.std.specs.Bool.{OnTrue, OnFalse};
-ghost use Rattle.dd_invol.specs.Rows.{depth_of, IsReady};
+ghost use Rattle.dd_model.specs.Symbol.{op};
+ghost use Rattle.dd_invol.specs.Rows.{partial_of, depth_of, IsReady};
 ghost use Rattle.dd_invol.specs.Visit.{IsVisiting};
 ghost use Rattle.dd_invol.specs.Under.{HasNothingUnder, HasNoNumberFrom, SkipsTo};
 
@@ -8,6 +9,7 @@ use crate::numbering::greatest;
 use crate::rows::{Rows, index_at};
 use crate::traversal::{Starts, Visit, any_beats};
 use arrayvec::ArrayVec;
+use dd_model::Index;
 
 /// A prefix of the codes of tables of one size, with the partial table that follows from it. A
 /// number is put at its end and taken away again in place, and no call allocates.
@@ -81,21 +83,41 @@ impl Stem {
         if chamber > most {
             return None;
         }
-        let known = self.rows.known(index_at(place), chamber);
+        let i = index_at(place);
+        let known = self.rows.known(i, chamber);
         if known != 0 {
             if known < k {
                 return None;
             }
             return Some(known);
         }
-        let least = k.max(1);
-        if least > self.rows.size() {
+        let free = self.first_free(i, chamber, k.max(1));
+        if free > self.rows.size() {
             return None;
         }
-        if least - 1 > most {
+        if free - 1 > most {
             return None;
         }
-        Some(least)
+        Some(free)
+    }
+
+    /// The first number from `least` on that is past the chambers, or whose image may be a chamber:
+    /// no other image is known for it.
+    fn first_free(&self, i: Index, chamber: u8, least: u8) -> u8
+        requires ready { IsReady self.now.rows }
+        requires low { 1 ≤ least }
+        ensures later { least ≤ result }
+        ensures taken { (d : ℕ) → least ≤ d → d < result → (op (partial_of self.now.rows) i d ≢ 0) × (op (partial_of self.now.rows) i d ≢ chamber) }
+    {
+        let mut number = least;
+        while number <= self.rows.size() {
+            let image = self.rows.known(i, number);
+            if image == 0 || image == chamber {
+                return number;
+            }
+            number += 1;
+        }
+        number
     }
 
     /// Puts a number at the end, with what follows by commuting, unless commuting forbids it.

@@ -1,10 +1,12 @@
-use Rattle.std.proofs.Common.{◌≡◌, ◌+◌, ◌/◌, ◌%◌, length, ap, ◌∙◌, arith}
+use Rattle.std.proofs.Common.{◌≡◌, ℕ, ◌+◌, ◌/◌, ◌%◌, ◌≤◌, max, length, ap, ◌∙◌, subst, arith}
+use Rattle.dd_model.specs.declared.parts.Index.{Index}
 use Rattle.dd_model.specs.Symbol.{op}
 use Rattle.dd_invol.specs.Places.{index_at}
 use Rattle.dd_invol.specs.FirstVisit.{greatest}
 use Rattle.dd_invol.specs.Rows.{partial_of}
 use Rattle.dd_invol.specs.Stem.{prefix_of}
-use Rattle.dd_invol.proofs.Stems.{skips_known, none_from_known, skips_to_least, none_past_size, none_past_greatest, at_least_one, none_unmet}
+use Rattle.dd_invol.specs.declared.stem.Stem.{Stem}
+use Rattle.dd_invol.proofs.Stems.{AreTaken, ComesTo, skips_known, none_from_known, skips_to_free, none_past_size, none_past_greatest, at_least_one, none_unmet}
 use Rattle.dd_invol.proofs.stem.Stem.next_from.Goals as goal
 
 pub returns-then-chamber-most : goal.returns-then-chamber-most
@@ -15,46 +17,58 @@ returns-then-chamber-most c =
     let past = c.if-chamber-most.true in
     none_unmet stem c.args.k c.requires.room (omega arith)
 
+known_is : (stem : Stem) (place known : ℕ) (i : Index) → place ≡ length (prefix_of stem) → i ≡ index_at (place % 3) → known ≡ op (partial_of stem.rows) i (1 + place / 3)
+    → known ≡ op (partial_of stem.rows) (index_at (length (prefix_of stem) % 3)) (1 + length (prefix_of stem) / 3)
+known_is stem place known i at index image =
+    let P = partial_of stem.rows in
+    image ∙ ap (λ j. op P j (1 + place / 3)) index ∙ ap (λ u. op P (index_at (u % 3)) (1 + u / 3)) at
+
+comes_to : (stem : Stem) (k least m place : ℕ) (i : Index) → least ≡ (max k 1) → place ≡ length (prefix_of stem) → i ≡ index_at (place % 3) → least ≤ m → AreTaken (partial_of stem.rows) i (1 + place / 3) least m
+    → ComesTo stem k m
+comes_to stem k least m place i from at index later taken =
+    let P = partial_of stem.rows in
+    record {
+      least = least;
+      cases = at_least_one k least from;
+      later = later;
+      taken = subst (λ u. AreTaken P (index_at (u % 3)) (1 + u / 3) least m) at (subst (λ j. AreTaken P j (1 + place / 3) least m) index taken);
+    }
+
 pub returns-then-known-k : goal.returns-then-known-k
 returns-then-known-k c =
     let stem = c.args.self.now in
-    let P = partial_of stem.rows in
-    let t = length (prefix_of stem) in
-    let at : c.len-place.result ≡ t = c.len-place.ensures.value in
-    let known : c.known-known.result ≡ op P (index_at (t % 3)) (1 + t / 3) =
-    c.known-known.ensures.image ∙ ap (λ i. op P i (1 + c.len-place.result / 3)) c.index_at.ensures ∙ ap (λ u. op P (index_at (u % 3)) (1 + u / 3)) at in
+    let known = known_is stem c.len-place.result c.known-known.result c.index_at-i.result c.len-place.ensures.value c.index_at-i.ensures c.known-known.ensures.image in
     none_from_known stem c.args.k c.known-known.result c.requires.stem c.requires.room known c.if-known-ne0.true c.if-known-k.true
 
 pub returns-then-known-ne0 : goal.returns-then-known-ne0
 returns-then-known-ne0 c =
     let stem = c.args.self.now in
-    let P = partial_of stem.rows in
-    let t = length (prefix_of stem) in
-    let at : c.len-place.result ≡ t = c.len-place.ensures.value in
-    let known : c.known-known.result ≡ op P (index_at (t % 3)) (1 + t / 3) =
-    c.known-known.ensures.image ∙ ap (λ i. op P i (1 + c.len-place.result / 3)) c.index_at.ensures ∙ ap (λ u. op P (index_at (u % 3)) (1 + u / 3)) at in
+    let known = known_is stem c.len-place.result c.known-known.result c.index_at-i.result c.len-place.ensures.value c.index_at-i.ensures c.known-known.ensures.image in
     let small = c.requires.stem.ready.small in
     let within = c.known-known.ensures.within in
     skips_known stem c.args.k c.known-known.result c.requires.stem c.requires.room known c.if-known-ne0.true c.if-known-k.false (omega arith)
 
-pub returns-then-least-size : goal.returns-then-least-size
-returns-then-least-size c =
+pub returns-then-free-size : goal.returns-then-free-size
+returns-then-free-size c =
     let stem = c.args.self.now in
+    let to = comes_to stem c.args.k c.max.result c.first_free-free.result c.len-place.result c.index_at-i.result c.max.ensures c.len-place.ensures.value c.index_at-i.ensures c.first_free-free.ensures.later c.first_free-free.ensures.taken in
     let size = c.size.ensures in
-    let past = c.if-least-size.true in
-    none_past_size stem c.args.k c.max-least.result c.requires.room c.requires.stem.ready.positive (at_least_one c.args.k c.max-least.result c.max-least.ensures) (omega arith)
+    let past = c.if-free-size.true in
+    none_past_size stem c.args.k c.first_free-free.result c.requires.stem c.requires.room to (omega arith)
 
-pub returns-then-least-most : goal.returns-then-least-most
-returns-then-least-most c =
+pub returns-then-free-most : goal.returns-then-free-most
+returns-then-free-most c =
     let stem = c.args.self.now in
+    let to = comes_to stem c.args.k c.max.result c.first_free-free.result c.len-place.result c.index_at-i.result c.max.ensures c.len-place.ensures.value c.index_at-i.ensures c.first_free-free.ensures.later c.first_free-free.ensures.taken in
     let most : c.greatest-most.result ≡ greatest (prefix_of stem) = c.greatest-most.ensures ∙ ap greatest c.deref.ensures.0 in
-    let past = c.if-least-most.true in
-    none_past_greatest stem c.args.k c.max-least.result c.requires.room (at_least_one c.args.k c.max-least.result c.max-least.ensures) (omega arith)
+    let past = c.if-free-most.true in
+    none_past_greatest stem c.args.k c.first_free-free.result c.requires.stem c.requires.room to (omega arith)
 
 pub returns : goal.returns
 returns c =
     let stem = c.args.self.now in
+    let to = comes_to stem c.args.k c.max.result c.first_free-free.result c.len-place.result c.index_at-i.result c.max.ensures c.len-place.ensures.value c.index_at-i.ensures c.first_free-free.ensures.later c.first_free-free.ensures.taken in
     let small = c.requires.stem.ready.small in
     let size = c.size.ensures in
-    let inside = c.if-least-size.false in
-    skips_to_least stem c.args.k c.max-least.result c.requires.room (at_least_one c.args.k c.max-least.result c.max-least.ensures) (omega arith)
+    let inside = c.if-free-size.false in
+    skips_to_free stem c.args.k c.first_free-free.result c.requires.stem c.requires.room to (omega arith)
