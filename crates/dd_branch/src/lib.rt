@@ -16,4 +16,6 @@ pub use members::{add_degrees, degrees};
 pub use search::Search;
 
 #[cfg(test)]
+mod search_tests;
+#[cfg(test)]
 mod tests;

@@ -5,7 +5,7 @@ use dd_symbol::Connected;
 use std::alloc::Global;
 use std::test::Fail;
 
-fn asked() -> Request {
+pub(crate) fn asked() -> Request {
     Request {
         chambers: 36,
         tiles: 0,
@@ -49,7 +49,7 @@ fn has_code(alloc: Global, symbol: &Connected, expected: &[u32]) -> Result<bool,
 }
 
 /// Whether the codes of symbols are these, in this order.
-fn have_codes<const N: usize>(
+pub(crate) fn have_codes<const N: usize>(
     alloc: Global,
     symbols: &[Connected],
     expected: &[[u32; N]],

@@ -1,0 +1,131 @@
+ghost use Rattle.std.specs.Prelude.{◌≡◌, ◌*◌, ◌<◌, ◌≤◌, length};
+ghost use Rattle.dd_invol.specs.Stem.{prefix_of, size_of};
+ghost use Rattle.dd_branch.specs.Descent.{IsDescent};
+
+use crate::tests::{asked, have_codes};
+use crate::{Descent, Search};
+use dd_front::Finder;
+use dd_invol::Tests;
+use dd_model::{Job, Prefix, Request};
+use dd_symbol::Connected;
+use std::alloc::Global;
+use std::test::Fail;
+
+/// The request for at most two chambers, with degrees from 3 on.
+fn asked_of_two() -> Request {
+    let mut request = asked();
+    request.chambers = 2;
+    request
+}
+
+fn job(alloc: Global, size: u32, numbers: &[u8]) -> Result<Job, Fail> {
+    let prefix = Prefix::from_slice(alloc, numbers)?;
+    Ok(Job { size, prefix })
+}
+
+/// The members of at most two chambers under a job.
+fn found(alloc: Global, job: &Job) -> Result<Vec<Connected>, Fail> {
+    let request = asked_of_two();
+    let fits = job.prefix.as_slice().len() as u64 <= 3 * job.size as u64;
+    if !request.is_valid() || job.size == 0 || job.size > request.chambers || !fits {
+        return Ok(Vec::new(alloc));
+    }
+    Ok(Search::new(&request).find(alloc, job)?)
+}
+
+#[test]
+fn one_chamber_is_found(rt: HostRuntime) -> Result<(), Fail> {
+    let symbols = found(rt.alloc(), &job(rt.alloc(), 1, &[1, 1, 1])?)?;
+    let expected = [[1, 1, 1, 3, 6], [1, 1, 1, 4, 4], [1, 1, 1, 6, 3]];
+    assert!(rt; have_codes(rt.alloc(), symbols.as_slice(), expected.as_slice())?);
+    Ok(())
+}
+
+#[test]
+fn two_chambers_are_found(rt: HostRuntime) -> Result<(), Fail> {
+    let symbols = found(rt.alloc(), &job(rt.alloc(), 2, &[1, 1, 2, 2, 2, 1])?)?;
+    let expected = [
+        [1, 1, 2, 2, 2, 1, 3, 3, 6, 6],
+        [1, 1, 2, 2, 2, 1, 3, 6, 4, 4],
+        [1, 1, 2, 2, 2, 1, 4, 4, 4, 4],
+    ];
+    assert!(rt; have_codes(rt.alloc(), symbols.as_slice(), expected.as_slice())?);
+    Ok(())
+}
+
+/// The jobs into which a job for at most two chambers is split.
+fn split(alloc: Global, job: &Job) -> Result<Vec<Job>, Fail> {
+    let request = asked_of_two();
+    let fits = (job.prefix.as_slice().len() as u64) < 3 * job.size as u64;
+    if !request.is_valid() || job.size == 0 || job.size > request.chambers || !fits {
+        return Ok(Vec::new(alloc));
+    }
+    Ok(Search::new(&request).split(alloc, job)?)
+}
+
+fn has(job: &Job, size: u32, numbers: &[u8]) -> bool {
+    job.size == size && job.prefix.as_slice() == numbers
+}
+
+#[test]
+fn a_job_is_split(rt: HostRuntime) -> Result<(), Fail> {
+    let jobs = split(rt.alloc(), &job(rt.alloc(), 2, &[1])?)?;
+    assert_eq!(rt; jobs.len(), 2);
+    assert!(rt; has(&jobs[0], 2, &[1, 1]));
+    assert!(rt; has(&jobs[1], 2, &[1, 2]));
+    Ok(())
+}
+
+/// Whether several numbers may come next. Where the next follows from others it is the only one.
+fn has_choice(descent: &Descent) -> bool
+    requires descent { IsDescent descent.now }
+    requires room { length (prefix_of descent.now.stem) < 3 * size_of descent.now.stem }
+{
+    match descent.next_from(0) {
+        Some(number) => descent.next_from(number + 1).is_some(),
+        None => false,
+    }
+}
+
+/// How many numbers a search puts in after its prefix, without those that follow from others.
+fn count_nodes(descent: &mut Descent) -> u64
+    requires { IsDescent descent.old }
+    ensures { descent.new ≡ descent.old }
+{
+    if descent.is_whole() {
+        return 0;
+    }
+    let mark = descent.mark();
+    let choice = u64::from(has_choice(descent));
+    let mut count = 0u64;
+    let mut k = 0;
+    while let Some(number) = descent.next_from(k) {
+        if descent.enter(number) {
+            count = count_nodes(descent)
+                .saturating_add(choice)
+                .saturating_add(count);
+            descent.leave(mark);
+        }
+        k = number + 1;
+    }
+    count
+}
+
+/// How many numbers a search for the members of a size puts in, where there are no limits.
+fn nodes_of(alloc: Global, size: u8) -> u64 {
+    let request = asked();
+    if !request.is_valid() || size == 0 || size > 36 {
+        return 0;
+    }
+    let mut descent = Descent::new(alloc, &request, size);
+    count_nodes(&mut descent)
+}
+
+/// No contract says that a search turns back where nothing is under its prefix.
+#[test]
+fn a_search_turns_back_in_time(rt: HostRuntime) -> Result<(), Fail> {
+    for (size, expected) in [(6, 296), (8, 999), (10, 3019), (12, 9716)] {
+        assert_eq!(rt; nodes_of(rt.alloc(), size), expected);
+    }
+    Ok(())
+}
