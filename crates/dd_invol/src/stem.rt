@@ -101,8 +101,8 @@ impl Stem {
         Some(free)
     }
 
-    /// The first number from `least` on that is past the chambers, or whose image may be a chamber:
-    /// no other image is known for it.
+    /// The first number from `least` on that is no chamber, or for which no image but `chamber` is
+    /// known. The chamber cannot go to any number before it, since an involution leads back.
     fn first_free(&self, i: Index, chamber: u8, least: u8) -> u8
         requires ready { IsReady self.now.rows }
         requires low { 1 ≤ least }

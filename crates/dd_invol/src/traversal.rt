@@ -1,12 +1,14 @@
-ghost use Rattle.std.specs.Prelude.{◌≡◌, ℕ, ◌+◌, ◌-◌, ◌*◌, [], ◌∷◌, ◌++◌, ◌≤◌, ◌<◌, IsTrue, length, set};
+ghost use Rattle.std.specs.Prelude.{◌≡◌, ℕ, ◌+◌, ◌-◌, ◌*◌, ◌/◌, ◌%◌, [], ◌∷◌, ◌++◌, ◌≤◌, ◌<◌, IsTrue, length, set};
 ghost use Rattle.dd_model.specs.Symbol.{item};
 ghost use Rattle.dd_model.specs.Traversal.{IsMeeting};
 ghost use Rattle.dd_invol.specs.Beaten.{IsBeaten};
+ghost use Rattle.dd_invol.specs.Places.{index_at};
 ghost use Rattle.dd_invol.specs.Rows.{partial_of, IsReady};
 ghost use Rattle.dd_invol.specs.Visit.{IsVisiting};
 
-use crate::rows::{Rows, index_at};
+use crate::rows::Rows;
 use arrayvec::ArrayVec;
+use dd_model::Index;
 
 /// Chambers in the order in which a traversal meets them, and the number of each, 0 where it has
 /// none. It serves for one traversal after another, and no call allocates.
@@ -79,6 +81,28 @@ enum Standing {
     Open,
 }
 
+/// The involution of the next place of a code.
+fn index_after(i: Index) -> Index
+    ensures { (place : ℕ) → i ≡ index_at (place % 3) → result ≡ index_at ((place + 1) % 3) }
+{
+    match i {
+        Index::Zero => Index::One,
+        Index::One => Index::Two,
+        Index::Two => Index::Zero,
+    }
+}
+
+/// The row of the next place of a code. Counted along, it costs no division.
+fn row_after(row: usize, i: Index) -> usize
+    requires { row < 36 }
+    ensures { (place : ℕ) → row ≡ place / 3 → i ≡ index_at (place % 3) → result ≡ (place + 1) / 3 }
+{
+    match i {
+        Index::Zero | Index::One => row,
+        Index::Two => row + 1,
+    }
+}
+
 /// Where the traversal from a start chamber stands. Where it comes to an image that is not known, or
 /// to the end of the prefix, nothing is decided.
 fn stand(rows: &Rows, prefix: &[u8], start: u8, visit: &mut Visit) -> Standing
@@ -90,13 +114,14 @@ fn stand(rows: &Rows, prefix: &[u8], start: u8, visit: &mut Visit) -> Standing
     ensures beaten { result ≡ Standing.Smaller → IsBeaten (partial_of rows.now) prefix.now }
 {
     visit.begin(start);
+    let mut row = 0;
+    let mut i = Index::Zero;
     for place in 0..prefix.len() {
-        let row = place / 3;
         if row >= visit.order.len() {
             return Standing::Open;
         }
         let chamber = visit.order[row];
-        let image = rows.known(index_at(place as u8), chamber);
+        let image = rows.known(i, chamber);
         if image == 0 {
             return Standing::Open;
         }
@@ -107,6 +132,8 @@ fn stand(rows: &Rows, prefix: &[u8], start: u8, visit: &mut Visit) -> Standing
         if number > prefix[place] {
             return Standing::Larger;
         }
+        row = row_after(row, i);
+        i = index_after(i);
     }
     Standing::Open
 }
@@ -142,7 +169,7 @@ impl Starts {
 }
 
 /// Whether the traversal from some start reads as the prefix and then smaller. A tie is none. Starts
-/// that read larger are left out.
+/// that read larger are left out. Chamber 1 reads as the prefix itself, and is not tried.
 pub fn any_beats(rows: &Rows, prefix: &[u8], starts: &mut Starts, visit: &mut Visit) -> bool
     requires ready { IsReady rows.now }
     requires visiting { IsVisiting visit.old }
@@ -150,7 +177,7 @@ pub fn any_beats(rows: &Rows, prefix: &[u8], starts: &mut Starts, visit: &mut Vi
     ensures visiting { IsVisiting visit.new }
     ensures beaten { IsTrue result → IsBeaten (partial_of rows.now) prefix.now }
 {
-    for k in 0..rows.size() {
+    for k in 1..rows.size() {
         let start = k + 1;
         if starts.has(start) {
             match stand(rows, prefix, start, visit) {

@@ -1,5 +1,8 @@
 use crate::tests::written;
+use dd_model::{Allowed, Request};
+use dd_plain::plain_catalogue;
 use dd_ports::SureSink;
+use dd_text::put_lines;
 use std::alloc::{AllocError, Global};
 use std::process::Abort;
 use std::sync::Wait;
@@ -97,65 +100,6 @@ fn catalogues(rt: HostRuntime) -> Result<(), Fail> {
     Ok(())
 }
 
-fn text_of(out: &SureSink) -> &str {
-    match std::str::from_utf8(out.held()) {
-        Ok(text) => text,
-        Err(_) => "",
-    }
-}
-
-/// The number after a word.
-fn number_after(line: &str, word: &str) -> u32 {
-    match line.split_once(word) {
-        Some((_, rest)) => match rest.split_once(" ") {
-            Some((digits, _)) => digits.parse::<u32>().unwrap_or(0),
-            None => 0,
-        },
-        None => 0,
-    }
-}
-
-/// Whether a line of `info` tells of a symbol within the limits, where 0 sets none.
-fn is_within(line: &str, tiles: u32, vertices: u32, minimal: bool) -> bool {
-    (tiles == 0 || number_after(line, " tiles ") <= tiles)
-        && (vertices == 0 || number_after(line, " vertices ") <= vertices)
-        && (!minimal || line.ends_with("minimal yes"))
-}
-
-/// A line without its number.
-fn unnumbered(line: &str) -> &str {
-    match line.split_once(":") {
-        Some((_, line)) => line,
-        None => "",
-    }
-}
-
-/// The lines of the whole catalogue within the limits that `info` tells, without their numbers.
-fn picked(
-    alloc: Global,
-    all: &str,
-    info: &str,
-    (tiles, vertices, minimal): (u32, u32, bool),
-) -> Result<String, AllocError> {
-    let mut text = String::new(alloc);
-    for (line, told) in all.lines().zip(info.lines()) {
-        if is_within(told, tiles, vertices, minimal) {
-            text.push_str(unnumbered(line))?;
-            text.push_str("\n")?;
-        }
-    }
-    Ok(text)
-}
-
-fn without_numbers(alloc: Global, lines: &str) -> Result<String, AllocError> {
-    let mut text = String::new(alloc);
-    for line in lines.lines() {
-        text.push_str(unnumbered(line))?;
-        text.push_str("\n")?;
-    }
-    Ok(text)
-}
-
 /// The words of a request of three chambers.
 fn request_words(
     alloc: Global,
@@ -176,40 +120,101 @@ fn request_words(
     Ok(words)
 }
 
-/// With limits, of three chambers, those symbols of the whole catalogue are written of which `info` tells so many
-/// tiles and vertices, and that they are minimal where that is asked for.
-fn try_limits<R: Threads + Wait + Sync + Abort>(
+/// What the program writes of three chambers with limits, where 0 sets none.
+fn searched<R: Threads + Wait + Sync + Abort>(
     rt: &R,
     alloc: Global,
-    minimal: bool,
-) -> Result<(), AllocError> {
-    let all = written(rt, alloc, &["catalogue", "3"], "")?;
-    let info = written(rt, alloc, &["info", "f"], text_of(&all))?;
-    for number in 0..16u32 {
-        let limits = (number % 4, number / 4, minimal);
-        let texts = request_words(alloc, limits)?;
-        let mut words = Vec::new(alloc);
-        for text in &texts {
-            words.push(text.as_str())?;
-        }
-        let out = written(rt, alloc, &words, "")?;
-        let own = without_numbers(alloc, text_of(&out))?;
-        let expected = picked(alloc, text_of(&all), text_of(&info), limits)?;
-        assert_eq!(rt; own.as_str(), expected.as_str());
+    limits: (u32, u32, bool),
+) -> Result<SureSink, Fail> {
+    let texts = request_words(alloc, limits)?;
+    let mut words = Vec::new(alloc);
+    for text in &texts {
+        words.push(text.as_str())?;
+    }
+    Ok(written(rt, alloc, &words, "")?)
+}
+
+/// The lines of the symbols of three chambers with limits, found by the plain filter.
+fn filtered<R: Abort>(
+    rt: &R,
+    alloc: Global,
+    (tiles, vertices, minimal): (u32, u32, bool),
+) -> Result<Vec<u8>, Fail> {
+    let request = Request {
+        chambers: 3,
+        tiles,
+        vertices,
+        faces: Allowed::least(3),
+        degrees: Allowed::least(3),
+        minimal,
+    };
+    assert!(rt; request.is_valid());
+    let members = plain_catalogue(alloc, &request)?;
+    let mut text = Vec::new(alloc);
+    put_lines(&mut text, 0, &members)?;
+    Ok(text)
+}
+
+// With any limits the search finds the symbols of three chambers that a plain filter over everything finds.
+#[test]
+fn limits(rt: HostRuntime) -> Result<(), Fail> {
+    let alloc = rt.alloc();
+    for number in 0..32u32 {
+        let limits = (number % 4, number / 4 % 4, number >= 16);
+        let out = searched(&rt, alloc, limits)?;
+        let expected = filtered(&rt, alloc, limits)?;
+        assert_eq!(rt; out.held(), expected.as_slice(), "{limits:?}");
     }
     Ok(())
 }
 
+/// How many lines the program writes, each for one symbol.
+fn line_count<R: Threads + Wait + Sync + Abort>(
+    rt: &R,
+    alloc: Global,
+    words: &[&str],
+) -> Result<usize, Fail> {
+    let out = written(rt, alloc, words, "")?;
+    match std::str::from_utf8(out.held()) {
+        Ok(text) => Ok(text.lines().count()),
+        Err(_) => Err("a text".into()),
+    }
+}
+
+// Numbers of chambers, and how many symbols have at most so many.
 #[test]
-fn limits(rt: HostRuntime) -> Result<(), Fail> {
-    let alloc = rt.alloc();
-    try_limits(&rt, alloc, false)?;
+fn counts(rt: HostRuntime) -> Result<(), Fail> {
+    for (chambers, count) in [
+        ("8", 445),
+        ("9", 630),
+        ("10", 1157),
+        ("11", 1663),
+        ("12", 3236),
+        ("13", 4811),
+        ("14", 9038),
+    ] {
+        let found = line_count(&rt, rt.alloc(), &["catalogue", chambers])?;
+        assert_eq!(rt; found, count, "at {chambers}");
+    }
     Ok(())
 }
 
+// The words of a catalogue with limits, and how many symbols it has.
 #[test]
-fn limits_of_minimal_symbols(rt: HostRuntime) -> Result<(), Fail> {
-    let alloc = rt.alloc();
-    try_limits(&rt, alloc, true)?;
+fn counts_within_limits(rt: HostRuntime) -> Result<(), Fail> {
+    let rows: [(&[&str], usize); 8] = [
+        (&["catalogue", "8", "--minimal"], 270),
+        (&["catalogue", "9", "--minimal"], 444),
+        (&["catalogue", "10", "--minimal"], 879),
+        (&["catalogue", "11", "--minimal"], 1385),
+        (&["catalogue", "12", "--minimal"], 2638),
+        (&["catalogue", "12", "--tiles", "1"], 93),
+        (&["catalogue", "12", "--vertices", "1"], 93),
+        (&["catalogue", "24", "--tiles", "2"], 1363),
+    ];
+    for (words, count) in rows {
+        let found = line_count(&rt, rt.alloc(), words)?;
+        assert_eq!(rt; found, count, "{words:?}");
+    }
     Ok(())
 }

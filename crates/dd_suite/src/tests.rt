@@ -33,10 +33,11 @@ pub(crate) fn run_words<R: Threads + Wait + Sync, S: Store, O: Sink>(
 #[test]
 fn words_that_are_not_taken(rt: HostRuntime) -> Result<(), Fail> {
     let alloc = rt.alloc();
-    let rows: [&[&str]; 14] = [
+    let rows: [&[&str]; 15] = [
         &[],
         &["catalogue"],
-        &["catalogue", "4"],
+        &["catalogue", "0"],
+        &["catalogue", "37"],
         &["catalogue", "2", "2"],
         &["catalogue", "2", "--min"],
         &["catalogue", "2", "--workers", "2"],

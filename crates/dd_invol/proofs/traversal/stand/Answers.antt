@@ -18,9 +18,11 @@ returns-then-number-prefix-clause-beaten c _ =
     let m = c.meet-number.ensures.meeting in
     let within = c.known-image.ensures.within in
     let some = c.if-image-eq0.false in
+    let row = i.row in
     let low : u / 3 < length xs = omega arith in
     let read : image ≡ op P (index_at (u % 3)) (get_or xs (u / 3) 0) =
-    c.known-image.ensures.image ∙ ap (λ j. op P j (get_or c.deref.result.now (u / 3) 0)) c.index_at.ensures ∙ ap (λ zs. op P (index_at (u % 3)) (get_or zs (u / 3) 0)) c.deref.ensures.0 in
+    c.known-image.ensures.image ∙ ap (λ j. op P j (get_or c.deref.result.now c.loop-place.row 0)) i.index ∙ ap (λ r. op P (index_at (u % 3)) (get_or c.deref.result.now r 0)) i.row
+    ∙ ap (λ zs. op P (index_at (u % 3)) (get_or zs (u / 3) 0)) c.deref.ensures.0 in
     let at = met_at P xs ys number u image k low m read some in
     beats_here P c.args.prefix.now xs ys number u image k 36 at i.reads c.meet-number.ensures.visiting.visit
     (inside_met P.size xs ys number image k m i.inside (omega arith, within)) (omega arith) c.if-number-prefix.true
@@ -38,12 +40,16 @@ loop-place-preserved c =
     let m = c.meet-number.ensures.meeting in
     let within = c.known-image.ensures.within in
     let some = c.if-image-eq0.false in
+    let row = i.row in
     let low : u / 3 < length xs = omega arith in
     let read : image ≡ op P (index_at (u % 3)) (get_or xs (u / 3) 0) =
-    c.known-image.ensures.image ∙ ap (λ j. op P j (get_or c.deref.result.now (u / 3) 0)) c.index_at.ensures ∙ ap (λ zs. op P (index_at (u % 3)) (get_or zs (u / 3) 0)) c.deref.ensures.0 in
+    c.known-image.ensures.image ∙ ap (λ j. op P j (get_or c.deref.result.now c.loop-place.row 0)) i.index ∙ ap (λ r. op P (index_at (u % 3)) (get_or c.deref.result.now r 0)) i.row
+    ∙ ap (λ zs. op P (index_at (u % 3)) (get_or zs (u / 3) 0)) c.deref.ensures.0 in
     let at = met_at P xs ys number u image k low m read some in
     record {
       visiting = c.meet-number.ensures.visiting;
       inside = inside_met P.size xs ys number image k m i.inside (omega arith, within);
       reads = reads_more P c.args.prefix.now xs ys number u image k at i.reads (omega arith);
+      row = c.row_after-row.ensures u i.row i.index;
+      index = c.index_after-i.ensures u i.index;
     }
