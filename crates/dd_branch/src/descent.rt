@@ -211,3 +211,15 @@ impl Leaves for Descent {
         Ok(())
     }
 }
+
+#[cfg(test)]
+impl Descent {
+    ghost use Rattle.dd_invol.specs.Rows.{depth_of};
+
+    /// How many images are known in the table.
+    pub(crate) fn known(&self) -> usize
+        ensures { result ≡ depth_of self.now.stem.rows }
+    {
+        self.stem.mark()
+    }
+}

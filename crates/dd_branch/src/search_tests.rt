@@ -1,5 +1,4 @@
-ghost use Rattle.std.specs.Prelude.{◌≡◌, ◌*◌, ◌<◌, ◌≤◌, length};
-ghost use Rattle.dd_invol.specs.Stem.{prefix_of, size_of};
+ghost use Rattle.std.specs.Prelude.{◌≡◌};
 ghost use Rattle.dd_branch.specs.Descent.{IsDescent};
 
 use crate::tests::{asked, have_codes};
@@ -76,17 +75,6 @@ fn a_job_is_split(rt: HostRuntime) -> Result<(), Fail> {
     Ok(())
 }
 
-/// Whether several numbers may come next. Where the next follows from others it is the only one.
-fn has_choice(descent: &Descent) -> bool
-    requires descent { IsDescent descent.now }
-    requires room { length (prefix_of descent.now.stem) < 3 * size_of descent.now.stem }
-{
-    match descent.next_from(0) {
-        Some(number) => descent.next_from(number + 1).is_some(),
-        None => false,
-    }
-}
-
 /// How many numbers a search puts in after its prefix, without those that follow from others.
 fn count_nodes(descent: &mut Descent) -> u64
     requires { IsDescent descent.old }
@@ -96,14 +84,15 @@ fn count_nodes(descent: &mut Descent) -> u64
         return 0;
     }
     let mark = descent.mark();
-    let choice = u64::from(has_choice(descent));
+    let known = descent.known();
     let mut count = 0u64;
     let mut k = 0;
     while let Some(number) = descent.next_from(k) {
         if descent.enter(number) {
-            count = count_nodes(descent)
-                .saturating_add(choice)
-                .saturating_add(count);
+            if descent.known() > known {
+                count = count.saturating_add(1);
+            }
+            count = count.saturating_add(count_nodes(descent));
             descent.leave(mark);
         }
         k = number + 1;
