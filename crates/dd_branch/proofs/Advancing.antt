@@ -32,11 +32,11 @@ grown_sums a b number is size parts longer sums =
     let before = is.sums.count in
     let images = is.images in
     let kept : (j : ℕ) → j ≤ told a → get_or b.sums.items j 0 ≡ get_or a.sums.items j 0 = λ j low.
-        ap (λ xs. get_or xs j 0) sums ∙ get_or_append_left a.sums.items (sum ∷ []) 0 j (omega (arith, low, before)) in
+    ap (λ xs. get_or xs j 0) sums ∙ get_or_append_left a.sums.items (sum ∷ []) 0 j (omega (arith, low, before)) in
     let own : (j : ℕ) → get_or b.parts (get_or (prefix_of b) (3 * b.size + j) 0) 0 ≡ get_or a.parts (get_or (prefix_of a ++ number ∷ []) (3 * a.size + j) 0) 0 = λ j.
-        ap (λ xs. get_or xs (get_or (prefix_of b) (3 * b.size + j) 0) 0) parts
-        ∙ ap (λ xs. get_or a.parts (get_or xs (3 * b.size + j) 0) 0) longer
-        ∙ ap (λ n. get_or a.parts (get_or (prefix_of a ++ number ∷ []) (3 * n + j) 0) 0) size in
+    ap (λ xs. get_or xs (get_or (prefix_of b) (3 * b.size + j) 0) 0) parts
+    ∙ ap (λ xs. get_or a.parts (get_or xs (3 * b.size + j) 0) 0) longer
+    ∙ ap (λ n. get_or a.parts (get_or (prefix_of a ++ number ∷ []) (3 * n + j) 0) 0) size in
     record {
       count = omega (arith, count, before, long, size, images);
       none = kept 0 (omega arith) ∙ is.sums.none;

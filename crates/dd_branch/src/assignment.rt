@@ -85,7 +85,7 @@ impl Assignment {
     }
 
     /// At least the sum of WHOLE divided by the degree over all places, and so at least half of
-    /// WHOLE for each chamber where the curvature is 0. Each part is less by at most 1.
+    /// WHOLE for each chamber where the curvature is 0. A part is rounded down, so 1 more is enough.
     fn upper_sum(&self) -> u64
         requires { IsAssignment self.now }
         ensures flat { (s : Tiling) → IsUnder (IsMember self.now.request) self.now.size (prefix_of self.now) s → self.now.size * WHOLE ≤ 2 * result }
