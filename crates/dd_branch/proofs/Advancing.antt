@@ -1,6 +1,7 @@
 -- How an assignment goes on by a number.
-use Rattle.std.proofs.Common.{◌≡◌, ℕ, ◌+◌, ◌*◌, ◌<◌, ◌≤◌, Option, None, Some, MatchOption, List, [], ◌∷◌, ◌++◌, length, get_or, refl, sym, ap, ◌∙◌, subst, inr, ⊎_elim, arith}
+use Rattle.std.proofs.Common.{◌≡◌, ℕ, ◌+◌, ◌-◌, ◌*◌, ◌<◌, ◌≤◌, Option, None, Some, MatchOption, List, [], ◌∷◌, ◌++◌, length, get_or, take, refl, sym, ap, ◌∙◌, subst, inr, ⊎_elim, arith}
 use Rattle.std.proofs.Math.Nat.{mul-le-mul_right}
+use Rattle.std.proofs.Math.Seq.{take-append_seam}
 use Rattle.std.proofs.lemmas.Bool.{cases_lt}
 use Rattle.std.proofs.lemmas.List.{length_push, get_or_push, get_or_append_left}
 use Rattle.std.specs.List.{Contains}
@@ -13,17 +14,56 @@ use Rattle.dd_invol.specs.Under.{IsUnder, AreUnder, HasNoNumberFrom, SkipsTo, Ap
 use Rattle.dd_invol.proofs.Prefixes.{shortened}
 use Rattle.dd_branch.specs.Choice.{IsChoice, HasNoChoiceFrom, IsLeastChoice}
 use Rattle.dd_branch.specs.Parts.{AreParts}
-use Rattle.dd_branch.specs.Assignment.{IsAssignment, IsSound, Fits, degree_at, prefix_of, told}
+use Rattle.dd_branch.specs.Rests.{AreRests}
+use Rattle.dd_branch.specs.Assignment.{IsAssignment, AreSums, IsSound, Fits, degree_at, prefix_of, told}
 use Rattle.dd_branch.specs.declared.assignment.Assignment.{Assignment}
 use Rattle.dd_branch.specs.declared.places.Place.{Place}
 use Rattle.dd_branch.proofs.Assigned.{code_degree, told_degree}
 use Rattle.dd_branch.proofs.Choices.{value_of}
 use Rattle.dd_branch.proofs.Leaves.{symbol_of_prefix}
 
+-- the sum of the parts goes on by the part of the number
+grown_sums : (a b : Assignment) (number : ℕ) → IsAssignment a → b.size ≡ a.size → b.parts ≡ a.parts → prefix_of b ≡ prefix_of a ++ number ∷ []
+    → b.sums.items ≡ a.sums.items ++ (get_or a.sums.items (told a) 0 + get_or a.parts number 0) ∷ [] → AreSums b
+grown_sums a b number is size parts longer sums =
+    let sum = get_or a.sums.items (told a) 0 + get_or a.parts number 0 in
+    let long : length (prefix_of b) ≡ length (prefix_of a) + 1 = ap length longer ∙ length_push (prefix_of a) number in
+    let count : length b.sums.items ≡ length a.sums.items + 1 = ap length sums ∙ length_push a.sums.items sum in
+    let before = is.sums.count in
+    let images = is.images in
+    let kept : (j : ℕ) → j ≤ told a → get_or b.sums.items j 0 ≡ get_or a.sums.items j 0 = λ j low.
+    ap (λ xs. get_or xs j 0) sums ∙ get_or_append_left a.sums.items (sum ∷ []) 0 j (omega (arith, low, before)) in
+    let own : (j : ℕ) → get_or b.parts (get_or (prefix_of b) (3 * b.size + j) 0) 0 ≡ get_or a.parts (get_or (prefix_of a ++ number ∷ []) (3 * a.size + j) 0) 0 = λ j.
+    ap (λ xs. get_or xs (get_or (prefix_of b) (3 * b.size + j) 0) 0) parts
+    ∙ ap (λ xs. get_or a.parts (get_or xs (3 * b.size + j) 0) 0) longer
+    ∙ ap (λ n. get_or a.parts (get_or (prefix_of a ++ number ∷ []) (3 * n + j) 0) 0) size in
+    record {
+      count = omega (arith, count, before, long, size, images);
+      none = kept 0 (omega arith) ∙ is.sums.none;
+      each = λ j low. ⊎_elim
+          (λ early.
+          let part = ap (λ m. get_or a.parts m 0) (get_or_append_left (prefix_of a) (number ∷ []) 0 (3 * a.size + j) (omega (arith, early))) in
+          let step = is.sums.each j early in
+          let next = kept (j + 1) (omega (arith, early)) in
+          let here = kept j (omega (arith, early)) in
+          let same = own j in
+          omega (arith, next, here, step, same, part))
+          (λ late.
+          let at : j ≡ told a = omega (arith, late, low, long, size, images) in
+          let end : length a.sums.items ≡ j + 1 = omega (arith, at, before) in
+          let next : get_or b.sums.items (j + 1) 0 ≡ sum = ap (λ xs. get_or xs (j + 1) 0) sums ∙ get_or_push a.sums.items sum 0 (j + 1) end in
+          let here = kept j (omega (arith, at)) ∙ ap (λ k. get_or a.sums.items k 0) at in
+          let part = ap (λ m. get_or a.parts m 0) (get_or_push (prefix_of a) number 0 (3 * a.size + j) (omega (arith, at, images))) in
+          let same = own j in
+          omega (arith, next, here, same, part))
+          (cases_lt j (told a));
+    }
+
 -- a number more
 pub grown : (a b : Assignment) (number : ℕ) → IsAssignment a → length (prefix_of a) < 5 * a.size → number ≤ 216
-    → b.request ≡ a.request → b.size ≡ a.size → b.parts ≡ a.parts → b.places ≡ a.places → prefix_of b ≡ prefix_of a ++ number ∷ [] → IsAssignment b
-grown a b number is room small request size parts places longer =
+    → b.request ≡ a.request → b.size ≡ a.size → b.parts ≡ a.parts → b.places ≡ a.places → b.rests ≡ a.rests → prefix_of b ≡ prefix_of a ++ number ∷ []
+    → b.sums.items ≡ a.sums.items ++ (get_or a.sums.items (told a) 0 + get_or a.parts number 0) ∷ [] → IsAssignment b
+grown a b number is room small request size parts places rests longer sums =
     let long : length (prefix_of b) ≡ length (prefix_of a) + 1 = ap length longer ∙ length_push (prefix_of a) number in
     let items = ap (λ p. p.items) places in
     let images = is.images in
@@ -40,6 +80,8 @@ grown a b number is room small request size parts places longer =
           (cases_lt t (length (prefix_of a))));
       parts = subst AreParts (sym parts) is.parts;
       places = ap length items ∙ is.places ∙ ap (λ n. 2 * n) (sym size);
+      rests = subst (λ xs. AreRests xs b.rests) (sym items) (subst (AreRests a.places.items) (sym rests) is.rests);
+      sums = grown_sums a b number is size parts longer sums;
       sound = λ j low x. subst (λ xs. IsSound j (get_or xs j x)) (sym items) (is.sound j (omega (arith, low, size)) x);
       fits = λ s under j low x.
           let here : IsUnder (IsMember a.request) a.size (prefix_of a ++ number ∷ []) s =
@@ -50,6 +92,24 @@ grown a b number is room small request size parts places longer =
           (subst (λ xs. Fits a.request s j (get_or xs j x)) (sym items)
           (is.fits s (shortened (IsMember a.request) a.size (prefix_of a) number s here).0 j (omega (arith, low, size)) x));
     }
+
+-- the assignment with other numbers and sums
+abbrev pub with_lists : Assignment → List ℕ → List ℕ → Assignment
+with_lists a prefix sums = record { alloc = a.alloc; request = a.request; size = a.size; parts = a.parts; places = a.places; rests = a.rests; prefix = record { items = prefix }; sums = record { items = sums } }
+
+-- what was put in last is taken away
+pub ungrown : (a : Assignment) (prefix sums : List ℕ) (number sum : ℕ) → IsAssignment a → prefix ≡ prefix_of a ++ number ∷ [] → sums ≡ a.sums.items ++ sum ∷ []
+    → with_lists a (take (length (prefix_of a)) prefix) (take (length (prefix_of a) - 3 * a.size + 1) sums) ≡ a
+ungrown a prefix sums number sum is longer more =
+    let mark = length (prefix_of a) in
+    let count : told a + 1 ≡ length a.sums.items = sym is.sums.count in
+    let numbers : take mark prefix ≡ prefix_of a = ap (take mark) longer ∙ take-append_seam (prefix_of a) (number ∷ []) in
+    let kept : take (mark - 3 * a.size + 1) sums ≡ a.sums.items =
+    ap (take (mark - 3 * a.size + 1)) more ∙ ap (λ k. take k (a.sums.items ++ sum ∷ [])) count ∙ take-append_seam a.sums.items (sum ∷ []) in
+    let first : with_lists a (take mark prefix) (take (mark - 3 * a.size + 1) sums) ≡ with_lists a (prefix_of a) (take (mark - 3 * a.size + 1) sums) =
+    ap (λ xs. with_lists a xs (take (mark - 3 * a.size + 1) sums)) numbers in
+    let second : with_lists a (prefix_of a) (take (mark - 3 * a.size + 1) sums) ≡ a = ap (λ xs. with_lists a (prefix_of a) xs) kept in
+    first ∙ second
 
 -- ## The next number
 

@@ -1,5 +1,5 @@
 -- What a table tells of the degrees of each member with its involutions.
-use Rattle.std.proofs.Common.{◌≡◌, ℕ, ◌+◌, ◌-◌, ◌*◌, ◌<◌, ◌≤◌, List, [], length, length-take-le, get_or, take, sym, ap, ◌∙◌, subst, ⊎_elim, arith}
+use Rattle.std.proofs.Common.{◌≡◌, ℕ, ◌+◌, ◌-◌, ◌*◌, ◌<◌, ◌≤◌, List, [], ◌∷◌, length, length-take-le, get_or, take, sym, ap, ◌∙◌, subst, ⊎_elim, arith}
 use Rattle.std.proofs.lemmas.Bool.{cases_lt}
 use Rattle.std.proofs.lemmas.List.{get_or_append_left, get_or-append_right, get_or-take}
 use Rattle.dd_model.specs.declared.allowed.Allowed.{Allowed}
@@ -24,6 +24,7 @@ use Rattle.dd_invol.proofs.TableFronts.{front_same, front_begins, begins_with_ta
 use Rattle.dd_branch.specs.Choice.{IsChoice}
 use Rattle.dd_branch.specs.Parts.{whole, AreParts}
 use Rattle.dd_branch.specs.Place.{IsPlaceOf, HasPlaces}
+use Rattle.dd_branch.specs.Rests.{AreRests}
 use Rattle.dd_branch.specs.Assignment.{IsBeginning, IsSound, Fits, degree_at, prefix_of}
 use Rattle.dd_branch.specs.Members.{AreMembersWith}
 use Rattle.dd_branch.specs.declared.assignment.Assignment.{Assignment}
@@ -133,9 +134,20 @@ front_small t is small prefix front u low =
     let high = (chamber_at t is u low).1 in
     omega (arith, e, high, small)
 
-pub beginning : (q : Request) (t : Symbol) → IsSymbol t → t.size ≤ 36 → (a : Assignment) → a.request ≡ q → a.size ≡ t.size → prefix_of a ≡ take (3 * t.size) (code t) → AreParts a.parts
+pub sound_places : (q : Request) (t : Symbol) (mid new : List Place) → HasPlaces t q.faces Tile [] mid → HasPlaces t q.degrees Vertex mid new → (j : ℕ) → j < 2 * t.size → (x : Place) → IsSound j (get_or new j x)
+sound_places q t mid new tiles vertices j low x =
+    let first = tiles.longer in
+    ⊎_elim
+    (λ early. sound_of t q.faces Tile 0 (j + 1) j (get_or new j x) (tile_place q t mid new tiles vertices j early x) (omega arith))
+    (λ late. sound_of t q.degrees Vertex (length mid) (j - t.size + 1) j (get_or new j x) (vertex_place q t mid new tiles vertices j late low x) (omega (arith, late, first)))
+    (cases_lt j t.size)
+
+pub both_lengths : (q : Request) (t : Symbol) (mid new : List Place) → HasPlaces t q.faces Tile [] mid → HasPlaces t q.degrees Vertex mid new → length new ≡ 2 * t.size
+both_lengths q t mid new tiles vertices = let first = tiles.longer in let both = vertices.longer in omega (arith, first, both)
+
+pub beginning : (q : Request) (t : Symbol) → IsSymbol t → t.size ≤ 36 → (a : Assignment) → a.request ≡ q → a.size ≡ t.size → prefix_of a ≡ take (3 * t.size) (code t) → AreParts a.parts → AreRests a.places.items a.rests → a.sums.items ≡ 0 ∷ []
     → (mid : List Place) → HasPlaces t q.faces Tile [] mid → HasPlaces t q.degrees Vertex mid a.places.items → IsBeginning q t a
-beginning q t is small a request size front parts mid tiles vertices =
+beginning q t is small a request size front parts rests sums mid tiles vertices =
     let some = is.table.chambers in
     let whole = length-code t is.table in
     let count : length (prefix_of a) ≡ 3 * t.size = ap length front ∙ length-take-le (3 * t.size) (code t) (omega (arith, whole)) in
@@ -155,11 +167,13 @@ beginning q t is small a request size front parts mid tiles vertices =
         numbers = λ u low. front_small t is.table small (prefix_of a) front u (omega (arith, low, count));
         parts = parts;
         places = omega (arith, first, both, size);
-        sound = λ j low x. ⊎_elim
-            (λ early. sound_of t q.faces Tile 0 (j + 1) j (get_or a.places.items j x) (tile_place q t mid a.places.items tiles vertices j early x) (omega arith))
-            (λ late. sound_of t q.degrees Vertex (length mid) (j - t.size + 1) j (get_or a.places.items j x)
-            (vertex_place q t mid a.places.items tiles vertices j late (omega (arith, low, size)) x) (omega (arith, late, first)))
-            (cases_lt j t.size);
+        rests = rests;
+        sums = record {
+          count = let one = ap length sums in omega (arith, one, count, size);
+          none = ap (λ xs. get_or xs 0 0) sums;
+          each = λ j low. absurd (omega (arith, low, count, size));
+        };
+        sound = λ j low x. sound_places q t mid a.places.items tiles vertices j (omega (arith, low, size)) x;
         fits = λ s under j low x.
             let member : IsMember q s = subst (λ r. IsMember r s) request under.wanted in
             let own = under.size in

@@ -4,6 +4,8 @@ pub mod Roots
 pub mod Assigned
 pub mod Leaves
 pub mod Placed
+pub mod RestSums
+pub mod KeptSums
 pub mod Advancing
 pub mod Beginnings
 pub mod Descents

@@ -1,5 +1,5 @@
 -- How far a search for the degrees of a table has come.
-use Rattle.std.specs.Prelude.{◌≡◌, ℕ, ◌-◌, ◌*◌, ◌<◌, ◌≤◌, List, ◌++◌, length, take, slice_index, slice_index_or}
+use Rattle.std.specs.Prelude.{◌≡◌, ℕ, ◌+◌, ◌-◌, ◌*◌, ◌<◌, ◌≤◌, List, ◌++◌, length, take, slice_index, slice_index_or}
 use Rattle.dd_model.specs.declared.requests.Request.{Request}
 use Rattle.dd_model.specs.Symbol.{Symbol}
 use Rattle.dd_model.specs.Lists.{Begins}
@@ -8,6 +8,7 @@ use Rattle.dd_model.specs.Wanted.{IsMember}
 use Rattle.dd_invol.specs.Under.{IsUnder}
 use Rattle.dd_branch.specs.Choice.{IsChoice}
 use Rattle.dd_branch.specs.Parts.{whole, AreParts}
+use Rattle.dd_branch.specs.Rests.{AreRests}
 use Rattle.dd_branch.specs.declared.places.Place.{Place}
 use Rattle.dd_branch.specs.declared.assignment.Assignment.{Assignment}
 
@@ -25,7 +26,16 @@ told a = length (prefix_of a) - 3 * a.size
 
 -- the assignment with no more than so many numbers
 abbrev pub shortened : Assignment → ℕ → Assignment
-shortened a mark = record { alloc = a.alloc; request = a.request; size = a.size; parts = a.parts; places = a.places; prefix = record { items = take mark a.prefix.items } }
+shortened a mark = record {
+  alloc = a.alloc;
+  request = a.request;
+  size = a.size;
+  parts = a.parts;
+  places = a.places;
+  rests = a.rests;
+  prefix = record { items = take mark a.prefix.items };
+  sums = record { items = take (mark - 3 * a.size + 1) a.sums.items };
+}
 
 -- What is said of a place holds of the degree that a symbol has there.
 pub record Fits (q : Request) (s : Symbol) (j : ℕ) (x : Place) : Type 0 where
@@ -42,6 +52,12 @@ pub record IsSound (j : ℕ) (x : Place) : Type 0 where
   pub most : x.most ≤ whole
   pub least : x.least ≤ whole
 
+-- At each place, the sum of the parts of the degrees that are told before it.
+pub record AreSums (a : Assignment) : Type 0 where
+  pub count : length a.sums.items ≡ told a + 1
+  pub none : slice_index a.sums.items 0 ≡ 0
+  pub each : (j : ℕ) → j < told a → slice_index a.sums.items (j + 1) ≡ slice_index a.sums.items j + slice_index a.parts (slice_index (prefix_of a) (3 * a.size + j))
+
 -- The prefix tells all images, and maybe some degrees. What is said of the places holds of each member under it.
 pub record IsAssignment (a : Assignment) : Type 0 where
   pub positive : 1 ≤ a.size
@@ -51,6 +67,8 @@ pub record IsAssignment (a : Assignment) : Type 0 where
   pub numbers : (t : ℕ) → t < length (prefix_of a) → slice_index (prefix_of a) t ≤ 216
   pub parts : AreParts a.parts
   pub places : length a.places.items ≡ 2 * a.size
+  pub rests : AreRests a.places.items a.rests
+  pub sums : AreSums a
   pub sound : (j : ℕ) → j < 2 * a.size → (x : Place) → IsSound j (slice_index_or a.places.items j x)
   pub fits : (s : Symbol) → IsUnder (IsMember a.request) a.size (prefix_of a) s → (j : ℕ) → j < 2 * a.size → (x : Place) → Fits a.request s j (slice_index_or a.places.items j x)
 

@@ -1,6 +1,7 @@
 pub mod Parts
 pub mod Choice
 pub mod Place
+pub mod Rests
 pub mod Assignment
 pub mod Members
 pub mod Descent

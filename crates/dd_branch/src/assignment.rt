@@ -6,10 +6,11 @@ ghost use Rattle.dd_model.specs.Wanted.{IsMember};
 ghost use Rattle.dd_symbol.specs.Table.{column, part, symbol_with};
 ghost use Rattle.dd_symbol.specs.Building.{given, HaveOneLength, IsAccepted};
 ghost use Rattle.dd_invol.specs.Under.{HasNothingUnder, IsUnder};
-ghost use Rattle.dd_branch.specs.Assignment.{IsAssignment, IsBeginning, degree_at, prefix_of, told};
+ghost use Rattle.dd_branch.specs.Assignment.{IsAssignment, IsBeginning, prefix_of, shortened, told};
 
 use crate::parts::{WHOLE, parts};
 use crate::places::{Place, add_places, least_choice};
+use crate::rests::Rests;
 use arrayvec::ArrayVec;
 use dd_canon::is_least;
 use dd_invol::{Leaves, Tests};
@@ -30,8 +31,12 @@ pub(crate) struct Assignment {
     parts: [u64; 217],
     /// What the table tells of each degree.
     places: ArrayVec<Place, 72>,
+    /// The sums of the shares from each place on.
+    rests: Rests,
     /// The numbers of the code.
     prefix: ArrayVec<u8, 180>,
+    /// The sums of the parts of the first degrees, from that of none to that of all that are told.
+    sums: ArrayVec<u64, 73>,
 }
 
 /// The symbol with these lists, if they have at most 36 chambers and are one.
@@ -70,53 +75,24 @@ impl Assignment {
         self.prefix.len() - 3 * self.size as usize
     }
 
-    /// WHOLE divided by a degree that is told, rounded down.
-    fn part_at(&self, place: usize) -> u64
-        requires ready { IsAssignment self.now }
-        requires inside { place < told self.now }
-        ensures { result ≡ slice_index self.now.parts (slice_index (prefix_of self.now) (3 * self.now.size + place)) }
+    /// The sum of the parts of all degrees that are told.
+    fn sum(&self) -> u64
+        requires { IsAssignment self.now }
+        ensures is { result ≡ slice_index self.now.sums.items (told self.now) }
+        ensures small { result ≤ 72 * WHOLE }
     {
-        self.parts[self.prefix.as_slice()[3 * self.size as usize + place] as usize]
-    }
-
-    /// At least WHOLE divided by the degree at a place.
-    fn upper_at(&self, place: usize) -> u64
-        requires ready { IsAssignment self.now }
-        requires inside { place < 2 * self.now.size }
-        ensures share { (s : Tiling) → IsUnder (IsMember self.now.request) self.now.size (prefix_of self.now) s → WHOLE ≤ result * degree_at s place }
-        ensures small { result ≤ WHOLE + 1 }
-    {
-        if place < self.told() {
-            return self.part_at(place) + 1;
-        }
-        self.place(place).most
-    }
-
-    /// At most WHOLE divided by the degree at a place.
-    fn lower_at(&self, place: usize) -> u64
-        requires ready { IsAssignment self.now }
-        requires inside { place < 2 * self.now.size }
-        ensures share { (s : Tiling) → IsUnder (IsMember self.now.request) self.now.size (prefix_of self.now) s → result * degree_at s place ≤ WHOLE }
-        ensures small { result ≤ WHOLE }
-    {
-        if place < self.told() {
-            return self.part_at(place);
-        }
-        self.place(place).least
+        self.sums.as_slice()[self.told()]
     }
 
     /// At least the sum of WHOLE divided by the degree over all places, and so at least half of
-    /// WHOLE for each chamber where the curvature is 0.
+    /// WHOLE for each chamber where the curvature is 0. A part is rounded down, so 1 more is enough.
     fn upper_sum(&self) -> u64
         requires { IsAssignment self.now }
         ensures flat { (s : Tiling) → IsUnder (IsMember self.now.request) self.now.size (prefix_of self.now) s → self.now.size * WHOLE ≤ 2 * result }
-        ensures small { result ≤ 72 * (WHOLE + 1) }
+        ensures small { result ≤ 145 * WHOLE }
     {
-        let mut sum = 0;
-        for place in 0..2 * self.size as usize {
-            sum += self.upper_at(place);
-        }
-        sum
+        let told = self.told();
+        self.sum() + told as u64 + self.rests.most[told]
     }
 
     /// At most the sum of WHOLE divided by the degree over all places, and so at most half of
@@ -124,13 +100,35 @@ impl Assignment {
     fn lower_sum(&self) -> u64
         requires { IsAssignment self.now }
         ensures flat { (s : Tiling) → IsUnder (IsMember self.now.request) self.now.size (prefix_of self.now) s → 2 * result ≤ self.now.size * WHOLE }
-        ensures small { result ≤ 72 * WHOLE }
+        ensures small { result ≤ 144 * WHOLE }
     {
-        let mut sum = 0;
-        for place in 0..2 * self.size as usize {
-            sum += self.lower_at(place);
-        }
-        sum
+        self.sum() + self.rests.least[self.told()]
+    }
+
+    /// Tells one more degree.
+    fn push(&mut self, number: u8)
+        requires ready { IsAssignment self.old }
+        requires room { length (prefix_of self.old) < 5 * self.old.size }
+        requires small { number ≤ 216 }
+        ensures is { IsAssignment self.new }
+        ensures longer { prefix_of self.new ≡ prefix_of self.old ++ number ∷ [] }
+        ensures request { self.new.request ≡ self.old.request }
+        ensures size { self.new.size ≡ self.old.size }
+        ensures undone { shortened self.new (length (prefix_of self.old)) ≡ self.old }
+    {
+        let sum = self.sum() + self.parts[number as usize];
+        self.prefix.push(number);
+        self.sums.push(sum);
+    }
+
+    /// Takes numbers away until there are so many.
+    fn shorten(&mut self, mark: usize)
+        requires ready { IsAssignment self.old }
+        requires images { 3 * self.old.size ≤ mark }
+        ensures { self.new ≡ shortened self.old mark }
+    {
+        self.prefix.truncate(mark);
+        self.sums.truncate(mark - 3 * self.size as usize + 1);
     }
 
     /// The degree that is told at an earlier place of the cell, if it is k or more.
@@ -249,13 +247,17 @@ impl Assignment {
         let mut places = ArrayVec::new();
         add_places(&mut places, symbol, &q.faces, Pair::Tile);
         add_places(&mut places, symbol, &q.degrees, Pair::Vertex);
+        let mut sums = ArrayVec::new();
+        sums.push(0);
         Ok(Assignment {
             alloc,
             request: *q,
             size: symbol.size() as u8,
             parts: parts(),
+            rests: Rests::of(places.as_slice()),
             places,
             prefix,
+            sums,
         })
     }
 }
@@ -302,16 +304,16 @@ impl Tests for Assignment {
 
     fn enter(&mut self, number: u8) -> bool {
         let mark = self.prefix.len();
-        self.prefix.push(number);
+        self.push(number);
         if self.is_dead() {
-            self.prefix.truncate(mark);
+            self.shorten(mark);
             return false;
         }
         true
     }
 
     fn leave(&mut self, mark: usize) {
-        self.prefix.truncate(mark);
+        self.shorten(mark);
     }
 }
 

@@ -8,6 +8,7 @@ mod levels;
 mod members;
 mod parts;
 mod places;
+mod rests;
 mod search;
 
 pub use descent::Descent;

@@ -1,27 +1,27 @@
-use Rattle.std.proofs.Common.{◌*◌, ◌≤◌, ap, arith}
-use Rattle.dd_branch.proofs.FlatShares.{below_more, flat_below}
+use Rattle.std.proofs.Common.{get_or, ap, arith}
+use Rattle.dd_branch.proofs.KeptSums.{below_all, least_rest_small}
 use Rattle.dd_branch.proofs.assignment.Assignment.lower_sum.Goals as goal
-
-pub loop-place-preserved : goal.loop-place-preserved
-loop-place-preserved c =
-    let some = c.lower_at-sum.ensures.small in
-    let small = c.loop-place.invariant.small in
-    let test = c.loop-place-test.true in
-    let end = c.loop-place.auto.place-end in
-    record {
-      small = omega (arith, some, small);
-      parts = λ s under.
-          let size = under.size in
-          below_more s under.wanted.wanted.symbol 1732842634723200 c.loop-place.place c.loop-place.sum c.lower_at-sum.result (omega (arith, test, end, size))
-          (c.lower_at-sum.ensures.share s under) (c.loop-place.invariant.parts s under);
-    }
 
 pub returns-clause-flat : goal.returns-clause-flat
 returns-clause-flat c s under =
-    let test = c.loop-place-test.false in
-    let end = c.loop-place.auto.place-end in
-    let size = under.size in
-    let bound : 2 * c.loop-place.sum ≤ s.size * 1732842634723200 =
-    flat_below s under.wanted.wanted.symbol under.wanted.wanted.flat 1732842634723200 c.loop-place.place c.loop-place.sum (omega (arith, test, end, size)) (c.loop-place.invariant.parts s under) in
-    let same = ap (λ n. n * 1732842634723200) size in
-    omega (arith, bound, same)
+    let a = c.args.self.now in
+    let at = ap (λ k. get_or a.rests.least k 0) c.told.ensures in
+    let sum = c.sum.ensures.is in
+    let all = below_all a c.requires s under in
+    omega (arith, at, sum, all)
+
+pub overflow_add-result : goal.overflow_add-result
+overflow_add-result c =
+    let a = c.args.self.now in
+    let at = ap (λ k. get_or a.rests.least k 0) c.told.ensures in
+    let sum = c.sum.ensures.small in
+    let rest = least_rest_small a c.requires in
+    omega (arith, at, sum, rest)
+
+pub returns-clause-small : goal.returns-clause-small
+returns-clause-small c =
+    let a = c.args.self.now in
+    let at = ap (λ k. get_or a.rests.least k 0) c.told.ensures in
+    let sum = c.sum.ensures.small in
+    let rest = least_rest_small a c.requires in
+    omega (arith, at, sum, rest)
