@@ -202,12 +202,14 @@ fn counts(rt: HostRuntime) -> Result<(), Fail> {
 // The words of a catalogue with limits, and how many symbols it has.
 #[test]
 fn counts_within_limits(rt: HostRuntime) -> Result<(), Fail> {
-    let rows: [(&[&str], usize); 8] = [
+    let rows: [(&[&str], usize); 10] = [
         (&["catalogue", "8", "--minimal"], 270),
         (&["catalogue", "9", "--minimal"], 444),
         (&["catalogue", "10", "--minimal"], 879),
         (&["catalogue", "11", "--minimal"], 1385),
         (&["catalogue", "12", "--minimal"], 2638),
+        (&["catalogue", "13", "--minimal"], 4213),
+        (&["catalogue", "14", "--minimal"], 8060),
         (&["catalogue", "12", "--tiles", "1"], 93),
         (&["catalogue", "12", "--vertices", "1"], 93),
         (&["catalogue", "24", "--tiles", "2"], 1363),
