@@ -1,5 +1,5 @@
 -- Sums over the places from each one on.
-use Rattle.std.specs.Prelude.{◌≡◌, ℕ, ◌+◌, ◌<◌, ◌≤◌, List, length, slice_index, slice_index_or}
+use Rattle.std.specs.Prelude.{◌≡◌, ℕ, ◌+◌, ◌<◌, List, length, slice_index, slice_index_or}
 use Rattle.dd_branch.specs.declared.places.Place.{Place}
 use Rattle.dd_branch.specs.declared.rests.Rests.{Rests}
 

@@ -1,4 +1,4 @@
-use Rattle.std.proofs.Common.{◌≡◌, ℕ, ◌*◌, ◌<◌, ◌≤◌, [], ◌∷◌, ◌++◌, List, length, get_or, refl, sym, ap, ◌∙◌, subst, arith}
+use Rattle.std.proofs.Common.{◌≡◌, ℕ, ◌*◌, ◌<◌, ◌≤◌, [], ◌∷◌, ◌++◌, length, get_or, refl, sym, ap, ◌∙◌, subst, arith}
 use Rattle.dd_model.specs.declared.parts.Pair.TheVariants.{Tile}
 use Rattle.dd_model.specs.Symbol.{IsSymbol}
 use Rattle.dd_branch.specs.Place.{HasPlaces}
