@@ -1,5 +1,5 @@
 -- A descent that grows and is shortened again.
-use Rattle.std.proofs.Common.{◌≡◌, ℕ, zero, suc, ◌+◌, ◌-◌, ◌*◌, ◌≤◌, List, [], ◌∷◌, ◌++◌, length, length-append, get_or, take, refl, sym, ap, ◌∙◌, subst, arith}
+use Rattle.std.proofs.Common.{◌≡◌, ℕ, zero, suc, ◌+◌, ◌-◌, ◌*◌, List, [], ◌∷◌, ◌++◌, length, length-append, get_or, take, refl, sym, ap, ◌∙◌, subst, arith}
 use Rattle.std.proofs.lemmas.Option.{slice_get-get_or}
 use Rattle.std.proofs.lemmas.List.{take_at}
 use Rattle.std.proofs.Math.Seq.{get_or-append_seam}
@@ -12,8 +12,8 @@ use Rattle.dd_model.specs.Wanted.{IsMember}
 use Rattle.dd_model.specs.Jobs.{IsMemberUnder, AreMembersUnder}
 use Rattle.dd_model.specs.declared.requests.Request.{Request}
 use Rattle.dd_model.specs.declared.jobs.Job.{Job}
-use Rattle.dd_invol.specs.Under.{IsUnder, HasNothingUnder, AreUnder, Appends}
-use Rattle.dd_invol.specs.Table.{HasNoTable, IsTableOf, HaveSameInvolutions}
+use Rattle.dd_invol.specs.Under.{HasNothingUnder, AreUnder, Appends}
+use Rattle.dd_invol.specs.Table.{HasNoTable, IsTableOf}
 use Rattle.dd_invol.specs.Stem.{Any, prefix_of, size_of, shortened}
 use Rattle.dd_invol.proofs.Prefixes.{none_under}
 use Rattle.dd_invol.specs.declared.stem.Stem.{Stem}

@@ -1,13 +1,11 @@
 -- The first members of a catalogue.
-use Rattle.std.proofs.Common.{◌≡◌, ◌≢◌, ◌⊎◌, ℕ, zero, suc, ◌+◌, ◌<◌, ◌≤◌, List, [], ◌∷◌, ◌++◌, length, get_or, take, drop, refl, sym, ap, ◌∙◌, subst, inl, inr, ⊎_elim, arith, take-append-drop}
+use Rattle.std.proofs.Common.{◌≡◌, ◌⊎◌, ℕ, zero, suc, ◌+◌, ◌<◌, List, [], ◌∷◌, ◌++◌, length, get_or, take, drop, refl, sym, ap, ◌∙◌, subst, inl, inr, ⊎_elim, arith, take-append-drop}
 use Rattle.std.proofs.lemmas.List.{take_more}
 use Rattle.std.proofs.lemmas.List.Elements.{Contains-append_right, Contains-append_left, Contains-append_cases, Contains-push}
 use Rattle.std.specs.List.{AllByRecursion, Contains}
-use Rattle.std.specs.Cmp.{IsTotalOrder}
-use Rattle.std.specs.declared.cmp.Ordering.TheVariants.{Less, Equal, Greater}
 use Rattle.dd_model.specs.Symbol.{Symbol}
-use Rattle.dd_model.specs.Code.{code_cmp, IsBelow}
-use Rattle.dd_model.specs.Wanted.{IsMember, IsAscending, IsCatalogue}
+use Rattle.dd_model.specs.Code.{IsBelow}
+use Rattle.dd_model.specs.Wanted.{IsAscending, IsCatalogue}
 use Rattle.dd_model.specs.Jobs.{IsJobBelow, AreAscendingJobs, IsMemberUnder, AreMembersUnder}
 use Rattle.dd_model.specs.declared.requests.Request.{Request}
 use Rattle.dd_model.specs.declared.jobs.Job.{Job}
@@ -16,7 +14,7 @@ use Rattle.dd_invol.specs.Opening.{IsOpening}
 use Rattle.dd_invol.proofs.Ascending.{all_from_members}
 use Rattle.dd_invol.proofs.JobLists.{only}
 use Rattle.dd_invol.proofs.OpeningLaws.{covered}
-use Rattle.dd_branch.specs.Joined.{IsUnderOne, AreUnderJobs, IsPartBelow, AreFirstMembers}
+use Rattle.dd_branch.specs.Joined.{AreUnderJobs, IsPartBelow, AreFirstMembers}
 use Rattle.dd_branch.proofs.JoinedLists.{each_of, under_append, under_one, under_below, opening_as_long}
 
 none_there : {A : Type 0} (x : A) → Contains [] x → ⊥

@@ -1,5 +1,5 @@
 -- Lists of what is under jobs that ascend join to an ascending list.
-use Rattle.std.proofs.Common.{◌≡◌, ◌≢◌, ◌↔◌, ◌⊎◌, ℕ, zero, suc, ◌+◌, ◌*◌, ◌<◌, ◌≤◌, min, List, [], ◌∷◌, ◌++◌, length, get_or, take, refl, sym, ap, ◌∙◌, subst, inl, inr, ⊎_elim, arith}
+use Rattle.std.proofs.Common.{◌≡◌, ◌⊎◌, ℕ, zero, suc, ◌*◌, min, List, [], ◌∷◌, ◌++◌, length, refl, sym, ap, ◌∙◌, subst, inl, inr, ⊎_elim, arith}
 use Rattle.std.proofs.lemmas.List.Elements.{Contains-append_right, Contains-append_left, Contains-append_cases, Contains-push}
 use Rattle.std.specs.List.{AllByRecursion, Contains}
 use Rattle.std.specs.Ordering.{nat_cmp, ordering_then}
@@ -10,15 +10,15 @@ use Rattle.std.specs.declared.cmp.Ordering.TheVariants.{Less, Equal, Greater}
 use Rattle.dd_model.specs.Symbol.{Symbol}
 use Rattle.dd_model.specs.Lists.{Begins}
 use Rattle.dd_model.specs.Code.{code, IsBelow}
-use Rattle.dd_model.specs.Wanted.{IsMember, IsAscending, IsCatalogue}
+use Rattle.dd_model.specs.Wanted.{IsCatalogue}
 use Rattle.dd_model.specs.Jobs.{IsJobBelow, AreAscendingJobs, IsMemberUnder, AreMembersUnder}
 use Rattle.dd_model.specs.declared.requests.Request.{Request}
 use Rattle.dd_model.specs.declared.jobs.Job.{Job}
-use Rattle.dd_invol.specs.Opening.{IsOpening, IsOpeningJob}
-use Rattle.dd_invol.proofs.Ascending.{ascending-append, all_from_members}
+use Rattle.dd_invol.specs.Opening.{IsOpening}
+use Rattle.dd_invol.proofs.Ascending.{ascending-append}
 use Rattle.dd_invol.proofs.JobLists.{only}
 use Rattle.dd_invol.proofs.OpeningLaws.{covered}
-use Rattle.dd_branch.specs.Joined.{AreUnderInTurn, joined, IsUnderOne, AreUnderJobs, IsPartBelow}
+use Rattle.dd_branch.specs.Joined.{AreUnderInTurn, joined, AreUnderJobs, IsPartBelow}
 
 none_there : {A : Type 0} (x : A) → Contains [] x → ⊥
 none_there x there = let below = there.1 in omega arith

@@ -1,5 +1,5 @@
 -- A search that goes down from a prefix to longer ones.
-use Rattle.std.specs.Prelude.{◌≡◌, ℕ, ◌-◌, ◌≤◌, List, length, take}
+use Rattle.std.specs.Prelude.{◌≡◌, ◌-◌, ◌≤◌, List, length, take}
 use Rattle.std.specs.List.{slice_get}
 use Rattle.std.specs.declared.option.Option.{Option}
 use Rattle.std.specs.declared.option.Option.TheVariants.{None, Some}

@@ -1,22 +1,21 @@
 -- The writing of a catalogue, job by job.
-use Rattle.std.proofs.Common.{◌≡◌, ℕ, ◌+◌, ◌<◌, ◌≤◌, ◌⊎◌, Bool, true, List, [], ◌∷◌, ◌++◌, Option, Some, None, length, get_or, take, drop, refl, sym, ap, ◌∙◌, subst, inl, inr, ⊎_elim, arith, append_assoc}
+use Rattle.std.proofs.Common.{◌≡◌, ℕ, ◌+◌, ◌<◌, ◌≤◌, ◌⊎◌, List, [], ◌∷◌, ◌++◌, Option, Some, None, length, get_or, take, refl, sym, ap, ◌∙◌, subst, inl, inr, ⊎_elim, arith}
 use Rattle.std.proofs.lemmas.Bool.{cases_lt}
 use Rattle.std.specs.Io.KnownBytes.{Appends}
 use Rattle.dd_model.specs.Symbol.{Symbol, IsSymbol}
-use Rattle.dd_model.specs.Wanted.{IsCatalogue}
 use Rattle.dd_model.specs.Text.{AreLines, IsText, beginning}
 use Rattle.dd_model.specs.Jobs.{IsJobOf, AreMembersUnder}
 use Rattle.dd_model.specs.declared.requests.Request.{Request}
 use Rattle.dd_model.specs.declared.jobs.Job.{Job}
 use Rattle.dd_model.proofs.Texts.{all_from_beginning, without_unique}
-use Rattle.dd_ports.specs.Causes.{Rose, HasCause, StaysSure}
+use Rattle.dd_ports.specs.Causes.{Rose}
 use Rattle.dd_ports.specs.Grows.{GrowsByPrefix}
 use Rattle.dd_invol.specs.Opening.{IsOpening}
-use Rattle.dd_branch.specs.Joined.{AreUnderJobs, AreFirstMembers}
+use Rattle.dd_branch.specs.Joined.{AreUnderJobs}
 use Rattle.dd_branch.proofs.JoinedLists.{under_none, opening_whole}
 use Rattle.dd_branch.proofs.FirstMembers.{catalogue_begins, under_first_jobs, under_next_job}
-use Rattle.dd_suite.specs.Catalogue.{most_lines, AppendsText, AppendsFirstLines}
-use Rattle.dd_suite.specs.Pages.{HasLines, AddsAll, AddsTooMany, WritesPrefix, WritesPrefixOf, IsCut}
+use Rattle.dd_suite.specs.Catalogue.{AppendsText, AppendsFirstLines}
+use Rattle.dd_suite.specs.Pages.{HasLines, AddsAll, AddsTooMany, WritesPrefix, WritesPrefixOf}
 use Rattle.dd_suite.specs.declared.pages.Page.{Page}
 use Rattle.dd_suite.proofs.CatalogueTexts.{each_member}
 use Rattle.dd_suite.proofs.PageLemmas.{prefix_kept}

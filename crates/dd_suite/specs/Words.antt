@@ -2,7 +2,6 @@
 use Rattle.std.specs.Prelude.{ℕ, ◌⊎◌, List, None}
 use Rattle.dd_model.specs.declared.requests.Request.{Request}
 use Rattle.dd_words.specs.Grammar.{IsCommand}
-use Rattle.dd_words.specs.declared.commands.Command.{Command}
 use Rattle.dd_words.specs.declared.commands.Command.TheVariants.{Catalogue, File}
 use Rattle.dd_words.specs.declared.commands.FileKind.{FileKind}
 use Rattle.dd_words.specs.declared.commands.FileKind.TheVariants as kind

@@ -1,6 +1,5 @@
-use Rattle.std.proofs.Common.{◌≡◌, ◌+◌, ◌≤◌, true, length, get_or, take, refl, sym, ap, ◌∙◌, subst, arith}
+use Rattle.std.proofs.Common.{◌≡◌, length, take, refl, sym, ap, ◌∙◌, subst, arith}
 use Rattle.std.proofs.lemmas.List.{take_all}
-use Rattle.dd_model.specs.Jobs.{AreMembersUnder}
 use Rattle.dd_invol.specs.Opening.{IsOpening}
 use Rattle.dd_suite.specs.Pages.{AddsAll, AddsTooMany, WritesPrefixOf}
 use Rattle.dd_suite.proofs.CatalogueSteps.{HasFound, found_first, found_next, found_flushed, found_whole, found_too_many, opening_job, prefix_found, prefix_added, prefix_flushed}

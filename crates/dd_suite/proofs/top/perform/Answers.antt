@@ -1,4 +1,4 @@
-use Rattle.std.proofs.Common.{◌≡◌, ℕ, List, IfOk, map, inr, subst, sym, ◌∙◌}
+use Rattle.std.proofs.Common.{ℕ, List, IfOk, map, inr, subst, sym, ◌∙◌}
 use Rattle.dd_model.specs.Request.{IsValid}
 use Rattle.dd_model.specs.Text.{IsText, beginning}
 use Rattle.dd_ports.specs.Grows.{GrowsByPrefix}

@@ -1,4 +1,4 @@
-use Rattle.std.proofs.Common.{◌≡◌, sym, ap, ◌∙◌, subst}
+use Rattle.std.proofs.Common.{sym, ap, ◌∙◌, subst}
 use Rattle.dd_invol.specs.Rows.{partial_of, depth_of}
 use Rattle.dd_invol.specs.Stem.{shortened}
 use Rattle.dd_invol.specs.declared.stem.Stem.{Stem}

@@ -1,4 +1,4 @@
-use Rattle.std.proofs.Common.{◌≡◌, length, ap, arith}
+use Rattle.std.proofs.Common.{length, ap, arith}
 use Rattle.dd_invol.specs.Rows.{partial_of}
 use Rattle.dd_branch.proofs.descent.Descent.new.Goals as goal
 

@@ -1,8 +1,8 @@
-use Rattle.std.proofs.Common.{◌≡◌, ◌*◌, length, sym, ap, ◌∙◌, subst}
+use Rattle.std.proofs.Common.{◌≡◌, ◌*◌, length, sym, subst}
 use Rattle.dd_model.specs.Wanted.{IsMember}
 use Rattle.dd_invol.specs.Stem.{prefix_of, size_of}
 use Rattle.dd_invol.specs.Table.{HasNoTable, IsTableOf}
-use Rattle.dd_invol.specs.Under.{Appends, AreUnder, HasNothingUnder}
+use Rattle.dd_invol.specs.Under.{Appends, AreUnder}
 use Rattle.dd_invol.proofs.Prefixes.{appends_dead}
 use Rattle.dd_branch.specs.Descent.{Descending}
 use Rattle.dd_branch.proofs.Descents.{none_without_table, appends_carried}

@@ -1,4 +1,4 @@
-use Rattle.std.proofs.Common.{◌≡◌, ◌∙◌}
+use Rattle.std.proofs.Common.{◌∙◌}
 use Rattle.dd_branch.proofs.Descents.{dead_job, found_members, found_none}
 use Rattle.dd_branch.proofs.search.SearchFinder.find.Goals as goal
 

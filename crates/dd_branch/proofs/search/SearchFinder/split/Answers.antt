@@ -1,6 +1,6 @@
-use Rattle.std.proofs.Common.{◌≡◌, length, vec_len, sym, ap, ◌∙◌, subst, arith}
-use Rattle.dd_model.specs.Jobs.{AreChildren, AreExtensions}
-use Rattle.dd_invol.proofs.Extensions.{some_children, some_length, no_length}
+use Rattle.std.proofs.Common.{◌≡◌, length, vec_len, sym, subst}
+use Rattle.dd_model.specs.Jobs.{AreChildren}
+use Rattle.dd_invol.proofs.Extensions.{no_length}
 use Rattle.dd_branch.proofs.Splits.{one_kept}
 use Rattle.dd_branch.proofs.search.SearchFinder.split.Goals as goal
 

@@ -1,4 +1,4 @@
-use Rattle.std.proofs.Common.{◌≡◌, ℕ, ◌-◌, ◌++◌, take, drop, refl, subst, arith, append_assoc}
+use Rattle.std.proofs.Common.{ℕ, ◌-◌, ◌++◌, take, drop, refl, subst, arith, append_assoc}
 use Rattle.dd_model.specs.Text.{AreLines}
 use Rattle.dd_suite.proofs.PageLemmas.{prefix_kept, cut_written, regrouped}
 use Rattle.dd_suite.proofs.pages.Page.add.Goals as goal

@@ -1,4 +1,4 @@
-use Rattle.std.proofs.Common.{◌≡◌, refl, subst}
+use Rattle.std.proofs.Common.{refl, subst}
 use Rattle.std.specs.Io.KnownBytes.{Appends}
 use Rattle.dd_ports.specs.Grows.{GrowsByPrefix}
 use Rattle.dd_suite.specs.declared.pages.Page.{Page}
