@@ -2,10 +2,6 @@ pub mod Requests
 pub mod CatalogueTexts
 pub mod PageLemmas
 pub mod CatalogueSteps
-pub mod InTurnLemmas
-pub mod MadeOnce
-pub mod TotalsLemmas
-pub mod TotalsSteps
-pub mod InfoLemmas
-pub mod FileTexts
-pub mod CanonTexts
+pub mod HeldTexts
+pub mod Causes
+pub mod LongFiles

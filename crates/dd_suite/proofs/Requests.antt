@@ -9,11 +9,11 @@ use Rattle.dd_words.specs.declared.commands.Command.{Command}
 use Rattle.dd_words.specs.declared.commands.Command.TheVariants.{Catalogue, File}
 use Rattle.dd_words.specs.declared.commands.FileKind.{FileKind}
 use Rattle.dd_words.specs.declared.commands.FileKind.TheVariants as kind
-use Rattle.dd_suite.specs.declared.commands.FileCommand.{FileCommand}
-use Rattle.dd_suite.specs.declared.commands.FileCommand.TheVariants.{Symbols, Info}
-use Rattle.dd_suite.specs.declared.commands.SymbolCommand.TheVariants.{Lines, Canon, Minimal, Dual, Ambo, Truncate, Chamfer}
-use Rattle.dd_suite.specs.declared.commands.Task.{Task}
-use Rattle.dd_suite.specs.declared.commands.Task.TheVariants as task
+use Rattle.dd_commands.specs.declared.commands.FileCommand.{FileCommand}
+use Rattle.dd_commands.specs.declared.commands.FileCommand.TheVariants.{Symbols, Info}
+use Rattle.dd_commands.specs.declared.commands.SymbolCommand.TheVariants.{Lines, Canon, Minimal, Dual, Ambo, Truncate, Chamfer}
+use Rattle.dd_suite.specs.declared.task.Task.{Task}
+use Rattle.dd_suite.specs.declared.task.Task.TheVariants as task
 use Rattle.dd_suite.specs.Words.{AskFor, kind_of, IsOnFile, AreTaken}
 use Rattle.dd_suite.specs.Commands.{IsTaskOf, AskForTask}
 

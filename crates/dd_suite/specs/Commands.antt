@@ -2,8 +2,8 @@
 use Rattle.std.specs.Prelude.{◌≡◌, ℕ, List, None}
 use Rattle.dd_words.specs.declared.commands.Command.{Command}
 use Rattle.dd_words.specs.declared.commands.Command.TheVariants as command
-use Rattle.dd_suite.specs.declared.commands.Task.{Task}
-use Rattle.dd_suite.specs.declared.commands.Task.TheVariants.{Catalogue, OnFile}
+use Rattle.dd_suite.specs.declared.task.Task.{Task}
+use Rattle.dd_suite.specs.declared.task.Task.TheVariants.{Catalogue, OnFile}
 use Rattle.dd_suite.specs.Words.{AskFor, IsOnFile, kind_of}
 
 -- the command is that of a task

@@ -6,11 +6,12 @@ use Rattle.dd_model.specs.Text.{IsText, beginning}
 use Rattle.dd_model.specs.Reading.{Reads}
 use Rattle.dd_model.specs.declared.requests.Request.{Request}
 use Rattle.dd_text.specs.declared.faults.FileFault.{FileFault}
-use Rattle.dd_suite.specs.declared.commands.FileCommand.{FileCommand}
+use Rattle.dd_commands.specs.declared.commands.FileCommand.{FileCommand}
 use Rattle.dd_suite.specs.Words.{AreTaken, AskFor, IsOnFile}
 use Rattle.dd_suite.specs.Catalogue.{AppendsFirstLines}
-use Rattle.dd_suite.specs.declared.refusals.SymbolRefusal.{SymbolRefusal}
-use Rattle.dd_suite.specs.Files.{IsTextOfHeld, IsRefusalOf, HoldsFaulty, HoldsRefused}
+use Rattle.dd_commands.specs.declared.refusals.SymbolRefusal.{SymbolRefusal}
+use Rattle.dd_commands.specs.Files.{IsRefusalOf}
+use Rattle.dd_suite.specs.Held.{IsTextOfHeld, HoldsFaulty, HoldsRefused}
 
 -- the text of the catalogue that the words ask for, from its beginning
 pub record IsCatalogueText (words : List (List ℕ)) (bytes : List ℕ) : Type 0 where
@@ -18,17 +19,22 @@ pub record IsCatalogueText (words : List (List ℕ)) (bytes : List ℕ) : Type 0
   pub asked : AskFor words request
   pub text : IsText request beginning 0 bytes
 
--- the lines of the file that the words name, of a store that tells what it holds
+-- the text of the command on the file that the words name
 pub record IsFileOutput (words : List (List ℕ)) (tells : Bool) (held : List ℕ → Option (List ℕ)) (bytes : List ℕ) : Type 0 where
-  pub told : tells ≡ true
   pub command : FileCommand
   pub name : List ℕ
   pub asked : IsOnFile words command name
-  pub text : IsTextOfHeld command (held name) bytes
+  pub text : IsTextOfHeld command tells (held name) bytes
 
 -- the output of words: the text that they ask for, and nothing where they are not taken
 abbrev pub IsOutput : List (List ℕ) → Bool → (List ℕ → Option (List ℕ)) → List ℕ → Type 0
-IsOutput words tells held bytes = IsCatalogueText words bytes ⊎ (IsFileOutput words tells held bytes ⊎ ((¬ AreTaken words) × (bytes ≡ [])))
+IsOutput words tells held bytes =
+    IsCatalogueText words bytes ⊎ (IsFileOutput words tells held bytes ⊎ ((¬ AreTaken words) × (bytes ≡ [])))
+
+-- the same, where the text of a file is known since the store tells what it holds
+abbrev pub IsKnownOutput : List (List ℕ) → Bool → (List ℕ → Option (List ℕ)) → List ℕ → Type 0
+IsKnownOutput words tells held bytes =
+    IsCatalogueText words bytes ⊎ (((tells ≡ true) × IsFileOutput words tells held bytes) ⊎ ((¬ AreTaken words) × (bytes ≡ [])))
 
 -- known bytes grew by the whole output of the words
 pub record AppendsOutput (words : List (List ℕ)) (tells : Bool) (held : List ℕ → Option (List ℕ)) (old new : Option (List ℕ)) : Type 0 where
@@ -46,19 +52,19 @@ pub record CutsShort (words : List (List ℕ)) (old new : Option (List ℕ)) : T
 abbrev pub NameFile : List (List ℕ) → Type 0
 NameFile words = (command : FileCommand) × (name : List ℕ) × IsOnFile words command name
 
--- the words name a file that the store holds, and it has this fault
+-- the words name a file with this fault
 pub record NameFaulty (words : List (List ℕ)) (tells : Bool) (held : List ℕ → Option (List ℕ)) (fault : FileFault) : Type 0 where
   pub command : FileCommand
   pub name : List ℕ
   pub asked : IsOnFile words command name
-  pub holds : tells ≡ true → HoldsFaulty (held name) fault
+  pub holds : HoldsFaulty tells (held name) fault
 
--- the words name a file that the store holds, and this is its first symbol of which their command makes nothing
+-- the words name a file with this symbol, the first of which their command makes nothing
 pub record NameRefused (words : List (List ℕ)) (tells : Bool) (held : List ℕ → Option (List ℕ)) (r : SymbolRefusal) : Type 0 where
   pub command : FileCommand
   pub name : List ℕ
   pub asked : IsOnFile words command name
-  pub holds : tells ≡ true → HoldsRefused command (held name) r
+  pub holds : HoldsRefused command tells (held name) r
 
 -- the words name a file with a fault, or with a symbol of which their command makes nothing
 abbrev pub IsRefusedFile : List (List ℕ) → Bool → (List ℕ → Option (List ℕ)) → Type 0

@@ -5,9 +5,9 @@ use Rattle.dd_words.specs.Grammar.{IsCommand}
 use Rattle.dd_words.specs.declared.commands.Command.TheVariants.{Catalogue, File}
 use Rattle.dd_words.specs.declared.commands.FileKind.{FileKind}
 use Rattle.dd_words.specs.declared.commands.FileKind.TheVariants as kind
-use Rattle.dd_suite.specs.declared.commands.FileCommand.{FileCommand}
-use Rattle.dd_suite.specs.declared.commands.FileCommand.TheVariants.{Symbols, Info}
-use Rattle.dd_suite.specs.declared.commands.SymbolCommand.TheVariants.{Lines, Canon, Minimal, Dual, Ambo, Truncate, Chamfer}
+use Rattle.dd_commands.specs.declared.commands.FileCommand.{FileCommand}
+use Rattle.dd_commands.specs.declared.commands.FileCommand.TheVariants.{Symbols, Info}
+use Rattle.dd_commands.specs.declared.commands.SymbolCommand.TheVariants.{Lines, Canon, Minimal, Dual, Ambo, Truncate, Chamfer}
 
 -- the words of a catalogue with the default number of workers and length of a round, and no checkpoint
 pub record AskFor (words : List (List ℕ)) (q : Request) : Type 0 where

@@ -1,7 +1,9 @@
 ghost use Rattle.std.specs.Prelude.{◌≡◌};
 
-use crate::refusals::SymbolRefusal;
+use crate::catalogue::Finish;
 use crate::status::Status;
+use dd_commands::{CommandFault, SymbolRefusal};
+use dd_ports::SinkFault;
 use dd_text::FileFault;
 
 /// How a command ended, with all that its line on the error stream tells.
@@ -26,7 +28,30 @@ pub enum Ending {
 }
 
 impl Ending {
-    ghost use Rattle.dd_suite.specs.Endings.{status_of};
+    ghost use Rattle.dd_suite.specs.Endings.{status_of, written_ending, fault_ending};
+
+    /// How a command ended whose writes ended so.
+    pub fn of_catalogue(written: Result<Finish, SinkFault>) -> Ending
+        ensures { result ≡ written_ending written }
+    {
+        match written {
+            Ok(Finish::Whole) => Ending::Done,
+            Ok(Finish::CutShort) => Ending::TooManyLines,
+            Err(SinkFault::Failed) => Ending::SinkFault,
+            Err(SinkFault::Memory) => Ending::Memory,
+        }
+    }
+
+    /// How a command ends that has no text for a file.
+    pub fn of_fault(fault: CommandFault) -> Ending
+        ensures { result ≡ fault_ending fault }
+    {
+        match fault {
+            CommandFault::File(fault) => Ending::Refused(fault),
+            CommandFault::Symbol(refusal) => Ending::RefusedSymbol(refusal),
+            CommandFault::Memory => Ending::Memory,
+        }
+    }
 
     /// The status without its cause.
     pub fn status(self) -> Status

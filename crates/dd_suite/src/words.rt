@@ -3,10 +3,11 @@ ghost use Rattle.std.specs.Rc.{rc_str_bytes};
 ghost use Rattle.dd_words.specs.declared.commands.FileKind.TheVariants as kind;
 ghost use Rattle.dd_suite.specs.Words.{AreTaken, kind_of};
 ghost use Rattle.dd_suite.specs.Commands.{IsTaskOf, AskForTask};
-ghost use Rattle.dd_suite.specs.declared.commands.Task.{Task as Asked};
-ghost use Rattle.dd_suite.specs.declared.commands.FileCommand.{FileCommand as OfFile};
+ghost use Rattle.dd_suite.specs.declared.task.Task.{Task as Asked};
+ghost use Rattle.dd_commands.specs.declared.commands.FileCommand.{FileCommand as OfFile};
 
-use crate::commands::{FileCommand, SymbolCommand, Task};
+use crate::task::Task;
+use dd_commands::{FileCommand, SymbolCommand};
 use dd_model::Memory;
 use dd_words::{Command, FileKind, WordsFault, read_words};
 use std::alloc::Global;
@@ -20,14 +21,13 @@ const ROUND: u32 = 64;
 
 /// What the words ask the program to do, and None exactly where they are not taken.
 pub fn read_task(alloc: Global, words: &[RcStr]) -> Result<Option<Task>, Memory>
-    ensures { IfOk result (λ task. MatchOption task (¬ AreTaken (map rc_str_bytes words.now)) (AskForTask (map rc_str_bytes words.now))) }
+    ensures { IfOk result (λ task. MatchOption task (¬ AreTaken (map rc_str_bytes words.now))
+        (AskForTask (map rc_str_bytes words.now))) }
 {
     match read_words(alloc, words) {
         Ok(command) => Ok(task_of(command)),
-        Err(fault) => match fault {
-            WordsFault::NotTaken => Ok(None),
-            WordsFault::Memory => Err(Memory),
-        },
+        Err(WordsFault::NotTaken) => Ok(None),
+        Err(WordsFault::Memory) => Err(Memory),
     }
 }
 
@@ -53,7 +53,8 @@ fn task_of(command: Command) -> Option<Task>
 
 /// The command on files of a kind, and None where the program does not have it.
 fn command_of(kind: FileKind) -> Option<FileCommand>
-    ensures { MatchOption result ((command : OfFile) → kind ≡ kind_of command → ⊥) (λ command. kind ≡ kind_of command) }
+    ensures { MatchOption result ((command : OfFile) → kind ≡ kind_of command → ⊥)
+        (λ command. kind ≡ kind_of command) }
 {
     match kind {
         FileKind::Info => Some(FileCommand::Info),

@@ -3,15 +3,17 @@ use Rattle.dd_model.specs.Request.{IsValid}
 use Rattle.dd_model.specs.Text.{IsText, beginning}
 use Rattle.dd_ports.specs.Grows.{GrowsByPrefix}
 use Rattle.dd_suite.specs.Finishes.{Finishes}
-use Rattle.dd_suite.specs.Stops.{HasCause}
+use Rattle.dd_suite.specs.Outside.{Before, After}
+use Rattle.dd_suite.specs.Stops.{HasFileCause, HasCause}
+use Rattle.dd_suite.proofs.Causes.{cause_of_file}
 use Rattle.std.specs.Rc.{rc_str_bytes}
-use Rattle.dd_suite.specs.declared.commands.Task.TheVariants.{Catalogue, OnFile}
+use Rattle.dd_suite.specs.declared.task.Task.TheVariants.{Catalogue, OnFile}
 use Rattle.dd_suite.specs.Words.{AskFor, IsOnFile}
-use Rattle.dd_suite.specs.Files.{IsTextOfHeld}
+use Rattle.dd_suite.specs.Held.{IsTextOfHeld}
 use Rattle.dd_suite.specs.Catalogue.{AppendsText}
 use Rattle.dd_suite.proofs.Requests.{valid_request, taken, asked_of, same_request, not_both}
 use Rattle.dd_suite.proofs.CatalogueTexts.{prefix_of_output, whole_output, what_done_says, cause_of_catalogue, few_members}
-use Rattle.dd_suite.proofs.FileTexts.{prefix_of_file_output}
+use Rattle.dd_suite.proofs.HeldTexts.{prefix_of_file_output}
 use Rattle.dd_suite.proofs.top.perform.Goals as goal
 
 pub write_catalogue-requires : goal.write_catalogue-requires
@@ -28,26 +30,32 @@ returns-in-Catalogue-clause-prefix g c =
     (subst (λ q. (text : List ℕ) → IsText q beginning 0 text → GrowsByPrefix old new text) c.new-search.ensures c.write_catalogue.ensures.prefix)
 
 pub returns-in-Catalogue-clause-whole : goal.returns-in-Catalogue-clause-whole
-returns-in-Catalogue-clause-whole g c done _ =
+returns-in-Catalogue-clause-whole g c done =
     let old = g.O.Sink.held c.args.out.now in
     let new = g.O.Sink.held c.write_catalogue.new.out in
     let asked : AskFor (map rc_str_bytes c.args.words.now) c.in-Catalogue.request = asked_of (map rc_str_bytes c.args.words.now) c.in-Ok-Some.field-0 c.in-Ok-Some.task (Catalogue c.in-Catalogue.request) c.in-Ok-Some.ensures c.in-Ok-Some.field-0-is c.in-Catalogue.is in
-    let written = subst (λ q. AppendsText q old new) c.new-search.ensures (what_done_says c.write_catalogue.result c.new-search.result.request old new (sym c.ending_of.ensures ∙ done) c.write_catalogue.ensures.whole) in
+    let written = subst (λ q. AppendsText q old new) c.new-search.ensures (what_done_says c.write_catalogue.result c.new-search.result.request old new (sym c.of_catalogue.ensures ∙ done) c.write_catalogue.ensures.whole) in
     whole_output (map rc_str_bytes c.args.words.now) (g.S.Store.tells c.args.store.now) (g.S.Store.held c.args.store.now) c.in-Catalogue.request old new asked written
 
 pub returns-in-Catalogue-clause-cause : goal.returns-in-Catalogue-clause-cause
 returns-in-Catalogue-clause-cause g c =
     let words = map rc_str_bytes c.args.words.now in
-    let old = g.O.Sink.held c.args.out.now in
-    let new = g.O.Sink.held c.write_catalogue.new.out in
-    let tells = g.S.Store.tells c.args.store.now in
-    let held = g.S.Store.held c.args.store.now in
-    let faults = g.S.Store.faults c.args.store.now in
+    let before : Before = record {
+      tells = g.S.Store.tells c.args.store.now;
+      held = g.S.Store.held c.args.store.now;
+      store_faults = g.S.Store.faults c.args.store.now;
+      written = g.O.Sink.held c.args.out.now;
+      sink_faults = g.O.Sink.faults c.args.out.now;
+    } in
+    let after : After = record {
+      store_faults = g.S.Store.faults c.args.store.now;
+      written = g.O.Sink.held c.write_catalogue.new.out;
+      sink_faults = g.O.Sink.faults c.write_catalogue.new.out;
+    } in
     let asked : AskFor words c.in-Catalogue.request = asked_of words c.in-Ok-Some.field-0 c.in-Ok-Some.task (Catalogue c.in-Catalogue.request) c.in-Ok-Some.ensures c.in-Ok-Some.field-0-is c.in-Catalogue.is in
-    let finish = subst (λ q. IfOk c.write_catalogue.result (λ finish. Finishes finish q old new)) c.new-search.ensures c.write_catalogue.ensures.whole in
-    subst (λ e. HasCause e words tells held faults faults old new (g.O.Sink.faults c.args.out.now) (g.O.Sink.faults c.write_catalogue.new.out)) (sym c.ending_of.ensures)
-    (cause_of_catalogue words tells held c.in-Catalogue.request faults faults old new (g.O.Sink.faults c.args.out.now) (g.O.Sink.faults c.write_catalogue.new.out) c.write_catalogue.result asked
-    finish c.write_catalogue.ensures.cause)
+    let finish = subst (λ q. IfOk c.write_catalogue.result (λ finish. Finishes finish q before.written after.written)) c.new-search.ensures c.write_catalogue.ensures.whole in
+    subst (λ e. HasCause e words before after) (sym c.of_catalogue.ensures)
+    (cause_of_catalogue words c.in-Catalogue.request before after c.write_catalogue.result asked finish c.write_catalogue.ensures.cause)
 
 pub returns-in-Catalogue-clause-not_cut : goal.returns-in-Catalogue-clause-not_cut
 returns-in-Catalogue-clause-not_cut g c done q members other is =
@@ -55,7 +63,7 @@ returns-in-Catalogue-clause-not_cut g c done q members other is =
     let old = g.O.Sink.held c.args.out.now in
     let new = g.O.Sink.held c.write_catalogue.new.out in
     let asked : AskFor words c.in-Catalogue.request = asked_of words c.in-Ok-Some.field-0 c.in-Ok-Some.task (Catalogue c.in-Catalogue.request) c.in-Ok-Some.ensures c.in-Ok-Some.field-0-is c.in-Catalogue.is in
-    let written = subst (λ r. AppendsText r old new) c.new-search.ensures (what_done_says c.write_catalogue.result c.new-search.result.request old new (sym c.ending_of.ensures ∙ done) c.write_catalogue.ensures.whole) in
+    let written = subst (λ r. AppendsText r old new) c.new-search.ensures (what_done_says c.write_catalogue.result c.new-search.result.request old new (sym c.of_catalogue.ensures ∙ done) c.write_catalogue.ensures.whole) in
     few_members q old new members (subst (λ r. AppendsText r old new) (same_request words c.in-Catalogue.request q asked other) written) is
 
 pub returns-in-OnFile-clause-not_cut : goal.returns-in-OnFile-clause-not_cut
@@ -76,9 +84,28 @@ returns-in-OnFile-clause-prefix g c =
     (g.O.Sink.held c.args.out.now) (g.O.Sink.held c.write_file.new.out) asked
     (λ told text is.
     c.write_file.ensures.prefix told text
-    (subst (λ (name : List ℕ). IsTextOfHeld c.in-OnFile.command (g.S.Store.held c.args.store.now name) text) (sym c.as_str.ensures) is))
+    (subst (λ (name : List ℕ). IsTextOfHeld c.in-OnFile.command (g.S.Store.tells c.args.store.now) (g.S.Store.held c.args.store.now name) text) (sym c.as_str.ensures) is))
 
 pub returns-in-OnFile-clause-not_taken : goal.returns-in-OnFile-clause-not_taken
 returns-in-OnFile-clause-not_taken g c none =
     let asked : IsOnFile (map rc_str_bytes c.args.words.now) c.in-OnFile.command c.in-OnFile.name = asked_of (map rc_str_bytes c.args.words.now) c.in-Ok-Some.field-0 c.in-Ok-Some.task (OnFile c.in-OnFile.command c.in-OnFile.name) c.in-Ok-Some.ensures c.in-Ok-Some.field-0-is c.in-OnFile.is in
     absurd (none (inr (c.in-OnFile.command, c.in-OnFile.name, asked)))
+
+pub returns-in-OnFile-clause-cause : goal.returns-in-OnFile-clause-cause
+returns-in-OnFile-clause-cause g c =
+    let words = map rc_str_bytes c.args.words.now in
+    let asked : IsOnFile words c.in-OnFile.command c.in-OnFile.name = asked_of words c.in-Ok-Some.field-0 c.in-Ok-Some.task (OnFile c.in-OnFile.command c.in-OnFile.name) c.in-Ok-Some.ensures c.in-Ok-Some.field-0-is c.in-OnFile.is in
+    let before : Before = record {
+      tells = g.S.Store.tells c.args.store.now;
+      held = g.S.Store.held c.args.store.now;
+      store_faults = g.S.Store.faults c.args.store.now;
+      written = g.O.Sink.held c.args.out.now;
+      sink_faults = g.O.Sink.faults c.args.out.now;
+    } in
+    let after : After = record {
+      store_faults = g.S.Store.faults c.write_file.new.store;
+      written = g.O.Sink.held c.write_file.new.out;
+      sink_faults = g.O.Sink.faults c.write_file.new.out;
+    } in
+    cause_of_file c.write_file.result words c.in-OnFile.command c.in-OnFile.name before after asked
+    (subst (λ (name : List ℕ). HasFileCause c.in-OnFile.command name c.write_file.result before after) c.as_str.ensures c.write_file.ensures.cause)

@@ -6,5 +6,5 @@ use Rattle.dd_suite.proofs.words.read_task.Goals as goal
 pub returns-in-Ok : goal.returns-in-Ok
 returns-in-Ok c = task_of_words (map rc_str_bytes c.args.words.now) c.in-Ok.command c.task_of.result c.in-Ok.ensures.command c.task_of.ensures
 
-pub returns-in-NotTaken : goal.returns-in-NotTaken
-returns-in-NotTaken c = none_taken (map rc_str_bytes c.args.words.now) (c.in-Err.ensures.not_taken (ap Err c.in-NotTaken.is))
+pub returns-in-Err-NotTaken : goal.returns-in-Err-NotTaken
+returns-in-Err-NotTaken c = none_taken (map rc_str_bytes c.args.words.now) (c.in-Err-NotTaken.ensures.not_taken (ap Err c.in-Err-NotTaken.field-0-is))

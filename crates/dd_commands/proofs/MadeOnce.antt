@@ -1,0 +1,77 @@
+-- What a command makes of a symbol is determined.
+use Rattle.std.proofs.Common.{◌≡◌, ℕ, ◌+◌, List, [], ◌∷◌, inl, inr, sym, ◌∙◌, arith}
+use Rattle.std.specs.List.{AllByRecursion}
+use Rattle.dd_model.specs.Symbol.{Symbol, IsTable}
+use Rattle.dd_model.specs.Code.{IsLeastForm}
+use Rattle.dd_model.specs.Reading.{IsReadable}
+use Rattle.dd_model.proofs.Codes.{least_unique}
+use Rattle.dd_model.proofs.Isomorphisms.{Isomorphic-sym, Isomorphic-trans}
+use Rattle.dd_model.proofs.LeastForms.{same_least_forms}
+use Rattle.dd_quotient.specs.Dual.{dual_of}
+use Rattle.dd_quotient.proofs.DualLemmas.{small_symbol-dual}
+use Rattle.dd_quotient.proofs.ImageLemmas.{between, too_large_or_small}
+use Rattle.dd_template.specs.Table.{Table}
+use Rattle.dd_template.specs.Made.{made}
+use Rattle.dd_template.specs.Lawful.{IsLawful}
+use Rattle.dd_template.specs.Named.{ambo, truncate, chamfer}
+use Rattle.dd_template.proofs.AmboLawful.{ambo_lawful}
+use Rattle.dd_template.proofs.TruncateLawful.{truncate_lawful}
+use Rattle.dd_template.proofs.ChamferLawful.{chamfer_lawful}
+use Rattle.dd_template.proofs.MadeSymbols.{made_symbol}
+use Rattle.dd_commands.specs.declared.commands.SymbolCommand.{SymbolCommand}
+use Rattle.dd_commands.specs.declared.commands.SymbolCommand.TheVariants.{Lines, Canon, Minimal, Dual, Ambo, Truncate, Chamfer}
+use Rattle.dd_commands.specs.InTurn.{AreInTurn}
+use Rattle.dd_commands.specs.declared.refusals.SymbolFault.{SymbolFault}
+use Rattle.dd_commands.specs.declared.refusals.SymbolFault.TheVariants.{TooManyChambers, BranchingTooLarge}
+use Rattle.dd_commands.specs.declared.refusals.SymbolRefusal.{SymbolRefusal}
+use Rattle.dd_commands.specs.Made.{IsLeastImage, IsDerived, IsMade, IsFaultOf, IsFirstFault}
+use Rattle.dd_commands.proofs.InTurnLemmas.{in_turn_unique}
+
+form_once : (s t u : Symbol) → IsTable s → IsLeastForm s t → IsLeastForm s u → t ≡ u
+form_once s t u table a b =
+    least_unique t u a.symbol b.symbol a.least b.least (Isomorphic-trans t s u a.symbol.table (Isomorphic-sym s t table a.renumbering) b.renumbering)
+
+image_once : (s t u : Symbol) → IsReadable s → IsLeastImage s t → IsLeastImage s u → t ≡ u
+image_once s t u readable a b =
+    let way = between s a.image b.image a.map b.map readable.symbol.symbol.table.involutions a.is_image b.is_image in
+    (same_least_forms a.image b.image t u a.is_image.symbol b.is_image.symbol a.least b.least).1 (way.map, way.isomorphism)
+
+dual_once : (s t u : Symbol) → IsReadable s → IsLeastForm (dual_of s) t → IsLeastForm (dual_of s) u → t ≡ u
+dual_once s t u readable a b = form_once (dual_of s) t u (small_symbol-dual s readable.symbol).symbol.table a b
+
+derived_once : (table : Table) → IsLawful table → (s t u : Symbol) → IsReadable s → IsDerived table s t → IsDerived table s u → t ≡ u
+derived_once table lawful s t u readable a b = form_once (made table s) t u (made_symbol table s lawful readable.symbol.symbol).table a.least b.least
+
+pub made_once : (command : SymbolCommand) (s t u : Symbol) → IsReadable s → IsMade command s t → IsMade command s u → t ≡ u
+made_once Lines s t u readable a b = sym a ∙ b
+made_once Canon s t u readable a b = form_once s t u readable.symbol.symbol.table a b
+made_once Minimal s t u readable a b = image_once s t u readable a b
+made_once Dual s t u readable a b = dual_once s t u readable a b
+made_once Ambo s t u readable a b = derived_once ambo ambo_lawful s t u readable a b
+made_once Truncate s t u readable a b = derived_once truncate truncate_lawful s t u readable a b
+made_once Chamfer s t u readable a b = derived_once chamfer chamfer_lawful s t u readable a b
+
+-- of a symbol with a fault nothing is made
+pub nothing_made : (command : SymbolCommand) (s t : Symbol) (why : SymbolFault) → IsReadable s → IsFaultOf command s why → IsMade command s t → ⊥
+nothing_made Lines s t why readable fault is = fault
+nothing_made Canon s t why readable fault is = fault
+nothing_made Minimal s t (TooManyChambers n) readable fault is = fault
+nothing_made Minimal s t (BranchingTooLarge v) readable fault is =
+    too_large_or_small s fault.image is.image fault.map is.map v readable.symbol.symbol.table.involutions fault.first is.is_image is.small.branching
+nothing_made Dual s t why readable fault is = fault
+nothing_made Ambo s t (TooManyChambers n) readable fault is = let few = is.few in let many = fault.1 in omega arith
+nothing_made Ambo s t (BranchingTooLarge v) readable fault is = fault
+nothing_made Truncate s t (TooManyChambers n) readable fault is = let few = is.few in let many = fault.1 in omega arith
+nothing_made Truncate s t (BranchingTooLarge v) readable fault is = fault
+nothing_made Chamfer s t (TooManyChambers n) readable fault is = let few = is.few in let many = fault.1 in omega arith
+nothing_made Chamfer s t (BranchingTooLarge v) readable fault is = fault
+
+-- of symbols of which one has a fault there is no list of what is made
+pub none_all_made : (command : SymbolCommand) (k : ℕ) (ss ts : List Symbol) (r : SymbolRefusal) → AllByRecursion IsReadable ss → IsFirstFault command k ss r → AreInTurn (IsMade command) ss ts → ⊥
+none_all_made command k [] ts r readable fault made = fault
+none_all_made command k (s ∷ ss) [] r readable fault made = made
+none_all_made command k (s ∷ ss) (t ∷ ts) r readable (inl here) made = nothing_made command s t r.why readable.0 here.1 made.0
+none_all_made command k (s ∷ ss) (t ∷ ts) r readable (inr later) made = none_all_made command (k + 1) ss ts r readable.1 later.1 made.1
+
+pub all_made_once : (command : SymbolCommand) (ss ts us : List Symbol) → AllByRecursion IsReadable ss → AreInTurn (IsMade command) ss ts → AreInTurn (IsMade command) ss us → ts ≡ us
+all_made_once command = in_turn_unique (IsMade command) IsReadable (made_once command)

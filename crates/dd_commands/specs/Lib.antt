@@ -1,0 +1,10 @@
+pub mod InTurn
+pub mod Made
+pub mod Facts
+pub mod Totals
+pub mod Info
+pub mod InfoSteps
+pub mod Files
+pub mod Faults
+pub mod Stops
+pub mod Messages

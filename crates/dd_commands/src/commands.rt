@@ -1,0 +1,27 @@
+/// A command that writes a line for each symbol of a file.
+#[derive(Clone, Copy, Debug, PartialEq, Eq)]
+pub enum SymbolCommand {
+    /// The symbol as it was read.
+    Lines,
+    /// Its least form.
+    Canon,
+    /// The least form of its minimal image.
+    Minimal,
+    /// The least form of its dual.
+    Dual,
+    /// The least form of the tiling with a vertex on each edge.
+    Ambo,
+    /// The least form of the tiling with its vertices cut off.
+    Truncate,
+    /// The least form of the tiling with its edges made hexagons.
+    Chamfer,
+}
+
+/// A command on the symbols of a file.
+#[derive(Clone, Copy, Debug, PartialEq, Eq)]
+pub enum FileCommand {
+    /// What is made of each symbol.
+    Symbols(SymbolCommand),
+    /// What each symbol is.
+    Info,
+}

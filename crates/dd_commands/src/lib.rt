@@ -1,0 +1,28 @@
+//! What the commands on files write: from the bytes of a file to the text, or to why there is none.
+#![tactic(auto)]
+
+mod command_fault;
+mod commands;
+mod facts;
+mod file_laws;
+mod file_text;
+mod info;
+mod messages;
+mod refusals;
+mod stop;
+mod symbol_commands;
+mod totals;
+
+pub use command_fault::CommandFault;
+pub use commands::{FileCommand, SymbolCommand};
+pub use facts::Facts;
+pub use file_laws::{
+    a_refused_file_has_no_text, canon_tells_classes_apart, the_dual_is_made_by_its_table,
+    written_once,
+};
+pub use file_text::text_of_file;
+pub use messages::{fault_message, symbol_message};
+pub use refusals::{SymbolFault, SymbolRefusal};
+
+#[cfg(test)]
+mod command_tests;

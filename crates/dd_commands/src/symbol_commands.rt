@@ -1,0 +1,143 @@
+ghost use Rattle.std.specs.Prelude.{IfOk, IfErr};
+ghost use Rattle.dd_template.specs.Table.{table_of};
+ghost use Rattle.dd_template.specs.Lawful.{IsLawful};
+ghost use Rattle.dd_commands.specs.InTurn.{AreInTurn};
+ghost use Rattle.dd_commands.specs.Made.{IsLeastImage, IsDerived, IsTooLong, IsTooSharp, IsMade, IsFaultOf, IsFirstFault};
+ghost use Rattle.dd_commands.specs.Files.{AreLinesOfMade};
+ghost use Rattle.dd_commands.specs.Stops.{IsStop};
+
+use crate::commands::SymbolCommand;
+use crate::refusals::{SymbolFault, SymbolRefusal};
+use crate::stop::Stop;
+use dd_canon::least_form;
+use dd_model::Memory;
+use dd_quotient::{MinimalFault, dual, minimal_image};
+use dd_symbol::Connected;
+use dd_template::{
+    AMBO, ApplyFault, CHAMFER, TRUNCATE, Template, ambo_is_lawful, apply, chamfer_is_lawful,
+    truncate_is_lawful,
+};
+use dd_text::put_lines;
+use std::alloc::Global;
+
+/// The lines of what a command makes of symbols, numbered from 1.
+pub fn lines_of(
+    alloc: Global,
+    command: SymbolCommand,
+    symbols: Vec<Connected>,
+) -> Result<Vec<u8>, Stop<SymbolRefusal>>
+    ensures text { IfOk result (λ text. AreLinesOfMade command symbols.items text.items) }
+    ensures why { IfErr result (IsStop (IsFirstFault command 1 symbols.items)) }
+{
+    let made = made_of(alloc, command, symbols)?;
+    let mut text = Vec::new(alloc);
+    put_lines(&mut text, 0, &made)?;
+    Ok(text)
+}
+
+/// What a command makes of symbols, in order.
+fn made_of(
+    alloc: Global,
+    command: SymbolCommand,
+    symbols: Vec<Connected>,
+) -> Result<Vec<Connected>, Stop<SymbolRefusal>>
+    ensures made { IfOk result (λ made. AreInTurn (IsMade command) symbols.items made.items) }
+    ensures why { IfErr result (IsStop (IsFirstFault command 1 symbols.items)) }
+{
+    match command {
+        SymbolCommand::Lines => Ok(symbols),
+        _ => each_made(alloc, command, &symbols),
+    }
+}
+
+/// What a command makes of each symbol, in order.
+fn each_made(
+    alloc: Global,
+    command: SymbolCommand,
+    symbols: &[Connected],
+) -> Result<Vec<Connected>, Stop<SymbolRefusal>>
+    ensures made { IfOk result (λ made. AreInTurn (IsMade command) symbols.now made.items) }
+    ensures why { IfErr result (IsStop (IsFirstFault command 1 symbols.now)) }
+{
+    let mut made = Vec::new(alloc);
+    for (before, symbol) in symbols.iter().enumerate() {
+        match made_of_one(alloc, command, symbol) {
+            Ok(one) => made.push(one)?,
+            Err(Stop::Refused(why)) => {
+                return Err(Stop::Refused(SymbolRefusal {
+                    symbol: before + 1,
+                    why,
+                }));
+            }
+            Err(Stop::Memory) => return Err(Stop::Memory),
+        }
+    }
+    Ok(made)
+}
+
+/// What a command makes of a symbol.
+fn made_of_one(
+    alloc: Global,
+    command: SymbolCommand,
+    s: &Connected,
+) -> Result<Connected, Stop<SymbolFault>>
+    ensures made { IfOk result (λ made. IsMade command s.now made) }
+    ensures why { IfErr result (IsStop (IsFaultOf command s.now)) }
+{
+    match command {
+        SymbolCommand::Lines => Ok(s.try_copy(alloc)?),
+        SymbolCommand::Canon => Ok(least_form(alloc, s)?),
+        SymbolCommand::Minimal => least_image(alloc, s),
+        SymbolCommand::Dual => {
+            let dual = dual(alloc, s)?;
+            Ok(least_form(alloc, &dual)?)
+        }
+        SymbolCommand::Ambo => {
+            ambo_is_lawful();
+            derived(alloc, &AMBO, s)
+        }
+        SymbolCommand::Truncate => {
+            truncate_is_lawful();
+            derived(alloc, &TRUNCATE, s)
+        }
+        SymbolCommand::Chamfer => {
+            chamfer_is_lawful();
+            derived(alloc, &CHAMFER, s)
+        }
+    }
+}
+
+/// The least form of the minimal image.
+fn least_image(alloc: Global, s: &Connected) -> Result<Connected, Stop<SymbolFault>>
+    ensures image { IfOk result (λ form. IsLeastImage s.now form) }
+    ensures why { IfErr result (IsStop (IsTooSharp s.now)) }
+{
+    let (image, _map) = match minimal_image(alloc, s) {
+        Ok(answer) => answer,
+        Err(MinimalFault::BranchingTooLarge { v }) => {
+            return Err(Stop::Refused(SymbolFault::BranchingTooLarge { v }));
+        }
+        Err(MinimalFault::Memory) => return Err(Stop::Memory),
+    };
+    Ok(least_form(alloc, &image)?)
+}
+
+/// The least form of what a table makes of a symbol.
+fn derived<const K: usize>(
+    alloc: Global,
+    template: &Template<K>,
+    s: &Connected,
+) -> Result<Connected, Stop<SymbolFault>>
+    requires { IsLawful (table_of template.now) }
+    ensures form { IfOk result (λ form. IsDerived (table_of template.now) s.now form) }
+    ensures why { IfErr result (IsStop (IsTooLong (table_of template.now) s.now)) }
+{
+    let made = match apply(alloc, template, s) {
+        Ok(made) => made,
+        Err(ApplyFault::TooManyChambers { n }) => {
+            return Err(Stop::Refused(SymbolFault::TooManyChambers { n }));
+        }
+        Err(ApplyFault::Memory) => return Err(Stop::Memory),
+    };
+    Ok(least_form(alloc, &made)?)
+}

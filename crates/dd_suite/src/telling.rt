@@ -1,0 +1,61 @@
+ghost use Rattle.std.specs.Prelude.{◌≡◌, OnOk, true};
+ghost use Rattle.std.specs.Io.KnownBytes.{Appends};
+ghost use Rattle.dd_ports.specs.declared.sink.SinkFault.TheVariants.{Failed};
+ghost use Rattle.dd_ports.specs.Causes.{HasCause, StaysSure};
+ghost use Rattle.dd_ports.specs.Grows.{GrowsByPrefix};
+ghost use Rattle.dd_commands.specs.Messages.{fault_text, symbol_refusal_text};
+ghost use Rattle.dd_suite.specs.Endings.{message_of};
+
+use crate::ending::Ending;
+use dd_commands::{SymbolRefusal, fault_message, symbol_message};
+use dd_ports::{Sink, SinkFault, write_all_of};
+use dd_text::FileFault;
+use std::alloc::Global;
+
+/// Writes the line of an ending, and answers whether all of it was written.
+pub fn tell<E: Sink>(alloc: Global, ending: Ending, err: &mut E) -> Result<(), SinkFault>
+    ensures whole { OnOk result (Appends (E.held err.old) (E.held err.new) (message_of ending)) }
+    ensures prefix { GrowsByPrefix (E.held err.old) (E.held err.new) (message_of ending) }
+    ensures cause { HasCause Failed (E.faults err.old) (E.faults err.new) result }
+    ensures sure { E.sure err.old ≡ true
+        → StaysSure Failed (E.faults err.old) (E.faults err.new) (E.sure err.new) result }
+{
+    match ending {
+        Ending::Done => Ok(()),
+        Ending::Usage => write_all_of(err, b"dressline: words not taken\n"),
+        Ending::Refused(fault) => tell_fault(alloc, fault, err),
+        Ending::RefusedSymbol(refusal) => tell_refusal(alloc, refusal, err),
+        Ending::StoreFault => write_all_of(err, b"dressline: store failed\n"),
+        Ending::SinkFault => write_all_of(err, b"dressline: sink failed\n"),
+        Ending::Memory => write_all_of(err, b"dressline: out of memory\n"),
+        Ending::TooManyLines => write_all_of(err, b"dressline: too many lines\n"),
+    }
+}
+
+/// Writes the line of a refused file.
+fn tell_fault<E: Sink>(alloc: Global, fault: FileFault, err: &mut E) -> Result<(), SinkFault>
+    ensures whole { OnOk result (Appends (E.held err.old) (E.held err.new) (fault_text fault)) }
+    ensures prefix { GrowsByPrefix (E.held err.old) (E.held err.new) (fault_text fault) }
+    ensures cause { HasCause Failed (E.faults err.old) (E.faults err.new) result }
+    ensures sure { E.sure err.old ≡ true
+        → StaysSure Failed (E.faults err.old) (E.faults err.new) (E.sure err.new) result }
+{
+    let line = fault_message(alloc, fault)?;
+    write_all_of(err, line.as_bytes())
+}
+
+/// Writes the line of a symbol of which nothing is made.
+fn tell_refusal<E: Sink>(
+    alloc: Global,
+    refusal: SymbolRefusal,
+    err: &mut E,
+) -> Result<(), SinkFault>
+    ensures whole { OnOk result (Appends (E.held err.old) (E.held err.new) (symbol_refusal_text refusal)) }
+    ensures prefix { GrowsByPrefix (E.held err.old) (E.held err.new) (symbol_refusal_text refusal) }
+    ensures cause { HasCause Failed (E.faults err.old) (E.faults err.new) result }
+    ensures sure { E.sure err.old ≡ true
+        → StaysSure Failed (E.faults err.old) (E.faults err.new) (E.sure err.new) result }
+{
+    let line = symbol_message(alloc, refusal)?;
+    write_all_of(err, line.as_bytes())
+}
