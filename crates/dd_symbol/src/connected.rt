@@ -43,7 +43,9 @@ impl Connected {
 
     /// The symbol without what is known of its connectedness.
     pub fn symbol(&self) -> &Symbol
-        ensures { result.now ≡ self.now }
+        ensures same { result.now ≡ self.now }
+        ensures symbol { IsSmallSymbol self.now }
+        ensures connected { AllReached self.now }
     {
         &self.symbol
     }

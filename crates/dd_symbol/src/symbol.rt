@@ -54,6 +54,7 @@ impl Symbol {
     pub fn size(&self) -> u32
         ensures size { result ≡ self.now.size }
         ensures small { result ≤ 16384 }
+        ensures symbol { IsSmallSymbol self.now }
     {
         self.table.size()
     }
