@@ -14,12 +14,13 @@ pub struct Connected {
 
 impl Model for Connected {
     ghost use Rattle.dd_model.specs.Symbol.{Symbol as Tiling, Connected as AllReached};
+    ghost use Rattle.dd_model.specs.Small.{IsSmallSymbol};
 
     ghost Value = { Tiling };
 
     ghost view = { λ a. a.symbol };
 
-    ghost invariant = { λ a. AllReached a.symbol };
+    ghost invariant = { λ a. AllReached a.symbol × IsSmallSymbol a.symbol };
 }
 
 impl Connected {
@@ -43,7 +44,9 @@ impl Connected {
 
     /// The symbol without what is known of its connectedness.
     pub fn symbol(&self) -> &Symbol
-        ensures { result.now ≡ self.now }
+        ensures same { result.now ≡ self.now }
+        ensures symbol { IsSmallSymbol self.now }
+        ensures connected { AllReached self.now }
     {
         &self.symbol
     }
@@ -53,7 +56,6 @@ impl Connected {
         requires { IsBijection self.now.size map.now }
         ensures { IfOk result (λ other. IsIsomorphism self.now other map.now) }
     {
-        self.known();
         Ok(Connected {
             symbol: self.symbol.renumber(alloc, map)?,
         })
