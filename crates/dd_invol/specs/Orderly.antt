@@ -1,6 +1,6 @@
 -- What orderly generation looks for: of all tables that differ in their numbering alone, the least one.
 use Rattle.std.specs.Prelude.{ℕ}
-use Rattle.dd_model.specs.declared.parts.Pair.TheVariants.{Edge}
+use Rattle.dd_model.specs.declared.pair.Pair.TheVariants.{Edge}
 use Rattle.dd_model.specs.Symbol.{Symbol, IsTable, IsChamber, HasDegree, Connected}
 use Rattle.dd_model.specs.FirstVisit.{LeastTable}
 

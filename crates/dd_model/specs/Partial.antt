@@ -1,7 +1,7 @@
 -- Tables of involutions of which some images are not known yet.
 use Rattle.std.specs.Prelude.{◌≡◌, ◌≢◌, ℕ, List}
 use Rattle.std.specs.declared.cmp.Ordering.{Ordering}
-use Rattle.dd_model.specs.declared.parts.Index.{Index}
+use Rattle.dd_model.specs.declared.index.Index.{Index}
 use Rattle.dd_model.specs.Symbol.{Symbol, IsTable, Connected, op}
 use Rattle.dd_model.specs.Traversal.{IsTraversal}
 

@@ -5,7 +5,7 @@ ghost use Rattle.dd_model.specs.Cell.{InCell, IsChain, IsBranching, AreCells};
 ghost use Rattle.dd_model.specs.Flat.{Flat};
 ghost use Rattle.dd_model.specs.Minimal.{Minimal};
 ghost use Rattle.dd_model.specs.Wanted.{Wanted};
-ghost use Rattle.dd_model.specs.declared.parts.Pair.{Pair};
+ghost use Rattle.dd_model.specs.declared.pair.Pair.{Pair};
 ghost use Rattle.dd_model.specs.declared.requests.Request.{Request};
 
 /// A morphism after a morphism is a morphism.

@@ -3,7 +3,7 @@ ghost use Rattle.std.specs.List.{Contains};
 ghost use Rattle.std.specs.declared.cmp.Ordering.TheVariants.{Less, Equal, Greater};
 ghost use Rattle.std.specs.declared.cmp.Ordering.{Ordering};
 ghost use Rattle.std.specs.Ordering.{nat_cmp, ordering_then};
-ghost use Rattle.dd_model.specs.declared.parts.Index.{Index};
+ghost use Rattle.dd_model.specs.declared.index.Index.{Index};
 ghost use Rattle.dd_model.specs.Symbol.{Symbol, IsTable, IsSymbol, IsChamber, Connected, item, op};
 ghost use Rattle.dd_model.specs.Isomorphic.{IsIsomorphism, Isomorphic};
 ghost use Rattle.dd_model.specs.Code.{code_cmp, Least, IsLeastForm};
