@@ -7,7 +7,8 @@ use Rattle.std.specs.declared.cmp.Ordering.{Ordering}
 use Rattle.std.specs.declared.cmp.Ordering.TheVariants.{Equal, Greater}
 use Rattle.dd_model.specs.declared.pair.Pair.{Pair}
 use Rattle.dd_model.specs.declared.pair.Pair.TheVariants.{Tile, Vertex}
-use Rattle.dd_model.specs.Symbol.{Symbol, IsTable, Connected, item, degree}
+use Rattle.dd_model.specs.Symbol.{Symbol, IsTable, item, degree}
+use Rattle.dd_model.specs.Connected.{Connected}
 use Rattle.dd_model.specs.Code.{code_cmp}
 use Rattle.dd_model.specs.FirstVisit.{IsNumberedFrom}
 use Rattle.dd_model.specs.Traversal.{IsVisit, IsExtension, IsTraversal}

@@ -21,7 +21,7 @@ struct Coloring {
 }
 
 impl Coloring {
-    ghost use Rattle.dd_model.specs.Symbol.{IsReached};
+    ghost use Rattle.dd_model.specs.Connected.{IsReached};
     ghost use Rattle.dd_symbol.specs.Walk.{IsMarked, Grows};
     ghost use Rattle.dd_cells.specs.Coloring.{IsColoring, IsForced};
 

@@ -14,7 +14,8 @@ use Rattle.dd_model.specs.Wanted.{AtMost}
 use Rattle.dd_model.proofs.CellLists.{cells_unique}
 use Rattle.dd_invol.specs.Frame.{IsLonger}
 use Rattle.dd_invol.specs.Growth.{Growing}
-use Rattle.dd_model.specs.Symbol.{Symbol, IsSymbol, Connected}
+use Rattle.dd_model.specs.Symbol.{Symbol, IsSymbol}
+use Rattle.dd_model.specs.Connected.{Connected}
 use Rattle.dd_model.specs.Lists.{Begins}
 use Rattle.dd_model.specs.Code.{code, code_cmp, all_images}
 use Rattle.dd_model.specs.Jobs.{extended}

@@ -4,7 +4,8 @@ use Rattle.dd_model.specs.declared.index.Index.{Index}
 use Rattle.dd_model.specs.declared.index.Index.TheVariants.{Zero, One, Two}
 use Rattle.dd_model.specs.declared.pair.Pair.{Pair}
 use Rattle.dd_model.specs.declared.pair.Pair.TheVariants.{Tile, Vertex, Edge}
-use Rattle.dd_model.specs.Symbol.{Symbol, IsTable, IsChamber, AreInvolutions, HasDegree, Connected, item}
+use Rattle.dd_model.specs.Symbol.{Symbol, IsTable, IsChamber, AreInvolutions, HasDegree, item}
+use Rattle.dd_model.specs.Connected.{Connected}
 use Rattle.dd_model.specs.Cell.{IsBranching, IsPeriod}
 use Rattle.dd_model.specs.Lists.{Begins}
 use Rattle.dd_model.specs.Code.{code, count_from}

@@ -7,7 +7,8 @@ use Rattle.dd_model.specs.declared.index.Index.{Index}
 use Rattle.dd_model.specs.declared.index.Index.TheVariants.{Zero, One, Two}
 use Rattle.dd_model.specs.declared.pair.Pair.{Pair}
 use Rattle.dd_model.specs.declared.pair.Pair.TheVariants.{Tile, Vertex, Edge}
-use Rattle.dd_model.specs.Symbol.{Symbol, IsTable, IsSymbol, IsInvolution, HasDegree, IsChamber, Connected, IsReached, Word, op, operation, act, power, turn}
+use Rattle.dd_model.specs.Symbol.{Symbol, IsTable, IsSymbol, IsInvolution, HasDegree, IsChamber, Word, op, operation, act, power, turn}
+use Rattle.dd_model.specs.Connected.{Connected, IsReached}
 use Rattle.dd_model.specs.Isomorphic.{Isomorphic}
 use Rattle.dd_model.specs.Code.{code_cmp, Least}
 use Rattle.dd_model.specs.Cell.{IsLeastTurns, IsLeastOfCell, AreCells}

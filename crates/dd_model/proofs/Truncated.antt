@@ -9,7 +9,8 @@ use Rattle.dd_model.specs.declared.index.Index.{Index}
 use Rattle.dd_model.specs.declared.index.Index.TheVariants.{Zero, One, Two}
 use Rattle.dd_model.specs.declared.pair.Pair.{Pair}
 use Rattle.dd_model.specs.declared.pair.Pair.TheVariants.{Tile, Vertex, Edge}
-use Rattle.dd_model.specs.Symbol.{Symbol, IsTable, IsSymbol, IsInvolution, IsChamber, HasDegree, Connected, IsReached, item, op, operation}
+use Rattle.dd_model.specs.Symbol.{Symbol, IsTable, IsSymbol, IsInvolution, IsChamber, HasDegree, item, op, operation}
+use Rattle.dd_model.specs.Connected.{Connected, IsReached}
 use Rattle.dd_model.specs.Isomorphic.{IsIsomorphism}
 use Rattle.dd_model.specs.Code.{count_from, images, code, code_cmp, Least}
 use Rattle.dd_model.specs.Flat.{Flat}

@@ -2,7 +2,8 @@
 use Rattle.std.proofs.Common.{◌≡◌, ℕ, ◌≤◌, List, [], ◌∷◌, length, refl, arith}
 use Rattle.dd_model.specs.declared.index.Index.{Index}
 use Rattle.dd_model.specs.declared.index.Index.TheVariants.{Zero, One, Two}
-use Rattle.dd_model.specs.Symbol.{IsSymbol, Connected, item, op, operation}
+use Rattle.dd_model.specs.Symbol.{IsSymbol, item, op, operation}
+use Rattle.dd_model.specs.Connected.{Connected}
 use Rattle.dd_model.specs.Isomorphic.{Undoes, IsIsomorphism, Isomorphic}
 use Rattle.dd_model.specs.Code.{Least}
 use Rattle.dd_model.specs.Flat.{Flat}

@@ -1,5 +1,6 @@
 ghost use Rattle.std.specs.Prelude.{◌≡◌, ℕ, List, length};
-ghost use Rattle.dd_model.specs.Symbol.{Symbol, IsTable, IsSymbol, IsChamber, Connected, item};
+ghost use Rattle.dd_model.specs.Symbol.{Symbol, IsTable, IsSymbol, IsChamber, item};
+ghost use Rattle.dd_model.specs.Connected.{Connected};
 ghost use Rattle.dd_model.specs.Isomorphic.{HaveLengths, IsMorphism, IsIsomorphism, Isomorphic};
 ghost use Rattle.dd_model.specs.Cell.{InCell, IsChain, IsBranching, AreCells};
 ghost use Rattle.dd_model.specs.Flat.{Flat};

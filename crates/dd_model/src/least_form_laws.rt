@@ -4,7 +4,8 @@ ghost use Rattle.std.specs.declared.cmp.Ordering.TheVariants.{Less, Equal, Great
 ghost use Rattle.std.specs.declared.cmp.Ordering.{Ordering};
 ghost use Rattle.std.specs.Ordering.{nat_cmp, ordering_then};
 ghost use Rattle.dd_model.specs.declared.index.Index.{Index};
-ghost use Rattle.dd_model.specs.Symbol.{Symbol, IsTable, IsSymbol, IsChamber, Connected, item, op};
+ghost use Rattle.dd_model.specs.Symbol.{Symbol, IsTable, IsSymbol, IsChamber, item, op};
+ghost use Rattle.dd_model.specs.Connected.{Connected};
 ghost use Rattle.dd_model.specs.Isomorphic.{IsIsomorphism, Isomorphic};
 ghost use Rattle.dd_model.specs.Code.{code_cmp, Least, IsLeastForm};
 ghost use Rattle.dd_model.specs.FirstVisit.{rows, IsFirstVisit, IsNumberedFrom, LeastTable, IsLeastTableForm};

@@ -3,7 +3,8 @@ use Rattle.std.proofs.Common.{◌≡◌, ℕ, ◌≤◌, [], ◌∷◌, refl, sy
 use Rattle.dd_model.specs.declared.pair.Pair.{Pair}
 use Rattle.dd_model.specs.declared.index.Index.{Index}
 use Rattle.dd_model.specs.declared.index.Index.TheVariants.{Zero, One, Two}
-use Rattle.dd_model.specs.Symbol.{Symbol, Word, IsChamber, AreInvolutions, Connected, op, act, degree, power, turn}
+use Rattle.dd_model.specs.Symbol.{Symbol, Word, IsChamber, AreInvolutions, op, act, degree, power, turn}
+use Rattle.dd_model.specs.Connected.{Connected}
 use Rattle.dd_model.specs.Cell.{InCell, IsLeastTurns, IsBranching}
 use Rattle.dd_plain.specs.Trials.{HasImages}
 

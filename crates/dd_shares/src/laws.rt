@@ -1,6 +1,7 @@
 ghost use Rattle.std.specs.Prelude.{◌≡◌, ◌≢◌, ◌⊎◌, ◌+◌, ◌*◌, ◌/◌, ◌%◌, ◌≤◌, ℕ, List, length};
 ghost use Rattle.std.specs.List.{AllByRecursion, sum_by};
-ghost use Rattle.dd_model.specs.Symbol.{Symbol, IsTable, IsSymbol, IsChamber, Connected, degree, op};
+ghost use Rattle.dd_model.specs.Symbol.{Symbol, IsTable, IsSymbol, IsChamber, degree, op};
+ghost use Rattle.dd_model.specs.Connected.{Connected};
 ghost use Rattle.dd_model.specs.Cell.{InCell, IsChain, AreCells};
 ghost use Rattle.dd_model.specs.Code.{chambers};
 ghost use Rattle.dd_model.specs.FirstVisit.{LeastTable};

@@ -5,7 +5,8 @@ use Rattle.dd_model.specs.declared.index.Index.{Index}
 use Rattle.dd_model.specs.declared.index.Index.TheVariants.{Zero, One, Two}
 use Rattle.dd_model.specs.declared.pair.Pair.{Pair}
 use Rattle.dd_model.specs.declared.pair.Pair.TheVariants.{Tile, Vertex, Edge}
-use Rattle.dd_model.specs.Symbol.{Symbol, IsChamber, IsReached, op, degree}
+use Rattle.dd_model.specs.Symbol.{Symbol, IsChamber, op, degree}
+use Rattle.dd_model.specs.Connected.{IsReached}
 use Rattle.dd_model.specs.Cell.{IsLeastTurns, IsBranching}
 use Rattle.dd_model.proofs.Turns.{least_turns_unique}
 use Rattle.dd_model.proofs.Branching.{branching_unique}

@@ -1,6 +1,7 @@
 -- When five lists are refused, and why. Each cause comes with what holds of the lists before it.
 use Rattle.std.specs.Prelude.{◌≡◌, ◌≢◌, ℕ, ◌<◌, ◌≤◌, ◌%◌}
-use Rattle.dd_model.specs.Symbol.{Symbol, IsChamber, IsReached, AreInvolutions, Connected, op, degree}
+use Rattle.dd_model.specs.Symbol.{Symbol, IsChamber, AreInvolutions, op, degree}
+use Rattle.dd_model.specs.Connected.{IsReached, Connected}
 use Rattle.dd_model.specs.Cell.{turned, IsLeastTurns, IsBranching}
 use Rattle.dd_model.specs.declared.index.Index.{Index}
 use Rattle.dd_model.specs.declared.index.Index.TheVariants.{Zero, One, Two}

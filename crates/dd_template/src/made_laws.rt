@@ -2,7 +2,8 @@ ghost use Rattle.std.specs.Prelude.{◌≡◌, ◌↔◌, ℕ, ◌*◌, ◌≤�
 ghost use Rattle.dd_model.specs.Cell.{IsBranching};
 ghost use Rattle.dd_model.specs.Flat.{Flat};
 ghost use Rattle.dd_model.specs.Small.{IsSmallSymbol};
-ghost use Rattle.dd_model.specs.Symbol.{Symbol, IsChamber, IsSymbol, Connected, Word, act, item, op};
+ghost use Rattle.dd_model.specs.Symbol.{Symbol, IsChamber, IsSymbol, Word, act, item, op};
+ghost use Rattle.dd_model.specs.Connected.{Connected};
 ghost use Rattle.dd_model.specs.declared.index.Index.{Index};
 ghost use Rattle.dd_model.specs.declared.pair.Pair.{Pair};
 ghost use Rattle.dd_template.specs.Kept.{HasSmallBranching, HaveSameCurvature};
