@@ -1,5 +1,5 @@
 -- How the numbering by first visits from a start stands to the code of another symbol.
-use Rattle.std.specs.Prelude.{◌≡◌, ◌⊎◌, ℕ, ◌≤◌, List, map, vec_capacity}
+use Rattle.std.specs.Prelude.{◌≡◌, ◌≢◌, ◌⊎◌, ℕ, ◌≤◌, List, map, vec_capacity}
 use Rattle.std.specs.Ordering.{nat_cmp, ordering_then}
 use Rattle.std.specs.declared.cmp.Ordering.{Ordering}
 use Rattle.std.specs.declared.cmp.Ordering.TheVariants.{Greater}
@@ -9,7 +9,7 @@ use Rattle.dd_model.specs.Symbol.{Symbol, IsTable, item, op, degree}
 use Rattle.dd_model.specs.Isomorphic.{IsIsomorphism}
 use Rattle.dd_model.specs.Code.{code_cmp, chambers}
 use Rattle.dd_model.specs.FirstVisit.{IsNumberedFrom}
-use Rattle.dd_model.specs.Traversal.{IsVisit, IsMeeting, IsTraversal}
+use Rattle.dd_canon.specs.Traversal.{IsVisit, IsMeeting, IsTraversal}
 use Rattle.dd_symbol.specs.Maps.{AreInverse}
 use Rattle.dd_canon.specs.declared.visits.Visit.{Visit}
 
@@ -27,6 +27,10 @@ pub record IsStep (s b : Symbol) (i : Index) (k : ℕ) (so_far : Ordering) (orde
 -- the numbering by first visits from the start stands to b as o says
 pub record IsStanding (s b : Symbol) (start : ℕ) (o : Ordering) : Type 0 where
   pub stands : (t : Symbol) → IsNumberedFrom s start t → code_cmp t b ≡ o
+
+-- no numbering by first visits from one of the chambers 1 to n is below t
+pub record IsBestTo (s : Symbol) (n : ℕ) (t : Symbol) : Type 0 where
+  pub best : (d : ℕ) (u : Symbol) → 1 ≤ d → d ≤ n → IsNumberedFrom s d u → code_cmp t u ≢ Greater
 
 -- a traversal from the start that is above b, or one that goes on
 abbrev pub IsOngoing : Symbol → Symbol → ℕ → List ℕ → List ℕ → ℕ → (Symbol → List ℕ) → Ordering → Type 0

@@ -43,9 +43,6 @@ pub mod FirstVisits
 pub mod Exchanges
 pub mod Numberings
 pub mod LeastForms
-pub mod Traversals
-pub mod Partials
-pub mod Visits
 pub mod ReadingExamples
 pub mod WrittenLines
 pub mod WrittenNumbers

@@ -29,5 +29,5 @@ loop-k-preserved g c = record {
 pub returns-clause-none : goal.returns-clause-none
 returns-clause-none g c =
     let s = c.args.s.now in
-    let size : c.symbol.result.now.size ≡ s.size = ap (λ (t : Symbol). t.size) c.symbol.ensures in
+    let size : c.symbol.result.now.size ≡ s.size = ap (λ (t : Symbol). t.size) c.symbol.ensures.same in
     none_apart s c.args.form.now c.loop-k.k c.known.ensures.symbol.symbol.table c.known-2.ensures.symbol.symbol.table (omega arith) c.loop-k.invariant.apart c.requires.first_visit
