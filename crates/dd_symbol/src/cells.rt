@@ -44,8 +44,11 @@ impl Table {
         requires chamber { IsChamber (symbol_of self.now) chamber }
         requires length { length least.old.items ≡ (symbol_of self.now).size }
         ensures length { length least.new.items ≡ (symbol_of self.now).size }
-        ensures cell { (e : ℕ) → InCell (symbol_of self.now) pair chamber e → item least.new.items e ≡ chamber }
-        ensures others { (e : ℕ) → IsChamber (symbol_of self.now) e → (InCell (symbol_of self.now) pair chamber e → ⊥) → item least.new.items e ≡ item least.old.items e }
+        ensures cell { (e : ℕ) → InCell (symbol_of self.now) pair chamber e
+            → item least.new.items e ≡ chamber }
+        ensures others { (e : ℕ) → IsChamber (symbol_of self.now) e
+            → (InCell (symbol_of self.now) pair chamber e → ⊥)
+            → item least.new.items e ≡ item least.old.items e }
     {
         let turns = self.period(pair, chamber);
         let mut place = chamber;

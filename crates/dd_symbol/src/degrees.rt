@@ -57,7 +57,8 @@ impl Table {
         requires constant { OfBoth (AreConstant (symbol_of self.now)) }
         requires before { PairBefore (AreMultiples (symbol_of self.now)) pair }
         requires chamber { IsChamber (symbol_of self.now) chamber }
-        requires earlier { (e : ℕ) → IsChamber (symbol_of self.now) e → e < chamber → IsMultiple (symbol_of self.now) pair e }
+        requires earlier { (e : ℕ) → IsChamber (symbol_of self.now) e → e < chamber
+            → IsMultiple (symbol_of self.now) pair e }
         ensures multiple { OnOk result (IsMultiple (symbol_of self.now) pair chamber) }
         ensures why { IfErr result (λ why. IsFault (symbol_of self.now) why) }
     {
@@ -82,7 +83,8 @@ impl Table {
         requires multiples { OfBoth (AreMultiples (symbol_of self.now)) }
         requires before { PairBefore (AreSmall (symbol_of self.now)) pair }
         requires chamber { IsChamber (symbol_of self.now) chamber }
-        requires earlier { (e : ℕ) → IsChamber (symbol_of self.now) e → e < chamber → IsSmall (symbol_of self.now) pair e }
+        requires earlier { (e : ℕ) → IsChamber (symbol_of self.now) e → e < chamber
+            → IsSmall (symbol_of self.now) pair e }
         ensures small { OnOk result (IsSmall (symbol_of self.now) pair chamber) }
         ensures why { IfErr result (λ why. IsFault (symbol_of self.now) why) }
     {

@@ -58,7 +58,8 @@ impl Table {
     /// Refuses a chamber that s0 s2 s0 s2 moves.
     pub fn check_commuting(&self) -> Result<(), Refusal>
         requires involutions { AreInvolutions (symbol_of self.now) }
-        ensures commuting { OnOk result (AtAll (symbol_of self.now) (Commutes (symbol_of self.now))) }
+        ensures commuting { OnOk result
+            (AtAll (symbol_of self.now) (Commutes (symbol_of self.now))) }
         ensures why { IfErr result (λ why. IsFault (symbol_of self.now) why) }
     {
         let turn = [Pair::Edge.first(), Pair::Edge.second()];
