@@ -10,7 +10,7 @@ impl Table {
     ghost use Rattle.dd_model.specs.Symbol.{AreInvolutions, IsChamber, item};
     ghost use Rattle.dd_model.specs.Cell.{IsPeriod, IsBranching, InCell, AreCells};
     ghost use Rattle.dd_symbol.specs.Degrees.{AreLeast};
-    ghost use Rattle.dd_symbol.specs.Refusals.{IsMultiple};
+    ghost use Rattle.dd_symbol.specs.Conditions.{IsMultiple};
 
     /// The least positive number of turns that fixes a chamber.
     pub fn period(&self, pair: Pair, chamber: u32) -> u32

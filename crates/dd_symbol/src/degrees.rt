@@ -12,7 +12,9 @@ const LARGEST_BRANCHING: u32 = 30;
 impl Table {
     ghost use Rattle.dd_symbol.specs.Table.{symbol_of};
     ghost use Rattle.dd_symbol.specs.Degrees.{AreLeast};
-    ghost use Rattle.dd_symbol.specs.Refusals.{PairBefore, OfBoth, AreConnected, ArePositive, AreConstant, AreMultiples, AreSmall, IsMultiple, IsSmall, IsFault};
+    ghost use Rattle.dd_symbol.specs.Refusals.{IsFault};
+    ghost use Rattle.dd_symbol.specs.Causes.{PairBefore};
+    ghost use Rattle.dd_symbol.specs.Conditions.{OfBoth, AreConnected, ArePositive, AreConstant, AreMultiples, AreSmall, IsMultiple, IsSmall};
     ghost use Rattle.dd_model.specs.Symbol.{IsChamber};
     ghost use Rattle.dd_model.specs.Small.{IsSmallSymbol};
 

@@ -6,7 +6,9 @@ use dd_model::{Index, Pair};
 
 impl Table {
     ghost use Rattle.dd_symbol.specs.Table.{symbol_of};
-    ghost use Rattle.dd_symbol.specs.Refusals.{IndexBefore, IsWithin, IsInvolutive, Commutes, AtAll, IsFault};
+    ghost use Rattle.dd_symbol.specs.Refusals.{IsFault};
+    ghost use Rattle.dd_symbol.specs.Causes.{IndexBefore};
+    ghost use Rattle.dd_symbol.specs.Conditions.{IsWithin, IsInvolutive, Commutes, AtAll};
     ghost use Rattle.dd_model.specs.Symbol.{AreInvolutions};
 
     /// Refuses images that are no chambers.

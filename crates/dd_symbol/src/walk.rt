@@ -10,7 +10,8 @@ impl Table {
     ghost use Rattle.dd_model.specs.Symbol.{AreInvolutions, IsChamber, op};
     ghost use Rattle.dd_model.specs.Connected.{IsReached, Connected};
     ghost use Rattle.dd_symbol.specs.Walk.{IsWalk, IsMarked, Grows};
-    ghost use Rattle.dd_symbol.specs.Refusals.{AtAll, Commutes, IsFault};
+    ghost use Rattle.dd_symbol.specs.Refusals.{IsFault};
+    ghost use Rattle.dd_symbol.specs.Conditions.{AtAll, Commutes};
 
     /// Marks a chamber, and queues it if it was not marked.
     fn mark(&self, seen: &mut Vec<bool>, queue: &mut Vec<u32>, chamber: u32) -> Result<(), Memory>
