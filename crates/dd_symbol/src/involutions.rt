@@ -48,12 +48,12 @@ impl Table {
         ensures involutions { OnOk result (AreInvolutions (symbol_of self.now)) }
         ensures why { IfErr result (λ why. IsFault (symbol_of self.now) why) }
     {
-        self.check_range(Index::Zero)?;
-        self.check_range(Index::One)?;
-        self.check_range(Index::Two)?;
-        self.check_inverse(Index::Zero)?;
-        self.check_inverse(Index::One)?;
-        self.check_inverse(Index::Two)?;
+        for i in Index::ALL {
+            self.check_range(i)?;
+        }
+        for i in Index::ALL {
+            self.check_inverse(i)?;
+        }
         Ok(())
     }
 

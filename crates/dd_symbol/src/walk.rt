@@ -7,6 +7,7 @@ use std::alloc::Global;
 
 impl Table {
     ghost use Rattle.dd_symbol.specs.Table.{symbol_of};
+    ghost use Rattle.dd_model.specs.declared.index.Index.{Index as Letter};
     ghost use Rattle.dd_model.specs.Symbol.{AreInvolutions, IsChamber, op};
     ghost use Rattle.dd_model.specs.Connected.{IsReached, Connected};
     ghost use Rattle.dd_symbol.specs.Walk.{IsWalk, IsMarked, Grows};
@@ -40,16 +41,12 @@ impl Table {
         ensures walk { OnOk result (IsWalk (symbol_of self.now) seen.new.items queue.new.items) }
         ensures grows { OnOk result
             (Grows seen.old.items queue.old.items seen.new.items queue.new.items) }
-        ensures zero { OnOk result
-            (IsMarked seen.new.items (op (symbol_of self.now) Index.Zero chamber)) }
-        ensures one { OnOk result
-            (IsMarked seen.new.items (op (symbol_of self.now) Index.One chamber)) }
-        ensures two { OnOk result
-            (IsMarked seen.new.items (op (symbol_of self.now) Index.Two chamber)) }
+        ensures images { OnOk result ((i : Letter)
+            → IsMarked seen.new.items (op (symbol_of self.now) i chamber)) }
     {
-        self.mark(seen, queue, self.op(Index::Zero, chamber))?;
-        self.mark(seen, queue, self.op(Index::One, chamber))?;
-        self.mark(seen, queue, self.op(Index::Two, chamber))?;
+        for i in Index::ALL {
+            self.mark(seen, queue, self.op(i, chamber))?;
+        }
         Ok(())
     }
 
