@@ -1,17 +1,20 @@
 -- The symbol of the ranks is a minimal image, and only a branching value over 30 refuses it.
 use Rattle.std.proofs.Common.{◌≡◌, ◌≢◌, ℕ, ◌<◌, ◌≤◌, ◌%◌, ◌⊎◌, List, [], ◌∷◌, length, refl, sym, ap, ◌∙◌, subst, inl, inr, ⊎_elim, arith}
 use Rattle.std.proofs.lemmas.Bool.{cases_lt}
-use Rattle.dd_model.specs.declared.parts.Index.TheVariants.{Zero, One, Two}
-use Rattle.dd_model.specs.declared.parts.Pair.{Pair}
-use Rattle.dd_model.specs.declared.parts.Pair.TheVariants.{Tile, Vertex, Edge}
-use Rattle.dd_model.specs.Symbol.{Symbol, IsSymbol, IsChamber, AreInvolutions, Connected, item, op, operation, degree}
+use Rattle.dd_model.specs.declared.index.Index.TheVariants.{Zero, One, Two}
+use Rattle.dd_model.specs.declared.pair.Pair.{Pair}
+use Rattle.dd_model.specs.declared.pair.Pair.TheVariants.{Tile, Vertex, Edge}
+use Rattle.dd_model.specs.Symbol.{Symbol, IsSymbol, IsChamber, AreInvolutions, item, op, operation, degree}
+use Rattle.dd_model.specs.Connected.{Connected}
 use Rattle.dd_model.specs.Isomorphic.{IsMorphism}
 use Rattle.dd_model.specs.Cell.{IsBranching}
 use Rattle.dd_model.proofs.Branching.{degree_same}
 use Rattle.dd_model.proofs.CellWalks.{has_period}
 use Rattle.dd_model.proofs.Turns.{period_divides, IsLeastTurns-from_period, least_turns_unique}
 use Rattle.dd_symbol.specs.Building.{listed}
-use Rattle.dd_symbol.specs.Refusals.{IsMultiple, PairBefore, AreSmall, IsTooLarge, IsRefused}
+use Rattle.dd_symbol.specs.Refusals.{IsRefused}
+use Rattle.dd_symbol.specs.Causes.{PairBefore, IsTooLarge}
+use Rattle.dd_symbol.specs.Conditions.{IsMultiple, AreSmall}
 use Rattle.dd_symbol.specs.declared.refusals.Refusal.{Refusal}
 use Rattle.dd_symbol.specs.declared.refusals.Refusal.TheVariants.{Empty, TooManyChambers, OpRange, NotInvolution, NotCommuting, NotConnected, DegreeZero, DegreeVaries, NotMultiple, BranchingTooLarge, Memory}
 use Rattle.dd_quotient.specs.Alike.{AreAlikeClasses}

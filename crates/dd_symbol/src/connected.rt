@@ -13,7 +13,8 @@ pub struct Connected {
 }
 
 impl Model for Connected {
-    ghost use Rattle.dd_model.specs.Symbol.{Symbol as Tiling, Connected as AllReached};
+    ghost use Rattle.dd_model.specs.Symbol.{Symbol as Tiling};
+    ghost use Rattle.dd_model.specs.Connected.{Connected as AllReached};
     ghost use Rattle.dd_model.specs.Small.{IsSmallSymbol};
 
     ghost Value = { Tiling };
@@ -24,7 +25,7 @@ impl Model for Connected {
 }
 
 impl Connected {
-    ghost use Rattle.dd_model.specs.Symbol.{Connected as AllReached};
+    ghost use Rattle.dd_model.specs.Connected.{Connected as AllReached};
     ghost use Rattle.dd_model.specs.Small.{IsSmallSymbol};
 
     pub(crate) fn from_symbol(symbol: Symbol) -> Self
@@ -54,7 +55,8 @@ impl Connected {
     /// Chamber D becomes chamber map(D).
     pub fn renumber(&self, alloc: Global, map: &[u32]) -> Result<Connected, Memory>
         requires { IsBijection self.now.size map.now }
-        ensures { IfOk result (λ other. IsIsomorphism self.now other map.now) }
+        ensures isomorphism { IfOk result (λ other. IsIsomorphism self.now other map.now) }
+        ensures symbol { IfOk result (λ other. IsSmallSymbol other) }
     {
         Ok(Connected {
             symbol: self.symbol.renumber(alloc, map)?,

@@ -5,7 +5,7 @@ use Rattle.std.proofs.lemmas.Bool.Decides.{nat_tests}
 use Rattle.std.proofs.lemmas.List.{get_or-set_same, get_or-set_other, length-set, get_or_append_left, get_or_push, length_push}
 use Rattle.std.proofs.lemmas.List.Sums.{sum_by-set}
 use Rattle.dd_model.specs.Symbol.{item}
-use Rattle.dd_model.specs.Traversal.{unnumbered, IsVisit, IsMeeting}
+use Rattle.dd_canon.specs.Traversal.{unnumbered, IsVisit, IsMeeting}
 
 item_push_old : (order : List ℕ) (d k : ℕ) → 1 ≤ k → k ≤ length order → item (order ++ d ∷ []) k ≡ item order k
 item_push_old order d k low high = get_or_append_left order (d ∷ []) 0 (k - 1) (omega arith)
@@ -19,7 +19,7 @@ item_set_same number d x low high = get_or-set_same number (d - 1) x 0 (omega ar
 item_set_other : (number : List ℕ) (d e x : ℕ) → 1 ≤ d → 1 ≤ e → (e ≡ d → ⊥) → item (set number (d - 1) x) e ≡ item number e
 item_set_other number d e x ld le apart = get_or-set_other number (d - 1) (e - 1) x 0 (λ same. apart (omega arith))
 
-numbered_counts_not : (x : ℕ) → 1 ≤ x → unnumbered x ≡ 0
+pub numbered_counts_not : (x : ℕ) → 1 ≤ x → unnumbered x ≡ 0
 numbered_counts_not x h = grind (arith, nat_tests)
 
 -- a chamber that had no number gets the next one
