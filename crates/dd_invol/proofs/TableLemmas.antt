@@ -8,12 +8,11 @@ use Rattle.dd_model.specs.declared.parts.Pair.{Pair}
 use Rattle.dd_model.specs.declared.parts.Pair.TheVariants.{Tile, Vertex, Edge}
 use Rattle.dd_model.specs.Symbol.{Symbol, IsTable, IsChamber, AreInvolutions, HasDegree, Connected, item, first, second, op, act, turn}
 use Rattle.dd_model.specs.Cell.{IsPeriod, turned}
-use Rattle.dd_model.specs.Small.{IsSmallSymbol}
 use Rattle.dd_model.specs.Lists.{Begins}
 use Rattle.dd_model.specs.Code.{code, count_from}
 use Rattle.dd_model.proofs.Turns.{turned-last, period_bound}
 use Rattle.dd_invol.specs.Places.{place}
-use Rattle.dd_invol.specs.Table.{AreChambers, ArePeriods, HaveSameInvolutions, HasNoTable, IsTableOf, IsUnbranched, images_of, told}
+use Rattle.dd_invol.specs.Table.{AreChambers, ArePeriods, HaveSameInvolutions, HasNoTable, IsBareTable, IsTableOf, IsUnbranched, images_of, told}
 use Rattle.dd_invol.proofs.Ascending.{begins_at}
 use Rattle.dd_invol.proofs.Places.{chamber_at}
 use Rattle.dd_invol.proofs.TableFronts.{told_at, told_same, told_begins, lengths_told, length-images_of, place_inside}
@@ -200,11 +199,20 @@ listed_lengths n numbers m01 m12 xs ys zs are both =
       m12 = both.vertices.whole ∙ sym size;
     }
 
-pub table_of_told : (n : ℕ) (numbers m01 m12 : List ℕ) (built t : Symbol) → length numbers ≡ 3 * n → built ≡ told n numbers m01 m12 → t ≡ built → IsTableOf n numbers t
-table_of_told n numbers m01 m12 built t whole same is =
-    subst (IsTableOf n numbers) (sym same ∙ sym is) (record { size = refl; begins = told_begins n numbers m01 m12 whole })
+-- what was built is bare
+pub bare_of_told : (n : ℕ) (numbers m01 m12 : List ℕ) (built t : Symbol) → built ≡ told n numbers m01 m12 → t ≡ built → IsAccepted 36 built → HaveBothPeriods n numbers m01 m12 → IsBareTable t
+bare_of_told n numbers m01 m12 built t same is accepted both =
+    let inv = subst AreInvolutions same accepted.symbol.symbol.table.involutions in
+    subst IsBareTable (sym is) (record {
+      symbol = accepted.symbol.symbol;
+      connected = accepted.connected;
+      unbranched = subst IsUnbranched (sym same) (told_unbranched n numbers m01 m12 both inv);
+      small = accepted.within;
+    })
 
-pub told_unbranched_of : (n : ℕ) (numbers m01 m12 : List ℕ) (built t : Symbol) → built ≡ told n numbers m01 m12 → t ≡ built → IsSmallSymbol built → HaveBothPeriods n numbers m01 m12 → IsUnbranched t
-told_unbranched_of n numbers m01 m12 built t same is small both =
-    let inv = subst AreInvolutions same small.symbol.table.involutions in
-    subst IsUnbranched (sym same ∙ sym is) (told_unbranched n numbers m01 m12 both inv)
+pub table_of_told : (n : ℕ) (numbers m01 m12 : List ℕ) (built t : Symbol) → length numbers ≡ 3 * n → built ≡ told n numbers m01 m12 → t ≡ built → IsBareTable t → IsTableOf n numbers t
+table_of_told n numbers m01 m12 built t whole same is bare = record {
+  bare = bare;
+  size = ap (λ s. s.size) (is ∙ same);
+  begins = subst (λ s. Begins numbers (code s)) (sym same ∙ sym is) (told_begins n numbers m01 m12 whole);
+}
