@@ -3,6 +3,7 @@ use Rattle.std.proofs.Common.{◌≡◌, ℕ, zero, suc, ◌+◌, ◌-◌, ◌*�
 use Rattle.std.proofs.lemmas.List.Elements.{Contains-append_cases}
 use Rattle.std.proofs.lemmas.List.Sums.{sum_by-append, sum_by-cons}
 use Rattle.std.proofs.Math.Nat.{mul-le-mul_left, mul-le-mul_right}
+use mir.Val.{bool_byte}
 use Rattle.std.specs.List.{Contains, sum_by}
 use Rattle.dd_model.specs.declared.parts.Pair.{Pair}
 use Rattle.dd_model.specs.declared.parts.Pair.TheVariants.{Tile, Vertex}
@@ -29,6 +30,7 @@ use Rattle.dd_shares.specs.Shares.{IsSought, IsShare}
 use Rattle.dd_shares.specs.Turning.{IsWholeCell}
 use Rattle.dd_shares.specs.declared.cells.WholeCell.{WholeCell}
 use Rattle.dd_shares.specs.declared.limits.Census.{Census}
+use Rattle.dd_shares.specs.Units.{share_unit}
 use Rattle.dd_shares.proofs.Bounds.{sum_over_degrees}
 use Rattle.dd_shares.proofs.CountBound.{cell_sum, flags_of_cell, flags_at_most, flagged_weight, sum_beyond_cells, even_flags}
 use Rattle.dd_shares.proofs.FlatBound.{part, add_parts}
@@ -94,8 +96,12 @@ known_flag P s full i d some =
     (cases_eq (op P i d) d)
 
 -- a flag, by the image
-pub same_flag : (P : Symbol) (i j : Index) (d image : ℕ) → image ≡ op P i d → i ≡ j → one_if (eqb image d) ≡ fixed_flag P j d
-same_flag P i j d image is same = ap (λ x. one_if (eqb x d)) is ∙ ap (λ k. fixed_flag P k d) same
+pub same_flag : (P : Symbol) (i j : Index) (d image : ℕ) → image ≡ op P i d → i ≡ j → bool_byte (eqb image d) ≡ fixed_flag P j d
+same_flag P i j d image is same = counted (eqb image d) ∙ ap (λ x. one_if (eqb x d)) is ∙ ap (λ k. fixed_flag P k d) same
+  where
+    counted : (b : Bool) → bool_byte b ≡ one_if b
+    counted true = refl
+    counted false = refl
 
 -- the flags of one more chamber
 pub fixed_more : (q : Request) (P : Symbol) (p : Pair) (k fixed a b : ℕ) → ((s : Symbol) → IsSought q P s → fixed ≤ sum_by (fixed_flags s p) (count_from 1 k))
@@ -268,9 +274,9 @@ has_room q P p c limit which few some census s sought =
           ap (λ (f : ℕ → ℕ). sum_by f w.least) (λ i g. sum_by_mixed D part (fixed_flags s p) (members g) i) in
           let outer = sum_by_mixed D (λ g. sum_by part (members g)) (λ g. sum_by (fixed_flags s p) (members g)) w.least in
           let more : left * (4 * D) ≤ (limit - c.cells) * (4 * D) = mul-le-mul_right (4 * D) fewer in
-          let bound = weights D 144403552893600 (sum_by part (chambers s)) flags (sum_by (λ g. sum_by part (members g)) w.least) own_flags c.most c.chains (limit - c.cells) ((c.fixed + 1) / 2)
+          let bound = weights D share_unit (sum_by part (chambers s)) flags (sum_by (λ g. sum_by part (members g)) w.least) own_flags c.most c.chains (limit - c.cells) ((c.fixed + 1) / 2)
           (omega (arith, all, mixed, inner, outer, more)) (w.total s sought members are) own (omega (arith, known, even)) (omega (arith, rest, own, known, even, fewer)) in
-          subst (λ x. x * 144403552893600 ≤ D * (c.most + (c.chains + 2 * (limit - c.cells) - (c.fixed + 1) / 2) * 144403552893600)) (sum_over_degrees s is p (λ m. D / m) which) bound;
+          subst (λ x. x * share_unit ≤ D * (c.most + (c.chains + 2 * (limit - c.cells) - (c.fixed + 1) / 2) * share_unit)) (sum_over_degrees s is p (λ m. D / m) which) bound;
     })
     (few s sought.wanted)
   where

@@ -17,6 +17,7 @@ use Rattle.dd_invol.specs.declared.stem.Stem.{Stem}
 use Rattle.dd_invol.proofs.RowsLemmas.{op_partial}
 use Rattle.dd_shares.specs.Kept.{AreKept}
 use Rattle.dd_shares.specs.declared.shares.Shares.{Shares}
+use Rattle.dd_shares.specs.Units.{share_unit}
 use Rattle.dd_shares.proofs.Bounds.{shares_of_larger}
 
 -- no chamber beyond the thirty-sixth has an image
@@ -70,12 +71,12 @@ kept_of_longer old new shares same undone kept =
     λ s full. subst (λ r. Completes (partial_of r) s) undone (completes_unwind (depth_of new - depth_of old) new s full) in
     record {
       tiles = record {
-        shares = shares_of_larger shares.request (partial_of old) (partial_of new) Tile 144403552893600 shares.tiles.shares same more kept.tiles.shares;
+        shares = shares_of_larger shares.request (partial_of old) (partial_of new) Tile share_unit shares.tiles.shares same more kept.tiles.shares;
         total = kept.tiles.total;
         small = kept.tiles.small;
       };
       vertices = record {
-        shares = shares_of_larger shares.request (partial_of old) (partial_of new) Vertex 144403552893600 shares.vertices.shares same more kept.vertices.shares;
+        shares = shares_of_larger shares.request (partial_of old) (partial_of new) Vertex share_unit shares.vertices.shares same more kept.vertices.shares;
         total = kept.vertices.total;
         small = kept.vertices.small;
       };

@@ -3,7 +3,7 @@ use Rattle.dd_model.specs.declared.parts.Index.TheVariants.{Zero}
 use Rattle.dd_model.specs.Symbol.{op}
 use Rattle.dd_invol.specs.Rows.{partial_of}
 use Rattle.dd_shares.proofs.OddSizes.{odd_first}
-use Rattle.dd_shares.proofs.shares.is_odd.Goals as goal
+use Rattle.dd_shares.proofs.shares.parity_rules_out.Goals as goal
 
 pub returns-then-size-eq1 : goal.returns-then-size-eq1
 returns-then-size-eq1 c more s full least =
