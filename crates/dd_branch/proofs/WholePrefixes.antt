@@ -8,12 +8,13 @@ use Rattle.dd_model.specs.declared.parts.Index.TheVariants.{Zero, One, Two}
 use Rattle.dd_model.specs.Symbol.{Symbol, IsChamber}
 use Rattle.dd_model.specs.Cell.{IsBranching}
 use Rattle.dd_model.specs.Lists.{Begins}
-use Rattle.dd_model.specs.Code.{code, Least}
+use Rattle.dd_model.specs.Code.{code}
 use Rattle.dd_model.specs.Wanted.{Wanted, IsMember}
 use Rattle.dd_model.proofs.Codes.{same_items}
 use Rattle.dd_symbol.specs.Table.{column, part, symbol_with}
 use Rattle.dd_symbol.specs.Building.{listed, HaveOneLength, IsAccepted}
 use Rattle.dd_symbol.proofs.TableLemmas.{length-column, item-column, item-first, length-part, item-part, code-symbol_with}
+use Rattle.dd_invol.specs.Building.{IsBuilt}
 use Rattle.dd_invol.specs.Under.{IsUnder, HasNothingUnder}
 use Rattle.dd_invol.proofs.Follows.{member_orderly}
 use Rattle.dd_invol.proofs.Growth.{begins_take}
@@ -70,9 +71,8 @@ begins_self [] = tt
 begins_self (x ∷ xs) = (refl, begins_self xs)
 
 -- it is under the prefix, if it is a member
-pub member_under : (q : Request) (n : ℕ) (prefix : List ℕ) (c : Symbol) → length prefix ≡ 5 * n → c ≡ symbol_with n prefix → Wanted q c → Least c → IsUnder (IsMember q) n prefix c
-member_under q n prefix c whole is wanted least =
-    let member : IsMember q c = record { wanted = wanted; least = least } in
+pub member_under : (q : Request) (n : ℕ) (prefix : List ℕ) (c : Symbol) → length prefix ≡ 5 * n → c ≡ symbol_with n prefix → IsMember q c → IsUnder (IsMember q) n prefix c
+member_under q n prefix c whole is member =
     record {
       wanted = member;
       orderly = member_orderly q c member;
@@ -98,9 +98,9 @@ accepted q s member small = record {
 
 -- what is found among five lists is found of a prefix
 pub found_is : (q : Request) (n : ℕ) (prefix : List ℕ) (given : Symbol) (found : Option Symbol) → n ≤ 36 → length prefix ≡ 5 * n → given ≡ symbol_with n prefix
-    → MatchOption found (IsAccepted 36 given → ⊥) (λ c. c ≡ given) → MatchOption found (HasNothingUnder (IsMember q) n prefix) (λ c. c ≡ symbol_with n prefix)
+    → MatchOption found (IsAccepted 36 given → ⊥) (IsBuilt given) → MatchOption found (HasNothingUnder (IsMember q) n prefix) (λ c. c ≡ symbol_with n prefix)
 found_is q n prefix given None small whole same none =
     λ s under.
     let size = under.size in
     none (subst (IsAccepted 36) (symbol_of_prefix (IsMember q) n prefix s under whole ∙ sym same) (accepted q s under.wanted (omega arith)))
-found_is q n prefix given (Some c) small whole same is = is ∙ same
+found_is q n prefix given (Some c) small whole same is = is.same ∙ same

@@ -3,8 +3,9 @@ ghost use Rattle.dd_model.specs.Symbol.{IsChamber};
 ghost use Rattle.dd_model.specs.Cell.{IsLeastTurns};
 ghost use Rattle.dd_branch.specs.Choice.{IsChoice, HasNoChoiceFrom, IsLeastChoice};
 ghost use Rattle.dd_branch.specs.Place.{IsRoot, IsPlaceOf, HasPlaces};
+ghost use Rattle.dd_branch.specs.Reciprocals.{degree_unit};
 
-use crate::parts::{lower_share, upper_share};
+use crate::reciprocals::{lower_share, upper_share};
 use arrayvec::ArrayVec;
 use dd_model::{Allowed, Pair};
 use dd_symbol::Symbol;
@@ -17,9 +18,9 @@ pub(crate) struct Place {
     pub(crate) root: u8,
     /// The least positive number of turns that fixes a chamber of the cell.
     pub(crate) turns: u8,
-    /// At least WHOLE divided by the degree, whatever it will be.
+    /// At least DEGREE_UNIT divided by the degree, whatever it will be.
     pub(crate) most: u64,
-    /// At most WHOLE divided by the degree, whatever it will be.
+    /// At most DEGREE_UNIT divided by the degree, whatever it will be.
     pub(crate) least: u64,
 }
 
@@ -77,11 +78,11 @@ fn turns_of(symbol: &Symbol, pair: Pair, chamber: u32) -> u8
     turns as u8
 }
 
-/// WHOLE divided by the least degree that may stand at a place, rounded up.
+/// DEGREE_UNIT divided by the least degree that may stand at a place, rounded up.
 fn most_share(set: &Allowed, turns: u8) -> u64
     requires { turns ≤ 36 }
-    ensures share { (m : ℕ) → IsChoice set.now turns m → 1 ≤ turns → 1732842634723200 ≤ result * m }
-    ensures small { result ≤ 1732842634723200 }
+    ensures share { (m : ℕ) → IsChoice set.now turns m → 1 ≤ turns → degree_unit ≤ result * m }
+    ensures small { result ≤ degree_unit }
 {
     match least_choice(set, turns, 0) {
         Some(degree) => upper_share(degree),

@@ -41,9 +41,9 @@ returns c =
     let q = c.args.q.now in
     let same = c.symbol-symbol.ensures in
     let tiles : HasPlaces t q.faces Tile [] c.add_places.new.places.items = subst (λ old. HasPlaces t q.faces Tile old c.add_places.new.places.items) c.new-places.ensures c.add_places.ensures in
-    let a : Assignment = record { alloc = c.args.alloc; request = q; size = c.size.result; parts = c.parts.result; places = c.add_places-2.new.places; rests = c.of.result; prefix = c.in_ok-prefix.prefix; sums = c.push.new.self } in
+    let a : Assignment = record { alloc = c.args.alloc; request = q; size = c.size.result; reciprocals = c.reciprocals.result; places = c.add_places-2.new.places; rests = c.of.result; prefix = c.in_ok-prefix.prefix; sums = c.push.new.self } in
     let rests : AreRests a.places.items a.rests = subst (λ xs. AreRests xs a.rests) c.as_slice.ensures.value c.of.ensures in
     let sums : a.sums.items ≡ 0 ∷ [] = c.push.ensures.items ∙ ap (λ xs. xs ++ 0 ∷ []) c.new-sums.ensures in
     subst (λ s. IsBeginning q s a) same
     (beginning q t (subst (λ s. IsSymbol s) (sym same) c.known.ensures.symbol.symbol) (subst (λ s. s.size ≤ 36) (sym same) c.requires) a refl c.size.ensures.size
-    c.in_ok-prefix.ensures c.parts.ensures rests sums c.add_places.new.places.items tiles c.add_places-2.ensures)
+    c.in_ok-prefix.ensures c.reciprocals.ensures rests sums c.add_places.new.places.items tiles c.add_places-2.ensures)

@@ -3,7 +3,7 @@ use Rattle.dd_model.specs.Wanted.{IsMember}
 use Rattle.dd_invol.specs.Under.{IsUnder, HasNothingUnder}
 use Rattle.dd_branch.specs.Assignment.{prefix_of}
 use Rattle.dd_branch.proofs.Advancing.{appends_member}
-use Rattle.dd_branch.proofs.assignment.AssignmentLeaves.add.Goals as goal
+use Rattle.dd_branch.proofs.assignment.AssignmentCollectingSearch.add.Goals as goal
 
 pub returns-clause-list : goal.returns-clause-list
 returns-clause-list c =

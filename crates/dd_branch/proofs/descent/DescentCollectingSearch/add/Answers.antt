@@ -1,4 +1,5 @@
 use Rattle.std.proofs.Common.{◌≡◌, ◌*◌, length, sym, subst}
+use Rattle.std.proofs.lemmas.Result.{on_ok_weaker}
 use Rattle.dd_model.specs.Wanted.{IsMember}
 use Rattle.dd_invol.specs.Stem.{prefix_of, size_of}
 use Rattle.dd_invol.specs.Table.{HasNoTable, IsTableOf}
@@ -6,7 +7,7 @@ use Rattle.dd_invol.specs.Under.{Appends, AreUnder}
 use Rattle.dd_invol.proofs.Prefixes.{appends_dead}
 use Rattle.dd_branch.specs.Descent.{Descending}
 use Rattle.dd_branch.proofs.Descents.{none_without_table, appends_carried}
-use Rattle.dd_branch.proofs.descent.DescentLeaves.add.Goals as goal
+use Rattle.dd_branch.proofs.descent.DescentCollectingSearch.add.Goals as goal
 
 pub returns-in_default-clause-list : goal.returns-in_default-clause-list
 returns-in_default-clause-list c =
@@ -32,7 +33,9 @@ returns-clause-list c =
     let whole : length prefix ≡ 3 * n = subst (λ (d : Descending). length (prefix_of d.stem) ≡ 3 * size_of d.stem) (sym c.self.view_is) c.requires.whole in
     let old = c.args.list.now.items in
     let new = c.add_degrees.new.list.items in
-    subst
+    on_ok_weaker c.add_degrees.result
+    (λ added. subst
     (λ (d : Descending). Appends (AreUnder (IsMember d.request) (size_of d.stem) (prefix_of d.stem)) old new)
     c.self.view_is
-    (appends_carried q n prefix c.in-Some.table old new c.known.ensures.symbol two whole c.in_ok-add_degrees.ensures)
+    (appends_carried q n prefix c.in-Some.table old new two whole added))
+    c.add_degrees.ensures
