@@ -4,10 +4,12 @@ use Rattle.std.proofs.lemmas.Bool.{cases_lt}
 use Rattle.std.specs.Ordering.{is_lt, is_eq, ordering_reverse}
 use Rattle.std.specs.declared.cmp.Ordering.{Ordering}
 use Rattle.std.specs.declared.cmp.Ordering.TheVariants.{Less, Equal}
-use Rattle.dd_model.specs.Symbol.{Symbol, IsTable, IsSymbol, IsChamber, Connected, item}
+use Rattle.dd_model.specs.Symbol.{Symbol, IsTable, IsSymbol, IsChamber, item}
+use Rattle.dd_model.specs.Connected.{Connected}
 use Rattle.dd_model.specs.Isomorphic.{IsBijection, IsIsomorphism, Isomorphic}
 use Rattle.dd_model.specs.Code.{code_cmp, Least, IsLeastForm}
-use Rattle.dd_model.specs.FirstVisit.{IsFirstVisit, IsNumberedFrom, IsBestTo}
+use Rattle.dd_model.specs.FirstVisit.{IsFirstVisit, IsNumberedFrom}
+use Rattle.dd_canon.specs.Standing.{IsBestTo, IsStanding, IsWhole}
 use Rattle.std.proofs.lemmas.Cmp.{tied_itself}
 use Rattle.dd_model.proofs.Bijections.{after}
 use Rattle.dd_model.proofs.Codes.{same_from_code_cmp, code_cmp_total}
@@ -15,7 +17,6 @@ use Rattle.dd_model.proofs.Isomorphisms.{Isomorphic-refl, Isomorphic-sym, Isomor
 use Rattle.dd_model.proofs.Exchanges.{renumbered, renumbered_table, renumbered_isomorphism}
 use Rattle.dd_model.proofs.LeastForms.{new_best, below_back, least_of_best, least_form_numbered, form_as_symbol, form_as_table, copy_is_symbol}
 use Rattle.dd_model.proofs.Numberings.{numbered_from}
-use Rattle.dd_canon.specs.Standing.{IsStanding, IsWhole}
 use Rattle.dd_canon.proofs.OrderLemmas.{less_of}
 
 pub nothing_best : (s t : Symbol) → IsBestTo s 0 t

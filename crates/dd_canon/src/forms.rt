@@ -2,8 +2,7 @@ ghost use Rattle.std.specs.Prelude.{◌≡◌, ◌+◌, ◌-◌, ◌*◌, ◌≤
 ghost use Rattle.dd_model.specs.Symbol.{IsChamber};
 ghost use Rattle.dd_model.specs.Isomorphic.{Isomorphic};
 ghost use Rattle.dd_model.specs.Code.{Least, IsLeastForm};
-ghost use Rattle.dd_model.specs.FirstVisit.{IsBestTo};
-ghost use Rattle.dd_canon.specs.Standing.{IsReady};
+ghost use Rattle.dd_canon.specs.Standing.{IsBestTo, IsReady};
 
 use crate::steps::Steps;
 use crate::visits::Visit;

@@ -4,7 +4,7 @@ ghost use Rattle.std.specs.Cmp.Lexicographic.{slice_cmp};
 ghost use Rattle.std.specs.declared.cmp.Ordering.TheVariants.{Equal, Greater};
 ghost use Rattle.dd_model.specs.Symbol.{IsChamber, item, Symbol as Tiling};
 ghost use Rattle.dd_model.specs.FirstVisit.{rows};
-ghost use Rattle.dd_model.specs.Traversal.{IsVisit, IsMeeting, IsExtension, IsTraversal};
+ghost use Rattle.dd_canon.specs.Traversal.{IsVisit, IsMeeting, IsExtension, IsTraversal};
 
 use crate::steps::Steps;
 use dd_model::{Index, Memory, Pair};

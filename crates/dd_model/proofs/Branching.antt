@@ -1,6 +1,6 @@
 -- Each chamber of a symbol has exactly one branching value for each pair.
 use Rattle.std.proofs.Common.{◌≡◌, ℕ, ◌*◌, ◌/◌, ◌%◌, ◌≤◌, [], ◌∷◌, refl, sym, ap, ◌∙◌, ⊎_elim, arith}
-use Rattle.dd_model.specs.declared.parts.Pair.{Pair}
+use Rattle.dd_model.specs.declared.pair.Pair.{Pair}
 use Rattle.dd_model.specs.Symbol.{Symbol, IsSymbol, IsChamber, Word, degree, op, act}
 use Rattle.dd_model.specs.Cell.{IsWordOf, InCell, IsBranching}
 use Rattle.dd_model.proofs.CellWalks.{in_cell-sym, in_cell-trans}

@@ -1,7 +1,7 @@
 -- Cells can be searched: what lies in a cell is decided, and each cell has a least chamber.
 use Rattle.std.proofs.Common.{◌≡◌, ℕ, zero, suc, ◌+◌, ◌<◌, ◌≤◌, ◌⊎◌, sym, subst, inl, inr, ⊎_elim, arith}
 use Rattle.std.proofs.lemmas.Bool.{cases_eq, cases_lt}
-use Rattle.dd_model.specs.declared.parts.Pair.{Pair}
+use Rattle.dd_model.specs.declared.pair.Pair.{Pair}
 use Rattle.dd_model.specs.Symbol.{Symbol, AreInvolutions, IsChamber, first, op}
 use Rattle.dd_model.specs.Cell.{InCell, turned, IsLeastOfCell}
 use Rattle.dd_model.proofs.Transport.{in_cell_within}

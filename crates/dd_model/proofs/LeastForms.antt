@@ -5,10 +5,12 @@ use Rattle.std.proofs.lemmas.Cmp.{tied_itself}
 use Rattle.std.specs.Ordering.{ordering_reverse}
 use Rattle.std.specs.declared.cmp.Ordering.{Ordering}
 use Rattle.std.specs.declared.cmp.Ordering.TheVariants.{Less, Equal, Greater}
-use Rattle.dd_model.specs.Symbol.{Symbol, IsTable, IsSymbol, IsChamber, Connected, item}
+use Rattle.dd_model.specs.Symbol.{Symbol, IsTable, IsSymbol, IsChamber, item}
+use Rattle.dd_model.specs.Connected.{Connected}
 use Rattle.dd_model.specs.Isomorphic.{HaveLengths, IsIsomorphism, Isomorphic}
 use Rattle.dd_model.specs.Code.{code_cmp, Least, IsLeastForm, count_from}
-use Rattle.dd_model.specs.FirstVisit.{IsFirstVisit, IsNumberedFrom, IsBestTo, LeastTable, IsLeastTableForm}
+use Rattle.dd_model.specs.FirstVisit.{IsFirstVisit, IsNumberedFrom, LeastTable, IsLeastTableForm}
+use Rattle.dd_canon.specs.Standing.{IsBestTo}
 use Rattle.std.specs.List.{Contains}
 use Rattle.dd_model.specs.Wanted.{Wanted, IsCatalogue}
 use Rattle.dd_model.specs.declared.requests.Request.{Request}

@@ -4,10 +4,10 @@ use Rattle.std.specs.Prelude.{map, filter, nat_le}
 use Rattle.dd_model.specs.Code.{count_from}
 use Rattle.std.specs.List.{Contains}
 use Rattle.std.proofs.lemmas.List.{get_or-map}
-use Rattle.dd_model.specs.declared.parts.Index.{Index}
-use Rattle.dd_model.specs.declared.parts.Index.TheVariants.{Zero, One, Two}
-use Rattle.dd_model.specs.declared.parts.Pair.{Pair}
-use Rattle.dd_model.specs.declared.parts.Pair.TheVariants.{Tile, Vertex}
+use Rattle.dd_model.specs.declared.index.Index.{Index}
+use Rattle.dd_model.specs.declared.index.Index.TheVariants.{Zero, One, Two}
+use Rattle.dd_model.specs.declared.pair.Pair.{Pair}
+use Rattle.dd_model.specs.declared.pair.Pair.TheVariants.{Tile, Vertex}
 use Rattle.dd_model.specs.Symbol.{Symbol, AreInvolutions, IsTable, IsSymbol, IsChamber, Word, item, op, act, operation, degree}
 use Rattle.dd_model.specs.Cell.{InCell, IsLeastOfCell, AreCells}
 use Rattle.dd_model.specs.Line.{told_images}

@@ -1,8 +1,9 @@
 -- The tiling by squares and octagons with its chambers numbered backwards.
 use Rattle.std.proofs.Common.{◌≡◌, ℕ, ◌≤◌, List, [], ◌∷◌, length, refl, arith}
-use Rattle.dd_model.specs.declared.parts.Index.{Index}
-use Rattle.dd_model.specs.declared.parts.Index.TheVariants.{Zero, One, Two}
-use Rattle.dd_model.specs.Symbol.{IsSymbol, Connected, item, op, operation}
+use Rattle.dd_model.specs.declared.index.Index.{Index}
+use Rattle.dd_model.specs.declared.index.Index.TheVariants.{Zero, One, Two}
+use Rattle.dd_model.specs.Symbol.{IsSymbol, item, op, operation}
+use Rattle.dd_model.specs.Connected.{Connected}
 use Rattle.dd_model.specs.Isomorphic.{Undoes, IsIsomorphism, Isomorphic}
 use Rattle.dd_model.specs.Code.{Least}
 use Rattle.dd_model.specs.Flat.{Flat}

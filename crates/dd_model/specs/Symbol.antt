@@ -1,9 +1,9 @@
 -- Delaney-Dress symbols of tilings, after Dress.
 use Rattle.std.specs.Prelude.{◌≡◌, ℕ, zero, suc, ◌-◌, ◌≤◌, List, [], ◌∷◌, ◌++◌, length, slice_index}
-use Rattle.dd_model.specs.declared.parts.Pair.{Pair}
-use Rattle.dd_model.specs.declared.parts.Pair.TheVariants.{Tile, Vertex, Edge}
-use Rattle.dd_model.specs.declared.parts.Index.{Index}
-use Rattle.dd_model.specs.declared.parts.Index.TheVariants.{Zero, One, Two}
+use Rattle.dd_model.specs.declared.pair.Pair.{Pair}
+use Rattle.dd_model.specs.declared.pair.Pair.TheVariants.{Tile, Vertex, Edge}
+use Rattle.dd_model.specs.declared.index.Index.{Index}
+use Rattle.dd_model.specs.declared.index.Index.TheVariants.{Zero, One, Two}
 
 -- what is known of a tiling: a number of chambers, three lists of chambers, and two lists of degrees
 pub record Symbol : Type 0 where

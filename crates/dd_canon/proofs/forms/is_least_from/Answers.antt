@@ -1,6 +1,6 @@
 use Rattle.std.proofs.Common.{◌≡◌, ◌+◌, ◌-◌, refl, ap, subst, arith}
 use Rattle.dd_model.specs.Symbol.{Symbol}
-use Rattle.dd_model.specs.FirstVisit.{IsBestTo}
+use Rattle.dd_canon.specs.Standing.{IsBestTo}
 use Rattle.dd_canon.proofs.FormLemmas.{stays_best, beaten, unbeaten}
 use Rattle.dd_canon.proofs.forms.is_least_from.Goals as goal
 

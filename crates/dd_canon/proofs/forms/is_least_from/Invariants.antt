@@ -1,5 +1,4 @@
-use Rattle.dd_model.specs.FirstVisit.{IsBestTo}
-use Rattle.dd_canon.specs.Standing.{IsReady}
+use Rattle.dd_canon.specs.Standing.{IsBestTo, IsReady}
 use Rattle.dd_canon.proofs.forms.is_least_from.Given as goal
 
 abbrev pub invariant-loop-k : goal.invariant-loop-k

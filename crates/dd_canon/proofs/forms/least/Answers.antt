@@ -1,7 +1,7 @@
 use Rattle.std.proofs.Common.{◌≡◌, ◌+◌, ◌-◌, sym, ap, subst, arith}
 use Rattle.dd_model.specs.Symbol.{Symbol}
 use Rattle.dd_model.specs.Isomorphic.{Isomorphic}
-use Rattle.dd_model.specs.FirstVisit.{IsBestTo}
+use Rattle.dd_canon.specs.Standing.{IsBestTo}
 use Rattle.dd_model.proofs.Isomorphisms.{Isomorphic-refl}
 use Rattle.dd_canon.proofs.FormLemmas.{nothing_best, best_is_least}
 use Rattle.dd_canon.proofs.forms.least.Goals as goal

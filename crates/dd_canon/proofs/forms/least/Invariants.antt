@@ -1,7 +1,6 @@
 use Rattle.std.proofs.Common.{◌+◌, ◌*◌, ◌≤◌}
 use Rattle.dd_model.specs.Isomorphic.{Isomorphic}
-use Rattle.dd_model.specs.FirstVisit.{IsBestTo}
-use Rattle.dd_canon.specs.Standing.{IsReady}
+use Rattle.dd_canon.specs.Standing.{IsBestTo, IsReady}
 use Rattle.dd_canon.proofs.forms.least.Given as goal
 
 abbrev pub invariant-loop-k : goal.invariant-loop-k

@@ -1,4 +1,4 @@
-use Rattle.dd_model.proofs.Partials.{begin_partial, advance_partial}
+use Rattle.dd_canon.proofs.PartialTraversals.{begin_partial, advance_partial}
 use Rattle.dd_model.proofs.least_form_laws.partial_tables_are_traversed.Goals as goal
 
 pub returns : goal.returns

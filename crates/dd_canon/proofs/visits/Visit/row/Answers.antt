@@ -1,8 +1,8 @@
 use Rattle.std.proofs.Common.{suc, inr, ◌+◌, ◌-◌, ◌≤◌, ◌∷◌, length, ◌∙◌, arith}
-use Rattle.dd_model.specs.declared.parts.Index.TheVariants.{Zero, One, Two}
+use Rattle.dd_model.specs.declared.index.Index.TheVariants.{Zero, One, Two}
 use Rattle.dd_model.specs.Symbol.{op}
 use Rattle.dd_model.specs.FirstVisit.{rows}
-use Rattle.dd_model.proofs.Traversals.{next_row}
+use Rattle.dd_canon.proofs.Traversals.{next_row}
 use Rattle.dd_canon.proofs.VisitLemmas.{fallen_here, step_on, start_kept, still_inside, row_done}
 use Rattle.dd_canon.proofs.visits.Visit.row.Goals as goal
 

@@ -2,7 +2,7 @@ use Rattle.std.proofs.Common.{◌≡◌, suc, [], ◌+◌, ◌-◌, refl, ap, �
 use Rattle.std.specs.declared.cmp.Ordering.TheVariants.{Equal}
 use Rattle.dd_model.specs.Symbol.{Symbol}
 use Rattle.dd_model.specs.FirstVisit.{rows}
-use Rattle.dd_model.specs.Traversal.{IsTraversal}
+use Rattle.dd_canon.specs.Traversal.{IsTraversal}
 use Rattle.dd_canon.specs.Standing.{IsOngoing}
 use Rattle.dd_canon.proofs.VisitLemmas.{fallen_row, going_on, last_row}
 use Rattle.dd_canon.proofs.visits.Visit.rows.Goals as goal

@@ -1,7 +1,7 @@
 use Rattle.std.proofs.Common.{◌≡◌, ◌+◌, ◌-◌, ◌*◌, ◌≤◌}
 use Rattle.dd_model.specs.Symbol.{item}
 use Rattle.dd_model.specs.FirstVisit.{rows}
-use Rattle.dd_model.specs.Traversal.{IsTraversal}
+use Rattle.dd_canon.specs.Traversal.{IsTraversal}
 use Rattle.dd_canon.specs.Standing.{IsReady}
 use Rattle.dd_canon.proofs.visits.Visit.rows.Given as goal
 

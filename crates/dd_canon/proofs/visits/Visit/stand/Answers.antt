@@ -1,7 +1,7 @@
 use Rattle.std.proofs.Common.{◌≡◌, [], ◌+◌, ap, ◌∙◌, subst, arith}
-use Rattle.dd_model.specs.declared.parts.Pair.TheVariants.{Tile, Vertex}
+use Rattle.dd_model.specs.declared.pair.Pair.TheVariants.{Tile, Vertex}
 use Rattle.dd_model.specs.Symbol.{item}
-use Rattle.dd_model.proofs.Traversals.{done_all}
+use Rattle.dd_canon.proofs.Traversals.{done_all}
 use Rattle.dd_canon.specs.Standing.{IsOngoing}
 use Rattle.dd_canon.proofs.OrderLemmas.{equal_of, equal_not_greater}
 use Rattle.dd_canon.proofs.VisitLemmas.{begun}
