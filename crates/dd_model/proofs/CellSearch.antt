@@ -91,7 +91,7 @@ least_of_cell_unique s inv p d e a b there =
     let high = b.1 d (in_cell-sym s inv p d e a.0 there) in
     omega arith
 
-decide_chamber : (s : Symbol) (d : ℕ) → Decided (IsChamber s d)
+pub decide_chamber : (s : Symbol) (d : ℕ) → Decided (IsChamber s d)
 decide_chamber s d =
     ⊎_elim
     (λ none. inr (λ h. let low = h.0 in absurd (omega arith)))

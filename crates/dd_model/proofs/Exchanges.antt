@@ -8,7 +8,7 @@ use Rattle.dd_model.specs.declared.index.Index.TheVariants.{Zero, One, Two}
 use Rattle.dd_model.specs.Symbol.{Symbol, IsTable, IsChamber, item, op, operation}
 use Rattle.dd_model.specs.Isomorphic.{Undoes, IsBijection, IsIsomorphism}
 use Rattle.dd_model.specs.Code.{count_from}
-use Rattle.dd_model.proofs.Bijections.{length-count_from, item-count_from}
+use Rattle.dd_model.proofs.CountFrom.{length-count_from, item-count_from}
 use Rattle.dd_model.proofs.Transport.{HaveLengths, IsTable-along}
 
 -- the images of 1 to n under a function

@@ -1,3 +1,9 @@
+pub mod Lists
+pub mod CountFrom
+pub mod Numbers
+pub mod Fields
+pub mod Orders
+pub mod AllDegrees
 pub mod AllowedLemmas
 pub mod AllowedSets
 pub mod Words
@@ -37,9 +43,6 @@ pub mod FirstVisits
 pub mod Exchanges
 pub mod Numberings
 pub mod LeastForms
-pub mod Traversals
-pub mod Partials
-pub mod Visits
 pub mod ReadingExamples
 pub mod WrittenLines
 pub mod WrittenNumbers

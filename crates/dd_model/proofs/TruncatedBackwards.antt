@@ -10,7 +10,8 @@ use Rattle.dd_model.specs.Flat.{Flat}
 use Rattle.dd_model.specs.Worked.{truncated_squares, truncated_squares_backwards}
 use Rattle.dd_model.proofs.Isomorphisms.{Isomorphic-sym}
 use Rattle.dd_model.proofs.Transport.{IsSymbol-along, Connected-along}
-use Rattle.dd_model.proofs.Truncated.{by_three, is_table, is_symbol as truncated_symbol, connected as truncated_connected}
+use Rattle.dd_model.proofs.Truncated.{is_table, is_symbol as truncated_symbol, connected as truncated_connected}
+use Rattle.dd_model.proofs.Numbers.{by_three}
 
 abbrev turned_round : List ℕ
 turned_round = 3 ∷ 2 ∷ 1 ∷ []

@@ -11,7 +11,8 @@ use Rattle.dd_model.specs.Symbol.{Symbol, Word, first, second, op, act}
 use Rattle.dd_model.specs.Cell.{IsWordOf, IsLeastOfCell, AreCells}
 use Rattle.dd_model.specs.Line.{IsLine}
 use Rattle.dd_model.specs.Worked.{truncated_squares}
-use Rattle.dd_model.proofs.Truncated.{by_three, one, two, is_table}
+use Rattle.dd_model.proofs.Truncated.{one, two, is_table}
+use Rattle.dd_model.proofs.Numbers.{by_three}
 use Rattle.dd_model.proofs.Words.{act_within}
 
 -- what the two involutions keep holds over the whole cell

@@ -2,10 +2,10 @@ pub mod Lists
 pub mod Allowed
 pub mod Request
 pub mod Symbol
+pub mod Connected
 pub mod Isomorphic
 pub mod Code
 pub mod FirstVisit
-pub mod Traversal
 pub mod Partial
 pub mod Cell
 pub mod Small

@@ -97,12 +97,3 @@ pub record IsTable (s : Symbol) : Type 0 where
 pub record IsSymbol (s : Symbol) : Type 0 where
   pub table : IsTable s
   pub degrees : (p : Pair) (d : ℕ) → IsChamber s d → HasDegree s p d
-
--- some word leads from chamber 1 to d
-pub record IsReached (s : Symbol) (d : ℕ) : Type 0 where
-  pub word : Word
-  pub leads : act s word 1 ≡ d
-
--- some word leads from chamber 1 to each chamber
-abbrev pub Connected : Symbol → Type 0
-Connected s = (d : ℕ) → IsChamber s d → IsReached s d

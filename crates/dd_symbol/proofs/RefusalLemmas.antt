@@ -1,18 +1,19 @@
 -- What is refused is not accepted.
-use Rattle.std.proofs.Common.{◌≡◌, ◌≢◌, ℕ, Result, Ok, Err, IfErr, ◌%◌, List, [], ◌∷◌, length, get_or, refl, sym, ap, ◌∙◌, subst, ⊎_elim, arith}
+use Rattle.std.proofs.Common.{◌≡◌, ◌≢◌, ℕ, Result, Ok, Err, IfErr, ◌%◌, List, [], length, get_or, refl, sym, ap, ◌∙◌, subst, arith}
 use Rattle.std.specs.Result.{IsErrAnd}
 use Rattle.std.specs.Global.{Global}
 use Rattle.std.specs.Prelude.{Vec}
 use Rattle.std.proofs.lemmas.List.{get_or-map}
 use Rattle.dd_model.specs.declared.pair.Pair.{Pair}
 use Rattle.dd_model.specs.declared.pair.Pair.TheVariants.{Edge}
-use Rattle.dd_model.specs.Symbol.{Symbol, IsSymbol, IsChamber, Word, op, degree, act}
-use Rattle.dd_model.specs.Cell.{InCell, IsWordOf}
+use Rattle.dd_model.specs.Symbol.{Symbol, IsSymbol, IsChamber, degree}
+use Rattle.dd_model.specs.Cell.{InCell}
 use Rattle.dd_symbol.specs.Building.{listed, lists, given, IsAccepted}
 use Rattle.dd_symbol.specs.Refusals.{HasSize, IsFault, IsRefused}
 use Rattle.dd_symbol.specs.declared.refusals.Refusal.{Refusal}
 use Rattle.dd_symbol.specs.declared.refusals.Refusal.TheVariants.{Empty, TooManyChambers, OpRange, NotInvolution, NotCommuting, NotConnected, DegreeZero, DegreeVaries, NotMultiple, BranchingTooLarge, Memory}
 use Rattle.dd_symbol.proofs.DegreeLemmas.{multiple-from_turns}
+use Rattle.dd_model.proofs.Branching.{degree_same}
 
 -- a fault of lists that are not empty and not too long refuses them
 pub refused-from_fault : (limit : ℕ) (s : Symbol) → HasSize limit s → (why : Refusal) → IsFault s why → IsRefused limit s why
@@ -28,19 +29,9 @@ refused-from_fault limit s size (NotMultiple p d r m) fault = (size, fault)
 refused-from_fault limit s size (BranchingTooLarge p d v) fault = (size, fault)
 refused-from_fault limit s size Memory fault = tt
 
-degree-along_word : (s : Symbol) → IsSymbol s → (p : Pair) (w : Word) (d : ℕ) → IsChamber s d → IsWordOf p w → degree s p (act s w d) ≡ degree s p d
-degree-along_word s is p [] d h letters = refl
-degree-along_word s is p (i ∷ w) d h letters =
-    let has = is.degrees p d h in
-    degree-along_word s is p w (op s i d) ((is.table.involutions i).within d h) letters.1
-    ∙ ⊎_elim
-    (λ e. ap (λ j. degree s p (op s j d)) e ∙ has.along_first)
-    (λ e. ap (λ j. degree s p (op s j d)) e ∙ has.along_second)
-    letters.0
-
 -- a symbol has one degree on each cell
 degree-along_cell : (s : Symbol) → IsSymbol s → (p : Pair) (d e : ℕ) → IsChamber s d → InCell s p d e → degree s p e ≡ degree s p d
-degree-along_cell s is p d e h there = ap (degree s p) (sym there.leads) ∙ degree-along_word s is p there.word d h there.letters
+degree-along_cell s is p d e h there = ap (degree s p) (sym there.leads) ∙ degree_same s is p there.word d h there.letters
 
 pub not_accepted : (limit : ℕ) (s : Symbol) (why : Refusal) → IsRefused limit s why → why ≢ Memory → IsAccepted limit s → ⊥
 not_accepted limit s Empty none some ok = let n = ok.symbol.symbol.table.chambers in omega arith

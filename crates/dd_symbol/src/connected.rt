@@ -15,12 +15,13 @@ pub struct Connected {
 impl Model for Connected {
     ghost use Rattle.dd_model.specs.Symbol.{Symbol as Tiling};
     ghost use Rattle.dd_model.specs.Connected.{Connected as AllReached};
+    ghost use Rattle.dd_model.specs.Small.{IsSmallSymbol};
 
     ghost Value = { Tiling };
 
     ghost view = { λ a. a.symbol };
 
-    ghost invariant = { λ a. AllReached a.symbol };
+    ghost invariant = { λ a. AllReached a.symbol × IsSmallSymbol a.symbol };
 }
 
 impl Connected {
@@ -54,9 +55,9 @@ impl Connected {
     /// Chamber D becomes chamber map(D).
     pub fn renumber(&self, alloc: Global, map: &[u32]) -> Result<Connected, Memory>
         requires { IsBijection self.now.size map.now }
-        ensures { IfOk result (λ other. IsIsomorphism self.now other map.now) }
+        ensures isomorphism { IfOk result (λ other. IsIsomorphism self.now other map.now) }
+        ensures symbol { IfOk result (λ other. IsSmallSymbol other) }
     {
-        self.known();
         Ok(Connected {
             symbol: self.symbol.renumber(alloc, map)?,
         })
