@@ -14,12 +14,13 @@ pub struct Connected {
 
 impl Model for Connected {
     ghost use Rattle.dd_model.specs.Symbol.{Symbol as Tiling, Connected as AllReached};
+    ghost use Rattle.dd_model.specs.Small.{IsSmallSymbol};
 
     ghost Value = { Tiling };
 
     ghost view = { λ a. a.symbol };
 
-    ghost invariant = { λ a. AllReached a.symbol };
+    ghost invariant = { λ a. AllReached a.symbol × IsSmallSymbol a.symbol };
 }
 
 impl Connected {
@@ -55,7 +56,6 @@ impl Connected {
         requires { IsBijection self.now.size map.now }
         ensures { IfOk result (λ other. IsIsomorphism self.now other map.now) }
     {
-        self.known();
         Ok(Connected {
             symbol: self.symbol.renumber(alloc, map)?,
         })

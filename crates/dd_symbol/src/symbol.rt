@@ -97,7 +97,6 @@ impl Symbol {
         requires { IsChamber self.now chamber }
         ensures { IsBranching self.now pair chamber result }
     {
-        self.known();
         self.table.branching(pair, chamber)
     }
 
@@ -105,7 +104,6 @@ impl Symbol {
     pub fn least_chambers(&self, alloc: Global, pair: Pair) -> Result<Vec<u32>, Memory>
         ensures { IfOk result (λ chambers. AreCells self.now pair chambers.items) }
     {
-        self.known();
         self.table.least_chambers(alloc, pair)
     }
 
@@ -128,12 +126,13 @@ impl Symbol {
     /// Chamber D becomes chamber map(D).
     pub fn renumber(&self, alloc: Global, map: &[u32]) -> Result<Symbol, Memory>
         requires { IsBijection self.now.size map.now }
-        ensures { IfOk result (λ other. IsIsomorphism self.now other map.now) }
+        ensures isomorphism { IfOk result (λ other. IsIsomorphism self.now other map.now) }
+        ensures symbol { IfOk result (λ other. IsSmallSymbol other) }
     {
-        self.known();
+        let table = &self.table;
         match inverse(alloc, map)? {
             Some(back) => Ok(Symbol {
-                table: self.table.renumbered(alloc, map, &back)?,
+                table: table.renumbered(alloc, map, &back)?,
             }),
             None => unreachable!(),
         }
