@@ -8,7 +8,7 @@ use Rattle.std.specs.List.{sum_by}
 use Rattle.dd_model.specs.Symbol.{Symbol, IsSymbol, IsChamber, item}
 use Rattle.dd_model.specs.Code.{count_from, chambers}
 use Rattle.dd_model.specs.Flat.{all_degrees, reciprocals, Flat}
-use Rattle.dd_model.specs.declared.parts.Pair.TheVariants.{Tile, Vertex}
+use Rattle.dd_model.specs.declared.pair.Pair.TheVariants.{Tile, Vertex}
 use Rattle.dd_cells.specs.Fraction.{Divides}
 use Rattle.dd_cells.proofs.CurvatureLemmas.{tile_divides, vertex_divides}
 use Rattle.dd_cells.proofs.ReciprocalSums.{quotient_is}

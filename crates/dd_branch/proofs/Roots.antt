@@ -1,7 +1,7 @@
 -- The least chamber of a cell, and the number of its turns.
 use Rattle.std.proofs.Common.{◌≡◌, ℕ, ◌+◌, ◌≤◌, ◌⊎◌, min, sym, ap, ◌∙◌, subst, inl, inr, ⊎_elim, arith}
 use Rattle.std.proofs.lemmas.Bool.{cases_lt}
-use Rattle.dd_model.specs.declared.parts.Pair.{Pair}
+use Rattle.dd_model.specs.declared.pair.Pair.{Pair}
 use Rattle.dd_model.specs.Symbol.{Symbol, AreInvolutions, IsChamber, first, op}
 use Rattle.dd_model.specs.Cell.{InCell, IsLeastTurns, turned}
 use Rattle.dd_model.proofs.CellWalks.{IsMet, met_none, met_cases, met_from_in_cell, in_cell-refl, in_cell-turned, in_cell-first}

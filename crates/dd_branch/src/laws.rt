@@ -3,7 +3,7 @@ ghost use Rattle.std.specs.List.{sum_by};
 ghost use Rattle.dd_model.specs.Symbol.{Symbol, IsSymbol, IsChamber, degree};
 ghost use Rattle.dd_model.specs.Code.{chambers};
 ghost use Rattle.dd_model.specs.Flat.{Flat};
-ghost use Rattle.dd_model.specs.declared.parts.Pair.TheVariants.{Tile, Vertex};
+ghost use Rattle.dd_model.specs.declared.pair.Pair.TheVariants.{Tile, Vertex};
 ghost use Rattle.dd_model.specs.Symbol.{Symbol};
 ghost use Rattle.dd_model.specs.Wanted.{IsCatalogue};
 ghost use Rattle.dd_model.specs.declared.jobs.Job.{Job};

@@ -4,7 +4,8 @@ use Rattle.std.proofs.lemmas.Bool.{cases_lt}
 use Rattle.std.specs.Ordering.{is_lt, is_eq, ordering_reverse}
 use Rattle.std.specs.declared.cmp.Ordering.{Ordering}
 use Rattle.std.specs.declared.cmp.Ordering.TheVariants.{Less, Equal}
-use Rattle.dd_model.specs.Symbol.{Symbol, IsTable, IsSymbol, IsChamber, Connected, item}
+use Rattle.dd_model.specs.Symbol.{Symbol, IsTable, IsSymbol, IsChamber, item}
+use Rattle.dd_model.specs.Connected.{Connected}
 use Rattle.dd_model.specs.Isomorphic.{IsBijection, IsIsomorphism, Isomorphic}
 use Rattle.dd_model.specs.Code.{code_cmp, Least, IsLeastForm}
 use Rattle.dd_model.specs.FirstVisit.{IsFirstVisit, IsNumberedFrom, IsBestTo}

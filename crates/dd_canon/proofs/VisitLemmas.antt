@@ -3,8 +3,8 @@ use Rattle.std.proofs.Common.{◌≡◌, ℕ, suc, true, false, ◌+◌, ◌-◌
 use Rattle.std.specs.Ordering.{is_gt}
 use Rattle.std.specs.declared.cmp.Ordering.{Ordering}
 use Rattle.std.specs.declared.cmp.Ordering.TheVariants.{Equal, Greater}
-use Rattle.dd_model.specs.declared.parts.Index.{Index}
-use Rattle.dd_model.specs.declared.parts.Index.TheVariants.{Zero, One, Two}
+use Rattle.dd_model.specs.declared.index.Index.{Index}
+use Rattle.dd_model.specs.declared.index.Index.TheVariants.{Zero, One, Two}
 use Rattle.dd_model.specs.Symbol.{Symbol, AreInvolutions, item, op}
 use Rattle.dd_model.specs.FirstVisit.{rows}
 use Rattle.dd_model.specs.Traversal.{IsVisit, IsTraversal}

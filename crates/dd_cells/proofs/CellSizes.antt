@@ -5,7 +5,7 @@ use Rattle.std.proofs.lemmas.List.Elements.{Contains-get_or}
 use Rattle.std.proofs.lemmas.List.{get_or_default}
 use Rattle.std.specs.List.{Contains}
 use Rattle.std.specs.List.Sorted.{IsStrictlyIncreasing}
-use Rattle.dd_model.specs.declared.parts.Pair.{Pair}
+use Rattle.dd_model.specs.declared.pair.Pair.{Pair}
 use Rattle.dd_model.specs.Symbol.{Symbol, AreInvolutions, IsChamber, first, op}
 use Rattle.dd_model.specs.Code.{count_from}
 use Rattle.dd_model.specs.Cell.{InCell, IsChain, turned, IsPeriod}

@@ -6,7 +6,7 @@ use Rattle.std.proofs.lemmas.List.Sums.{sum_by-cons}
 use Rattle.std.specs.List.{Contains, filter, sum_by}
 use Rattle.std.specs.List.Sorted.{IsStrictlyIncreasing}
 use borrow.Author.Tests.{eqb-true}
-use Rattle.dd_model.specs.declared.parts.Pair.{Pair}
+use Rattle.dd_model.specs.declared.pair.Pair.{Pair}
 use Rattle.dd_model.specs.Symbol.{Symbol, AreInvolutions, IsChamber}
 use Rattle.dd_model.specs.Code.{chambers}
 use Rattle.dd_model.specs.Cell.{InCell, IsLeastOfCell, AreCells}

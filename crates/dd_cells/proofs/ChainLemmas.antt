@@ -1,7 +1,7 @@
 -- Turns in a cell: those of a chain reach the whole cell, and those of a cycle never meet a first neighbor.
 use Rattle.std.proofs.Common.{◌≡◌, ℕ, zero, suc, ◌+◌, ◌-◌, ◌*◌, ◌/◌, ◌%◌, ◌<◌, ◌≤◌, refl, sym, ap, ◌∙◌, subst, inl, inr, ⊎_elim, arith}
 use Rattle.std.proofs.lemmas.Bool.{cases_lt}
-use Rattle.dd_model.specs.declared.parts.Pair.{Pair}
+use Rattle.dd_model.specs.declared.pair.Pair.{Pair}
 use Rattle.dd_model.specs.Symbol.{Symbol, AreInvolutions, IsChamber, first, second, turn, op, act}
 use Rattle.dd_model.specs.Cell.{InCell, IsChain, turned, IsPeriod}
 use Rattle.dd_model.proofs.Turns.{turned_within, turned-suc, turned-last, turned-add, turned-mul, turned_apart}

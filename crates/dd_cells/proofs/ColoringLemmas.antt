@@ -2,9 +2,10 @@
 use Rattle.std.proofs.Common.{◌≡◌, ◌≢◌, ℕ, ◌-◌, ◌<◌, ◌≤◌, Bool, true, false, not, cond, List, [], ◌∷◌, ◌++◌, length, get_or, set, refl, sym, ap, ◌∙◌, subst, ⊎_elim, arith}
 use Rattle.std.proofs.lemmas.Bool.{cases_eq, cases_lt}
 use Rattle.std.proofs.lemmas.List.{get_or-set_same, get_or-set_other, get_or_append_left, get_or_push, length_push}
-use Rattle.dd_model.specs.Symbol.{Symbol, AreInvolutions, IsChamber, IsReached, Connected, op}
-use Rattle.dd_model.specs.declared.parts.Index.{Index}
-use Rattle.dd_model.specs.declared.parts.Index.TheVariants.{Zero, One, Two}
+use Rattle.dd_model.specs.Symbol.{Symbol, AreInvolutions, IsChamber, op}
+use Rattle.dd_model.specs.Connected.{IsReached, Connected}
+use Rattle.dd_model.specs.declared.index.Index.{Index}
+use Rattle.dd_model.specs.declared.index.Index.TheVariants.{Zero, One, Two}
 use Rattle.dd_symbol.specs.Walk.{IsMarked, IsWalk, IsClosed}
 use Rattle.dd_symbol.proofs.WalkLemmas.{found, grown}
 use Rattle.dd_cells.specs.Orientation.{color, AreWeakColors, HasWeakColors, IsOriented}

@@ -4,8 +4,8 @@ use Rattle.std.specs.List.{count_by}
 use Rattle.std.proofs.lemmas.Bool.{cases_lt}
 use Rattle.std.proofs.lemmas.List.Sums.{count_by_more_yes, count_by_more_no}
 use Rattle.std.proofs.lemmas.List.{length_push, take_all}
-use Rattle.dd_model.specs.declared.parts.Index.{Index}
-use Rattle.dd_model.specs.declared.parts.Pair.{Pair}
+use Rattle.dd_model.specs.declared.index.Index.{Index}
+use Rattle.dd_model.specs.declared.pair.Pair.{Pair}
 use Rattle.dd_model.specs.Symbol.{Symbol, AreInvolutions, IsChamber, first, second, turn, op, act}
 use Rattle.dd_model.specs.Code.{chambers}
 use Rattle.dd_model.specs.Cell.{InCell, turned, IsLeastOfCell, AreCells}

@@ -5,7 +5,7 @@ use borrow.Author.Differences.{up, down}
 use Rattle.std.proofs.lemmas.Int.{ints}
 use Rattle.std.proofs.lemmas.List.{get_or-map, length-map, get_or_default}
 use Rattle.std.proofs.lemmas.List.Elements.{Contains-get_or}
-use Rattle.dd_model.specs.declared.parts.Pair.TheVariants.{Tile, Vertex}
+use Rattle.dd_model.specs.declared.pair.Pair.TheVariants.{Tile, Vertex}
 use Rattle.dd_model.specs.Symbol.{Symbol, IsTable, IsSymbol, degree, item}
 use Rattle.dd_model.specs.Code.{chambers, count_from}
 use Rattle.dd_model.specs.Flat.{product, all_degrees, reciprocals, Flat}

@@ -1,7 +1,7 @@
 -- The walk through a cell that looks for a fixed chamber.
 use Rattle.std.proofs.Common.{◌≡◌, ℕ, zero, suc, ◌+◌, ◌<◌, ◌≤◌, ◌⊎◌, sym, ap, ◌∙◌, subst, inl, inr, ⊎_elim, arith}
 use Rattle.std.proofs.lemmas.Bool.{cases_lt}
-use Rattle.dd_model.specs.declared.parts.Pair.{Pair}
+use Rattle.dd_model.specs.declared.pair.Pair.{Pair}
 use Rattle.dd_model.specs.Symbol.{Symbol, AreInvolutions, IsChamber, first, second, op}
 use Rattle.dd_model.specs.Cell.{InCell, IsChain, turned}
 use Rattle.dd_model.proofs.Turns.{turned_within, turned-last, period_bound}

@@ -4,7 +4,7 @@ use Rattle.std.specs.List.{Contains, sum_by, AllPass}
 use Rattle.std.proofs.lemmas.Bool.{eqb-true}
 use Rattle.std.proofs.lemmas.List.Elements.{All-contains}
 use Rattle.std.proofs.lemmas.List.Sums.{sum_by_push, AllPass-from_list_all}
-use Rattle.dd_model.specs.declared.parts.Pair.{Pair}
+use Rattle.dd_model.specs.declared.pair.Pair.{Pair}
 use Rattle.dd_model.specs.Symbol.{Symbol, IsSymbol, AreInvolutions, IsChamber, degree}
 use Rattle.dd_model.specs.Code.{chambers, count_from}
 use Rattle.dd_model.specs.Cell.{IsChain, IsBranching, IsLeastOfCell}

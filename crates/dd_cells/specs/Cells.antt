@@ -4,7 +4,7 @@ use Rattle.std.specs.List.{AllByRecursion, Contains}
 use Rattle.std.specs.List.Sorted.{IsStrictlyIncreasing}
 use Rattle.dd_model.specs.Symbol.{Symbol, first, second, op}
 use Rattle.dd_model.specs.Cell.{InCell, IsChain, IsLeastTurns, IsBranching, IsLeastOfCell, AreCells}
-use Rattle.dd_model.specs.declared.parts.Pair.{Pair}
+use Rattle.dd_model.specs.declared.pair.Pair.{Pair}
 use Rattle.dd_cells.specs.declared.kind.Kind.{Kind}
 use Rattle.dd_cells.specs.declared.kind.Kind.TheVariants.{Cycle, Chain}
 use Rattle.dd_cells.specs.declared.cell.Cell.{Cell}

@@ -1,7 +1,7 @@
 -- How two colors are carried from chamber 1 to all others.
 use Rattle.std.specs.Prelude.{◌≡◌, ◌≢◌, ℕ, ◌<◌, Bool, not, cond, List, length, slice_index}
 use Rattle.dd_model.specs.Symbol.{Symbol, IsChamber, op}
-use Rattle.dd_model.specs.declared.parts.Index.{Index}
+use Rattle.dd_model.specs.declared.index.Index.{Index}
 use Rattle.dd_symbol.specs.Walk.{IsWalk, IsMarked}
 use Rattle.dd_cells.specs.Orientation.{color, AreWeakColors}
 use Rattle.dd_cells.specs.declared.colorings.Coloring.{Coloring}

@@ -3,7 +3,7 @@ use Rattle.std.specs.Prelude.{◌≡◌, ℕ, ◌*◌, ◌/◌, pos, ◌-ℤ◌,
 use Rattle.std.specs.List.{Contains, sum_by}
 use Rattle.dd_model.specs.Symbol.{Symbol, degree}
 use Rattle.dd_model.specs.Flat.{all_degrees, reciprocals}
-use Rattle.dd_model.specs.declared.parts.Pair.{Pair}
+use Rattle.dd_model.specs.declared.pair.Pair.{Pair}
 use Rattle.dd_cells.specs.Fraction.{Divides, IsReduced, IsQuotient}
 use Rattle.dd_cells.specs.declared.fractions.Fraction.{Fraction}
 

@@ -1,7 +1,7 @@
 -- Whether the surface of a symbol has two sides that can be told apart.
 use Rattle.std.specs.Prelude.{◌≡◌, ◌≢◌, ◌⊎◌, ℕ, ◌-◌, Bool, false, not, List, slice_index_or}
 use Rattle.dd_model.specs.Symbol.{Symbol, IsChamber, op}
-use Rattle.dd_model.specs.declared.parts.Index.{Index}
+use Rattle.dd_model.specs.declared.index.Index.{Index}
 use Rattle.dd_cells.specs.declared.orientations.Orientation.{Orientation}
 use Rattle.dd_cells.specs.declared.orientations.Orientation.TheVariants.{Oriented, Weak, None}
 

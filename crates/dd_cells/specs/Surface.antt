@@ -3,8 +3,8 @@ use Rattle.std.specs.Prelude.{ℕ, ◌-◌, ◌*◌, ◌/◌, Bool, true, false,
 use Rattle.std.specs.List.{AllByRecursion, count_by, sum_by}
 use Rattle.dd_model.specs.Symbol.{Symbol, op}
 use Rattle.dd_model.specs.Code.{chambers}
-use Rattle.dd_model.specs.declared.parts.Index.{Index}
-use Rattle.dd_model.specs.declared.parts.Pair.{Pair}
+use Rattle.dd_model.specs.declared.index.Index.{Index}
+use Rattle.dd_model.specs.declared.pair.Pair.{Pair}
 use Rattle.dd_cells.specs.Cells.{AreCellsOf}
 use Rattle.dd_cells.specs.Fraction.{Divides}
 use Rattle.dd_cells.specs.declared.kind.Kind.{Kind}

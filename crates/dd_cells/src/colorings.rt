@@ -1,6 +1,6 @@
 ghost use Rattle.std.specs.Prelude.{◌≡◌, ◌≢◌, ◌↔◌, ℕ, IsTrue, OnOk, IfOk, length};
 ghost use Rattle.dd_model.specs.Symbol.{IsChamber, AreInvolutions, op};
-ghost use Rattle.dd_model.specs.declared.parts.Index.{Index};
+ghost use Rattle.dd_model.specs.declared.index.Index.{Index};
 ghost use Rattle.dd_cells.specs.Orientation.{IsOrientation, AreWeakColors};
 ghost use Rattle.dd_cells.specs.Coloring.{AreForced, ExchangesBy, IsFreeOf};
 
@@ -21,7 +21,7 @@ struct Coloring {
 }
 
 impl Coloring {
-    ghost use Rattle.dd_model.specs.Symbol.{IsReached};
+    ghost use Rattle.dd_model.specs.Connected.{IsReached};
     ghost use Rattle.dd_symbol.specs.Walk.{IsMarked, Grows};
     ghost use Rattle.dd_cells.specs.Coloring.{IsColoring, IsForced};
 

@@ -3,7 +3,7 @@ use Rattle.std.proofs.Common.{◌≡◌, ℕ, zero, suc, ◌+◌, ◌-◌, ◌*�
 use Rattle.std.proofs.lemmas.Bool.{cases_lt, cases_eq}
 use Rattle.std.proofs.lemmas.List.{get_or-take, take-take, take-append-le, append_assoc}
 use Rattle.std.specs.List.{Contains}
-use Rattle.dd_model.specs.declared.parts.Index.{Index}
+use Rattle.dd_model.specs.declared.index.Index.{Index}
 use Rattle.dd_model.specs.Symbol.{Symbol, IsChamber, op, operation}
 use Rattle.dd_model.specs.Code.{code, all_images}
 use Rattle.dd_model.specs.FirstVisit.{Grows}

@@ -1,8 +1,8 @@
 -- What an image that is put in says of the completions, and what commuting forces.
 use Rattle.std.proofs.Common.{◌≡◌, ◌≢◌, ℕ, ◌+◌, ◌-◌, ◌*◌, ◌/◌, ◌%◌, ◌<◌, ◌≤◌, Bool, true, false, get_or, sym, ap, ◌∙◌, subst, arith, refl}
 use Rattle.std.specs.Bool.{OnTrue, OnFalse}
-use Rattle.dd_model.specs.declared.parts.Index.{Index}
-use Rattle.dd_model.specs.declared.parts.Index.TheVariants.{Zero, Two}
+use Rattle.dd_model.specs.declared.index.Index.{Index}
+use Rattle.dd_model.specs.declared.index.Index.TheVariants.{Zero, Two}
 use Rattle.dd_model.specs.Symbol.{Symbol, IsTable, IsChamber, op, operation}
 use Rattle.dd_model.specs.Partial.{Completes}
 use Rattle.dd_invol.specs.Places.{index_at, place}

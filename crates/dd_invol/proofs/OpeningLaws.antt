@@ -1,8 +1,9 @@
 -- The code of each least connected symbol begins with one prefix of the opening.
 use Rattle.std.proofs.Common.{◌≡◌, ◌*◌, ◌≤◌, min, length, length-take-le, take, refl, sym, ap, ◌∙◌, arith}
 use Rattle.std.proofs.lemmas.List.{get_or-take}
-use Rattle.dd_model.specs.declared.parts.Pair.TheVariants.{Edge}
-use Rattle.dd_model.specs.Symbol.{Symbol, IsSymbol, Connected}
+use Rattle.dd_model.specs.declared.pair.Pair.TheVariants.{Edge}
+use Rattle.dd_model.specs.Symbol.{Symbol, IsSymbol}
+use Rattle.dd_model.specs.Connected.{Connected}
 use Rattle.dd_model.specs.Lists.{Begins}
 use Rattle.dd_model.specs.Code.{code, Least}
 use Rattle.dd_model.specs.declared.jobs.Job.{Job}

@@ -2,7 +2,7 @@
 use Rattle.std.proofs.Common.{◌≡◌, ℕ, zero, suc, ◌+◌, ◌*◌, ◌/◌, ◌%◌, ◌<◌, ◌++◌, length, length-append, get_or, sym, ap, ◌∙◌, subst, arith}
 use Rattle.std.proofs.lemmas.List.{get_or_append_left, append_assoc}
 use Rattle.std.specs.List.{flat_map}
-use Rattle.dd_model.specs.declared.parts.Index.TheVariants.{Zero, One, Two}
+use Rattle.dd_model.specs.declared.index.Index.TheVariants.{Zero, One, Two}
 use Rattle.dd_model.specs.Symbol.{Symbol, IsTable, IsChamber, op}
 use Rattle.dd_model.specs.Code.{count_from, images, code, all_images}
 use Rattle.dd_invol.specs.Places.{index_at}

@@ -1,9 +1,10 @@
 -- What two symbols with the same involutions have in common, whatever their degrees are.
 use Rattle.std.proofs.Common.{◌≡◌, ℕ, ◌≤◌, [], ◌∷◌, refl, sym, ap, ◌∙◌, subst}
-use Rattle.dd_model.specs.declared.parts.Pair.{Pair}
-use Rattle.dd_model.specs.declared.parts.Index.{Index}
-use Rattle.dd_model.specs.declared.parts.Index.TheVariants.{Zero, One, Two}
-use Rattle.dd_model.specs.Symbol.{Symbol, Word, IsChamber, AreInvolutions, Connected, op, act, degree, power, turn}
+use Rattle.dd_model.specs.declared.pair.Pair.{Pair}
+use Rattle.dd_model.specs.declared.index.Index.{Index}
+use Rattle.dd_model.specs.declared.index.Index.TheVariants.{Zero, One, Two}
+use Rattle.dd_model.specs.Symbol.{Symbol, Word, IsChamber, AreInvolutions, op, act, degree, power, turn}
+use Rattle.dd_model.specs.Connected.{Connected}
 use Rattle.dd_model.specs.Cell.{InCell, IsPeriod, IsLeastTurns, IsBranching, turned}
 use Rattle.dd_invol.specs.Table.{HaveSameInvolutions}
 

@@ -2,11 +2,12 @@
 use Rattle.std.proofs.Common.{◌≡◌, ℕ, zero, suc, ◌+◌, ◌*◌, ◌<◌, ◌≤◌, List, [], ◌∷◌, ◌++◌, length, get_or, map, refl, sym, ap, ◌∙◌, subst, ⊎_elim, arith}
 use Rattle.std.proofs.lemmas.Bool.{cases_lt}
 use Rattle.std.proofs.lemmas.List.{map_push}
-use Rattle.dd_model.specs.declared.parts.Index.{Index}
-use Rattle.dd_model.specs.declared.parts.Index.TheVariants.{Zero, One, Two}
-use Rattle.dd_model.specs.declared.parts.Pair.{Pair}
-use Rattle.dd_model.specs.declared.parts.Pair.TheVariants.{Tile, Vertex, Edge}
-use Rattle.dd_model.specs.Symbol.{Symbol, IsTable, IsChamber, AreInvolutions, HasDegree, Connected, item, first, second, op, act, turn}
+use Rattle.dd_model.specs.declared.index.Index.{Index}
+use Rattle.dd_model.specs.declared.index.Index.TheVariants.{Zero, One, Two}
+use Rattle.dd_model.specs.declared.pair.Pair.{Pair}
+use Rattle.dd_model.specs.declared.pair.Pair.TheVariants.{Tile, Vertex, Edge}
+use Rattle.dd_model.specs.Symbol.{Symbol, IsTable, IsChamber, AreInvolutions, HasDegree, item, first, second, op, act, turn}
+use Rattle.dd_model.specs.Connected.{Connected}
 use Rattle.dd_model.specs.Cell.{IsPeriod, turned}
 use Rattle.dd_model.specs.Small.{IsSmallSymbol}
 use Rattle.dd_model.specs.Lists.{Begins}

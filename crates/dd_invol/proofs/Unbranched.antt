@@ -1,7 +1,7 @@
 -- Symbols whose branching values are all 1: their degrees are determined by their involutions.
 use Rattle.std.proofs.Common.{◌≡◌, ℕ, ◌*◌, ◌≤◌, sym, ap, ◌∙◌, subst, arith}
-use Rattle.dd_model.specs.declared.parts.Pair.{Pair}
-use Rattle.dd_model.specs.declared.parts.Pair.TheVariants.{Tile, Vertex, Edge}
+use Rattle.dd_model.specs.declared.pair.Pair.{Pair}
+use Rattle.dd_model.specs.declared.pair.Pair.TheVariants.{Tile, Vertex, Edge}
 use Rattle.dd_model.specs.Symbol.{Symbol, IsTable, IsSymbol, IsChamber, AreInvolutions, HasDegree, first, second, op, degree}
 use Rattle.dd_model.specs.Cell.{InCell, IsPeriod, IsLeastTurns, IsBranching}
 use Rattle.dd_model.specs.Small.{IsSmallSymbol}

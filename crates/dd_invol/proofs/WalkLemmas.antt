@@ -7,14 +7,15 @@ use Rattle.std.specs.Ordering.{nat_cmp, ordering_reverse}
 use Rattle.std.specs.Cmp.Lexicographic.{slice_cmp}
 use Rattle.std.specs.declared.cmp.Ordering.TheVariants.{Less, Greater}
 use borrow.Author.Tests.{leb-true, le-leb}
-use Rattle.dd_model.specs.declared.parts.Pair.{Pair}
-use Rattle.dd_model.specs.declared.parts.Pair.TheVariants.{Edge}
+use Rattle.dd_model.specs.declared.pair.Pair.{Pair}
+use Rattle.dd_model.specs.declared.pair.Pair.TheVariants.{Edge}
 use Rattle.dd_model.specs.Cell.{AreCells}
 use Rattle.dd_model.specs.Wanted.{AtMost}
 use Rattle.dd_model.proofs.CellLists.{cells_unique}
 use Rattle.dd_invol.specs.Frame.{IsLonger}
 use Rattle.dd_invol.specs.Growth.{Growing}
-use Rattle.dd_model.specs.Symbol.{Symbol, IsSymbol, Connected}
+use Rattle.dd_model.specs.Symbol.{Symbol, IsSymbol}
+use Rattle.dd_model.specs.Connected.{Connected}
 use Rattle.dd_model.specs.Lists.{Begins}
 use Rattle.dd_model.specs.Code.{code, code_cmp, all_images}
 use Rattle.dd_model.specs.Jobs.{extended}

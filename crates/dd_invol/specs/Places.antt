@@ -1,7 +1,7 @@
 -- The places of a code.
 use Rattle.std.specs.Prelude.{ℕ, zero, suc, ◌+◌, ◌-◌, ◌*◌}
-use Rattle.dd_model.specs.declared.parts.Index.{Index}
-use Rattle.dd_model.specs.declared.parts.Index.TheVariants.{Zero, One, Two}
+use Rattle.dd_model.specs.declared.index.Index.{Index}
+use Rattle.dd_model.specs.declared.index.Index.TheVariants.{Zero, One, Two}
 
 -- The involution of a number below 3. Place t of a code has the image of chamber 1 + t / 3 under that of t % 3.
 abbrev pub index_at : ℕ → Index

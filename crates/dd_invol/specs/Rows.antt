@@ -1,9 +1,9 @@
 -- A table that is filled in place, and what was put into it, in order.
 use Rattle.std.specs.Prelude.{◌≡◌, ◌≢◌, ℕ, zero, suc, ◌+◌, ◌-◌, ◌<◌, ◌≤◌, List, [], length, map, take, slice_index, slice_set}
 use Rattle.std.specs.List.{sum_by}
-use Rattle.dd_model.specs.declared.parts.Index.{Index}
-use Rattle.dd_model.specs.declared.parts.Index.TheVariants.{Zero, One, Two}
-use Rattle.dd_model.specs.declared.parts.Pair.TheVariants.{Edge}
+use Rattle.dd_model.specs.declared.index.Index.{Index}
+use Rattle.dd_model.specs.declared.index.Index.TheVariants.{Zero, One, Two}
+use Rattle.dd_model.specs.declared.pair.Pair.TheVariants.{Edge}
 use Rattle.dd_model.specs.Symbol.{Symbol, IsChamber, HasDegree, op}
 use Rattle.dd_model.specs.Code.{count_from}
 use Rattle.dd_model.specs.Partial.{Completes}

@@ -4,8 +4,9 @@ use Rattle.std.specs.List.{Contains}
 use Rattle.std.specs.Ordering.{nat_cmp}
 use Rattle.std.specs.Cmp.Lexicographic.{slice_cmp}
 use Rattle.std.specs.declared.cmp.Ordering.TheVariants.{Less, Greater}
-use Rattle.dd_model.specs.declared.parts.Pair.TheVariants.{Tile, Vertex}
-use Rattle.dd_model.specs.Symbol.{Symbol, IsSymbol, Connected}
+use Rattle.dd_model.specs.declared.pair.Pair.TheVariants.{Tile, Vertex}
+use Rattle.dd_model.specs.Symbol.{Symbol, IsSymbol}
+use Rattle.dd_model.specs.Connected.{Connected}
 use Rattle.dd_model.specs.Lists.{Begins}
 use Rattle.dd_model.specs.Code.{code, code_cmp, all_images}
 use Rattle.dd_model.specs.FirstVisit.{LeastTable}

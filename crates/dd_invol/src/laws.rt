@@ -1,5 +1,6 @@
 ghost use Rattle.std.specs.Prelude.{◌≡◌, ◌*◌, ◌≤◌, length};
-ghost use Rattle.dd_model.specs.Symbol.{Symbol, IsSymbol, Connected};
+ghost use Rattle.dd_model.specs.Symbol.{Symbol, IsSymbol};
+ghost use Rattle.dd_model.specs.Connected.{Connected};
 ghost use Rattle.dd_model.specs.Lists.{Begins};
 ghost use Rattle.dd_model.specs.Code.{code, Least};
 ghost use Rattle.dd_model.specs.declared.jobs.Job.{Job};

@@ -105,7 +105,8 @@ impl Model for Table {
 }
 
 impl Table {
-    ghost use Rattle.dd_model.specs.Symbol.{IsSymbol, IsChamber, Connected as AllReached, op};
+    ghost use Rattle.dd_model.specs.Symbol.{IsSymbol, IsChamber, op};
+    ghost use Rattle.dd_model.specs.Connected.{Connected as AllReached};
     ghost use Rattle.dd_invol.specs.Table.{IsUnbranched, HasNoTable, IsTableOf};
 
     /// The table with these numbers, which stand in the order of codes; None where they are not

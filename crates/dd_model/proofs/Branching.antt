@@ -1,13 +1,11 @@
 -- Each chamber of a symbol has exactly one branching value for each pair.
-use Rattle.std.proofs.Common.{◌≡◌, ℕ, ◌*◌, ◌/◌, ◌%◌, ◌≤◌, [], ◌∷◌, refl, sym, ap, ◌∙◌, ⊎_elim, arith}
-use Rattle.dd_model.specs.declared.parts.Pair.{Pair}
-use Rattle.dd_model.specs.Symbol.{Symbol, IsSymbol, IsChamber, Word, degree, op, act}
-use Rattle.dd_model.specs.Cell.{IsWordOf, InCell, IsBranching}
+use Rattle.std.proofs.Common.{◌≡◌, ℕ, ◌*◌, ◌/◌, ◌≤◌, [], ◌∷◌, refl, sym, ap, ◌∙◌, ⊎_elim, arith}
+use Rattle.dd_model.specs.declared.pair.Pair.{Pair}
+use Rattle.dd_model.specs.Symbol.{Symbol, AreInvolutions, IsSymbol, IsChamber, Word, degree, op, act}
+use Rattle.dd_model.specs.Cell.{IsWordOf, InCell, IsLeastTurns, IsBranching}
 use Rattle.dd_model.proofs.CellWalks.{in_cell-sym, in_cell-trans}
 use Rattle.dd_model.proofs.Turns.{period_exists, period_divides, IsLeastTurns-from_period, least_turns_unique}
-
-whole : (m r : ℕ) → 1 ≤ r → m % r ≡ 0 → m / r * r ≡ m
-whole m r pos even = grind arith
+use Rattle.dd_model.proofs.Numbers.{whole_quotient}
 
 pub branching_exists : (s : Symbol) → IsSymbol s → (p : Pair) (d : ℕ) → IsChamber s d → (v : ℕ) × IsBranching s p d v
 branching_exists s is p d h =
@@ -17,7 +15,7 @@ branching_exists s is p d h =
       record {
         r = r.0;
         least_turns = IsLeastTurns-from_period s is.table.involutions p d r.0 h r.1;
-        quotient = whole (degree s p d) r.0 r.1.positive (period_divides s p d r.0 (degree s p d) r.1 has.turns);
+        quotient = whole_quotient (degree s p d) r.0 r.1.positive (period_divides s p d r.0 (degree s p d) r.1 has.turns);
       },
     )
 
@@ -40,19 +38,20 @@ degree_same s is p (i ∷ w) d h letters =
     (λ e. ap (λ j. degree s p (op s j d)) e ∙ has.along_second)
     letters.0
 
+-- chambers of one cell have one least number of turns
+pub turns-along : (s : Symbol) → AreInvolutions s → (p : Pair) (d e r : ℕ) → IsChamber s d → InCell s p d e → IsLeastTurns s p d r → IsLeastTurns s p e r
+turns-along s inv p d e r h there turns = record {
+  positive = turns.positive;
+  chamber = turns.chamber;
+  in_cell = in_cell-trans s p e d turns.chamber (in_cell-sym s inv p d e h there) turns.in_cell;
+  fixed = turns.fixed;
+  least = λ k x pos near fixed. turns.least k x pos (in_cell-trans s p d e x there near) fixed;
+}
+
 -- The chambers of a cell have one branching value.
 pub branching_same : (s : Symbol) → IsSymbol s → (p : Pair) (d e v : ℕ) → IsChamber s d → InCell s p d e → IsBranching s p d v → IsBranching s p e v
-branching_same s is p d e v h there b =
-    let back = in_cell-sym s is.table.involutions p d e h there in
-    let l = b.least_turns in
-    record {
-      r = b.r;
-      least_turns = record {
-        positive = l.positive;
-        chamber = l.chamber;
-        in_cell = in_cell-trans s p e d l.chamber back l.in_cell;
-        fixed = l.fixed;
-        least = λ k x pos near fixed. l.least k x pos (in_cell-trans s p d e x there near) fixed;
-      };
-      quotient = b.quotient ∙ sym (degree_same s is p there.word d h there.letters) ∙ ap (degree s p) there.leads;
-    }
+branching_same s is p d e v h there b = record {
+  r = b.r;
+  least_turns = turns-along s is.table.involutions p d e b.r h there b.least_turns;
+  quotient = b.quotient ∙ sym (degree_same s is p there.word d h there.letters) ∙ ap (degree s p) there.leads;
+}

@@ -1,7 +1,7 @@
 -- Isomorphic symbols have the same branching values, equally many cells, and are minimal together.
 use Rattle.std.proofs.Common.{◌≡◌, ℕ, ◌≤◌, List, length, sym, ap, ◌∙◌, subst, inl, inr, ⊎_elim, arith}
-use Rattle.dd_model.specs.declared.parts.Index.{Index}
-use Rattle.dd_model.specs.declared.parts.Pair.{Pair}
+use Rattle.dd_model.specs.declared.index.Index.{Index}
+use Rattle.dd_model.specs.declared.pair.Pair.{Pair}
 use Rattle.dd_model.specs.Symbol.{Symbol, AreInvolutions, IsChamber, first, second, item, op, act}
 use Rattle.dd_model.specs.Isomorphic.{IsMorphism, IsIsomorphism}
 use Rattle.dd_model.specs.Cell.{InCell, IsChain, IsBranching, AreCells}

@@ -6,7 +6,7 @@ use Rattle.dd_model.specs.Symbol.{Symbol, IsTable, item}
 use Rattle.dd_model.specs.Code.{count_from}
 use Rattle.dd_model.specs.Isomorphic.{HaveLengths, IsBijection, IsIsomorphism}
 use Rattle.dd_model.specs.Flat.{product, all_degrees, reciprocals, Flat}
-use Rattle.dd_model.proofs.Bijections.{length-count_from, get_or-count_from, item-count_from}
+use Rattle.dd_model.proofs.CountFrom.{length-count_from, get_or-count_from, item-count_from}
 use Rattle.dd_model.proofs.Codes.{same_items}
 use Rattle.dd_model.proofs.Counts.{AreApart, same_totals}
 

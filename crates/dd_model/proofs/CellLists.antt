@@ -1,24 +1,16 @@
 -- Ascending lists with the same members are equal. Each pair has one list of cells.
-use Rattle.std.proofs.Common.{◌≡◌, ℕ, zero, suc, ◌+◌, ◌<◌, ◌⊎◌, List, [], ◌∷◌, ◌++◌, refl, sym, ap, ◌∙◌, subst, inl, inr, ⊎_elim, arith}
+use Rattle.std.proofs.Common.{◌≡◌, ℕ, zero, suc, ◌+◌, ◌<◌, ◌⊎◌, List, [], ◌∷◌, ◌++◌, refl, sym, ap, ◌∙◌, subst, ⊎_elim, arith}
 use Rattle.std.proofs.lemmas.Bool.{cases_lt}
 use Rattle.std.specs.List.{Contains}
 use Rattle.std.specs.List.Sorted.{IsStrictlyIncreasing}
 use Rattle.std.proofs.lemmas.List.Elements.{Contains-append_left, Contains-append_right, Contains-append_cases}
 use Rattle.std.proofs.lemmas.List.Kept.{AllPairs-from_increasing}
-use Rattle.dd_model.specs.declared.parts.Pair.{Pair}
+use Rattle.dd_model.specs.declared.pair.Pair.{Pair}
 use Rattle.dd_model.specs.Symbol.{Symbol, AreInvolutions}
 use Rattle.dd_model.specs.Cell.{IsLeastOfCell, AreCells}
+pub use Rattle.dd_model.proofs.Lists.{Contains-head, Contains-later, Contains-cases}
 use Rattle.dd_model.proofs.CellSearch.{decide_least_of_cell}
-
-pub Contains-head : (x : ℕ) (xs : List ℕ) → Contains (x ∷ xs) x
-Contains-head x xs = (zero, omega arith, refl)
-
-pub Contains-later : (x y : ℕ) (xs : List ℕ) → Contains xs y → Contains (x ∷ xs) y
-Contains-later x y xs (k, h, e) = (suc k, omega arith, e)
-
-pub Contains-cases : (x y : ℕ) (xs : List ℕ) → Contains (x ∷ xs) y → (x ≡ y) ⊎ Contains xs y
-Contains-cases x y xs (zero, h, e) = inl e
-Contains-cases x y xs (suc k, h, e) = inr (k, omega arith, e)
+use Rattle.dd_model.proofs.Lists.{Contains-head, Contains-later, Contains-cases}
 
 pub increasing-tail : (x : ℕ) (xs : List ℕ) → IsStrictlyIncreasing (x ∷ xs) → IsStrictlyIncreasing xs
 increasing-tail x xs up k h =

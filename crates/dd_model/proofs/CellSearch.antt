@@ -1,7 +1,7 @@
 -- Cells can be searched: what lies in a cell is decided, and each cell has a least chamber.
 use Rattle.std.proofs.Common.{◌≡◌, ℕ, zero, suc, ◌+◌, ◌<◌, ◌≤◌, ◌⊎◌, sym, subst, inl, inr, ⊎_elim, arith}
 use Rattle.std.proofs.lemmas.Bool.{cases_eq, cases_lt}
-use Rattle.dd_model.specs.declared.parts.Pair.{Pair}
+use Rattle.dd_model.specs.declared.pair.Pair.{Pair}
 use Rattle.dd_model.specs.Symbol.{Symbol, AreInvolutions, IsChamber, first, op}
 use Rattle.dd_model.specs.Cell.{InCell, turned, IsLeastOfCell}
 use Rattle.dd_model.proofs.Transport.{in_cell_within}
@@ -91,7 +91,7 @@ least_of_cell_unique s inv p d e a b there =
     let high = b.1 d (in_cell-sym s inv p d e a.0 there) in
     omega arith
 
-decide_chamber : (s : Symbol) (d : ℕ) → Decided (IsChamber s d)
+pub decide_chamber : (s : Symbol) (d : ℕ) → Decided (IsChamber s d)
 decide_chamber s d =
     ⊎_elim
     (λ none. inr (λ h. let low = h.0 in absurd (omega arith)))

@@ -9,12 +9,13 @@ use Rattle.std.specs.FinMap.{nat_cmp-IsAntisymmetric, slice_cmp-IsAntisymmetric}
 use Rattle.std.specs.Ordering.{nat_cmp, ordering_then, ordering_reverse}
 use Rattle.std.specs.declared.cmp.Ordering.{Ordering}
 use Rattle.std.specs.declared.cmp.Ordering.TheVariants.{Less, Equal, Greater}
-use Rattle.dd_model.specs.declared.parts.Index.{Index}
-use Rattle.dd_model.specs.declared.parts.Index.TheVariants.{Zero, One, Two}
+use Rattle.dd_model.specs.declared.index.Index.{Index}
+use Rattle.dd_model.specs.declared.index.Index.TheVariants.{Zero, One, Two}
 use Rattle.dd_model.specs.Symbol.{Symbol, IsTable, IsSymbol, item, op, operation}
 use Rattle.dd_model.specs.Isomorphic.{Isomorphic}
 use Rattle.dd_model.specs.Code.{count_from, chambers, images, code, code_cmp, Least}
 use Rattle.dd_model.proofs.Isomorphisms.{Isomorphic-sym}
+use Rattle.dd_model.proofs.Fields.{same_fields}
 
 pub code_cmp_total : IsTotalOrder code_cmp
 code_cmp_total = then_total (on_total (λ (s : Symbol). s.size) nat_cmp_total) (on_total code nat_list_cmp_total)
@@ -68,7 +69,7 @@ same_from_code s t is it n e =
     let s0 : s.s0 ≡ t.s0 = lists Zero in
     let s1 : s.s1 ≡ t.s1 = lists One in
     let s2 : s.s2 ≡ t.s2 = lists Two in
-    λ x. record { size = n x; s0 = s0 x; s1 = s1 x; s2 = s2 x; m01 = m01 x; m12 = m12 x }
+    same_fields s t n s0 s1 s2 m01 m12
 
 pub same_from_code_cmp : (s t : Symbol) → IsTable s → IsTable t → code_cmp s t ≡ Equal → s ≡ t
 same_from_code_cmp s t is it e =

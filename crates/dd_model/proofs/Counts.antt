@@ -6,7 +6,8 @@ use Rattle.std.proofs.lemmas.List.Sums.{sum_by-cons}
 use Rattle.std.specs.List.{Contains, sum_by}
 use Rattle.std.specs.List.Sorted.{IsStrictlyIncreasing}
 use Rattle.dd_model.specs.Flat.{product}
-use Rattle.dd_model.proofs.CellLists.{Contains-head, Contains-later, Contains-cases, increasing-head, increasing-tail}
+use Rattle.dd_model.proofs.CellLists.{increasing-head, increasing-tail}
+use Rattle.dd_model.proofs.Lists.{Contains-head, Contains-later, Contains-cases}
 
 -- ys without one y
 record Without (ys : List ℕ) (y : ℕ) : Type 0 where

@@ -3,12 +3,12 @@ use Rattle.std.proofs.Common.{◌≡◌, ℕ, ◌-◌, ◌≤◌, cond, List, ma
 use Rattle.std.proofs.lemmas.Bool.Decides.{nat_tests}
 use Rattle.std.proofs.lemmas.List.{get_or-map, length-map}
 use Rattle.std.specs.Prelude.{eqb}
-use Rattle.dd_model.specs.declared.parts.Index.{Index}
-use Rattle.dd_model.specs.declared.parts.Index.TheVariants.{Zero, One, Two}
+use Rattle.dd_model.specs.declared.index.Index.{Index}
+use Rattle.dd_model.specs.declared.index.Index.TheVariants.{Zero, One, Two}
 use Rattle.dd_model.specs.Symbol.{Symbol, IsTable, IsChamber, item, op, operation}
 use Rattle.dd_model.specs.Isomorphic.{Undoes, IsBijection, IsIsomorphism}
 use Rattle.dd_model.specs.Code.{count_from}
-use Rattle.dd_model.proofs.Bijections.{length-count_from, item-count_from}
+use Rattle.dd_model.proofs.CountFrom.{length-count_from, item-count_from}
 use Rattle.dd_model.proofs.Transport.{HaveLengths, IsTable-along}
 
 -- the images of 1 to n under a function

@@ -6,9 +6,10 @@ use Rattle.std.specs.Cmp.{nat_cmp_is}
 use Rattle.std.specs.Cmp.Lexicographic.{slice_cmp}
 use Rattle.std.specs.Ordering.{nat_cmp}
 use Rattle.std.specs.declared.cmp.Ordering.TheVariants.{Less, Equal}
-use Rattle.dd_model.specs.declared.parts.Index.{Index}
-use Rattle.dd_model.specs.declared.parts.Index.TheVariants.{Zero, One, Two}
-use Rattle.dd_model.specs.Symbol.{Symbol, IsTable, AreInvolutions, IsChamber, Connected, Word, act, item, op}
+use Rattle.dd_model.specs.declared.index.Index.{Index}
+use Rattle.dd_model.specs.declared.index.Index.TheVariants.{Zero, One, Two}
+use Rattle.dd_model.specs.Symbol.{Symbol, IsTable, AreInvolutions, IsChamber, Word, act, item, op}
+use Rattle.dd_model.specs.Connected.{Connected}
 use Rattle.dd_model.specs.Isomorphic.{IsIsomorphism}
 use Rattle.dd_model.specs.Code.{code, code_cmp}
 use Rattle.dd_model.specs.FirstVisit.{Grows, IsFirstVisit, rows}

@@ -1,10 +1,11 @@
 -- An isomorphism that moves no chamber leads to the same symbol.
 use Rattle.std.proofs.Common.{◌≡◌, ℕ, ◌+◌, ◌<◌, ◌≤◌, List, sym, ap, ◌∙◌, arith}
-use Rattle.dd_model.specs.declared.parts.Index.{Index}
-use Rattle.dd_model.specs.declared.parts.Index.TheVariants.{Zero, One, Two}
+use Rattle.dd_model.specs.declared.index.Index.{Index}
+use Rattle.dd_model.specs.declared.index.Index.TheVariants.{Zero, One, Two}
 use Rattle.dd_model.specs.Symbol.{Symbol, IsTable, IsChamber, item, op, operation}
 use Rattle.dd_model.specs.Isomorphic.{IsIsomorphism}
 use Rattle.dd_model.proofs.Codes.{same_items}
+use Rattle.dd_model.proofs.Fields.{same_fields}
 
 pub same_by_fixed_map : (s t : Symbol) (f : List ℕ) → IsTable s → IsTable t → IsIsomorphism s t f → ((d : ℕ) → IsChamber s d → item f d ≡ d) → s ≡ t
 same_by_fixed_map s t f is it iso fixed =
@@ -21,4 +22,4 @@ same_by_fixed_map s t f is it iso fixed =
     let h = inside d low high in sym (iso.morphism.m01 d h) ∙ ap (item t.m01) (fixed d h)) in
     let m12 : s.m12 ≡ t.m12 = same_items s.m12 t.m12 s.size is.m12_length (it.m12_length ∙ iso.size) (λ d low high.
     let h = inside d low high in sym (iso.morphism.m12 d h) ∙ ap (item t.m12) (fixed d h)) in
-    λ x. record { size = n x; s0 = s0 x; s1 = s1 x; s2 = s2 x; m01 = m01 x; m12 = m12 x }
+    same_fields s t n s0 s1 s2 m01 m12

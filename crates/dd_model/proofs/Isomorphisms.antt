@@ -4,7 +4,8 @@ use Rattle.std.proofs.lemmas.List.{length-map}
 use Rattle.dd_model.specs.Symbol.{Symbol, IsTable, AreInvolutions, IsChamber, item, op}
 use Rattle.dd_model.specs.Isomorphic.{IsBijection, IsMorphism, IsIsomorphism, Isomorphic}
 use Rattle.dd_model.specs.Code.{count_from}
-use Rattle.dd_model.proofs.Bijections.{identity, inverse, composite, after, item-after, item-count_from, length-count_from}
+use Rattle.dd_model.proofs.Bijections.{identity, inverse, composite, after, item-after}
+use Rattle.dd_model.proofs.CountFrom.{item-count_from, length-count_from}
 
 -- no chamber moved
 pub identity_isomorphism : (s : Symbol) → IsTable s → IsIsomorphism s s (count_from 1 s.size)

@@ -5,7 +5,8 @@ use Rattle.std.proofs.lemmas.Cmp.{tied_itself}
 use Rattle.std.specs.Ordering.{ordering_reverse}
 use Rattle.std.specs.declared.cmp.Ordering.{Ordering}
 use Rattle.std.specs.declared.cmp.Ordering.TheVariants.{Less, Equal, Greater}
-use Rattle.dd_model.specs.Symbol.{Symbol, IsTable, IsSymbol, IsChamber, Connected, item}
+use Rattle.dd_model.specs.Symbol.{Symbol, IsTable, IsSymbol, IsChamber, item}
+use Rattle.dd_model.specs.Connected.{Connected}
 use Rattle.dd_model.specs.Isomorphic.{HaveLengths, IsIsomorphism, Isomorphic}
 use Rattle.dd_model.specs.Code.{code_cmp, Least, IsLeastForm, count_from}
 use Rattle.dd_model.specs.FirstVisit.{IsFirstVisit, IsNumberedFrom, IsBestTo, LeastTable, IsLeastTableForm}
@@ -13,7 +14,8 @@ use Rattle.std.specs.List.{Contains}
 use Rattle.dd_model.specs.Wanted.{Wanted, IsCatalogue}
 use Rattle.dd_model.specs.declared.requests.Request.{Request}
 use Rattle.dd_model.proofs.CarriedWanted.{wanted-along}
-use Rattle.dd_model.proofs.Bijections.{after, item-after, item-count_from}
+use Rattle.dd_model.proofs.Bijections.{after, item-after}
+use Rattle.dd_model.proofs.CountFrom.{item-count_from}
 use Rattle.dd_model.proofs.Isomorphisms.{identity_isomorphism, Isomorphic-sym, Isomorphic-trans, inverse_isomorphism, IsIsomorphism-after}
 use Rattle.dd_model.proofs.Transport.{Connected-along, IsSymbol-along}
 use Rattle.dd_model.proofs.Codes.{code_cmp_total, same_from_code_cmp, equal_from_both, least_unique}

@@ -1,3 +1,9 @@
+pub mod Lists
+pub mod CountFrom
+pub mod Numbers
+pub mod Fields
+pub mod Orders
+pub mod AllDegrees
 pub mod AllowedLemmas
 pub mod AllowedSets
 pub mod Words

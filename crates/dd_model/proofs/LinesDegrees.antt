@@ -1,9 +1,9 @@
 -- The degrees of the cells tell those of all chambers.
-use Rattle.std.proofs.Common.{◌≡◌, ℕ, zero, suc, ◌+◌, ◌*◌, ◌<◌, ◌≤◌, ◌^◌, true, false, cond, List, [], ◌∷◌, map, refl, sym, ap, ◌∙◌, subst, arith}
+use Rattle.std.proofs.Common.{◌≡◌, ℕ, zero, suc, ◌+◌, ◌*◌, ◌<◌, ◌≤◌, ◌^◌, true, false, cond, List, [], ◌∷◌, map, refl, sym, ap, ◌∙◌, arith}
 use Rattle.std.specs.Prelude.{nat_le}
 use Rattle.std.specs.List.{AllByRecursion, Contains, filter}
-use Rattle.dd_model.specs.declared.parts.Index.{Index}
-use Rattle.dd_model.specs.declared.parts.Pair.{Pair}
+use Rattle.dd_model.specs.declared.index.Index.{Index}
+use Rattle.dd_model.specs.declared.pair.Pair.{Pair}
 use Rattle.dd_model.specs.Symbol.{Symbol, Word, IsSymbol, IsChamber, op, act, degree}
 use Rattle.dd_model.specs.Code.{count_from}
 use Rattle.dd_model.specs.Cell.{InCell, IsLeastOfCell, AreCells}
@@ -13,7 +13,7 @@ use Rattle.dd_model.proofs.Turns.{IsLeastTurns-from_period, least_turns_unique}
 use Rattle.dd_model.proofs.Branching.{branching_exists, degree_same}
 use Rattle.dd_model.proofs.CellWalks.{has_period}
 use Rattle.dd_model.proofs.CellSearch.{has_least}
-use Rattle.dd_model.proofs.CellLists.{Contains-head, Contains-later}
+use Rattle.dd_model.proofs.Lists.{Contains-head, Contains-later, map_at}
 use Rattle.dd_model.proofs.Digits.{AreShort}
 
 -- ## Numbers of a small symbol are short
@@ -83,11 +83,6 @@ same_cells s t size same p ds cells = record {
   );
 }
 
-mapped_same : (f g : ℕ → ℕ) (ds : List ℕ) → map f ds ≡ map g ds → (d : ℕ) → Contains ds d → f d ≡ g d
-mapped_same f g [] e d (k, h, x) = absurd (omega (arith, h))
-mapped_same f g (c ∷ ds) e d (zero, h, x) = let first : f c ≡ g c = cc in subst (λ y. f y ≡ g y) x first
-mapped_same f g (c ∷ ds) e d (suc k, h, x) = mapped_same f g ds (cc) d (k, omega (arith, h), x)
-
 pub same_degrees : (s t : Symbol) → IsSymbol s → IsSymbol t → s.size ≡ t.size → HaveSameOps s t → (p : Pair) (ds : List ℕ) → AreCells s p ds
     → map (degree s p) ds ≡ map (degree t p) ds → (d : ℕ) → IsChamber s d → degree s p d ≡ degree t p d
 same_degrees s t is it size same p ds cells e d h =
@@ -96,6 +91,6 @@ same_degrees s t is it size same p ds cells e d h =
     let there : act t w d ≡ l.least = sym (same_act s t same w d) ∙ l.in_cell.leads in
     sym (degree_same s is p w d h l.in_cell.letters)
     ∙ ap (degree s p) l.in_cell.leads
-    ∙ mapped_same (degree s p) (degree t p) ds e l.least ((cells.members l.least).1 l.is_least)
+    ∙ map_at (degree s p) (degree t p) ds e l.least ((cells.members l.least).1 l.is_least)
     ∙ ap (degree t p) (sym there)
     ∙ degree_same t it p w d (h.0, omega (arith, h.1, size)) l.in_cell.letters

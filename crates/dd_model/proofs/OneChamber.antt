@@ -3,11 +3,12 @@ use Rattle.std.proofs.Common.{◌≡◌, ◌≢◌, ℕ, zero, suc, ◌≤◌, L
 use Rattle.std.proofs.lemmas.Cmp.{tied_itself}
 use Rattle.std.specs.List.{Contains}
 use Rattle.std.specs.declared.cmp.Ordering.TheVariants.{Greater}
-use Rattle.dd_model.specs.declared.parts.Index.{Index}
-use Rattle.dd_model.specs.declared.parts.Index.TheVariants.{Zero, One, Two}
-use Rattle.dd_model.specs.declared.parts.Pair.{Pair}
-use Rattle.dd_model.specs.declared.parts.Pair.TheVariants.{Tile, Vertex, Edge}
-use Rattle.dd_model.specs.Symbol.{Symbol, IsTable, IsSymbol, IsInvolution, HasDegree, IsChamber, Connected, IsReached, Word, op, operation, act, power, turn}
+use Rattle.dd_model.specs.declared.index.Index.{Index}
+use Rattle.dd_model.specs.declared.index.Index.TheVariants.{Zero, One, Two}
+use Rattle.dd_model.specs.declared.pair.Pair.{Pair}
+use Rattle.dd_model.specs.declared.pair.Pair.TheVariants.{Tile, Vertex, Edge}
+use Rattle.dd_model.specs.Symbol.{Symbol, IsTable, IsSymbol, IsInvolution, HasDegree, IsChamber, Word, op, operation, act, power, turn}
+use Rattle.dd_model.specs.Connected.{Connected, IsReached}
 use Rattle.dd_model.specs.Isomorphic.{Isomorphic}
 use Rattle.dd_model.specs.Code.{code_cmp, Least}
 use Rattle.dd_model.specs.Cell.{IsLeastTurns, IsLeastOfCell, AreCells}

@@ -3,8 +3,9 @@ use Rattle.std.proofs.Common.{◌≡◌, ◌≢◌, ℕ, ◌≤◌, List, [], �
 use Rattle.std.specs.Ordering.{nat_cmp, ordering_then}
 use Rattle.std.specs.declared.cmp.Ordering.{Ordering}
 use Rattle.std.specs.declared.cmp.Ordering.TheVariants.{Less, Equal}
-use Rattle.dd_model.specs.declared.parts.Index.{Index}
-use Rattle.dd_model.specs.Symbol.{Symbol, IsTable, Connected, item, op}
+use Rattle.dd_model.specs.declared.index.Index.{Index}
+use Rattle.dd_model.specs.Symbol.{Symbol, IsTable, item, op}
+use Rattle.dd_model.specs.Connected.{Connected}
 use Rattle.dd_model.specs.FirstVisit.{rows, LeastTable}
 use Rattle.dd_model.specs.Traversal.{IsVisit, IsMeeting, IsTraversal}
 use Rattle.dd_model.specs.Partial.{Completes, IsPartialTraversal}

@@ -3,6 +3,7 @@ use Rattle.std.proofs.Common.{◌≡◌, ℕ, zero, suc, ◌+◌, ◌<◌, ◌�
 use Rattle.std.specs.Prelude.{map, filter, nat_le}
 use Rattle.std.proofs.lemmas.Bool.{cases_lt, le-leb, lt-leb}
 use Rattle.dd_model.specs.Code.{count_from}
+use Rattle.dd_model.proofs.Lists.{cons_head, cons_tail}
 
 -- the images of n chambers from k on, each pair of chambers told once
 abbrev pub told_from : (ℕ → ℕ) → ℕ → ℕ → List ℕ
@@ -22,12 +23,6 @@ told-no f k n lt = let e : leb k (f k) ≡ false = lt-leb k (f k) lt in rw e ref
 -- one more argument at which two maps agree
 agree_more : (f g : ℕ → ℕ) (k : ℕ) → ((d : ℕ) → 1 ≤ d → d < k → f d ≡ g d) → f k ≡ g k → (d : ℕ) → 1 ≤ d → d < k + 1 → f d ≡ g d
 agree_more f g k below here d low high = ⊎_elim (λ lt. below d low lt) (λ ge. let e : d ≡ k = omega arith in subst (λ x. f x ≡ g x) (sym e) here) (cases_lt d k)
-
-head_same : (x y : ℕ) (xs ys : List ℕ) → x ∷ xs ≡ y ∷ ys → x ≡ y
-head_same x y xs ys e = cc
-
-tail_same : (x y : ℕ) (xs ys : List ℕ) → x ∷ xs ≡ y ∷ ys → xs ≡ ys
-tail_same x y xs ys e = cc
 
 -- where the image of k under f is smaller, g takes k to the same
 smaller_same : (n : ℕ) (f g : ℕ → ℕ) → IsFold n f → IsFold n g → (k : ℕ) → 1 ≤ k → k ≤ n → ((d : ℕ) → 1 ≤ d → d < k → f d ≡ g d) → f k < k → g k ≡ f k
@@ -52,6 +47,6 @@ told_same n f g a b k (suc m) low size below e d pos lt =
     absurd (omega arith))
     (λ g_large.
     let both = sym (told-yes f k m f_large) ∙ e ∙ told-yes g k m g_large in
-    told_same n f g a b (k + 1) m (omega arith) (omega arith) (agree_more f g k below (head_same _ _ _ _ both)) (tail_same _ _ _ _ both) d pos (omega arith))
+    told_same n f g a b (k + 1) m (omega arith) (omega arith) (agree_more f g k below (cons_head _ _ _ _ both)) (cons_tail _ _ _ _ both) d pos (omega arith))
     (cases_lt (g k) k))
     (cases_lt (f k) k)

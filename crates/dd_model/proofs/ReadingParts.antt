@@ -1,9 +1,9 @@
 -- A text has one sequence of parts, and a shape is known from its parts.
 use Rattle.std.proofs.Common.{◌≡◌, ℕ, List, [], ◌∷◌, ◌++◌, Option, Some, None, refl, sym, ap, ◌∙◌, subst, arith}
 use Rattle.std.specs.Prelude.{map}
-use Rattle.dd_model.specs.declared.written.Part.TheVariants.{Sign, Number}
-use Rattle.dd_model.specs.declared.written.Placed.{Placed}
-use Rattle.dd_model.specs.declared.written.Numeral.{Numeral}
+use Rattle.dd_model.specs.declared.tokens.Part.TheVariants.{Sign, Number}
+use Rattle.dd_model.specs.declared.tokens.Placed.{Placed}
+use Rattle.dd_model.specs.declared.tokens.Numeral.{Numeral}
 use Rattle.dd_model.specs.Parts.{Cursor, first_part, after_part, Spells}
 use Rattle.dd_model.specs.Spelling.{Told, Head, Shape, number_part, sign_part, with_head, with_dimension, with_list, parts_of}
 

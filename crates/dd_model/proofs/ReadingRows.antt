@@ -7,12 +7,7 @@ use Rattle.dd_model.specs.Spelling.{parts_of, Tells}
 use Rattle.dd_model.specs.Reading.{line_end, Item, Blank, Comment, Spelling, IsItem, AreItems, symbols_of, IsReadable, start, Reads}
 use Rattle.dd_model.proofs.ReadingParts.{same_shape}
 use Rattle.dd_model.proofs.ReadingSymbols.{same_symbol}
-
-cons_head : (a b : ℕ) (xs ys : List ℕ) → a ∷ xs ≡ b ∷ ys → a ≡ b
-cons_head a b xs ys e = cc
-
-cons_tail : (a b : ℕ) (xs ys : List ℕ) → a ∷ xs ≡ b ∷ ys → xs ≡ ys
-cons_tail a b xs ys e = cc
+use Rattle.dd_model.proofs.Lists.{cons_head, cons_tail}
 
 -- no blank begins a comment or a symbol
 pub no_blank : (b c : ℕ) (xs ys rest : List ℕ) → rest ≡ b ∷ xs → rest ≡ c ∷ ys → is_blank b ≡ true → is_blank c ≡ false → ⊥

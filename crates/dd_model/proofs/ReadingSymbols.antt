@@ -1,13 +1,11 @@
 -- A symbol is known from its size, its told images, and one degree for each cell.
-use Rattle.std.proofs.Common.{◌≡◌, ℕ, ◌≤◌, List, [], ◌∷◌, get_or, refl, sym, ap, ◌∙◌, subst, arith}
+use Rattle.std.proofs.Common.{◌≡◌, ℕ, ◌≤◌, List, [], ◌∷◌, refl, sym, ap, ◌∙◌, subst, arith}
 use Rattle.std.specs.Prelude.{map, filter, nat_le}
 use Rattle.dd_model.specs.Code.{count_from}
-use Rattle.std.specs.List.{Contains}
-use Rattle.std.proofs.lemmas.List.{get_or-map}
-use Rattle.dd_model.specs.declared.parts.Index.{Index}
-use Rattle.dd_model.specs.declared.parts.Index.TheVariants.{Zero, One, Two}
-use Rattle.dd_model.specs.declared.parts.Pair.{Pair}
-use Rattle.dd_model.specs.declared.parts.Pair.TheVariants.{Tile, Vertex}
+use Rattle.dd_model.specs.declared.index.Index.{Index}
+use Rattle.dd_model.specs.declared.index.Index.TheVariants.{Zero, One, Two}
+use Rattle.dd_model.specs.declared.pair.Pair.{Pair}
+use Rattle.dd_model.specs.declared.pair.Pair.TheVariants.{Tile, Vertex}
 use Rattle.dd_model.specs.Symbol.{Symbol, AreInvolutions, IsTable, IsSymbol, IsChamber, Word, item, op, act, operation, degree}
 use Rattle.dd_model.specs.Cell.{InCell, IsLeastOfCell, AreCells}
 use Rattle.dd_model.specs.Line.{told_images}
@@ -18,6 +16,8 @@ use Rattle.dd_model.proofs.CellLists.{cells_unique}
 use Rattle.dd_model.proofs.CellSearch.{has_least}
 use Rattle.dd_model.proofs.CellWalks.{in_cell-sym}
 use Rattle.dd_model.proofs.ReadingImages.{IsFold, told_same}
+use Rattle.dd_model.proofs.Lists.{map_at}
+use Rattle.dd_model.proofs.Fields.{same_fields}
 
 -- an involution of a table, on numbers
 pub fold_of : (s : Symbol) → AreInvolutions s → (i : Index) → IsFold s.size (op s i)
@@ -62,13 +62,6 @@ cells_same s t h p ds c = record {
   members = λ d. (λ here. least_same s t h p d ((c.members d).0 here), λ l. (c.members d).1 (least_same t s (images_back s t h) p d l));
 }
 
--- equal values at each member
-pub map_at : (f g : ℕ → ℕ) (ds : List ℕ) → map f ds ≡ map g ds → (d : ℕ) → Contains ds d → f d ≡ g d
-map_at f g ds e d (k, lt, is) =
-    let a : get_or (map f ds) k 0 ≡ f (get_or ds k d) = get_or-map f ds k d 0 lt in
-    let b : get_or (map g ds) k 0 ≡ g (get_or ds k d) = get_or-map g ds k d 0 lt in
-    ap f (sym is) ∙ sym a ∙ ap (λ xs. get_or xs k 0) e ∙ b ∙ ap g is
-
 -- the degrees of two symbols with the same images, if they are equal at the least chambers of cells
 degrees_same : (s t : Symbol) → IsSymbol s → IsSymbol t → HaveSameImages s t → (p : Pair) (ds : List ℕ) → AreCells s p ds
     → map (degree s p) ds ≡ map (degree t p) ds → (d : ℕ) → IsChamber s d → degree s p d ≡ degree t p d
@@ -80,15 +73,6 @@ degrees_same s t a b h p ds cells e d c =
     ap (degree s p) (sym back.leads) ∙ degree_same s a p back.word l.least l.is_least.0 back.letters
     ∙ at_least
     ∙ sym (degree_same t b p back'.word l.least (chamber_same s t h l.least l.is_least.0) back'.letters) ∙ ap (degree t p) back'.leads
-
-same_fields : (s t : Symbol) → s.size ≡ t.size → s.s0 ≡ t.s0 → s.s1 ≡ t.s1 → s.s2 ≡ t.s2 → s.m01 ≡ t.m01 → s.m12 ≡ t.m12 → s ≡ t
-same_fields s t n a b c d e =
-    ap (λ x. record { size = x; s0 = s.s0; s1 = s.s1; s2 = s.s2; m01 = s.m01; m12 = s.m12 }) n
-    ∙ ap (λ x. record { size = t.size; s0 = x; s1 = s.s1; s2 = s.s2; m01 = s.m01; m12 = s.m12 }) a
-    ∙ ap (λ x. record { size = t.size; s0 = t.s0; s1 = x; s2 = s.s2; m01 = s.m01; m12 = s.m12 }) b
-    ∙ ap (λ x. record { size = t.size; s0 = t.s0; s1 = t.s1; s2 = x; m01 = s.m01; m12 = s.m12 }) c
-    ∙ ap (λ x. record { size = t.size; s0 = t.s0; s1 = t.s1; s2 = t.s2; m01 = x; m12 = s.m12 }) d
-    ∙ ap (λ x. record { size = t.size; s0 = t.s0; s1 = t.s1; s2 = t.s2; m01 = t.m01; m12 = x }) e
 
 -- A shape tells at most one symbol.
 pub same_symbol : (x : Shape) (s t : Symbol) → IsSymbol s → IsSymbol t → Tells x s → Tells x t → s ≡ t

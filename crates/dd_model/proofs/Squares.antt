@@ -2,7 +2,8 @@
 use Rattle.std.proofs.Common.{refl, arith}
 use Rattle.std.specs.Prelude.{codes}
 use Rattle.std.specs.Fmt.{digits}
-use Rattle.dd_model.specs.Symbol.{IsSymbol, Connected}
+use Rattle.dd_model.specs.Symbol.{IsSymbol}
+use Rattle.dd_model.specs.Connected.{Connected}
 use Rattle.dd_model.specs.Code.{Least}
 use Rattle.dd_model.specs.Flat.{Flat}
 use Rattle.dd_model.specs.Minimal.{Minimal}

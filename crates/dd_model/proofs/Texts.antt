@@ -2,7 +2,7 @@
 use Rattle.std.proofs.Common.{◌≡◌, ℕ, zero, suc, ◌+◌, ◌≤◌, List, [], ◌∷◌, ◌++◌, length, refl, sym, ap, ◌∙◌, subst, inl, inr, arith}
 use Rattle.std.proofs.lemmas.List.{append_assoc}
 use Rattle.std.specs.List.{AllByRecursion, flat_map}
-use Rattle.dd_model.specs.declared.parts.Index.TheVariants.{Zero, One, Two}
+use Rattle.dd_model.specs.declared.index.Index.TheVariants.{Zero, One, Two}
 use Rattle.dd_model.specs.Symbol.{Symbol, IsSymbol, IsChamber, op}
 use Rattle.dd_model.specs.Code.{code, count_from, images}
 use Rattle.dd_model.specs.Lists.{IsWithout, IsSmallerWhereTheyDiffer}
@@ -11,7 +11,7 @@ use Rattle.dd_model.specs.Line.{IsLine, text_of}
 use Rattle.dd_model.specs.Text.{AreLines, IsText, beginning}
 use Rattle.dd_model.specs.declared.requests.Request.{Request}
 use Rattle.dd_model.specs.declared.jobs.Position.{Position}
-use Rattle.dd_model.specs.declared.parts.Pair.TheVariants.{Tile, Vertex}
+use Rattle.dd_model.specs.declared.pair.Pair.TheVariants.{Tile, Vertex}
 use Rattle.dd_model.proofs.CellLists.{cells_unique}
 use Rattle.dd_model.proofs.Catalogues.{catalogue_unique}
 

@@ -1,15 +1,17 @@
 -- What an isomorphism carries from one symbol to the other.
 use Rattle.std.proofs.Common.{◌≡◌, ℕ, ◌+◌, ◌<◌, ◌≤◌, List, [], ◌∷◌, ◌++◌, refl, sym, ap, ◌∙◌, subst, arith}
-use Rattle.dd_model.specs.declared.parts.Index.{Index}
-use Rattle.dd_model.specs.declared.parts.Index.TheVariants.{Zero, One, Two}
-use Rattle.dd_model.specs.declared.parts.Pair.{Pair}
-use Rattle.dd_model.specs.declared.parts.Pair.TheVariants.{Tile, Vertex, Edge}
-use Rattle.dd_model.specs.Symbol.{Symbol, IsTable, IsSymbol, AreInvolutions, HasDegree, IsChamber, IsReached, Connected, Word, first, second, turn, degree, item, op, operation, act, power}
+use Rattle.dd_model.specs.declared.index.Index.{Index}
+use Rattle.dd_model.specs.declared.index.Index.TheVariants.{Zero, One, Two}
+use Rattle.dd_model.specs.declared.pair.Pair.{Pair}
+use Rattle.dd_model.specs.declared.pair.Pair.TheVariants.{Tile, Vertex, Edge}
+use Rattle.dd_model.specs.Symbol.{Symbol, IsTable, IsSymbol, AreInvolutions, HasDegree, IsChamber, Word, first, second, turn, degree, item, op, operation, act, power}
+use Rattle.dd_model.specs.Connected.{IsReached, Connected}
 use Rattle.dd_model.specs.Isomorphic.{IsMorphism, IsIsomorphism}
 pub use Rattle.dd_model.specs.Isomorphic.{HaveLengths}
 use Rattle.dd_model.specs.Cell.{InCell, IsLeastTurns}
 use Rattle.dd_model.proofs.Words.{act-append, act_within, backwards, act-backwards}
 use Rattle.dd_model.proofs.Codes.{same_items}
+use Rattle.dd_model.proofs.Fields.{same_fields}
 
 -- a morphism carries words along
 pub act-along : (s t : Symbol) (f : List ℕ) → AreInvolutions s → IsMorphism s t f → (w : Word) (d : ℕ) → IsChamber s d → item f (act s w d) ≡ act t w (item f d)
@@ -37,7 +39,7 @@ involution-along s t f inv iso i = record {
       ap (op t i) (sym (iso.morphism.op i d h)) ∙ sym (iso.morphism.op i (op s i d) ((inv i).within d h)) ∙ ap (item f) ((inv i).involutive d h));
 }
 
-has_degree-along : (s t : Symbol) (f : List ℕ) → AreInvolutions s → IsMorphism s t f → (p : Pair) (d : ℕ) → IsChamber s d → HasDegree s p d → HasDegree t p (item f d)
+pub has_degree-along : (s t : Symbol) (f : List ℕ) → AreInvolutions s → IsMorphism s t f → (p : Pair) (d : ℕ) → IsChamber s d → HasDegree s p d → HasDegree t p (item f d)
 has_degree-along s t f inv m p d h has =
     let same = degree-along s t f m p d h in
     let along : (i : Index) → degree s p (op s i d) ≡ degree s p d → degree t p (op t i (item f d)) ≡ degree t p (item f d) = λ i e.
@@ -131,4 +133,4 @@ same_by_map s t u f a b lt lu =
     let m12 : t.m12 ≡ u.m12 =
     same_items t.m12 u.m12 t.size lt.m12_length (lu.m12_length ∙ sym n) (λ d low high.
     each_image s t f a (λ e. item t.m12 e ≡ item u.m12 e) (λ x h. a.morphism.m12 x h ∙ sym (b.morphism.m12 x h)) d (inside d low high)) in
-    λ x. record { size = n x; s0 = s0 x; s1 = s1 x; s2 = s2 x; m01 = m01 x; m12 = m12 x }
+    same_fields t u n s0 s1 s2 m01 m12

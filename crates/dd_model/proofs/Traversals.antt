@@ -10,8 +10,9 @@ use Rattle.std.specs.Ordering.{nat_cmp, ordering_then}
 use Rattle.std.specs.Cmp.Lexicographic.{slice_cmp}
 use Rattle.std.specs.declared.cmp.Ordering.{Ordering}
 use Rattle.std.specs.declared.cmp.Ordering.TheVariants.{Less, Equal, Greater}
-use Rattle.dd_model.specs.declared.parts.Index.{Index}
-use Rattle.dd_model.specs.Symbol.{Symbol, IsTable, AreInvolutions, IsChamber, Connected, Word, item, op, act}
+use Rattle.dd_model.specs.declared.index.Index.{Index}
+use Rattle.dd_model.specs.Symbol.{Symbol, IsTable, AreInvolutions, IsChamber, Word, item, op, act}
+use Rattle.dd_model.specs.Connected.{Connected}
 use Rattle.dd_model.specs.Isomorphic.{Undoes, IsIsomorphism}
 use Rattle.dd_model.specs.Code.{code, code_cmp}
 use Rattle.dd_model.specs.FirstVisit.{Grows, IsFirstVisit, rows}

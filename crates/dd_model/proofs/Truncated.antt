@@ -1,30 +1,24 @@
 -- The tiling by squares and octagons: three chambers.
-use Rattle.std.proofs.Common.{◌≡◌, ◌≢◌, ◌⊎◌, ℕ, zero, suc, ◌<◌, ◌≤◌, List, [], ◌∷◌, ◌++◌, drop, length, refl, sym, ap, ◌∙◌, subst, inl, inr, ⊎_elim, arith}
+use Rattle.std.proofs.Common.{◌≡◌, ◌≢◌, ◌⊎◌, ℕ, ◌<◌, ◌≤◌, List, [], ◌∷◌, ◌++◌, drop, length, refl, sym, ap, ◌∙◌, subst, inl, inr, ⊎_elim, arith}
 use Rattle.std.proofs.lemmas.Bool.{cases_lt}
-use Rattle.std.specs.Cmp.{nat_cmp_is}
 use Rattle.std.specs.Ordering.{nat_cmp, ordering_then}
 use Rattle.std.specs.Cmp.Lexicographic.{slice_cmp}
 use Rattle.std.specs.declared.cmp.Ordering.TheVariants.{Less, Greater}
 use Rattle.std.specs.List.{flat_map}
-use Rattle.dd_model.specs.declared.parts.Index.{Index}
-use Rattle.dd_model.specs.declared.parts.Index.TheVariants.{Zero, One, Two}
-use Rattle.dd_model.specs.declared.parts.Pair.{Pair}
-use Rattle.dd_model.specs.declared.parts.Pair.TheVariants.{Tile, Vertex, Edge}
-use Rattle.dd_model.specs.Symbol.{Symbol, IsTable, IsSymbol, IsInvolution, IsChamber, HasDegree, Connected, IsReached, item, op, operation}
+use Rattle.dd_model.specs.declared.index.Index.{Index}
+use Rattle.dd_model.specs.declared.index.Index.TheVariants.{Zero, One, Two}
+use Rattle.dd_model.specs.declared.pair.Pair.{Pair}
+use Rattle.dd_model.specs.declared.pair.Pair.TheVariants.{Tile, Vertex, Edge}
+use Rattle.dd_model.specs.Symbol.{Symbol, IsTable, IsSymbol, IsInvolution, IsChamber, HasDegree, item, op, operation}
+use Rattle.dd_model.specs.Connected.{Connected, IsReached}
 use Rattle.dd_model.specs.Isomorphic.{IsIsomorphism}
 use Rattle.dd_model.specs.Code.{count_from, images, code, code_cmp, Least}
 use Rattle.dd_model.specs.Flat.{Flat}
 use Rattle.dd_model.specs.Minimal.{Minimal, Alike}
 use Rattle.dd_model.specs.Worked.{truncated_squares}
 use Rattle.dd_model.proofs.FixedMaps.{same_by_fixed_map}
-
--- what holds at 1, 2 and 3 holds at each of the three chambers
-pub by_three : (P : ℕ → Type 0) → P 1 → P 2 → P 3 → (d : ℕ) → 1 ≤ d → d ≤ 3 → P d
-by_three P a b c zero low high = absurd (omega (arith, low))
-by_three P a b c (suc zero) low high = a
-by_three P a b c (suc (suc zero)) low high = b
-by_three P a b c (suc (suc (suc zero))) low high = c
-by_three P a b c (suc (suc (suc (suc d)))) low high = absurd (omega (arith, high))
+use Rattle.dd_model.proofs.Numbers.{by_three}
+use Rattle.dd_model.proofs.Orders.{nat_cmp-less}
 
 involution : (i : Index) → IsInvolution truncated_squares i
 involution i = record {
@@ -76,15 +70,11 @@ minimal d e hd he = by_three (λ x. Alike truncated_squares x e → x ≡ e)
     (by_three (λ y. Alike truncated_squares 2 y → 2 ≡ y) (λ a. let x = (a []).0 in cc) (λ a. refl) (λ a. let x = (a (Two ∷ [])).0 in cc) e he.0 he.1)
     (by_three (λ y. Alike truncated_squares 3 y → 3 ≡ y) (λ a. let x = (a []).0 in cc) (λ a. let x = (a (Two ∷ [])).0 in cc) (λ a. refl) e he.0 he.1) d hd.0 hd.1
 
--- the smaller of two numbers comes first
-less : (x y : ℕ) → x < y → nat_cmp x y ≡ Less
-less x y h = sym (nat_cmp_is x y Less h)
-
 less_at_second : (y : ℕ) (xs ys : List ℕ) → 1 < y → slice_cmp nat_cmp (1 ∷ 1 ∷ xs) (1 ∷ y ∷ ys) ≡ Less
-less_at_second y xs ys h = ap (λ o. ordering_then o (slice_cmp nat_cmp xs ys)) (less 1 y h)
+less_at_second y xs ys h = ap (λ o. ordering_then o (slice_cmp nat_cmp xs ys)) (nat_cmp-less 1 y h)
 
 less_at_third : (z : ℕ) (xs ys : List ℕ) → 2 < z → slice_cmp nat_cmp (1 ∷ 1 ∷ 2 ∷ xs) (1 ∷ 1 ∷ z ∷ ys) ≡ Less
-less_at_third z xs ys h = ap (λ o. ordering_then o (slice_cmp nat_cmp xs ys)) (less 2 z h)
+less_at_third z xs ys h = ap (λ o. ordering_then o (slice_cmp nat_cmp xs ys)) (nat_cmp-less 2 z h)
 
 -- in each other numbering an image of chamber 1 is larger
 abbrev IsLarger : Symbol → Type 0

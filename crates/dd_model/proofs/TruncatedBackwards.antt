@@ -1,15 +1,17 @@
 -- The tiling by squares and octagons with its chambers numbered backwards.
 use Rattle.std.proofs.Common.{◌≡◌, ℕ, ◌≤◌, List, [], ◌∷◌, length, refl, arith}
-use Rattle.dd_model.specs.declared.parts.Index.{Index}
-use Rattle.dd_model.specs.declared.parts.Index.TheVariants.{Zero, One, Two}
-use Rattle.dd_model.specs.Symbol.{IsSymbol, Connected, item, op, operation}
+use Rattle.dd_model.specs.declared.index.Index.{Index}
+use Rattle.dd_model.specs.declared.index.Index.TheVariants.{Zero, One, Two}
+use Rattle.dd_model.specs.Symbol.{IsSymbol, item, op, operation}
+use Rattle.dd_model.specs.Connected.{Connected}
 use Rattle.dd_model.specs.Isomorphic.{Undoes, IsIsomorphism, Isomorphic}
 use Rattle.dd_model.specs.Code.{Least}
 use Rattle.dd_model.specs.Flat.{Flat}
 use Rattle.dd_model.specs.Worked.{truncated_squares, truncated_squares_backwards}
 use Rattle.dd_model.proofs.Isomorphisms.{Isomorphic-sym}
 use Rattle.dd_model.proofs.Transport.{IsSymbol-along, Connected-along}
-use Rattle.dd_model.proofs.Truncated.{by_three, is_table, is_symbol as truncated_symbol, connected as truncated_connected}
+use Rattle.dd_model.proofs.Truncated.{is_table, is_symbol as truncated_symbol, connected as truncated_connected}
+use Rattle.dd_model.proofs.Numbers.{by_three}
 
 abbrev turned_round : List ℕ
 turned_round = 3 ∷ 2 ∷ 1 ∷ []

@@ -4,14 +4,15 @@ use Rattle.std.specs.List.{Contains}
 use Rattle.std.specs.List.Sorted.{IsStrictlyIncreasing}
 use Rattle.std.specs.Prelude.{codes}
 use Rattle.std.specs.Fmt.{digits}
-use Rattle.dd_model.specs.declared.parts.Index.TheVariants.{Zero, One, Two}
-use Rattle.dd_model.specs.declared.parts.Pair.{Pair}
-use Rattle.dd_model.specs.declared.parts.Pair.TheVariants.{Tile, Vertex}
+use Rattle.dd_model.specs.declared.index.Index.TheVariants.{Zero, One, Two}
+use Rattle.dd_model.specs.declared.pair.Pair.{Pair}
+use Rattle.dd_model.specs.declared.pair.Pair.TheVariants.{Tile, Vertex}
 use Rattle.dd_model.specs.Symbol.{Symbol, Word, first, second, op, act}
 use Rattle.dd_model.specs.Cell.{IsWordOf, IsLeastOfCell, AreCells}
 use Rattle.dd_model.specs.Line.{IsLine}
 use Rattle.dd_model.specs.Worked.{truncated_squares}
-use Rattle.dd_model.proofs.Truncated.{by_three, one, two, is_table}
+use Rattle.dd_model.proofs.Truncated.{one, two, is_table}
+use Rattle.dd_model.proofs.Numbers.{by_three}
 use Rattle.dd_model.proofs.Words.{act_within}
 
 -- what the two involutions keep holds over the whole cell

@@ -19,7 +19,7 @@ item_set_same number d x low high = get_or-set_same number (d - 1) x 0 (omega ar
 item_set_other : (number : List ℕ) (d e x : ℕ) → 1 ≤ d → 1 ≤ e → (e ≡ d → ⊥) → item (set number (d - 1) x) e ≡ item number e
 item_set_other number d e x ld le apart = get_or-set_other number (d - 1) (e - 1) x 0 (λ same. apart (omega arith))
 
-numbered_counts_not : (x : ℕ) → 1 ≤ x → unnumbered x ≡ 0
+pub numbered_counts_not : (x : ℕ) → 1 ≤ x → unnumbered x ≡ 0
 numbered_counts_not x h = grind (arith, nat_tests)
 
 -- a chamber that had no number gets the next one

@@ -1,15 +1,15 @@
--- How large the degrees of a wanted symbol are.
+-- How large the degrees are where branching values are 1, 2, 3, 4 or 6, and what sets without a greatest number ask for.
 use Rattle.std.proofs.Common.{◌≡◌, ℕ, zero, suc, ◌*◌, ◌<◌, ◌≤◌, ◌↔◌, [], ◌∷◌, slice_index_or, subst, sym, arith}
 use Rattle.std.proofs.Math.Nat.{mul-le-mul_left, mul-le-mul_right}
 use Rattle.dd_model.specs.declared.allowed.Allowed.{Allowed}
 use Rattle.dd_model.specs.declared.requests.Request.{Request}
-use Rattle.dd_model.specs.declared.parts.Pair.{Pair}
-use Rattle.dd_model.specs.declared.parts.Pair.TheVariants.{Tile, Vertex}
+use Rattle.dd_model.specs.declared.pair.Pair.{Pair}
+use Rattle.dd_model.specs.declared.pair.Pair.TheVariants.{Tile, Vertex}
 use Rattle.dd_model.specs.Symbol.{Symbol, IsSymbol, IsChamber, item, degree}
 use Rattle.dd_model.specs.Cell.{IsBranching}
 use Rattle.dd_model.specs.Allowed.{IsIn, IsFrom}
 use Rattle.dd_model.specs.Request.{IsValid}
-use Rattle.dd_model.specs.Wanted.{IsCrystallographic, Wanted}
+use Rattle.dd_model.specs.Wanted.{IsCrystallographic, Wanted, WantedOfAnyDegrees, HasDegreesFrom}
 use Rattle.dd_model.proofs.Branching.{branching_exists}
 use Rattle.dd_model.proofs.Turns.{IsLeastTurns-from_period, least_turns_unique}
 use Rattle.dd_model.proofs.CellWalks.{has_period}
@@ -29,7 +29,7 @@ product_bound v r m n hv hr e =
     omega (arith, a, b, e)
 
 -- A degree is the branching value, at most 6, times the turns of the cell, at most the chambers.
-degree_bound : (s : Symbol) → IsSymbol s → (p : Pair) (d : ℕ) → IsChamber s d → ((v : ℕ) → IsBranching s p d v → IsCrystallographic v)
+pub degree_bound : (s : Symbol) → IsSymbol s → (p : Pair) (d : ℕ) → IsChamber s d → ((v : ℕ) → IsBranching s p d v → IsCrystallographic v)
     → degree s p d ≤ 6 * s.size
 degree_bound s is p d h crystal =
     let b = branching_exists s is p d h in
@@ -41,19 +41,51 @@ degree_bound s is p d h crystal =
     (subst (λ k. k ≤ s.size) (sym same) r.bound)
     b.1.quotient
 
-in_set : (f m n c : ℕ) (a : Allowed) → IsFrom f a → m ≤ 6 * n → n ≤ c → c ≤ 36 → IsIn a m ↔ (f ≤ m)
-in_set f m n c a from bound few most = (λ h. ((from m).0 h).0, λ h. (from m).1 (h, omega arith))
+-- without what the sets say
+any_degrees : (q : Request) (s : Symbol) → Wanted q s → WantedOfAnyDegrees q s
+any_degrees q s w = record {
+  symbol = w.symbol;
+  connected = w.connected;
+  chambers = w.chambers;
+  tiles = w.tiles;
+  vertices = w.vertices;
+  face_branching = w.face_branching;
+  vertex_branching = w.vertex_branching;
+  flat = w.flat;
+  minimal = w.minimal;
+}
 
-pub wanted_face : (q : Request) (s : Symbol) (f d : ℕ) (a : Allowed) → IsValid q → Wanted q s → IsFrom f a → IsChamber s d
-    → IsIn a (item s.m01 d) ↔ (f ≤ item s.m01 d)
-wanted_face q s f d a valid w from h =
-    in_set f (item s.m01 d) s.size q.chambers a from
-    (degree_bound s w.symbol Tile d h (λ v. w.face_branching d v h))
-    w.chambers valid.chambers.1
+in_set : (f m n c : ℕ) (a : Allowed) → IsFrom f a → m ≤ 6 * n → n ≤ c → c ≤ 36 → f ≤ m → IsIn a m
+in_set f m n c a from bound few most low = (from m).1 (low, omega arith)
 
-pub wanted_degree : (q : Request) (s : Symbol) (f d : ℕ) (a : Allowed) → IsValid q → Wanted q s → IsFrom f a → IsChamber s d
-    → IsIn a (item s.m12 d) ↔ (f ≤ item s.m12 d)
-wanted_degree q s f d a valid w from h =
-    in_set f (item s.m12 d) s.size q.chambers a from
-    (degree_bound s w.symbol Vertex d h (λ v. w.vertex_branching d v h))
-    w.chambers valid.chambers.1
+pub wanted_by_least_degrees : (q : Request) (s : Symbol) (f g : ℕ) → IsValid q → IsFrom f q.faces → IsFrom g q.degrees
+    → Wanted q s ↔ (WantedOfAnyDegrees q s × HasDegreesFrom f g s)
+wanted_by_least_degrees q s f g valid faces degrees = (
+  λ w. (
+    any_degrees q s w,
+    record {
+      faces = λ d h. ((faces (item s.m01 d)).0 (w.faces d h)).0;
+      degrees = λ d h. ((degrees (item s.m12 d)).0 (w.degrees d h)).0;
+    },
+  ),
+  λ both.
+      let w = both.0 in
+      let from = both.1 in
+      record {
+        symbol = w.symbol;
+        connected = w.connected;
+        chambers = w.chambers;
+        tiles = w.tiles;
+        vertices = w.vertices;
+        faces = λ d h.
+            in_set f (item s.m01 d) s.size q.chambers q.faces faces
+            (degree_bound s w.symbol Tile d h (λ v. w.face_branching d v h)) w.chambers valid.chambers.1 (from.faces d h);
+        degrees = λ d h.
+            in_set g (item s.m12 d) s.size q.chambers q.degrees degrees
+            (degree_bound s w.symbol Vertex d h (λ v. w.vertex_branching d v h)) w.chambers valid.chambers.1 (from.degrees d h);
+        face_branching = w.face_branching;
+        vertex_branching = w.vertex_branching;
+        flat = w.flat;
+        minimal = w.minimal;
+      },
+)

@@ -2,12 +2,12 @@
 use Rattle.std.proofs.Common.{◌≡◌, ℕ, zero, suc, ◌+◌, ◌*◌, ◌<◌, ◌≤◌, Bool, true, false, cond, List, [], ◌∷◌, ◌++◌, length, Some, None, refl, sym, ap, ◌∙◌, subst, arith, append_assoc}
 use Rattle.std.specs.Prelude.{codes, decimal, map, filter, nat_le}
 use Rattle.std.specs.List.{AllByRecursion, Contains}
-use Rattle.dd_model.specs.declared.parts.Index.{Index}
-use Rattle.dd_model.specs.declared.parts.Index.TheVariants.{Zero, One, Two}
-use Rattle.dd_model.specs.declared.parts.Pair.{Pair}
-use Rattle.dd_model.specs.declared.parts.Pair.TheVariants.{Tile, Vertex}
-use Rattle.dd_model.specs.declared.written.Part.TheVariants.{Sign, Number}
-use Rattle.dd_model.specs.declared.written.Placed.{Placed}
+use Rattle.dd_model.specs.declared.index.Index.{Index}
+use Rattle.dd_model.specs.declared.index.Index.TheVariants.{Zero, One, Two}
+use Rattle.dd_model.specs.declared.pair.Pair.{Pair}
+use Rattle.dd_model.specs.declared.pair.Pair.TheVariants.{Tile, Vertex}
+use Rattle.dd_model.specs.declared.tokens.Part.TheVariants.{Sign, Number}
+use Rattle.dd_model.specs.declared.tokens.Placed.{Placed}
 use Rattle.dd_model.specs.Symbol.{Symbol, IsChamber, item, op, degree}
 use Rattle.dd_model.specs.Cell.{AreCells}
 use Rattle.dd_model.specs.Code.{count_from}
@@ -19,8 +19,9 @@ use Rattle.dd_model.specs.Reading.{Item, Blank, Spelling, AreItems, symbols_of, 
 use Rattle.dd_model.proofs.Branching.{branching_exists}
 use Rattle.dd_model.proofs.CellWalks.{in_cell-refl}
 use Rattle.dd_model.proofs.Turns.{period_bound}
-use Rattle.dd_model.proofs.CellLists.{Contains-head, Contains-later}
+use Rattle.dd_model.proofs.Lists.{Contains-head, Contains-later}
 use Rattle.dd_model.proofs.WrittenNumbers.{number_read, then_number, IsMark, then_sign, IsShort, list_read}
+use Rattle.std.proofs.lemmas.List.{append-nil}
 
 mark_44 : IsMark 44
 mark_44 = record { blank = refl; digit = refl }
@@ -198,15 +199,11 @@ read_back k ss bytes lines r few count short =
       few = count;
     }
 
-end_of : (xs : List ℕ) → xs ≡ xs ++ []
-end_of [] = refl
-end_of (x ∷ xs) = ap (λ zs. x ∷ zs) (end_of xs)
-
 pub line_back : (k : ℕ) (s : Symbol) (line : List ℕ) → IsLine k s line → IsReadable s → k < 1000000000 → length line ≤ 16777216 → Reads line (s ∷ [])
 line_back k s line is r small short =
     let one = line_read 0 k s is.tiles is.vertices [] small r is.are_tiles is.are_vertices in
     let whole =
-    end_of line ∙ ap (λ z. z ++ []) is.text
+    sym (append-nil line) ∙ ap (λ z. z ++ []) is.text
     ∙ nested (decimal k) (decimal s.size) (spaced (told_images s Zero)) (spaced (told_images s One)) (spaced (told_images s Two)) (spaced (map (item s.m01) is.tiles)) (spaced (map (item s.m12) is.vertices)) [] in
     let end : Cursor = record { at = one.to + 1; rest = [] } in
     record {

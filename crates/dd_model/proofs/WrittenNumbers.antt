@@ -6,8 +6,8 @@ use Rattle.std.specs.List.{AllByRecursion, flat_map}
 use Rattle.std.proofs.lemmas.Bool.{le-leb, leb-true, ne_eqb, and_parts}
 use Rattle.std.proofs.lemmas.Fmt.{decimal_by_steps, length-decimal-le}
 use Rattle.std.proofs.lemmas.List.{length-append}
-use Rattle.dd_model.specs.declared.written.Part.TheVariants.{Sign, Number, Overlong}
-use Rattle.dd_model.specs.declared.written.Placed.{Placed}
+use Rattle.dd_model.specs.declared.tokens.Part.TheVariants.{Sign, Number, Overlong}
+use Rattle.dd_model.specs.declared.tokens.Placed.{Placed}
 use Rattle.dd_model.specs.Line.{after_space, spaced}
 use Rattle.dd_model.specs.Parts.{Cursor, is_blank, past_blanks, digits, past_digits, value_from, number_of, part_of, rest_of, first_part, after_part, Spells}
 use Rattle.dd_model.specs.Spelling.{Told, number_part, sign_part, with_list, values}

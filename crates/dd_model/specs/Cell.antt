@@ -2,7 +2,7 @@ use Rattle.std.specs.Prelude.{◌≡◌, ◌⊎◌, ◌↔◌, ℕ, ◌*◌, ◌
 use Rattle.std.specs.List.{Contains}
 use Rattle.std.specs.List.Sorted.{IsStrictlyIncreasing}
 use Rattle.dd_model.specs.Symbol.{Symbol, IsChamber, Word, first, second, turn, degree, op, act, power}
-use Rattle.dd_model.specs.declared.parts.Pair.{Pair}
+use Rattle.dd_model.specs.declared.pair.Pair.{Pair}
 
 -- a word in the two letters of the pair
 abbrev pub IsWordOf : Pair → Word → Type 0

@@ -1,6 +1,6 @@
 use Rattle.std.specs.Prelude.{◌≡◌, ℕ, ◌≤◌, List, length}
 use Rattle.dd_model.specs.Symbol.{Symbol, IsChamber, item, operation, op}
-use Rattle.dd_model.specs.declared.parts.Index.{Index}
+use Rattle.dd_model.specs.declared.index.Index.{Index}
 
 -- f sends each of 1 to n to one of 1 to n, and g undoes it
 pub record Undoes (n : ℕ) (g f : List ℕ) : Type 0 where

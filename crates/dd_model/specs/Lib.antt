@@ -2,6 +2,7 @@ pub mod Lists
 pub mod Allowed
 pub mod Request
 pub mod Symbol
+pub mod Connected
 pub mod Isomorphic
 pub mod Code
 pub mod FirstVisit

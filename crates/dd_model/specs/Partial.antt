@@ -1,8 +1,9 @@
 -- Tables of involutions of which some images are not known yet.
 use Rattle.std.specs.Prelude.{◌≡◌, ◌≢◌, ℕ, List}
 use Rattle.std.specs.declared.cmp.Ordering.{Ordering}
-use Rattle.dd_model.specs.declared.parts.Index.{Index}
-use Rattle.dd_model.specs.Symbol.{Symbol, IsTable, Connected, op}
+use Rattle.dd_model.specs.declared.index.Index.{Index}
+use Rattle.dd_model.specs.Symbol.{Symbol, IsTable, op}
+use Rattle.dd_model.specs.Connected.{Connected}
 use Rattle.dd_model.specs.Traversal.{IsTraversal}
 
 -- s is a connected table with the images of a partial one, in which 0 stands for an image that is not known

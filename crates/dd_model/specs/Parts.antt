@@ -1,9 +1,9 @@
 -- The parts of a text: numbers and signs, with blanks between them.
 use Rattle.std.specs.Prelude.{◌≡◌, ℕ, ◌+◌, ◌-◌, ◌*◌, Bool, ◌||◌, List, [], ◌∷◌, length, nat_le, ◌==◌, if◌then◌else◌}
 use Rattle.std.specs.Char.{is_ascii_digit}
-use Rattle.dd_model.specs.declared.written.Part.{Part}
-use Rattle.dd_model.specs.declared.written.Part.TheVariants.{Sign, Number, Overlong, End}
-use Rattle.dd_model.specs.declared.written.Placed.{Placed}
+use Rattle.dd_model.specs.declared.tokens.Part.{Part}
+use Rattle.dd_model.specs.declared.tokens.Part.TheVariants.{Sign, Number, Overlong, End}
+use Rattle.dd_model.specs.declared.tokens.Placed.{Placed}
 
 -- a place in a file, counted from 0, and the bytes from there on
 pub record Cursor : Type 0 where

@@ -1,7 +1,8 @@
 -- What a file spells.
 use Rattle.std.specs.Prelude.{◌≡◌, ℕ, ◌+◌, ◌≤◌, true, List, [], ◌∷◌, length, ◌==◌, if◌then◌else◌}
 use Rattle.std.specs.List.{AllByRecursion}
-use Rattle.dd_model.specs.Symbol.{Symbol, Connected}
+use Rattle.dd_model.specs.Symbol.{Symbol}
+use Rattle.dd_model.specs.Connected.{Connected}
 use Rattle.dd_model.specs.Small.{IsSmallSymbol}
 use Rattle.dd_model.specs.Parts.{Cursor, is_blank, Spells}
 use Rattle.dd_model.specs.Spelling.{Shape, parts_of, IsPlane, Tells}

@@ -2,7 +2,7 @@
 use Rattle.std.specs.Prelude.{ℕ, ◌≤◌}
 use Rattle.dd_model.specs.Symbol.{Symbol, IsSymbol, IsChamber}
 use Rattle.dd_model.specs.Cell.{IsBranching}
-use Rattle.dd_model.specs.declared.parts.Pair.{Pair}
+use Rattle.dd_model.specs.declared.pair.Pair.{Pair}
 
 -- a symbol of at most 16,384 chambers with branching values of at most 30
 pub record IsSmallSymbol (s : Symbol) : Type 0 where

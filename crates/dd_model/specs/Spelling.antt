@@ -3,11 +3,11 @@ use Rattle.std.specs.Prelude.{◌≡◌, ℕ, ◌≤◌, List, [], ◌∷◌, �
 use Rattle.dd_model.specs.Symbol.{Symbol, item}
 use Rattle.dd_model.specs.Cell.{AreCells}
 use Rattle.dd_model.specs.Line.{told_images}
-use Rattle.dd_model.specs.declared.parts.Index.TheVariants.{Zero, One, Two}
-use Rattle.dd_model.specs.declared.parts.Pair.TheVariants.{Tile, Vertex}
-use Rattle.dd_model.specs.declared.written.Part.TheVariants.{Sign, Number}
-use Rattle.dd_model.specs.declared.written.Placed.{Placed}
-use Rattle.dd_model.specs.declared.written.Numeral.{Numeral}
+use Rattle.dd_model.specs.declared.index.Index.TheVariants.{Zero, One, Two}
+use Rattle.dd_model.specs.declared.pair.Pair.TheVariants.{Tile, Vertex}
+use Rattle.dd_model.specs.declared.tokens.Part.TheVariants.{Sign, Number}
+use Rattle.dd_model.specs.declared.tokens.Placed.{Placed}
+use Rattle.dd_model.specs.declared.tokens.Numeral.{Numeral}
 
 -- the numbers of a list, and the place of the sign that ends it
 pub record Told : Type 0 where

@@ -1,9 +1,9 @@
 -- Delaney-Dress symbols of tilings, after Dress.
 use Rattle.std.specs.Prelude.{◌≡◌, ℕ, zero, suc, ◌-◌, ◌≤◌, List, [], ◌∷◌, ◌++◌, length, slice_index}
-use Rattle.dd_model.specs.declared.parts.Pair.{Pair}
-use Rattle.dd_model.specs.declared.parts.Pair.TheVariants.{Tile, Vertex, Edge}
-use Rattle.dd_model.specs.declared.parts.Index.{Index}
-use Rattle.dd_model.specs.declared.parts.Index.TheVariants.{Zero, One, Two}
+use Rattle.dd_model.specs.declared.pair.Pair.{Pair}
+use Rattle.dd_model.specs.declared.pair.Pair.TheVariants.{Tile, Vertex, Edge}
+use Rattle.dd_model.specs.declared.index.Index.{Index}
+use Rattle.dd_model.specs.declared.index.Index.TheVariants.{Zero, One, Two}
 
 -- what is known of a tiling: a number of chambers, three lists of chambers, and two lists of degrees
 pub record Symbol : Type 0 where
@@ -97,12 +97,3 @@ pub record IsTable (s : Symbol) : Type 0 where
 pub record IsSymbol (s : Symbol) : Type 0 where
   pub table : IsTable s
   pub degrees : (p : Pair) (d : ℕ) → IsChamber s d → HasDegree s p d
-
--- some word leads from chamber 1 to d
-pub record IsReached (s : Symbol) (d : ℕ) : Type 0 where
-  pub word : Word
-  pub leads : act s word 1 ≡ d
-
--- some word leads from chamber 1 to each chamber
-abbrev pub Connected : Symbol → Type 0
-Connected s = (d : ℕ) → IsChamber s d → IsReached s d

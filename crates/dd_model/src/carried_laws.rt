@@ -1,11 +1,12 @@
 ghost use Rattle.std.specs.Prelude.{◌≡◌, ℕ, List, length};
-ghost use Rattle.dd_model.specs.Symbol.{Symbol, IsTable, IsSymbol, IsChamber, Connected, item};
+ghost use Rattle.dd_model.specs.Symbol.{Symbol, IsTable, IsSymbol, IsChamber, item};
+ghost use Rattle.dd_model.specs.Connected.{Connected};
 ghost use Rattle.dd_model.specs.Isomorphic.{HaveLengths, IsMorphism, IsIsomorphism, Isomorphic};
 ghost use Rattle.dd_model.specs.Cell.{InCell, IsChain, IsBranching, AreCells};
 ghost use Rattle.dd_model.specs.Flat.{Flat};
 ghost use Rattle.dd_model.specs.Minimal.{Minimal};
 ghost use Rattle.dd_model.specs.Wanted.{Wanted};
-ghost use Rattle.dd_model.specs.declared.parts.Pair.{Pair};
+ghost use Rattle.dd_model.specs.declared.pair.Pair.{Pair};
 ghost use Rattle.dd_model.specs.declared.requests.Request.{Request};
 
 /// A morphism after a morphism is a morphism.

@@ -1,7 +1,7 @@
 ghost use Rattle.std.specs.Prelude.{◌≡◌, ℕ, ◌≤◌, List};
 ghost use Rattle.dd_model.specs.Symbol.{Symbol, IsTable, IsSymbol, IsChamber};
 ghost use Rattle.dd_model.specs.Cell.{InCell, IsPeriod, IsLeastTurns, IsLeastOfCell, AreCells, IsBranching};
-ghost use Rattle.dd_model.specs.declared.parts.Pair.{Pair};
+ghost use Rattle.dd_model.specs.declared.pair.Pair.{Pair};
 
 /// To lie in one cell is an equivalence of chambers.
 pub fn cells_are_classes()

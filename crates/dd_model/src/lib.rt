@@ -6,16 +6,18 @@ mod allowed_laws;
 mod carried_laws;
 mod catalogue_laws;
 mod cell_laws;
+mod index;
 mod jobs;
 mod least_form_laws;
 mod maps;
-mod parts;
+mod memory;
+mod pair;
 mod reading_laws;
 mod requests;
 mod symbol_codes;
 mod symbol_laws;
+mod tokens;
 mod worked;
-mod written;
 
 pub use allowed::Allowed;
 pub use allowed_laws::{
@@ -31,6 +33,7 @@ pub use cell_laws::{
     cells_are_classes, each_cell_has_one_branching_value, each_cell_has_one_least_chamber,
     each_cell_has_one_period, each_pair_has_one_list_of_cells,
 };
+pub use index::Index;
 pub use jobs::{Job, Position, Prefix};
 pub use least_form_laws::{
     beaten_tables_have_no_least_completion, each_start_has_one_numbering,
@@ -38,18 +41,19 @@ pub use least_form_laws::{
     partial_tables_are_traversed,
 };
 pub use maps::Map;
-pub use parts::{Index, Memory, Pair};
+pub use memory::Memory;
+pub use pair::Pair;
 pub use reading_laws::{
     a_file_of_one_symbol, a_file_spells_one_list, comments_spell_nothing, lines_read_back,
 };
 pub use requests::Request;
 pub use symbol_codes::Code;
 pub use symbol_laws::{isomorphic_is_equivalence, least_forms_are_unique, order_is_total};
+pub use tokens::{Numeral, Part, Placed};
 pub use worked::{
     single_chambers_are_three, squares_have_a_symbol, truncated_squares_backwards_are_not_least,
     truncated_squares_have_a_symbol,
 };
-pub use written::{Numeral, Part, Placed};
 
 #[cfg(test)]
 mod tests;

@@ -1,5 +1,6 @@
 ghost use Rattle.std.specs.Prelude.{codes};
-ghost use Rattle.dd_model.specs.Symbol.{IsSymbol, Connected};
+ghost use Rattle.dd_model.specs.Symbol.{IsSymbol};
+ghost use Rattle.dd_model.specs.Connected.{Connected};
 ghost use Rattle.dd_model.specs.Isomorphic.{Isomorphic};
 ghost use Rattle.dd_model.specs.Code.{Least};
 ghost use Rattle.dd_model.specs.Flat.{Flat};

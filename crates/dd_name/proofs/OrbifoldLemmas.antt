@@ -1,7 +1,7 @@
 -- All of an orbifold is determined.
 use Rattle.std.proofs.Common.{◌≡◌, ℕ, List, [], ◌∷◌, ◌++◌, length, refl, ap, ◌∙◌, subst}
 use Rattle.std.specs.Ordering.{nat_cmp}
-use Rattle.dd_model.specs.declared.parts.Pair.TheVariants.{Tile, Vertex, Edge}
+use Rattle.dd_model.specs.declared.pair.Pair.TheVariants.{Tile, Vertex, Edge}
 use Rattle.dd_model.specs.Symbol.{Symbol, IsSymbol}
 use Rattle.dd_cells.proofs.CellUniqueness.{told_cells_unique}
 use Rattle.dd_name.specs.declared.joints.Joint.{Joint}

@@ -2,7 +2,7 @@
 use Rattle.std.specs.Prelude.{ℕ, Bool, true, false, ◌&&◌, List, ◌++◌, map, filter, nat_lt}
 use Rattle.std.specs.Ordering.{nat_cmp}
 use Rattle.dd_model.specs.Symbol.{Symbol}
-use Rattle.dd_model.specs.declared.parts.Pair.TheVariants.{Tile, Vertex, Edge}
+use Rattle.dd_model.specs.declared.pair.Pair.TheVariants.{Tile, Vertex, Edge}
 use Rattle.dd_cells.specs.declared.kind.Kind.{Kind}
 use Rattle.dd_cells.specs.declared.kind.Kind.TheVariants.{Cycle, Chain}
 use Rattle.dd_cells.specs.declared.cell.Cell.{Cell}

@@ -1,9 +1,9 @@
 -- Flags: the places where an involution fixes a chamber, that is, where a chamber lies at the border of the surface.
 use Rattle.std.specs.Prelude.{◌≡◌, ◌⊎◌, ℕ, ◌+◌, ◌*◌}
 use Rattle.dd_model.specs.Symbol.{Symbol, IsChamber, op, first, second}
-use Rattle.dd_model.specs.declared.parts.Index.{Index}
-use Rattle.dd_model.specs.declared.parts.Index.TheVariants.{Zero, One, Two}
-use Rattle.dd_model.specs.declared.parts.Pair.{Pair}
+use Rattle.dd_model.specs.declared.index.Index.{Index}
+use Rattle.dd_model.specs.declared.index.Index.TheVariants.{Zero, One, Two}
+use Rattle.dd_model.specs.declared.pair.Pair.{Pair}
 use Rattle.dd_name.specs.declared.flags.Flag.{Flag}
 
 -- the involution fixes the chamber

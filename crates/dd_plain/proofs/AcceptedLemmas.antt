@@ -1,9 +1,9 @@
 -- A wanted symbol of at most three chambers is still taken where its degrees are replaced by 6,
 -- since each number of turns up to three divides 6.
 use Rattle.std.proofs.Common.{◌≡◌, ℕ, ◌*◌, ◌%◌, ◌≤◌, ◌⊎◌, length, refl, sym, ap, ◌∙◌, subst, ⊎_elim, arith}
-use Rattle.dd_model.specs.declared.parts.Pair.{Pair}
-use Rattle.dd_model.specs.declared.parts.Pair.TheVariants.{Tile, Vertex, Edge}
-use Rattle.dd_model.specs.declared.parts.Index.TheVariants.{Zero, One, Two}
+use Rattle.dd_model.specs.declared.pair.Pair.{Pair}
+use Rattle.dd_model.specs.declared.pair.Pair.TheVariants.{Tile, Vertex, Edge}
+use Rattle.dd_model.specs.declared.index.Index.TheVariants.{Zero, One, Two}
 use Rattle.dd_model.specs.declared.requests.Request.{Request}
 use Rattle.dd_model.specs.Symbol.{Symbol, IsSymbol, IsTable, IsChamber, HasDegree, operation, op, power, turn, first, second, degree}
 use Rattle.dd_model.specs.Cell.{IsBranching, turned}

@@ -1,7 +1,7 @@
 -- Degrees of symbols of at most three chambers.
 use Rattle.std.proofs.Common.{◌≡◌, ℕ, zero, suc, ◌*◌, ◌≤◌, refl, subst, arith}
 use Rattle.std.specs.List.{Contains}
-use Rattle.dd_model.specs.declared.parts.Pair.{Pair}
+use Rattle.dd_model.specs.declared.pair.Pair.{Pair}
 use Rattle.dd_model.specs.Symbol.{Symbol, IsSymbol, IsChamber, AreInvolutions, degree}
 use Rattle.dd_model.specs.Cell.{IsPeriod, IsBranching}
 use Rattle.dd_model.specs.Small.{IsSmallSymbol}

@@ -1,10 +1,11 @@
 -- The symbol of the ranks is a minimal image, and only a branching value over 30 refuses it.
 use Rattle.std.proofs.Common.{◌≡◌, ◌≢◌, ℕ, ◌<◌, ◌≤◌, ◌%◌, ◌⊎◌, List, [], ◌∷◌, length, refl, sym, ap, ◌∙◌, subst, inl, inr, ⊎_elim, arith}
 use Rattle.std.proofs.lemmas.Bool.{cases_lt}
-use Rattle.dd_model.specs.declared.parts.Index.TheVariants.{Zero, One, Two}
-use Rattle.dd_model.specs.declared.parts.Pair.{Pair}
-use Rattle.dd_model.specs.declared.parts.Pair.TheVariants.{Tile, Vertex, Edge}
-use Rattle.dd_model.specs.Symbol.{Symbol, IsSymbol, IsChamber, AreInvolutions, Connected, item, op, operation, degree}
+use Rattle.dd_model.specs.declared.index.Index.TheVariants.{Zero, One, Two}
+use Rattle.dd_model.specs.declared.pair.Pair.{Pair}
+use Rattle.dd_model.specs.declared.pair.Pair.TheVariants.{Tile, Vertex, Edge}
+use Rattle.dd_model.specs.Symbol.{Symbol, IsSymbol, IsChamber, AreInvolutions, item, op, operation, degree}
+use Rattle.dd_model.specs.Connected.{Connected}
 use Rattle.dd_model.specs.Isomorphic.{IsMorphism}
 use Rattle.dd_model.specs.Cell.{IsBranching}
 use Rattle.dd_model.proofs.Branching.{degree_same}

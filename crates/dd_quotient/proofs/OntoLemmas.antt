@@ -1,8 +1,9 @@
 -- What a morphism onto a table carries from one to the other.
 use Rattle.std.proofs.Common.{◌≡◌, ℕ, ◌≤◌, List, ◌++◌, sym, ap, ◌∙◌, subst, arith}
-use Rattle.dd_model.specs.declared.parts.Index.{Index}
-use Rattle.dd_model.specs.declared.parts.Pair.{Pair}
-use Rattle.dd_model.specs.Symbol.{Symbol, IsTable, IsSymbol, AreInvolutions, HasDegree, IsChamber, IsReached, Connected, first, second, turn, degree, item, op, act, power}
+use Rattle.dd_model.specs.declared.index.Index.{Index}
+use Rattle.dd_model.specs.declared.pair.Pair.{Pair}
+use Rattle.dd_model.specs.Symbol.{Symbol, IsTable, IsSymbol, AreInvolutions, HasDegree, IsChamber, first, second, turn, degree, item, op, act, power}
+use Rattle.dd_model.specs.Connected.{IsReached, Connected}
 use Rattle.dd_model.specs.Isomorphic.{HaveLengths, IsMorphism}
 use Rattle.dd_model.proofs.Words.{act-append, backwards, act-backwards}
 use Rattle.dd_model.proofs.Transport.{act-along, degree-along}

@@ -4,7 +4,7 @@ use Rattle.std.specs.Ordering.{nat_cmp}
 use Rattle.std.specs.Cmp.Lexicographic.{slice_cmp}
 use Rattle.std.specs.BTreeMap.{BTreeMap, get}
 use Rattle.dd_model.specs.Symbol.{Symbol, IsChamber, item, op}
-use Rattle.dd_model.specs.declared.parts.Index.TheVariants.{Zero, One, Two}
+use Rattle.dd_model.specs.declared.index.Index.TheVariants.{Zero, One, Two}
 use Rattle.dd_model.specs.Minimal.{Alike}
 
 -- each chamber has the least of the chambers that are alike with it

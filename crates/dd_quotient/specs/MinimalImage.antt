@@ -4,8 +4,8 @@ use Rattle.dd_model.specs.Symbol.{Symbol, IsSymbol, IsChamber, item}
 use Rattle.dd_model.specs.Cell.{IsBranching}
 use Rattle.dd_model.specs.Isomorphic.{IsMorphism}
 use Rattle.dd_model.specs.Minimal.{Alike}
-use Rattle.dd_model.specs.declared.parts.Pair.{Pair}
-use Rattle.dd_model.specs.declared.parts.Pair.TheVariants.{Tile, Vertex}
+use Rattle.dd_model.specs.declared.pair.Pair.{Pair}
+use Rattle.dd_model.specs.declared.pair.Pair.TheVariants.{Tile, Vertex}
 
 -- a chamber of s that f sends to e
 pub record IsImage (s : Symbol) (f : List ℕ) (e : ℕ) : Type 0 where

@@ -1,7 +1,7 @@
 -- The least chambers of the classes of alike chambers, numbered in ascending order.
 use Rattle.std.specs.Prelude.{◌≡◌, ℕ, ◌≤◌, List, length}
-use Rattle.dd_model.specs.declared.parts.Index.{Index}
-use Rattle.dd_model.specs.declared.parts.Pair.{Pair}
+use Rattle.dd_model.specs.declared.index.Index.{Index}
+use Rattle.dd_model.specs.declared.pair.Pair.{Pair}
 use Rattle.dd_model.specs.Symbol.{Symbol, item, op, degree}
 use Rattle.dd_model.specs.Isomorphic.{HaveLengths}
 

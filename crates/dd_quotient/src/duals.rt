@@ -1,5 +1,6 @@
 ghost use Rattle.std.specs.Prelude.{◌≡◌, IfOk};
-ghost use Rattle.dd_model.specs.Symbol.{Symbol as Tiling, Connected as AllReached, operation};
+ghost use Rattle.dd_model.specs.Symbol.{Symbol as Tiling, operation};
+ghost use Rattle.dd_model.specs.Connected.{Connected as AllReached};
 ghost use Rattle.dd_model.specs.Small.{IsSmallSymbol};
 ghost use Rattle.dd_quotient.specs.Dual.{dual_of};
 

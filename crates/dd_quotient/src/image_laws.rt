@@ -1,5 +1,6 @@
 ghost use Rattle.std.specs.Prelude.{◌≡◌, ℕ, List};
-ghost use Rattle.dd_model.specs.Symbol.{Symbol, IsTable, IsSymbol, Connected};
+ghost use Rattle.dd_model.specs.Symbol.{Symbol, IsTable, IsSymbol};
+ghost use Rattle.dd_model.specs.Connected.{Connected};
 ghost use Rattle.dd_model.specs.Code.{count_from};
 ghost use Rattle.dd_model.specs.Isomorphic.{Isomorphic};
 ghost use Rattle.dd_model.specs.Minimal.{Minimal};

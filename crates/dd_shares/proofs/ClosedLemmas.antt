@@ -4,8 +4,8 @@ use Rattle.std.proofs.lemmas.List.Elements.{Contains-append_cases}
 use Rattle.std.proofs.lemmas.List.Sums.{sum_by-append, sum_by-cons}
 use Rattle.std.proofs.Math.Nat.{mul-le-mul_left, mul-le-mul_right}
 use Rattle.std.specs.List.{Contains, sum_by}
-use Rattle.dd_model.specs.declared.parts.Pair.{Pair}
-use Rattle.dd_model.specs.declared.parts.Pair.TheVariants.{Tile, Vertex}
+use Rattle.dd_model.specs.declared.pair.Pair.{Pair}
+use Rattle.dd_model.specs.declared.pair.Pair.TheVariants.{Tile, Vertex}
 use Rattle.dd_model.specs.declared.requests.Request.{Request}
 use Rattle.dd_model.specs.Symbol.{Symbol, IsSymbol, IsChamber, first, second, op, degree}
 use Rattle.dd_model.specs.Code.{chambers, count_from}
@@ -20,7 +20,7 @@ use Rattle.dd_cells.specs.Cells.{AreMembers}
 use Rattle.dd_cells.proofs.CellSizes.{chain_size, cycle_size}
 use Rattle.dd_cells.proofs.CellSums.{has_roots, members_at, members_at_are, sum_by_both, sum_by_same, chamber_listed}
 use Rattle.dd_cells.proofs.FixedFlags.{one_if, fixed_flag}
-use Rattle.dd_model.specs.declared.parts.Index.{Index}
+use Rattle.dd_model.specs.declared.index.Index.{Index}
 use Rattle.dd_model.specs.Partial.{Completes}
 use Rattle.std.proofs.lemmas.Bool.{cases_eq, eq-eqb, ne_eqb}
 use Rattle.dd_shares.specs.Closed.{fixed_flags, IsWhole, AreMembersOf, AreWhole}

@@ -5,7 +5,7 @@ use Rattle.std.specs.List.{sum_by, sum, AllByRecursion}
 use Rattle.dd_model.specs.Symbol.{Symbol, IsSymbol, IsChamber, item}
 use Rattle.dd_model.specs.Code.{count_from, chambers}
 use Rattle.dd_model.specs.Flat.{product, all_degrees, Flat}
-use Rattle.dd_model.specs.declared.parts.Pair.TheVariants.{Tile, Vertex}
+use Rattle.dd_model.specs.declared.pair.Pair.TheVariants.{Tile, Vertex}
 use Rattle.std.proofs.Math.Nat.{mul-le-mul_left, mul-le-mul_right}
 
 -- each share is at least L divided by the degree at its place

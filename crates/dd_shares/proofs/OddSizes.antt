@@ -4,9 +4,10 @@ use Rattle.std.specs.Ordering.{nat_cmp, ordering_then}
 use Rattle.std.specs.Cmp.Lexicographic.{slice_cmp}
 use Rattle.std.specs.List.{flat_map}
 use Rattle.std.specs.declared.cmp.Ordering.TheVariants.{Greater, Equal}
-use Rattle.dd_model.specs.declared.parts.Index.{Index}
-use Rattle.dd_model.specs.declared.parts.Index.TheVariants.{Zero, One, Two}
-use Rattle.dd_model.specs.Symbol.{Symbol, IsTable, AreInvolutions, IsChamber, Connected, item, op}
+use Rattle.dd_model.specs.declared.index.Index.{Index}
+use Rattle.dd_model.specs.declared.index.Index.TheVariants.{Zero, One, Two}
+use Rattle.dd_model.specs.Symbol.{Symbol, IsTable, AreInvolutions, IsChamber, item, op}
+use Rattle.dd_model.specs.Connected.{Connected}
 use Rattle.dd_model.specs.Code.{chambers, code, images, count_from, code_cmp}
 use Rattle.dd_model.specs.FirstVisit.{LeastTable}
 use Rattle.dd_model.proofs.Numberings.{numbered_from}

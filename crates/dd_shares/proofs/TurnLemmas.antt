@@ -1,7 +1,7 @@
 -- Turns along known images are turns of each completion.
 use Rattle.std.proofs.Common.{◌≡◌, ℕ, zero, suc, ◌<◌, ◌≤◌, ◌⊎◌, ◌↔◌, Bool, IsTrue, true, false, refl, sym, ap, ◌∙◌, subst, inl, inr, ⊎_elim, arith}
 use Rattle.std.proofs.lemmas.Bool.{cases_eq}
-use Rattle.dd_model.specs.declared.parts.Pair.{Pair}
+use Rattle.dd_model.specs.declared.pair.Pair.{Pair}
 use Rattle.dd_model.specs.Symbol.{Symbol, AreInvolutions, IsChamber, first, second, turn, op, act}
 use Rattle.dd_model.specs.Cell.{InCell, IsChain, turned, IsPeriod}
 use Rattle.dd_model.specs.Partial.{Completes}

@@ -1,6 +1,6 @@
 -- The shares that a search keeps beside its table.
 use Rattle.std.specs.Prelude.{◌≡◌}
-use Rattle.dd_model.specs.declared.parts.Pair.TheVariants.{Tile, Vertex}
+use Rattle.dd_model.specs.declared.pair.Pair.TheVariants.{Tile, Vertex}
 use Rattle.dd_model.specs.Symbol.{Symbol}
 use Rattle.dd_shares.specs.Sides.{depth_of, unwound, IsSide, HasExchanged}
 use Rattle.dd_shares.specs.declared.shares.Mark.{Mark}

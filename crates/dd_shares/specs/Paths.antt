@@ -3,7 +3,7 @@ use Rattle.std.specs.Prelude.{◌≡◌, ◌≢◌, ◌⊎◌, ℕ, List, [], �
 use Rattle.std.specs.List.{AllByRecursion}
 use Rattle.dd_model.specs.Symbol.{Symbol, Word, first, second, op}
 use Rattle.dd_model.specs.Cell.{IsWordOf}
-use Rattle.dd_model.specs.declared.parts.Pair.{Pair}
+use Rattle.dd_model.specs.declared.pair.Pair.{Pair}
 use Rattle.dd_invol.specs.Distinct.{AreDistinct}
 
 -- each step of the word is known, and it leads from d to e

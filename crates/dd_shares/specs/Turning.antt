@@ -1,6 +1,6 @@
 -- Turns along images that are known.
 use Rattle.std.specs.Prelude.{◌≡◌, ◌⊎◌, ◌↔◌, ℕ, ◌<◌, ◌≤◌, Bool, IsTrue}
-use Rattle.dd_model.specs.declared.parts.Pair.{Pair}
+use Rattle.dd_model.specs.declared.pair.Pair.{Pair}
 use Rattle.dd_model.specs.Symbol.{Symbol, first, second, op}
 use Rattle.dd_model.specs.Cell.{InCell, IsChain, turned, IsPeriod}
 use Rattle.dd_model.specs.Partial.{Completes}

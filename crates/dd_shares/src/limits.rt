@@ -3,7 +3,7 @@ ghost use Rattle.std.specs.List.{sum_by};
 ghost use Rattle.dd_model.specs.Flat.{all_degrees};
 ghost use Rattle.dd_model.specs.Symbol.{Symbol as Tiling};
 ghost use Rattle.dd_model.specs.Wanted.{AtMost, Wanted};
-ghost use Rattle.dd_model.specs.declared.parts.Pair.TheVariants.{Tile, Vertex};
+ghost use Rattle.dd_model.specs.declared.pair.Pair.TheVariants.{Tile, Vertex};
 ghost use Rattle.dd_invol.specs.Rows.{partial_of, IsReady};
 ghost use Rattle.dd_shares.specs.Shares.{degrees_of, IsTotal};
 ghost use Rattle.dd_shares.specs.Sides.{IsSide};

@@ -1,7 +1,7 @@
 ghost use Rattle.std.specs.Prelude.{◌≡◌, ◌⊎◌, ℕ, ◌+◌, ◌-◌, ◌*◌, ◌/◌, ◌≤◌, ◌<◌, ◌↔◌, IsTrue, length, slice_index, slice_set, sum};
 ghost use Rattle.dd_model.specs.Symbol.{Symbol as Tiling, item};
 ghost use Rattle.dd_model.specs.Wanted.{IsCrystallographic};
-ghost use Rattle.dd_model.specs.declared.parts.Pair.TheVariants.{Tile, Vertex};
+ghost use Rattle.dd_model.specs.declared.pair.Pair.TheVariants.{Tile, Vertex};
 ghost use Rattle.dd_shares.specs.Shares.{IsAllowed, IsShare};
 ghost use Rattle.dd_shares.specs.Sides.{depth_of, unwound, IsSide, HasExchanged};
 ghost use Rattle.dd_shares.specs.Walked.{IsWalked};

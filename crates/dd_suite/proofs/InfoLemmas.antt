@@ -4,8 +4,8 @@ use Rattle.std.specs.List.{AllByRecursion}
 use Rattle.dd_model.specs.Symbol.{Symbol, IsSymbol}
 use Rattle.dd_model.specs.Minimal.{Minimal}
 use Rattle.dd_model.specs.Reading.{IsReadable}
-use Rattle.dd_model.specs.declared.parts.Pair.{Pair}
-use Rattle.dd_model.specs.declared.parts.Pair.TheVariants.{Tile, Vertex, Edge}
+use Rattle.dd_model.specs.declared.pair.Pair.{Pair}
+use Rattle.dd_model.specs.declared.pair.Pair.TheVariants.{Tile, Vertex, Edge}
 use Rattle.dd_model.proofs.CellLists.{cells_unique}
 use Rattle.dd_cells.proofs.CurvatureLemmas.{curvature_unique}
 use Rattle.dd_cells.specs.Orientation.{IsOrientation}

@@ -5,8 +5,8 @@ use Rattle.std.specs.Ordering.{int_eq}
 use Rattle.dd_model.specs.Symbol.{Symbol}
 use Rattle.dd_model.specs.Cell.{AreCells}
 use Rattle.dd_model.specs.Minimal.{Minimal}
-use Rattle.dd_model.specs.declared.parts.Pair.{Pair}
-use Rattle.dd_model.specs.declared.parts.Pair.TheVariants.{Tile, Vertex, Edge}
+use Rattle.dd_model.specs.declared.pair.Pair.{Pair}
+use Rattle.dd_model.specs.declared.pair.Pair.TheVariants.{Tile, Vertex, Edge}
 use Rattle.dd_cells.specs.Orientation.{IsOrientation}
 use Rattle.dd_cells.specs.Curvature.{IsCurvature}
 use Rattle.dd_cells.specs.declared.fractions.Fraction.{Fraction}

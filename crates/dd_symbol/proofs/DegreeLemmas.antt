@@ -1,8 +1,8 @@
 -- How the least number of turns of a chamber decides its degree and its branching value.
 use Rattle.std.proofs.Common.{◌≡◌, ℕ, ◌+◌, ◌*◌, ◌/◌, ◌%◌, ◌≤◌, refl, sym, ap, ◌∙◌, subst, ⊎_elim, arith}
 use Rattle.std.proofs.lemmas.Bool.{cases_lt}
-use Rattle.dd_model.specs.declared.parts.Pair.{Pair}
-use Rattle.dd_model.specs.declared.parts.Pair.TheVariants.{Tile, Vertex, Edge}
+use Rattle.dd_model.specs.declared.pair.Pair.{Pair}
+use Rattle.dd_model.specs.declared.pair.Pair.TheVariants.{Tile, Vertex, Edge}
 use Rattle.dd_model.specs.Symbol.{Symbol, AreInvolutions, IsChamber, HasDegree, first, second, op, degree}
 use Rattle.dd_model.specs.Cell.{IsBranching, IsPeriod, IsLeastTurns, InCell, turned}
 use Rattle.dd_model.specs.Small.{IsSmallSymbol}

@@ -1,11 +1,12 @@
 -- No lists are refused for two causes: each cause is the first test that fails.
 use Rattle.std.proofs.Common.{◌≡◌, ◌≢◌, ℕ, ◌<◌, ◌≤◌, ◌%◌, ◌⊎◌, List, [], ◌∷◌, refl, sym, ap, ◌∙◌, subst, inl, inr, ⊎_elim, arith}
 use Rattle.std.proofs.lemmas.Bool.{cases_lt}
-use Rattle.dd_model.specs.declared.parts.Index.{Index}
-use Rattle.dd_model.specs.declared.parts.Index.TheVariants.{Zero, One, Two}
-use Rattle.dd_model.specs.declared.parts.Pair.{Pair}
-use Rattle.dd_model.specs.declared.parts.Pair.TheVariants.{Tile, Vertex, Edge}
-use Rattle.dd_model.specs.Symbol.{Symbol, IsChamber, IsReached, op, degree}
+use Rattle.dd_model.specs.declared.index.Index.{Index}
+use Rattle.dd_model.specs.declared.index.Index.TheVariants.{Zero, One, Two}
+use Rattle.dd_model.specs.declared.pair.Pair.{Pair}
+use Rattle.dd_model.specs.declared.pair.Pair.TheVariants.{Tile, Vertex, Edge}
+use Rattle.dd_model.specs.Symbol.{Symbol, IsChamber, op, degree}
+use Rattle.dd_model.specs.Connected.{IsReached}
 use Rattle.dd_model.specs.Cell.{IsLeastTurns, IsBranching}
 use Rattle.dd_model.proofs.Turns.{least_turns_unique}
 use Rattle.dd_model.proofs.Branching.{branching_unique}

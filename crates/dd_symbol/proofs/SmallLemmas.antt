@@ -1,6 +1,6 @@
 -- What holds of a small symbol.
 use Rattle.std.proofs.Common.{◌≡◌, ℕ, sym, subst}
-use Rattle.dd_model.specs.declared.parts.Index.{Index}
+use Rattle.dd_model.specs.declared.index.Index.{Index}
 use Rattle.dd_model.specs.Symbol.{Symbol, IsChamber, op}
 use Rattle.dd_model.specs.Small.{IsSmallSymbol}
 

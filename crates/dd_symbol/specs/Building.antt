@@ -2,7 +2,8 @@
 use Rattle.std.specs.Prelude.{◌≡◌, ℕ, ◌≤◌, List, [], length, map, slice_index_or}
 use Rattle.std.specs.Prelude.{Vec}
 use Rattle.std.specs.Global.{Global}
-use Rattle.dd_model.specs.Symbol.{Symbol, Connected}
+use Rattle.dd_model.specs.Symbol.{Symbol}
+use Rattle.dd_model.specs.Connected.{Connected}
 use Rattle.dd_model.specs.Small.{IsSmallSymbol}
 
 -- the symbol with these five lists, of as many chambers as the first has numbers

@@ -2,7 +2,7 @@
 use Rattle.std.specs.Prelude.{◌≡◌, ℕ, List, length}
 use Rattle.dd_model.specs.Symbol.{Symbol, IsChamber, item}
 use Rattle.dd_model.specs.Cell.{InCell, IsLeastOfCell}
-use Rattle.dd_model.specs.declared.parts.Pair.{Pair}
+use Rattle.dd_model.specs.declared.pair.Pair.{Pair}
 
 -- l is the least chamber of the cell of d
 pub record IsLeastFor (s : Symbol) (p : Pair) (d l : ℕ) : Type 0 where

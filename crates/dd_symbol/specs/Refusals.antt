@@ -1,11 +1,12 @@
 -- When five lists are refused, and why. Each cause comes with what holds of the lists before it.
 use Rattle.std.specs.Prelude.{◌≡◌, ◌≢◌, ℕ, ◌<◌, ◌≤◌, ◌%◌}
-use Rattle.dd_model.specs.Symbol.{Symbol, IsChamber, IsReached, AreInvolutions, Connected, op, degree}
+use Rattle.dd_model.specs.Symbol.{Symbol, IsChamber, AreInvolutions, op, degree}
+use Rattle.dd_model.specs.Connected.{IsReached, Connected}
 use Rattle.dd_model.specs.Cell.{turned, IsLeastTurns, IsBranching}
-use Rattle.dd_model.specs.declared.parts.Index.{Index}
-use Rattle.dd_model.specs.declared.parts.Index.TheVariants.{Zero, One, Two}
-use Rattle.dd_model.specs.declared.parts.Pair.{Pair}
-use Rattle.dd_model.specs.declared.parts.Pair.TheVariants.{Tile, Vertex, Edge}
+use Rattle.dd_model.specs.declared.index.Index.{Index}
+use Rattle.dd_model.specs.declared.index.Index.TheVariants.{Zero, One, Two}
+use Rattle.dd_model.specs.declared.pair.Pair.{Pair}
+use Rattle.dd_model.specs.declared.pair.Pair.TheVariants.{Tile, Vertex, Edge}
 use Rattle.dd_symbol.specs.Degrees.{IsLeastFor}
 use Rattle.dd_symbol.specs.declared.refusals.Refusal.{Refusal}
 use Rattle.dd_symbol.specs.declared.refusals.Refusal.TheVariants.{Empty, TooManyChambers, OpRange, NotInvolution, NotCommuting, NotConnected, DegreeZero, DegreeVaries, NotMultiple, BranchingTooLarge, Memory}

@@ -1,7 +1,7 @@
 -- The first rows of a code, one of three images for each chamber.
 use Rattle.std.specs.Prelude.{◌≡◌, ℕ, ◌+◌, ◌-◌, ◌*◌, ◌≤◌, List, length, slice_index}
-use Rattle.dd_model.specs.declared.parts.Index.{Index}
-use Rattle.dd_model.specs.declared.parts.Index.TheVariants.{Zero, One, Two}
+use Rattle.dd_model.specs.declared.index.Index.{Index}
+use Rattle.dd_model.specs.declared.index.Index.TheVariants.{Zero, One, Two}
 
 -- the list holds the images h of the chambers 1 to k, row by row
 pub record HasRows (h : Index → ℕ → ℕ) (k : ℕ) (xs : List ℕ) : Type 0 where

@@ -1,8 +1,9 @@
 -- What the queue of a walk through the chambers keeps.
 use Rattle.std.specs.Prelude.{◌≡◌, ℕ, ◌+◌, ◌-◌, ◌<◌, ◌≤◌, Bool, true, false, cond, List, length, slice_index, slice_index_or}
 use Rattle.std.specs.List.{sum_by}
-use Rattle.dd_model.specs.Symbol.{Symbol, IsChamber, IsReached, op}
-use Rattle.dd_model.specs.declared.parts.Index.{Index}
+use Rattle.dd_model.specs.Symbol.{Symbol, IsChamber, op}
+use Rattle.dd_model.specs.Connected.{IsReached}
+use Rattle.dd_model.specs.declared.index.Index.{Index}
 
 -- one for each chamber that is not marked
 abbrev pub unseen : Bool → ℕ

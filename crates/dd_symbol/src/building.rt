@@ -13,7 +13,8 @@ impl Table {
     ghost use Rattle.dd_symbol.specs.Table.{symbol_of};
     ghost use Rattle.dd_symbol.specs.Building.{listed, HaveOneLength};
     ghost use Rattle.dd_symbol.specs.Rows.{HasRows};
-    ghost use Rattle.dd_model.specs.Symbol.{op, Connected as AllReached};
+    ghost use Rattle.dd_model.specs.Symbol.{op};
+    ghost use Rattle.dd_model.specs.Connected.{Connected as AllReached};
     ghost use Rattle.dd_model.specs.Small.{IsSmallSymbol};
 
     /// Appends the images of three lists, chamber by chamber.

@@ -13,7 +13,8 @@ pub struct Connected {
 }
 
 impl Model for Connected {
-    ghost use Rattle.dd_model.specs.Symbol.{Symbol as Tiling, Connected as AllReached};
+    ghost use Rattle.dd_model.specs.Symbol.{Symbol as Tiling};
+    ghost use Rattle.dd_model.specs.Connected.{Connected as AllReached};
     ghost use Rattle.dd_model.specs.Small.{IsSmallSymbol};
 
     ghost Value = { Tiling };
@@ -24,7 +25,7 @@ impl Model for Connected {
 }
 
 impl Connected {
-    ghost use Rattle.dd_model.specs.Symbol.{Connected as AllReached};
+    ghost use Rattle.dd_model.specs.Connected.{Connected as AllReached};
     ghost use Rattle.dd_model.specs.Small.{IsSmallSymbol};
 
     pub(crate) fn from_symbol(symbol: Symbol) -> Self

@@ -7,7 +7,8 @@ use std::alloc::Global;
 
 impl Table {
     ghost use Rattle.dd_symbol.specs.Table.{symbol_of};
-    ghost use Rattle.dd_model.specs.Symbol.{AreInvolutions, IsChamber, IsReached, Connected, op};
+    ghost use Rattle.dd_model.specs.Symbol.{AreInvolutions, IsChamber, op};
+    ghost use Rattle.dd_model.specs.Connected.{IsReached, Connected};
     ghost use Rattle.dd_symbol.specs.Walk.{IsWalk, IsMarked, Grows};
     ghost use Rattle.dd_symbol.specs.Refusals.{AtAll, Commutes, IsFault};
 

@@ -1,8 +1,8 @@
 -- The table CHAMFER is lawful.
 use Rattle.std.proofs.Common.{◌≡◌, ℕ, zero, suc, ◌<◌, ◌≤◌, [], ◌∷◌, refl, inl, inr, arith, length}
-use Rattle.dd_model.specs.declared.parts.Index.{Index}
-use Rattle.dd_model.specs.declared.parts.Index.TheVariants.{Zero, One, Two}
-use Rattle.dd_model.specs.declared.parts.Pair.TheVariants.{Tile, Vertex}
+use Rattle.dd_model.specs.declared.index.Index.{Index}
+use Rattle.dd_model.specs.declared.index.Index.TheVariants.{Zero, One, Two}
+use Rattle.dd_model.specs.declared.pair.Pair.TheVariants.{Tile, Vertex}
 use Rattle.dd_template.specs.Table.{Table, table_of, IsPart, entry, moves}
 use Rattle.dd_template.specs.Lawful.{IsUndone, LeadsBack, IsConstant, Fits, IsJoined, IsUsed, IsLawful}
 use Rattle.dd_template.specs.declared.constants.TheConstants.{CHAMFER}

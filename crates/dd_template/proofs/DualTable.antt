@@ -1,6 +1,6 @@
 -- What the table of the dual makes, and how many parts the four tables have.
 use Rattle.std.proofs.Common.{◌≡◌, ℕ, ◌*◌, ◌≤◌, List, length, refl, sym, ap, ◌∙◌, arith}
-use Rattle.dd_model.specs.declared.parts.Index.TheVariants.{Zero, One, Two}
+use Rattle.dd_model.specs.declared.index.Index.TheVariants.{Zero, One, Two}
 use Rattle.dd_model.specs.Symbol.{Symbol, IsTable, IsChamber, item, op}
 use Rattle.dd_model.proofs.Codes.{same_items}
 use Rattle.dd_template.specs.Table.{Table, table_of}

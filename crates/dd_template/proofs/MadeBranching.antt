@@ -1,8 +1,8 @@
 -- Each part has the branching value of the cell that its degree comes from.
 use Rattle.std.proofs.Common.{◌≡◌, ℕ, zero, suc, ◌*◌, ◌≤◌, refl, sym, ap, ◌∙◌, subst, arith}
 use Rattle.std.proofs.Math.Nat.{mul_left_comm}
-use Rattle.dd_model.specs.declared.parts.Pair.{Pair}
-use Rattle.dd_model.specs.declared.parts.Pair.TheVariants.{Tile, Vertex, Edge}
+use Rattle.dd_model.specs.declared.pair.Pair.{Pair}
+use Rattle.dd_model.specs.declared.pair.Pair.TheVariants.{Tile, Vertex, Edge}
 use Rattle.dd_model.specs.Symbol.{Symbol, IsSymbol, IsChamber, degree}
 use Rattle.dd_model.specs.Cell.{turned, IsPeriod, IsLeastTurns, IsBranching}
 use Rattle.dd_model.specs.Small.{IsSmallSymbol}

@@ -1,7 +1,8 @@
 -- What a lawful table makes of a connected symbol is connected.
 use Rattle.std.proofs.Common.{◌≡◌, ℕ, ◌-◌, ◌*◌, [], ◌∷◌, ◌++◌, refl, sym, ap, ◌∙◌, subst, arith}
-use Rattle.dd_model.specs.declared.parts.Index.{Index}
-use Rattle.dd_model.specs.Symbol.{Symbol, AreInvolutions, IsSymbol, IsChamber, Connected, Word, op, act}
+use Rattle.dd_model.specs.declared.index.Index.{Index}
+use Rattle.dd_model.specs.Symbol.{Symbol, AreInvolutions, IsSymbol, IsChamber, Word, op, act}
+use Rattle.dd_model.specs.Connected.{Connected}
 use Rattle.dd_model.proofs.Words.{act-append, act-backwards, backwards}
 use Rattle.dd_template.specs.Table.{Table, IsPart, move, part_after}
 use Rattle.dd_template.specs.Made.{chamber_of, moved, made}

@@ -1,8 +1,8 @@
 -- A part is met again after at most as many turns as there are parts.
 use Rattle.std.proofs.Common.{◌≡◌, ℕ, ◌≤◌, Option, Some, None, [], ◌∷◌, refl, sym, ap, ◌∙◌, subst, arith}
-use Rattle.dd_model.specs.declared.parts.Index.{Index}
-use Rattle.dd_model.specs.declared.parts.Index.TheVariants.{Zero, One, Two}
-use Rattle.dd_model.specs.declared.parts.Pair.{Pair}
+use Rattle.dd_model.specs.declared.index.Index.{Index}
+use Rattle.dd_model.specs.declared.index.Index.TheVariants.{Zero, One, Two}
+use Rattle.dd_model.specs.declared.pair.Pair.{Pair}
 use Rattle.dd_model.specs.Symbol.{Symbol, AreInvolutions, IsChamber, Word, op, act, power, turn}
 use Rattle.dd_model.specs.Worked.{single}
 use Rattle.dd_model.proofs.Turns.{period_bound}

@@ -1,8 +1,8 @@
 -- Striking equal neighbours and exchanging 2 0 end in the reduced word, whatever their order.
 use Rattle.std.proofs.Common.{◌≡◌, [], ◌∷◌, ◌++◌, refl, ap, ◌∙◌}
 use Rattle.dd_model.specs.Symbol.{Word}
-use Rattle.dd_model.specs.declared.parts.Index.{Index}
-use Rattle.dd_model.specs.declared.parts.Index.TheVariants.{Zero, One, Two}
+use Rattle.dd_model.specs.declared.index.Index.{Index}
+use Rattle.dd_model.specs.declared.index.Index.TheVariants.{Zero, One, Two}
 use Rattle.dd_template.specs.Reduced.{put, reduced, IsReduced}
 
 tail : (i : Index) (w : Word) → IsReduced (i ∷ w) → IsReduced w

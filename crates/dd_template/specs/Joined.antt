@@ -1,6 +1,6 @@
 -- The parts that are met from part 0 by moves that stay in the chamber.
 use Rattle.std.specs.Prelude.{◌≡◌, ℕ, Bool, true, false, cond, List, slice_index_or, None}
-use Rattle.dd_model.specs.declared.parts.Index.{Index}
+use Rattle.dd_model.specs.declared.index.Index.{Index}
 use Rattle.dd_template.specs.Table.{Table, IsPart, move}
 
 -- the flag of a part is set

@@ -1,8 +1,8 @@
 -- The word of an array whose last letter is the first of the word.
 use Rattle.std.specs.Prelude.{ℕ, zero, suc, List, [], ◌∷◌, slice_index_or}
 use Rattle.dd_model.specs.Symbol.{Word}
-use Rattle.dd_model.specs.declared.parts.Index.{Index}
-use Rattle.dd_model.specs.declared.parts.Index.TheVariants.{Zero}
+use Rattle.dd_model.specs.declared.index.Index.{Index}
+use Rattle.dd_model.specs.declared.index.Index.TheVariants.{Zero}
 use Rattle.dd_template.specs.declared.words.Letters.{Letters}
 
 -- the first n letters of a list, the last of them first

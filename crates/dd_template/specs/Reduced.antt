@@ -1,8 +1,8 @@
 -- Reduced words: two equal neighbours are struck, and 2 0 is written as 0 2.
 use Rattle.std.specs.Prelude.{ℕ, [], ◌∷◌, Option, Some, None}
 use Rattle.dd_model.specs.Symbol.{Word}
-use Rattle.dd_model.specs.declared.parts.Index.{Index}
-use Rattle.dd_model.specs.declared.parts.Index.TheVariants.{Zero, One, Two}
+use Rattle.dd_model.specs.declared.index.Index.{Index}
+use Rattle.dd_model.specs.declared.index.Index.TheVariants.{Zero, One, Two}
 use Rattle.dd_template.specs.Table.{Table, move}
 
 -- a letter before a word, the two struck where they are equal

@@ -1,9 +1,9 @@
 ghost use Rattle.std.specs.Prelude.{◌≡◌, ℕ, ◌*◌, ◌/◌, ◌≤◌, ◌∷◌, ◌++◌};
 ghost use Rattle.dd_model.specs.Worked.{single, squares, truncated_squares_backwards};
 ghost use Rattle.dd_model.specs.Symbol.{Symbol, IsTable, Word};
-ghost use Rattle.dd_model.specs.declared.parts.Index.{Index};
-ghost use Rattle.dd_model.specs.declared.parts.Index.TheVariants.{Zero, Two};
-ghost use Rattle.dd_model.specs.declared.parts.Pair.{Pair};
+ghost use Rattle.dd_model.specs.declared.index.Index.{Index};
+ghost use Rattle.dd_model.specs.declared.index.Index.TheVariants.{Zero, Two};
+ghost use Rattle.dd_model.specs.declared.pair.Pair.{Pair};
 ghost use Rattle.dd_template.specs.Dual.{exchanged};
 ghost use Rattle.dd_template.specs.Table.{Table, IsPart, table_of};
 ghost use Rattle.dd_template.specs.Made.{made};

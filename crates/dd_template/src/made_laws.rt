@@ -2,9 +2,10 @@ ghost use Rattle.std.specs.Prelude.{◌≡◌, ◌↔◌, ℕ, ◌*◌, ◌≤�
 ghost use Rattle.dd_model.specs.Cell.{IsBranching};
 ghost use Rattle.dd_model.specs.Flat.{Flat};
 ghost use Rattle.dd_model.specs.Small.{IsSmallSymbol};
-ghost use Rattle.dd_model.specs.Symbol.{Symbol, IsChamber, IsSymbol, Connected, Word, act, item, op};
-ghost use Rattle.dd_model.specs.declared.parts.Index.{Index};
-ghost use Rattle.dd_model.specs.declared.parts.Pair.{Pair};
+ghost use Rattle.dd_model.specs.Symbol.{Symbol, IsChamber, IsSymbol, Word, act, item, op};
+ghost use Rattle.dd_model.specs.Connected.{Connected};
+ghost use Rattle.dd_model.specs.declared.index.Index.{Index};
+ghost use Rattle.dd_model.specs.declared.pair.Pair.{Pair};
 ghost use Rattle.dd_template.specs.Kept.{HasSmallBranching, HaveSameCurvature};
 ghost use Rattle.dd_template.specs.Lawful.{AreUndone, IsLawful, entries};
 ghost use Rattle.dd_template.specs.Made.{chamber_of, composed, degree_of, moved, made, IsPlace, SamePlace};

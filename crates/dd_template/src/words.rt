@@ -13,7 +13,7 @@ pub(crate) struct Letters {
 }
 
 impl Letters {
-    ghost use Rattle.dd_model.specs.declared.parts.Index.TheVariants.{Two};
+    ghost use Rattle.dd_model.specs.declared.index.Index.TheVariants.{Two};
     ghost use Rattle.dd_template.specs.Reduced.{strike, put, put_move};
     ghost use Rattle.dd_template.specs.Letters.{word_of};
 

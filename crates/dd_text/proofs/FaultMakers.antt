@@ -1,9 +1,9 @@
 -- How faults in the text of a symbol are made.
 use Rattle.std.proofs.Common.{◌≡◌, ◌≢◌, ℕ, List, refl, sym, subst}
-use Rattle.dd_model.specs.declared.written.Part.{Part}
-use Rattle.dd_model.specs.declared.written.Part.TheVariants.{Sign, Number, Overlong, End}
-use Rattle.dd_model.specs.declared.written.Placed.{Placed}
-use Rattle.dd_model.specs.declared.written.Numeral.{Numeral}
+use Rattle.dd_model.specs.declared.tokens.Part.{Part}
+use Rattle.dd_model.specs.declared.tokens.Part.TheVariants.{Sign, Number, Overlong, End}
+use Rattle.dd_model.specs.declared.tokens.Placed.{Placed}
+use Rattle.dd_model.specs.declared.tokens.Numeral.{Numeral}
 use Rattle.dd_model.specs.Parts.{Cursor, first_part, Spells}
 use Rattle.dd_model.specs.Spelling.{number_part, sign_part}
 use Rattle.dd_text.specs.declared.faults.Why.{Why}

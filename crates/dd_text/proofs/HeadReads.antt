@@ -1,7 +1,7 @@
 -- The exits of the code that reads the head and the size.
 use Rattle.std.proofs.Common.{◌≡◌, ℕ, List, [], ◌∷◌, Some, None, refl, sym, ap, ◌∙◌, subst}
-use Rattle.dd_model.specs.declared.written.Placed.{Placed}
-use Rattle.dd_model.specs.declared.written.Numeral.{Numeral}
+use Rattle.dd_model.specs.declared.tokens.Placed.{Placed}
+use Rattle.dd_model.specs.declared.tokens.Numeral.{Numeral}
 use Rattle.dd_model.specs.Parts.{Cursor, first_part, after_part, Spells}
 use Rattle.dd_model.specs.Spelling.{number_part, sign_part}
 use Rattle.dd_text.specs.declared.faults.Fault.{Fault}

@@ -1,7 +1,7 @@
 -- Lists that tell a symbol have no fault.
 use Rattle.std.proofs.Common.{◌≡◌, ◌≢◌, ℕ, suc, ◌+◌, ◌-◌, ◌<◌, ◌≤◌, List, [], ◌∷◌, ◌++◌, length, refl, sym, ap, ◌∙◌, subst, ⊎_elim, arith}
 use Rattle.std.proofs.lemmas.Bool.{cases_lt, cases_eq}
-use Rattle.dd_model.specs.declared.written.Numeral.{Numeral}
+use Rattle.dd_model.specs.declared.tokens.Numeral.{Numeral}
 use Rattle.dd_model.specs.Symbol.{item}
 use Rattle.dd_model.specs.Spelling.{Told, values}
 use Rattle.dd_model.proofs.ReadingImages.{told_from, told-yes, IsFold, told_same}

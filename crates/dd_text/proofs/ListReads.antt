@@ -2,8 +2,8 @@
 use Rattle.std.proofs.Common.{◌≡◌, ℕ, List, [], ◌∷◌, ◌++◌, sym, ap, ◌∙◌, subst}
 use Rattle.std.specs.Prelude.{map}
 use Rattle.std.proofs.lemmas.List.{map_push}
-use Rattle.dd_model.specs.declared.written.Placed.{Placed}
-use Rattle.dd_model.specs.declared.written.Numeral.{Numeral}
+use Rattle.dd_model.specs.declared.tokens.Placed.{Placed}
+use Rattle.dd_model.specs.declared.tokens.Numeral.{Numeral}
 use Rattle.dd_model.specs.Parts.{Cursor, Spells}
 use Rattle.dd_model.specs.Spelling.{number_part, sign_part, with_list}
 use Rattle.dd_model.proofs.ReadingParts.{spells-append}

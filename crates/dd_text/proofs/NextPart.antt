@@ -3,10 +3,10 @@ use Rattle.std.proofs.Common.{◌≡◌, ℕ, Bool, zero, suc, ◌+◌, ◌^◌,
 use Rattle.std.specs.Prelude.{if◌then◌else◌, nat_eq}
 use Rattle.dd_model.specs.Reading.{line_end}
 use Rattle.std.specs.Char.{is_ascii_digit}
-use Rattle.dd_model.specs.declared.written.Part.{Part}
-use Rattle.dd_model.specs.declared.written.Part.TheVariants.{Sign, Number}
-use Rattle.dd_model.specs.declared.written.Placed.{Placed}
-use Rattle.dd_model.specs.declared.written.Numeral.{Numeral}
+use Rattle.dd_model.specs.declared.tokens.Part.{Part}
+use Rattle.dd_model.specs.declared.tokens.Part.TheVariants.{Sign, Number}
+use Rattle.dd_model.specs.declared.tokens.Placed.{Placed}
+use Rattle.dd_model.specs.declared.tokens.Numeral.{Numeral}
 use Rattle.dd_model.specs.Spelling.{number_part}
 use Rattle.dd_model.specs.Parts.{Cursor, is_blank, past_blanks, digits, past_digits, number_of, part_of, rest_of, first_part, after_part}
 

@@ -1,8 +1,8 @@
 -- What may stand up to the colon after the size.
 use Rattle.std.proofs.Common.{◌≡◌, ◌≢◌, ℕ, ◌≤◌, List, [], ◌∷◌, ◌++◌, Option, Some, None, refl, sym, ap, ◌∙◌, subst, ⊎_elim, arith}
-use Rattle.dd_model.specs.declared.written.Part.TheVariants.{Number}
-use Rattle.dd_model.specs.declared.written.Placed.{Placed}
-use Rattle.dd_model.specs.declared.written.Numeral.{Numeral}
+use Rattle.dd_model.specs.declared.tokens.Part.TheVariants.{Number}
+use Rattle.dd_model.specs.declared.tokens.Placed.{Placed}
+use Rattle.dd_model.specs.declared.tokens.Numeral.{Numeral}
 use Rattle.dd_model.specs.Parts.{Cursor, first_part, after_part, Spells}
 use Rattle.dd_model.specs.Spelling.{Told, Head, Shape, number_part, sign_part, with_head, with_list}
 use Rattle.dd_model.proofs.ReadingParts.{same_number}

@@ -2,9 +2,9 @@
 use Rattle.std.proofs.Common.{◌≡◌, ◌≢◌, ℕ, List, [], ◌∷◌, ◌++◌, length, refl, sym, ap, ◌∙◌, subst, ⊎_elim, arith, append_assoc}
 use Rattle.std.specs.List.{AllByRecursion}
 use Rattle.std.proofs.lemmas.List.{length-append}
-use Rattle.dd_model.specs.declared.written.Part.TheVariants.{Overlong, End}
-use Rattle.dd_model.specs.declared.written.Placed.{Placed}
-use Rattle.dd_model.specs.declared.written.Numeral.{Numeral}
+use Rattle.dd_model.specs.declared.tokens.Part.TheVariants.{Overlong, End}
+use Rattle.dd_model.specs.declared.tokens.Placed.{Placed}
+use Rattle.dd_model.specs.declared.tokens.Numeral.{Numeral}
 use Rattle.dd_model.specs.Parts.{Cursor, first_part, Spells}
 use Rattle.dd_model.proofs.ReadingParts.{spells-end, same_number}
 use Rattle.dd_text.specs.declared.faults.Why.{Why}

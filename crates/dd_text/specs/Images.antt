@@ -3,7 +3,7 @@ use Rattle.std.specs.Prelude.{◌≡◌, ◌≢◌, ℕ, ◌+◌, ◌<◌, ◌�
 use Rattle.dd_model.specs.Symbol.{Symbol, IsChamber, item}
 use Rattle.dd_model.specs.Cell.{InCell, AreCells}
 use Rattle.dd_model.specs.Code.{count_from}
-use Rattle.dd_model.specs.declared.parts.Pair.{Pair}
+use Rattle.dd_model.specs.declared.pair.Pair.{Pair}
 
 -- from d on the first chamber without an image, or one more than the last
 pub record IsNextUnknown (f : List ℕ) (d e : ℕ) : Type 0 where

@@ -3,8 +3,8 @@ use Rattle.std.specs.Prelude.{◌≡◌, ◌≢◌, ℕ, ◌-◌, ◌<◌, ◌�
 use Rattle.dd_model.specs.Symbol.{Symbol, item}
 use Rattle.dd_model.specs.Cell.{AreCells}
 use Rattle.dd_model.specs.Spelling.{Told, values}
-use Rattle.dd_model.specs.declared.parts.Pair.{Pair}
-use Rattle.dd_model.specs.declared.written.Numeral.{Numeral}
+use Rattle.dd_model.specs.declared.pair.Pair.{Pair}
+use Rattle.dd_model.specs.declared.tokens.Numeral.{Numeral}
 use Rattle.dd_text.specs.declared.faults.Why.{Why}
 use Rattle.dd_text.specs.declared.faults.Why.TheVariants.{ListShort, ListLong, Image, Memory}
 

@@ -1,6 +1,6 @@
 use Rattle.std.specs.Prelude.{◌≡◌, ℕ, ◌+◌, List, [], ◌∷◌, length}
 use Rattle.dd_model.specs.Parts.{Cursor, digits, past_digits, first_part, after_part}
-use Rattle.dd_model.specs.declared.written.Placed.{Placed}
+use Rattle.dd_model.specs.declared.tokens.Placed.{Placed}
 use Rattle.dd_text.specs.declared.reader.Reader.{Reader}
 
 -- where a reader stands

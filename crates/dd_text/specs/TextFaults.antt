@@ -1,8 +1,8 @@
 -- The faults in the text of a symbol, and their places.
 use Rattle.std.specs.Prelude.{◌≡◌, ◌≢◌, ◌⊎◌, ℕ, ◌<◌, ◌≤◌, List, [], ◌∷◌, ◌++◌, Option, None}
-use Rattle.dd_model.specs.declared.written.Part.TheVariants.{Overlong, End}
-use Rattle.dd_model.specs.declared.written.Placed.{Placed}
-use Rattle.dd_model.specs.declared.written.Numeral.{Numeral}
+use Rattle.dd_model.specs.declared.tokens.Part.TheVariants.{Overlong, End}
+use Rattle.dd_model.specs.declared.tokens.Placed.{Placed}
+use Rattle.dd_model.specs.declared.tokens.Numeral.{Numeral}
 use Rattle.dd_model.specs.Parts.{Cursor, first_part, Spells}
 use Rattle.dd_model.specs.Spelling.{Head, Shape, number_part, sign_part, with_head, parts_of}
 use Rattle.dd_text.specs.declared.faults.Why.{Why}

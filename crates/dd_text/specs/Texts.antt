@@ -1,9 +1,9 @@
 -- What the methods that read the text of a symbol promise.
 use Rattle.std.specs.Prelude.{◌≡◌, ◌≢◌, ℕ, ◌≤◌, List, [], ◌∷◌, map, Option, None, IfSome}
-use Rattle.dd_model.specs.declared.written.Part.{Part}
-use Rattle.dd_model.specs.declared.written.Part.TheVariants.{Number, Overlong, End}
-use Rattle.dd_model.specs.declared.written.Placed.{Placed}
-use Rattle.dd_model.specs.declared.written.Numeral.{Numeral}
+use Rattle.dd_model.specs.declared.tokens.Part.{Part}
+use Rattle.dd_model.specs.declared.tokens.Part.TheVariants.{Number, Overlong, End}
+use Rattle.dd_model.specs.declared.tokens.Placed.{Placed}
+use Rattle.dd_model.specs.declared.tokens.Numeral.{Numeral}
 use Rattle.dd_model.specs.Parts.{Cursor, first_part, after_part, Spells}
 use Rattle.dd_model.specs.Spelling.{Told, Head, Shape, number_part, sign_part, with_head, with_dimension, parts_of, IsPlane}
 use Rattle.dd_text.specs.declared.faults.Why.{Why}

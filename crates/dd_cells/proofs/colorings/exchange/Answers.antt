@@ -1,5 +1,5 @@
 use Rattle.std.proofs.Common.{sym, ◌∙◌}
-use Rattle.dd_model.specs.declared.parts.Index.TheVariants.{Zero, One, Two}
+use Rattle.dd_model.specs.declared.index.Index.TheVariants.{Zero, One, Two}
 use Rattle.dd_cells.specs.Coloring.{ExchangesBy}
 use Rattle.dd_cells.proofs.ColoringLemmas.{by_index}
 use Rattle.dd_cells.proofs.colorings.exchange.Goals as goal

@@ -1,6 +1,7 @@
 use Rattle.std.proofs.Common.{◌<◌, length, sym, subst, arith}
 use Rattle.std.proofs.lemmas.List.{get_or_read}
-use Rattle.dd_model.specs.Symbol.{IsTable, Connected, op}
+use Rattle.dd_model.specs.Symbol.{IsTable, op}
+use Rattle.dd_model.specs.Connected.{Connected}
 use Rattle.dd_symbol.specs.Walk.{IsMarked}
 use Rattle.dd_symbol.proofs.WalkLemmas.{closed_more}
 use Rattle.dd_cells.specs.Coloring.{AreForced}

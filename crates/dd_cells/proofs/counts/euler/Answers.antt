@@ -1,7 +1,7 @@
 use Rattle.std.proofs.Common.{◌≡◌, ℕ, SFits, ◌+◌, ◌≤◌, pos, ◌-ℤ◌, length, to_z, of_z, w64, ap, ◌∙◌, arith}
 use Rattle.std.proofs.lemmas.Int.{to_z-of_z}
-use Rattle.dd_model.specs.declared.parts.Index.TheVariants.{Zero, One, Two}
-use Rattle.dd_model.specs.declared.parts.Pair.TheVariants.{Tile, Vertex, Edge}
+use Rattle.dd_model.specs.declared.index.Index.TheVariants.{Zero, One, Two}
+use Rattle.dd_model.specs.declared.pair.Pair.TheVariants.{Tile, Vertex, Edge}
 use Rattle.dd_model.proofs.CellLists.{cells_exist}
 use Rattle.dd_cells.specs.Euler.{orbits}
 use Rattle.dd_cells.proofs.counts.euler.Goals as goal

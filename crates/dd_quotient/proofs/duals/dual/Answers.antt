@@ -1,6 +1,6 @@
 use Rattle.std.proofs.Common.{◌∙◌, ap}
 use Rattle.dd_model.specs.Symbol.{operation}
-use Rattle.dd_model.specs.declared.parts.Index.TheVariants.{Zero, One, Two}
+use Rattle.dd_model.specs.declared.index.Index.TheVariants.{Zero, One, Two}
 use Rattle.dd_quotient.proofs.DualLemmas.{listed-dual, lengths-dual, accepted-dual}
 use Rattle.dd_quotient.proofs.duals.dual.Goals as goal
 

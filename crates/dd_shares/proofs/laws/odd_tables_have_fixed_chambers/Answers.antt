@@ -1,6 +1,6 @@
 use Rattle.std.proofs.Common.{⊎_elim}
 use Rattle.std.proofs.lemmas.Bool.{cases_lt}
-use Rattle.dd_model.specs.declared.parts.Index.TheVariants.{Zero}
+use Rattle.dd_model.specs.declared.index.Index.TheVariants.{Zero}
 use Rattle.dd_model.specs.Symbol.{op}
 use Rattle.dd_shares.proofs.OddSizes.{odd_fixes, odd_first}
 use Rattle.dd_shares.proofs.laws.odd_tables_have_fixed_chambers.Goals as goal

@@ -1,5 +1,5 @@
 use Rattle.std.proofs.Common.{◌≡◌, ◌≢◌, ◌%◌, ◌<◌, ap, ◌∙◌, arith}
-use Rattle.dd_model.specs.declared.parts.Index.TheVariants.{Zero}
+use Rattle.dd_model.specs.declared.index.Index.TheVariants.{Zero}
 use Rattle.dd_model.specs.Symbol.{op}
 use Rattle.dd_invol.specs.Rows.{partial_of}
 use Rattle.dd_shares.proofs.OddSizes.{odd_first}

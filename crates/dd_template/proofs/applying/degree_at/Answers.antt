@@ -1,5 +1,5 @@
 use Rattle.std.proofs.Common.{◌≤◌, sym, subst, arith}
-use Rattle.dd_model.specs.declared.parts.Pair.TheVariants.{Tile, Vertex}
+use Rattle.dd_model.specs.declared.pair.Pair.TheVariants.{Tile, Vertex}
 use Rattle.dd_template.specs.Applying.{HasSmallFactor}
 use Rattle.dd_template.proofs.ApplyLemmas.{degree_bound, product_bound}
 use Rattle.dd_template.proofs.applying.degree_at.Goals as goal

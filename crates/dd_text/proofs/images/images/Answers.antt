@@ -1,5 +1,5 @@
 use Rattle.std.proofs.Common.{◌≡◌, ◌+◌, ◌<◌, List, length, sym, subst, arith}
-use Rattle.dd_model.specs.declared.written.Numeral.{Numeral}
+use Rattle.dd_model.specs.declared.tokens.Numeral.{Numeral}
 use Rattle.dd_text.specs.Texts.{told_of}
 use Rattle.dd_text.specs.ListFaults.{IsFree, IsLongList, IsWrongImage}
 use Rattle.dd_text.specs.Images.{IsNextUnknown}

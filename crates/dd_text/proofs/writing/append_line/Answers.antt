@@ -1,6 +1,6 @@
 use Rattle.std.proofs.Common.{◌≡◌, ◌∙◌, All, codes, decimal, map, ◌++◌, refl, subst, sym, ap}
-use Rattle.dd_model.specs.declared.parts.Index.TheVariants.{Zero, One, Two}
-use Rattle.dd_model.specs.declared.parts.Pair.TheVariants.{Tile, Vertex}
+use Rattle.dd_model.specs.declared.index.Index.TheVariants.{Zero, One, Two}
+use Rattle.dd_model.specs.declared.pair.Pair.TheVariants.{Tile, Vertex}
 use Rattle.dd_model.specs.Symbol.{IsChamber, degree}
 use Rattle.dd_model.specs.Line.{spaced, told_images, text_of}
 use Rattle.dd_text.proofs.LineTexts.{line_text, all_chambers}

@@ -1,5 +1,5 @@
 use Rattle.std.proofs.Common.{◌≡◌, ℕ, ◌*◌, ◌<◌, ◌≤◌, [], ◌∷◌, ◌++◌, length, get_or, refl, sym, ap, ◌∙◌, subst, arith}
-use Rattle.dd_model.specs.declared.parts.Pair.TheVariants.{Tile}
+use Rattle.dd_model.specs.declared.pair.Pair.TheVariants.{Tile}
 use Rattle.dd_model.specs.Symbol.{IsSymbol}
 use Rattle.dd_branch.specs.Place.{HasPlaces}
 use Rattle.dd_branch.specs.Rests.{AreRests}

@@ -1,5 +1,5 @@
 use Rattle.std.proofs.Common.{suc, inr, ◌+◌, ◌-◌, ◌≤◌, ◌∷◌, length, ◌∙◌, arith}
-use Rattle.dd_model.specs.declared.parts.Index.TheVariants.{Zero, One, Two}
+use Rattle.dd_model.specs.declared.index.Index.TheVariants.{Zero, One, Two}
 use Rattle.dd_model.specs.Symbol.{op}
 use Rattle.dd_model.specs.FirstVisit.{rows}
 use Rattle.dd_model.proofs.Traversals.{next_row}

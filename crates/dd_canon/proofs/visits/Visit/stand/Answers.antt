@@ -1,5 +1,5 @@
 use Rattle.std.proofs.Common.{◌≡◌, [], ◌+◌, ap, ◌∙◌, subst, arith}
-use Rattle.dd_model.specs.declared.parts.Pair.TheVariants.{Tile, Vertex}
+use Rattle.dd_model.specs.declared.pair.Pair.TheVariants.{Tile, Vertex}
 use Rattle.dd_model.specs.Symbol.{item}
 use Rattle.dd_model.proofs.Traversals.{done_all}
 use Rattle.dd_canon.specs.Standing.{IsOngoing}

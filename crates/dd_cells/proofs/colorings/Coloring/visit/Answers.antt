@@ -2,7 +2,7 @@ use Rattle.std.proofs.lemmas.Result.{on_ok_weaker}
 use Rattle.dd_symbol.specs.Walk.{Grows}
 use Rattle.dd_symbol.proofs.WalkLemmas.{Grows-trans}
 use Rattle.dd_model.specs.Symbol.{op}
-use Rattle.dd_model.specs.declared.parts.Index.TheVariants.{Zero, One}
+use Rattle.dd_model.specs.declared.index.Index.TheVariants.{Zero, One}
 use Rattle.dd_cells.proofs.colorings.Coloring.visit.Goals as goal
 
 pub returns-clause-grows : goal.returns-clause-grows

@@ -1,5 +1,5 @@
 use Rattle.std.proofs.Common.{◌≡◌}
-use Rattle.dd_model.specs.declared.parts.Index.TheVariants.{Zero, Two}
+use Rattle.dd_model.specs.declared.index.Index.TheVariants.{Zero, Two}
 use Rattle.dd_model.specs.Symbol.{Symbol, op}
 use Rattle.dd_invol.specs.Rows.{partial_of, Learns, Excludes, Commutes}
 use Rattle.dd_invol.proofs.Filling.{learns_from, excludes_from, on_true_from, on_false_from, KnowsBoth, forced_zero, forced_two, chamber_too}

@@ -1,5 +1,5 @@
 use Rattle.std.proofs.Common.{◌≡◌, ℕ, ◌+◌, ◌/◌, ◌%◌, ◌≤◌, max, length, ap, ◌∙◌, subst, arith}
-use Rattle.dd_model.specs.declared.parts.Index.{Index}
+use Rattle.dd_model.specs.declared.index.Index.{Index}
 use Rattle.dd_model.specs.Symbol.{op}
 use Rattle.dd_invol.specs.Places.{index_at}
 use Rattle.dd_invol.specs.FirstVisit.{greatest}

@@ -1,6 +1,6 @@
 use Rattle.std.proofs.Common.{◌+◌, ◌*◌, ◌<◌, refl, subst, inl, inr}
 use Rattle.dd_invol.specs.Rows.{partial_of}
-use Rattle.dd_model.specs.declared.parts.Pair.TheVariants.{Tile, Vertex}
+use Rattle.dd_model.specs.declared.pair.Pair.TheVariants.{Tile, Vertex}
 use Rattle.dd_shares.proofs.Bounds.{too_small}
 use Rattle.dd_shares.proofs.SideLemmas.{kept_total, none_sought}
 use Rattle.dd_shares.proofs.shares.Shares.exceeds.Goals as goal

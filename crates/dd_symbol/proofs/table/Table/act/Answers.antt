@@ -1,6 +1,6 @@
 use Rattle.std.proofs.Common.{◌+◌, drop, get_or, sym, ap, ◌∙◌}
 use Rattle.std.proofs.lemmas.List.{at_drop_more}
-use Rattle.dd_model.specs.declared.parts.Index.TheVariants.{Zero}
+use Rattle.dd_model.specs.declared.index.Index.TheVariants.{Zero}
 use Rattle.dd_model.specs.Symbol.{Word, act}
 use Rattle.dd_symbol.specs.Table.{symbol_of}
 use Rattle.dd_symbol.proofs.table.Table.act.Goals as goal

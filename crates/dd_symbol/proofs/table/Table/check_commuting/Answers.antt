@@ -1,5 +1,5 @@
 use Rattle.std.proofs.Common.{◌≡◌, ◌+◌, [], ◌∷◌, ap, ◌∙◌, arith}
-use Rattle.dd_model.specs.declared.parts.Pair.TheVariants.{Edge}
+use Rattle.dd_model.specs.declared.pair.Pair.TheVariants.{Edge}
 use Rattle.dd_model.specs.Symbol.{turn, act}
 use Rattle.dd_model.specs.Cell.{turned}
 use Rattle.dd_symbol.specs.Table.{symbol_of}

@@ -1,6 +1,6 @@
 use Rattle.std.proofs.Common.{◌≡◌, ◌+◌, ◌-◌, true, false, get_or, sym, ap, ◌∙◌, arith}
 use Rattle.std.proofs.lemmas.List.{get_or_read}
-use Rattle.dd_model.specs.Symbol.{IsReached}
+use Rattle.dd_model.specs.Connected.{IsReached}
 use Rattle.dd_symbol.specs.Table.{symbol_of}
 use Rattle.dd_symbol.specs.Walk.{IsMarked}
 use Rattle.dd_symbol.proofs.DegreeLemmas.{at_more}

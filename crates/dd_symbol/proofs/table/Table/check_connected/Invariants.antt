@@ -1,5 +1,6 @@
 use Rattle.std.proofs.Common.{ℕ, ◌≤◌}
-use Rattle.dd_model.specs.Symbol.{IsChamber, IsReached}
+use Rattle.dd_model.specs.Symbol.{IsChamber}
+use Rattle.dd_model.specs.Connected.{IsReached}
 use Rattle.dd_symbol.specs.Table.{symbol_of}
 use Rattle.dd_symbol.proofs.table.Table.check_connected.Given as goal
 

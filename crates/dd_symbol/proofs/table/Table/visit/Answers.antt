@@ -1,4 +1,4 @@
-use Rattle.dd_model.specs.declared.parts.Index.TheVariants.{Zero, One, Two}
+use Rattle.dd_model.specs.declared.index.Index.TheVariants.{Zero, One, Two}
 use Rattle.dd_symbol.specs.Table.{symbol_of}
 use Rattle.dd_symbol.proofs.WalkLemmas.{next_reached}
 use Rattle.dd_symbol.proofs.table.Table.visit.Goals as goal

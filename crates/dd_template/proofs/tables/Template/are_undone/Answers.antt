@@ -1,4 +1,4 @@
-use Rattle.dd_model.specs.declared.parts.Index.TheVariants.{Zero, One, Two}
+use Rattle.dd_model.specs.declared.index.Index.TheVariants.{Zero, One, Two}
 use Rattle.dd_template.specs.Table.{table_of}
 use Rattle.dd_template.specs.Lawful.{AreUndoneBy}
 use Rattle.dd_template.proofs.tables.Template.are_undone.Goals as goal

@@ -1,5 +1,5 @@
 use Rattle.std.proofs.Common.{◌≢◌, ℕ, ◌<◌, Some}
-use Rattle.dd_model.specs.declared.parts.Index.{Index}
+use Rattle.dd_model.specs.declared.index.Index.{Index}
 use Rattle.dd_template.specs.Table.{table_of, move}
 use Rattle.dd_template.proofs.tables.Template.is_used.Given as goal
 

@@ -1,5 +1,5 @@
 use Rattle.std.proofs.Common.{ℕ, ◌<◌}
-use Rattle.dd_model.specs.declared.parts.Index.{Index}
+use Rattle.dd_model.specs.declared.index.Index.{Index}
 use Rattle.dd_template.specs.Table.{table_of}
 use Rattle.dd_template.specs.Joined.{IsMet, LeadsToMet}
 use Rattle.dd_template.proofs.tables.Template.next.Given as goal

@@ -2,7 +2,7 @@ use Rattle.std.proofs.Common.{◌≡◌, ◌<◌, ℕ, List, length, map, sym, a
 use Rattle.std.specs.Prelude.{IfOk}
 use Rattle.dd_model.specs.Symbol.{item}
 use Rattle.dd_model.specs.Spelling.{values}
-use Rattle.dd_model.specs.declared.written.Numeral.{Numeral}
+use Rattle.dd_model.specs.declared.tokens.Numeral.{Numeral}
 use Rattle.dd_text.specs.Involutions.{table_of}
 use Rattle.dd_text.specs.Texts.{told_of}
 use Rattle.dd_text.specs.Images.{IsWithin}

@@ -1,5 +1,5 @@
 use Rattle.std.proofs.Common.{sym, ap, ◌∙◌, subst}
-use Rattle.dd_model.specs.declared.parts.Index.TheVariants.{Zero, One, Two}
+use Rattle.dd_model.specs.declared.index.Index.TheVariants.{Zero, One, Two}
 use Rattle.dd_model.specs.Symbol.{IsChamber, item}
 use Rattle.dd_text.specs.Involutions.{table_of}
 use Rattle.dd_text.proofs.involutions.Involutions.image.Goals as goal

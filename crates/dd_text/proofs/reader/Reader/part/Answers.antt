@@ -1,5 +1,5 @@
 use Rattle.std.proofs.Common.{ap, sym, ◌∙◌}
-use Rattle.dd_model.specs.declared.written.Part.TheVariants.{Sign, End}
+use Rattle.dd_model.specs.declared.tokens.Part.TheVariants.{Sign, End}
 use Rattle.dd_model.specs.Parts.{part_of}
 use Rattle.dd_text.specs.Reader.{cursor_of, step}
 use Rattle.dd_text.proofs.NextPart.{first_is, after_is, digit_part, digit_rest, sign_part_is, sign_rest, no_rest}

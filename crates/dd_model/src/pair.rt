@@ -1,33 +1,6 @@
 ghost use Rattle.std.specs.Prelude.{◌≡◌};
 
-use std::alloc::{AllocError, AllocFailed};
-
-/// Want of memory.
-#[derive(Debug, Clone, Copy, PartialEq, Eq)]
-pub struct Memory;
-
-impl From<AllocError> for Memory {
-    fn from(_: AllocError) -> Self {
-        Memory
-    }
-}
-
-impl<T: Drop> From<AllocFailed<T>> for Memory {
-    fn from(_: AllocFailed<T>) -> Self {
-        Memory
-    }
-}
-
-/// One of the three involutions.
-#[derive(Debug, Clone, Copy, PartialEq, Eq)]
-pub enum Index {
-    /// s0, which changes the vertex of a chamber.
-    Zero,
-    /// s1, which changes the edge of a chamber.
-    One,
-    /// s2, which changes the tile of a chamber.
-    Two,
-}
+use crate::Index;
 
 /// Two of the three involutions. Their orbits are the tiles, the vertices and the edges.
 #[derive(Debug, Clone, Copy, PartialEq, Eq)]
@@ -42,6 +15,9 @@ pub enum Pair {
 
 impl Pair {
     ghost use Rattle.dd_model.specs.Symbol.{first, second};
+
+    /// All three.
+    pub const ALL: [Pair; 3] = [Pair::Tile, Pair::Vertex, Pair::Edge];
 
     /// The first involution of the pair.
     pub fn first(self) -> Index

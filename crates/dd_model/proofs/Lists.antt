@@ -1,0 +1,55 @@
+-- Lists: their members, and lists of numbers.
+use Rattle.std.proofs.Common.{◌≡◌, ℕ, zero, suc, ◌⊎◌, List, [], ◌∷◌, get_or, map, replicate, refl, sym, ap, ◌∙◌, inl, inr, arith}
+use Rattle.std.proofs.lemmas.List.{get_or-map}
+use Rattle.std.proofs.lemmas.List.Elements.{All-from_recursion, All-contains}
+use Rattle.std.specs.List.{Contains, AllByRecursion}
+
+-- ## Members
+
+pub Contains-none : {A : Type 0} (x : A) → Contains [] x → ⊥
+Contains-none x (k, h, e) = absurd (omega arith)
+
+pub Contains-head : {A : Type 0} (x : A) (xs : List A) → Contains (x ∷ xs) x
+Contains-head x xs = (zero, omega arith, refl)
+
+pub Contains-later : {A : Type 0} (x y : A) (xs : List A) → Contains xs y → Contains (x ∷ xs) y
+Contains-later x y xs (k, h, e) = (suc k, omega arith, e)
+
+pub Contains-cases : {A : Type 0} (x y : A) (xs : List A) → Contains (x ∷ xs) y → (x ≡ y) ⊎ Contains xs y
+Contains-cases x y xs (zero, h, e) = inl e
+Contains-cases x y xs (suc k, h, e) = inr (k, omega arith, e)
+
+-- the member of a list of one
+pub Contains-one : {A : Type 0} (x y : A) → Contains (x ∷ []) y → x ≡ y
+Contains-one x y (zero, h, e) = e
+Contains-one x y (suc k, h, e) = absurd (omega arith)
+
+-- what holds of all holds of each member
+pub each_of : {A : Type 0} (P : A → Type 0) (xs : List A) (x : A) → AllByRecursion P xs → Contains xs x → P x
+each_of P xs x all there = All-contains P xs x (All-from_recursion P xs all) there
+
+-- what holds of each member holds of all
+pub all_from_members : {A : Type 0} (P : A → Type 0) (xs : List A) → ((x : A) → Contains xs x → P x) → AllByRecursion P xs
+all_from_members P [] each = tt
+all_from_members P (x ∷ xs) each = (each x (Contains-head x xs), all_from_members P xs (λ y there. each y (Contains-later x y xs there)))
+
+-- ## Parts and values
+
+pub cons_head : {A : Type 0} (x y : A) (xs ys : List A) → x ∷ xs ≡ y ∷ ys → x ≡ y
+cons_head x y xs ys e = cc
+
+pub cons_tail : {A : Type 0} (x y : A) (xs ys : List A) → x ∷ xs ≡ y ∷ ys → xs ≡ ys
+cons_tail x y xs ys e = cc
+
+-- two maps that make the same list are equal at each member
+pub map_at : (f g : ℕ → ℕ) (xs : List ℕ) → map f xs ≡ map g xs → (x : ℕ) → Contains xs x → f x ≡ g x
+map_at f g xs e x (k, h, is) =
+    let a : get_or (map f xs) k 0 ≡ f (get_or xs k x) = get_or-map f xs k x 0 h in
+    let b : get_or (map g xs) k 0 ≡ g (get_or xs k x) = get_or-map g xs k x 0 h in
+    ap f (sym is) ∙ sym a ∙ ap (λ ys. get_or ys k 0) e ∙ b ∙ ap g is
+
+-- at each place of a list of zeros, and past its end, is zero
+pub zero_at : (n k : ℕ) → ◌≡◌ {A = ℕ} (get_or (replicate n 0) k 0) 0
+zero_at zero k = refl
+zero_at (suc n) zero = refl
+zero_at (suc n) (suc k) = zero_at n k
