@@ -1,5 +1,5 @@
 -- How a table is read from numbers.
-use Rattle.std.proofs.Common.{◌≡◌, ℕ, zero, suc, ◌+◌, ◌*◌, ◌<◌, ◌≤◌, List, [], ◌∷◌, ◌++◌, length, get_or, map, refl, sym, ap, ◌∙◌, subst, ⊎_elim, arith}
+use Rattle.std.proofs.Common.{◌≡◌, ℕ, suc, ◌+◌, ◌*◌, ◌<◌, ◌≤◌, List, [], ◌∷◌, ◌++◌, length, get_or, map, refl, sym, ap, ◌∙◌, subst, ⊎_elim, arith}
 use Rattle.std.proofs.lemmas.Bool.{cases_lt}
 use Rattle.std.proofs.lemmas.List.{map_push}
 use Rattle.dd_model.specs.declared.index.Index.{Index}
@@ -12,6 +12,7 @@ use Rattle.dd_model.specs.Cell.{IsPeriod, turned}
 use Rattle.dd_model.specs.Lists.{Begins}
 use Rattle.dd_model.specs.Code.{code, count_from}
 use Rattle.dd_model.proofs.Turns.{turned-last, period_bound}
+use Rattle.dd_model.proofs.CountFrom.{count_from-more}
 use Rattle.dd_invol.specs.Places.{place}
 use Rattle.dd_invol.specs.Table.{AreChambers, ArePeriods, HaveSameInvolutions, HasNoTable, IsBareTable, IsTableOf, IsUnbranched, images_of, told}
 use Rattle.dd_invol.proofs.Ascending.{begins_at}
@@ -21,19 +22,12 @@ use Rattle.dd_invol.proofs.SameInvolutions.{chamber-same, involutions-same, conn
 use Rattle.dd_invol.proofs.Unbranched.{HasPeriods, unbranched_of_periods, small_of_periods}
 use Rattle.dd_symbol.specs.Building.{listed, HaveOneLength, IsAccepted}
 
-pub count_last : (k n : ℕ) → count_from k (n + 1) ≡ count_from k n ++ (k + n) ∷ []
-count_last k zero = let e : k ≡ k + 0 = omega arith in ap (λ x. x ∷ []) e
-count_last k (suc n) =
-    let e : k + 1 + n ≡ k + suc n = omega arith in
-    let f : suc n + 1 ≡ suc (n + 1) = omega arith in
-    ap (count_from k) f ∙ ap (λ xs. k ∷ xs) (count_last (k + 1) n ∙ ap (λ x. count_from (k + 1) n ++ x ∷ []) e)
-
 -- one image more
 pub images_more : (n : ℕ) (numbers : List ℕ) (i : Index) → images_of (n + 1) numbers i ≡ images_of n numbers i ++ get_or numbers (place i (n + 1)) 0 ∷ []
 unfolding images_of
 images_more n numbers i =
     let e : 1 + n ≡ n + 1 = omega arith in
-    ap (map (λ d. get_or numbers (place i d) 0)) (count_last 1 n)
+    ap (map (λ d. get_or numbers (place i d) 0)) (count_from-more 1 n)
     ∙ map_push (λ d. get_or numbers (place i d) 0) (count_from 1 n) (1 + n)
     ∙ ap (λ d. map (λ d. get_or numbers (place i d) 0) (count_from 1 n) ++ get_or numbers (place i d) 0 ∷ []) e
 

@@ -2,8 +2,7 @@
 use Rattle.std.proofs.Common.{◌≡◌, ◌≢◌, ◌↔◌, IsTrue, leb, Option, Some, None, MatchOption, ℕ, ◌+◌, ◌*◌, ◌<◌, ◌≤◌, List, [], ◌∷◌, ◌++◌, length, get_or, refl, sym, ap, ◌∙◌, subst, inl, inr, ⊎_elim, arith}
 use Rattle.std.proofs.lemmas.Bool.{cases_lt, cases_eq}
 use Rattle.std.proofs.lemmas.List.{ext_get_or, get_or_append_left, append_assoc}
-use Rattle.std.proofs.lemmas.Cmp.{nat_list_cmp_total}
-use Rattle.std.specs.Ordering.{nat_cmp, ordering_reverse}
+use Rattle.std.specs.Ordering.{nat_cmp}
 use Rattle.std.specs.Cmp.Lexicographic.{slice_cmp}
 use Rattle.std.specs.declared.cmp.Ordering.TheVariants.{Less, Greater}
 use borrow.Author.Tests.{leb-true, le-leb}
@@ -22,6 +21,7 @@ use Rattle.dd_model.specs.declared.jobs.Job.{Job}
 use Rattle.dd_model.specs.declared.requests.Request.{Request}
 use Rattle.dd_model.proofs.Codes.{length-flat_images}
 use Rattle.dd_model.proofs.LeastForms.{not_above}
+use Rattle.dd_model.proofs.Orders.{list_not_below_both}
 use Rattle.dd_invol.specs.Orderly.{IsOrderly}
 use Rattle.dd_invol.specs.Stem.{Any, prefix_of, size_of}
 use Rattle.dd_invol.specs.Table.{HaveSameInvolutions, HasNoTable, IsTableOf}
@@ -176,13 +176,10 @@ none_sought q job bound t read other s is past = other (subst (IsSought q) (only
 
 -- ## The least next number
 
-reversed : (xs ys : List ℕ) → slice_cmp nat_cmp xs ys ≡ Less → slice_cmp nat_cmp ys xs ≡ Less → ⊥
-reversed xs ys a b = let e = nat_list_cmp_total.antisymm xs ys in let f = ap ordering_reverse b in let g : Less ≡ Greater = sym a ∙ e ∙ f in (cc)
-
 pub least_after : (prefix bound : List ℕ) → length prefix < length bound → Begins prefix bound → IsLeastNext prefix bound (get_or bound (length prefix) 0)
 least_after prefix bound low begins xs there space past =
     ⊎_elim
-    (λ less. absurd (reversed bound xs past (less_at xs bound (length prefix) (agree_from prefix xs bound there begins) space low less)))
+    (λ less. absurd (list_not_below_both bound xs past (less_at xs bound (length prefix) (agree_from prefix xs bound there begins) space low less)))
     (λ more. more)
     (cases_lt (get_or xs (length prefix) 0) (get_or bound (length prefix) 0))
 
