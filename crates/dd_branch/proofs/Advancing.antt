@@ -10,6 +10,7 @@ use Rattle.dd_model.specs.declared.requests.Request.{Request}
 use Rattle.dd_model.specs.Symbol.{Symbol}
 use Rattle.dd_model.specs.Code.{code}
 use Rattle.dd_model.specs.Wanted.{IsMember}
+use Rattle.dd_model.proofs.Lists.{Contains-one}
 use Rattle.dd_invol.specs.Under.{IsUnder, AreUnder, HasNoNumberFrom, SkipsTo, Appends, next_number}
 use Rattle.dd_invol.proofs.Prefixes.{shortened}
 use Rattle.dd_branch.specs.Choice.{IsChoice, HasNoChoiceFrom, IsLeastChoice}
@@ -182,13 +183,7 @@ few_turns a is j x at room item =
 
 -- ## Leaves
 
-only : (c s : Symbol) → Contains (c ∷ []) s → c ≡ s
-only c s (u, low, e) = let first : u ≡ 0 = omega arith in sym (ap (λ k. slot k) first) ∙ e
-  where
-    slot : ℕ → Symbol
-    slot k = get_or (c ∷ []) k s
-
--- the member under a whole prefix is the only one
+-- the member under a whole prefix is the Contains-one one
 pub appends_member : (q : Request) (n : ℕ) (prefix : List ℕ) (old new : List Symbol) (c : Symbol) → length prefix ≡ 5 * n → IsUnder (IsMember q) n prefix c → new ≡ old ++ c ∷ []
     → Appends (AreUnder (IsMember q) n prefix) old new
 appends_member q n prefix old new c whole under longer = record {
@@ -197,7 +192,7 @@ appends_member q n prefix old new c whole under longer = record {
   holds = record {
     ascending = (tt, tt);
     members = λ s. (
-      (λ there. subst (IsUnder (IsMember q) n prefix) (only c s there) under),
+      (λ there. subst (IsUnder (IsMember q) n prefix) (Contains-one c s there) under),
       (λ other.
           let same : c ≡ s = symbol_of_prefix (IsMember q) n prefix c under whole ∙ sym (symbol_of_prefix (IsMember q) n prefix s other whole) in
           subst (Contains (c ∷ [])) same (0, omega arith, refl)),

@@ -1,11 +1,12 @@
 -- What an assignment tells of the members under it.
-use Rattle.std.proofs.Common.{⊎_elim, ◌/◌, ◌≡◌, ℕ, zero, suc, ◌+◌, ◌-◌, ◌*◌, ◌<◌, ◌≤◌, List, [], ◌∷◌, ◌++◌, length, get_or, take, drop, map, refl, sym, ap, ◌∙◌, subst, arith}
+use Rattle.std.proofs.Common.{⊎_elim, ◌/◌, ◌≡◌, ℕ, ◌+◌, ◌-◌, ◌*◌, ◌<◌, ◌≤◌, List, [], ◌∷◌, ◌++◌, length, get_or, take, drop, map, refl, sym, ap, ◌∙◌, subst, arith}
 use Rattle.std.proofs.lemmas.Bool.{cases_lt}
 use Rattle.std.proofs.lemmas.List.{append_assoc, get_or-append_right, map-append}
 use Rattle.dd_model.specs.Symbol.{Symbol}
 use Rattle.dd_model.specs.Code.{code, all_images, count_from}
 use Rattle.dd_model.specs.Wanted.{IsMember}
 use Rattle.dd_model.proofs.Codes.{length-flat_images}
+use Rattle.dd_model.proofs.CountFrom.{count_from-more}
 use Rattle.dd_symbol.specs.Table.{column, part}
 use Rattle.dd_shares.proofs.Bounds.{rounded, rounded_small}
 use Rattle.dd_invol.specs.Under.{IsUnder}
@@ -60,10 +61,6 @@ part_small xs m parts small = ⊎_elim
 
 -- ## Lists that are read from a prefix
 
-count_more : (k n : ℕ) → count_from k (suc n) ≡ count_from k n ++ (k + n) ∷ []
-count_more k zero = let e : k ≡ k + 0 = omega arith in ap (λ j. j ∷ []) e
-count_more k (suc n) = let e : k + 1 + n ≡ k + suc n = omega arith in ap (λ xs. k ∷ xs) (count_more (k + 1) n ∙ ap (λ j. count_from (k + 1) n ++ j ∷ []) e)
-
 pub no_column : (xs : List ℕ) (i : ℕ) → [] ≡ column xs i 0
 unfolding column
 no_column xs i = refl
@@ -71,10 +68,8 @@ no_column xs i = refl
 pub column_more : (xs : List ℕ) (i k : ℕ) → column xs i (k + 1) ≡ column xs i k ++ get_or xs (3 * k + i) 0 ∷ []
 unfolding column
 column_more xs i k =
-    let next : k + 1 ≡ suc k = omega arith in
     let here : 0 + k ≡ k = omega arith in
-    ap (λ n. map (λ j. get_or xs (3 * j + i) 0) (count_from 0 n)) next
-    ∙ ap (map (λ j. get_or xs (3 * j + i) 0)) (count_more 0 k)
+    ap (map (λ j. get_or xs (3 * j + i) 0)) (count_from-more 0 k)
     ∙ map-append (λ j. get_or xs (3 * j + i) 0) (count_from 0 k) ((0 + k) ∷ [])
     ∙ ap (λ j. map (λ j. get_or xs (3 * j + i) 0) (count_from 0 k) ++ get_or xs (3 * j + i) 0 ∷ []) here
 

@@ -11,6 +11,7 @@ use Rattle.dd_model.specs.Lists.{Begins}
 use Rattle.dd_model.specs.Code.{code}
 use Rattle.dd_model.specs.Wanted.{Wanted, IsMember}
 use Rattle.dd_model.proofs.Codes.{same_items}
+use Rattle.dd_model.proofs.Numbers.{quotient_bound}
 use Rattle.dd_symbol.specs.Table.{column, part, symbol_with}
 use Rattle.dd_symbol.specs.Building.{listed, HaveOneLength, IsAccepted}
 use Rattle.dd_symbol.proofs.TableLemmas.{length-column, item-column, item-first, length-part, item-part, code-symbol_with}
@@ -83,10 +84,7 @@ member_under q n prefix c whole is member =
 small_branching : (q : Request) (s : Symbol) → Wanted q s → (p : Pair) (d v : ℕ) → IsChamber s d → IsBranching s p d v → v ≤ 30
 small_branching q s wanted Tile d v h b = let high = (value_of v (wanted.face_branching d v h b)).high in omega (arith, high)
 small_branching q s wanted Vertex d v h b = let high = (value_of v (wanted.vertex_branching d v h b)).high in omega (arith, high)
-small_branching q s wanted Edge d v h b = factor v b.r b.least_turns.positive b.quotient
-  where
-    factor : (v r : ℕ) → 1 ≤ r → v * r ≡ 2 → v ≤ 30
-    factor v r pos e = grind arith
+small_branching q s wanted Edge d v h b = quotient_bound v b.r b.least_turns.positive b.quotient
 
 -- members are accepted
 pub accepted : (q : Request) (s : Symbol) → IsMember q s → s.size ≤ 36 → IsAccepted 36 s

@@ -222,7 +222,6 @@ impl Assignment {
         requires { symbol.now.size ≤ 36 }
         ensures { IfOk result (λ prefix. prefix.items ≡ take (3 * symbol.now.size) (code symbol.now)) }
     {
-        symbol.known();
         let numbers = symbol.code(alloc)?;
         let mut prefix = ArrayVec::new();
         for k in 0..3 * symbol.size() as usize {
@@ -236,12 +235,11 @@ impl Assignment {
         requires { table.now.size ≤ 36 }
         ensures { IfOk result (λ a. IsBeginning q.now table.now a) }
     {
-        table.known();
         let symbol = table.symbol();
         let prefix = Assignment::images_of(alloc, symbol)?;
         let mut places = ArrayVec::new();
-        add_places(&mut places, symbol, &q.faces, Pair::Tile);
-        add_places(&mut places, symbol, &q.degrees, Pair::Vertex);
+        add_places(&mut places, table, &q.faces, Pair::Tile);
+        add_places(&mut places, table, &q.degrees, Pair::Vertex);
         let mut sums = ArrayVec::new();
         sums.push(0);
         Ok(Assignment {

@@ -1,5 +1,5 @@
 -- What was exchanged can be taken back.
-use Rattle.std.proofs.Common.{◌≡◌, ℕ, zero, suc, ◌+◌, ◌-◌, ◌*◌, ◌/◌, ◌<◌, ◌≤◌, ◌⊎◌, IsTrue, List, [], ◌∷◌, ◌++◌, length, length-append, get_or, replicate, set, take, min, refl, sym, ap, ◌∙◌, subst, inl, inr, ⊎_elim, arith}
+use Rattle.std.proofs.Common.{◌≡◌, ℕ, suc, ◌+◌, ◌-◌, ◌*◌, ◌/◌, ◌<◌, ◌≤◌, ◌⊎◌, IsTrue, List, [], ◌∷◌, ◌++◌, length, length-append, get_or, replicate, set, take, min, refl, sym, ap, ◌∙◌, subst, inl, inr, ⊎_elim, arith}
 use Rattle.std.proofs.lemmas.Bool.{cases_lt}
 use Rattle.std.proofs.lemmas.List.{set-set, set-get_or}
 use Rattle.std.proofs.lemmas.Option.{slice_get-get_or}
@@ -103,11 +103,6 @@ start_share q P p den pos least d low high s sought =
 -- so many zeros
 abbrev pub zeros : ℕ → List ℕ
 zeros m = replicate m 0
-
-pub zero_at : (m t : ℕ) → get_or (zeros m) t 0 ≡ 0
-zero_at zero t = refl
-zero_at (suc m) zero = refl
-zero_at (suc m) (suc t) = zero_at m t
 
 -- the total as it is kept
 pub kept_total : (q : Request) (P : Symbol) (p : Pair) (side : Side) → (p ≡ Tile) ⊎ (p ≡ Vertex) → IsSide q P p side → IsTotal q P p share_unit side.total

@@ -2,9 +2,10 @@ use Rattle.std.proofs.Common.{◌≡◌, ℕ, ◌-◌, ◌<◌, length, length-s
 use Rattle.std.proofs.lemmas.Bool.{cases_eq}
 use Rattle.std.proofs.lemmas.List.{get_or-set_same, get_or-set_other}
 use Rattle.std.proofs.lemmas.List.Sums.{sum_by-set}
+use Rattle.dd_model.proofs.Lists.{zero_at}
 use Rattle.dd_shares.specs.Shares.{IsShare}
 use Rattle.dd_shares.specs.Units.{share_unit}
-use Rattle.dd_shares.proofs.SideLemmas.{start_share, zero_at}
+use Rattle.dd_shares.proofs.SideLemmas.{start_share}
 use Rattle.dd_shares.proofs.sides.Side.start.Goals as goal
 
 pub loop-k-init : goal.loop-k-init
