@@ -10,39 +10,40 @@ use Rattle.dd_model.specs.declared.requests.Request.{Request}
 use Rattle.dd_model.specs.Symbol.{Symbol}
 use Rattle.dd_model.specs.Code.{code}
 use Rattle.dd_model.specs.Wanted.{IsMember}
+use Rattle.dd_model.proofs.Lists.{Contains-one}
 use Rattle.dd_invol.specs.Under.{IsUnder, AreUnder, HasNoNumberFrom, SkipsTo, Appends, next_number}
 use Rattle.dd_invol.proofs.Prefixes.{shortened}
 use Rattle.dd_branch.specs.Choice.{IsChoice, HasNoChoiceFrom, IsLeastChoice}
-use Rattle.dd_branch.specs.Parts.{AreParts}
+use Rattle.dd_branch.specs.Reciprocals.{AreReciprocals}
 use Rattle.dd_branch.specs.Rests.{AreRests}
 use Rattle.dd_branch.specs.Assignment.{IsAssignment, AreSums, IsSound, Fits, degree_at, prefix_of, told}
 use Rattle.dd_branch.specs.declared.assignment.Assignment.{Assignment}
 use Rattle.dd_branch.specs.declared.places.Place.{Place}
 use Rattle.dd_branch.proofs.Assigned.{code_degree, told_degree}
 use Rattle.dd_branch.proofs.Choices.{value_of}
-use Rattle.dd_branch.proofs.Leaves.{symbol_of_prefix}
+use Rattle.dd_branch.proofs.WholePrefixes.{symbol_of_prefix}
 
 -- the sum of the parts goes on by the part of the number
-grown_sums : (a b : Assignment) (number : ℕ) → IsAssignment a → b.size ≡ a.size → b.parts ≡ a.parts → prefix_of b ≡ prefix_of a ++ number ∷ []
-    → b.sums.items ≡ a.sums.items ++ (get_or a.sums.items (told a) 0 + get_or a.parts number 0) ∷ [] → AreSums b
+grown_sums : (a b : Assignment) (number : ℕ) → IsAssignment a → b.size ≡ a.size → b.reciprocals ≡ a.reciprocals → prefix_of b ≡ prefix_of a ++ number ∷ []
+    → b.sums.items ≡ a.sums.items ++ (get_or a.sums.items (told a) 0 + get_or a.reciprocals number 0) ∷ [] → AreSums b
 grown_sums a b number is size parts longer sums =
-    let sum = get_or a.sums.items (told a) 0 + get_or a.parts number 0 in
+    let sum = get_or a.sums.items (told a) 0 + get_or a.reciprocals number 0 in
     let long : length (prefix_of b) ≡ length (prefix_of a) + 1 = ap length longer ∙ length_push (prefix_of a) number in
     let count : length b.sums.items ≡ length a.sums.items + 1 = ap length sums ∙ length_push a.sums.items sum in
     let before = is.sums.count in
     let images = is.images in
     let kept : (j : ℕ) → j ≤ told a → get_or b.sums.items j 0 ≡ get_or a.sums.items j 0 = λ j low.
     ap (λ xs. get_or xs j 0) sums ∙ get_or_append_left a.sums.items (sum ∷ []) 0 j (omega (arith, low, before)) in
-    let own : (j : ℕ) → get_or b.parts (get_or (prefix_of b) (3 * b.size + j) 0) 0 ≡ get_or a.parts (get_or (prefix_of a ++ number ∷ []) (3 * a.size + j) 0) 0 = λ j.
+    let own : (j : ℕ) → get_or b.reciprocals (get_or (prefix_of b) (3 * b.size + j) 0) 0 ≡ get_or a.reciprocals (get_or (prefix_of a ++ number ∷ []) (3 * a.size + j) 0) 0 = λ j.
     ap (λ xs. get_or xs (get_or (prefix_of b) (3 * b.size + j) 0) 0) parts
-    ∙ ap (λ xs. get_or a.parts (get_or xs (3 * b.size + j) 0) 0) longer
-    ∙ ap (λ n. get_or a.parts (get_or (prefix_of a ++ number ∷ []) (3 * n + j) 0) 0) size in
+    ∙ ap (λ xs. get_or a.reciprocals (get_or xs (3 * b.size + j) 0) 0) longer
+    ∙ ap (λ n. get_or a.reciprocals (get_or (prefix_of a ++ number ∷ []) (3 * n + j) 0) 0) size in
     record {
       count = omega (arith, count, before, long, size, images);
       none = kept 0 (omega arith) ∙ is.sums.none;
       each = λ j low. ⊎_elim
           (λ early.
-          let part = ap (λ m. get_or a.parts m 0) (get_or_append_left (prefix_of a) (number ∷ []) 0 (3 * a.size + j) (omega (arith, early))) in
+          let part = ap (λ m. get_or a.reciprocals m 0) (get_or_append_left (prefix_of a) (number ∷ []) 0 (3 * a.size + j) (omega (arith, early))) in
           let step = is.sums.each j early in
           let next = kept (j + 1) (omega (arith, early)) in
           let here = kept j (omega (arith, early)) in
@@ -53,7 +54,7 @@ grown_sums a b number is size parts longer sums =
           let end : length a.sums.items ≡ j + 1 = omega (arith, at, before) in
           let next : get_or b.sums.items (j + 1) 0 ≡ sum = ap (λ xs. get_or xs (j + 1) 0) sums ∙ get_or_push a.sums.items sum 0 (j + 1) end in
           let here = kept j (omega (arith, at)) ∙ ap (λ k. get_or a.sums.items k 0) at in
-          let part = ap (λ m. get_or a.parts m 0) (get_or_push (prefix_of a) number 0 (3 * a.size + j) (omega (arith, at, images))) in
+          let part = ap (λ m. get_or a.reciprocals m 0) (get_or_push (prefix_of a) number 0 (3 * a.size + j) (omega (arith, at, images))) in
           let same = own j in
           omega (arith, next, here, same, part))
           (cases_lt j (told a));
@@ -61,8 +62,8 @@ grown_sums a b number is size parts longer sums =
 
 -- a number more
 pub grown : (a b : Assignment) (number : ℕ) → IsAssignment a → length (prefix_of a) < 5 * a.size → number ≤ 216
-    → b.request ≡ a.request → b.size ≡ a.size → b.parts ≡ a.parts → b.places ≡ a.places → b.rests ≡ a.rests → prefix_of b ≡ prefix_of a ++ number ∷ []
-    → b.sums.items ≡ a.sums.items ++ (get_or a.sums.items (told a) 0 + get_or a.parts number 0) ∷ [] → IsAssignment b
+    → b.request ≡ a.request → b.size ≡ a.size → b.reciprocals ≡ a.reciprocals → b.places ≡ a.places → b.rests ≡ a.rests → prefix_of b ≡ prefix_of a ++ number ∷ []
+    → b.sums.items ≡ a.sums.items ++ (get_or a.sums.items (told a) 0 + get_or a.reciprocals number 0) ∷ [] → IsAssignment b
 grown a b number is room small request size parts places rests longer sums =
     let long : length (prefix_of b) ≡ length (prefix_of a) + 1 = ap length longer ∙ length_push (prefix_of a) number in
     let items = ap (λ p. p.items) places in
@@ -78,7 +79,7 @@ grown a b number is room small request size parts places rests longer sums =
           (λ early. subst (λ x. x ≤ 216) (sym (get_or_append_left (prefix_of a) (number ∷ []) 0 t early)) (is.numbers t early))
           (λ late. subst (λ x. x ≤ 216) (sym (get_or_push (prefix_of a) number 0 t (omega (arith, late, low, long)))) small)
           (cases_lt t (length (prefix_of a))));
-      parts = subst AreParts (sym parts) is.parts;
+      reciprocals = subst AreReciprocals (sym parts) is.reciprocals;
       places = ap length items ∙ is.places ∙ ap (λ n. 2 * n) (sym size);
       rests = subst (λ xs. AreRests xs b.rests) (sym items) (subst (AreRests a.places.items) (sym rests) is.rests);
       sums = grown_sums a b number is size parts longer sums;
@@ -95,7 +96,7 @@ grown a b number is room small request size parts places rests longer sums =
 
 -- the assignment with other numbers and sums
 abbrev pub with_lists : Assignment → List ℕ → List ℕ → Assignment
-with_lists a prefix sums = record { alloc = a.alloc; request = a.request; size = a.size; parts = a.parts; places = a.places; rests = a.rests; prefix = record { items = prefix }; sums = record { items = sums } }
+with_lists a prefix sums = record { alloc = a.alloc; request = a.request; size = a.size; reciprocals = a.reciprocals; places = a.places; rests = a.rests; prefix = record { items = prefix }; sums = record { items = sums } }
 
 -- what was put in last is taken away
 pub ungrown : (a : Assignment) (prefix sums : List ℕ) (number sum : ℕ) → IsAssignment a → prefix ≡ prefix_of a ++ number ∷ [] → sums ≡ a.sums.items ++ sum ∷ []
@@ -182,13 +183,7 @@ few_turns a is j x at room item =
 
 -- ## Leaves
 
-only : (c s : Symbol) → Contains (c ∷ []) s → c ≡ s
-only c s (u, low, e) = let first : u ≡ 0 = omega arith in sym (ap (λ k. slot k) first) ∙ e
-  where
-    slot : ℕ → Symbol
-    slot k = get_or (c ∷ []) k s
-
--- the member under a whole prefix is the only one
+-- the member under a whole prefix is the Contains-one one
 pub appends_member : (q : Request) (n : ℕ) (prefix : List ℕ) (old new : List Symbol) (c : Symbol) → length prefix ≡ 5 * n → IsUnder (IsMember q) n prefix c → new ≡ old ++ c ∷ []
     → Appends (AreUnder (IsMember q) n prefix) old new
 appends_member q n prefix old new c whole under longer = record {
@@ -197,7 +192,7 @@ appends_member q n prefix old new c whole under longer = record {
   holds = record {
     ascending = (tt, tt);
     members = λ s. (
-      (λ there. subst (IsUnder (IsMember q) n prefix) (only c s there) under),
+      (λ there. subst (IsUnder (IsMember q) n prefix) (Contains-one c s there) under),
       (λ other.
           let same : c ≡ s = symbol_of_prefix (IsMember q) n prefix c under whole ∙ sym (symbol_of_prefix (IsMember q) n prefix s other whole) in
           subst (Contains (c ∷ [])) same (0, omega arith, refl)),

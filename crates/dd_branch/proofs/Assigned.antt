@@ -1,16 +1,17 @@
 -- What an assignment tells of the members under it.
-use Rattle.std.proofs.Common.{⊎_elim, ◌/◌, ◌≡◌, ℕ, zero, suc, ◌+◌, ◌-◌, ◌*◌, ◌<◌, ◌≤◌, List, [], ◌∷◌, ◌++◌, length, get_or, take, drop, map, refl, sym, ap, ◌∙◌, subst, arith}
+use Rattle.std.proofs.Common.{⊎_elim, ◌/◌, ◌≡◌, ℕ, ◌+◌, ◌-◌, ◌*◌, ◌<◌, ◌≤◌, List, [], ◌∷◌, ◌++◌, length, get_or, take, drop, map, refl, sym, ap, ◌∙◌, subst, arith}
 use Rattle.std.proofs.lemmas.Bool.{cases_lt}
 use Rattle.std.proofs.lemmas.List.{append_assoc, get_or-append_right, map-append}
 use Rattle.dd_model.specs.Symbol.{Symbol}
 use Rattle.dd_model.specs.Code.{code, all_images, count_from}
 use Rattle.dd_model.specs.Wanted.{IsMember}
 use Rattle.dd_model.proofs.Codes.{length-flat_images}
+use Rattle.dd_model.proofs.CountFrom.{count_from-more}
 use Rattle.dd_symbol.specs.Table.{column, part}
 use Rattle.dd_shares.proofs.Bounds.{rounded, rounded_small}
 use Rattle.dd_invol.specs.Under.{IsUnder}
 use Rattle.dd_invol.proofs.Ascending.{begins_at}
-use Rattle.dd_branch.specs.Parts.{whole, AreParts}
+use Rattle.dd_branch.specs.Reciprocals.{degree_unit, AreReciprocals}
 use Rattle.dd_branch.specs.Assignment.{degree_at, prefix_of, told}
 use Rattle.dd_branch.specs.declared.assignment.Assignment.{Assignment}
 
@@ -31,38 +32,34 @@ pub inside_told : (a : Assignment) (j : ℕ) → j < told a → 3 * a.size + j <
 inside_told a j low = omega arith
 
 -- the part of a degree that is told is a share
-pub upper_told : (a : Assignment) → AreParts a.parts → (j share : ℕ) → j < told a → get_or (prefix_of a) (3 * a.size + j) 0 ≤ 216 → share ≡ get_or a.parts (get_or (prefix_of a) (3 * a.size + j) 0) 0
-    → (s : Symbol) → IsUnder (IsMember a.request) a.size (prefix_of a) s → 1 ≤ degree_at s j → whole ≤ (share + 1) * degree_at s j
+pub upper_told : (a : Assignment) → AreReciprocals a.reciprocals → (j share : ℕ) → j < told a → get_or (prefix_of a) (3 * a.size + j) 0 ≤ 216 → share ≡ get_or a.reciprocals (get_or (prefix_of a) (3 * a.size + j) 0) 0
+    → (s : Symbol) → IsUnder (IsMember a.request) a.size (prefix_of a) s → 1 ≤ degree_at s j → degree_unit ≤ (share + 1) * degree_at s j
 upper_told a parts j share low small is s under pos =
     let m = get_or (prefix_of a) (3 * a.size + j) 0 in
     let same : degree_at s j ≡ m = told_degree (IsMember a.request) a.size (prefix_of a) s j under (inside_told a j low) in
     let some : 1 ≤ m = subst (λ x. 1 ≤ x) same pos in
-    let up : whole + 1 ≤ (whole / m + 1) * m = rounded whole m m some (omega arith) in
-    subst (λ x. whole ≤ (share + 1) * x) (sym same) (subst (λ x. whole ≤ (x + 1) * m) (sym (is ∙ parts.each m some small)) (omega (arith, up)))
+    let up : degree_unit + 1 ≤ (degree_unit / m + 1) * m = rounded degree_unit m m some (omega arith) in
+    subst (λ x. degree_unit ≤ (share + 1) * x) (sym same) (subst (λ x. degree_unit ≤ (x + 1) * m) (sym (is ∙ parts.each m some small)) (omega (arith, up)))
 
 floor : (L m : ℕ) → L / m * m ≤ L
 floor L m = grind arith
 
-pub lower_told : (a : Assignment) → AreParts a.parts → (j share : ℕ) → j < told a → get_or (prefix_of a) (3 * a.size + j) 0 ≤ 216 → share ≡ get_or a.parts (get_or (prefix_of a) (3 * a.size + j) 0) 0
-    → (s : Symbol) → IsUnder (IsMember a.request) a.size (prefix_of a) s → 1 ≤ degree_at s j → share * degree_at s j ≤ whole
+pub lower_told : (a : Assignment) → AreReciprocals a.reciprocals → (j share : ℕ) → j < told a → get_or (prefix_of a) (3 * a.size + j) 0 ≤ 216 → share ≡ get_or a.reciprocals (get_or (prefix_of a) (3 * a.size + j) 0) 0
+    → (s : Symbol) → IsUnder (IsMember a.request) a.size (prefix_of a) s → 1 ≤ degree_at s j → share * degree_at s j ≤ degree_unit
 lower_told a parts j share low small is s under pos =
     let m = get_or (prefix_of a) (3 * a.size + j) 0 in
     let same : degree_at s j ≡ m = told_degree (IsMember a.request) a.size (prefix_of a) s j under (inside_told a j low) in
     let some : 1 ≤ m = subst (λ x. 1 ≤ x) same pos in
-    subst (λ x. share * x ≤ whole) (sym same) (subst (λ x. x * m ≤ whole) (sym (is ∙ parts.each m some small)) (floor whole m))
+    subst (λ x. share * x ≤ degree_unit) (sym same) (subst (λ x. x * m ≤ degree_unit) (sym (is ∙ parts.each m some small)) (floor degree_unit m))
 
--- parts are no greater than the whole
-pub part_small : (xs : List ℕ) (m : ℕ) → AreParts xs → m ≤ 216 → get_or xs m 0 ≤ whole
+-- parts are no greater than the degree_unit
+pub part_small : (xs : List ℕ) (m : ℕ) → AreReciprocals xs → m ≤ 216 → get_or xs m 0 ≤ degree_unit
 part_small xs m parts small = ⊎_elim
-    (λ none. let e : 0 ≡ m = omega (arith, none) in subst (λ k. get_or xs k 0 ≤ whole) e (let z = parts.none in omega (arith, z)))
-    (λ some. subst (λ x. x ≤ whole) (sym (parts.each m some small)) (rounded_small whole m some))
+    (λ none. let e : 0 ≡ m = omega (arith, none) in subst (λ k. get_or xs k 0 ≤ degree_unit) e (let z = parts.none in omega (arith, z)))
+    (λ some. subst (λ x. x ≤ degree_unit) (sym (parts.each m some small)) (rounded_small degree_unit m some))
     (cases_lt m 1)
 
 -- ## Lists that are read from a prefix
-
-count_more : (k n : ℕ) → count_from k (suc n) ≡ count_from k n ++ (k + n) ∷ []
-count_more k zero = let e : k ≡ k + 0 = omega arith in ap (λ j. j ∷ []) e
-count_more k (suc n) = let e : k + 1 + n ≡ k + suc n = omega arith in ap (λ xs. k ∷ xs) (count_more (k + 1) n ∙ ap (λ j. count_from (k + 1) n ++ j ∷ []) e)
 
 pub no_column : (xs : List ℕ) (i : ℕ) → [] ≡ column xs i 0
 unfolding column
@@ -71,10 +68,8 @@ no_column xs i = refl
 pub column_more : (xs : List ℕ) (i k : ℕ) → column xs i (k + 1) ≡ column xs i k ++ get_or xs (3 * k + i) 0 ∷ []
 unfolding column
 column_more xs i k =
-    let next : k + 1 ≡ suc k = omega arith in
     let here : 0 + k ≡ k = omega arith in
-    ap (λ n. map (λ j. get_or xs (3 * j + i) 0) (count_from 0 n)) next
-    ∙ ap (map (λ j. get_or xs (3 * j + i) 0)) (count_more 0 k)
+    ap (map (λ j. get_or xs (3 * j + i) 0)) (count_from-more 0 k)
     ∙ map-append (λ j. get_or xs (3 * j + i) 0) (count_from 0 k) ((0 + k) ∷ [])
     ∙ ap (λ j. map (λ j. get_or xs (3 * j + i) 0) (count_from 0 k) ++ get_or xs (3 * j + i) 0 ∷ []) here
 

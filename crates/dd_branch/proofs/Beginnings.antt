@@ -22,7 +22,7 @@ use Rattle.dd_invol.proofs.Places.{length-code, chamber_at}
 use Rattle.dd_invol.proofs.SameInvolutions.{in_cell-same, least_turns-same}
 use Rattle.dd_invol.proofs.TableFronts.{front_same, front_begins, begins_with_take}
 use Rattle.dd_branch.specs.Choice.{IsChoice}
-use Rattle.dd_branch.specs.Parts.{whole, AreParts}
+use Rattle.dd_branch.specs.Reciprocals.{degree_unit, AreReciprocals}
 use Rattle.dd_branch.specs.Place.{IsPlaceOf, HasPlaces}
 use Rattle.dd_branch.specs.Rests.{AreRests}
 use Rattle.dd_branch.specs.Assignment.{IsBeginning, IsSound, Fits, degree_at, prefix_of}
@@ -80,8 +80,8 @@ tile_fits q t s d j x member same place h at =
       same = here ∙ sym (root_same t s q.faces Tile 0 d x is same place h) ∙ sym there;
       tile = λ low. subst (IsChoice q.faces x.turns) (sym here) choice;
       vertex = λ high. absurd (let low = h.0 in let up = h.1 in omega (arith, high, at, low, up));
-      most = subst (λ m. whole ≤ x.most * m) (sym here) (place.shares.upper (item s.m01 d) choice);
-      least = subst (λ m. x.least * m ≤ whole) (sym here) (place.shares.lower (item s.m01 d) choice);
+      most = subst (λ m. degree_unit ≤ x.most * m) (sym here) (place.shares.upper (item s.m01 d) choice);
+      least = subst (λ m. x.least * m ≤ degree_unit) (sym here) (place.shares.lower (item s.m01 d) choice);
     }
 
 pub vertex_fits : (q : Request) (t s : Symbol) (first d j : ℕ) (x : Place) → IsMember q s → HaveSameInvolutions t s → first ≡ s.size → IsPlaceOf t q.degrees Vertex first d x → IsChamber s d → j ≡ first + (d - 1)
@@ -99,8 +99,8 @@ vertex_fits q t s first d j x member same front place h at =
       same = here ∙ sym (root_same t s q.degrees Vertex first d x is same place h) ∙ sym there;
       tile = λ low. absurd (omega (arith, low, at, front));
       vertex = λ high. subst (IsChoice q.degrees x.turns) (sym here) choice;
-      most = subst (λ m. whole ≤ x.most * m) (sym here) (place.shares.upper (item s.m12 d) choice);
-      least = subst (λ m. x.least * m ≤ whole) (sym here) (place.shares.lower (item s.m12 d) choice);
+      most = subst (λ m. degree_unit ≤ x.most * m) (sym here) (place.shares.upper (item s.m12 d) choice);
+      least = subst (λ m. x.least * m ≤ degree_unit) (sym here) (place.shares.lower (item s.m12 d) choice);
     }
 
 sound_of : (t : Symbol) (set : Allowed) (p : Pair) (first d j : ℕ) (x : Place) → IsPlaceOf t set p first d x → first + d ≡ j + 1 → IsSound j x
@@ -145,7 +145,7 @@ sound_places q t mid new tiles vertices j low x =
 pub both_lengths : (q : Request) (t : Symbol) (mid new : List Place) → HasPlaces t q.faces Tile [] mid → HasPlaces t q.degrees Vertex mid new → length new ≡ 2 * t.size
 both_lengths q t mid new tiles vertices = let first = tiles.longer in let both = vertices.longer in omega (arith, first, both)
 
-pub beginning : (q : Request) (t : Symbol) → IsSymbol t → t.size ≤ 36 → (a : Assignment) → a.request ≡ q → a.size ≡ t.size → prefix_of a ≡ take (3 * t.size) (code t) → AreParts a.parts → AreRests a.places.items a.rests → a.sums.items ≡ 0 ∷ []
+pub beginning : (q : Request) (t : Symbol) → IsSymbol t → t.size ≤ 36 → (a : Assignment) → a.request ≡ q → a.size ≡ t.size → prefix_of a ≡ take (3 * t.size) (code t) → AreReciprocals a.reciprocals → AreRests a.places.items a.rests → a.sums.items ≡ 0 ∷ []
     → (mid : List Place) → HasPlaces t q.faces Tile [] mid → HasPlaces t q.degrees Vertex mid a.places.items → IsBeginning q t a
 beginning q t is small a request size front parts rests sums mid tiles vertices =
     let some = is.table.chambers in
@@ -165,7 +165,7 @@ beginning q t is small a request size front parts rests sums mid tiles vertices 
         images = omega (arith, count, size);
         short = omega (arith, count, size);
         numbers = λ u low. front_small t is.table small (prefix_of a) front u (omega (arith, low, count));
-        parts = parts;
+        reciprocals = parts;
         places = omega (arith, first, both, size);
         rests = rests;
         sums = record {

@@ -5,7 +5,7 @@ use Rattle.std.proofs.lemmas.Bool.{cases_lt}
 use Rattle.dd_model.specs.Allowed.{IsIn}
 use Rattle.dd_model.specs.Wanted.{IsCrystallographic}
 use Rattle.dd_model.specs.declared.allowed.Allowed.{Allowed}
-use Rattle.dd_model.proofs.CellLists.{Contains-cases}
+use Rattle.dd_model.proofs.Lists.{Contains-cases}
 use Rattle.dd_branch.specs.Choice.{IsChoice, HasNoChoiceFrom, IsLeastChoice}
 
 -- a number from 1 to 6 other than 5

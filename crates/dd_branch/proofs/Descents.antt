@@ -5,7 +5,7 @@ use Rattle.std.proofs.lemmas.List.{take_at}
 use Rattle.std.proofs.Math.Seq.{get_or-append_seam}
 use Rattle.std.specs.List.{slice_get}
 use Rattle.std.specs.declared.option.Option.TheVariants.{Some}
-use Rattle.dd_model.specs.Symbol.{Symbol, IsSymbol, IsTable}
+use Rattle.dd_model.specs.Symbol.{Symbol, IsTable}
 use Rattle.dd_model.specs.Lists.{Begins}
 use Rattle.dd_model.specs.Code.{code}
 use Rattle.dd_model.specs.Wanted.{IsMember}
@@ -72,8 +72,8 @@ no_member_under_front W n k prefix none s under =
     none s (record { wanted = under.wanted; orderly = under.orderly; size = under.size; begins = begins_front prefix (code s) k under.begins })
 
 -- what a table carries is what is under its numbers
-pub carried_under : (q : Request) (n : ℕ) (prefix : List ℕ) (t : Symbol) (ss : List Symbol) → IsSymbol t → IsTableOf n prefix t → length prefix ≡ 3 * n → AreMembersWith q t ss → AreUnder (IsMember q) n prefix ss
-carried_under q n prefix t ss it of whole are =
+pub carried_under : (q : Request) (n : ℕ) (prefix : List ℕ) (t : Symbol) (ss : List Symbol) → IsTableOf n prefix t → length prefix ≡ 3 * n → AreMembersWith q t ss → AreUnder (IsMember q) n prefix ss
+carried_under q n prefix t ss of whole are =
     let size = of.size in
     let long : length prefix ≡ 3 * t.size = omega arith in
     record {
@@ -84,14 +84,14 @@ carried_under q n prefix t ss it of whole are =
             let is : IsTable s = m.0.wanted.symbol.table in
             record { wanted = m.0; orderly = member_orderly q s m.0; size = m.1.size ∙ size; begins = front_begins s t prefix is long of.begins m.1 }),
         (λ under.
-            (are.members s).1 (under.wanted, front_same s t prefix under.orderly.table it.table (under.size ∙ sym size) long of.begins under.begins)),
+            (are.members s).1 (under.wanted, front_same s t prefix under.orderly.table of.bare.symbol.table (under.size ∙ sym size) long of.begins under.begins)),
       );
     }
 
-pub appends_carried : (q : Request) (n : ℕ) (prefix : List ℕ) (t : Symbol) (old new : List Symbol) → IsSymbol t → IsTableOf n prefix t → length prefix ≡ 3 * n
+pub appends_carried : (q : Request) (n : ℕ) (prefix : List ℕ) (t : Symbol) (old new : List Symbol) → IsTableOf n prefix t → length prefix ≡ 3 * n
     → Appends (AreMembersWith q t) old new → Appends (AreUnder (IsMember q) n prefix) old new
-appends_carried q n prefix t old new it of whole added =
-    record { list = added.list; grown = added.grown; holds = carried_under q n prefix t added.list it of whole added.holds }
+appends_carried q n prefix t old new of whole added =
+    record { list = added.list; grown = added.grown; holds = carried_under q n prefix t added.list of whole added.holds }
 
 -- no member is under numbers that are those of no table
 pub none_without_table : (q : Request) (n : ℕ) (prefix : List ℕ) → HasNoTable n prefix → HasNothingUnder (IsMember q) n prefix

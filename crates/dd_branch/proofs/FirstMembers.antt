@@ -9,29 +9,18 @@ use Rattle.dd_model.specs.Wanted.{IsAscending, IsCatalogue}
 use Rattle.dd_model.specs.Jobs.{IsJobBelow, AreAscendingJobs, IsMemberUnder, AreMembersUnder}
 use Rattle.dd_model.specs.declared.requests.Request.{Request}
 use Rattle.dd_model.specs.declared.jobs.Job.{Job}
-use Rattle.dd_model.proofs.Codes.{code_cmp_total}
+use Rattle.dd_model.proofs.Lists.{Contains-none, Contains-one, all_from_members, each_of}
+use Rattle.dd_model.proofs.Orders.{not_below_itself, not_below_both}
 use Rattle.dd_invol.specs.Opening.{IsOpening}
-use Rattle.dd_invol.proofs.Ascending.{all_from_members}
-use Rattle.dd_invol.proofs.JobLists.{only}
 use Rattle.dd_invol.proofs.OpeningLaws.{covered}
 use Rattle.dd_branch.specs.Joined.{AreUnderJobs, IsPartBelow, AreFirstMembers}
-use Rattle.dd_branch.proofs.JoinedLists.{each_of, under_append, under_one, under_below, opening_as_long}
+use Rattle.dd_branch.proofs.JoinedLists.{under_append, under_one, under_below, opening_as_long}
 
-none_there : {A : Type 0} (x : A) → Contains [] x → ⊥
-none_there x there = let below = there.1 in omega arith
-
--- nothing is below itself, and of two symbols at most one is below the other
-not_below_itself : (s : Symbol) → IsBelow s s → ⊥
-not_below_itself s less = let turned = code_cmp_total.antisymm s s in absurd (cc)
-
-not_both_below : (s t : Symbol) → IsBelow s t → IsBelow t s → ⊥
-not_both_below s t one two = let turned = code_cmp_total.antisymm s t in absurd (cc)
-
--- An ascending list that has the members of another, and besides only symbols that come after all of these, begins with it.
+-- An ascending list that has the members of another, and besides Contains-one symbols that come after all of these, begins with it.
 pub begins_with : (ss ts : List Symbol) → IsAscending ss → IsAscending ts → ((s : Symbol) → Contains ss s → Contains ts s)
     → ((t : Symbol) → Contains ts t → Contains ss t ⊎ AllByRecursion (λ m. IsBelow m t) ss) → (rest : List Symbol) × (ts ≡ ss ++ rest)
 begins_with [] ts hs ht inside after = (ts, refl)
-begins_with (s ∷ ss) [] hs ht inside after = absurd (none_there s (inside s (Contains-append_left (s ∷ []) ss s (Contains-push [] s))))
+begins_with (s ∷ ss) [] hs ht inside after = absurd (Contains-none s (inside s (Contains-append_left (s ∷ []) ss s (Contains-push [] s))))
 begins_with (s ∷ ss) (t ∷ ts) hs ht inside after =
     let same : t ≡ s = heads in
     let tail = begins_with ss ts hs.1 ht.1 inner later in
@@ -53,9 +42,9 @@ begins_with (s ∷ ss) (t ∷ ts) hs ht inside after =
         ⊎_elim
         (λ among. ⊎_elim
         (λ first. sym (first_of s t first))
-        (λ past. absurd (not_both_below s t (each_of (IsBelow s) ss t hs.0 past) t_below))
+        (λ past. absurd (not_below_both s t (each_of (IsBelow s) ss t hs.0 past) t_below))
         (Contains-append_cases (s ∷ []) ss t among))
-        (λ above. absurd (not_both_below s t above.0 t_below))
+        (λ above. absurd (not_below_both s t above.0 t_below))
         (after t (Contains-append_left (t ∷ []) ts t (Contains-push [] t))))
         (Contains-append_cases (t ∷ []) ts s (inside s own))
 
@@ -90,16 +79,16 @@ where_listed : (js : List Job) (k : ℕ) (job : Job) → AreAscendingJobs js →
 where_listed js zero job ascending there = inr (λ j none. absurd (nothing js j none))
   where
     nothing : (xs : List Job) (x : Job) → Contains (take 0 xs) x → ⊥
-    nothing [] x h = none_there x h
-    nothing (y ∷ ys) x h = none_there x h
-where_listed [] (suc k) job ascending there = absurd (none_there job there)
+    nothing [] x h = Contains-none x h
+    nothing (y ∷ ys) x h = Contains-none x h
+where_listed [] (suc k) job ascending there = absurd (Contains-none job there)
 where_listed (x ∷ xs) (suc k) job ascending there =
     ⊎_elim
     (λ first. inl (Contains-append_left (x ∷ []) (take k xs) job first))
     (λ past. ⊎_elim
     (λ early. inl (Contains-append_right (x ∷ []) (take k xs) job early))
     (λ late. inr (λ j hj. ⊎_elim
-    (λ first. subst (λ z. IsJobBelow z job) (only x j first) (each_of (IsJobBelow x) xs job ascending.0 past))
+    (λ first. subst (λ z. IsJobBelow z job) (Contains-one x j first) (each_of (IsJobBelow x) xs job ascending.0 past))
     (λ further. late j further)
     (Contains-append_cases (x ∷ []) (take k xs) j hj)))
     (where_listed xs k job ascending.1 past))
@@ -134,7 +123,7 @@ under_next_job q js k d ss ts is low are more =
     subst (λ xs. AreUnderJobs q xs (ss ++ ts)) (sym (take_more js k d low))
     (under_append q (take k js) (job ∷ []) ss ts
     (λ i j hi hj.
-    let same : job ≡ j = only job j hj in
+    let same : job ≡ j = Contains-one job j hj in
     let listed : Contains js job = (k, low, get_same js k d low) in
     subst (IsPartBelow i) same (record { below = before js k i is.ascending low hi; as_long = opening_as_long q js is i job (taken_there js k i hi) listed }))
     are (under_one q job ts more))
@@ -146,9 +135,9 @@ under_next_job q js k d ss ts is low are more =
 
     before : (xs : List Job) (i : ℕ) (j : Job) → AreAscendingJobs xs → i < length xs → Contains (take i xs) j → IsJobBelow j (get_or xs i d)
     before [] i j ascending low there = absurd (omega arith)
-    before (x ∷ xs) zero j ascending low there = absurd (none_there j there)
+    before (x ∷ xs) zero j ascending low there = absurd (Contains-none j there)
     before (x ∷ xs) (suc i) j ascending low there =
         ⊎_elim
-        (λ first. subst (λ y. IsJobBelow y (get_or xs i d)) (only x j first) (each_of (IsJobBelow x) xs (get_or xs i d) ascending.0 (i, omega arith, get_same xs i d (omega arith))))
+        (λ first. subst (λ y. IsJobBelow y (get_or xs i d)) (Contains-one x j first) (each_of (IsJobBelow x) xs (get_or xs i d) ascending.0 (i, omega arith, get_same xs i d (omega arith))))
         (λ further. before xs i j ascending.1 (omega arith) further)
         (Contains-append_cases (x ∷ []) (take i xs) j there)

@@ -9,11 +9,12 @@ use Rattle.dd_model.specs.Symbol.{Symbol, IsSymbol, IsChamber, item}
 use Rattle.dd_model.specs.Code.{count_from, chambers}
 use Rattle.dd_model.specs.Flat.{all_degrees, reciprocals, Flat}
 use Rattle.dd_model.specs.declared.pair.Pair.TheVariants.{Tile, Vertex}
+use Rattle.dd_model.proofs.AllDegrees.{all_degrees_positive}
 use Rattle.dd_cells.specs.Fraction.{Divides}
 use Rattle.dd_cells.proofs.CurvatureLemmas.{tile_divides, vertex_divides}
 use Rattle.dd_cells.proofs.ReciprocalSums.{quotient_is}
 use Rattle.dd_cells.proofs.CellSums.{chamber_listed}
-use Rattle.dd_shares.proofs.FlatBound.{part, add_parts, one-le-all_degrees}
+use Rattle.dd_shares.proofs.FlatBound.{part, add_parts}
 
 -- one degree
 pub part_below : (D L a m : ℕ) → 1 ≤ m → Divides m D → a * m ≤ L → D * a ≤ D / m * L
@@ -94,7 +95,7 @@ small_shares s is flat L a b ha hb =
     let vertices : D * sum_by b (chambers s) ≤ sum_by (λ m. D / m) s.m12 * L =
     subst (λ n. D * sum_by b (count_from 1 n) ≤ sum_by (λ m. D / m) s.m12 * L) is.table.m12_length
     (below_parts D L b 1 s.m12 (at_place s s.m12 (λ d m. D * b d ≤ D / m * L) is.table.m12_length (λ d h. vertex_part s is L (b d) d h (hb d h)))) in
-    cancel_product s.size D L (reciprocals s) (sum_by a (chambers s) + sum_by b (chambers s)) (one-le-all_degrees s is) flat
+    cancel_product s.size D L (reciprocals s) (sum_by a (chambers s) + sum_by b (chambers s)) (all_degrees_positive s is) flat
     (add_below D L (sum_by (λ m. D / m) s.m01) (sum_by (λ m. D / m) s.m12) (sum_by a (chambers s)) (sum_by b (chambers s)) tiles vertices)
 
 -- ## Sums over the places, one after another
@@ -149,7 +150,7 @@ above_more s is L k sum a low share before =
 
 pub flat_above : (s : Symbol) → IsSymbol s → Flat s → (L k sum : ℕ) → k ≡ 2 * s.size → parts_before s k * L ≤ all_degrees s * sum → s.size * L ≤ 2 * sum
 flat_above s is flat L k sum end bound =
-    cancel_above s.size (all_degrees s) L (reciprocals s) sum (one-le-all_degrees s is) flat
+    cancel_above s.size (all_degrees s) L (reciprocals s) sum (all_degrees_positive s is) flat
     (subst (λ x. x * L ≤ all_degrees s * sum) (ap (parts_before s) end ∙ parts_all s is) bound)
 
 pub none_below : (s : Symbol) (L : ℕ) → all_degrees s * 0 ≤ parts_before s 0 * L
@@ -165,5 +166,5 @@ below_more s is L k sum a low share before =
 
 pub flat_below : (s : Symbol) → IsSymbol s → Flat s → (L k sum : ℕ) → k ≡ 2 * s.size → all_degrees s * sum ≤ parts_before s k * L → 2 * sum ≤ s.size * L
 flat_below s is flat L k sum end bound =
-    cancel_product s.size (all_degrees s) L (reciprocals s) sum (one-le-all_degrees s is) flat
+    cancel_product s.size (all_degrees s) L (reciprocals s) sum (all_degrees_positive s is) flat
     (subst (λ x. all_degrees s * sum ≤ x * L) (ap (parts_before s) end ∙ parts_all s is) bound)

@@ -1,7 +1,7 @@
 -- Lists of what is under jobs that ascend join to an ascending list.
-use Rattle.std.proofs.Common.{◌≡◌, ◌⊎◌, ℕ, zero, suc, ◌*◌, min, List, [], ◌∷◌, ◌++◌, length, refl, sym, ap, ◌∙◌, subst, inl, inr, ⊎_elim, arith}
+use Rattle.std.proofs.Common.{◌≡◌, ◌⊎◌, ℕ, ◌*◌, min, List, [], ◌∷◌, ◌++◌, length, refl, sym, ap, ◌∙◌, subst, inl, inr, ⊎_elim, arith}
 use Rattle.std.proofs.lemmas.List.Elements.{Contains-append_right, Contains-append_left, Contains-append_cases, Contains-push}
-use Rattle.std.specs.List.{AllByRecursion, Contains}
+use Rattle.std.specs.List.{Contains}
 use Rattle.std.specs.Ordering.{nat_cmp, ordering_then}
 use Rattle.std.specs.Cmp.Lexicographic.{slice_cmp}
 use Rattle.std.specs.FinMap.{nat_cmp-IsAntisymmetric}
@@ -14,14 +14,11 @@ use Rattle.dd_model.specs.Wanted.{IsCatalogue}
 use Rattle.dd_model.specs.Jobs.{IsJobBelow, AreAscendingJobs, IsMemberUnder, AreMembersUnder}
 use Rattle.dd_model.specs.declared.requests.Request.{Request}
 use Rattle.dd_model.specs.declared.jobs.Job.{Job}
+use Rattle.dd_model.proofs.Lists.{Contains-none, Contains-one, each_of}
 use Rattle.dd_invol.specs.Opening.{IsOpening}
 use Rattle.dd_invol.proofs.Ascending.{ascending-append}
-use Rattle.dd_invol.proofs.JobLists.{only}
 use Rattle.dd_invol.proofs.OpeningLaws.{covered}
 use Rattle.dd_branch.specs.Joined.{AreUnderInTurn, joined, AreUnderJobs, IsPartBelow}
-
-none_there : {A : Type 0} (x : A) → Contains [] x → ⊥
-none_there x there = let below = there.1 in omega arith
 
 less_or_same : (a b : Ordering) → ordering_then a b ≡ Less → (a ≡ Less) ⊎ ((a ≡ Equal) × (b ≡ Less))
 less_or_same Less b e = inl refl
@@ -54,14 +51,14 @@ under_below q j k s t part us ut =
     (less_or_same (nat_cmp j.size k.size) (slice_cmp nat_cmp j.prefix k.prefix) part.below)
 
 pub under_none : (q : Request) → AreUnderJobs q [] []
-under_none q = record { ascending = tt; members = λ s. ((λ there. absurd (none_there s there)), (λ under. absurd (none_there under.job under.listed))) }
+under_none q = record { ascending = tt; members = λ s. ((λ there. absurd (Contains-none s there)), (λ under. absurd (Contains-none under.job under.listed))) }
 
 pub under_one : (q : Request) (job : Job) (ss : List Symbol) → AreMembersUnder q job ss → AreUnderJobs q (job ∷ []) ss
 under_one q job ss are = record {
   ascending = are.ascending;
   members = λ s. (
     (λ there. record { job = job; listed = Contains-push [] job; under = (are.members s).0 there }),
-    (λ under. (are.members s).1 (subst (λ j. IsMemberUnder q j s) (sym (only job under.job under.listed)) under.under)),
+    (λ under. (are.members s).1 (subst (λ j. IsMemberUnder q j s) (sym (Contains-one job under.job under.listed)) under.under)),
   );
 }
 
@@ -84,16 +81,6 @@ under_append q js ks ss ts parts us ut = record {
   );
 }
 
--- what holds of all holds of each member
-pub each_of : {A : Type 0} (P : A → Type 0) (xs : List A) (x : A) → AllByRecursion P xs → Contains xs x → P x
-each_of P [] x all there = absurd (none_there x there)
-each_of P (y ∷ ys) x all there =
-    ⊎_elim (λ first. subst P (single y x first) all.0) (λ later. each_of P ys x all.1 later) (Contains-append_cases (y ∷ []) ys x there)
-  where
-    single : {A : Type 0} (a b : A) → Contains (a ∷ []) b → a ≡ b
-    single a b (zero, low, e) = e
-    single a b (suc i, low, e) = absurd (omega arith)
-
 -- equally long prefixes of one size
 abbrev pub AreAsLong : List Job → Type 0
 AreAsLong jobs = (j k : Job) → Contains jobs j → Contains jobs k → j.size ≡ k.size → length j.prefix ≡ length k.prefix
@@ -107,7 +94,7 @@ in_turn_joined q (job ∷ jobs) (ss ∷ lists) ascending long are =
     under_append q (job ∷ []) jobs ss (joined lists)
     (λ j k hj hk.
     record {
-      below = subst (λ i. IsJobBelow i k) (only job j hj) (each_of (IsJobBelow job) jobs k ascending.0 hk);
+      below = subst (λ i. IsJobBelow i k) (Contains-one job j hj) (each_of (IsJobBelow job) jobs k ascending.0 hk);
       as_long = long j k (Contains-append_left (job ∷ []) jobs j hj) (Contains-append_right (job ∷ []) jobs k hk);
     })
     (under_one q job ss are.0) rest

@@ -4,7 +4,7 @@ use Rattle.dd_model.specs.Symbol.{Symbol}
 use Rattle.dd_model.specs.Flat.{all_degrees}
 use Rattle.dd_model.specs.Wanted.{IsMember}
 use Rattle.dd_invol.specs.Under.{IsUnder}
-use Rattle.dd_branch.specs.Parts.{whole}
+use Rattle.dd_branch.specs.Reciprocals.{degree_unit}
 use Rattle.dd_branch.specs.Assignment.{IsAssignment, prefix_of, told}
 use Rattle.dd_branch.specs.declared.assignment.Assignment.{Assignment}
 use Rattle.dd_branch.specs.declared.places.Place.{Place}
@@ -16,7 +16,7 @@ abbrev sum_at : Assignment → ℕ → ℕ
 sum_at a k = get_or a.sums.items k 0
 
 abbrev part_at : Assignment → ℕ → ℕ
-part_at a k = get_or a.parts (get_or (prefix_of a) (3 * a.size + k) 0) 0
+part_at a k = get_or a.reciprocals (get_or (prefix_of a) (3 * a.size + k) 0) 0
 
 told_low : (a : Assignment) → IsAssignment a → told a ≤ 2 * a.size
 told_low a is = let short = is.short in omega (arith, short)
@@ -24,10 +24,10 @@ told_low a is = let short = is.short in omega (arith, short)
 next_sum : (a : Assignment) → IsAssignment a → (k : ℕ) → k < told a → sum_at a (suc k) ≡ sum_at a k + part_at a k
 next_sum a is k low = let e : suc k ≡ k + 1 = omega arith in ap (λ j. get_or a.sums.items j 0) e ∙ is.sums.each k low
 
-one_part_small : (a : Assignment) → IsAssignment a → (k : ℕ) → k < told a → part_at a k ≤ whole
-one_part_small a is k low = part_small a.parts _ is.parts (is.numbers _ (inside_told a k low))
+one_part_small : (a : Assignment) → IsAssignment a → (k : ℕ) → k < told a → part_at a k ≤ degree_unit
+one_part_small a is k low = part_small a.reciprocals _ is.reciprocals (is.numbers _ (inside_told a k low))
 
-sum_small : (a : Assignment) → IsAssignment a → (k : ℕ) → k ≤ told a → sum_at a k ≤ k * whole
+sum_small : (a : Assignment) → IsAssignment a → (k : ℕ) → k ≤ told a → sum_at a k ≤ k * degree_unit
 sum_small a is zero low = let e = is.sums.none in omega (arith, e)
 sum_small a is (suc k) low =
     let before = sum_small a is k (omega (arith, low)) in
@@ -35,7 +35,7 @@ sum_small a is (suc k) low =
     let one = one_part_small a is k (omega (arith, low)) in
     omega (arith, before, e, one)
 
-pub kept_small : (a : Assignment) → IsAssignment a → get_or a.sums.items (told a) 0 ≤ 72 * whole
+pub kept_small : (a : Assignment) → IsAssignment a → get_or a.sums.items (told a) 0 ≤ 72 * degree_unit
 kept_small a is =
     let small = sum_small a is (told a) (omega arith) in
     let low = told_low a is in
@@ -45,33 +45,33 @@ kept_small a is =
 -- ## The degrees that are told
 
 above_told : (a : Assignment) → IsAssignment a → (s : Symbol) → IsUnder (IsMember a.request) a.size (prefix_of a) s → (k : ℕ) → k ≤ told a
-    → parts_before s k * whole ≤ all_degrees s * (sum_at a k + k)
-above_told a is s under zero low = let e : 0 ≡ get_or a.sums.items 0 0 + 0 = let z = is.sums.none in omega (arith, z) in subst (λ x. parts_before s 0 * whole ≤ all_degrees s * x) e (none_above s whole)
+    → parts_before s k * degree_unit ≤ all_degrees s * (sum_at a k + k)
+above_told a is s under zero low = let e : 0 ≡ get_or a.sums.items 0 0 + 0 = let z = is.sums.none in omega (arith, z) in subst (λ x. parts_before s 0 * degree_unit ≤ all_degrees s * x) e (none_above s degree_unit)
 above_told a is s under (suc k) low =
     let size = under.size in
     let all = told_low a is in
     let here : k < told a = omega (arith, low) in
     let inside : k < 2 * s.size = omega (arith, size, all, here) in
-    let share = upper_told a is.parts k (part_at a k) here (is.numbers _ (inside_told a k here)) refl s under (degree_positive s under.wanted.wanted.symbol k inside) in
-    let more = above_more s under.wanted.wanted.symbol whole k (sum_at a k + k) (part_at a k + 1) inside share (above_told a is s under k (omega (arith, low))) in
+    let share = upper_told a is.reciprocals k (part_at a k) here (is.numbers _ (inside_told a k here)) refl s under (degree_positive s under.wanted.wanted.symbol k inside) in
+    let more = above_more s under.wanted.wanted.symbol degree_unit k (sum_at a k + k) (part_at a k + 1) inside share (above_told a is s under k (omega (arith, low))) in
     let next = next_sum a is k here in
     let e : sum_at a k + k + (part_at a k + 1) ≡ sum_at a (suc k) + suc k = omega (arith, next) in
     let f : k + 1 ≡ suc k = omega arith in
-    subst (λ j. parts_before s j * whole ≤ all_degrees s * (sum_at a (suc k) + suc k)) f (subst (λ x. parts_before s (k + 1) * whole ≤ all_degrees s * x) e more)
+    subst (λ j. parts_before s j * degree_unit ≤ all_degrees s * (sum_at a (suc k) + suc k)) f (subst (λ x. parts_before s (k + 1) * degree_unit ≤ all_degrees s * x) e more)
 
 below_told : (a : Assignment) → IsAssignment a → (s : Symbol) → IsUnder (IsMember a.request) a.size (prefix_of a) s → (k : ℕ) → k ≤ told a
-    → all_degrees s * sum_at a k ≤ parts_before s k * whole
-below_told a is s under zero low = subst (λ x. all_degrees s * x ≤ parts_before s 0 * whole) (sym is.sums.none) (none_below s whole)
+    → all_degrees s * sum_at a k ≤ parts_before s k * degree_unit
+below_told a is s under zero low = subst (λ x. all_degrees s * x ≤ parts_before s 0 * degree_unit) (sym is.sums.none) (none_below s degree_unit)
 below_told a is s under (suc k) low =
     let size = under.size in
     let all = told_low a is in
     let here : k < told a = omega (arith, low) in
     let inside : k < 2 * s.size = omega (arith, size, all, here) in
-    let share = lower_told a is.parts k (part_at a k) here (is.numbers _ (inside_told a k here)) refl s under (degree_positive s under.wanted.wanted.symbol k inside) in
-    let more = below_more s under.wanted.wanted.symbol whole k (sum_at a k) (part_at a k) inside share (below_told a is s under k (omega (arith, low))) in
+    let share = lower_told a is.reciprocals k (part_at a k) here (is.numbers _ (inside_told a k here)) refl s under (degree_positive s under.wanted.wanted.symbol k inside) in
+    let more = below_more s under.wanted.wanted.symbol degree_unit k (sum_at a k) (part_at a k) inside share (below_told a is s under k (omega (arith, low))) in
     let next = next_sum a is k here in
     let f : k + 1 ≡ suc k = omega arith in
-    subst (λ j. all_degrees s * sum_at a (suc k) ≤ parts_before s j * whole) f (subst (λ x. all_degrees s * x ≤ parts_before s (k + 1) * whole) (sym next) more)
+    subst (λ j. all_degrees s * sum_at a (suc k) ≤ parts_before s j * degree_unit) f (subst (λ x. all_degrees s * x ≤ parts_before s (k + 1) * degree_unit) (sym next) more)
 
 -- ## The degrees that are not told
 
@@ -79,46 +79,46 @@ any_place : Place
 any_place = record { root = 0; turns = 0; most = 0; least = 0 }
 
 above_rest : (a : Assignment) → IsAssignment a → (s : Symbol) → IsUnder (IsMember a.request) a.size (prefix_of a) s → (d k y : ℕ) → k + d ≡ 2 * a.size
-    → parts_before s k * whole ≤ all_degrees s * y → a.size * whole ≤ 2 * (y + get_or a.rests.most k 0)
+    → parts_before s k * degree_unit ≤ all_degrees s * y → a.size * degree_unit ≤ 2 * (y + get_or a.rests.most k 0)
 above_rest a is s under zero k y end bound =
     let size = under.size in
     let count = is.places in
     let at : length a.places.items ≡ k = omega (arith, count, end) in
     let none : get_or a.rests.most k 0 ≡ 0 = ap (λ j. get_or a.rests.most j 0) (sym at) ∙ is.rests.no_most in
-    let all : s.size * whole ≤ 2 * y = flat_above s under.wanted.wanted.symbol under.wanted.wanted.flat whole k y (omega (arith, end, size)) bound in
-    let same = ap (λ n. n * whole) size in
+    let all : s.size * degree_unit ≤ 2 * y = flat_above s under.wanted.wanted.symbol under.wanted.wanted.flat degree_unit k y (omega (arith, end, size)) bound in
+    let same = ap (λ n. n * degree_unit) size in
     omega (arith, all, none, same)
 above_rest a is s under (suc d) k y end bound =
     let size = under.size in
     let count = is.places in
     let x = get_or a.places.items k any_place in
     let share = (is.fits s under k (omega (arith, end)) any_place).most in
-    let more = above_more s under.wanted.wanted.symbol whole k y x.most (omega (arith, end, size)) share bound in
+    let more = above_more s under.wanted.wanted.symbol degree_unit k y x.most (omega (arith, end, size)) share bound in
     let rest = above_rest a is s under d (k + 1) (y + x.most) (omega (arith, end)) more in
     let each = is.rests.each_most k any_place (omega (arith, end, count)) in
     omega (arith, rest, each)
 
 below_rest : (a : Assignment) → IsAssignment a → (s : Symbol) → IsUnder (IsMember a.request) a.size (prefix_of a) s → (d k y : ℕ) → k + d ≡ 2 * a.size
-    → all_degrees s * y ≤ parts_before s k * whole → 2 * (y + get_or a.rests.least k 0) ≤ a.size * whole
+    → all_degrees s * y ≤ parts_before s k * degree_unit → 2 * (y + get_or a.rests.least k 0) ≤ a.size * degree_unit
 below_rest a is s under zero k y end bound =
     let size = under.size in
     let count = is.places in
     let at : length a.places.items ≡ k = omega (arith, count, end) in
     let none : get_or a.rests.least k 0 ≡ 0 = ap (λ j. get_or a.rests.least j 0) (sym at) ∙ is.rests.no_least in
-    let all : 2 * y ≤ s.size * whole = flat_below s under.wanted.wanted.symbol under.wanted.wanted.flat whole k y (omega (arith, end, size)) bound in
-    let same = ap (λ n. n * whole) size in
+    let all : 2 * y ≤ s.size * degree_unit = flat_below s under.wanted.wanted.symbol under.wanted.wanted.flat degree_unit k y (omega (arith, end, size)) bound in
+    let same = ap (λ n. n * degree_unit) size in
     omega (arith, all, none, same)
 below_rest a is s under (suc d) k y end bound =
     let size = under.size in
     let count = is.places in
     let x = get_or a.places.items k any_place in
     let share = (is.fits s under k (omega (arith, end)) any_place).least in
-    let more = below_more s under.wanted.wanted.symbol whole k y x.least (omega (arith, end, size)) share bound in
+    let more = below_more s under.wanted.wanted.symbol degree_unit k y x.least (omega (arith, end, size)) share bound in
     let rest = below_rest a is s under d (k + 1) (y + x.least) (omega (arith, end)) more in
     let each = is.rests.each_least k any_place (omega (arith, end, count)) in
     omega (arith, rest, each)
 
-most_small : (a : Assignment) → IsAssignment a → (d k : ℕ) → k + d ≡ 2 * a.size → get_or a.rests.most k 0 ≤ d * whole
+most_small : (a : Assignment) → IsAssignment a → (d k : ℕ) → k + d ≡ 2 * a.size → get_or a.rests.most k 0 ≤ d * degree_unit
 most_small a is zero k end =
     let count = is.places in
     let at : length a.places.items ≡ k = omega (arith, count, end) in
@@ -131,7 +131,7 @@ most_small a is (suc d) k end =
     let each = is.rests.each_most k any_place (omega (arith, end, count)) in
     omega (arith, rest, one, each)
 
-least_small : (a : Assignment) → IsAssignment a → (d k : ℕ) → k + d ≡ 2 * a.size → get_or a.rests.least k 0 ≤ d * whole
+least_small : (a : Assignment) → IsAssignment a → (d k : ℕ) → k + d ≡ 2 * a.size → get_or a.rests.least k 0 ≤ d * degree_unit
 least_small a is zero k end =
     let count = is.places in
     let at : length a.places.items ≡ k = omega (arith, count, end) in
@@ -147,13 +147,13 @@ least_small a is (suc d) k end =
 -- ## All degrees
 
 pub above_all : (a : Assignment) → IsAssignment a → (s : Symbol) → IsUnder (IsMember a.request) a.size (prefix_of a) s
-    → a.size * whole ≤ 2 * (get_or a.sums.items (told a) 0 + told a + get_or a.rests.most (told a) 0)
+    → a.size * degree_unit ≤ 2 * (get_or a.sums.items (told a) 0 + told a + get_or a.rests.most (told a) 0)
 above_all a is s under =
     let low = told_low a is in
     above_rest a is s under (2 * a.size - told a) (told a) (sum_at a (told a) + told a) (omega (arith, low)) (above_told a is s under (told a) (omega arith))
 
 pub below_all : (a : Assignment) → IsAssignment a → (s : Symbol) → IsUnder (IsMember a.request) a.size (prefix_of a) s
-    → 2 * (get_or a.sums.items (told a) 0 + get_or a.rests.least (told a) 0) ≤ a.size * whole
+    → 2 * (get_or a.sums.items (told a) 0 + get_or a.rests.least (told a) 0) ≤ a.size * degree_unit
 below_all a is s under =
     let low = told_low a is in
     below_rest a is s under (2 * a.size - told a) (told a) (sum_at a (told a)) (omega (arith, low)) (below_told a is s under (told a) (omega arith))
@@ -164,14 +164,14 @@ few_told a is =
     let few = is.small in
     omega (arith, low, few)
 
-pub most_rest_small : (a : Assignment) → IsAssignment a → get_or a.rests.most (told a) 0 ≤ 72 * whole
+pub most_rest_small : (a : Assignment) → IsAssignment a → get_or a.rests.most (told a) 0 ≤ 72 * degree_unit
 most_rest_small a is =
     let low = told_low a is in
     let few = is.small in
     let small = most_small a is (2 * a.size - told a) (told a) (omega (arith, low)) in
     omega (arith, small, low, few)
 
-pub least_rest_small : (a : Assignment) → IsAssignment a → get_or a.rests.least (told a) 0 ≤ 72 * whole
+pub least_rest_small : (a : Assignment) → IsAssignment a → get_or a.rests.least (told a) 0 ≤ 72 * degree_unit
 least_rest_small a is =
     let low = told_low a is in
     let few = is.small in

@@ -2,7 +2,7 @@ pub mod FlatShares
 pub mod Choices
 pub mod Roots
 pub mod Assigned
-pub mod Leaves
+pub mod WholePrefixes
 pub mod Placed
 pub mod RestSums
 pub mod KeptSums

@@ -2,7 +2,7 @@
 use Rattle.std.proofs.Common.{◌≡◌, ℕ, ◌+◌, ◌-◌, ◌*◌, ◌<◌, ◌≤◌, List, length, get_or, set, replicate, ap, ◌∙◌, ⊎_elim, arith}
 use Rattle.std.proofs.lemmas.Bool.{cases_lt}
 use Rattle.std.proofs.lemmas.List.{get_or-set_same, get_or-set_other, get_or_default, get_or-replicate}
-use Rattle.dd_branch.specs.Parts.{whole}
+use Rattle.dd_branch.specs.Reciprocals.{degree_unit}
 use Rattle.dd_branch.specs.declared.places.Place.{Place}
 
 pub none_yet : (n : ℕ) → n ≤ 72 → get_or {A = ℕ} (replicate 73 0) n 0 ≡ 0
@@ -40,8 +40,8 @@ end_kept f places d sums k some inside before =
     get_or-set_other sums (k - 1) (length places) (get_or sums (k - 1 + 1) 0 + f (get_or places (k - 1) d)) 0 (λ e. omega (arith, e, some, inside)) ∙ before
 
 pub still_small : (f : Place → ℕ) (places : List Place) (d : Place) (sums : List ℕ) (k : ℕ) → 0 < k → k ≤ length places → length places < length sums
-    → ((j : ℕ) (x : Place) → j < length places → f (get_or places j x) ≤ whole) → get_or sums k 0 ≤ (length places - k) * whole
-    → get_or (with_place f places d sums k) (k - 1) 0 ≤ (length places - (k - 1)) * whole
+    → ((j : ℕ) (x : Place) → j < length places → f (get_or places j x) ≤ degree_unit) → get_or sums k 0 ≤ (length places - k) * degree_unit
+    → get_or (with_place f places d sums k) (k - 1) 0 ≤ (length places - (k - 1)) * degree_unit
 still_small f places d sums k some inside room each before =
     let sum = get_or sums (k - 1 + 1) 0 + f (get_or places (k - 1) d) in
     let here : get_or (set sums (k - 1) sum) (k - 1) 0 ≡ sum = get_or-set_same sums (k - 1) sum 0 (omega (arith, some, inside, room)) in

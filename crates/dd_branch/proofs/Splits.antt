@@ -7,7 +7,8 @@ use Rattle.dd_model.specs.Symbol.{Symbol}
 use Rattle.dd_model.specs.Jobs.{IsJobBelow, AreAscendingJobs, IsJobOf, IsMemberUnder, AreExtensions, AreChildren, extended}
 use Rattle.dd_model.specs.declared.requests.Request.{Request}
 use Rattle.dd_model.specs.declared.jobs.Job.{Job}
-use Rattle.dd_invol.proofs.JobLists.{jobs_one_after_another, only}
+use Rattle.dd_model.proofs.Lists.{Contains-none, Contains-one}
+use Rattle.dd_invol.proofs.JobLists.{jobs_one_after_another}
 
 -- some of the jobs that were taken so far; no member is under one that is left out
 pub record AreAlive (q : Request) (taken alive : List Job) : Type 0 where
@@ -15,19 +16,16 @@ pub record AreAlive (q : Request) (taken alive : List Job) : Type 0 where
   pub taken_from : (child : Job) → Contains alive child → Contains taken child
   pub complete : (child : Job) → Contains taken child → Contains alive child ⊎ ((s : Symbol) → IsMemberUnder q child s → ⊥)
 
-none_there : {A : Type 0} (x : A) → Contains [] x → ⊥
-none_there x there = let below = there.1 in omega arith
-
 pub alive_first : (q : Request) → AreAlive q [] []
 alive_first q = record { ascending = tt; taken_from = λ child there. there; complete = λ child there. inl there }
 
 -- each member of the front is below the next one
 below_next : (js : List Job) (k : ℕ) (d j : Job) → AreAscendingJobs js → k < length js → Contains (take k js) j → IsJobBelow j (get_or js k d)
 below_next [] k d j ascending low there = absurd (omega arith)
-below_next (x ∷ xs) zero d j ascending low there = absurd (none_there j there)
+below_next (x ∷ xs) zero d j ascending low there = absurd (Contains-none j there)
 below_next (x ∷ xs) (suc k) d j ascending low there =
     ⊎_elim
-    (λ first. subst (λ y. IsJobBelow y (get_or xs k d)) (only x j first) (all_at xs k ascending.0 (omega arith)))
+    (λ first. subst (λ y. IsJobBelow y (get_or xs k d)) (Contains-one x j first) (all_at xs k ascending.0 (omega arith)))
     (λ later. below_next xs k d j ascending.1 (omega arith) later)
     (Contains-append_cases (x ∷ []) (take k xs) j there)
   where
@@ -42,7 +40,7 @@ alive_more q js alive k d ascending low old =
     let child = get_or js k d in
     subst (λ taken. AreAlive q taken (alive ++ child ∷ [])) (sym (take_more js k d low)) (record {
       ascending = jobs_one_after_another alive (child ∷ []) old.ascending (tt, tt) (λ a b ha hb.
-          subst (IsJobBelow a) (only child b hb) (below_next js k d a ascending low (old.taken_from a ha)));
+          subst (IsJobBelow a) (Contains-one child b hb) (below_next js k d a ascending low (old.taken_from a ha)));
       taken_from = λ c there. ⊎_elim
           (λ early. Contains-append_left (take k js) (child ∷ []) c (old.taken_from c early))
           (λ late. Contains-append_right (take k js) (child ∷ []) c late)
@@ -62,7 +60,7 @@ alive_skip q js alive k d low dead old =
       taken_from = λ c there. Contains-append_left (take k js) (child ∷ []) c (old.taken_from c there);
       complete = λ c there. ⊎_elim
           (λ early. old.complete c early)
-          (λ late. inr (subst (λ j. (s : Symbol) → IsMemberUnder q j s → ⊥) (only child c late) dead))
+          (λ late. inr (subst (λ j. (s : Symbol) → IsMemberUnder q j s → ⊥) (Contains-one child c late) dead))
           (Contains-append_cases (take k js) (child ∷ []) c there);
     })
 
@@ -88,7 +86,7 @@ one_of : (js : List Job) (j : Job) → Contains (take 1 js) j → Contains js j
 one_of [] j there = there
 one_of (x ∷ xs) j there = ⊎_elim
     (λ first. Contains-append_left (x ∷ []) xs j first)
-    (λ later. absurd (none_there j later))
+    (λ later. absurd (Contains-none j later))
     (Contains-append_cases (x ∷ []) (take 0 xs) j there)
 
 one_ascends : (js : List Job) → AreAscendingJobs (take 1 js)

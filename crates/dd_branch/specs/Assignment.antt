@@ -7,7 +7,7 @@ use Rattle.dd_model.specs.Code.{code}
 use Rattle.dd_model.specs.Wanted.{IsMember}
 use Rattle.dd_invol.specs.Under.{IsUnder}
 use Rattle.dd_branch.specs.Choice.{IsChoice}
-use Rattle.dd_branch.specs.Parts.{whole, AreParts}
+use Rattle.dd_branch.specs.Reciprocals.{degree_unit, AreReciprocals}
 use Rattle.dd_branch.specs.Rests.{AreRests}
 use Rattle.dd_branch.specs.declared.places.Place.{Place}
 use Rattle.dd_branch.specs.declared.assignment.Assignment.{Assignment}
@@ -30,7 +30,7 @@ shortened a mark = record {
   alloc = a.alloc;
   request = a.request;
   size = a.size;
-  parts = a.parts;
+  reciprocals = a.reciprocals;
   places = a.places;
   rests = a.rests;
   prefix = record { items = take mark a.prefix.items };
@@ -42,21 +42,21 @@ pub record Fits (q : Request) (s : Symbol) (j : ℕ) (x : Place) : Type 0 where
   pub same : degree_at s j ≡ degree_at s x.root
   pub tile : j < s.size → IsChoice q.faces x.turns (degree_at s j)
   pub vertex : s.size ≤ j → IsChoice q.degrees x.turns (degree_at s j)
-  pub most : whole ≤ x.most * degree_at s j
-  pub least : x.least * degree_at s j ≤ whole
+  pub most : degree_unit ≤ x.most * degree_at s j
+  pub least : x.least * degree_at s j ≤ degree_unit
 
 -- the place of a least chamber is no later, and the numbers are small
 pub record IsSound (j : ℕ) (x : Place) : Type 0 where
   pub earlier : x.root ≤ j
   pub few : x.turns ≤ 36
-  pub most : x.most ≤ whole
-  pub least : x.least ≤ whole
+  pub most : x.most ≤ degree_unit
+  pub least : x.least ≤ degree_unit
 
 -- At each place, the sum of the parts of the degrees that are told before it.
 pub record AreSums (a : Assignment) : Type 0 where
   pub count : length a.sums.items ≡ told a + 1
   pub none : slice_index a.sums.items 0 ≡ 0
-  pub each : (j : ℕ) → j < told a → slice_index a.sums.items (j + 1) ≡ slice_index a.sums.items j + slice_index a.parts (slice_index (prefix_of a) (3 * a.size + j))
+  pub each : (j : ℕ) → j < told a → slice_index a.sums.items (j + 1) ≡ slice_index a.sums.items j + slice_index a.reciprocals (slice_index (prefix_of a) (3 * a.size + j))
 
 -- The prefix tells all images, and maybe some degrees. What is said of the places holds of each member under it.
 pub record IsAssignment (a : Assignment) : Type 0 where
@@ -65,7 +65,7 @@ pub record IsAssignment (a : Assignment) : Type 0 where
   pub images : 3 * a.size ≤ length (prefix_of a)
   pub short : length (prefix_of a) ≤ 5 * a.size
   pub numbers : (t : ℕ) → t < length (prefix_of a) → slice_index (prefix_of a) t ≤ 216
-  pub parts : AreParts a.parts
+  pub reciprocals : AreReciprocals a.reciprocals
   pub places : length a.places.items ≡ 2 * a.size
   pub rests : AreRests a.places.items a.rests
   pub sums : AreSums a

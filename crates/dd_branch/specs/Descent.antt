@@ -19,6 +19,10 @@ pub record Descending : Type 0 where
   pub shares : Shares
   pub levels : List Level
 
+-- the search without the last number of its stem, and without what was put in and exchanged after a level
+abbrev pub taken_back : Descending → Level → Descending
+taken_back d level = record { request = d.request; stem = shortened d.stem level.rows; shares = rolled_back d.shares level.shares; levels = d.levels }
+
 -- the search as it was before its last number
 abbrev pub without_last : Option Level → Descending → Descending
 without_last None d = d

@@ -1,4 +1,4 @@
-pub mod Parts
+pub mod Reciprocals
 pub mod Choice
 pub mod Place
 pub mod Rests

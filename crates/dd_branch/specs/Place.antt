@@ -5,7 +5,7 @@ use Rattle.dd_model.specs.declared.pair.Pair.{Pair}
 use Rattle.dd_model.specs.Symbol.{Symbol, IsChamber}
 use Rattle.dd_model.specs.Cell.{InCell, IsLeastTurns}
 use Rattle.dd_branch.specs.Choice.{IsChoice}
-use Rattle.dd_branch.specs.Parts.{whole}
+use Rattle.dd_branch.specs.Reciprocals.{degree_unit}
 use Rattle.dd_branch.specs.declared.places.Place.{Place}
 
 -- e is the least chamber of the cell of d
@@ -14,12 +14,12 @@ pub record IsRoot (t : Symbol) (p : Pair) (d e : ℕ) : Type 0 where
   pub in_cell : InCell t p d e
   pub least : (x : ℕ) → InCell t p d x → e ≤ x
 
--- shares of all degrees that a cell of so many turns may have, and no greater than the whole
+-- shares of all degrees that a cell of so many turns may have, and no greater than the degree_unit
 pub record AreSharesOf (set : Allowed) (r most least : ℕ) : Type 0 where
-  pub upper : (m : ℕ) → IsChoice set r m → whole ≤ most * m
-  pub lower : (m : ℕ) → IsChoice set r m → least * m ≤ whole
-  pub most_small : most ≤ whole
-  pub least_small : least ≤ whole
+  pub upper : (m : ℕ) → IsChoice set r m → degree_unit ≤ most * m
+  pub lower : (m : ℕ) → IsChoice set r m → least * m ≤ degree_unit
+  pub most_small : most ≤ degree_unit
+  pub least_small : least ≤ degree_unit
 
 -- What is said of the degree of a pair at a chamber d. Chamber 1 has the place that is handed in.
 pub record IsPlaceOf (t : Symbol) (set : Allowed) (p : Pair) (first d : ℕ) (x : Place) : Type 0 where

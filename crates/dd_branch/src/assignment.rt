@@ -1,21 +1,21 @@
-ghost use Rattle.std.specs.Prelude.{◌≡◌, ℕ, ◌+◌, ◌-◌, [], ◌∷◌, ◌++◌, ◌*◌, ◌≤◌, ◌<◌, IsTrue, IfOk, MatchOption, length, take, slice_index, slice_index_or};
+ghost use Rattle.std.specs.Prelude.{◌≡◌, ℕ, ◌+◌, ◌-◌, [], ◌∷◌, ◌++◌, ◌*◌, ◌≤◌, ◌<◌, ◌↔◌, IsTrue, IfOk, MatchOption, Some, length, take, slice_index};
 ghost use Rattle.std.specs.Bool.{OnTrue};
+ghost use Rattle.std.specs.List.{slice_get};
 ghost use Rattle.dd_model.specs.Symbol.{Symbol as Tiling};
 ghost use Rattle.dd_model.specs.Code.{code};
 ghost use Rattle.dd_model.specs.Wanted.{IsMember};
 ghost use Rattle.dd_symbol.specs.Table.{column, part, symbol_with};
-ghost use Rattle.dd_symbol.specs.Building.{given, HaveOneLength, IsAccepted};
 ghost use Rattle.dd_invol.specs.Under.{HasNothingUnder, IsUnder};
 ghost use Rattle.dd_branch.specs.Assignment.{IsAssignment, IsBeginning, prefix_of, shortened, told};
 
-use crate::parts::{WHOLE, parts};
 use crate::places::{Place, add_places, least_choice};
+use crate::reciprocals::{DEGREE_UNIT, reciprocals};
 use crate::rests::Rests;
 use arrayvec::ArrayVec;
 use dd_canon::is_least;
-use dd_invol::{Leaves, Tests};
+use dd_invol::{CollectingSearch, PrefixSearch, build_if};
 use dd_model::{Memory, Pair, Request};
-use dd_symbol::{Connected, Refusal, Symbol, build};
+use dd_symbol::{Connected, Symbol};
 use dd_wanted::is_wanted;
 use std::alloc::Global;
 
@@ -27,8 +27,8 @@ pub(crate) struct Assignment {
     request: Request,
     /// The number of chambers.
     size: u8,
-    /// WHOLE divided by each degree.
-    parts: [u64; 217],
+    /// DEGREE_UNIT divided by each degree.
+    reciprocals: [u64; 217],
     /// What the table tells of each degree.
     places: ArrayVec<Place, 72>,
     /// The sums of the shares from each place on.
@@ -39,30 +39,21 @@ pub(crate) struct Assignment {
     sums: ArrayVec<u64, 73>,
 }
 
-/// The symbol with these lists, if they have at most 36 chambers and are one.
-fn built(
-    alloc: Global,
-    ops: [Vec<u32>; 3],
-    m01: Vec<u32>,
-    m12: Vec<u32>,
-) -> Result<Option<Connected>, Memory>
-    requires { HaveOneLength (given ops m01.items m12.items) }
-    ensures { IfOk result (λ found. MatchOption found (IsAccepted 36 (given ops m01.items m12.items) → ⊥) (λ c. c ≡ given ops m01.items m12.items)) }
+/// Whether a symbol is a member of the catalogue of a request.
+fn is_member(alloc: Global, request: &Request, symbol: &Connected) -> Result<bool, Memory>
+    ensures { IfOk result (λ yes. IsTrue yes ↔ IsMember request.now symbol.now) }
 {
-    match build(alloc, ops, m01, m12, 36) {
-        Ok(symbol) => Ok(Some(symbol)),
-        Err(why) => match why {
-            Refusal::Memory => Err(Memory),
-            _ => Ok(None),
-        },
+    if !is_wanted(alloc, request, symbol)? {
+        return Ok(false);
     }
+    is_least(alloc, symbol)
 }
 
 impl Assignment {
     /// What is known of a place.
     fn place(&self, place: usize) -> Place
         requires { place < length self.now.places.items }
-        ensures { result ≡ slice_index_or self.now.places.items place result }
+        ensures { slice_get self.now.places.items place ≡ Some result }
     {
         self.places.as_slice()[place]
     }
@@ -79,28 +70,30 @@ impl Assignment {
     fn sum(&self) -> u64
         requires { IsAssignment self.now }
         ensures is { result ≡ slice_index self.now.sums.items (told self.now) }
-        ensures small { result ≤ 72 * WHOLE }
+        ensures small { result ≤ 72 * DEGREE_UNIT }
     {
         self.sums.as_slice()[self.told()]
     }
 
-    /// At least the sum of WHOLE divided by the degree over all places, and so at least half of
-    /// WHOLE for each chamber where the curvature is 0. A part is rounded down, so 1 more is enough.
+    /// At least the sum of DEGREE_UNIT divided by the degree over all places, and so at least half of
+    /// DEGREE_UNIT for each chamber where the curvature is 0. A part is rounded down, so 1 more is enough.
     fn upper_sum(&self) -> u64
         requires { IsAssignment self.now }
-        ensures flat { (s : Tiling) → IsUnder (IsMember self.now.request) self.now.size (prefix_of self.now) s → self.now.size * WHOLE ≤ 2 * result }
-        ensures small { result ≤ 145 * WHOLE }
+        ensures flat { (s : Tiling) → IsUnder (IsMember self.now.request) self.now.size (prefix_of self.now) s
+            → self.now.size * DEGREE_UNIT ≤ 2 * result }
+        ensures small { result ≤ 145 * DEGREE_UNIT }
     {
         let told = self.told();
         self.sum() + told as u64 + self.rests.most[told]
     }
 
-    /// At most the sum of WHOLE divided by the degree over all places, and so at most half of
-    /// WHOLE for each chamber where the curvature is 0.
+    /// At most the sum of DEGREE_UNIT divided by the degree over all places, and so at most half of
+    /// DEGREE_UNIT for each chamber where the curvature is 0.
     fn lower_sum(&self) -> u64
         requires { IsAssignment self.now }
-        ensures flat { (s : Tiling) → IsUnder (IsMember self.now.request) self.now.size (prefix_of self.now) s → 2 * result ≤ self.now.size * WHOLE }
-        ensures small { result ≤ 144 * WHOLE }
+        ensures flat { (s : Tiling) → IsUnder (IsMember self.now.request) self.now.size (prefix_of self.now) s
+            → 2 * result ≤ self.now.size * DEGREE_UNIT }
+        ensures small { result ≤ 144 * DEGREE_UNIT }
     {
         self.sum() + self.rests.least[self.told()]
     }
@@ -116,7 +109,7 @@ impl Assignment {
         ensures size { self.new.size ≡ self.old.size }
         ensures undone { shortened self.new (length (prefix_of self.old)) ≡ self.old }
     {
-        let sum = self.sum() + self.parts[number as usize];
+        let sum = self.sum() + self.reciprocals[number as usize];
         self.prefix.push(number);
         self.sums.push(sum);
     }
@@ -135,7 +128,9 @@ impl Assignment {
     fn forced(&self, root: u8, k: u8) -> Option<u8>
         requires ready { IsAssignment self.now }
         requires earlier { root < told self.now }
-        ensures { MatchOption result (slice_index (prefix_of self.now) (3 * self.now.size + root) < k) (λ m. (m ≡ slice_index (prefix_of self.now) (3 * self.now.size + root)) × (k ≤ m)) }
+        ensures { MatchOption result
+            (slice_index (prefix_of self.now) (3 * self.now.size + root) < k)
+            (λ m. (m ≡ slice_index (prefix_of self.now) (3 * self.now.size + root)) × (k ≤ m)) }
     {
         let number = self.prefix.as_slice()[3 * self.size as usize + root as usize];
         if number < k {
@@ -156,7 +151,7 @@ impl Assignment {
         if (self.place(last).root as usize) < last {
             return false;
         }
-        let flat = u64::from(self.size) * WHOLE;
+        let flat = u64::from(self.size) * DEGREE_UNIT;
         if 2 * self.upper_sum() < flat {
             return true;
         }
@@ -192,7 +187,9 @@ impl Assignment {
     fn symbol(&self) -> Result<Option<Connected>, Memory>
         requires ready { IsAssignment self.now }
         requires whole { length (prefix_of self.now) ≡ 5 * self.now.size }
-        ensures { IfOk result (λ found. MatchOption found (HasNothingUnder (IsMember self.now.request) self.now.size (prefix_of self.now)) (λ c. c ≡ symbol_with self.now.size (prefix_of self.now))) }
+        ensures { IfOk result (λ found. MatchOption found
+            (HasNothingUnder (IsMember self.now.request) self.now.size (prefix_of self.now))
+            (λ c. c ≡ symbol_with self.now.size (prefix_of self.now))) }
     {
         let n = self.size as usize;
         let s0 = self.images(0)?;
@@ -200,23 +197,21 @@ impl Assignment {
         let s2 = self.images(2)?;
         let m01 = self.degrees(3 * n)?;
         let m12 = self.degrees(4 * n)?;
-        let found = built(self.alloc, [s0, s1, s2], m01, m12)?;
-        Ok(found)
+        build_if(self.alloc, [s0, s1, s2], m01, m12)
     }
 
     /// The member whose code is the prefix, if there is one.
     fn member(&self) -> Result<Option<Connected>, Memory>
         requires ready { IsAssignment self.now }
         requires whole { length (prefix_of self.now) ≡ 5 * self.now.size }
-        ensures { IfOk result (λ found. MatchOption found (HasNothingUnder (IsMember self.now.request) self.now.size (prefix_of self.now)) (λ c. IsUnder (IsMember self.now.request) self.now.size (prefix_of self.now) c)) }
+        ensures { IfOk result (λ found. MatchOption found
+            (HasNothingUnder (IsMember self.now.request) self.now.size (prefix_of self.now))
+            (λ c. IsUnder (IsMember self.now.request) self.now.size (prefix_of self.now) c)) }
     {
         let Some(symbol) = self.symbol()? else {
             return Ok(None);
         };
-        if !is_wanted(self.alloc, &self.request, &symbol)? {
-            return Ok(None);
-        }
-        if !is_least(self.alloc, &symbol)? {
+        if !is_member(self.alloc, &self.request, &symbol)? {
             return Ok(None);
         }
         Ok(Some(symbol))
@@ -227,7 +222,6 @@ impl Assignment {
         requires { symbol.now.size ≤ 36 }
         ensures { IfOk result (λ prefix. prefix.items ≡ take (3 * symbol.now.size) (code symbol.now)) }
     {
-        symbol.known();
         let numbers = symbol.code(alloc)?;
         let mut prefix = ArrayVec::new();
         for k in 0..3 * symbol.size() as usize {
@@ -241,19 +235,18 @@ impl Assignment {
         requires { table.now.size ≤ 36 }
         ensures { IfOk result (λ a. IsBeginning q.now table.now a) }
     {
-        table.known();
         let symbol = table.symbol();
         let prefix = Assignment::images_of(alloc, symbol)?;
         let mut places = ArrayVec::new();
-        add_places(&mut places, symbol, &q.faces, Pair::Tile);
-        add_places(&mut places, symbol, &q.degrees, Pair::Vertex);
+        add_places(&mut places, table, &q.faces, Pair::Tile);
+        add_places(&mut places, table, &q.degrees, Pair::Vertex);
         let mut sums = ArrayVec::new();
         sums.push(0);
         Ok(Assignment {
             alloc,
             request: *q,
             size: symbol.size() as u8,
-            parts: parts(),
+            reciprocals: reciprocals(),
             rests: Rests::of(places.as_slice()),
             places,
             prefix,
@@ -262,7 +255,7 @@ impl Assignment {
     }
 }
 
-impl Tests for Assignment {
+impl PrefixSearch for Assignment {
     ghost use Rattle.dd_model.specs.Wanted.{IsMember};
     ghost use Rattle.dd_branch.specs.Assignment.{IsAssignment, prefix_of, shortened};
 
@@ -317,7 +310,7 @@ impl Tests for Assignment {
     }
 }
 
-impl Leaves for Assignment {
+impl CollectingSearch for Assignment {
     fn add(&mut self, list: &mut Vec<Connected>) -> Result<(), Memory> {
         let Some(member) = self.member()? else {
             return Ok(());

@@ -7,9 +7,9 @@ ghost use Rattle.dd_invol.specs.Under.{HasNothingUnder};
 use crate::levels::Level;
 use crate::members::add_degrees;
 use arrayvec::ArrayVec;
-use dd_invol::{Leaves, Starts, Stem, Table, Tests, Visit};
+use dd_invol::{CollectingSearch, PrefixSearch, Starts, Stem, Table, Visit};
 use dd_model::{Memory, Request};
-use dd_shares::{Shares, is_odd};
+use dd_shares::{Shares, parity_rules_out};
 use dd_symbol::Connected;
 use std::alloc::Global;
 use std::marker::Model;
@@ -44,7 +44,7 @@ impl Descent {
     ghost use Rattle.dd_invol.specs.Rows.{depth_of, IsReady};
     ghost use Rattle.dd_invol.specs.Stem.{prefix_of, size_of, shortened};
     ghost use Rattle.dd_shares.specs.Kept.{mark_of, rolled_back};
-    ghost use Rattle.dd_branch.specs.Descent.{IsDescent, shorter};
+    ghost use Rattle.dd_branch.specs.Descent.{IsDescent, shorter, taken_back};
     ghost use Rattle.dd_branch.specs.declared.levels.Level.{Level};
 
     /// The search from the empty prefix.
@@ -82,7 +82,7 @@ impl Descent {
     /// Takes away the last number of the stem, and what was put in and exchanged after a level.
     fn take_back(&mut self, level: Level)
         requires { IsReady self.old.stem.rows }
-        ensures { self.new ≡ record { request = self.old.request; stem = shortened self.old.stem level.rows; shares = rolled_back self.old.shares level.shares; levels = self.old.levels } }
+        ensures { self.new ≡ taken_back self.old level }
     {
         self.stem.leave(level.rows);
         self.shares.undo(level.shares);
@@ -94,15 +94,12 @@ impl Descent {
     fn is_dead(&mut self) -> bool
         requires { IsDescent self.old }
         ensures same { self.new ≡ self.old }
-        ensures dead { IsTrue result → HasNothingUnder (IsMember self.old.request) (size_of self.old.stem) (prefix_of self.old.stem) }
+        ensures dead { IsTrue result
+            → HasNothingUnder (IsMember self.old.request) (size_of self.old.stem) (prefix_of self.old.stem) }
     {
-        if is_odd(self.stem.rows()) {
-            return true;
-        }
-        if self.shares.exceeds(self.stem.rows()) {
-            return true;
-        }
-        self.stem.is_beaten(&mut self.starts, &mut self.visit)
+        parity_rules_out(self.stem.rows())
+            || self.shares.rules_out(self.stem.rows())
+            || self.stem.is_beaten(&mut self.starts, &mut self.visit)
     }
 
     /// Puts a number at the end of the prefix, unless it is sure that no member is under the longer
@@ -116,7 +113,8 @@ impl Descent {
         ensures longer { OnTrue result (prefix_of self.new.stem ≡ prefix_of self.old.stem ++ number ∷ []) }
         ensures undone { OnTrue result (shorter self.new ≡ self.old) }
         ensures same { OnFalse result (self.new ≡ self.old) }
-        ensures dead { OnFalse result (HasNothingUnder (IsMember self.old.request) (size_of self.old.stem) (prefix_of self.old.stem ++ number ∷ [])) }
+        ensures dead { OnFalse result (HasNothingUnder (IsMember self.old.request) (size_of self.old.stem)
+            (prefix_of self.old.stem ++ number ∷ [])) }
     {
         let level = self.level();
         if !self.stem.put(number) {
@@ -146,7 +144,8 @@ impl Descent {
         ensures request { OnTrue result (self.new.request ≡ self.old.request) }
         ensures size { OnTrue result (size_of self.new.stem ≡ size_of self.old.stem) }
         ensures prefix { OnTrue result (prefix_of self.new.stem ≡ prefix.now) }
-        ensures dead { OnFalse result (HasNothingUnder (IsMember self.old.request) (size_of self.old.stem) prefix.now) }
+        ensures dead { OnFalse result
+            (HasNothingUnder (IsMember self.old.request) (size_of self.old.stem) prefix.now) }
     {
         for number in prefix {
             if !self.grow(*number) {
@@ -157,7 +156,7 @@ impl Descent {
     }
 }
 
-impl Tests for Descent {
+impl PrefixSearch for Descent {
     ghost use Rattle.dd_invol.specs.Stem.{prefix_of, size_of};
     ghost use Rattle.dd_branch.specs.Descent.{IsDescent, shorter};
 
@@ -200,15 +199,13 @@ impl Tests for Descent {
     }
 }
 
-impl Leaves for Descent {
+impl CollectingSearch for Descent {
     fn add(&mut self, list: &mut Vec<Connected>) -> Result<(), Memory> {
         let found = Table::of(self.alloc, self.stem.size(), self.stem.prefix())?;
         let Some(table) = found else {
             return Ok(());
         };
-        table.known();
-        add_degrees(self.alloc, &table, &self.request, list)?;
-        Ok(())
+        add_degrees(self.alloc, &table, &self.request, list)
     }
 }
 

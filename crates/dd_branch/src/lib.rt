@@ -6,8 +6,8 @@ mod descent;
 mod laws;
 mod levels;
 mod members;
-mod parts;
 mod places;
+mod reciprocals;
 mod rests;
 mod search;
 

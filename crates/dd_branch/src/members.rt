@@ -15,18 +15,14 @@ pub fn add_degrees(
     q: &Request,
     list: &mut Vec<Connected>,
 ) -> Result<(), Memory>
-    requires { t.now.size ≤ 36 }
     ensures { OnOk result (Appends (AreMembersWith q.now t.now) list.old.items list.new.items) }
 {
-    t.known();
     let mut search = Assignment::new(alloc, t.symbol(), q)?;
-    find(&mut search, list)?;
-    Ok(())
+    find(&mut search, list)
 }
 
 /// All members of a request's catalogue that have the involutions of a table, ascending.
 pub fn degrees(alloc: Global, t: &Table, q: &Request) -> Result<Vec<Connected>, Memory>
-    requires { t.now.size ≤ 36 }
     ensures { IfOk result (λ list. AreMembersWith q.now t.now list.items) }
 {
     let mut list = Vec::new(alloc);

@@ -3,11 +3,12 @@ ghost use Rattle.dd_model.specs.Symbol.{IsChamber};
 ghost use Rattle.dd_model.specs.Cell.{IsLeastTurns};
 ghost use Rattle.dd_branch.specs.Choice.{IsChoice, HasNoChoiceFrom, IsLeastChoice};
 ghost use Rattle.dd_branch.specs.Place.{IsRoot, IsPlaceOf, HasPlaces};
+ghost use Rattle.dd_branch.specs.Reciprocals.{degree_unit};
 
-use crate::parts::{lower_share, upper_share};
+use crate::reciprocals::{lower_share, upper_share};
 use arrayvec::ArrayVec;
 use dd_model::{Allowed, Pair};
-use dd_symbol::Symbol;
+use dd_symbol::Connected;
 
 /// What a table tells of one degree. The degrees of a table have places, those of the tiles at the
 /// chambers 1 to n first, and then those of the vertices.
@@ -17,9 +18,9 @@ pub(crate) struct Place {
     pub(crate) root: u8,
     /// The least positive number of turns that fixes a chamber of the cell.
     pub(crate) turns: u8,
-    /// At least WHOLE divided by the degree, whatever it will be.
+    /// At least DEGREE_UNIT divided by the degree, whatever it will be.
     pub(crate) most: u64,
-    /// At most WHOLE divided by the degree, whatever it will be.
+    /// At most DEGREE_UNIT divided by the degree, whatever it will be.
     pub(crate) least: u64,
 }
 
@@ -49,12 +50,12 @@ pub(crate) fn least_choice(set: &Allowed, turns: u8, k: u8) -> Option<u8>
 }
 
 /// The least chamber of the cell of a chamber, which is met within r turns.
-fn least_of_cell(symbol: &Symbol, pair: Pair, chamber: u32, turns: u8) -> u32
-    requires chamber { IsChamber symbol.now chamber }
-    requires turns { IsLeastTurns symbol.now pair chamber turns }
-    ensures { IsRoot symbol.now pair chamber result }
+fn least_of_cell(table: &Connected, pair: Pair, chamber: u32, turns: u8) -> u32
+    requires chamber { IsChamber table.now chamber }
+    requires turns { IsLeastTurns table.now pair chamber turns }
+    ensures { IsRoot table.now pair chamber result }
 {
-    symbol.known();
+    let symbol = table.symbol();
     let mut least = chamber;
     let mut place = chamber;
     for _turn in 0..turns {
@@ -66,22 +67,22 @@ fn least_of_cell(symbol: &Symbol, pair: Pair, chamber: u32, turns: u8) -> u32
 }
 
 /// The least positive number of turns that fixes a chamber of the cell of a chamber.
-fn turns_of(symbol: &Symbol, pair: Pair, chamber: u32) -> u8
-    requires small { symbol.now.size ≤ 36 }
-    requires chamber { IsChamber symbol.now chamber }
-    ensures turns { IsLeastTurns symbol.now pair chamber result }
+fn turns_of(table: &Connected, pair: Pair, chamber: u32) -> u8
+    requires small { table.now.size ≤ 36 }
+    requires chamber { IsChamber table.now chamber }
+    ensures turns { IsLeastTurns table.now pair chamber result }
     ensures few { result ≤ 36 }
 {
-    symbol.known();
+    let symbol = table.symbol();
     let turns = symbol.degree(pair, chamber) / symbol.branching(pair, chamber);
     turns as u8
 }
 
-/// WHOLE divided by the least degree that may stand at a place, rounded up.
+/// DEGREE_UNIT divided by the least degree that may stand at a place, rounded up.
 fn most_share(set: &Allowed, turns: u8) -> u64
     requires { turns ≤ 36 }
-    ensures share { (m : ℕ) → IsChoice set.now turns m → 1 ≤ turns → 1732842634723200 ≤ result * m }
-    ensures small { result ≤ 1732842634723200 }
+    ensures share { (m : ℕ) → IsChoice set.now turns m → 1 ≤ turns → degree_unit ≤ result * m }
+    ensures small { result ≤ degree_unit }
 {
     match least_choice(set, turns, 0) {
         Some(degree) => upper_share(degree),
@@ -90,14 +91,14 @@ fn most_share(set: &Allowed, turns: u8) -> u64
 }
 
 /// What a table tells of the degree of a pair at a chamber, where chamber 1 has the place `first`.
-fn place_of(symbol: &Symbol, set: &Allowed, pair: Pair, first: u8, chamber: u32) -> Place
-    requires small { symbol.now.size ≤ 36 }
+fn place_of(table: &Connected, set: &Allowed, pair: Pair, first: u8, chamber: u32) -> Place
+    requires small { table.now.size ≤ 36 }
     requires first { first ≤ 36 }
-    requires chamber { IsChamber symbol.now chamber }
-    ensures { IsPlaceOf symbol.now set.now pair first chamber result }
+    requires chamber { IsChamber table.now chamber }
+    ensures { IsPlaceOf table.now set.now pair first chamber result }
 {
-    let turns = turns_of(symbol, pair, chamber);
-    let least = least_of_cell(symbol, pair, chamber, turns);
+    let turns = turns_of(table, pair, chamber);
+    let least = least_of_cell(table, pair, chamber, turns);
     Place {
         root: first + (least - 1) as u8,
         turns,
@@ -109,16 +110,16 @@ fn place_of(symbol: &Symbol, set: &Allowed, pair: Pair, first: u8, chamber: u32)
 /// Adds the places of a pair, one for each chamber.
 pub(crate) fn add_places(
     places: &mut ArrayVec<Place, 72>,
-    symbol: &Symbol,
+    table: &Connected,
     set: &Allowed,
     pair: Pair,
 )
-    requires small { symbol.now.size ≤ 36 }
+    requires small { table.now.size ≤ 36 }
     requires room { length places.old.items ≤ 36 }
-    ensures { HasPlaces symbol.now set.now pair places.old.items places.new.items }
+    ensures { HasPlaces table.now set.now pair places.old.items places.new.items }
 {
     let first = places.len() as u8;
-    for k in 0..symbol.size() {
-        places.push(place_of(symbol, set, pair, first, k + 1));
+    for k in 0..table.symbol().size() {
+        places.push(place_of(table, set, pair, first, k + 1));
     }
 }

@@ -1,10 +1,11 @@
 ghost use Rattle.std.specs.Prelude.{ℕ, ◌≤◌, ◌<◌, length, slice_index_or};
 ghost use Rattle.dd_branch.specs.Rests.{AreRests};
 ghost use Rattle.dd_branch.specs.declared.places.Place.{Place as Known};
+ghost use Rattle.dd_branch.specs.Reciprocals.{degree_unit};
 
 use crate::places::Place;
 
-/// What the degrees from each place on have of WHOLE together, whatever they will be.
+/// What the degrees from each place on have of DEGREE_UNIT together, whatever they will be.
 #[derive(Drop)]
 pub(crate) struct Rests {
     /// At each place, the sum of `most` of it and of the later places.
@@ -17,8 +18,8 @@ impl Rests {
     /// The sums over some places.
     pub(crate) fn of(places: &[Place]) -> Rests
         requires few { length places.now ≤ 72 }
-        requires most { (j : ℕ) (x : Known) → j < length places.now → (slice_index_or places.now j x).most ≤ 1732842634723200 }
-        requires least { (j : ℕ) (x : Known) → j < length places.now → (slice_index_or places.now j x).least ≤ 1732842634723200 }
+        requires most { (j : ℕ) (x : Known) → j < length places.now → (slice_index_or places.now j x).most ≤ degree_unit }
+        requires least { (j : ℕ) (x : Known) → j < length places.now → (slice_index_or places.now j x).least ≤ degree_unit }
         ensures { AreRests places.now result }
     {
         let mut most = [0; 73];

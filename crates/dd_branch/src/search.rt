@@ -32,10 +32,7 @@ impl Search {
         ensures { OnFalse result ((s : Tiling) → IsMemberUnder self.now.request job.now s → ⊥) }
     {
         let mut descent = Descent::new(alloc, &self.request, job.size as u8);
-        if !descent.reach(job.prefix.as_slice()) {
-            return false;
-        }
-        true
+        descent.reach(job.prefix.as_slice())
     }
 
     /// Those of some extensions of a job under which a member may be.

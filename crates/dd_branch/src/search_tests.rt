@@ -4,7 +4,7 @@ ghost use Rattle.dd_branch.specs.Descent.{IsDescent};
 use crate::tests::{asked, have_codes};
 use crate::{Descent, Search};
 use dd_front::Finder;
-use dd_invol::Tests;
+use dd_invol::PrefixSearch;
 use dd_model::{Job, Prefix, Request};
 use dd_symbol::Connected;
 use std::alloc::Global;

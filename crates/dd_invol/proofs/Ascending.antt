@@ -9,18 +9,12 @@ use Rattle.dd_model.specs.Symbol.{Symbol}
 use Rattle.dd_model.specs.Lists.{Begins}
 use Rattle.dd_model.specs.Code.{code, IsBelow}
 use Rattle.dd_model.specs.Wanted.{IsAscending}
+use Rattle.dd_model.proofs.Lists.{all_from_members}
+use Rattle.dd_model.proofs.Orders.{nat_cmp-less, nat_cmp-same}
 
 pub all-append : {A : Type 0} (P : A → Type 0) (xs ys : List A) → AllByRecursion P xs → AllByRecursion P ys → AllByRecursion P (xs ++ ys)
 all-append P [] ys hx hy = hy
 all-append P (x ∷ xs) ys hx hy = (hx.0, all-append P xs ys hx.1 hy)
-
--- what holds of each member holds of all
-pub all_from_members : {A : Type 0} (P : A → Type 0) (xs : List A) → ((s : A) → Contains xs s → P s) → AllByRecursion P xs
-all_from_members P [] each = tt
-all_from_members P (x ∷ xs) each = (
-  each x (Contains-append_left (x ∷ []) xs x (Contains-push [] x)),
-  all_from_members P xs (λ s there. each s (Contains-append_right (x ∷ []) xs s there)),
-)
 
 -- two ascending lists of which the first is below the second
 pub ascending-append : (xs ys : List Symbol) → IsAscending xs → IsAscending ys → ((s t : Symbol) → Contains xs s → Contains ys t → IsBelow s t) → IsAscending (xs ++ ys)
@@ -30,12 +24,6 @@ ascending-append (x ∷ xs) ys hx hy below = (
       (all_from_members (IsBelow x) ys (λ t there. below x t (Contains-append_left (x ∷ []) xs x (Contains-push [] x)) there)),
   ascending-append xs ys hx.1 hy (λ s t hs ht. below s t (Contains-append_right (x ∷ []) xs s hs) ht),
 )
-
-pub nat_cmp-same : (n : ℕ) → nat_cmp n n ≡ Equal
-nat_cmp-same n = grind arith
-
-nat_cmp-less : (a b : ℕ) → a < b → nat_cmp a b ≡ Less
-nat_cmp-less a b h = grind arith
 
 -- Two lists agree before a place.
 pub record AgreeBefore (n : ℕ) (xs ys : List ℕ) : Type 0 where

@@ -8,9 +8,9 @@ use Rattle.dd_model.specs.Symbol.{Symbol, IsChamber, op, operation}
 use Rattle.dd_model.specs.Code.{code, all_images}
 use Rattle.dd_model.specs.FirstVisit.{Grows}
 use Rattle.dd_model.proofs.Codes.{length-flat_images}
-use Rattle.dd_model.proofs.CellLists.{Contains-head, Contains-later}
 use Rattle.dd_model.proofs.FirstVisits.{IsMet, met_all}
 use Rattle.dd_model.proofs.LeastForms.{least_first_visit}
+use Rattle.dd_model.proofs.Lists.{Contains-head, Contains-later}
 use Rattle.dd_invol.specs.Places.{place}
 use Rattle.dd_invol.specs.Orderly.{IsOrderly}
 use Rattle.dd_invol.specs.FirstVisit.{greatest, image_in, IsFirstVisitPrefix}

@@ -13,12 +13,13 @@ use Rattle.dd_model.specs.declared.requests.Request.{Request}
 use Rattle.dd_invol.specs.FirstVisit.{IsFirstVisitPrefix, CanFollow}
 use Rattle.dd_model.specs.Jobs.{IsJobBelow, AreAscendingJobs, extended}
 use Rattle.dd_model.specs.Jobs.{IsMemberUnder, AreExtensions, AreChildren}
+use Rattle.dd_model.proofs.Lists.{Contains-one}
 use Rattle.dd_invol.proofs.Ascending.{begins_from, begins_less}
 use Rattle.dd_invol.proofs.Growth.{begins_take}
 use Rattle.dd_invol.proofs.Follows.{member_orderly}
 use Rattle.dd_invol.proofs.FirstVisits.{first_less, old_at}
 use Rattle.dd_invol.proofs.CodeFronts.{front_first_visit}
-use Rattle.dd_invol.proofs.JobLists.{below_by_number, jobs_one_after_another, only}
+use Rattle.dd_invol.proofs.JobLists.{below_by_number, jobs_one_after_another}
 use Rattle.dd_invol.specs.Under.{HasNothingUnder}
 use Rattle.dd_invol.specs.Stem.{Any}
 
@@ -70,11 +71,11 @@ pub extensions_more : (q : Request) (job : Job) (m : ℕ) (jobs : List Job) → 
 extensions_more q job m jobs old = record {
   ascending = jobs_one_after_another jobs (extended job m ∷ []) old.ascending (tt, tt) (λ a b ha hb.
       let child = old.extend a ha in
-      let last : extended job m ≡ b = only (extended job m) b hb in
+      let last : extended job m ≡ b = Contains-one (extended job m) b hb in
       subst (λ j. IsJobBelow j b) (sym child.is) (subst (IsJobBelow (extended job child.number)) last (extended_below job child.number m child.below)));
   extend = λ child there. ⊎_elim
       (λ early. let c = old.extend child early in record { number = c.number; below = let low = c.below in omega arith; is = c.is })
-      (λ late. record { number = m; below = omega arith; is = sym (only (extended job m) child late) })
+      (λ late. record { number = m; below = omega arith; is = sym (Contains-one (extended job m) child late) })
       (Contains-append_cases jobs (extended job m ∷ []) child there);
   complete = λ k low. ⊎_elim
       (λ early. ⊎_elim (λ there. inl (Contains-append_left jobs (extended job m ∷ []) (extended job k) there)) (λ none. inr none) (old.complete k early))
@@ -110,7 +111,7 @@ one_child q job jobs new none grown old =
       some = λ e. let clash : extended job 1 ∷ [] ≡ [] = sym whole ∙ e in absurd (ends clash);
       extensions = subst (AreExtensions q job) (sym whole) (record {
         ascending = (tt, tt);
-        extend = λ child there. (1, sym (only (extended job 1) child there));
+        extend = λ child there. (1, sym (Contains-one (extended job 1) child there));
         complete = λ k. ⊎_elim
             (λ there. absurd (let low = (subst (λ js. Contains js (extended job k)) none there).1 in omega arith))
             (λ nothing. inr nothing)

@@ -13,9 +13,11 @@ use Rattle.dd_model.specs.declared.jobs.Job.{Job}
 use Rattle.dd_model.specs.declared.requests.Request.{Request}
 use Rattle.dd_invol.specs.FirstVisit.{IsFirstVisitPrefix, CanFollow}
 use Rattle.dd_model.specs.Jobs.{IsJobBelow, AreAscendingJobs}
+use Rattle.dd_model.proofs.Lists.{Contains-none, Contains-one, all_from_members}
+use Rattle.dd_model.proofs.Orders.{nat_cmp-same}
 use Rattle.dd_invol.specs.Opening.{IsOpening, IsJobUnder, AreJobsUnder}
 use Rattle.dd_invol.specs.Under.{Appends}
-use Rattle.dd_invol.proofs.Ascending.{all-append, all_from_members, nat_cmp-same, less_at, agree_from, begins_more, begins_less, begins_from}
+use Rattle.dd_invol.proofs.Ascending.{all-append, less_at, agree_from, begins_more, begins_less, begins_from}
 use Rattle.dd_invol.proofs.Growth.{begins_take}
 use Rattle.dd_invol.proofs.FirstVisits.{first_less, first_front}
 
@@ -38,9 +40,6 @@ below_by_number j k prefix size bj bk lj lk less =
     ap (λ o. ordering_then o (slice_cmp nat_cmp j.prefix k.prefix)) (subst (λ z. nat_cmp j.size z ≡ Equal) size (nat_cmp-same j.size))
     ∙ less_at j.prefix k.prefix (length prefix) (agree_from prefix j.prefix k.prefix bj bk) lj lk less
 
-none_there : {A : Type 0} (x : A) → Contains [] x → ⊥
-none_there x there = let below = there.1 in omega arith
-
 -- the jobs under a prefix with a next number below k
 pub record AreJobsBefore (n end : ℕ) (prefix : List ℕ) (k : ℕ) (jobs : List Job) : Type 0 where
   pub ascending : AreAscendingJobs jobs
@@ -52,7 +51,7 @@ number_inside n end prefix job low under = let numbers = under.numbers in under.
 jobs_first : (n end : ℕ) (prefix : List ℕ) → length prefix < end → AreJobsBefore n end prefix 1 []
 jobs_first n end prefix low = record {
   ascending = tt;
-  members = λ job. ((λ there. absurd (none_there job there)), (λ under. let inside = number_inside n end prefix job low under.0 in let one = inside.0 in let less = under.1 in absurd (omega arith)));
+  members = λ job. ((λ there. absurd (Contains-none job there)), (λ under. let inside = number_inside n end prefix job low under.0 in let one = inside.0 in let less = under.1 in absurd (omega arith)));
 }
 
 longer_under : (n end : ℕ) (prefix : List ℕ) (k : ℕ) (job : Job) → length prefix < end → IsJobUnder n end prefix job → get_or job.prefix (length prefix) 0 ≡ k → IsJobUnder n end (prefix ++ k ∷ []) job
@@ -130,18 +129,12 @@ same_when_whole (x ∷ xs) (y ∷ ys) b e = ap (λ z. z ∷ ys) (sym b.0) ∙ ap
 begins_itself : (xs : List ℕ) → Begins xs xs
 begins_itself xs = begins_from xs xs (omega arith) (λ u h. refl)
 
-pub only : (x y : Job) → Contains (x ∷ []) y → x ≡ y
-only x y (u, low, e) = let first : u ≡ 0 = omega arith in sym (ap (λ k. slot k) first) ∙ e
-  where
-    slot : ℕ → Job
-    slot k = get_or (x ∷ []) k y
-
 jobs_whole : (n end : ℕ) (prefix : List ℕ) (job : Job) → length prefix ≡ end → IsFirstVisitPrefix n prefix → job.size ≡ n → job.prefix ≡ prefix → AreJobsUnder n end prefix (job ∷ [])
 jobs_whole n end prefix job whole first size is = record {
   ascending = (tt, tt);
   members = λ k. (
     (λ there.
-        let same : job ≡ k = only job k there in
+        let same : job ≡ k = Contains-one job k there in
         subst (IsJobUnder n end prefix) same (record {
           size = size;
           numbers = ap length is ∙ whole;
@@ -189,7 +182,7 @@ pub record AreOpeningBelow (k : ℕ) (jobs : List Job) : Type 0 where
 pub opening_first : AreOpeningBelow 1 []
 opening_first = record {
   ascending = tt;
-  members = λ job. ((λ there. absurd (none_there job there)), (λ is. let a = is.0 in let b = is.1 in absurd (omega arith)));
+  members = λ job. ((λ there. absurd (Contains-none job there)), (λ is. let a = is.0 in let b = is.1 in absurd (omega arith)));
 }
 
 pub opening_more : (k : ℕ) (old new : List Job) → 1 ≤ k → AreOpeningBelow k old → Appends (AreJobsUnder k (min (3 * k) 9) []) old new → AreOpeningBelow (k + 1) new

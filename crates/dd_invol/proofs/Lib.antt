@@ -1,7 +1,7 @@
 pub mod Ascending
 pub mod Places
 pub mod Prefixes
-pub mod Frames
+pub mod SearchSteps
 pub mod Distinct
 pub mod Orders
 pub mod Leastness

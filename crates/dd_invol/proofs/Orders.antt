@@ -1,12 +1,12 @@
 -- Different chambers in a list can be made the first of a renumbering.
 use Rattle.std.proofs.Common.{◌≡◌, ℕ, zero, suc, ◌+◌, ◌-◌, ◌<◌, ◌≤◌, true, false, cond, eqb, ltb, List, [], ◌∷◌, ◌++◌, length, length-append, get_or, map, refl, sym, ap, ◌∙◌, subst, ⊎_elim, arith}
 use Rattle.std.proofs.lemmas.Bool.{cases_eq, cases_lt, lt-ltb, le-ltb}
-use Rattle.std.proofs.lemmas.List.{get_or_append_left, get_or-map, length-map}
+use Rattle.std.proofs.lemmas.List.{get_or_append_left, length-map}
 use Rattle.std.specs.List.{AllByRecursion}
 use Rattle.dd_model.specs.Symbol.{item}
 use Rattle.dd_model.specs.Isomorphic.{IsBijection}
 use Rattle.dd_model.specs.Code.{count_from}
-use Rattle.dd_model.proofs.Bijections.{length-count_from, get_or-count_from}
+use Rattle.dd_model.proofs.CountFrom.{item-map-count_from, length-count_from, get_or-count_from}
 use Rattle.dd_invol.specs.Beaten.{Extends}
 use Rattle.dd_invol.specs.Distinct.{AreDistinct}
 use Rattle.dd_invol.proofs.Distinct.{Hits, distinct_values, all_map}
@@ -166,12 +166,6 @@ length-arrangement n g is =
 abbrev pub numbers : ℕ → List ℕ → List ℕ
 numbers n g = map (λ c. suc (place c g)) (count_from 1 n)
 
-pub item-made : (h : ℕ → ℕ) (n d : ℕ) → 1 ≤ d → d ≤ n → item (map h (count_from 1 n)) d ≡ h d
-item-made h n d low high =
-    let l = length-count_from 1 n in
-    let e : 1 + (d - 1) ≡ d = omega arith in
-    get_or-map h (count_from 1 n) (d - 1) 0 0 (omega (arith, l)) ∙ ap h (get_or-count_from 1 n (d - 1) (omega arith) ∙ e)
-
 pub member : (n : ℕ) (g : List ℕ) (d : ℕ) → IsArrangement n g → Within n d → place d g < length g
 member n g d is h =
     let l = length-count_from 1 n in
@@ -182,7 +176,7 @@ member n g d is h =
 pub arrangement_is_bijection : (n : ℕ) (g : List ℕ) → IsArrangement n g → IsBijection n (numbers n g)
 arrangement_is_bijection n g is =
     let len = length-arrangement n g is in
-    let number : (d : ℕ) → Within n d → item (numbers n g) d ≡ suc (place d g) = λ d h. item-made (λ c. suc (place c g)) n d h.0 h.1 in
+    let number : (d : ℕ) → Within n d → item (numbers n g) d ≡ suc (place d g) = λ d h. item-map-count_from (λ c. suc (place c g)) n d h.0 h.1 in
     record {
       images = length-map (count_from 1 n) (λ c. suc (place c g)) ∙ length-count_from 1 n;
       inverse = g;

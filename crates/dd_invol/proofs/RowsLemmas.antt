@@ -1,8 +1,7 @@
 -- What is put into a table and taken out again.
 use Rattle.std.proofs.Common.{◌≡◌, ◌≢◌, ℕ, zero, suc, ◌+◌, ◌-◌, ◌*◌, ◌/◌, ◌%◌, ◌<◌, ◌≤◌, List, [], ◌∷◌, ◌++◌, length, get_or, set, take, map, replicate, length-take-le, refl, sym, ap, ◌∙◌, subst, ⊎_elim, arith}
 use Rattle.std.proofs.lemmas.Bool.{cases_lt, cases_eq}
-use Rattle.std.proofs.lemmas.Bool.Decides.{nat_tests}
-use Rattle.std.proofs.lemmas.List.{get_or-map, get_or_past, length-map, get_or-set_same, get_or-set_other, set-set, set-get_or, length-set, length_push, take_at, get_or-take, get_or_push, get_or_append_left}
+use Rattle.std.proofs.lemmas.List.{get_or_past, length-map, get_or-set_same, get_or-set_other, set-set, set-get_or, length-set, length_push, take_at, get_or-take, get_or_push, get_or_append_left}
 use Rattle.std.proofs.lemmas.List.Folds.{sum_by-replicate}
 use Rattle.std.proofs.lemmas.List.Sums.{sum_by-set}
 use Rattle.std.specs.List.{sum_by}
@@ -12,15 +11,12 @@ use Rattle.dd_model.specs.Symbol.{Symbol, op, operation}
 use Rattle.dd_model.specs.Code.{count_from}
 use Rattle.dd_model.specs.Partial.{Completes}
 use Rattle.dd_canon.specs.Traversal.{unnumbered}
-use Rattle.dd_model.proofs.Bijections.{length-count_from, get_or-count_from}
+use Rattle.dd_model.proofs.Lists.{zero_at}
+use Rattle.dd_model.proofs.CountFrom.{length-count_from, get_or-map-count_from}
+use Rattle.dd_canon.proofs.Meetings.{numbered_counts_not}
 use Rattle.dd_invol.specs.Places.{index_at, place}
 use Rattle.dd_invol.specs.Rows.{images_in, partial_from, partial_of, depth_of, popped, unwind, unwound, IsReady, Learns, Excludes}
 use Rattle.dd_invol.specs.declared.rows.Rows.{Rows}
-
-made_at : (h : ℕ → ℕ) (n k : ℕ) → k < n → get_or (map h (count_from 1 n)) k 0 ≡ h (1 + k)
-made_at h n k low =
-    let size = length-count_from 1 n in
-    get_or-map h (count_from 1 n) k 0 0 (omega arith) ∙ ap h (get_or-count_from 1 n k low)
 
 same_place : (i : Index) (d : ℕ) → place i (1 + (d - 1)) ≡ place i d
 same_place Zero d = omega arith
@@ -29,9 +25,9 @@ same_place Two d = omega arith
 
 images_at : (numbers : List ℕ) (i : Index) (d : ℕ) → d - 1 < 36 → get_or (images_in numbers i) (d - 1) 0 ≡ get_or numbers (place i d) 0
 unfolding images_in
-images_at numbers i d low = made_at (λ d. get_or numbers (place i d) 0) 36 (d - 1) low ∙ ap (λ t. get_or numbers t 0) (same_place i d)
+images_at numbers i d low = get_or-map-count_from (λ d. get_or numbers (place i d) 0) 1 36 (d - 1) low ∙ ap (λ t. get_or numbers t 0) (same_place i d)
 
-images_past : (numbers : List ℕ) (i : Index) (d : ℕ) → 36 ≤ d - 1 → get_or (images_in numbers i) (d - 1) 0 ≡ 0
+pub images_past : (numbers : List ℕ) (i : Index) (d : ℕ) → 36 ≤ d - 1 → get_or (images_in numbers i) (d - 1) 0 ≡ 0
 unfolding images_in
 images_past numbers i d high =
     let size = length-map (count_from 1 36) (λ d. get_or numbers (place i d) 0) in
@@ -44,7 +40,7 @@ op_partial n numbers Zero d low = images_at numbers Zero d low
 op_partial n numbers One d low = images_at numbers One d low
 op_partial n numbers Two d low = images_at numbers Two d low
 
-op_past : (n : ℕ) (numbers : List ℕ) (i : Index) (d : ℕ) → 36 ≤ d - 1 → op (partial_from n numbers) i d ≡ 0
+pub op_past : (n : ℕ) (numbers : List ℕ) (i : Index) (d : ℕ) → 36 ≤ d - 1 → op (partial_from n numbers) i d ≡ 0
 op_past n numbers Zero d high = images_past numbers Zero d high
 op_past n numbers One d high = images_past numbers One d high
 op_past n numbers Two d high = images_past numbers Two d high
@@ -131,9 +127,6 @@ undone_after P a b c mark one e u = u ∙ ap (unwound b) e ∙ one.undone
 unknown_counts : unnumbered 0 ≡ 1
 unknown_counts = refl
 
-known_counts_not : (x : ℕ) → 1 ≤ x → unnumbered x ≡ 0
-known_counts_not x h = grind (arith, nat_tests)
-
 -- rows with one image more at a place where none was known
 pub record IsPut (r r' : Rows) (t e : ℕ) : Type 0 where
   pub size : r'.size ≡ r.size
@@ -171,7 +164,7 @@ put_ready r r' t e ready is low pos high none =
       room =
           let sums = sum_by-set unnumbered r.numbers t e 0 (omega arith) in
           let was : unnumbered (get_or r.numbers t 0) ≡ 1 = ap unnumbered none in
-          let now : unnumbered e ≡ 0 = known_counts_not e pos in
+          let now : unnumbered e ≡ 0 = numbered_counts_not e pos in
           let there : sum_by unnumbered r'.numbers ≡ sum_by unnumbered (set r.numbers t e) = ap (sum_by unnumbered) is.numbers in
           let room = ready.room in
           omega arith;
@@ -292,11 +285,6 @@ unwound_less r r' mark low is =
 -- so many zeros
 abbrev pub zeros : ℕ → List ℕ
 zeros m = replicate m 0
-
-zero_at : (m t : ℕ) → get_or (zeros m) t 0 ≡ 0
-zero_at zero t = refl
-zero_at (suc m) zero = refl
-zero_at (suc m) (suc t) = zero_at m t
 
 -- nothing is known of a table without images
 pub nothing_known : (n : ℕ) (i : Index) (d : ℕ) → op (partial_from n (zeros 108)) i d ≡ 0

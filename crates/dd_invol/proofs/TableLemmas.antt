@@ -1,5 +1,5 @@
 -- How a table is read from numbers.
-use Rattle.std.proofs.Common.{◌≡◌, ℕ, zero, suc, ◌+◌, ◌*◌, ◌<◌, ◌≤◌, List, [], ◌∷◌, ◌++◌, length, get_or, map, refl, sym, ap, ◌∙◌, subst, ⊎_elim, arith}
+use Rattle.std.proofs.Common.{◌≡◌, ℕ, suc, ◌+◌, ◌*◌, ◌<◌, ◌≤◌, List, [], ◌∷◌, ◌++◌, length, get_or, map, refl, sym, ap, ◌∙◌, subst, ⊎_elim, arith}
 use Rattle.std.proofs.lemmas.Bool.{cases_lt}
 use Rattle.std.proofs.lemmas.List.{map_push}
 use Rattle.dd_model.specs.declared.index.Index.{Index}
@@ -9,12 +9,12 @@ use Rattle.dd_model.specs.declared.pair.Pair.TheVariants.{Tile, Vertex, Edge}
 use Rattle.dd_model.specs.Symbol.{Symbol, IsTable, IsChamber, AreInvolutions, HasDegree, item, first, second, op, act, turn}
 use Rattle.dd_model.specs.Connected.{Connected}
 use Rattle.dd_model.specs.Cell.{IsPeriod, turned}
-use Rattle.dd_model.specs.Small.{IsSmallSymbol}
 use Rattle.dd_model.specs.Lists.{Begins}
 use Rattle.dd_model.specs.Code.{code, count_from}
 use Rattle.dd_model.proofs.Turns.{turned-last, period_bound}
+use Rattle.dd_model.proofs.CountFrom.{count_from-more}
 use Rattle.dd_invol.specs.Places.{place}
-use Rattle.dd_invol.specs.Table.{AreChambers, ArePeriods, HaveSameInvolutions, HasNoTable, IsTableOf, IsUnbranched, images_of, told}
+use Rattle.dd_invol.specs.Table.{AreChambers, ArePeriods, HaveSameInvolutions, HasNoTable, IsBareTable, IsTableOf, IsUnbranched, images_of, told}
 use Rattle.dd_invol.proofs.Ascending.{begins_at}
 use Rattle.dd_invol.proofs.Places.{chamber_at}
 use Rattle.dd_invol.proofs.TableFronts.{told_at, told_same, told_begins, lengths_told, length-images_of, place_inside}
@@ -22,19 +22,12 @@ use Rattle.dd_invol.proofs.SameInvolutions.{chamber-same, involutions-same, conn
 use Rattle.dd_invol.proofs.Unbranched.{HasPeriods, unbranched_of_periods, small_of_periods}
 use Rattle.dd_symbol.specs.Building.{listed, HaveOneLength, IsAccepted}
 
-pub count_last : (k n : ℕ) → count_from k (n + 1) ≡ count_from k n ++ (k + n) ∷ []
-count_last k zero = let e : k ≡ k + 0 = omega arith in ap (λ x. x ∷ []) e
-count_last k (suc n) =
-    let e : k + 1 + n ≡ k + suc n = omega arith in
-    let f : suc n + 1 ≡ suc (n + 1) = omega arith in
-    ap (count_from k) f ∙ ap (λ xs. k ∷ xs) (count_last (k + 1) n ∙ ap (λ x. count_from (k + 1) n ++ x ∷ []) e)
-
 -- one image more
 pub images_more : (n : ℕ) (numbers : List ℕ) (i : Index) → images_of (n + 1) numbers i ≡ images_of n numbers i ++ get_or numbers (place i (n + 1)) 0 ∷ []
 unfolding images_of
 images_more n numbers i =
     let e : 1 + n ≡ n + 1 = omega arith in
-    ap (map (λ d. get_or numbers (place i d) 0)) (count_last 1 n)
+    ap (map (λ d. get_or numbers (place i d) 0)) (count_from-more 1 n)
     ∙ map_push (λ d. get_or numbers (place i d) 0) (count_from 1 n) (1 + n)
     ∙ ap (λ d. map (λ d. get_or numbers (place i d) 0) (count_from 1 n) ++ get_or numbers (place i d) 0 ∷ []) e
 
@@ -201,11 +194,20 @@ listed_lengths n numbers m01 m12 xs ys zs are both =
       m12 = both.vertices.whole ∙ sym size;
     }
 
-pub table_of_told : (n : ℕ) (numbers m01 m12 : List ℕ) (built t : Symbol) → length numbers ≡ 3 * n → built ≡ told n numbers m01 m12 → t ≡ built → IsTableOf n numbers t
-table_of_told n numbers m01 m12 built t whole same is =
-    subst (IsTableOf n numbers) (sym same ∙ sym is) (record { size = refl; begins = told_begins n numbers m01 m12 whole })
+-- what was built is bare
+pub bare_of_told : (n : ℕ) (numbers m01 m12 : List ℕ) (built t : Symbol) → built ≡ told n numbers m01 m12 → t ≡ built → IsAccepted 36 built → HaveBothPeriods n numbers m01 m12 → IsBareTable t
+bare_of_told n numbers m01 m12 built t same is accepted both =
+    let inv = subst AreInvolutions same accepted.symbol.symbol.table.involutions in
+    subst IsBareTable (sym is) (record {
+      symbol = accepted.symbol.symbol;
+      connected = accepted.connected;
+      unbranched = subst IsUnbranched (sym same) (told_unbranched n numbers m01 m12 both inv);
+      small = accepted.within;
+    })
 
-pub told_unbranched_of : (n : ℕ) (numbers m01 m12 : List ℕ) (built t : Symbol) → built ≡ told n numbers m01 m12 → t ≡ built → IsSmallSymbol built → HaveBothPeriods n numbers m01 m12 → IsUnbranched t
-told_unbranched_of n numbers m01 m12 built t same is small both =
-    let inv = subst AreInvolutions same small.symbol.table.involutions in
-    subst IsUnbranched (sym same ∙ sym is) (told_unbranched n numbers m01 m12 both inv)
+pub table_of_told : (n : ℕ) (numbers m01 m12 : List ℕ) (built t : Symbol) → length numbers ≡ 3 * n → built ≡ told n numbers m01 m12 → t ≡ built → IsBareTable t → IsTableOf n numbers t
+table_of_told n numbers m01 m12 built t whole same is bare = record {
+  bare = bare;
+  size = ap (λ s. s.size) (is ∙ same);
+  begins = subst (λ s. Begins numbers (code s)) (sym same ∙ sym is) (told_begins n numbers m01 m12 whole);
+}

@@ -1,9 +1,11 @@
 -- A traversal of a partial table from some chamber, beside a prefix.
-use Rattle.std.proofs.Common.{◌≡◌, ◌≢◌, ℕ, zero, suc, ◌+◌, ◌-◌, ◌/◌, ◌%◌, ◌<◌, ◌≤◌, List, [], ◌∷◌, length, get_or, replicate, refl, sym, ap, ◌∙◌, subst, inl, ⊎_elim, arith}
+use Rattle.std.proofs.Common.{◌≡◌, ◌≢◌, ℕ, ◌+◌, ◌-◌, ◌/◌, ◌%◌, ◌<◌, ◌≤◌, List, [], ◌∷◌, length, get_or, replicate, sym, ap, ◌∙◌, subst, inl, ⊎_elim, arith}
 use Rattle.std.proofs.lemmas.Bool.{cases_lt}
 use Rattle.std.proofs.lemmas.List.Folds.{sum_by-replicate}
 use Rattle.std.specs.List.{sum_by}
 use Rattle.dd_model.specs.Symbol.{Symbol, item, op}
+use Rattle.dd_model.proofs.Lists.{zero_at}
+use Rattle.std.proofs.lemmas.List.{length-replicate}
 use Rattle.dd_canon.specs.Traversal.{unnumbered, IsVisit, IsMeeting}
 use Rattle.dd_invol.specs.Places.{index_at}
 use Rattle.dd_invol.specs.Beaten.{ReadsKnown, IsBeaten, Extends, AreMet}
@@ -13,22 +15,13 @@ use Rattle.dd_invol.proofs.Distinct.{distinct_from, all_from}
 abbrev pub zeros : ℕ → List ℕ
 zeros m = replicate m 0
 
-zero_at : (m t : ℕ) → get_or (zeros m) t 0 ≡ 0
-zero_at zero t = refl
-zero_at (suc m) zero = refl
-zero_at (suc m) (suc t) = zero_at m t
-
-length_zeros : (m : ℕ) → length (zeros m) ≡ m
-length_zeros zero = refl
-length_zeros (suc m) = ap suc (length_zeros m)
-
 -- nothing has been met
 pub visit_none : (n : ℕ) (order number : List ℕ) → order ≡ [] → number ≡ zeros n → IsVisit n order number
 visit_none n order number none blank =
     let count : length order ≡ 0 = ap length none in
     let sums : sum_by unnumbered number ≡ n = ap (sum_by unnumbered) blank ∙ sum_by-replicate unnumbered n 0 ∙ omega arith in
     record {
-      numbers = ap length blank ∙ length_zeros n;
+      numbers = ap length blank ∙ length-replicate n 0;
       within = λ k low high. absurd (omega arith);
       numbered = λ k low high. absurd (omega arith);
       ordered = λ d low high. inl (ap (λ xs. item xs d) blank ∙ zero_at n (d - 1));

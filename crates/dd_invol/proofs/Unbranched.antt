@@ -5,25 +5,17 @@ use Rattle.dd_model.specs.declared.pair.Pair.TheVariants.{Tile, Vertex, Edge}
 use Rattle.dd_model.specs.Symbol.{Symbol, IsTable, IsSymbol, IsChamber, AreInvolutions, HasDegree, first, second, op, degree}
 use Rattle.dd_model.specs.Cell.{InCell, IsPeriod, IsLeastTurns, IsBranching}
 use Rattle.dd_model.specs.Small.{IsSmallSymbol}
-use Rattle.dd_model.proofs.Branching.{branching_exists}
+use Rattle.dd_model.proofs.Branching.{branching_exists, turns-along}
 use Rattle.dd_model.proofs.Codes.{same_items}
-use Rattle.dd_model.proofs.CellWalks.{in_cell-refl, in_cell-sym, in_cell-trans, in_cell-first, in_cell-second}
+use Rattle.dd_model.proofs.CellWalks.{in_cell-refl, in_cell-first, in_cell-second}
 use Rattle.dd_model.proofs.Turns.{IsLeastTurns-from_period, least_turns_unique}
+use Rattle.dd_model.proofs.Numbers.{quotient_bound}
 use Rattle.dd_invol.specs.Table.{IsUnbranched, HaveSameInvolutions}
 use Rattle.dd_invol.proofs.SameInvolutions.{chamber-same, least_turns-same}
 
 -- each degree of a pair is the least number of turns that fixes the chamber
 pub record HasPeriods (s : Symbol) (p : Pair) : Type 0 where
   pub each : (d : ℕ) → IsChamber s d → IsPeriod s p d (degree s p d)
-
-turns-along : (s : Symbol) → AreInvolutions s → (p : Pair) (d l r : ℕ) → IsChamber s d → InCell s p d l → IsLeastTurns s p d r → IsLeastTurns s p l r
-turns-along s inv p d l r h there turns = record {
-  positive = turns.positive;
-  chamber = turns.chamber;
-  in_cell = in_cell-trans s p l d turns.chamber (in_cell-sym s inv p d l h there) turns.in_cell;
-  fixed = turns.fixed;
-  least = λ k e pos inside fixed. turns.least k e pos (in_cell-trans s p d l e there inside) fixed;
-}
 
 -- chambers of one cell have one period
 degree-along : (s : Symbol) → AreInvolutions s → (p : Pair) → HasPeriods s p → (d l : ℕ) → IsChamber s d → IsChamber s l → InCell s p d l → degree s p l ≡ degree s p d
@@ -70,9 +62,6 @@ unbranched_of_periods s inv tiles vertices = record {
 small_value : (v : ℕ) → v ≡ 1 → v ≤ 30
 small_value v e = omega arith
 
-edge_value : (v r : ℕ) → 1 ≤ r → v * r ≡ 2 → v ≤ 30
-edge_value v r pos e = grind arith
-
 pub small_of_periods : (s : Symbol) → IsTable s → ((d : ℕ) → IsChamber s d → HasDegree s Edge d) → HasPeriods s Tile → HasPeriods s Vertex → s.size ≤ 16384 → IsSmallSymbol s
 small_of_periods s is commuting tiles vertices few = record {
   symbol = symbol_of_periods s is commuting tiles vertices;
@@ -80,7 +69,7 @@ small_of_periods s is commuting tiles vertices few = record {
   branching = λ p d v h. elim p as (λ q. IsBranching s q d v → v ≤ 30) [
     | Tile ↦ λ b. small_value v (value_of_periods s is.involutions Tile tiles d v h b)
     | Vertex ↦ λ b. small_value v (value_of_periods s is.involutions Vertex vertices d v h b)
-    | Edge ↦ λ b. edge_value v b.r b.least_turns.positive b.quotient
+    | Edge ↦ λ b. quotient_bound v b.r b.least_turns.positive b.quotient
   ];
 }
 

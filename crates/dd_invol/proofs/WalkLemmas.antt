@@ -2,8 +2,7 @@
 use Rattle.std.proofs.Common.{◌≡◌, ◌≢◌, ◌↔◌, IsTrue, leb, Option, Some, None, MatchOption, ℕ, ◌+◌, ◌*◌, ◌<◌, ◌≤◌, List, [], ◌∷◌, ◌++◌, length, get_or, refl, sym, ap, ◌∙◌, subst, inl, inr, ⊎_elim, arith}
 use Rattle.std.proofs.lemmas.Bool.{cases_lt, cases_eq}
 use Rattle.std.proofs.lemmas.List.{ext_get_or, get_or_append_left, append_assoc}
-use Rattle.std.proofs.lemmas.Cmp.{nat_list_cmp_total}
-use Rattle.std.specs.Ordering.{nat_cmp, ordering_reverse}
+use Rattle.std.specs.Ordering.{nat_cmp}
 use Rattle.std.specs.Cmp.Lexicographic.{slice_cmp}
 use Rattle.std.specs.declared.cmp.Ordering.TheVariants.{Less, Greater}
 use borrow.Author.Tests.{leb-true, le-leb}
@@ -12,10 +11,9 @@ use Rattle.dd_model.specs.declared.pair.Pair.TheVariants.{Edge}
 use Rattle.dd_model.specs.Cell.{AreCells}
 use Rattle.dd_model.specs.Wanted.{AtMost}
 use Rattle.dd_model.proofs.CellLists.{cells_unique}
-use Rattle.dd_invol.specs.Frame.{IsLonger}
+use Rattle.dd_invol.specs.Search.{IsLonger}
 use Rattle.dd_invol.specs.Growth.{Growing}
-use Rattle.dd_model.specs.Symbol.{Symbol, IsSymbol}
-use Rattle.dd_model.specs.Connected.{Connected}
+use Rattle.dd_model.specs.Symbol.{Symbol}
 use Rattle.dd_model.specs.Lists.{Begins}
 use Rattle.dd_model.specs.Code.{code, code_cmp, all_images}
 use Rattle.dd_model.specs.Jobs.{extended}
@@ -23,9 +21,10 @@ use Rattle.dd_model.specs.declared.jobs.Job.{Job}
 use Rattle.dd_model.specs.declared.requests.Request.{Request}
 use Rattle.dd_model.proofs.Codes.{length-flat_images}
 use Rattle.dd_model.proofs.LeastForms.{not_above}
+use Rattle.dd_model.proofs.Orders.{list_not_below_both}
 use Rattle.dd_invol.specs.Orderly.{IsOrderly}
 use Rattle.dd_invol.specs.Stem.{Any, prefix_of, size_of}
-use Rattle.dd_invol.specs.Table.{IsUnbranched, HaveSameInvolutions, HasNoTable, IsTableOf}
+use Rattle.dd_invol.specs.Table.{HaveSameInvolutions, HasNoTable, IsTableOf}
 use Rattle.dd_invol.specs.Under.{IsUnder, HasNothingUnder, HasNoNumberFrom, SkipsTo, next_number}
 use Rattle.dd_invol.specs.Walk.{IsSought, IsListed, IsPast, IsNext, HasNoneLeft, IsLeastNext, here}
 use Rattle.dd_invol.proofs.Ascending.{begins_at, begins_length, begins_from, begins_more, begins_less, agree_from, less_at}
@@ -147,24 +146,21 @@ none_left q job bound k none old s is past = old.none s is past (none s (listed_
 pub record IsRead (job : Job) (t : Symbol) : Type 0 where
   pub whole : length job.prefix ≡ 3 * job.size
   pub table : IsTableOf job.size job.prefix t
-  pub symbol : IsSymbol t
-  pub connected : Connected t
-  pub unbranched : IsUnbranched t
 
 -- it is the one table there
 only_read : (q : Request) (job : Job) (s t : Symbol) → IsRead job t → IsListed q job s → s ≡ t
 only_read q job s t read is =
     let size : s.size ≡ t.size = is.size ∙ sym read.table.size in
     let whole : length job.prefix ≡ 3 * t.size = read.whole ∙ ap (λ n. 3 * n) (sym read.table.size) in
-    let back : HaveSameInvolutions s t = front_same t s job.prefix read.symbol.table is.symbol.table (sym size) (whole ∙ ap (λ n. 3 * n) (sym size)) is.begins read.table.begins in
-    unbranched_unique s t is.symbol read.symbol is.unbranched read.unbranched back
+    let back : HaveSameInvolutions s t = front_same t s job.prefix read.table.bare.symbol.table is.symbol.table (sym size) (whole ∙ ap (λ n. 3 * n) (sym size)) is.begins read.table.begins in
+    unbranched_unique s t is.symbol read.table.bare.symbol is.unbranched read.table.bare.unbranched back
 
 past_is : (job : Job) (t : Symbol) (bound : List ℕ) → length job.prefix ≡ 3 * job.size → t.size ≡ job.size → Begins job.prefix (code t) → slice_cmp nat_cmp bound (all_images t) ≡ slice_cmp nat_cmp bound job.prefix
 past_is job t bound whole size begins = ap (slice_cmp nat_cmp bound) (front_is t job.prefix (whole ∙ ap (λ n. 3 * n) (sym size)) begins)
 
 pub next_read : (q : Request) (job : Job) (bound : List ℕ) (t : Symbol) → IsRead job t → IsSought q t → slice_cmp nat_cmp bound job.prefix ≡ Less → IsNext q job bound t
 next_read q job bound t read sought past = record {
-  listed = record { symbol = read.symbol; connected = read.connected; unbranched = read.unbranched; sought = sought; size = read.table.size; begins = read.table.begins };
+  listed = record { symbol = read.table.bare.symbol; connected = read.table.bare.connected; unbranched = read.table.bare.unbranched; sought = sought; size = read.table.size; begins = read.table.begins };
   past = past_is job t bound read.whole read.table.size read.table.begins ∙ past;
   first = λ s is later. not_above t s (inr (sym (only_read q job s t read is)));
 }
@@ -180,13 +176,10 @@ none_sought q job bound t read other s is past = other (subst (IsSought q) (only
 
 -- ## The least next number
 
-reversed : (xs ys : List ℕ) → slice_cmp nat_cmp xs ys ≡ Less → slice_cmp nat_cmp ys xs ≡ Less → ⊥
-reversed xs ys a b = let e = nat_list_cmp_total.antisymm xs ys in let f = ap ordering_reverse b in let g : Less ≡ Greater = sym a ∙ e ∙ f in (cc)
-
 pub least_after : (prefix bound : List ℕ) → length prefix < length bound → Begins prefix bound → IsLeastNext prefix bound (get_or bound (length prefix) 0)
 least_after prefix bound low begins xs there space past =
     ⊎_elim
-    (λ less. absurd (reversed bound xs past (less_at xs bound (length prefix) (agree_from prefix xs bound there begins) space low less)))
+    (λ less. absurd (list_not_below_both bound xs past (less_at xs bound (length prefix) (agree_from prefix xs bound there begins) space low less)))
     (λ more. more)
     (cases_lt (get_or xs (length prefix) 0) (get_or bound (length prefix) 0))
 

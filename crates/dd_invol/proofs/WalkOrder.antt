@@ -5,7 +5,7 @@ use Rattle.std.proofs.lemmas.Bool.{cases_lt, cases_eq}
 use Rattle.std.proofs.lemmas.List.{append_assoc}
 use Rattle.std.proofs.lemmas.List.Elements.{Contains-append_left, Contains-append_cases, Contains-push}
 use Rattle.std.proofs.lemmas.Grind.{flat_map-append}
-use Rattle.std.proofs.lemmas.Cmp.{nat_list_cmp_total, tied_itself}
+use Rattle.std.proofs.lemmas.Cmp.{nat_list_cmp_total}
 use Rattle.std.proofs.lemmas.Map.Lookups.{exact_bytes}
 use Rattle.std.specs.List.{AllByRecursion, Contains, flat_map}
 use Rattle.std.specs.Ordering.{nat_cmp, ordering_then, ordering_reverse}
@@ -22,12 +22,14 @@ use Rattle.dd_model.specs.declared.jobs.Job.{Job}
 use Rattle.dd_model.specs.declared.requests.Request.{Request}
 use Rattle.dd_model.proofs.Codes.{length-flat_images}
 use Rattle.dd_model.proofs.LeastForms.{below_back}
+use Rattle.dd_model.proofs.Lists.{Contains-one}
+use Rattle.dd_model.proofs.CountFrom.{count_from-more}
+use Rattle.dd_model.proofs.Orders.{nat_cmp-same, list_not_below_both, list_not_below_itself}
 use Rattle.dd_invol.specs.Table.{HaveSameInvolutions}
 use Rattle.dd_invol.specs.Walk.{IsListed, IsPast, IsNext, HasNoneLeft, AreListed, Walking}
-use Rattle.dd_invol.proofs.Ascending.{ascending-append, nat_cmp-same}
+use Rattle.dd_invol.proofs.Ascending.{ascending-append}
 use Rattle.dd_invol.proofs.Places.{chamber_at}
 use Rattle.dd_invol.proofs.TableFronts.{front_same}
-use Rattle.dd_invol.proofs.TableLemmas.{count_last}
 use Rattle.dd_invol.proofs.Unbranched.{unbranched_unique}
 use Rattle.dd_invol.proofs.WalkLemmas.{front_at, begins_appended}
 
@@ -36,7 +38,7 @@ use Rattle.dd_invol.proofs.WalkLemmas.{front_at, begins_appended}
 rows_last : (s : Symbol) (n : ℕ) → rows s 1 (n + 1) ≡ rows s 1 n ++ images s (n + 1)
 rows_last s n =
     let e : 1 + n ≡ n + 1 = omega arith in
-    ap (λ ds. rows_of s ds) (count_last 1 n) ∙ flat_map-append (images s) (count_from 1 n) ((1 + n) ∷ []) ∙ ap (λ d. rows s 1 n ++ images s d) e
+    ap (λ ds. rows_of s ds) (count_from-more 1 n) ∙ flat_map-append (images s) (count_from 1 n) ((1 + n) ∷ []) ∙ ap (λ d. rows s 1 n ++ images s d) e
   where
     rows_of : Symbol → List ℕ → List ℕ
     rows_of s ds = flat_map (images s) ds
@@ -59,12 +61,6 @@ three Greater = inr (inr refl)
 
 pub turned_round : (xs ys : List ℕ) → slice_cmp nat_cmp xs ys ≡ Greater → slice_cmp nat_cmp ys xs ≡ Less
 turned_round xs ys e = nat_list_cmp_total.antisymm ys xs ∙ ap ordering_reverse e
-
-not_both : (xs ys : List ℕ) → slice_cmp nat_cmp xs ys ≡ Less → slice_cmp nat_cmp ys xs ≡ Less → ⊥
-not_both xs ys a b = let e = nat_list_cmp_total.antisymm xs ys in let f = ap ordering_reverse b in let g : Less ≡ Greater = sym a ∙ e ∙ f in (cc)
-
-not_past_itself : (xs : List ℕ) → slice_cmp nat_cmp xs xs ≡ Less → ⊥
-not_past_itself xs e = let f = tied_itself nat_list_cmp_total xs in let g : Less ≡ Equal = sym e ∙ f in (cc)
 
 -- what is past a list is past all that is not
 past_all_before : (bound xs ys : List ℕ) → (slice_cmp nat_cmp bound xs ≡ Less → ⊥) → slice_cmp nat_cmp bound ys ≡ Less → slice_cmp nat_cmp xs ys ≡ Less
@@ -124,12 +120,6 @@ given_first q job = record {
   );
 }
 
-only : (x y : Symbol) → Contains (x ∷ []) y → x ≡ y
-only x y (u, low, e) = let first : u ≡ 0 = omega arith in sym (ap (λ k. slot k) first) ∙ e
-  where
-    slot : ℕ → Symbol
-    slot k = get_or (x ∷ []) k y
-
 pub own_begins : (s : Symbol) → Begins (all_images s) (code s)
 own_begins s = subst (Begins (all_images s)) (sym (append_assoc (all_images s) s.m01 s.m12)) (begins_appended (all_images s) (s.m01 ++ s.m12))
 
@@ -158,15 +148,15 @@ pub given_more : (q : Request) (job : Job) (last : List ℕ) (ts : List Symbol) 
 given_more q job last ts t old next = record {
   ascending = ascending-append ts (t ∷ []) old.ascending (tt, tt) (λ s u hs hu.
       let is = (old.members s).0 hs in
-      subst (IsBelow s) (only t u hu) (below_by_images s t (is.0.size ∙ sym next.listed.size) (past_all_before last (all_images s) (all_images t) is.1 next.past)));
+      subst (IsBelow s) (Contains-one t u hu) (below_by_images s t (is.0.size ∙ sym next.listed.size) (past_all_before last (all_images s) (all_images t) is.1 next.past)));
   members = λ s. (
     (λ there. ⊎_elim
         (λ early.
         let is = (old.members s).0 early in
-        (is.0, λ past. not_both (all_images t) (all_images s) past (past_all_before last (all_images s) (all_images t) is.1 next.past)))
+        (is.0, λ past. list_not_below_both (all_images t) (all_images s) past (past_all_before last (all_images s) (all_images t) is.1 next.past)))
         (λ late.
-        let same = only t s late in
-        (subst (IsListed q job) same next.listed, λ past. not_past_itself (all_images t) (subst (λ u. slice_cmp nat_cmp (all_images t) (all_images u) ≡ Less) (sym same) past)))
+        let same = Contains-one t s late in
+        (subst (IsListed q job) same next.listed, λ past. list_not_below_itself (all_images t) (subst (λ u. slice_cmp nat_cmp (all_images t) (all_images u) ≡ Less) (sym same) past)))
         (Contains-append_cases ts (t ∷ []) s there)),
     (λ is. ⊎_elim
         (λ past. subst (Contains (ts ++ t ∷ [])) (none_between q job last s t is.0 next past is.1) (Contains-push ts t))

@@ -1,7 +1,7 @@
 pub mod Places
 pub mod Orderly
 pub mod Under
-pub mod Frame
+pub mod Search
 pub mod FirstVisit
 pub mod Distinct
 pub mod Beaten
@@ -11,5 +11,6 @@ pub mod Stem
 pub mod Growth
 pub mod Opening
 pub mod Children
+pub mod Building
 pub mod Table
 pub mod Walk

@@ -1,5 +1,5 @@
 -- A table that is filled in place, and what was put into it, in order.
-use Rattle.std.specs.Prelude.{◌≡◌, ◌≢◌, ℕ, zero, suc, ◌+◌, ◌-◌, ◌<◌, ◌≤◌, List, [], length, map, take, slice_index, slice_set}
+use Rattle.std.specs.Prelude.{◌≡◌, ◌≢◌, ℕ, zero, suc, ◌+◌, ◌-◌, ◌/◌, ◌%◌, ◌<◌, ◌≤◌, List, [], length, map, take, slice_index, slice_set}
 use Rattle.std.specs.List.{sum_by}
 use Rattle.dd_model.specs.declared.index.Index.{Index}
 use Rattle.dd_model.specs.declared.index.Index.TheVariants.{Zero, One, Two}
@@ -8,7 +8,7 @@ use Rattle.dd_model.specs.Symbol.{Symbol, IsChamber, HasDegree, op}
 use Rattle.dd_model.specs.Code.{count_from}
 use Rattle.dd_model.specs.Partial.{Completes}
 use Rattle.dd_canon.specs.Traversal.{unnumbered}
-use Rattle.dd_invol.specs.Places.{place}
+use Rattle.dd_invol.specs.Places.{index_at, place}
 use Rattle.dd_invol.specs.declared.rows.Rows.{Rows}
 
 -- the images of 36 chambers under an involution, in a list of images in the order of codes
@@ -18,6 +18,10 @@ images_in numbers i = map (λ d. slice_index numbers (place i d)) (count_from 1 
 -- The partial table of a size whose images are in a list in the order of codes. 0 stands where nothing is known.
 abbrev pub partial_from : ℕ → List ℕ → Symbol
 partial_from n numbers = record { size = n; s0 = images_in numbers Zero; s1 = images_in numbers One; s2 = images_in numbers Two; m01 = []; m12 = [] }
+
+-- the symbol has the number at a place of its code
+abbrev pub HasNumberAt : ℕ → ℕ → Symbol → Type 0
+HasNumberAt place number s = op s (index_at (place % 3)) (1 + place / 3) ≡ number
 
 -- what the rows say
 abbrev pub partial_of : Rows → Symbol

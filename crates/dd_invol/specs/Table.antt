@@ -4,7 +4,7 @@ use Rattle.dd_model.specs.declared.index.Index.{Index}
 use Rattle.dd_model.specs.declared.index.Index.TheVariants.{Zero, One, Two}
 use Rattle.dd_model.specs.declared.pair.Pair.{Pair}
 use Rattle.dd_model.specs.declared.pair.Pair.TheVariants.{Tile, Vertex, Edge}
-use Rattle.dd_model.specs.Symbol.{Symbol, IsTable, IsChamber, AreInvolutions, HasDegree, item}
+use Rattle.dd_model.specs.Symbol.{Symbol, IsSymbol, IsTable, IsChamber, AreInvolutions, HasDegree, item}
 use Rattle.dd_model.specs.Connected.{Connected}
 use Rattle.dd_model.specs.Cell.{IsBranching, IsPeriod}
 use Rattle.dd_model.specs.Lists.{Begins}
@@ -15,6 +15,13 @@ use Rattle.dd_invol.specs.Places.{place}
 pub record IsUnbranched (s : Symbol) : Type 0 where
   pub tiles : (d v : ℕ) → IsChamber s d → IsBranching s Tile d v → v ≡ 1
   pub vertices : (d v : ℕ) → IsChamber s d → IsBranching s Vertex d v → v ≡ 1
+
+-- a connected symbol of at most 36 chambers, of which each branching value is 1
+pub record IsBareTable (s : Symbol) : Type 0 where
+  pub symbol : IsSymbol s
+  pub connected : Connected s
+  pub unbranched : IsUnbranched s
+  pub small : s.size ≤ 36
 
 -- as many chambers, and the same three involutions
 pub record HaveSameInvolutions (s t : Symbol) : Type 0 where
@@ -29,6 +36,7 @@ HasNoTable n numbers = (s : Symbol) → IsTable s → Connected s → ((d : ℕ)
 
 -- a table of n chambers whose code begins with the numbers
 pub record IsTableOf (n : ℕ) (numbers : List ℕ) (t : Symbol) : Type 0 where
+  pub bare : IsBareTable t
   pub size : t.size ≡ n
   pub begins : Begins numbers (code t)
 

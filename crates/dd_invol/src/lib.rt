@@ -1,13 +1,14 @@
 //! Prefixes of codes, and the tables of involutions under them.
 #![tactic(auto)]
 
-mod above;
-mod beginning;
-mod frame;
+mod building;
 mod laws;
+mod next_table;
 mod numbering;
+mod openings;
 mod rows;
-mod splitting;
+mod search;
+mod splits;
 mod stem;
 mod table;
 mod tables;
@@ -16,12 +17,13 @@ mod tests;
 mod traversal;
 mod walk;
 
-pub use beginning::{is_opening, opening};
-pub use frame::{Leaves, Tests, find};
+pub use building::build_if;
 pub use laws::{each_least_code_begins_with_one_job, each_member_has_one_table};
 pub use numbering::{can_follow, greatest, is_first_visit};
+pub use openings::{is_opening, opening};
 pub use rows::Rows;
-pub use splitting::children;
+pub use search::{CollectingSearch, PrefixSearch, find};
+pub use splits::children;
 pub use stem::Stem;
 pub use table::Table;
 pub use tables::Tables;

@@ -70,22 +70,12 @@ pub fn can_follow(size: u32, prefix: &[u8], number: u8) -> bool
     requires { length prefix.now < 2 ^ 32 }
     ensures { IsTrue result ↔ CanFollow size prefix.now number }
 {
-    if prefix.len() as u64 >= 3 * size as u64 {
-        return false;
-    }
-    if number == 0 {
-        return false;
-    }
-    if number as u32 > size {
-        return false;
-    }
-    if number - 1 > greatest(prefix) {
-        return false;
-    }
-    if !fits(prefix, number) {
-        return false;
-    }
-    reaches(size, prefix, number)
+    (prefix.len() as u64) < 3 * size as u64
+        && number >= 1
+        && number as u32 <= size
+        && number - 1 <= greatest(prefix)
+        && fits(prefix, number)
+        && reaches(size, prefix, number)
 }
 
 /// Whether the chambers come in the order of their first visit in the beginning of a code.

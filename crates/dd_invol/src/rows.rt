@@ -43,7 +43,7 @@ pub struct Rows {
 }
 
 impl Rows {
-    ghost use Rattle.dd_invol.specs.Rows.{partial_of, depth_of, unwound, IsReady, Learns, Excludes, Commutes};
+    ghost use Rattle.dd_invol.specs.Rows.{partial_of, depth_of, unwound, IsReady, HasNumberAt, Learns, Excludes, Commutes};
 
     /// Rows in which nothing is known.
     pub fn empty(size: u8) -> Rows
@@ -117,10 +117,10 @@ impl Rows {
         requires low { 1 ≤ image }
         requires high { image ≤ (partial_of self.old).size }
         ensures ready { IsReady self.new }
-        ensures learnt { OnTrue result (Learns (λ s. op s (index_at (place % 3)) (1 + place / 3) ≡ image) self.old self.new) }
-        ensures told { OnTrue result (op (partial_of self.new) (index_at (place % 3)) (1 + place / 3) ≡ image) }
+        ensures learnt { OnTrue result (Learns (HasNumberAt place image) self.old self.new) }
+        ensures told { OnTrue result (HasNumberAt place image (partial_of self.new)) }
         ensures same { OnFalse result (self.new ≡ self.old) }
-        ensures clash { OnFalse result (Excludes (λ s. op s (index_at (place % 3)) (1 + place / 3) ≡ image) self.old) }
+        ensures clash { OnFalse result (Excludes (HasNumberAt place image) self.old) }
     {
         let known = self.numbers[place as usize];
         if known == image {
@@ -172,13 +172,11 @@ impl Rows {
         }
         let opposite = self.known(Index::Two, zero);
         if opposite != 0 {
-            let fits = self.join(Index::Zero, two, opposite);
-            return fits;
+            return self.join(Index::Zero, two, opposite);
         }
         let opposite = self.known(Index::Zero, two);
         if opposite != 0 {
-            let fits = self.join(Index::Two, zero, opposite);
-            return fits;
+            return self.join(Index::Two, zero, opposite);
         }
         true
     }
@@ -188,10 +186,10 @@ impl Rows {
         requires ready { IsReady self.old }
         requires place { place < 3 * (partial_of self.old).size }
         ensures ready { IsReady self.new }
-        ensures learnt { OnTrue result (Learns (λ s. Commutes s × (op s (index_at (place % 3)) (1 + place / 3) ≡ number)) self.old self.new) }
-        ensures told { OnTrue result (op (partial_of self.new) (index_at (place % 3)) (1 + place / 3) ≡ number) }
+        ensures learnt { OnTrue result (Learns (λ s. Commutes s × HasNumberAt place number s) self.old self.new) }
+        ensures told { OnTrue result (HasNumberAt place number (partial_of self.new)) }
         ensures same { OnFalse result (self.new ≡ self.old) }
-        ensures clash { OnFalse result (Excludes (λ s. Commutes s × (op s (index_at (place % 3)) (1 + place / 3) ≡ number)) self.old) }
+        ensures clash { OnFalse result (Excludes (λ s. Commutes s × HasNumberAt place number s) self.old) }
     {
         if number == 0 {
             return false;

@@ -4,23 +4,18 @@ ghost use Rattle.dd_model.specs.Cell.{IsPeriod};
 ghost use Rattle.dd_invol.specs.Places.{place};
 ghost use Rattle.dd_invol.specs.Table.{AreChambers, ArePeriods, images_of, told};
 
+use crate::building::build_if;
 use dd_model::{Index, Memory, Pair};
-use dd_symbol::{Connected, Refusal, build};
+use dd_symbol::Connected;
 use std::alloc::Global;
 use std::marker::Model;
-
-/// The most chambers of a table.
-const LIMIT: u32 = 36;
 
 /// Whether each number is a chamber.
 fn are_chambers(size: u8, numbers: &[u8]) -> bool
     ensures { IsTrue result ↔ AreChambers size numbers.now }
 {
     for number in numbers {
-        if *number == 0 {
-            return false;
-        }
-        if *number > size {
+        if *number == 0 || *number > size {
             return false;
         }
     }
@@ -97,17 +92,16 @@ impl Model for Table {
 
     ghost Value = { Tiling };
 
-    ghost use Rattle.dd_invol.specs.Table.{IsUnbranched};
+    ghost use Rattle.dd_invol.specs.Table.{IsBareTable};
 
     ghost view = { λ a. a.symbol };
 
-    ghost invariant = { λ a. IsUnbranched a.symbol };
+    ghost invariant = { λ a. IsBareTable a.symbol };
 }
 
 impl Table {
-    ghost use Rattle.dd_model.specs.Symbol.{IsSymbol, IsChamber, op};
-    ghost use Rattle.dd_model.specs.Connected.{Connected as AllReached};
-    ghost use Rattle.dd_invol.specs.Table.{IsUnbranched, HasNoTable, IsTableOf};
+    ghost use Rattle.dd_model.specs.Symbol.{IsChamber, op};
+    ghost use Rattle.dd_invol.specs.Table.{IsBareTable, HasNoTable, IsTableOf};
 
     /// The table with these numbers, which stand in the order of codes; None where they are not
     /// those of a table.
@@ -126,27 +120,16 @@ impl Table {
         ];
         let m01 = periods(alloc, size, numbers, Pair::Tile)?;
         let m12 = periods(alloc, size, numbers, Pair::Vertex)?;
-        match build(alloc, ops, m01, m12, LIMIT) {
-            Ok(symbol) => Ok(Some(Table { symbol })),
-            Err(why) => match why {
-                Refusal::Memory => Err(Memory),
-                _ => Ok(None),
-            },
-        }
-    }
-
-    /// What holds of every table.
-    pub fn known(&self)
-        ensures symbol { IsSymbol self.now }
-        ensures connected { AllReached self.now }
-        ensures unbranched { IsUnbranched self.now }
-    {
-        self.symbol.known();
+        let Some(symbol) = build_if(alloc, ops, m01, m12)? else {
+            return Ok(None);
+        };
+        Ok(Some(Table { symbol }))
     }
 
     /// The number of chambers.
     pub fn size(&self) -> u32
-        ensures { result ≡ self.now.size }
+        ensures size { result ≡ self.now.size }
+        ensures table { IsBareTable self.now }
     {
         self.symbol.symbol().size()
     }
@@ -162,7 +145,8 @@ impl Table {
 
     /// The symbol with these involutions and with branching values 1.
     pub fn symbol(&self) -> &Connected
-        ensures { result.now ≡ self.now }
+        ensures same { result.now ≡ self.now }
+        ensures table { IsBareTable self.now }
     {
         &self.symbol
     }

@@ -1,6 +1,6 @@
 ghost use Rattle.std.specs.Prelude.{◌≡◌, ℕ, ◌*◌, ◌≤◌, []};
 
-use crate::frame::Tests;
+use crate::search::PrefixSearch;
 use crate::stem::Stem;
 use crate::traversal::Visit;
 use dd_model::Request;
@@ -81,7 +81,7 @@ impl Tables {
     }
 }
 
-impl Tests for Tables {
+impl PrefixSearch for Tables {
     ghost use Rattle.dd_invol.specs.Rows.{depth_of};
     ghost use Rattle.dd_invol.specs.Stem.{Any, IsStem, prefix_of, size_of, shortened};
 

@@ -197,11 +197,11 @@ fn walked(alloc: Global, q: &Request, job: &Job) -> Result<Vec<[u32; 3]>, Fail> 
     }
     let tables = tables_under(alloc, q, job)?;
     for table in tables.iter() {
-        table.known();
+        let symbol = table.symbol().symbol();
         firsts.push([
-            table.at(Index::Zero, 1),
-            table.at(Index::One, 1),
-            table.at(Index::Two, 1),
+            symbol.op(Index::Zero, 1),
+            symbol.op(Index::One, 1),
+            symbol.op(Index::Two, 1),
         ])?;
     }
     Ok(firsts)

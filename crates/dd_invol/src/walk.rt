@@ -5,8 +5,8 @@ ghost use Rattle.dd_model.specs.Request.{IsValid};
 ghost use Rattle.dd_model.specs.Jobs.{IsJobOf};
 ghost use Rattle.dd_invol.specs.Walk.{IsNext, HasNoneLeft, AreListed};
 
-use crate::above::first_past;
-use crate::splitting::stem_of;
+use crate::next_table::first_past;
+use crate::splits::stem_of;
 use crate::table::Table;
 use crate::tables::Tables;
 use crate::traversal::Visit;
@@ -17,10 +17,8 @@ use std::marker::Model;
 
 /// The images of a table, in the order of its code.
 fn images_of_table(table: &Table) -> ArrayVec<u8, 108>
-    requires { table.now.size ≤ 36 }
     ensures { result.items ≡ all_images table.now }
 {
-    table.known();
     let mut images = ArrayVec::new();
     for k in 0..table.size() {
         let chamber = k + 1;
@@ -40,15 +38,16 @@ fn first_listed(
 ) -> Result<Option<Table>, Memory>
     requires size { (1 ≤ job.now.size) × (job.now.size ≤ 36) }
     requires short { length job.now.prefix ≤ 3 * job.now.size }
-    ensures { IfOk result (λ found. MatchOption found (HasNoneLeft request.now job.now last.now) (λ table. IsNext request.now job.now last.now table)) }
+    ensures { IfOk result (λ found. MatchOption found
+        (HasNoneLeft request.now job.now last.now)
+        (λ table. IsNext request.now job.now last.now table)) }
 {
     let mut visit = Visit::new();
     let Some(stem) = stem_of(job, &mut visit) else {
         return Ok(None);
     };
     let mut tables = Tables::from_stem(request, stem, visit);
-    let found = first_past(alloc, &mut tables, last)?;
-    Ok(found)
+    first_past(alloc, &mut tables, last)
 }
 
 /// A walk over the tables that a request and a job ask for: connected ones of the job's size with
@@ -97,7 +96,9 @@ impl Walk {
     /// The next table; None where all have been given. After an error the walk stands where it
     /// stood.
     pub fn next(&mut self) -> Result<Option<Table>, Memory>
-        ensures found { IfOk result (λ found. MatchOption found (HasNoneLeft self.old.request self.old.job self.old.last) (λ table. IsNext self.old.request self.old.job self.old.last table)) }
+        ensures found { IfOk result (λ found. MatchOption found
+            (HasNoneLeft self.old.request self.old.job self.old.last)
+            (λ table. IsNext self.old.request self.old.job self.old.last table)) }
         ensures given { IfOk result (λ found. IfSome found (λ table. self.new ≡ after self.old table)) }
         ensures ended { IfOk result (λ found. IfNone found (self.new ≡ self.old)) }
         ensures failed { OnErr result (self.new ≡ self.old) }

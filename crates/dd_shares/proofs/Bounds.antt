@@ -14,10 +14,11 @@ use Rattle.dd_model.specs.Flat.{all_degrees}
 use Rattle.dd_model.specs.Partial.{Completes}
 use Rattle.dd_model.specs.Wanted.{Wanted}
 use Rattle.dd_model.proofs.Branching.{degree_same}
+use Rattle.dd_model.proofs.AllDegrees.{all_degrees_positive}
 use Rattle.dd_shares.specs.Paths.{InPath, IsCapped, ArePath}
 use Rattle.dd_shares.specs.Shares.{IsSought, IsAllowed, IsShare, AreShares, degrees_of, IsTotal}
 use Rattle.dd_shares.proofs.PathLemmas.{open_bound, capped_bound, path_in_cell}
-use Rattle.dd_shares.proofs.FlatBound.{part, add_parts, flat_bound, one-le-all_degrees}
+use Rattle.dd_shares.proofs.FlatBound.{part, add_parts, flat_bound}
 
 -- the degrees of all chambers of a path are at least so much
 pub path_degree : (P : Symbol) (p : Pair) (d : ℕ) (s : Symbol) → IsSymbol s → Completes P s → IsChamber s d → (es : List ℕ) → ArePath P p d es
@@ -107,7 +108,7 @@ total_of_shares q P p L shares which are s sought =
 pub too_small : (q : Request) (P : Symbol) (L A B : ℕ) → IsTotal q P Tile L A → IsTotal q P Vertex L B → 2 * (A + B) < P.size * L
     → (s : Symbol) → IsSought q P s → ⊥
 too_small q P L A B tiles vertices small s sought =
-    let bound : s.size * L ≤ 2 * (A + B) = flat_bound s sought.wanted.flat (one-le-all_degrees s sought.wanted.symbol) L A B (tiles s sought) (vertices s sought) in
+    let bound : s.size * L ≤ 2 * (A + B) = flat_bound s sought.wanted.flat (all_degrees_positive s sought.wanted.symbol) L A B (tiles s sought) (vertices s sought) in
     let same : P.size * L ≡ s.size * L = ap (λ n. n * L) (sym sought.completes.size) in
     absurd (omega (arith, bound, small, same))
 

@@ -1,8 +1,9 @@
 -- Cells that are whole, and what the other cells can add.
-use Rattle.std.proofs.Common.{◌≡◌, ℕ, zero, suc, ◌+◌, ◌-◌, ◌*◌, ◌/◌, ◌≤◌, ◌⊎◌, IsTrue, Bool, true, false, List, [], ◌∷◌, ◌++◌, eqb, length, length-append, refl, sym, ap, ◌∙◌, subst, ⊎_elim, arith}
+use Rattle.std.proofs.Common.{◌≡◌, ℕ, ◌+◌, ◌-◌, ◌*◌, ◌/◌, ◌≤◌, ◌⊎◌, IsTrue, Bool, true, false, List, [], ◌∷◌, ◌++◌, eqb, length, length-append, refl, sym, ap, ◌∙◌, subst, ⊎_elim, arith}
 use Rattle.std.proofs.lemmas.List.Elements.{Contains-append_cases}
 use Rattle.std.proofs.lemmas.List.Sums.{sum_by-append, sum_by-cons}
 use Rattle.std.proofs.Math.Nat.{mul-le-mul_left, mul-le-mul_right}
+use mir.Val.{bool_byte}
 use Rattle.std.specs.List.{Contains, sum_by}
 use Rattle.dd_model.specs.declared.pair.Pair.{Pair}
 use Rattle.dd_model.specs.declared.pair.Pair.TheVariants.{Tile, Vertex}
@@ -12,8 +13,7 @@ use Rattle.dd_model.specs.Code.{chambers, count_from}
 use Rattle.dd_model.specs.Cell.{IsLeastOfCell}
 use Rattle.dd_model.specs.Flat.{all_degrees}
 use Rattle.dd_model.specs.Wanted.{AtMost, Wanted}
-use Rattle.dd_model.proofs.Bijections.{length-count_from}
-use Rattle.dd_model.proofs.CellLists.{Contains-cases, increasing-push}
+use Rattle.dd_model.proofs.CellLists.{increasing-push}
 use Rattle.dd_model.proofs.Counts.{length-le_from_partners}
 use Rattle.dd_model.proofs.Transport.{in_cell_within}
 use Rattle.dd_cells.specs.Cells.{AreMembers}
@@ -23,12 +23,15 @@ use Rattle.dd_cells.proofs.FixedFlags.{one_if, fixed_flag}
 use Rattle.dd_model.specs.declared.index.Index.{Index}
 use Rattle.dd_model.specs.Partial.{Completes}
 use Rattle.std.proofs.lemmas.Bool.{cases_eq, eq-eqb, ne_eqb}
+use Rattle.dd_model.proofs.CountFrom.{count_from-more, length-count_from}
+use Rattle.dd_model.proofs.Lists.{Contains-cases}
 use Rattle.dd_shares.specs.Closed.{fixed_flags, IsWhole, AreMembersOf, AreWhole}
 use Rattle.dd_shares.specs.Census.{IsCensus, HasRoom}
 use Rattle.dd_shares.specs.Shares.{IsSought, IsShare}
 use Rattle.dd_shares.specs.Turning.{IsWholeCell}
 use Rattle.dd_shares.specs.declared.cells.WholeCell.{WholeCell}
 use Rattle.dd_shares.specs.declared.limits.Census.{Census}
+use Rattle.dd_shares.specs.Units.{share_unit}
 use Rattle.dd_shares.proofs.Bounds.{sum_over_degrees}
 use Rattle.dd_shares.proofs.CountBound.{cell_sum, flags_of_cell, flags_at_most, flagged_weight, sum_beyond_cells, even_flags}
 use Rattle.dd_shares.proofs.FlatBound.{part, add_parts}
@@ -75,13 +78,6 @@ whole_from_cell q P p L d share chains count cell low high whole is_share one as
 pushed : (f : ℕ → ℕ) (ds : List ℕ) (d : ℕ) → sum_by f (ds ++ d ∷ []) ≡ sum_by f ds + f d
 pushed f ds d = let split = sum_by-append f ds (d ∷ []) in let last = sum_by-cons f d [] in omega (arith, split, last)
 
-count_from-last : (a k : ℕ) → count_from a (k + 1) ≡ count_from a k ++ (a + k) ∷ []
-count_from-last a zero = let e : a + 0 ≡ a = omega arith in ap (λ n. n ∷ []) (sym e)
-count_from-last a (suc k) =
-    let e : suc k + 1 ≡ suc (k + 1) = omega arith in
-    let f : a + 1 + k ≡ a + suc k = omega arith in
-    ap (count_from a) e ∙ ap (λ xs. a ∷ xs) (count_from-last (a + 1) k) ∙ ap (λ n. a ∷ (count_from (a + 1) k ++ n ∷ [])) f
-
 known_flag : (P s : Symbol) → Completes P s → (i : Index) (d : ℕ) → 1 ≤ d → fixed_flag P i d ≤ fixed_flag s i d
 known_flag P s full i d some =
     ⊎_elim
@@ -94,8 +90,12 @@ known_flag P s full i d some =
     (cases_eq (op P i d) d)
 
 -- a flag, by the image
-pub same_flag : (P : Symbol) (i j : Index) (d image : ℕ) → image ≡ op P i d → i ≡ j → one_if (eqb image d) ≡ fixed_flag P j d
-same_flag P i j d image is same = ap (λ x. one_if (eqb x d)) is ∙ ap (λ k. fixed_flag P k d) same
+pub same_flag : (P : Symbol) (i j : Index) (d image : ℕ) → image ≡ op P i d → i ≡ j → bool_byte (eqb image d) ≡ fixed_flag P j d
+same_flag P i j d image is same = counted (eqb image d) ∙ ap (λ x. one_if (eqb x d)) is ∙ ap (λ k. fixed_flag P k d) same
+  where
+    counted : (b : Bool) → bool_byte b ≡ one_if b
+    counted true = refl
+    counted false = refl
 
 -- the flags of one more chamber
 pub fixed_more : (q : Request) (P : Symbol) (p : Pair) (k fixed a b : ℕ) → ((s : Symbol) → IsSought q P s → fixed ≤ sum_by (fixed_flags s p) (count_from 1 k))
@@ -104,7 +104,7 @@ fixed_more q P p k fixed a b before one two s sought =
     let full = sought.completes in
     let old = before s sought in
     let e : 1 + k ≡ k + 1 = omega arith in
-    let list : count_from 1 (k + 1) ≡ count_from 1 k ++ (k + 1) ∷ [] = count_from-last 1 k ∙ ap (λ n. count_from 1 k ++ n ∷ []) e in
+    let list : count_from 1 (k + 1) ≡ count_from 1 k ++ (k + 1) ∷ [] = count_from-more 1 k ∙ ap (λ n. count_from 1 k ++ n ∷ []) e in
     let sum : sum_by (fixed_flags s p) (count_from 1 (k + 1)) ≡ sum_by (fixed_flags s p) (count_from 1 k) + fixed_flags s p (k + 1) =
     ap (sum_by (fixed_flags s p)) list ∙ pushed (fixed_flags s p) (count_from 1 k) (k + 1) in
     let low = known_flag P s full (first p) (k + 1) (omega arith) in
@@ -268,9 +268,9 @@ has_room q P p c limit which few some census s sought =
           ap (λ (f : ℕ → ℕ). sum_by f w.least) (λ i g. sum_by_mixed D part (fixed_flags s p) (members g) i) in
           let outer = sum_by_mixed D (λ g. sum_by part (members g)) (λ g. sum_by (fixed_flags s p) (members g)) w.least in
           let more : left * (4 * D) ≤ (limit - c.cells) * (4 * D) = mul-le-mul_right (4 * D) fewer in
-          let bound = weights D 144403552893600 (sum_by part (chambers s)) flags (sum_by (λ g. sum_by part (members g)) w.least) own_flags c.most c.chains (limit - c.cells) ((c.fixed + 1) / 2)
+          let bound = weights D share_unit (sum_by part (chambers s)) flags (sum_by (λ g. sum_by part (members g)) w.least) own_flags c.most c.chains (limit - c.cells) ((c.fixed + 1) / 2)
           (omega (arith, all, mixed, inner, outer, more)) (w.total s sought members are) own (omega (arith, known, even)) (omega (arith, rest, own, known, even, fewer)) in
-          subst (λ x. x * 144403552893600 ≤ D * (c.most + (c.chains + 2 * (limit - c.cells) - (c.fixed + 1) / 2) * 144403552893600)) (sum_over_degrees s is p (λ m. D / m) which) bound;
+          subst (λ x. x * share_unit ≤ D * (c.most + (c.chains + 2 * (limit - c.cells) - (c.fixed + 1) / 2) * share_unit)) (sum_over_degrees s is p (λ m. D / m) which) bound;
     })
     (few s sought.wanted)
   where

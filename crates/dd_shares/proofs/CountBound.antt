@@ -10,7 +10,7 @@ use Rattle.dd_model.specs.declared.pair.Pair.{Pair}
 use Rattle.dd_model.specs.Symbol.{Symbol, IsSymbol, IsChamber, first, second, op, degree}
 use Rattle.dd_model.specs.Code.{chambers}
 use Rattle.dd_model.specs.Cell.{InCell, IsChain, IsLeastOfCell, AreCells}
-use Rattle.dd_model.proofs.CellLists.{Contains-head, Contains-later, Contains-cases, increasing-head, increasing-tail}
+use Rattle.dd_model.proofs.CellLists.{increasing-head, increasing-tail}
 use Rattle.dd_model.proofs.Branching.{degree_same}
 use Rattle.dd_cells.specs.Cells.{AreMembers}
 use Rattle.dd_cells.proofs.CellSums.{AreRoots, has_roots, members_at, members_at_are, sum_over_cells, sum_by_same}
@@ -18,6 +18,7 @@ use Rattle.dd_invol.specs.Distinct.{AreDistinct}
 use Rattle.dd_invol.proofs.Distinct.{all_from}
 use Rattle.dd_cells.proofs.FixedFlags.{one_if, flags_of_chain}
 use Rattle.dd_model.proofs.CellWalks.{has_period}
+use Rattle.dd_model.proofs.Lists.{Contains-head, Contains-later, Contains-cases}
 use Rattle.dd_shares.specs.Closed.{fixed_flags}
 use Rattle.dd_shares.proofs.Rotation.{cell_bound, chain_bound}
 

@@ -1,12 +1,12 @@
 -- The curvature bound: where the shares of all chambers are too small, no symbol with such degrees is flat.
 use Rattle.std.proofs.Common.{◌≡◌, ℕ, suc, ◌+◌, ◌-◌, ◌*◌, ◌/◌, ◌<◌, ◌≤◌, List, [], ◌∷◌, length, get_or, map, sym, ap, subst, arith}
 use Rattle.std.proofs.lemmas.List.Sums.{sum_by-cons, sum-map}
-use Rattle.std.specs.List.{sum_by, sum, AllByRecursion}
+use Rattle.std.specs.List.{sum_by, sum}
 use Rattle.dd_model.specs.Symbol.{Symbol, IsSymbol, IsChamber, item}
 use Rattle.dd_model.specs.Code.{count_from, chambers}
-use Rattle.dd_model.specs.Flat.{product, all_degrees, Flat}
-use Rattle.dd_model.specs.declared.pair.Pair.TheVariants.{Tile, Vertex}
+use Rattle.dd_model.specs.Flat.{all_degrees, Flat}
 use Rattle.std.proofs.Math.Nat.{mul-le-mul_left, mul-le-mul_right}
+use Rattle.dd_model.proofs.AllDegrees.{all_degrees_positive}
 
 -- each share is at least L divided by the degree at its place
 abbrev AreAbove : ℕ → List ℕ → List ℕ → Type 0
@@ -66,36 +66,16 @@ flat_bound s flat pos L A B ha hb =
     let y = sum_by (λ m. P / m) s.m12 in
     cancel_product s.size P L (x + y) (A + B) pos flat (add_parts P L x y A B ha hb)
 
-all_items : (Q : ℕ → Type 0) (xs : List ℕ) → ((j : ℕ) → j < length xs → Q (get_or xs j 0)) → AllByRecursion Q xs
-all_items Q [] each = tt
-all_items Q (x ∷ xs) each = (each 0 (omega arith), all_items Q xs (λ j low. each (suc j) (omega arith)))
-
-one-le-product : (xs : List ℕ) → AllByRecursion (λ m. 1 ≤ m) xs → 1 ≤ product xs
-one-le-product [] h = omega arith
-one-le-product (x ∷ xs) h = let rest = one-le-product xs h.1 in positive x (product xs) h.0 rest
-  where
-    positive : (x y : ℕ) → 1 ≤ x → 1 ≤ y → 1 ≤ x * y
-    positive x y hx hy = grind arith
-
 -- a fact of each chamber, at a place of a list
 pub at_place : (Q : ℕ → ℕ → Type 0) (xs : List ℕ) (n : ℕ) → length xs ≡ n → ((d : ℕ) → 1 ≤ d → d ≤ n → Q d (item xs d)) → (j : ℕ) → j < length xs → Q (1 + j) (get_or xs j 0)
 at_place Q xs n len each j low =
     let e : 1 + j - 1 ≡ j = omega arith in
     subst (λ i. Q (1 + j) (get_or xs i 0)) e (each (1 + j) (omega arith) (omega arith))
 
-pub one-le-all_degrees : (s : Symbol) → IsSymbol s → 1 ≤ all_degrees s
-one-le-all_degrees s is =
-    let a = one-le-product s.m01 (all_items (λ m. 1 ≤ m) s.m01 (at_place (λ d m. 1 ≤ m) s.m01 s.size is.table.m01_length (λ d low high. (is.degrees Tile d (low, high)).positive))) in
-    let b = one-le-product s.m12 (all_items (λ m. 1 ≤ m) s.m12 (at_place (λ d m. 1 ≤ m) s.m12 s.size is.table.m12_length (λ d low high. (is.degrees Vertex d (low, high)).positive))) in
-    positive (product s.m01) (product s.m12) a b
-  where
-    positive : (x y : ℕ) → 1 ≤ x → 1 ≤ y → 1 ≤ x * y
-    positive x y hx hy = grind arith
-
 -- The share bound, with lists of shares.
 pub share_bound : (s : Symbol) → IsSymbol s → Flat s → (L : ℕ) (cs bs : List ℕ) → AreAbove L cs s.m01 → AreAbove L bs s.m12 → s.size * L ≤ 2 * (sum cs + sum bs)
 share_bound s is flat L cs bs ha hb =
-    flat_bound s flat (one-le-all_degrees s is) L (sum cs) (sum bs) (parts (all_degrees s) L cs s.m01 ha) (parts (all_degrees s) L bs s.m12 hb)
+    flat_bound s flat (all_degrees_positive s is) L (sum cs) (sum bs) (parts (all_degrees s) L cs s.m01 ha) (parts (all_degrees s) L bs s.m12 hb)
 
 shares_from : (a : ℕ → ℕ) (L k : ℕ) (ms : List ℕ) → ((j : ℕ) → j < length ms → L ≤ a (k + j) * get_or ms j 0) → AreAbove L (map a (count_from k (length ms))) ms
 shares_from a L k [] each = tt

@@ -1,36 +1,20 @@
 -- A table that is filled knows what it knew before.
-use Rattle.std.proofs.Common.{◌≡◌, ◌≢◌, ℕ, zero, suc, ◌-◌, ◌≤◌, ◌⊎◌, List, [], ◌∷◌, length, map, get_or, set, refl, sym, ap, ◌∙◌, subst, inl, inr, ⊎_elim, arith}
+use Rattle.std.proofs.Common.{◌≡◌, ◌≢◌, ℕ, zero, suc, ◌-◌, ◌⊎◌, List, [], ◌∷◌, length, get_or, set, refl, sym, ap, ◌∙◌, subst, inl, inr, ⊎_elim}
 use Rattle.std.proofs.lemmas.Bool.{cases_lt}
 use Rattle.dd_model.specs.declared.index.Index.{Index}
 use Rattle.dd_model.specs.declared.pair.Pair.TheVariants.{Tile, Vertex}
 use Rattle.dd_model.specs.Symbol.{Symbol, op}
-use Rattle.dd_model.specs.declared.index.Index.TheVariants.{Zero, One, Two}
-use Rattle.dd_model.specs.Code.{count_from}
 use Rattle.dd_model.specs.Partial.{Completes}
-use Rattle.dd_model.proofs.Bijections.{length-count_from}
-use Rattle.std.proofs.lemmas.List.{length-map, get_or_past}
 use Rattle.dd_invol.specs.Places.{place}
 use Rattle.dd_invol.specs.declared.rows.Rows.{Rows}
-use Rattle.dd_invol.specs.Rows.{images_in, partial_of, partial_from, depth_of, popped, unwind, unwound}
+use Rattle.dd_invol.specs.Rows.{partial_of, depth_of, popped, unwind, unwound}
 use Rattle.dd_invol.specs.Stem.{size_of, shortened}
 use Rattle.dd_invol.specs.declared.stem.Stem.{Stem}
-use Rattle.dd_invol.proofs.RowsLemmas.{op_partial}
+use Rattle.dd_invol.proofs.RowsLemmas.{op_partial, op_past}
 use Rattle.dd_shares.specs.Kept.{AreKept}
 use Rattle.dd_shares.specs.declared.shares.Shares.{Shares}
+use Rattle.dd_shares.specs.Units.{share_unit}
 use Rattle.dd_shares.proofs.Bounds.{shares_of_larger}
-
--- no chamber beyond the thirty-sixth has an image
-images_past : (numbers : List ℕ) (i : Index) (d : ℕ) → 36 ≤ d - 1 → get_or (images_in numbers i) (d - 1) 0 ≡ 0
-unfolding images_in
-images_past numbers i d high =
-    let size = length-map (count_from 1 36) (λ d. get_or numbers (place i d) 0) in
-    let count = length-count_from 1 36 in
-    get_or_past (map (λ d. get_or numbers (place i d) 0) (count_from 1 36)) (d - 1) 0 (omega arith)
-
-op_past : (n : ℕ) (numbers : List ℕ) (i : Index) (d : ℕ) → 36 ≤ d - 1 → op (partial_from n numbers) i d ≡ 0
-op_past n numbers Zero d high = images_past numbers Zero d high
-op_past n numbers One d high = images_past numbers One d high
-op_past n numbers Two d high = images_past numbers Two d high
 
 -- a list with a place cleared
 cleared : (xs : List ℕ) (t u : ℕ) → (get_or (set xs t 0) u 0 ≡ get_or xs u 0) ⊎ (get_or (set xs t 0) u 0 ≡ 0)
@@ -70,12 +54,12 @@ kept_of_longer old new shares same undone kept =
     λ s full. subst (λ r. Completes (partial_of r) s) undone (completes_unwind (depth_of new - depth_of old) new s full) in
     record {
       tiles = record {
-        shares = shares_of_larger shares.request (partial_of old) (partial_of new) Tile 144403552893600 shares.tiles.shares same more kept.tiles.shares;
+        shares = shares_of_larger shares.request (partial_of old) (partial_of new) Tile share_unit shares.tiles.shares same more kept.tiles.shares;
         total = kept.tiles.total;
         small = kept.tiles.small;
       };
       vertices = record {
-        shares = shares_of_larger shares.request (partial_of old) (partial_of new) Vertex 144403552893600 shares.vertices.shares same more kept.vertices.shares;
+        shares = shares_of_larger shares.request (partial_of old) (partial_of new) Vertex share_unit shares.vertices.shares same more kept.vertices.shares;
         total = kept.vertices.total;
         small = kept.vertices.small;
       };

@@ -1,5 +1,6 @@
 -- What was exchanged can be taken back.
-use Rattle.std.proofs.Common.{◌≡◌, ℕ, zero, suc, ◌+◌, ◌-◌, ◌*◌, ◌/◌, ◌<◌, ◌≤◌, ◌⊎◌, IsTrue, List, [], ◌∷◌, ◌++◌, length, length-append, get_or, replicate, set, take, refl, sym, ap, ◌∙◌, subst, ⊎_elim, arith}
+use Rattle.std.proofs.Common.{◌≡◌, ℕ, suc, ◌+◌, ◌-◌, ◌*◌, ◌/◌, ◌<◌, ◌≤◌, ◌⊎◌, IsTrue, List, [], ◌∷◌, ◌++◌, length, length-append, get_or, replicate, set, take, min, refl, sym, ap, ◌∙◌, subst, inl, inr, ⊎_elim, arith}
+use Rattle.std.proofs.lemmas.Bool.{cases_lt}
 use Rattle.std.proofs.lemmas.List.{set-set, set-get_or}
 use Rattle.std.proofs.lemmas.Option.{slice_get-get_or}
 use Rattle.std.proofs.Math.Seq.{get_or-append_seam}
@@ -12,7 +13,7 @@ use Rattle.dd_model.specs.Symbol.{Symbol, IsChamber, degree}
 use Rattle.dd_shares.specs.declared.changes.Change.{Change}
 use Rattle.dd_shares.specs.declared.paths.Path.{Path}
 use Rattle.dd_shares.specs.declared.sides.Side.{Side}
-use Rattle.dd_shares.specs.Shares.{IsSought, IsAllowed, IsShare, AreShares, IsTotal}
+use Rattle.dd_shares.specs.Shares.{IsSought, IsAllowed, IsShare, AreShares, BoundsReciprocals, IsTotal}
 use Rattle.dd_shares.specs.Sides.{depth_of, put_back, popped, unwind, unwound, IsSide, HasExchanged}
 use Rattle.dd_shares.specs.Kept.{mark_of, rolled_back, HaveExchanged}
 use Rattle.dd_shares.specs.Paths.{InPath}
@@ -24,6 +25,7 @@ use Rattle.dd_model.specs.Wanted.{IsCrystallographic, Wanted}
 use Rattle.dd_model.proofs.Branching.{branching_exists}
 use Rattle.dd_model.proofs.Turns.{IsLeastTurns-from_period, least_turns_unique}
 use Rattle.dd_shares.specs.Walked.{IsWalked}
+use Rattle.dd_shares.specs.Units.{share_unit}
 use Rattle.dd_shares.proofs.Bounds.{path_share, same_degree, shares_set, rounded, wanted_allowed, total_of_shares}
 use Rattle.dd_shares.proofs.Walks.{path_at}
 
@@ -71,45 +73,50 @@ popped_from r r' c got items shares total =
 pub walked_share : (q : Request) (P : Symbol) (p : Pair) (d : ℕ) (path : Path) → IsWalked P path → path.pair ≡ p → path.start ≡ d → 1 ≤ d → d ≤ P.size
     → (k : ℕ) → (k ≤ (length path.chambers.items + 1) / 2) ⊎ (IsTrue path.is_capped × (k ≤ length path.chambers.items))
     → (den : ℕ) → 1 ≤ den → ((m : ℕ) → IsAllowed q p m → k ≤ m → den ≤ m) → (j : ℕ) → j < length path.chambers.items
-    → IsShare q P p 144403552893600 (get_or path.chambers.items j 0) (144403552893599 / den + 1)
+    → IsShare q P p share_unit (get_or path.chambers.items j 0) ((share_unit - 1) / den + 1)
 walked_share q P p d path walked same_pair same_start low high k cases den pos least j below =
     let es = path.chambers.items in
-    subst (λ p. IsShare q P p 144403552893600 (get_or es j 0) (144403552893599 / den + 1)) same_pair
-    (path_share q P path.pair 144403552893599 path.start (get_or es j 0) (omega (arith, same_start, low), omega (arith, same_start, high)) es walked.chambers
+    subst (λ p. IsShare q P p share_unit (get_or es j 0) ((share_unit - 1) / den + 1)) same_pair
+    (path_share q P path.pair (share_unit - 1) path.start (get_or es j 0) (omega (arith, same_start, low), omega (arith, same_start, high)) es walked.chambers
     path.is_capped walked.capped k cases den pos
     (subst (λ p. (m : ℕ) → IsAllowed q p m → k ≤ m → den ≤ m) (sym same_pair) least)
     (path_at P path.pair path.start es j walked.chambers below))
 
 -- one share exchanged
-pub shares_exchanged : (q : Request) (P : Symbol) (p : Pair) (r r' : Side) (d share : ℕ) → AreShares q P p 144403552893600 r.shares → 1 ≤ d → IsShare q P p 144403552893600 d share
-    → (r'.shares ≡ r.shares) ⊎ (r'.shares ≡ set r.shares (d - 1) share) → AreShares q P p 144403552893600 r'.shares
+pub shares_exchanged : (q : Request) (P : Symbol) (p : Pair) (r r' : Side) (d share : ℕ) → AreShares q P p share_unit r.shares → 1 ≤ d → IsShare q P p share_unit d share
+    → (r'.shares ≡ r.shares) ⊎ (r'.shares ≡ set r.shares (d - 1) share) → AreShares q P p share_unit r'.shares
 shares_exchanged q P p r r' d share are low is cases =
     ⊎_elim
-    (λ same. subst (AreShares q P p 144403552893600) (sym same) are)
-    (λ new. subst (AreShares q P p 144403552893600) (sym new) (shares_set q P p 144403552893600 r.shares d share are low is))
+    (λ same. subst (AreShares q P p share_unit) (sym same) are)
+    (λ new. subst (AreShares q P p share_unit) (sym new) (shares_set q P p share_unit r.shares d share are low is))
     cases
 
 -- a chamber of which nothing is known
 pub start_share : (q : Request) (P : Symbol) (p : Pair) (den : ℕ) → 1 ≤ den → ((m : ℕ) → IsAllowed q p m → 1 ≤ m → den ≤ m)
-    → (d : ℕ) → 1 ≤ d → d ≤ P.size → IsShare q P p 144403552893600 d (144403552893599 / den + 1)
+    → (d : ℕ) → 1 ≤ d → d ≤ P.size → IsShare q P p share_unit d ((share_unit - 1) / den + 1)
 start_share q P p den pos least d low high s sought =
     let size = sought.completes.size in
     let h : IsChamber s d = (low, omega (arith, high, size)) in
     let has = sought.wanted.symbol.degrees p d h in
-    rounded 144403552893599 den (degree s p d) pos (least (degree s p d) (wanted_allowed q s p d sought.wanted h) has.positive)
+    rounded (share_unit - 1) den (degree s p d) pos (least (degree s p d) (wanted_allowed q s p d sought.wanted h) has.positive)
 
 -- so many zeros
 abbrev pub zeros : ℕ → List ℕ
 zeros m = replicate m 0
 
-pub zero_at : (m t : ℕ) → get_or (zeros m) t 0 ≡ 0
-zero_at zero t = refl
-zero_at (suc m) zero = refl
-zero_at (suc m) (suc t) = zero_at m t
-
 -- the total as it is kept
-pub kept_total : (q : Request) (P : Symbol) (p : Pair) (side : Side) → (p ≡ Tile) ⊎ (p ≡ Vertex) → IsSide q P p side → IsTotal q P p 144403552893600 side.total
-kept_total q P p side which is = subst (IsTotal q P p 144403552893600) (sym is.total) (total_of_shares q P p 144403552893600 side.shares which is.shares)
+pub kept_total : (q : Request) (P : Symbol) (p : Pair) (side : Side) → (p ≡ Tile) ⊎ (p ≡ Vertex) → IsSide q P p side → IsTotal q P p share_unit side.total
+kept_total q P p side which is = subst (IsTotal q P p share_unit) (sym is.total) (total_of_shares q P p share_unit side.shares which is.shares)
+
+-- the smaller of two bounds is one
+pub bounds_least : (s : Symbol) (p : Pair) (a b : ℕ) → BoundsReciprocals s p a → BoundsReciprocals s p b → BoundsReciprocals s p (min a b)
+bounds_least s p a b one other = ⊎_elim
+    (λ low. subst (BoundsReciprocals s p) (sym low) one)
+    (λ high. subst (BoundsReciprocals s p) (sym high) other)
+    (either_least a b)
+  where
+    either_least : (a b : ℕ) → (min a b ≡ a) ⊎ (min a b ≡ b)
+    either_least a b = ⊎_elim (λ below. inl (omega (arith, below))) (λ from. inr (omega (arith, from))) (cases_lt a b)
 
 -- ## Whole cells
 
@@ -135,8 +142,8 @@ branching_of q s p d r which wanted h period =
 
 -- a number that is right for each branching value is a share of the chambers of the path
 pub whole_share : (q : Request) (P : Symbol) (p : Pair) (path : Path) (cell : WholeCell) (lowest share : ℕ) → (p ≡ Tile) ⊎ (p ≡ Vertex) → IsWalked P path → path.pair ≡ p → IsWholeCell P p path.start lowest cell
-    → ((v : ℕ) → IsCrystallographic v → IsAllowed q p (v * cell.turns) → 144403552893600 ≤ share * (v * cell.turns)) → (j : ℕ) → j < length path.chambers.items
-    → IsShare q P p 144403552893600 (get_or path.chambers.items j 0) share
+    → ((v : ℕ) → IsCrystallographic v → IsAllowed q p (v * cell.turns) → share_unit ≤ share * (v * cell.turns)) → (j : ℕ) → j < length path.chambers.items
+    → IsShare q P p share_unit (get_or path.chambers.items j 0) share
 whole_share q P p path cell lowest share which walked same_pair whole right j below s sought =
     let full = sought.completes in
     let d = path.start in
@@ -149,10 +156,10 @@ whole_share q P p path cell lowest share which walked same_pair whole right j be
     let there : InPath P p d (get_or path.chambers.items j 0) =
     subst (λ p. InPath P p d (get_or path.chambers.items j 0)) same_pair (path_at P path.pair d path.chambers.items j walked.chambers below) in
     let same = same_degree P p d (get_or path.chambers.items j 0) s sought.wanted.symbol full h there in
-    subst (λ m. 144403552893600 ≤ share * m) (has.product ∙ sym same) up
+    subst (λ m. share_unit ≤ share * m) (has.product ∙ sym same) up
 
 -- a share of 0 is a share of each chamber, since nothing is sought
-pub none_from_zero : (q : Request) (P : Symbol) (p : Pair) (d e : ℕ) → IsShare q P p 144403552893600 d 0 → IsShare q P p 144403552893600 e 0
+pub none_from_zero : (q : Request) (P : Symbol) (p : Pair) (d e : ℕ) → IsShare q P p share_unit d 0 → IsShare q P p share_unit e 0
 none_from_zero q P p d e is s sought = let none = is s sought in let zero_ : 0 * degree s p d ≡ 0 = omega arith in absurd (omega (arith, none, zero_))
 
 -- ## Exchanges
@@ -185,7 +192,7 @@ back_again old new have =
     λ i. record { request = request i; tiles = tiles i; vertices = vertices i }
 
 -- the side after one exchange
-pub side_exchanged : (q : Request) (P : Symbol) (p : Pair) (r r' : Side) (d share : ℕ) → IsSide q P p r → 1 ≤ d → IsShare q P p 144403552893600 d share
+pub side_exchanged : (q : Request) (P : Symbol) (p : Pair) (r r' : Side) (d share : ℕ) → IsSide q P p r → 1 ≤ d → IsShare q P p share_unit d share
     → r'.total ≡ sum r'.shares → r'.total ≤ r.total → (r'.shares ≡ r.shares) ⊎ (r'.shares ≡ set r.shares (d - 1) share) → IsSide q P p r'
 side_exchanged q P p r r' d share kept low is total smaller cases = record {
   shares = shares_exchanged q P p r r' d share kept.shares low is cases;

@@ -169,3 +169,11 @@ whole_from_turns P p d lowest k x met t cell low some inside turns is either bac
       );
       above = λ s full. above_cell s full.table.involutions p d (suc k) lowest (chamber s full) (round s full) (above_too P p d lowest k x met t s full low turns is);
     }
+
+-- ## One of two
+
+pub either_first : (a b c : Bool) → a ≡ true → c ≡ true → IsTrue c ↔ (IsTrue a ⊎ IsTrue b)
+either_first a b c is same = (λ _. inl is, λ _. same)
+
+pub either_second : (a b c : Bool) → a ≡ false → c ≡ b → IsTrue c ↔ (IsTrue a ⊎ IsTrue b)
+either_second a b c none same = (λ yes_. inr (sym same ∙ yes_), λ one. ⊎_elim (λ first. absurd (cc)) (λ second. same ∙ second) one)

@@ -5,14 +5,14 @@ use Rattle.dd_model.specs.declared.pair.Pair.{Pair}
 use Rattle.dd_model.specs.declared.requests.Request.{Request}
 use Rattle.dd_model.specs.Symbol.{Symbol}
 use Rattle.dd_model.specs.Code.{count_from}
-use Rattle.dd_model.specs.Flat.{all_degrees}
 use Rattle.dd_shares.specs.Closed.{fixed_flags, AreWhole}
-use Rattle.dd_shares.specs.Shares.{IsSought, degrees_of}
+use Rattle.dd_shares.specs.Shares.{IsSought, BoundsReciprocals}
 use Rattle.dd_shares.specs.declared.limits.Census.{Census}
+use Rattle.dd_shares.specs.Units.{share_unit}
 
 -- whole cells with least chambers to k, and at most as many fixed flags as the chambers to k have
 pub record IsCensus (q : Request) (partial : Symbol) (p : Pair) (k : ℕ) (c : Census) : Type 0 where
-  pub whole : AreWhole q partial p 144403552893600 k c.cells c.chains c.chambers c.most
+  pub whole : AreWhole q partial p share_unit k c.cells c.chains c.chambers c.most
   pub fixed : (s : Symbol) → IsSought q partial s → c.fixed ≤ sum_by (fixed_flags s p) (count_from 1 k)
 
 -- the numbers of a census of k chambers are not too large
@@ -20,7 +20,7 @@ pub record IsSmall (k : ℕ) (c : Census) : Type 0 where
   pub cells : c.cells ≤ k
   pub chains : c.chains ≤ k
   pub chambers : c.chambers ≤ 72 * k
-  pub most : c.most ≤ k * (72 * (36 * 144403552893600))
+  pub most : c.most ≤ k * (72 * (36 * share_unit))
   pub fixed : c.fixed ≤ 2 * k
 
 -- The whole cells are among the cells, of which there are no more than a limit. Twice the number of chains is that of the
@@ -29,5 +29,4 @@ pub record HasRoom (s : Symbol) (p : Pair) (c : Census) (limit : ℕ) : Type 0 w
   pub cells : c.cells ≤ limit
   pub chambers : c.cells ≡ limit → s.size ≤ c.chambers
   pub chains : (c.fixed + 1) / 2 ≤ c.chains + (limit - c.cells)
-  pub total : sum_by (λ m. all_degrees s / m) (degrees_of s p) * 144403552893600
-      ≤ all_degrees s * (c.most + (c.chains + 2 * (limit - c.cells) - (c.fixed + 1) / 2) * 144403552893600)
+  pub total : BoundsReciprocals s p (c.most + (c.chains + 2 * (limit - c.cells) - (c.fixed + 1) / 2) * share_unit)

@@ -1,3 +1,4 @@
+pub mod Units
 pub mod Paths
 pub mod Shares
 pub mod Walked

@@ -9,6 +9,7 @@ use Rattle.dd_model.specs.Allowed.{IsIn}
 use Rattle.dd_model.specs.Flat.{all_degrees}
 use Rattle.dd_model.specs.Partial.{Completes}
 use Rattle.dd_model.specs.Wanted.{Wanted}
+use Rattle.dd_shares.specs.Units.{share_unit}
 
 -- a wanted symbol that completes a partial table
 pub record IsSought (q : Request) (partial s : Symbol) : Type 0 where
@@ -35,6 +36,11 @@ abbrev pub degrees_of : Symbol → Pair → List ℕ
 degrees_of s Tile = s.m01
 degrees_of s Vertex = s.m12
 degrees_of s Edge = s.m01
+
+-- The sum of 1/m over the degrees of a pair is at most the bound, in parts of the unit; all is multiplied by the product of
+-- all degrees.
+abbrev pub BoundsReciprocals : Symbol → Pair → ℕ → Type 0
+BoundsReciprocals s p bound = sum_by (λ m. all_degrees s / m) (degrees_of s p) * share_unit ≤ all_degrees s * bound
 
 -- The sum of 1/m over all chambers, times L, is at most the total; all is multiplied by the product of all degrees.
 abbrev pub IsTotal : Request → Symbol → Pair → ℕ → ℕ → Type 0

@@ -9,6 +9,7 @@ use Rattle.dd_model.specs.Symbol.{Symbol}
 use Rattle.dd_shares.specs.Shares.{AreShares}
 use Rattle.dd_shares.specs.declared.changes.Change.{Change}
 use Rattle.dd_shares.specs.declared.sides.Side.{Side}
+use Rattle.dd_shares.specs.Units.{share_unit}
 
 -- how much was exchanged
 abbrev pub depth_of : Side → ℕ
@@ -34,9 +35,9 @@ unwound r mark = unwind (depth_of r - mark) r
 
 -- a share for each chamber, and their sum
 pub record IsSide (q : Request) (partial : Symbol) (p : Pair) (side : Side) : Type 0 where
-  pub shares : AreShares q partial p 144403552893600 side.shares
+  pub shares : AreShares q partial p share_unit side.shares
   pub total : side.total ≡ sum side.shares
-  pub small : side.total ≤ 36 * 144403552893600
+  pub small : side.total ≤ 36 * share_unit
 
 -- what was exchanged can be taken back
 pub record HasExchanged (old new : Side) : Type 0 where

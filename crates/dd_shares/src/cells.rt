@@ -21,13 +21,6 @@ pub(crate) struct WholeCell {
     pub(crate) is_chain: bool,
 }
 
-/// Whether one of two holds.
-fn either(one: bool, other: bool) -> bool
-    ensures { IsTrue result ↔ (IsTrue one ⊎ IsTrue other) }
-{
-    one || other
-}
-
 impl Turn {
     /// One turn; None where an image is not known, or less than a lowest chamber.
     fn from(table: &Rows, pair: Pair, chamber: u8, lowest: u8) -> Option<Turn>
@@ -45,10 +38,9 @@ impl Turn {
         if next < lowest {
             return None;
         }
-        let fixes = either(beside == chamber, next == beside);
         Some(Turn {
             chamber: next,
-            fixes,
+            fixes: beside == chamber || next == beside,
         })
     }
 }
@@ -69,7 +61,7 @@ impl WholeCell {
             let Some(turn) = Turn::from(table, pair, chamber, lowest) else {
                 return None;
             };
-            is_chain = either(is_chain, turn.fixes);
+            is_chain = is_chain || turn.fixes;
             chamber = turn.chamber;
             if chamber == start {
                 let turns = done + 1;

@@ -14,8 +14,8 @@ pub use laws::{
     fixed_flags_halve_a_cell, flat_symbols_have_large_shares, odd_tables_have_fixed_chambers,
     shares_stay_while_a_table_is_filled, whole_cells_count,
 };
-pub use shares::{Mark, Shares, is_odd};
-pub use sides::WHOLE;
+pub use shares::{Mark, Shares, parity_rules_out};
+pub use sides::SHARE_UNIT;
 
 #[cfg(test)]
 mod tests;

@@ -1,15 +1,14 @@
-ghost use Rattle.std.specs.Prelude.{◌≡◌, ◌⊎◌, ℕ, ◌+◌, ◌*◌, ◌/◌, ◌≤◌, ◌<◌, cond, nat_eq, sum};
-ghost use Rattle.std.specs.List.{sum_by};
-ghost use Rattle.dd_model.specs.Flat.{all_degrees};
+ghost use Rattle.std.specs.Prelude.{◌≡◌, ◌⊎◌, ℕ, ◌+◌, ◌*◌, ◌/◌, ◌≤◌, ◌<◌, sum};
 ghost use Rattle.dd_model.specs.Symbol.{Symbol as Tiling};
 ghost use Rattle.dd_model.specs.Wanted.{AtMost, Wanted};
 ghost use Rattle.dd_model.specs.declared.pair.Pair.TheVariants.{Tile, Vertex};
 ghost use Rattle.dd_invol.specs.Rows.{partial_of, IsReady};
-ghost use Rattle.dd_shares.specs.Shares.{degrees_of, IsTotal};
+ghost use Rattle.dd_shares.specs.Shares.{BoundsReciprocals, IsTotal};
 ghost use Rattle.dd_shares.specs.Sides.{IsSide};
+ghost use Rattle.dd_shares.specs.Units.{share_unit};
 
 use crate::cells::WholeCell;
-use crate::sides::{Side, WHOLE};
+use crate::sides::{SHARE_UNIT, Side};
 use dd_invol::Rows;
 use dd_model::{Pair, Request};
 
@@ -22,14 +21,6 @@ fn limit_of(request: &Request, pair: Pair) -> u32
         Pair::Vertex => request.vertices,
         Pair::Edge => 0,
     }
-}
-
-/// 1 where the image of a chamber is the chamber.
-fn fixes(image: u8, chamber: u8) -> u32
-    ensures one { result ≡ cond (nat_eq image chamber) 1 0 }
-    ensures small { result ≤ 1 }
-{
-    if image == chamber { 1 } else { 0 }
 }
 
 /// What a table tells of the cells of a pair: the cells that are whole, how many of them are chains,
@@ -67,7 +58,7 @@ impl Census {
         requires ready { IsReady table.now }
         requires low { k < (partial_of table.now).size }
         requires total { side.now.total ≡ sum side.now.shares }
-        requires fits { side.now.total ≤ 36 * 144403552893600 }
+        requires fits { side.now.total ≤ 36 * share_unit }
         requires small { IsSmall k self.old }
         ensures census { (q : Request) → IsSide q (partial_of table.now) pair side.now
             → IsCensus q (partial_of table.now) pair k self.old → IsCensus q (partial_of table.now) pair (k + 1) self.new }
@@ -76,7 +67,7 @@ impl Census {
         let chamber = k + 1;
         let beside = table.known(pair.first(), chamber);
         let across = table.known(pair.second(), chamber);
-        self.fixed += fixes(beside, chamber) + fixes(across, chamber);
+        self.fixed += u32::from(beside == chamber) + u32::from(across == chamber);
         if across < chamber {
             return;
         }
@@ -95,7 +86,7 @@ impl Census {
         requires small { IsSmall 36 self.now }
         requires limit { limit ≤ 36 }
         ensures { (s : Tiling) (p : Pair) → s.size ≡ size → HasRoom s p self.now limit
-            → sum_by (λ m. all_degrees s / m) (degrees_of s p) * 144403552893600 ≤ all_degrees s * result }
+            → BoundsReciprocals s p result }
     {
         if self.cells > limit {
             return 0;
@@ -108,19 +99,19 @@ impl Census {
         if chains > self.chains + left {
             return 0;
         }
-        self.most + u64::from(self.chains + 2 * left - chains) * WHOLE
+        self.most + u64::from(self.chains + 2 * left - chains) * SHARE_UNIT
     }
 }
 
 impl Side {
     /// The total of a pair, or less where a request sets a limit: whole cells add what they add, a
-    /// further chain at most WHOLE, and a further cycle at most twice that.
+    /// further chain at most SHARE_UNIT, and a further cycle at most twice that.
     pub(crate) fn limited(&self, request: &Request, table: &Rows, pair: Pair) -> u64
         requires ready { IsReady table.now }
         requires pair { (pair ≡ Tile) ⊎ (pair ≡ Vertex) }
         requires kept { IsSide request.now (partial_of table.now) pair self.now }
-        ensures total { IsTotal request.now (partial_of table.now) pair 144403552893600 result }
-        ensures small { result ≤ 36 * 144403552893600 }
+        ensures total { IsTotal request.now (partial_of table.now) pair share_unit result }
+        ensures small { result ≤ 36 * share_unit }
     {
         let limit = limit_of(request, pair);
         if limit == 0 || limit > 36 {
@@ -131,9 +122,6 @@ impl Side {
             census.add(self, table, pair, k);
         }
         let total = census.bound(limit, table.size());
-        if total < self.total {
-            return total;
-        }
-        self.total
+        total.min(self.total)
     }
 }

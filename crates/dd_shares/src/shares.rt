@@ -7,8 +7,9 @@ ghost use Rattle.dd_invol.specs.Places.{index_at};
 ghost use Rattle.dd_invol.specs.Rows.{partial_of, IsReady, Learns, Excludes, Commutes};
 ghost use Rattle.dd_shares.specs.Shares.{IsSought};
 ghost use Rattle.dd_shares.specs.Kept.{AreKept, HaveExchanged, mark_of, rolled_back};
+ghost use Rattle.dd_shares.specs.Units.{share_unit};
 
-use crate::sides::{Side, WHOLE};
+use crate::sides::{SHARE_UNIT, Side};
 use dd_invol::Rows;
 use dd_model::{Index, Pair, Request};
 
@@ -19,7 +20,7 @@ pub struct Mark {
     vertices: usize,
 }
 
-/// Two shares for each chamber of a table that a search fills. The share of a chamber is WHOLE
+/// Two shares for each chamber of a table that a search fills. The share of a chamber is SHARE_UNIT
 /// divided by the least degree that a request allows and that its path has room for, rounded up.
 /// Flat symbols have large shares, so that a search can turn back where their sum is too small.
 /// Shares are exchanged in place, one for each chamber of a path that has grown, and can be taken
@@ -133,7 +134,7 @@ impl Shares {
     }
 
     /// Whether it is sure that no wanted symbol completes the table: the shares are too small.
-    pub fn exceeds(&self, table: &Rows) -> bool
+    pub fn rules_out(&self, table: &Rows) -> bool
         requires ready { IsReady table.now }
         requires kept { AreKept (partial_of table.now) self.now }
         ensures { IsTrue result → (s : Tiling) → ¬ IsSought self.now.request (partial_of table.now) s }
@@ -155,16 +156,16 @@ impl Shares {
 
 /// Whether two totals are less than those of a flat symbol of a size.
 fn is_too_small(tiles: u64, vertices: u64, size: u8) -> bool
-    requires tiles { tiles ≤ 36 * 144403552893600 }
-    requires vertices { vertices ≤ 36 * 144403552893600 }
-    ensures { IsTrue result → 2 * (tiles + vertices) < size * 144403552893600 }
+    requires tiles { tiles ≤ 36 * share_unit }
+    requires vertices { vertices ≤ 36 * share_unit }
+    ensures { IsTrue result → 2 * (tiles + vertices) < size * share_unit }
 {
-    2 * (tiles + vertices) < u64::from(size) * WHOLE
+    2 * (tiles + vertices) < u64::from(size) * SHARE_UNIT
 }
 
 /// Whether it is sure that no least table completes the table: its size is odd, and s0 moves
 /// chamber 1.
-pub fn is_odd(table: &Rows) -> bool
+pub fn parity_rules_out(table: &Rows) -> bool
     requires { IsReady table.now }
     ensures { IsTrue result → (s : Tiling) → Completes (partial_of table.now) s → ¬ LeastTable s }
 {

@@ -6,6 +6,7 @@ ghost use Rattle.dd_shares.specs.Shares.{IsAllowed, IsShare};
 ghost use Rattle.dd_shares.specs.Sides.{depth_of, unwound, IsSide, HasExchanged};
 ghost use Rattle.dd_shares.specs.Walked.{IsWalked};
 ghost use Rattle.dd_invol.specs.Rows.{partial_of, IsReady};
+ghost use Rattle.dd_shares.specs.Units.{share_unit};
 
 use crate::cells::WholeCell;
 use crate::changes::Change;
@@ -15,7 +16,7 @@ use dd_invol::Rows;
 use dd_model::{Pair, Request};
 
 /// A number that each of 1 to 36 divides. Shares are parts of it.
-pub const WHOLE: u64 = 144_403_552_893_600;
+pub const SHARE_UNIT: u64 = 144_403_552_893_600;
 
 /// Whether a request allows the degree to the cells of a pair.
 fn allows(request: &Request, pair: Pair, degree: u32) -> bool
@@ -42,13 +43,13 @@ fn least_degree(request: &Request, pair: Pair, from: u32) -> u32
     217
 }
 
-/// WHOLE divided by the degree, rounded up.
+/// SHARE_UNIT divided by the degree, rounded up.
 fn share_of(degree: u32) -> u64
     requires { 1 ≤ degree }
-    ensures share { result ≡ 144403552893599 / degree + 1 }
-    ensures small { result ≤ 144403552893600 }
+    ensures share { result ≡ (share_unit - 1) / degree + 1 }
+    ensures small { result ≤ share_unit }
 {
-    (WHOLE - 1) / u64::from(degree) + 1
+    (SHARE_UNIT - 1) / u64::from(degree) + 1
 }
 
 /// Whether a cell of so many turns may have the branching value.
@@ -59,11 +60,11 @@ fn allows_cell(request: &Request, pair: Pair, branching: u32, turns: u8) -> bool
     [1, 2, 3, 4, 6].contains(&branching) && allows(request, pair, branching * u32::from(turns))
 }
 
-/// WHOLE divided by the least degree that a request allows to a cell of so many turns, rounded up; 0
+/// SHARE_UNIT divided by the least degree that a request allows to a cell of so many turns, rounded up; 0
 /// where it allows none. The degree is the branching value times the turns.
 fn share_of_cell(request: &Request, pair: Pair, turns: u8) -> u64
     requires { 1 ≤ turns }
-    ensures { (v : ℕ) → IsCrystallographic v → IsAllowed request.now pair (v * turns) → 144403552893600 ≤ result * (v * turns) }
+    ensures { (v : ℕ) → IsCrystallographic v → IsAllowed request.now pair (v * turns) → share_unit ≤ result * (v * turns) }
 {
     for branching in 1..7 {
         if allows_cell(request, pair, branching, turns) {
@@ -80,7 +81,7 @@ fn share_near(request: &Request, table: &Rows, pair: Pair, path: &Path) -> u64
     requires walked { IsWalked (partial_of table.now) path.now }
     requires same { path.now.pair ≡ pair }
     ensures { (k : ℕ) → k < length path.now.chambers.items
-        → IsShare request.now (partial_of table.now) pair 144403552893600 (slice_index path.now.chambers.items k) result }
+        → IsShare request.now (partial_of table.now) pair share_unit (slice_index path.now.chambers.items k) result }
 {
     if let Some(cell) = WholeCell::from(table, pair, path.start(), 1) {
         return share_of_cell(request, pair, cell.turns);

@@ -4,7 +4,7 @@ ghost use Rattle.dd_invol.specs.Stem.{IsStem};
 ghost use Rattle.dd_invol.specs.Visit.{IsVisiting};
 ghost use Rattle.dd_shares.specs.Kept.{AreKept};
 
-use crate::{Shares, is_odd};
+use crate::{Shares, parity_rules_out};
 use dd_invol::{Rows, Stem, Visit};
 use dd_model::{Allowed, Request};
 use std::test::Fail;
@@ -29,7 +29,7 @@ fn is_empty(tiles: u32, least: u32, size: u8) -> bool
     requires size { (1 ≤ size) × (size ≤ 36) }
 {
     let rows = Rows::empty(size);
-    Shares::start(&asked(tiles, least), size).exceeds(&rows)
+    Shares::start(&asked(tiles, least), size).rules_out(&rows)
 }
 
 #[test]
@@ -66,15 +66,15 @@ fn answers() -> [bool; 6] {
     let mut rows = Rows::empty(6);
     let mut shares = Shares::start(&asked(0, 4), 6);
     let mark = shares.mark();
-    let before = shares.exceeds(&rows);
+    let before = shares.rules_out(&rows);
     let one = put(&mut rows, &mut shares, 0, 2);
     let two = put(&mut rows, &mut shares, 4, 3);
     let three = put(&mut rows, &mut shares, 6, 4);
     let four = put(&mut rows, &mut shares, 10, 5);
     let put_in = one && two && three && four;
-    let open = shares.exceeds(&rows);
+    let open = shares.rules_out(&rows);
     let capped = put(&mut rows, &mut shares, 12, 5);
-    let after = shares.exceeds(&rows);
+    let after = shares.rules_out(&rows);
     shares.undo(mark);
     let end = shares.mark();
     [before, put_in, open, capped, after, end == mark]
@@ -96,7 +96,9 @@ fn a_long_chain_exceeds(rt: HostRuntime) -> Result<(), Fail> {
 fn is_empty_with_a_tile(tiles: u32) -> bool {
     let mut rows = Rows::empty(3);
     let mut shares = Shares::start(&asked(tiles, 3), 3);
-    put(&mut rows, &mut shares, 0, 1) && put(&mut rows, &mut shares, 1, 1) && shares.exceeds(&rows)
+    put(&mut rows, &mut shares, 0, 1)
+        && put(&mut rows, &mut shares, 1, 1)
+        && shares.rules_out(&rows)
 }
 
 #[test]
@@ -116,11 +118,11 @@ fn answers_for_pentagons() -> [bool; 3] {
     request.faces = faces;
     let mut rows = Rows::empty(20);
     let mut shares = Shares::start(&request, 20);
-    let before = shares.exceeds(&rows);
+    let before = shares.rules_out(&rows);
     let put_in = put(&mut rows, &mut shares, 0, 2)
         && put(&mut rows, &mut shares, 1, 1)
         && put(&mut rows, &mut shares, 4, 2);
-    [before, put_in, shares.exceeds(&rows)]
+    [before, put_in, shares.rules_out(&rows)]
 }
 
 #[test]
@@ -138,7 +140,7 @@ fn is_empty_with_a_chain(size: u8) -> bool
 {
     let mut rows = Rows::empty(size);
     let mut shares = Shares::start(&asked(1, 3), size);
-    put(&mut rows, &mut shares, 0, 1) && shares.exceeds(&rows)
+    put(&mut rows, &mut shares, 0, 1) && shares.rules_out(&rows)
 }
 
 #[test]
@@ -152,11 +154,11 @@ fn a_tile_with_a_fixed_chamber_has_at_most_six(rt: HostRuntime) -> Result<(), Fa
 fn odd_sizes_have_fixed_chambers(rt: HostRuntime) -> Result<(), Fail> {
     let mut odd = Rows::empty(3);
     let mut even = Rows::empty(4);
-    assert!(rt; !is_odd(&odd));
+    assert!(rt; !parity_rules_out(&odd));
     assert!(rt; odd.put(0, 2));
     assert!(rt; even.put(0, 2));
-    assert!(rt; is_odd(&odd));
-    assert!(rt; !is_odd(&even));
+    assert!(rt; parity_rules_out(&odd));
+    assert!(rt; !parity_rules_out(&even));
     Ok(())
 }
 
@@ -172,11 +174,11 @@ fn count_nodes(stem: &mut Stem, visit: &mut Visit, shares: &mut Shares, mark: us
 {
     let back = shares.mark();
     shares.learn(stem.rows(), mark);
-    if shares.exceeds(stem.rows()) {
+    if shares.rules_out(stem.rows()) {
         shares.undo(back);
         return 0;
     }
-    if is_odd(stem.rows()) {
+    if parity_rules_out(stem.rows()) {
         shares.undo(back);
         return 0;
     }

@@ -1,12 +1,12 @@
-use Rattle.std.proofs.Common.{◌≡◌, ap, ◌∙◌, inl, inr, ⊎_elim, arith}
+use Rattle.std.proofs.Common.{◌≡◌, ap, ◌∙◌, subst, inl, inr, ⊎_elim, arith}
 use Rattle.dd_model.specs.Symbol.{op, first, second}
 use Rattle.dd_cells.proofs.CountLemmas.{next_place}
-use Rattle.dd_branch.proofs.Roots.{least_of_two, root_more, root_all}
+use Rattle.dd_branch.proofs.Roots.{IsRootTo, least_of_two, root_more, root_all}
 use Rattle.dd_branch.proofs.places.least_of_cell.Goals as goal
 
 pub loop-turn-preserved : goal.loop-turn-preserved
 loop-turn-preserved c =
-    let s = c.args.symbol.now in
+    let s = c.symbol-symbol.result.now in
     let p = c.args.pair in
     let d = c.args.chamber in
     let k = c.loop-turn._turn in
@@ -32,5 +32,9 @@ pub returns : goal.returns
 returns c =
     let test = c.loop-turn-test.false in
     let end = c.loop-turn.auto._turn-end in
-    root_all c.args.symbol.now c.known.ensures.symbol.table.involutions c.args.pair c.args.chamber c.args.turns c.loop-turn._turn c.loop-turn.least c.requires.chamber c.requires.turns
-    (omega (arith, test, end)) c.loop-turn.invariant.root
+    let p = c.args.pair in
+    let d = c.args.chamber in
+    let same = c.symbol-symbol.ensures.same in
+    let root = subst (λ s. IsRootTo s p d c.loop-turn._turn c.loop-turn.least) same c.loop-turn.invariant.root in
+    root_all c.args.table.now c.symbol-symbol.ensures.symbol.symbol.table.involutions p d c.args.turns c.loop-turn._turn c.loop-turn.least c.requires.chamber c.requires.turns
+    (omega (arith, test, end)) root

@@ -1,4 +1,5 @@
 use Rattle.std.proofs.Common.{arith}
+use Rattle.dd_branch.specs.Reciprocals.{degree_unit}
 use Rattle.dd_branch.proofs.Choices.{share_of_greatest}
 use Rattle.dd_branch.proofs.places.place_of.Goals as goal
 
@@ -29,7 +30,7 @@ returns c =
       few = c.turns_of-turns.ensures.few;
       shares = record {
         upper = λ m choice. c.most_share.ensures.share m choice c.turns_of-turns.ensures.turns.positive;
-        lower = share_of_greatest c.args.set.now c.turns_of-turns.result c.lower_share.result 1732842634723200 c.lower_share.ensures.share;
+        lower = share_of_greatest c.args.set.now c.turns_of-turns.result c.lower_share.result degree_unit c.lower_share.ensures.share;
         most_small = c.most_share.ensures.small;
         least_small = c.lower_share.ensures.small;
       };

@@ -2,6 +2,7 @@ use Rattle.std.proofs.Common.{get_or, refl, sym, subst, arith}
 use Rattle.dd_invol.specs.Rows.{partial_of}
 use Rattle.dd_shares.specs.Shares.{IsShare}
 use Rattle.dd_shares.specs.Turning.{IsWholeCell}
+use Rattle.dd_shares.specs.Units.{share_unit}
 use Rattle.dd_shares.proofs.SideLemmas.{walked_share, whole_share}
 use Rattle.dd_shares.proofs.sides.share_near.Goals as goal
 
@@ -21,6 +22,6 @@ returns c j below =
     let path = c.args.path.now in
     let bound = c.bound.ensures.positive in
     let from = c.least_degree.ensures.from in
-    subst (IsShare q P c.args.pair 144403552893600 (get_or path.chambers.items j 0)) (sym c.share_of.ensures.share)
+    subst (IsShare q P c.args.pair share_unit (get_or path.chambers.items j 0)) (sym c.share_of.ensures.share)
     (walked_share q P c.args.pair path.start path c.requires.walked c.requires.same refl c.requires.walked.begins.0 c.requires.walked.begins.1
     c.bound.result c.bound.ensures.cases c.least_degree.result (omega (arith, bound, from)) c.least_degree.ensures.least j below)

@@ -1,5 +1,6 @@
-use Rattle.std.proofs.Common.{◌≡◌, ◌*◌, ◌≤◌, ◌+◌, ◌/◌, sym, ap, ◌∙◌, subst, arith}
+use Rattle.std.proofs.Common.{◌-◌, ◌≡◌, ◌*◌, ◌≤◌, ◌+◌, ◌/◌, sym, ap, ◌∙◌, subst, arith}
 use Rattle.std.proofs.Math.Nat.{mul-le-mul_right}
+use Rattle.dd_shares.specs.Units.{share_unit}
 use Rattle.dd_shares.proofs.Bounds.{rounded}
 use Rattle.dd_shares.proofs.sides.share_of_cell.Goals as goal
 
@@ -11,5 +12,5 @@ returns-then-allows_cell c v is allowed =
     let from : b * c.from.result ≡ b * r = ap (λ n. b * n) c.from.ensures in
     let some : 1 ≤ b * r = let one = c.loop-branching.auto.branching in let pos = c.requires in grind (arith, one, pos) in
     let below : b * r ≤ v * r = mul-le-mul_right r least in
-    subst (λ n. 144403552893600 ≤ n * (v * r)) (sym (c.share_of.ensures.share ∙ ap (λ n. 144403552893599 / n + 1) from))
-    (rounded 144403552893599 (b * r) (v * r) some below)
+    subst (λ n. share_unit ≤ n * (v * r)) (sym (c.share_of.ensures.share ∙ ap (λ n. (share_unit - 1) / n + 1) from))
+    (rounded (share_unit - 1) (b * r) (v * r) some below)

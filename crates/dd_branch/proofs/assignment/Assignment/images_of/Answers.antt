@@ -9,7 +9,7 @@ bounds-as_slice-k c =
     let s = c.args.symbol.now in
     let same : c.as_slice.result.now ≡ code s = c.as_slice.ensures ∙ c.in_ok-numbers.ensures in
     let long : length c.as_slice.result.now ≡ length (code s) = ap length same in
-    let whole = length-code s c.known.ensures.symbol.table in
+    let whole = length-code s c.size.ensures.symbol.symbol.table in
     let test = c.loop-k-test.true in
     let end = c.loop-k.auto.k-end in
     omega (arith, long, whole, test, end)
@@ -21,7 +21,7 @@ overflow_cast-as_slice c =
     let same : get_or c.as_slice.result.now k 0 ≡ get_or (code s) k 0 = ap (λ xs. get_or xs k 0) (c.as_slice.ensures ∙ c.in_ok-numbers.ensures) in
     let test = c.loop-k-test.true in
     let end = c.loop-k.auto.k-end in
-    let high = (chamber_at s c.known.ensures.symbol.table k (omega (arith, test, end))).1 in
+    let high = (chamber_at s c.size.ensures.symbol.symbol.table k (omega (arith, test, end))).1 in
     let small = c.requires in
     omega (arith, same, high, small)
 
@@ -29,7 +29,7 @@ pub loop-k-preserved : goal.loop-k-preserved
 loop-k-preserved c =
     let s = c.args.symbol.now in
     let k = c.loop-k.k in
-    let whole = length-code s c.known.ensures.symbol.table in
+    let whole = length-code s c.size.ensures.symbol.symbol.table in
     let test = c.loop-k-test.true in
     let end = c.loop-k.auto.k-end in
     let number : get_or c.as_slice.result.now k 0 ≡ get_or (code s) k 0 = ap (λ xs. get_or xs k 0) (c.as_slice.ensures ∙ c.in_ok-numbers.ensures) in

@@ -6,8 +6,8 @@ use Rattle.dd_branch.proofs.assignment.Assignment.push.Goals as goal
 pub returns-clause-is : goal.returns-clause-is
 returns-clause-is c =
     let a = c.args.self.now in
-    let sums : c.push-2.new.self.items ≡ a.sums.items ++ (get_or a.sums.items (told a) 0 + get_or a.parts c.args.number 0) ∷ [] =
-    c.push-2.ensures.items ∙ ap (λ sum. a.sums.items ++ (sum + get_or a.parts c.args.number 0) ∷ []) c.sum.ensures.is in
+    let sums : c.push-2.new.self.items ≡ a.sums.items ++ (get_or a.sums.items (told a) 0 + get_or a.reciprocals c.args.number 0) ∷ [] =
+    c.push-2.ensures.items ∙ ap (λ sum. a.sums.items ++ (sum + get_or a.reciprocals c.args.number 0) ∷ []) c.sum.ensures.is in
     grown a _ c.args.number c.requires.ready c.requires.room c.requires.small refl refl refl refl refl c.push.ensures.items sums
 
 pub returns-clause-undone : goal.returns-clause-undone

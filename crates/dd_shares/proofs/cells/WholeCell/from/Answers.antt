@@ -1,8 +1,9 @@
-use Rattle.std.proofs.Common.{◌≡◌, suc, ◌+◌, subst, arith}
+use Rattle.std.proofs.Common.{◌≡◌, ◌↔◌, ◌⊎◌, suc, ◌+◌, IsTrue, ◌∙◌, subst, arith}
 use Rattle.dd_invol.specs.Rows.{partial_of}
 use Rattle.dd_shares.specs.Turning.{AreTurns}
-use Rattle.dd_shares.proofs.TurnLemmas.{no_turns, one_more_turn, whole_from_turns}
+use Rattle.dd_shares.proofs.TurnLemmas.{no_turns, one_more_turn, whole_from_turns, either_first, either_second}
 use Rattle.dd_shares.proofs.cells.WholeCell.from.Goals as goal
+use Rattle.dd_shares.proofs.cells.WholeCell.from.Goals.{then-is_chain, else-is_chain}
 
 pub loop-done-init : goal.loop-done-init
 loop-done-init c =
@@ -19,14 +20,24 @@ returns-then-chamber-start c =
     let P = partial_of c.args.table.now in
     let i = c.loop-done.invariant in
     let test = c.loop-done-test.true in
+    let joined : IsTrue c.if-is_chain.is_chain ↔ (IsTrue c.loop-done.is_chain ⊎ IsTrue c.in-Some.turn.fixes) =
+    elim c.if-is_chain.branch [
+      | then-is_chain w ↦ either_first c.loop-done.is_chain c.in-Some.turn.fixes c.if-is_chain.is_chain w.if-is_chain.true (w.is_chain-is ∙ w.if-is_chain.true)
+      | else-is_chain w ↦ either_second c.loop-done.is_chain c.in-Some.turn.fixes c.if-is_chain.is_chain w.if-is_chain.false w.is_chain-is
+    ] in
     whole_from_turns P c.args.pair c.args.start c.args.lowest c.loop-done.done c.loop-done.chamber c.loop-done.is_chain c.in-Some.turn _
-    c.requires.lowest.0 c.requires.low c.requires.high i.turns c.in-Some.ensures c.either-is_chain.ensures c.if-chamber-start.true (omega arith) (omega (arith, test))
+    c.requires.lowest.0 c.requires.low c.requires.high i.turns c.in-Some.ensures joined c.if-chamber-start.true (omega arith) (omega (arith, test))
 
 pub loop-done-preserved : goal.loop-done-preserved
 loop-done-preserved c =
     let P = partial_of c.args.table.now in
     let i = c.loop-done.invariant in
     let t = c.in-Some.turn in
+    let joined : IsTrue c.if-is_chain.is_chain ↔ (IsTrue c.loop-done.is_chain ⊎ IsTrue c.in-Some.turn.fixes) =
+    elim c.if-is_chain.branch [
+      | then-is_chain w ↦ either_first c.loop-done.is_chain c.in-Some.turn.fixes c.if-is_chain.is_chain w.if-is_chain.true (w.is_chain-is ∙ w.if-is_chain.true)
+      | else-is_chain w ↦ either_second c.loop-done.is_chain c.in-Some.turn.fixes c.if-is_chain.is_chain w.if-is_chain.false w.is_chain-is
+    ] in
     let one = c.in-Some.ensures in
     let next = one.next in
     let within = one.within in
@@ -34,9 +45,9 @@ loop-done-preserved c =
     let low = c.requires.lowest.0 in
     let e : suc c.loop-done.done ≡ c.loop-done.done + 1 = omega arith in
     record {
-      turns = subst (λ n. AreTurns P c.args.pair c.args.start c.args.lowest n t.chamber c.either-is_chain.result) e
-          (one_more_turn P c.args.pair c.args.start c.args.lowest c.loop-done.done c.loop-done.chamber c.loop-done.is_chain c.either-is_chain.result t
-          low i.turns one c.either-is_chain.ensures c.if-chamber-start.false);
+      turns = subst (λ n. AreTurns P c.args.pair c.args.start c.args.lowest n t.chamber c.if-is_chain.is_chain) e
+          (one_more_turn P c.args.pair c.args.start c.args.lowest c.loop-done.done c.loop-done.chamber c.loop-done.is_chain c.if-is_chain.is_chain t
+          low i.turns one joined c.if-chamber-start.false);
       low = omega (arith, low, next);
       high = omega (arith, within, small);
     }

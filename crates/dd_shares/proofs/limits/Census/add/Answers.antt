@@ -2,6 +2,7 @@ use Rattle.std.proofs.Common.{◌≡◌, ◌+◌, ◌*◌, sym, ap, ◌∙◌, s
 use Rattle.dd_invol.specs.Rows.{partial_of}
 use Rattle.dd_model.specs.Symbol.{first, second, item}
 use Rattle.dd_shares.specs.Closed.{AreWhole, IsWhole}
+use Rattle.dd_shares.specs.Units.{share_unit}
 use Rattle.dd_shares.proofs.ClosedLemmas.{whole_skip, whole_more, whole_from_cell, fixed_more, same_flag}
 use Rattle.dd_shares.proofs.limits.Census.add.Goals as goal
 
@@ -12,10 +13,10 @@ returns-then-across-chamber-clause-census c q side census =
     let old = c.args.self.now in
     let d = c.args.k + 1 in
     record {
-      whole = whole_skip q P p 144403552893600 c.args.k old.cells old.chains old.chambers old.most census.whole;
-      fixed = fixed_more q P p c.args.k old.fixed c.fixes.result c.fixes-2.result census.fixed
-          (c.fixes.ensures.one ∙ same_flag P c.first.result (first p) d c.known-beside.result c.known-beside.ensures.image c.first.ensures)
-          (c.fixes-2.ensures.one ∙ same_flag P c.second.result (second p) d c.known-across.result c.known-across.ensures.image c.second.ensures);
+      whole = whole_skip q P p share_unit c.args.k old.cells old.chains old.chambers old.most census.whole;
+      fixed = fixed_more q P p c.args.k old.fixed c.from.result c.from-2.result census.fixed
+          (c.from.ensures ∙ same_flag P c.first.result (first p) d c.known-beside.result c.known-beside.ensures.image c.first.ensures)
+          (c.from-2.ensures ∙ same_flag P c.second.result (second p) d c.known-across.result c.known-across.ensures.image c.second.ensures);
     }
 
 pub returns-in_default-clause-census : goal.returns-in_default-clause-census
@@ -25,10 +26,10 @@ returns-in_default-clause-census c q side census =
     let old = c.args.self.now in
     let d = c.args.k + 1 in
     record {
-      whole = whole_skip q P p 144403552893600 c.args.k old.cells old.chains old.chambers old.most census.whole;
-      fixed = fixed_more q P p c.args.k old.fixed c.fixes.result c.fixes-2.result census.fixed
-          (c.fixes.ensures.one ∙ same_flag P c.first.result (first p) d c.known-beside.result c.known-beside.ensures.image c.first.ensures)
-          (c.fixes-2.ensures.one ∙ same_flag P c.second.result (second p) d c.known-across.result c.known-across.ensures.image c.second.ensures);
+      whole = whole_skip q P p share_unit c.args.k old.cells old.chains old.chambers old.most census.whole;
+      fixed = fixed_more q P p c.args.k old.fixed c.from.result c.from-2.result census.fixed
+          (c.from.ensures ∙ same_flag P c.first.result (first p) d c.known-beside.result c.known-beside.ensures.image c.first.ensures)
+          (c.from-2.ensures ∙ same_flag P c.second.result (second p) d c.known-across.result c.known-across.ensures.image c.second.ensures);
     }
 
 pub returns-clause-census : goal.returns-clause-census
@@ -41,15 +42,15 @@ returns-clause-census c q side census =
     let cell = c.in-Some.cell in
     let count = c.chambers-chambers.result in
     let share = item c.args.side.now.shares d in
-    let one : IsWhole q P p 144403552893600 d c.chains.result count (count * share) =
-    whole_from_cell q P p 144403552893600 d share c.chains.result count cell (omega arith) (omega (arith, below)) c.in-Some.ensures (side.shares.each d (omega arith) (omega (arith, below)))
+    let one : IsWhole q P p share_unit d c.chains.result count (count * share) =
+    whole_from_cell q P p share_unit d share c.chains.result count cell (omega arith) (omega (arith, below)) c.in-Some.ensures (side.shares.each d (omega arith) (omega (arith, below)))
     c.chains.ensures.chain c.chambers-chambers.ensures.chain c.chambers-chambers.ensures.cycle in
-    let own : c.from-3.result * c.share.result ≡ count * share = ap (λ n. n * c.share.result) c.from-3.ensures ∙ ap (λ n. count * n) c.share.ensures in
+    let own : c.from-5.result * c.share.result ≡ count * share = ap (λ n. n * c.share.result) c.from-5.ensures ∙ ap (λ n. count * n) c.share.ensures in
     record {
-      whole = subst (λ n. AreWhole q P p 144403552893600 d (old.cells + 1) (old.chains + c.chains.result) (old.chambers + n) (old.most + c.from-3.result * c.share.result)) (sym c.from-2.ensures)
-          (subst (λ m. AreWhole q P p 144403552893600 d (old.cells + 1) (old.chains + c.chains.result) (old.chambers + count) (old.most + m)) (sym own)
-          (whole_more q P p 144403552893600 c.args.k old.cells old.chains old.chambers old.most c.chains.result count (count * share) census.whole one));
-      fixed = fixed_more q P p c.args.k old.fixed c.fixes.result c.fixes-2.result census.fixed
-          (c.fixes.ensures.one ∙ same_flag P c.first.result (first p) d c.known-beside.result c.known-beside.ensures.image c.first.ensures)
-          (c.fixes-2.ensures.one ∙ same_flag P c.second.result (second p) d c.known-across.result c.known-across.ensures.image c.second.ensures);
+      whole = subst (λ n. AreWhole q P p share_unit d (old.cells + 1) (old.chains + c.chains.result) (old.chambers + n) (old.most + c.from-5.result * c.share.result)) (sym c.from-4.ensures)
+          (subst (λ m. AreWhole q P p share_unit d (old.cells + 1) (old.chains + c.chains.result) (old.chambers + count) (old.most + m)) (sym own)
+          (whole_more q P p share_unit c.args.k old.cells old.chains old.chambers old.most c.chains.result count (count * share) census.whole one));
+      fixed = fixed_more q P p c.args.k old.fixed c.from.result c.from-2.result census.fixed
+          (c.from.ensures ∙ same_flag P c.first.result (first p) d c.known-beside.result c.known-beside.ensures.image c.first.ensures)
+          (c.from-2.ensures ∙ same_flag P c.second.result (second p) d c.known-across.result c.known-across.ensures.image c.second.ensures);
     }

@@ -2,6 +2,7 @@ use Rattle.std.proofs.Common.{◌≡◌, ◌<◌, ◌≤◌, length, get_or, sym
 use Rattle.dd_invol.specs.Rows.{partial_of}
 use Rattle.dd_invol.proofs.Orders.{all_at}
 use Rattle.dd_shares.specs.Shares.{IsShare}
+use Rattle.dd_shares.specs.Units.{share_unit}
 use Rattle.dd_shares.proofs.SideLemmas.{side_exchanged, none_from_zero, exchanged_both}
 use Rattle.dd_shares.proofs.sides.Side.renew.Goals as goal
 
@@ -12,7 +13,7 @@ returns-then-share-eq0-clause-kept c =
     let p = c.args.pair in
     let path = c.from-path.result in
     let first = get_or path.chambers.items 0 0 in
-    let none : IsShare q P p 144403552893600 first 0 = subst (IsShare q P p 144403552893600 first) c.if-share-eq0.true (c.share_near-share.ensures 0 c.from-path.ensures.walked.some) in
+    let none : IsShare q P p share_unit first 0 = subst (IsShare q P p share_unit first) c.if-share-eq0.true (c.share_near-share.ensures 0 c.from-path.ensures.walked.some) in
     side_exchanged q P p c.args.self.now c.exchange.new.self 1 0 c.requires.kept (omega arith) (none_from_zero q P p first 1 none)
     c.exchange.ensures.total c.exchange.ensures.smaller c.exchange.ensures.shares
 
@@ -32,7 +33,7 @@ loop-k-preserved c =
     let below : k < length es = omega (arith, size, test) in
     let inside = all_at (λ e. (1 ≤ e) × (e ≤ P.size)) es k c.from-path.ensures.walked.within below in
     let low = inside.0 in
-    let here : IsShare q P p 144403552893600 (get_or seen k 0) share = subst (λ x. IsShare q P p 144403552893600 x share) (sym same) (c.share_near-share.ensures k below) in
+    let here : IsShare q P p share_unit (get_or seen k 0) share = subst (λ x. IsShare q P p share_unit x share) (sym same) (c.share_near-share.ensures k below) in
     record {
       kept = side_exchanged q P p c.loop-k.self c.exchange-in-loop-k.new.self (get_or seen k 0) share i.kept (omega (arith, same, low)) here
           c.exchange-in-loop-k.ensures.total c.exchange-in-loop-k.ensures.smaller c.exchange-in-loop-k.ensures.shares;

@@ -2,8 +2,10 @@ use Rattle.std.proofs.Common.{◌≡◌, ℕ, ◌-◌, ◌<◌, length, length-s
 use Rattle.std.proofs.lemmas.Bool.{cases_eq}
 use Rattle.std.proofs.lemmas.List.{get_or-set_same, get_or-set_other}
 use Rattle.std.proofs.lemmas.List.Sums.{sum_by-set}
+use Rattle.dd_model.proofs.Lists.{zero_at}
 use Rattle.dd_shares.specs.Shares.{IsShare}
-use Rattle.dd_shares.proofs.SideLemmas.{start_share, zero_at}
+use Rattle.dd_shares.specs.Units.{share_unit}
+use Rattle.dd_shares.proofs.SideLemmas.{start_share}
 use Rattle.dd_shares.proofs.sides.Side.start.Goals as goal
 
 pub loop-k-init : goal.loop-k-init
@@ -51,7 +53,7 @@ returns c = record {
           each = λ d low high.
               let at : get_or c.loop-k.shares (d - 1) 0 ≡ share = i.each (d - 1) (omega (arith, low, high, same, done)) in
               let from = c.least_degree.ensures.from in
-              subst (λ x. IsShare c.args.request.now P c.args.pair 144403552893600 d x) (sym (at ∙ c.share_of-share.ensures.share))
+              subst (λ x. IsShare c.args.request.now P c.args.pair share_unit d x) (sym (at ∙ c.share_of-share.ensures.share))
               (start_share c.args.request.now P c.args.pair c.least_degree.result from c.least_degree.ensures.least d low high);
         };
         total = i.total;

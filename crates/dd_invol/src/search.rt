@@ -1,0 +1,97 @@
+ghost use Rattle.std.specs.Prelude.{◌≡◌, ℕ, ◌+◌, [], ◌∷◌, ◌++◌, ◌*◌, ◌≤◌, ◌<◌, ◌↔◌, List, IsTrue, OnOk, MatchOption, length};
+ghost use Rattle.std.specs.Bool.{OnTrue, OnFalse};
+ghost use Rattle.dd_model.specs.Symbol.{Symbol as Tiling};
+ghost use Rattle.dd_model.specs.declared.requests.Request.{Request as Asked};
+ghost use Rattle.dd_invol.specs.Under.{HasNothingUnder, AreUnder, Appends, HasNoNumberFrom, SkipsTo};
+ghost use Rattle.dd_invol.specs.Search.{IsLonger};
+
+use dd_model::Memory;
+use dd_symbol::Connected;
+
+/// A prefix of codes of one size, with what a search keeps to tell early that nothing is under it.
+/// A number is put at its end and taken away again, in place.
+pub trait PrefixSearch {
+    ghost request: { Self → Asked };
+
+    ghost wanted: { Asked → Tiling → Type 0 };
+
+    ghost size: { Self → ℕ };
+
+    ghost prefix: { Self → List ℕ };
+
+    // how many numbers a whole prefix of a size has
+    ghost end: { ℕ → ℕ };
+
+    // how much is to be undone, and the state with no more than so much
+    ghost depth: { Self → ℕ };
+
+    ghost undone: { Self → ℕ → Self };
+
+    // what a search keeps true of its states
+    ghost valid: { Self → Type 0 };
+
+    /// Whether the prefix is whole.
+    fn is_whole(&self) -> bool
+        requires { valid self.now }
+        ensures { IsTrue result ↔ (length (prefix self.now) ≡ end (size self.now)) };
+
+    /// How much has been put in.
+    fn mark(&self) -> usize
+        ensures { result ≡ depth self.now };
+
+    /// The least number from k on that may come next; None where no such number may come.
+    fn next_from(&self, k: u8) -> Option<u8>
+        requires valid { valid self.now }
+        requires room { length (prefix self.now) < end (size self.now) }
+        ensures { MatchOption result (HasNoNumberFrom (wanted (request self.now)) (size self.now) (prefix self.now) k) (λ m. SkipsTo (wanted (request self.now)) (size self.now) (prefix self.now) k m) };
+
+    /// Puts a number at the end, unless it is sure that nothing is under the longer prefix.
+    fn enter(&mut self, number: u8) -> bool
+        requires valid { valid self.old }
+        requires room { length (prefix self.old) < end (size self.old) }
+        requires small { number ≤ 216 }
+        ensures valid { valid self.new }
+        ensures alive { OnTrue result (IsLonger request size prefix number self.old self.new) }
+        ensures undone { OnTrue result (undone self.new (depth self.old) ≡ self.old) }
+        ensures same { OnFalse result (self.new ≡ self.old) }
+        ensures dead { OnFalse result (HasNothingUnder (wanted (request self.old)) (size self.old) (prefix self.old ++ number ∷ [])) };
+
+    /// Takes away the last number, and what was put in after a mark.
+    fn leave(&mut self, mark: usize)
+        requires now { valid self.old }
+        requires after { valid (undone self.old mark) }
+        ensures { self.new ≡ undone self.old mark };
+}
+
+/// A search that collects what is under whole prefixes.
+pub trait CollectingSearch: PrefixSearch {
+    /// Adds what is under a whole prefix.
+    fn add(&mut self, list: &mut Vec<Connected>) -> Result<(), Memory>
+        requires valid { Self.valid self.old }
+        requires whole { length (Self.prefix self.old) ≡ Self.end (Self.size self.old) }
+        ensures state { OnOk result (self.new ≡ self.old) }
+        ensures list { OnOk result (Appends (AreUnder (Self.wanted (Self.request self.old)) (Self.size self.old) (Self.prefix self.old)) list.old.items list.new.items) };
+}
+
+/// Adds what is under the prefix of a search.
+pub fn find<T: CollectingSearch>(search: &mut T, list: &mut Vec<Connected>) -> Result<(), Memory>
+    requires valid { T.valid search.old }
+    requires end { T.end (T.size search.old) ≤ 5 * T.size search.old }
+    requires short { length (T.prefix search.old) ≤ T.end (T.size search.old) }
+    ensures state { OnOk result (search.new ≡ search.old) }
+    ensures list { OnOk result (Appends (AreUnder (T.wanted (T.request search.old)) (T.size search.old) (T.prefix search.old)) list.old.items list.new.items) }
+{
+    if search.is_whole() {
+        return search.add(list);
+    }
+    let mark = search.mark();
+    let mut k = 0;
+    while let Some(number) = search.next_from(k) {
+        if search.enter(number) {
+            find(search, list)?;
+            search.leave(mark);
+        }
+        k = number + 1;
+    }
+    Ok(())
+}
