@@ -20,7 +20,8 @@ use Rattle.dd_template.specs.declared.tables.Degree.TheVariants.{OfTile, OfVerte
 use Rattle.dd_template.specs.Applying.{HasSmallFactor}
 use Rattle.dd_template.specs.Table.{Table, IsPart, entry}
 use Rattle.dd_template.specs.Made.{made}
-use Rattle.dd_template.specs.Lawful.{IsLawful, Fits, entries}
+use Rattle.dd_template.specs.Lawful.{IsLawful}
+use Rattle.dd_template.specs.Entries.{Fits, entries}
 use Rattle.dd_template.proofs.MadeSymbols.{made_table}
 use Rattle.dd_template.proofs.MadeConnected.{made_connected}
 use Rattle.dd_template.proofs.MadeBranching.{made_small}

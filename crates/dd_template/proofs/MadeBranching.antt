@@ -14,7 +14,8 @@ use Rattle.dd_template.specs.declared.tables.Degree.TheVariants.{OfTile, OfVerte
 use Rattle.dd_template.specs.Table.{Table, IsPart, entry}
 use Rattle.dd_template.specs.Made.{chamber_of, degree_of, made}
 use Rattle.dd_template.specs.Kept.{HasSmallBranching}
-use Rattle.dd_template.specs.Lawful.{IsLawful, IsTurned, Fits, entries}
+use Rattle.dd_template.specs.Lawful.{IsLawful}
+use Rattle.dd_template.specs.Entries.{IsTurned, Fits, entries}
 use Rattle.dd_template.proofs.PlaceLemmas.{place_of, chamber_of_within}
 use Rattle.dd_template.proofs.TurnLemmas.{round_of, rounds, are_rounds}
 use Rattle.dd_template.proofs.MadeSymbols.{IsFitting, tiles_fit, vertices_fit, made_involutions, made_symbol, positive_product}

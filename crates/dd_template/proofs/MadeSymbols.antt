@@ -10,7 +10,9 @@ use Rattle.dd_template.specs.declared.tables.Degree.{Degree}
 use Rattle.dd_template.specs.declared.tables.Degree.TheVariants.{OfTile, OfVertex, Fixed}
 use Rattle.dd_template.specs.Table.{Table, IsPart, move, entry}
 use Rattle.dd_template.specs.Made.{chamber_of, moved, degree_of, made}
-use Rattle.dd_template.specs.Lawful.{IsLawful, AreUndone, GoesBy, Fits, AreConstant, AllFit, IsTurned, entries}
+use Rattle.dd_template.specs.Lawful.{IsLawful}
+use Rattle.dd_template.specs.Moves.{AreUndone}
+use Rattle.dd_template.specs.Entries.{GoesBy, Fits, AreConstant, AllFit, IsTurned, entries}
 use Rattle.dd_template.proofs.PlaceLemmas.{place_of, item-of_parts, length-of_parts, chamber_of_within, op-made}
 use Rattle.dd_template.proofs.ActLemmas.{act-back}
 use Rattle.dd_template.proofs.TurnLemmas.{round_of, rounds}
