@@ -6,6 +6,7 @@ use Rattle.dd_model.specs.Symbol.{Symbol, IsSymbol, IsChamber, item}
 use Rattle.dd_model.specs.Flat.{all_degrees, reciprocals, Flat}
 use Rattle.dd_model.specs.declared.pair.Pair.{Pair}
 use Rattle.dd_model.specs.declared.pair.Pair.TheVariants.{Tile, Vertex}
+use Rattle.dd_model.proofs.AllDegrees.{all_degrees_positive}
 use Rattle.dd_template.specs.declared.tables.Degree.{Degree}
 use Rattle.dd_template.specs.declared.tables.Degree.TheVariants.{OfTile, OfVertex, Fixed}
 use Rattle.dd_template.specs.declared.tables.Kind.TheVariants as kind
@@ -19,7 +20,7 @@ use Rattle.dd_template.proofs.WholeLemmas.{whole_divided}
 use Rattle.dd_template.proofs.PlaceLemmas.{item-of_parts, chamber_of_within}
 use Rattle.dd_template.proofs.MadeSymbols.{made_symbol}
 use Rattle.dd_template.proofs.TotalLemmas.{total, total-cong, total-linear, total-scale, total-constant, sum_by-total, sum_by-items, sum_by-blocks}
-use Rattle.dd_template.proofs.ProductLemmas.{all_degrees_positive, tile_divides, vertex_divides}
+use Rattle.dd_template.proofs.ProductLemmas.{tile_divides, vertex_divides}
 
 -- ## One part of one chamber
 
