@@ -7,6 +7,10 @@ use Rattle.dd_ports.specs.declared.schedule.Schedule.{Schedule}
 abbrev pub fails_of : Schedule → List ℕ
 fails_of s = s.fails.items
 
+-- the number of the next call
+abbrev pub next_of : Schedule → ℕ
+next_of s = s.next
+
 -- the next call is listed to fail
 abbrev pub is_due : Schedule → Bool
 is_due s = list_any (λ f. f == s.next) s.fails.items

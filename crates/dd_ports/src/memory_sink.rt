@@ -1,4 +1,7 @@
-ghost use Rattle.std.specs.Prelude.{◌≡◌, ◌<◌, ◌≤◌, [], Some, true, length};
+ghost use Rattle.std.specs.Prelude.{◌≡◌, ◌<◌, ◌≤◌, [], Some, Err, true, false, length, min, IfOk, IsErrOf};
+ghost use Rattle.std.specs.Io.KnownBytes.{WriteAppends};
+ghost use Rattle.dd_ports.specs.declared.sink.SinkFault.TheVariants.{Failed};
+ghost use Rattle.dd_ports.specs.Causes.{HasCause, StaysSure};
 ghost use Rattle.dd_ports.specs.Schedule.{is_over};
 
 use crate::fault_count::FaultCount;
@@ -18,13 +21,16 @@ pub struct MemorySink {
 }
 
 impl MemorySink {
-    ghost use Rattle.dd_ports.specs.Sinks.{memory_sink_held, memory_sink_fails};
+    ghost use Rattle.dd_ports.specs.Sinks.{memory_sink_held, memory_sink_fails, memory_sink_next};
+    ghost use Rattle.dd_ports.specs.Sinks.{memory_sink_most};
 
     /// A sink that holds nothing yet. Its writes are counted from 1.
     pub fn new(alloc: Global, fails: Vec<u64>, most: usize) -> MemorySink
         requires { 0 < most }
         ensures empty { memory_sink_held result ≡ [] }
         ensures fails { memory_sink_fails result ≡ fails.items }
+        ensures first { memory_sink_next result ≡ 1 }
+        ensures most { memory_sink_most result ≡ most }
     {
         MemorySink {
             bytes: Vec::new(alloc),
@@ -43,13 +49,28 @@ impl MemorySink {
 }
 
 impl Sink for MemorySink {
+    ghost use Rattle.dd_ports.specs.Sinks.{memory_sink_held, memory_sink_is_due};
+    ghost use Rattle.dd_ports.specs.Sinks.{memory_sink_most, CountsWrite};
+
     ghost held = { λ s. Some s.bytes.items };
 
     ghost faults = { λ s. s.faults };
 
     ghost sure = { λ s. is_over s.schedule };
 
-    fn write(&mut self, piece: &[u8]) -> Result<usize, SinkFault> {
+    fn write(&mut self, piece: &[u8]) -> Result<usize, SinkFault>
+        requires { 0 < length piece.now }
+        ensures count { IfOk result (λ k. (0 < k) × (k ≤ length piece.now)) }
+        ensures bytes { WriteAppends (Some (memory_sink_held self.old)) (Some (memory_sink_held self.new))
+            result piece.now }
+        ensures cause { HasCause Failed self.old.faults self.new.faults result }
+        ensures sure { is_over self.old.schedule ≡ true
+            → StaysSure Failed self.old.faults self.new.faults (is_over self.new.schedule) result }
+        ensures counted { CountsWrite self.old self.new }
+        ensures most { IfOk result (λ k. k ≡ min (length piece.now) (memory_sink_most self.old)) }
+        ensures due { memory_sink_is_due self.old ≡ true → result ≡ Err Failed }
+        ensures not_due { memory_sink_is_due self.old ≡ false → IsErrOf result Failed → ⊥ }
+    {
         let fails = self.schedule.turn();
         if fails {
             self.faults.rise();

@@ -9,11 +9,12 @@ pub struct Schedule {
 }
 
 impl Schedule {
-    ghost use Rattle.dd_ports.specs.Schedule.{is_due, is_over, fails_of};
+    ghost use Rattle.dd_ports.specs.Schedule.{is_due, is_over, fails_of, next_of};
 
     /// The schedule of calls counted from 1.
     pub fn new(fails: Vec<u64>) -> Schedule
-        ensures { fails_of result ≡ fails.items }
+        ensures fails { fails_of result ≡ fails.items }
+        ensures first { next_of result ≡ 1 }
     {
         Schedule { fails, next: 1 }
     }
@@ -21,7 +22,7 @@ impl Schedule {
     /// Counts a call, and says whether it fails.
     pub fn turn(&mut self) -> bool
         ensures due { result ≡ is_due self.old }
-        ensures next { self.new.next ≡ min (self.old.next + 1) (2 ^ 64 - 1) }
+        ensures next { next_of self.new ≡ min (next_of self.old + 1) (2 ^ 64 - 1) }
         ensures over { is_over self.old ≡ true → (result ≡ false) × (is_over self.new ≡ true) }
         ensures same { fails_of self.new ≡ fails_of self.old }
     {
