@@ -7,9 +7,9 @@ use Rattle.dd_model.specs.Cell.{IsLeastTurns, IsBranching}
 use Rattle.dd_model.proofs.Turns.{least_turns_unique}
 use Rattle.dd_model.proofs.Branching.{branching_unique}
 use Rattle.dd_model.proofs.CellLists.{cells_unique, increasing_unique}
-use Rattle.dd_cells.specs.declared.told.Kind.{Kind}
-use Rattle.dd_cells.specs.declared.told.Kind.TheVariants.{Cycle, Chain}
-use Rattle.dd_cells.specs.declared.told.Cell.{Cell}
+use Rattle.dd_cells.specs.declared.kind.Kind.{Kind}
+use Rattle.dd_cells.specs.declared.kind.Kind.TheVariants.{Cycle, Chain}
+use Rattle.dd_cells.specs.declared.cell.Cell.{Cell}
 use Rattle.dd_cells.specs.Cells.{AreMembers, IsKindOf, IsCellOf, AreCellsOf}
 
 kinds_agree : (s : Symbol) (p : Pair) (d : ℕ) (k l : Kind) → IsKindOf s p d k → IsKindOf s p d l → k ≡ l

@@ -9,7 +9,7 @@ use Rattle.dd_model.specs.Cell.{InCell, IsChain, turned, IsPeriod, IsLeastTurns,
 use Rattle.dd_model.proofs.Turns.{IsLeastTurns-from_period, least_turns_unique}
 use Rattle.dd_model.proofs.CellWalks.{IsMet, met_cases, met_later, met_from_in_cell, in_cell_from_met, has_period}
 use Rattle.dd_cells.specs.Cells.{HasFixed, AreMembers}
-use Rattle.dd_cells.specs.declared.told.Cell.{Cell}
+use Rattle.dd_cells.specs.declared.cell.Cell.{Cell}
 
 -- ## The chambers that are met
 

@@ -5,9 +5,9 @@ use Rattle.std.specs.List.Sorted.{IsStrictlyIncreasing}
 use Rattle.dd_model.specs.Symbol.{Symbol, first, second, op}
 use Rattle.dd_model.specs.Cell.{InCell, IsChain, IsLeastTurns, IsBranching, IsLeastOfCell, AreCells}
 use Rattle.dd_model.specs.declared.pair.Pair.{Pair}
-use Rattle.dd_cells.specs.declared.told.Kind.{Kind}
-use Rattle.dd_cells.specs.declared.told.Kind.TheVariants.{Cycle, Chain}
-use Rattle.dd_cells.specs.declared.told.Cell.{Cell}
+use Rattle.dd_cells.specs.declared.kind.Kind.{Kind}
+use Rattle.dd_cells.specs.declared.kind.Kind.TheVariants.{Cycle, Chain}
+use Rattle.dd_cells.specs.declared.cell.Cell.{Cell}
 
 -- an involution of the pair fixes a chamber of a list
 pub record HasFixed (s : Symbol) (p : Pair) (ds : List ℕ) : Type 0 where

@@ -2,8 +2,8 @@
 use Rattle.std.specs.Prelude.{◌≡◌, ◌≢◌, ◌⊎◌, ℕ, ◌-◌, Bool, false, not, List, slice_index_or}
 use Rattle.dd_model.specs.Symbol.{Symbol, IsChamber, op}
 use Rattle.dd_model.specs.declared.index.Index.{Index}
-use Rattle.dd_cells.specs.declared.told.Orientation.{Orientation}
-use Rattle.dd_cells.specs.declared.told.Orientation.TheVariants.{Oriented, Weak, None}
+use Rattle.dd_cells.specs.declared.orientations.Orientation.{Orientation}
+use Rattle.dd_cells.specs.declared.orientations.Orientation.TheVariants.{Oriented, Weak, None}
 
 -- the color of a chamber, one of two
 abbrev pub color : List Bool → ℕ → Bool

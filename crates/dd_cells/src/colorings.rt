@@ -4,7 +4,7 @@ ghost use Rattle.dd_model.specs.declared.index.Index.{Index};
 ghost use Rattle.dd_cells.specs.Orientation.{IsOrientation, AreWeakColors};
 ghost use Rattle.dd_cells.specs.Coloring.{AreForced, ExchangesBy, IsFreeOf};
 
-use crate::told::Orientation;
+use crate::orientations::Orientation;
 use dd_model::{Index, Memory};
 use dd_symbol::{Connected, Symbol};
 use std::alloc::Global;
@@ -30,7 +30,6 @@ impl Coloring {
         ensures coloring { IfOk result (λ coloring. IsColoring symbol.now coloring) }
         ensures first { IfOk result (λ coloring. IsMarked coloring.seen.items 1) }
     {
-        symbol.known();
         let size = symbol.size() as usize;
         let mut seen = vec![in alloc; false; size]?;
         let colors = vec![in alloc; false; size]?;
@@ -77,8 +76,7 @@ impl Coloring {
             return Ok(());
         }
         let color = !self.colors[chamber as usize - 1];
-        self.meet(symbol, neighbor, color)?;
-        Ok(())
+        self.meet(symbol, neighbor, color)
     }
 
     /// Meets the three images of a chamber that is met.
@@ -94,8 +92,7 @@ impl Coloring {
     {
         self.spread(symbol, Index::Zero, chamber)?;
         self.spread(symbol, Index::One, chamber)?;
-        self.spread(symbol, Index::Two, chamber)?;
-        Ok(())
+        self.spread(symbol, Index::Two, chamber)
     }
 }
 
@@ -103,7 +100,6 @@ impl Coloring {
 fn forced_colors(alloc: Global, s: &Connected) -> Result<Vec<bool>, Memory>
     ensures { IfOk result (λ colors. AreForced s.now colors.items) }
 {
-    s.known();
     let symbol = s.symbol();
     let mut coloring = Coloring::new(alloc, symbol)?;
     let mut at = 0;
@@ -135,13 +131,9 @@ fn exchange(symbol: &Symbol, colors: &[bool]) -> bool
     requires { length colors.now ≡ symbol.now.size }
     ensures { IsTrue result ↔ AreWeakColors symbol.now colors.now }
 {
-    if !exchanges_by(symbol, Index::Zero, colors) {
-        return false;
-    }
-    if !exchanges_by(symbol, Index::One, colors) {
-        return false;
-    }
-    exchanges_by(symbol, Index::Two, colors)
+    exchanges_by(symbol, Index::Zero, colors)
+        && exchanges_by(symbol, Index::One, colors)
+        && exchanges_by(symbol, Index::Two, colors)
 }
 
 /// Whether an involution fixes no chamber.
@@ -160,22 +152,17 @@ fn is_free_of(symbol: &Symbol, i: Index) -> bool
 fn is_free(symbol: &Symbol) -> bool
     ensures { IsTrue result ↔ ((i : Index) → IsFreeOf symbol.now i) }
 {
-    if !is_free_of(symbol, Index::Zero) {
-        return false;
-    }
-    if !is_free_of(symbol, Index::One) {
-        return false;
-    }
-    is_free_of(symbol, Index::Two)
+    is_free_of(symbol, Index::Zero)
+        && is_free_of(symbol, Index::One)
+        && is_free_of(symbol, Index::Two)
 }
 
 /// The orientation of a symbol. Its surface is orientable where the answer is not `None`.
 pub fn orientation(alloc: Global, s: &Connected) -> Result<Orientation, Memory>
     ensures { IfOk result (λ orientation. IsOrientation s.now orientation) }
 {
-    s.known();
-    let colors = forced_colors(alloc, s)?;
     let symbol = s.symbol();
+    let colors = forced_colors(alloc, s)?;
     if !exchange(symbol, &colors) {
         return Ok(Orientation::None);
     }

@@ -1,4 +1,4 @@
-ghost use Rattle.std.specs.Prelude.{◌≡◌, ◌↔◌, ◌≤◌, ℕ, IsTrue, List, length};
+ghost use Rattle.std.specs.Prelude.{◌≡◌, ◌↔◌, ◌≤◌, ℕ, IsTrue, List, length, pos, ◌+ℤ◌, ◌≤ℤ◌};
 ghost use Rattle.dd_model.specs.Symbol.{IsChamber};
 ghost use Rattle.dd_model.specs.Cell.{IsLeastOfCell, AreCells};
 ghost use Rattle.dd_cells.specs.Euler.{orbits as orbits_of, IsEuler};
@@ -11,7 +11,6 @@ pub(crate) fn is_least_of_cell(symbol: &Symbol, pair: Pair, chamber: u32) -> boo
     requires { IsChamber symbol.now chamber }
     ensures { IsTrue result ↔ IsLeastOfCell symbol.now pair chamber }
 {
-    symbol.known();
     let mut place = chamber;
     for _turn in 0..symbol.size() {
         let neighbor = symbol.op(pair.first(), place);
@@ -32,7 +31,6 @@ pub fn count(s: &Connected, pair: Pair) -> u32
     ensures small { result ≤ 16384 }
 {
     let symbol = s.symbol();
-    symbol.known();
     let mut cells = 0;
     for k in 0..symbol.size() {
         if is_least_of_cell(symbol, pair, k + 1) {
@@ -60,9 +58,9 @@ fn orbits(symbol: &Symbol, i: Index) -> u32
 /// The Euler number: the number of the cells of all three pairs and of the chambers, less that of
 /// the orbits of the three involutions. It takes no memory.
 pub fn euler(s: &Connected) -> i64
-    ensures { IsEuler s.now result }
+    ensures euler { IsEuler s.now result }
+    ensures low { pos 0 ≤ℤ (result +ℤ pos 49152) }
 {
-    s.known();
     let symbol = s.symbol();
     let cells = count(s, Pair::Tile) + count(s, Pair::Vertex) + count(s, Pair::Edge);
     let sides = orbits(symbol, Index::Zero)

@@ -1,5 +1,5 @@
 ghost use Rattle.std.specs.Prelude.{◌≡◌, ◌↔◌, ◌*◌, ◌≤◌, ℕ, IsTrue, List};
-ghost use Rattle.dd_model.specs.Symbol.{IsChamber};
+ghost use Rattle.dd_model.specs.Symbol.{IsChamber, IsTable};
 ghost use Rattle.dd_model.specs.Cell.{IsChain};
 ghost use Rattle.dd_model.specs.Code.{chambers};
 ghost use Rattle.dd_model.specs.Flat.{Flat, all_degrees, reciprocals};
@@ -19,7 +19,6 @@ fn is_chain(symbol: &Symbol, pair: Pair, chamber: u32) -> bool
     requires { IsChamber symbol.now chamber }
     ensures { IsTrue result ↔ IsChain symbol.now pair chamber }
 {
-    symbol.known();
     let mut place = chamber;
     for _turn in 0..symbol.size() {
         let neighbor = symbol.op(pair.first(), place);
@@ -37,13 +36,13 @@ fn is_chain(symbol: &Symbol, pair: Pair, chamber: u32) -> bool
 
 /// The sum of 1/m over the chambers of a cell, in parts of `COMMON_MULTIPLE`: 2/v for a cycle, and
 /// 1/v for a chain.
-fn cell_share(symbol: &Symbol, pair: Pair, chamber: u32) -> u64
-    requires { IsChamber symbol.now chamber }
-    ensures sum { (members : List ℕ) → AreMembers symbol.now pair chamber members
-        → IsReciprocalSum symbol.now pair members COMMON_MULTIPLE result }
+fn cell_share(s: &Connected, pair: Pair, chamber: u32) -> u64
+    requires { IsChamber s.now chamber }
+    ensures sum { (members : List ℕ) → AreMembers s.now pair chamber members
+        → IsReciprocalSum s.now pair members COMMON_MULTIPLE result }
     ensures small { result ≤ 2 * COMMON_MULTIPLE }
 {
-    symbol.known();
+    let symbol = s.symbol();
     let sides = if is_chain(symbol, pair, chamber) {
         1
     } else {
@@ -53,45 +52,41 @@ fn cell_share(symbol: &Symbol, pair: Pair, chamber: u32) -> u64
 }
 
 /// The sum of 1/m over all chambers, in parts of `COMMON_MULTIPLE`.
-fn reciprocal_sum(symbol: &Symbol, pair: Pair) -> u64
-    ensures sum { IsReciprocalSum symbol.now pair (chambers symbol.now) COMMON_MULTIPLE result }
+fn reciprocal_sum(s: &Connected, pair: Pair) -> u64
+    ensures sum { IsReciprocalSum s.now pair (chambers s.now) COMMON_MULTIPLE result }
     ensures small { result ≤ 16384 * (2 * COMMON_MULTIPLE) }
+    ensures table { IsTable s.now }
 {
-    symbol.known();
+    let symbol = s.symbol();
     let mut sum = 0;
     for k in 0..symbol.size() {
         let chamber = k + 1;
         if is_least_of_cell(symbol, pair, chamber) {
-            sum += cell_share(symbol, pair, chamber);
+            sum += cell_share(s, pair, chamber);
         }
     }
     sum
 }
 
 /// The sum of 2/m01 + 2/m12 over all chambers, in parts of `COMMON_MULTIPLE`.
-fn gain(symbol: &Symbol) -> u64
-    ensures sum { result * all_degrees symbol.now ≡ COMMON_MULTIPLE * (2 * reciprocals symbol.now) }
+fn gain(s: &Connected) -> u64
+    ensures sum { result * all_degrees s.now ≡ COMMON_MULTIPLE * (2 * reciprocals s.now) }
     ensures small { result ≤ 65536 * (2 * COMMON_MULTIPLE) }
 {
-    symbol.known();
-    2 * (reciprocal_sum(symbol, Pair::Tile) + reciprocal_sum(symbol, Pair::Vertex))
+    2 * (reciprocal_sum(s, Pair::Tile) + reciprocal_sum(s, Pair::Vertex))
 }
 
 /// The curvature: the sum of 1/m01 + 1/m12 - 1/2 over all chambers. It takes no memory.
 pub fn curvature(s: &Connected) -> Fraction
     ensures { IsCurvature s.now result }
 {
-    s.known();
-    let symbol = s.symbol();
-    let loss = COMMON_MULTIPLE * u64::from(symbol.size());
-    Fraction::of_difference(gain(symbol), loss, 2 * COMMON_MULTIPLE)
+    let loss = COMMON_MULTIPLE * u64::from(s.symbol().size());
+    Fraction::of_difference(gain(s), loss, 2 * COMMON_MULTIPLE)
 }
 
 /// Whether the curvature is 0. It takes no memory.
 pub fn is_flat(s: &Connected) -> bool
     ensures { IsTrue result ↔ Flat s.now }
 {
-    s.known();
-    let symbol = s.symbol();
-    gain(symbol) == COMMON_MULTIPLE * u64::from(symbol.size())
+    gain(s) == COMMON_MULTIPLE * u64::from(s.symbol().size())
 }

@@ -1,23 +1,29 @@
 //! The cells of a symbol, their numbers, the Euler number, the curvature and the orientation.
 #![tactic(auto)]
 
+mod cell;
 mod colorings;
 mod counts;
 mod curvatures;
 mod fractions;
+mod kind;
 mod laws;
 mod listing;
+mod members;
+mod orientations;
 #[cfg(test)]
 mod tests;
-mod told;
 
+pub use cell::Cell;
 pub use colorings::orientation;
 pub use counts::{count, euler};
 pub use curvatures::{COMMON_MULTIPLE, curvature, is_flat};
 pub use fractions::Fraction;
+pub use kind::Kind;
 pub use laws::{
     a_pair_determines_its_cells, a_symbol_determines_its_curvature, cells_have_sizes,
     fixed_chambers_are_the_ends_of_chains, the_curvature_is_that_of_the_surface,
 };
 pub use listing::cells;
-pub use told::{Cell, Kind, Members, Orientation};
+pub use members::Members;
+pub use orientations::Orientation;

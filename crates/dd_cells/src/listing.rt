@@ -4,26 +4,22 @@ ghost use Rattle.dd_model.specs.Cell.{IsLeastTurns, IsLeastOfCell};
 ghost use Rattle.dd_cells.specs.Cells.{HasFixed, AreMembers, IsCellOf, AreCellsOf};
 ghost use Rattle.std.specs.List.{Contains};
 
-use crate::told::{Cell, Kind, Members};
+use crate::cell::Cell;
+use crate::kind::Kind;
+use crate::members::Members;
 use dd_model::{Memory, Pair};
 use dd_symbol::{Connected, Symbol};
 use std::alloc::Global;
 
 /// The chambers of the cell of a chamber, which are met within r turns.
-fn walked(
-    alloc: Global,
-    symbol: &Symbol,
-    pair: Pair,
-    chamber: u32,
-    r: u32,
-) -> Result<Members, Memory>
-    requires chamber { IsChamber symbol.now chamber }
-    requires turns { IsLeastTurns symbol.now pair chamber r }
-    ensures { IfOk result (λ members. AreMembers symbol.now pair chamber members) }
+fn walked(alloc: Global, s: &Connected, pair: Pair, chamber: u32, r: u32) -> Result<Members, Memory>
+    requires chamber { IsChamber s.now chamber }
+    requires turns { IsLeastTurns s.now pair chamber r }
+    ensures { IfOk result (λ members. AreMembers s.now pair chamber members) }
 {
+    let symbol = s.symbol();
     let mut chambers = Vec::new(alloc);
     let mut place = chamber;
-    symbol.known();
     for _turn in 0..r {
         let neighbor = symbol.op(pair.first(), place);
         chambers.push(place)?;
@@ -42,10 +38,9 @@ fn has_fixed(symbol: &Symbol, pair: Pair, chambers: &[u32]) -> bool
 {
     for chamber in chambers {
         let chamber = *chamber;
-        if symbol.op(pair.first(), chamber) == chamber {
-            return true;
-        }
-        if symbol.op(pair.second(), chamber) == chamber {
+        if symbol.op(pair.first(), chamber) == chamber
+            || symbol.op(pair.second(), chamber) == chamber
+        {
             return true;
         }
     }
@@ -53,15 +48,15 @@ fn has_fixed(symbol: &Symbol, pair: Pair, chambers: &[u32]) -> bool
 }
 
 /// The cell of its least chamber.
-fn cell_at(alloc: Global, symbol: &Symbol, pair: Pair, least: u32) -> Result<Cell, Memory>
-    requires { IsLeastOfCell symbol.now pair least }
-    ensures cell { IfOk result (λ cell. IsCellOf symbol.now pair cell) }
+fn cell_at(alloc: Global, s: &Connected, pair: Pair, least: u32) -> Result<Cell, Memory>
+    requires { IsLeastOfCell s.now pair least }
+    ensures cell { IfOk result (λ cell. IsCellOf s.now pair cell) }
     ensures least { IfOk result (λ cell. cell.least ≡ least) }
 {
-    symbol.known();
+    let symbol = s.symbol();
     let v = symbol.branching(pair, least);
     let r = symbol.degree(pair, least) / v;
-    let members = walked(alloc, symbol, pair, least, r)?;
+    let members = walked(alloc, s, pair, least, r)?;
     let kind = if has_fixed(symbol, pair, members.as_slice()) {
         Kind::Chain
     } else {
@@ -80,11 +75,10 @@ fn cell_at(alloc: Global, symbol: &Symbol, pair: Pair, least: u32) -> Result<Cel
 pub fn cells(alloc: Global, s: &Connected, pair: Pair) -> Result<Vec<Cell>, Memory>
     ensures { IfOk result (λ cells. AreCellsOf s.now pair cells.items) }
 {
-    let symbol = s.symbol();
-    let chambers = symbol.least_chambers(alloc, pair)?;
+    let chambers = s.symbol().least_chambers(alloc, pair)?;
     let mut cells = Vec::with_capacity(alloc, chambers.len())?;
     for k in 0..chambers.len() {
-        cells.push(cell_at(alloc, symbol, pair, chambers[k])?)?;
+        cells.push(cell_at(alloc, s, pair, chambers[k])?)?;
     }
     Ok(cells)
 }

@@ -1,3 +1,4 @@
+ghost use Rattle.dd_model.specs.Small.{IsSmallSymbol};
 ghost use Rattle.dd_name.specs.Rounds.{IsEnd, IsJoined};
 
 use crate::flags::{Flag, other_index};
@@ -9,9 +10,9 @@ use std::mem::swap;
 /// chamber to chamber, until one fixes a chamber.
 pub fn other_end(symbol: &Symbol, pair: Pair, flag: Flag) -> Flag
     requires { IsEnd symbol.now pair flag }
-    ensures { IsJoined symbol.now pair flag result }
+    ensures joined { IsJoined symbol.now pair flag result }
+    ensures symbol { IsSmallSymbol symbol.now }
 {
-    symbol.known();
     let mut chamber = flag.chamber;
     let mut came = flag.index;
     let mut index = other_index(pair, flag.index);

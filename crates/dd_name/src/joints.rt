@@ -16,6 +16,7 @@ pub struct Joint {
 
 impl Joint {
     ghost use Rattle.std.specs.Prelude.{◌≡◌};
+    ghost use Rattle.dd_model.specs.Small.{IsSmallSymbol};
     ghost use Rattle.dd_name.specs.Rounds.{IsEnd, IsJoint, IsLinked};
 
     /// The joint at a flag by a pair.
@@ -34,6 +35,7 @@ impl Joint {
         requires { IsJoint symbol.now self }
         ensures linked { IsLinked symbol.now self result }
         ensures joint { IsJoint symbol.now result }
+        ensures symbol { IsSmallSymbol symbol.now }
     {
         let flag = other_end(symbol, self.by, self.flag);
         Joint::at(symbol, flag, other_pair(self.by, flag.index))

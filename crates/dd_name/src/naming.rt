@@ -92,7 +92,7 @@ fn put_name(out: &mut Vec<u8>, o: &Orbifold) -> Result<(), Memory>
 /// Appends the name of an orbifold. After want of memory the text is as before.
 pub fn name(out: &mut Vec<u8>, o: &Orbifold) -> Result<(), Memory>
     ensures name { OnOk result (out.new.items ≡ out.old.items ++ name_text o.now) }
-    ensures kept { OnErr result (out.new.items ≡ out.old.items) }
+    ensures same { OnErr result (out.new.items ≡ out.old.items) }
 {
     let length = out.len();
     let named = put_name(out, o);

@@ -47,7 +47,6 @@ fn round_from(
     ensures marks { OnOk result (AreMarks symbol.now marks.new) }
     ensures round { IfOk result (λ round. IsNewRound symbol.now start marks.old marks.new round) }
 {
-    symbol.known();
     let mut joints = Vec::new(alloc);
     let mut current = Joint::at(symbol, start, first_pair(start.index));
     while !marks[current.flag.place()] {
@@ -62,39 +61,34 @@ fn round_from(
 /// or the flag is on an earlier round.
 fn look_at(
     alloc: Global,
-    symbol: &Symbol,
+    s: &Connected,
     place: usize,
     marks: &mut [bool],
     rounds: &mut Vec<Round>,
 ) -> Result<(), Memory>
     requires low { 3 ≤ place }
-    requires high { place < 3 * symbol.now.size + 3 }
-    requires told { AreTold symbol.now place marks.old rounds.old.items }
-    ensures { OnOk result (AreTold symbol.now (place + 1) marks.new rounds.new.items) }
+    requires high { place < 3 * s.now.size + 3 }
+    requires told { AreTold s.now place marks.old rounds.old.items }
+    ensures { OnOk result (AreTold s.now (place + 1) marks.new rounds.new.items) }
 {
-    symbol.known();
+    let symbol = s.symbol();
     let flag = Flag::at(place);
-    if symbol.op(flag.index, flag.chamber) != flag.chamber {
-        return Ok(());
-    }
-    if marks[place] {
+    if symbol.op(flag.index, flag.chamber) != flag.chamber || marks[place] {
         return Ok(());
     }
     let round = round_from(alloc, symbol, marks, flag)?;
-    rounds.push(round)?;
-    Ok(())
+    Ok(rounds.push(round)?)
 }
 
 /// The boundaries, ascending by the flags at which they begin.
 pub fn rounds(alloc: Global, s: &Connected) -> Result<Vec<Round>, Memory>
     ensures { IfOk result (λ rounds. AreRounds s.now rounds.items) }
 {
-    let symbol = s.symbol();
-    let size = symbol.size() as usize;
+    let size = s.symbol().size() as usize;
     let mut rounds = Vec::new(alloc);
     let mut marks = vec![in alloc; false; 3 * size + 3]?;
     for place in 3..3 * size + 3 {
-        look_at(alloc, symbol, place, &mut marks, &mut rounds)?;
+        look_at(alloc, s, place, &mut marks, &mut rounds)?;
     }
     Ok(rounds)
 }

@@ -10,7 +10,6 @@ use std::alloc::Global;
 fn room(s: &Connected, boundaries: usize) -> u32
     ensures { IsRoom s.now boundaries result }
 {
-    s.known();
     let euler = euler(s);
     if euler > 2 {
         return 0;

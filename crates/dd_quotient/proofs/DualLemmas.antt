@@ -1,17 +1,21 @@
 -- The dual of a connected symbol is one.
-use Rattle.std.proofs.Common.{◌≡◌, ℕ, zero, suc, [], ◌∷◌, length, refl, sym, ap, ◌∙◌, subst, inl, inr, ⊎_elim, List}
+use Rattle.std.proofs.Common.{◌≡◌, ℕ, zero, suc, [], ◌∷◌, length, map, refl, sym, ap, ◌∙◌, subst, inl, inr, ⊎_elim, List, arith}
 use Rattle.dd_model.specs.declared.index.Index.{Index}
 use Rattle.dd_model.specs.declared.index.Index.TheVariants.{Zero, One, Two}
 use Rattle.dd_model.specs.declared.pair.Pair.{Pair}
 use Rattle.dd_model.specs.declared.pair.Pair.TheVariants.{Tile, Vertex, Edge}
-use Rattle.dd_model.specs.Symbol.{Symbol, IsChamber, AreInvolutions, IsTable, IsSymbol, HasDegree, Word, operation, op, act, first, second, turn, degree}
+use Rattle.dd_model.specs.Symbol.{Symbol, item, IsChamber, AreInvolutions, IsTable, IsSymbol, HasDegree, Word, operation, op, act, first, second, turn, degree}
 use Rattle.dd_model.specs.Connected.{Connected}
 use Rattle.dd_model.specs.Cell.{IsWordOf, InCell, turned, IsLeastTurns, IsBranching}
 use Rattle.dd_model.specs.Small.{IsSmallSymbol}
 use Rattle.dd_model.proofs.Turns.{turned-suc, turned-last, turned_within}
 use Rattle.dd_model.proofs.Transport.{in_cell_within}
 use Rattle.dd_symbol.specs.Building.{listed, HaveOneLength, IsAccepted}
-use Rattle.dd_quotient.specs.Dual.{dual_of}
+use Rattle.dd_model.specs.Code.{count_from}
+use Rattle.dd_model.proofs.Codes.{same_items}
+use Rattle.dd_model.proofs.CountFrom.{length-count_from, item-map-count_from}
+use Rattle.std.proofs.lemmas.List.{length-map}
+use Rattle.dd_quotient.specs.Dual.{dual_of, degrees_of}
 
 abbrev flip : Index → Index
 flip Zero = Two
@@ -163,3 +167,15 @@ lengths-dual s t is e = subst HaveOneLength (sym e)
 pub accepted-dual : (s t : Symbol) → IsSmallSymbol s → Connected s → t ≡ dual_of s → IsAccepted 16384 t
 accepted-dual s t is all e = subst (IsAccepted 16384) (sym e)
     (record { symbol = small_symbol-dual s is; connected = connected-dual s all; within = is.size })
+
+-- the items of all chambers are the list
+items_of : (xs : List ℕ) (n : ℕ) → length xs ≡ n → map (item xs) (count_from 1 n) ≡ xs
+items_of xs n size =
+    same_items (map (item xs) (count_from 1 n)) xs n (length-map (count_from 1 n) (item xs) ∙ length-count_from 1 n) size
+    (λ d low high. item-map-count_from (item xs) n d low (omega arith))
+
+pub tile_degrees : (s : Symbol) → IsTable s → degrees_of s Tile ≡ s.m01
+tile_degrees s table = items_of s.m01 s.size table.m01_length
+
+pub vertex_degrees : (s : Symbol) → IsTable s → degrees_of s Vertex ≡ s.m12
+vertex_degrees s table = items_of s.m12 s.size table.m12_length

@@ -60,7 +60,6 @@ fn refined(alloc: Global, s: &Symbol, classes: &[u32]) -> Result<Vec<u32>, Memor
 pub(crate) fn alike_classes(alloc: Global, s: &Connected) -> Result<Vec<u32>, Memory>
     ensures { IfOk result (λ classes. AreAlikeClasses s.now classes.items) }
 {
-    s.known();
     let symbol = s.symbol();
     let mut classes = vec![in alloc; 1u32; symbol.size() as usize]?;
     loop {

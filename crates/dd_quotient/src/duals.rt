@@ -2,9 +2,9 @@ ghost use Rattle.std.specs.Prelude.{◌≡◌, IfOk};
 ghost use Rattle.dd_model.specs.Symbol.{Symbol as Tiling, operation};
 ghost use Rattle.dd_model.specs.Connected.{Connected as AllReached};
 ghost use Rattle.dd_model.specs.Small.{IsSmallSymbol};
-ghost use Rattle.dd_quotient.specs.Dual.{dual_of};
+ghost use Rattle.dd_quotient.specs.Dual.{dual_of, degrees_of};
 
-use dd_model::{Index, Memory};
+use dd_model::{Index, Memory, Pair};
 use dd_symbol::{Connected, Refusal, Symbol, build};
 use std::alloc::Global;
 
@@ -23,7 +23,6 @@ pub fn duals_are_connected_symbols()
 fn images(alloc: Global, s: &Symbol, i: Index) -> Result<Vec<u32>, Memory>
     ensures { IfOk result (λ images. images.items ≡ operation s.now i) }
 {
-    s.known();
     let mut images = Vec::with_capacity(alloc, s.size() as usize)?;
     for k in 0..s.size() {
         images.push(s.op(i, k + 1))?;
@@ -31,26 +30,13 @@ fn images(alloc: Global, s: &Symbol, i: Index) -> Result<Vec<u32>, Memory>
     Ok(images)
 }
 
-/// The degrees of the tiles at all chambers.
-fn tile_degrees(alloc: Global, s: &Symbol) -> Result<Vec<u32>, Memory>
-    ensures { IfOk result (λ degrees. degrees.items ≡ s.now.m01) }
+/// The degrees of a pair at all chambers.
+fn degrees(alloc: Global, s: &Symbol, pair: Pair) -> Result<Vec<u32>, Memory>
+    ensures { IfOk result (λ degrees. degrees.items ≡ degrees_of s.now pair) }
 {
-    s.known();
     let mut degrees = Vec::with_capacity(alloc, s.size() as usize)?;
     for k in 0..s.size() {
-        degrees.push(s.m01(k + 1))?;
-    }
-    Ok(degrees)
-}
-
-/// The degrees of the vertices at all chambers.
-fn vertex_degrees(alloc: Global, s: &Symbol) -> Result<Vec<u32>, Memory>
-    ensures { IfOk result (λ degrees. degrees.items ≡ s.now.m12) }
-{
-    s.known();
-    let mut degrees = Vec::with_capacity(alloc, s.size() as usize)?;
-    for k in 0..s.size() {
-        degrees.push(s.m12(k + 1))?;
+        degrees.push(s.degree(pair, k + 1))?;
     }
     Ok(degrees)
 }
@@ -59,15 +45,14 @@ fn vertex_degrees(alloc: Global, s: &Symbol) -> Result<Vec<u32>, Memory>
 pub fn dual(alloc: Global, s: &Connected) -> Result<Connected, Memory>
     ensures { IfOk result (λ dual. dual ≡ dual_of s.now) }
 {
-    s.known();
     let symbol = s.symbol();
     let ops = [
         images(alloc, symbol, Index::Two)?,
         images(alloc, symbol, Index::One)?,
         images(alloc, symbol, Index::Zero)?,
     ];
-    let m01 = vertex_degrees(alloc, symbol)?;
-    let m12 = tile_degrees(alloc, symbol)?;
+    let m01 = degrees(alloc, symbol, Pair::Vertex)?;
+    let m12 = degrees(alloc, symbol, Pair::Tile)?;
     match build(alloc, ops, m01, m12, 16384) {
         Ok(dual) => Ok(dual),
         Err(why) => match why {

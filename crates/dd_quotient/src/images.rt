@@ -36,7 +36,6 @@ pub fn minimal_image(alloc: Global, s: &Connected) -> Result<(Connected, Map), M
     ensures small { IfOk result (λ found. AreAllSmall found.0) }
     ensures fault { IfErr result (λ fault. IsMinimalFault s.now fault) }
 {
-    s.known();
     let symbol = s.symbol();
     let classes = alike_classes(alloc, s)?;
     let all = ranks_of(alloc, &classes)?;

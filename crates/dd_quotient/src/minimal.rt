@@ -10,7 +10,6 @@ use std::alloc::Global;
 pub fn is_minimal(alloc: Global, s: &Connected) -> Result<bool, Memory>
     ensures { IfOk result (λ yes. IsTrue yes ↔ Minimal s.now) }
 {
-    s.known();
     let classes = alike_classes(alloc, s)?;
     for k in 0..s.symbol().size() {
         let chamber = k + 1;

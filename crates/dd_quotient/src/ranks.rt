@@ -31,8 +31,7 @@ impl Ranks {
             return Ok(());
         }
         let rank = self.ranks[leader as usize - 1];
-        self.ranks.push(rank)?;
-        Ok(())
+        Ok(self.ranks.push(rank)?)
     }
 }
 

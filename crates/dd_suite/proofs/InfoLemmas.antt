@@ -9,8 +9,8 @@ use Rattle.dd_model.specs.declared.pair.Pair.TheVariants.{Tile, Vertex, Edge}
 use Rattle.dd_model.proofs.CellLists.{cells_unique}
 use Rattle.dd_cells.proofs.CurvatureLemmas.{curvature_unique}
 use Rattle.dd_cells.specs.Orientation.{IsOrientation}
-use Rattle.dd_cells.specs.declared.told.Orientation.{Orientation}
-use Rattle.dd_cells.specs.declared.told.Orientation.TheVariants.{Oriented, Weak, None}
+use Rattle.dd_cells.specs.declared.orientations.Orientation.{Orientation}
+use Rattle.dd_cells.specs.declared.orientations.Orientation.TheVariants.{Oriented, Weak, None}
 use Rattle.dd_name.specs.Name.{name_text}
 use Rattle.dd_name.proofs.OrbifoldLemmas.{orbifold_unique}
 use Rattle.dd_suite.specs.declared.facts.Facts.{Facts}

@@ -10,8 +10,8 @@ use Rattle.dd_model.specs.declared.pair.Pair.TheVariants.{Tile, Vertex, Edge}
 use Rattle.dd_cells.specs.Orientation.{IsOrientation}
 use Rattle.dd_cells.specs.Curvature.{IsCurvature}
 use Rattle.dd_cells.specs.declared.fractions.Fraction.{Fraction}
-use Rattle.dd_cells.specs.declared.told.Orientation.{Orientation}
-use Rattle.dd_cells.specs.declared.told.Orientation.TheVariants.{Oriented, Weak, None}
+use Rattle.dd_cells.specs.declared.orientations.Orientation.{Orientation}
+use Rattle.dd_cells.specs.declared.orientations.Orientation.TheVariants.{Oriented, Weak, None}
 use Rattle.dd_suite.specs.declared.facts.Facts.{Facts}
 
 -- the number of the cells of a pair

@@ -8,7 +8,10 @@ ghost use Rattle.dd_template.specs.Dual.{exchanged};
 ghost use Rattle.dd_template.specs.Table.{Table, IsPart, table_of};
 ghost use Rattle.dd_template.specs.Made.{made};
 ghost use Rattle.dd_template.specs.Reduced.{reduced, IsReduced};
-ghost use Rattle.dd_template.specs.Lawful.{AreUndone, IsApart, IsLawful, whole};
+ghost use Rattle.dd_template.specs.Moves.{AreUndone};
+ghost use Rattle.dd_template.specs.Entries.{IsApart};
+ghost use Rattle.dd_template.specs.Lawful.{IsLawful};
+ghost use Rattle.dd_template.specs.Shares.{curvature_unit};
 ghost use Rattle.dd_template.specs.Worked.{trihexagonal};
 
 use crate::constants::{AMBO, CHAMFER, DUAL, TRUNCATE};
@@ -23,7 +26,7 @@ pub fn words_have_one_reduced_word()
 
 /// Each of 1 to 64 divides the number in whose parts fractions are counted.
 pub fn fractions_are_whole_numbers_of_parts()
-    ensures { (c : ℕ) → 1 ≤ c → c ≤ 64 → c * (whole / c) ≡ whole }
+    ensures { (c : ℕ) → 1 ≤ c → c ≤ 64 → c * (curvature_unit / c) ≡ curvature_unit }
 {}
 
 /// Where moves lead back and fewer than so many turns never lead a part back to itself, there are

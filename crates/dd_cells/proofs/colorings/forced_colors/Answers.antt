@@ -36,11 +36,11 @@ loop-at-preserved c =
 pub returns : goal.returns
 returns c =
     let t = c.symbol-symbol.result.now in
-    let e = c.symbol-symbol.ensures in
+    let e = c.symbol-symbol.ensures.same in
     let old = c.loop-at.coloring in
     let kept = c.loop-at.invariant in
-    let table = subst IsTable (sym e) c.known.ensures.symbol.symbol.table in
-    let connected = subst Connected (sym e) c.known.ensures.connected in
+    let table = subst IsTable (sym e) c.symbol-symbol.ensures.symbol.symbol.table in
+    let connected = subst Connected (sym e) c.symbol-symbol.ensures.connected in
     let forced = all_forced t old.seen.items old.colors.items old.queue.items table.involutions connected table.chambers kept.coloring.walk
     kept.coloring.colors kept.coloring.forced (λ k h i. kept.closed k (omega arith) i) kept.first in
     subst (λ s. AreForced s old.colors.items) e forced

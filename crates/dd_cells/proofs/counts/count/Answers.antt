@@ -25,4 +25,4 @@ returns-clause-cells c chambers are =
     let p = c.args.pair in
     let whole : c.loop-k.k ≡ s.size = omega arith in
     whole_count s p c.loop-k.cells (subst (λ k. IsCount s p k c.loop-k.cells) whole c.loop-k.invariant) chambers
-    (subst (λ t. AreCells t p chambers) (sym c.symbol-symbol.ensures) are)
+    (subst (λ t. AreCells t p chambers) (sym c.symbol-symbol.ensures.same) are)

@@ -10,16 +10,16 @@ use Rattle.dd_cells.proofs.counts.euler.Goals as goal
 difference_fits : (a b : ℕ) → a ≤ 65536 → b ≤ 65536 → SFits w64 (pos a -ℤ pos b)
 difference_fits a b la lb = grind arith
 
-pub returns : goal.returns
-returns c =
+pub returns-clause-euler : goal.returns-clause-euler
+returns-clause-euler c =
     let s = c.args.s.now in
-    let inv = c.known.ensures.symbol.symbol.table.involutions in
+    let inv = c.symbol-symbol.ensures.symbol.symbol.table.involutions in
     let tiles = cells_exist s inv Tile in
     let vertices = cells_exist s inv Vertex in
     let edges = cells_exist s inv Edge in
     let cells = c.count.result + c.count-2.result + c.count-3.result + c.size.result in
     let sides = c.orbits.result + c.orbits-2.result + c.orbits-3.result in
-    let same = c.symbol-symbol.ensures in
+    let same = c.symbol-symbol.ensures.same in
     let t = c.count.ensures.cells tiles.0 tiles.1 in
     let v = c.count-2.ensures.cells vertices.0 vertices.1 in
     let e = c.count-3.ensures.cells edges.0 edges.1 in

@@ -34,7 +34,7 @@ returns-then-place-chamber-2 c =
     let place : c.op-place.result ≡ op s (second p) (op s (first p) x) =
     c.op-place.ensures.image ∙ ap (λ i. op s i c.op-neighbor.result) c.second.ensures ∙ ap (op s (second p)) neighbor in
     let low : d ≤ op s (first p) x = subst (λ y. d ≤ y) neighbor c.if-neighbor-chamber.false in (
-      λ _. walk_comes_back s c.known.ensures.symbol.table.involutions p d c.loop-turn._turn x c.op-place.result c.requires c.loop-turn.invariant low place c.if-place-chamber-2.true,
+      λ _. walk_comes_back s c.size-turn-end.ensures.symbol.symbol.table.involutions p d c.loop-turn._turn x c.op-place.result c.requires c.loop-turn.invariant low place c.if-place-chamber-2.true,
       λ _. refl,
     )
 
@@ -54,5 +54,5 @@ pub unreachable-requires : goal.unreachable-requires
 unreachable-requires c =
     let s = c.args.symbol.now in
     let whole : c.loop-turn._turn ≡ s.size = omega arith in
-    walk_ends s c.known.ensures.symbol.table.involutions c.args.pair c.args.chamber c.loop-turn.place c.requires
+    walk_ends s c.size-turn-end.ensures.symbol.symbol.table.involutions c.args.pair c.args.chamber c.loop-turn.place c.requires
     (subst (λ k. IsWalked s c.args.pair c.args.chamber k c.loop-turn.place) whole c.loop-turn.invariant)

@@ -28,7 +28,7 @@ returns-then-next-chamber c =
     let next : c.op-next.result ≡ op s (second p) (op s (first p) x) =
     c.op-next.ensures.image ∙ ap (λ i. op s i c.op-neighbor.result) c.second.ensures ∙ ap (op s (second p)) neighbor in (
       λ no. (cc),
-      λ chain. absurd (free_walk_comes_back s c.known.ensures.symbol.table.involutions p c.args.chamber c.loop-turn._turn x c.op-next.result c.requires
+      λ chain. absurd (free_walk_comes_back s c.size-turn-end.ensures.symbol.symbol.table.involutions p c.args.chamber c.loop-turn._turn x c.op-next.result c.requires
           c.loop-turn.invariant next (λ e. c.if-neighbor-place.false (neighbor ∙ e)) (λ e. c.if-next-neighbor.false (e ∙ sym neighbor)) c.if-next-chamber.true chain),
     )
 
@@ -47,5 +47,5 @@ pub unreachable-requires : goal.unreachable-requires
 unreachable-requires c =
     let s = c.args.symbol.now in
     let whole : c.loop-turn._turn ≡ s.size = omega arith in
-    free_walk_ends s c.known.ensures.symbol.table.involutions c.args.pair c.args.chamber c.loop-turn.place c.requires
+    free_walk_ends s c.size-turn-end.ensures.symbol.symbol.table.involutions c.args.pair c.args.chamber c.loop-turn.place c.requires
     (subst (λ k. IsFreeWalk s c.args.pair c.args.chamber k c.loop-turn.place) whole c.loop-turn.invariant)

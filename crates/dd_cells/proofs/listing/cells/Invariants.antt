@@ -6,5 +6,5 @@ use Rattle.dd_cells.proofs.listing.cells.Given as goal
 abbrev pub invariant-loop-k : goal.invariant-loop-k
 invariant-loop-k l = record {
   least : map (λ c. c.least) l.cells.items ≡ take l.k l.chambers.items;
-  each : AllByRecursion (IsCellOf l.symbol l.pair) l.cells.items;
+  each : AllByRecursion (IsCellOf l.s l.pair) l.cells.items;
 }

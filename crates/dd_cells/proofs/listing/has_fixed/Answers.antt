@@ -7,8 +7,8 @@ pub op-requires : goal.op-requires
 op-requires c =
     c.requires (slice_index c.args.chambers.now c.loop-chamber.chamber-index) (Contains-get_or c.args.chambers.now c.loop-chamber.chamber-index 0 c.loop-chamber-test.true)
 
-pub op-requires-in-loop-chamber : goal.op-requires-in-loop-chamber
-op-requires-in-loop-chamber c =
+pub op-requires-else-op-chamber : goal.op-requires-else-op-chamber
+op-requires-else-op-chamber c =
     c.requires (slice_index c.args.chambers.now c.loop-chamber.chamber-index) (Contains-get_or c.args.chambers.now c.loop-chamber.chamber-index 0 c.loop-chamber-test.true)
 
 pub returns : goal.returns

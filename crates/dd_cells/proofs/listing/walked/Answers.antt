@@ -11,7 +11,7 @@ use Rattle.dd_cells.proofs.listing.walked.Goals as goal
 
 pub loop-turn-preserved : goal.loop-turn-preserved
 loop-turn-preserved c =
-    let s = c.args.symbol.now in
+    let s = c.symbol-symbol.result.now in
     let p = c.args.pair in
     let d = c.args.chamber in
     let k = c.loop-turn._turn in
@@ -30,13 +30,13 @@ loop-turn-preserved c =
 
 pub returns : goal.returns
 returns c =
-    let s = c.args.symbol.now in
+    let s = c.args.s.now in
     let p = c.args.pair in
     let d = c.args.chamber in
     let xs = c.loop-turn.chambers.items in
     let round : c.loop-turn._turn ≡ c.args.r = omega arith in
-    let cell = cell_from_met s c.known.ensures.symbol.table.involutions p d c.args.r xs c.requires.chamber c.requires.turns
-    (subst (λ k. AreMet s p d k xs) round c.loop-turn.invariant.met) in
+    let cell = cell_from_met s c.symbol-symbol.ensures.symbol.symbol.table.involutions p d c.args.r xs c.requires.chamber c.requires.turns
+    (subst (λ k. AreMet s p d k xs) round (subst (λ t. AreMet t p d c.loop-turn._turn xs) c.symbol-symbol.ensures.same c.loop-turn.invariant.met)) in
     let is = dedup_is _ _ _ c.dedup.ensures.filtered in
     let moved = c.sort_unstable.ensures.permutation in
     subst (AreMembers s p d) (sym c.from_vec.ensures)

@@ -12,11 +12,11 @@ op-image-requires c =
     let f = c.args.flag in
     let w = c.loop-step.invariant in
     subst (IsChamber s) (sym w.at)
-    (walked_within s c.known.ensures.symbol.table.involutions f.index w.other c.loop-step._step f.chamber c.requires.flag.chamber)
+    (walked_within s c.size-step-end.ensures.symbol.symbol.table.involutions f.index w.other c.loop-step._step f.chamber c.requires.flag.chamber)
 
-pub returns-then-image-chamber : goal.returns-then-image-chamber
-returns-then-image-chamber c =
-    walk_ends c.args.symbol.now c.known.ensures.symbol.table.involutions c.args.pair c.args.flag c.loop-step._step c.loop-step.chamber c.op-image.result
+pub returns-then-image-chamber-clause-joined : goal.returns-then-image-chamber-clause-joined
+returns-then-image-chamber-clause-joined c =
+    walk_ends c.args.symbol.now c.size-step-end.ensures.symbol.symbol.table.involutions c.args.pair c.args.flag c.loop-step._step c.loop-step.chamber c.op-image.result
     c.loop-step.came c.loop-step.index c.requires c.loop-step.invariant c.op-image.ensures.image c.if-image-chamber.true
 
 pub loop-step-preserved : goal.loop-step-preserved
@@ -34,5 +34,5 @@ pub unreachable-requires : goal.unreachable-requires
 unreachable-requires c =
     let s = c.args.symbol.now in
     let long : 2 * s.size ≤ c.loop-step._step = omega arith in
-    walk_is_short s c.known.ensures.symbol.table.involutions c.args.pair c.args.flag c.loop-step._step c.loop-step.chamber
+    walk_is_short s c.size-step-end.ensures.symbol.symbol.table.involutions c.args.pair c.args.flag c.loop-step._step c.loop-step.chamber
     c.loop-step.came c.loop-step.index c.requires long c.loop-step.invariant

@@ -24,7 +24,7 @@ loop-marks-preserved c =
     let pushed : c.push.new.self.items ≡ joints ++ x ∷ [] = c.in_ok-push.ensures.items in
     subst (λ (k : ℕ). IsTour s c.args.start c.args.marks.now (set marks k true) c.push.new.self.items y) (sym c.place-in-loop-marks.ensures)
     (subst (λ (js : List Joint). IsTour s c.args.start c.args.marks.now (set marks (place_of x.flag) true) js y) (sym pushed)
-    (tour_goes_on s c.known.ensures.symbol.table.involutions c.args.start c.args.marks.now marks joints x y c.loop-marks.invariant fresh
+    (tour_goes_on s c.next-current.ensures.symbol.symbol.table.involutions c.args.start c.args.marks.now marks joints x y c.loop-marks.invariant fresh
     c.next-current.ensures.linked c.next-current.ensures.joint))
 
 pub returns-clause-marks : goal.returns-clause-marks

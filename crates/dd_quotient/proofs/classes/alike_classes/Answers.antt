@@ -10,8 +10,8 @@ returns-then-eq c =
     let classes = c.loop-classes.classes.items in
     let finer = c.in_ok-finer.finer.items in
     let told : IsRefined s classes finer =
-    subst (λ t. IsRefined t classes finer) c.symbol-symbol.ensures (subst (λ xs. IsRefined c.symbol-symbol.result.now xs finer) c.deref.ensures.value c.in_ok-finer.ensures) in
-    stable_classes s classes finer c.known.ensures.symbol.symbol.table.involutions c.loop-classes.invariant told
+    subst (λ t. IsRefined t classes finer) c.symbol-symbol.ensures.same (subst (λ xs. IsRefined c.symbol-symbol.result.now xs finer) c.deref.ensures.value c.in_ok-finer.ensures) in
+    stable_classes s classes finer c.symbol-symbol.ensures.symbol.symbol.table.involutions c.loop-classes.invariant told
     (lists_equal _ _ finer classes c.as_slice.ensures.value c.as_slice-in-loop-classes.ensures.value (sym c.if-eq.ensures))
 
 pub loop-classes-smaller : goal.loop-classes-smaller
@@ -20,7 +20,7 @@ loop-classes-smaller c =
     let classes = c.loop-classes.classes.items in
     let finer = c.in_ok-finer.finer.items in
     let told : IsRefined s classes finer =
-    subst (λ t. IsRefined t classes finer) c.symbol-symbol.ensures (subst (λ xs. IsRefined c.symbol-symbol.result.now xs finer) c.deref.ensures.value c.in_ok-finer.ensures) in
+    subst (λ t. IsRefined t classes finer) c.symbol-symbol.ensures.same (subst (λ xs. IsRefined c.symbol-symbol.result.now xs finer) c.deref.ensures.value c.in_ok-finer.ensures) in
     sum_grows s classes finer c.loop-classes.invariant told
     (lists_differ _ _ finer classes c.as_slice.ensures.value c.as_slice-in-loop-classes.ensures.value (sym c.if-eq.ensures))
 
@@ -30,5 +30,5 @@ loop-classes-preserved c =
     let classes = c.loop-classes.classes.items in
     let finer = c.in_ok-finer.finer.items in
     let told : IsRefined s classes finer =
-    subst (λ t. IsRefined t classes finer) c.symbol-symbol.ensures (subst (λ xs. IsRefined c.symbol-symbol.result.now xs finer) c.deref.ensures.value c.in_ok-finer.ensures) in
-    finer_classes s classes finer c.known.ensures.symbol.symbol.table.involutions c.loop-classes.invariant told
+    subst (λ t. IsRefined t classes finer) c.symbol-symbol.ensures.same (subst (λ xs. IsRefined c.symbol-symbol.result.now xs finer) c.deref.ensures.value c.in_ok-finer.ensures) in
+    finer_classes s classes finer c.symbol-symbol.ensures.symbol.symbol.table.involutions c.loop-classes.invariant told

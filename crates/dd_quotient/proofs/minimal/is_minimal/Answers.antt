@@ -9,7 +9,7 @@ returns-then-index-chamber c =
     let classes = c.in_ok-classes.classes.items in
     let k = c.loop-k.k in
     let images = c.in_ok-classes.ensures.images in
-    let same = ap (λ t. t.size) c.symbol.ensures in
+    let same = ap (λ t. t.size) c.symbol.ensures.same in
     let size = c.size-k-end.ensures.size in
     let below = c.loop-k-test.true in
     let place : k + 1 - 1 ≡ k = omega arith in
@@ -22,7 +22,7 @@ returns-then-index-chamber c =
 pub returns : goal.returns
 returns c =
     let s = c.args.s.now in
-    let same = ap (λ t. t.size) c.symbol.ensures in
+    let same = ap (λ t. t.size) c.symbol.ensures.same in
     let size = c.size-k-end.ensures.size in
     let low = c.loop-k-test.false in (
       λ _. minimal_if s c.in_ok-classes.classes.items c.in_ok-classes.ensures

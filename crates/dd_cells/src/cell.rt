@@ -1,0 +1,17 @@
+use crate::kind::Kind;
+use crate::members::Members;
+
+/// A tile, a vertex or an edge of the tiling, up to symmetry.
+#[derive(Drop)]
+pub struct Cell {
+    /// The least of its chambers.
+    pub least: u32,
+    /// Whether it is a cycle or a chain.
+    pub kind: Kind,
+    /// The least positive number of turns that fixes a chamber.
+    pub r: u32,
+    /// The branching value: the degree divided by `r`.
+    pub v: u32,
+    /// All of its chambers.
+    pub members: Members,
+}
