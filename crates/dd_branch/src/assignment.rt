@@ -75,11 +75,13 @@ impl Assignment {
         self.sums.as_slice()[self.told()]
     }
 
-    /// At least the sum of DEGREE_UNIT divided by the degree over all places, and so at least half of
-    /// DEGREE_UNIT for each chamber where the curvature is 0. A part is rounded down, so 1 more is enough.
+    /// At least the sum of DEGREE_UNIT divided by the degree over all places, and so at least half
+    /// of DEGREE_UNIT for each chamber where the curvature is 0. A part is rounded down, so 1 more
+    /// is enough.
     fn upper_sum(&self) -> u64
         requires { IsAssignment self.now }
-        ensures flat { (s : Tiling) → IsUnder (IsMember self.now.request) self.now.size (prefix_of self.now) s
+        ensures flat { (s : Tiling)
+            → IsUnder (IsMember self.now.request) self.now.size (prefix_of self.now) s
             → self.now.size * DEGREE_UNIT ≤ 2 * result }
         ensures small { result ≤ 145 * DEGREE_UNIT }
     {
@@ -91,7 +93,8 @@ impl Assignment {
     /// DEGREE_UNIT for each chamber where the curvature is 0.
     fn lower_sum(&self) -> u64
         requires { IsAssignment self.now }
-        ensures flat { (s : Tiling) → IsUnder (IsMember self.now.request) self.now.size (prefix_of self.now) s
+        ensures flat { (s : Tiling)
+            → IsUnder (IsMember self.now.request) self.now.size (prefix_of self.now) s
             → 2 * result ≤ self.now.size * DEGREE_UNIT }
         ensures small { result ≤ 144 * DEGREE_UNIT }
     {
@@ -139,13 +142,14 @@ impl Assignment {
         Some(number)
     }
 
-    /// Whether it is sure that no flat symbol is under the prefix: the shares add up to too little or
-    /// to too much. This is looked at where the last degree is that of a least chamber, since the
-    /// others follow from those.
+    /// Whether it is sure that no flat symbol is under the prefix: the shares add up to too little
+    /// or to too much. This is looked at where the last degree is that of a least chamber, since
+    /// the others follow from those.
     fn is_dead(&self) -> bool
         requires ready { IsAssignment self.now }
         requires some { 3 * self.now.size < length (prefix_of self.now) }
-        ensures { OnTrue result (HasNothingUnder (IsMember self.now.request) self.now.size (prefix_of self.now)) }
+        ensures { OnTrue result
+            (HasNothingUnder (IsMember self.now.request) self.now.size (prefix_of self.now)) }
     {
         let last = self.told() - 1;
         if (self.place(last).root as usize) < last {
@@ -162,7 +166,8 @@ impl Assignment {
     fn images(&self, i: usize) -> Result<Vec<u32>, Memory>
         requires whole { length (prefix_of self.now) ≡ 5 * self.now.size }
         requires involution { i < 3 }
-        ensures { IfOk result (λ images. images.items ≡ column (prefix_of self.now) i self.now.size) }
+        ensures { IfOk result
+            (λ images. images.items ≡ column (prefix_of self.now) i self.now.size) }
     {
         let mut images = Vec::with_capacity(self.alloc, self.size as usize)?;
         for k in 0..self.size as usize {
@@ -174,7 +179,8 @@ impl Assignment {
     /// The degrees of the prefix from a place on, one for each chamber.
     fn degrees(&self, from: usize) -> Result<Vec<u32>, Memory>
         requires { from + self.now.size ≤ length (prefix_of self.now) }
-        ensures { IfOk result (λ degrees. degrees.items ≡ part (prefix_of self.now) from self.now.size) }
+        ensures { IfOk result
+            (λ degrees. degrees.items ≡ part (prefix_of self.now) from self.now.size) }
     {
         let mut degrees = Vec::with_capacity(self.alloc, self.size as usize)?;
         for k in 0..self.size as usize {
@@ -220,7 +226,8 @@ impl Assignment {
     /// The images of a table, in the order of codes.
     fn images_of(alloc: Global, symbol: &Symbol) -> Result<ArrayVec<u8, 180>, Memory>
         requires { symbol.now.size ≤ 36 }
-        ensures { IfOk result (λ prefix. prefix.items ≡ take (3 * symbol.now.size) (code symbol.now)) }
+        ensures { IfOk result
+            (λ prefix. prefix.items ≡ take (3 * symbol.now.size) (code symbol.now)) }
     {
         let numbers = symbol.code(alloc)?;
         let mut prefix = ArrayVec::new();

@@ -35,7 +35,12 @@ impl Model for Descent {
 
     ghost use Rattle.dd_invol.specs.Visit.{IsVisiting};
 
-    ghost view = { λ a. record { request = a.request; stem = a.stem; shares = a.shares; levels = a.levels.items } };
+    ghost view = { λ a. record {
+      request = a.request;
+      stem = a.stem;
+      shares = a.shares;
+      levels = a.levels.items;
+    } };
 
     ghost invariant = { λ a. IsVisiting a.visit };
 }
@@ -95,7 +100,8 @@ impl Descent {
         requires { IsDescent self.old }
         ensures same { self.new ≡ self.old }
         ensures dead { IsTrue result
-            → HasNothingUnder (IsMember self.old.request) (size_of self.old.stem) (prefix_of self.old.stem) }
+            → HasNothingUnder (IsMember self.old.request) (size_of self.old.stem)
+            (prefix_of self.old.stem) }
     {
         parity_rules_out(self.stem.rows())
             || self.shares.rules_out(self.stem.rows())
@@ -110,10 +116,12 @@ impl Descent {
         ensures descent { IsDescent self.new }
         ensures request { self.new.request ≡ self.old.request }
         ensures size { size_of self.new.stem ≡ size_of self.old.stem }
-        ensures longer { OnTrue result (prefix_of self.new.stem ≡ prefix_of self.old.stem ++ number ∷ []) }
+        ensures longer { OnTrue result
+            (prefix_of self.new.stem ≡ prefix_of self.old.stem ++ number ∷ []) }
         ensures undone { OnTrue result (shorter self.new ≡ self.old) }
         ensures same { OnFalse result (self.new ≡ self.old) }
-        ensures dead { OnFalse result (HasNothingUnder (IsMember self.old.request) (size_of self.old.stem)
+        ensures dead { OnFalse result
+            (HasNothingUnder (IsMember self.old.request) (size_of self.old.stem)
             (prefix_of self.old.stem ++ number ∷ [])) }
     {
         let level = self.level();

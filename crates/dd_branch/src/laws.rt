@@ -15,11 +15,13 @@ ghost use Rattle.dd_branch.specs.Joined.{AreUnderInTurn, joined};
 /// degrees, twice the sum of all shares is at most that number for each chamber.
 pub fn flat_symbols_have_small_shares()
     ensures { (s : Symbol) (whole : ℕ) (tiles vertices : ℕ → ℕ) → IsSymbol s → Flat s
-        → ((d : ℕ) → IsChamber s d → tiles d * degree s Tile d ≤ whole) → ((d : ℕ) → IsChamber s d → vertices d * degree s Vertex d ≤ whole)
+        → ((d : ℕ) → IsChamber s d → tiles d * degree s Tile d ≤ whole)
+        → ((d : ℕ) → IsChamber s d → vertices d * degree s Vertex d ≤ whole)
         → 2 * (sum_by tiles (chambers s) + sum_by vertices (chambers s)) ≤ s.size * whole }
 {}
 
 /// The lists of what is under the jobs of an opening, one after the other, are the catalogue.
 pub fn lists_under_an_opening_are_the_catalogue()
-    ensures { (q : Request) (jobs : List Job) (lists : List (List Symbol)) → IsOpening q jobs → AreUnderInTurn q jobs lists → IsCatalogue q (joined lists) }
+    ensures { (q : Request) (jobs : List Job) (lists : List (List Symbol)) → IsOpening q jobs
+        → AreUnderInTurn q jobs lists → IsCatalogue q (joined lists) }
 {}

@@ -18,8 +18,10 @@ impl Rests {
     /// The sums over some places.
     pub(crate) fn of(places: &[Place]) -> Rests
         requires few { length places.now ≤ 72 }
-        requires most { (j : ℕ) (x : Known) → j < length places.now → (slice_index_or places.now j x).most ≤ degree_unit }
-        requires least { (j : ℕ) (x : Known) → j < length places.now → (slice_index_or places.now j x).least ≤ degree_unit }
+        requires most { (j : ℕ) (x : Known) → j < length places.now
+            → (slice_index_or places.now j x).most ≤ degree_unit }
+        requires least { (j : ℕ) (x : Known) → j < length places.now
+            → (slice_index_or places.now j x).least ≤ degree_unit }
         ensures { AreRests places.now result }
     {
         let mut most = [0; 73];

@@ -29,7 +29,9 @@ fn fits_at(prefix: &[u8], number: u8, earlier: usize) -> bool
 
 /// Whether a new number fits all at earlier places of the same involution.
 fn fits(prefix: &[u8], number: u8) -> bool
-    ensures { IsTrue result ↔ ((u : ℕ) → u < length prefix.now → u % 3 ≡ length prefix.now % 3 → FitsAt prefix.now number (length prefix.now) u) }
+    ensures { IsTrue result
+        ↔ ((u : ℕ) → u < length prefix.now → u % 3 ≡ length prefix.now % 3
+        → FitsAt prefix.now number (length prefix.now) u) }
 {
     for earlier in 0..prefix.len() {
         if earlier % 3 == prefix.len() % 3 {
@@ -44,7 +46,9 @@ fn fits(prefix: &[u8], number: u8) -> bool
 /// Whether the next chamber is among the images of the first ones, where these are all told.
 fn reaches(size: u32, prefix: &[u8], number: u8) -> bool
     requires { length prefix.now < 2 ^ 32 }
-    ensures { IsTrue result ↔ ((m : ℕ) → 1 ≤ m → m < size → length prefix.now + 1 ≡ 3 * m → Contains (prefix.now ++ number ∷ []) (m + 1)) }
+    ensures { IsTrue result
+        ↔ ((m : ℕ) → 1 ≤ m → m < size → length prefix.now + 1 ≡ 3 * m
+        → Contains (prefix.now ++ number ∷ []) (m + 1)) }
 {
     let told = prefix.len() + 1;
     if told % 3 != 0 {

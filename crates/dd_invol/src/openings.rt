@@ -22,7 +22,7 @@ fn add_jobs(
     requires small { (1 ≤ size) × (size ≤ 36) }
     requires short { length prefix.old.items ≤ min (3 * size) 9 }
     requires first_visit { IsFirstVisitPrefix size prefix.old.items }
-    ensures prefix { OnOk result (prefix.new.items ≡ prefix.old.items) }
+    ensures same { OnOk result (prefix.new.items ≡ prefix.old.items) }
     ensures jobs { OnOk result (Appends (AreJobsUnder size (min (3 * size) 9) prefix.old.items)
         jobs.old.items jobs.new.items) }
 {

@@ -186,10 +186,12 @@ impl Rows {
         requires ready { IsReady self.old }
         requires place { place < 3 * (partial_of self.old).size }
         ensures ready { IsReady self.new }
-        ensures learnt { OnTrue result (Learns (λ s. Commutes s × HasNumberAt place number s) self.old self.new) }
+        ensures learnt { OnTrue result
+            (Learns (λ s. Commutes s × HasNumberAt place number s) self.old self.new) }
         ensures told { OnTrue result (HasNumberAt place number (partial_of self.new)) }
         ensures same { OnFalse result (self.new ≡ self.old) }
-        ensures clash { OnFalse result (Excludes (λ s. Commutes s × HasNumberAt place number s) self.old) }
+        ensures clash { OnFalse result
+            (Excludes (λ s. Commutes s × HasNumberAt place number s) self.old) }
     {
         if number == 0 {
             return false;

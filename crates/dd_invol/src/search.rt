@@ -43,7 +43,9 @@ pub trait PrefixSearch {
     fn next_from(&self, k: u8) -> Option<u8>
         requires valid { valid self.now }
         requires room { length (prefix self.now) < end (size self.now) }
-        ensures { MatchOption result (HasNoNumberFrom (wanted (request self.now)) (size self.now) (prefix self.now) k) (λ m. SkipsTo (wanted (request self.now)) (size self.now) (prefix self.now) k m) };
+        ensures { MatchOption result
+            (HasNoNumberFrom (wanted (request self.now)) (size self.now) (prefix self.now) k)
+            (λ m. SkipsTo (wanted (request self.now)) (size self.now) (prefix self.now) k m) };
 
     /// Puts a number at the end, unless it is sure that nothing is under the longer prefix.
     fn enter(&mut self, number: u8) -> bool
@@ -54,7 +56,9 @@ pub trait PrefixSearch {
         ensures alive { OnTrue result (IsLonger request size prefix number self.old self.new) }
         ensures undone { OnTrue result (undone self.new (depth self.old) ≡ self.old) }
         ensures same { OnFalse result (self.new ≡ self.old) }
-        ensures dead { OnFalse result (HasNothingUnder (wanted (request self.old)) (size self.old) (prefix self.old ++ number ∷ [])) };
+        ensures dead { OnFalse result
+            (HasNothingUnder (wanted (request self.old)) (size self.old)
+            (prefix self.old ++ number ∷ [])) };
 
     /// Takes away the last number, and what was put in after a mark.
     fn leave(&mut self, mark: usize)
@@ -69,8 +73,11 @@ pub trait CollectingSearch: PrefixSearch {
     fn add(&mut self, list: &mut Vec<Connected>) -> Result<(), Memory>
         requires valid { Self.valid self.old }
         requires whole { length (Self.prefix self.old) ≡ Self.end (Self.size self.old) }
-        ensures state { OnOk result (self.new ≡ self.old) }
-        ensures list { OnOk result (Appends (AreUnder (Self.wanted (Self.request self.old)) (Self.size self.old) (Self.prefix self.old)) list.old.items list.new.items) };
+        ensures same { OnOk result (self.new ≡ self.old) }
+        ensures list { OnOk result (Appends
+            (AreUnder (Self.wanted (Self.request self.old)) (Self.size self.old)
+            (Self.prefix self.old))
+            list.old.items list.new.items) };
 }
 
 /// Adds what is under the prefix of a search.
@@ -78,8 +85,10 @@ pub fn find<T: CollectingSearch>(search: &mut T, list: &mut Vec<Connected>) -> R
     requires valid { T.valid search.old }
     requires end { T.end (T.size search.old) ≤ 5 * T.size search.old }
     requires short { length (T.prefix search.old) ≤ T.end (T.size search.old) }
-    ensures state { OnOk result (search.new ≡ search.old) }
-    ensures list { OnOk result (Appends (AreUnder (T.wanted (T.request search.old)) (T.size search.old) (T.prefix search.old)) list.old.items list.new.items) }
+    ensures same { OnOk result (search.new ≡ search.old) }
+    ensures list { OnOk result (Appends
+        (AreUnder (T.wanted (T.request search.old)) (T.size search.old) (T.prefix search.old))
+        list.old.items list.new.items) }
 {
     if search.is_whole() {
         return search.add(list);

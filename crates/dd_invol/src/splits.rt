@@ -32,7 +32,8 @@ pub(crate) fn stem_of(job: &Job, visit: &mut Visit) -> Option<Stem>
     requires short { length job.now.prefix ≤ 3 * job.now.size }
     requires visiting { IsVisiting visit.old }
     ensures visiting { IsVisiting visit.new }
-    ensures stem { MatchOption result (HasNothingUnder Any job.now.size job.now.prefix) (λ stem. IsStemOf job.now stem) }
+    ensures stem { MatchOption result (HasNothingUnder Any job.now.size job.now.prefix)
+        (λ stem. IsStemOf job.now stem) }
 {
     let mut stem = Stem::new(job.size as u8);
     let prefix = job.prefix.as_slice();
@@ -51,7 +52,8 @@ fn may_grow(stem: &mut Stem, visit: &mut Visit, number: u8) -> bool
     requires visiting { IsVisiting visit.old }
     ensures same { stem.new ≡ stem.old }
     ensures visiting { IsVisiting visit.new }
-    ensures dead { OnFalse result (HasNothingUnder Any (size_of stem.old) (prefix_of stem.old ++ number ∷ [])) }
+    ensures dead { OnFalse result
+        (HasNothingUnder Any (size_of stem.old) (prefix_of stem.old ++ number ∷ [])) }
 {
     if !can_follow(stem.size() as u32, stem.prefix(), number) {
         return false;

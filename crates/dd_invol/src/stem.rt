@@ -75,7 +75,8 @@ impl Stem {
     pub fn next_from(&self, k: u8) -> Option<u8>
         requires stem { IsStem self.now }
         requires room { length (prefix_of self.now) < 3 * size_of self.now }
-        ensures { MatchOption result (HasNoNumberFrom Any (size_of self.now) (prefix_of self.now) k) (λ m. SkipsTo Any (size_of self.now) (prefix_of self.now) k m) }
+        ensures { MatchOption result (HasNoNumberFrom Any (size_of self.now) (prefix_of self.now) k)
+            (λ m. SkipsTo Any (size_of self.now) (prefix_of self.now) k m) }
     {
         let place = self.prefix.len() as u8;
         let chamber = 1 + place / 3;
@@ -107,7 +108,9 @@ impl Stem {
         requires ready { IsReady self.now.rows }
         requires low { 1 ≤ least }
         ensures later { least ≤ result }
-        ensures taken { (d : ℕ) → least ≤ d → d < result → (op (partial_of self.now.rows) i d ≢ 0) × (op (partial_of self.now.rows) i d ≢ chamber) }
+        ensures taken { (d : ℕ) → least ≤ d → d < result
+            → (op (partial_of self.now.rows) i d ≢ 0)
+            × (op (partial_of self.now.rows) i d ≢ chamber) }
     {
         let mut number = least;
         while number <= self.rows.size() {
@@ -129,7 +132,8 @@ impl Stem {
         ensures size { size_of self.new ≡ size_of self.old }
         ensures undone { OnTrue result (shortened self.new (depth_of self.old.rows) ≡ self.old) }
         ensures same { OnFalse result (self.new ≡ self.old) }
-        ensures dead { OnFalse result (HasNothingUnder Any (size_of self.old) (prefix_of self.old ++ number ∷ [])) }
+        ensures dead { OnFalse result
+            (HasNothingUnder Any (size_of self.old) (prefix_of self.old ++ number ∷ [])) }
     {
         let place = self.prefix.len() as u8;
         if !self.rows.put(place, number) {
@@ -162,7 +166,8 @@ impl Stem {
         ensures size { size_of self.new ≡ size_of self.old }
         ensures undone { OnTrue result (shortened self.new (depth_of self.old.rows) ≡ self.old) }
         ensures same { OnFalse result (self.new ≡ self.old) }
-        ensures dead { OnFalse result (HasNothingUnder Any (size_of self.old) (prefix_of self.old ++ number ∷ [])) }
+        ensures dead { OnFalse result
+            (HasNothingUnder Any (size_of self.old) (prefix_of self.old ++ number ∷ [])) }
     {
         let mark = self.mark();
         if !self.put(number) {

@@ -54,7 +54,8 @@ fn turns(size: u8, numbers: &[u8], pair: Pair, chamber: u8) -> u32
     requires whole { length numbers.now ≡ 3 * size }
     requires within { AreChambers size numbers.now }
     requires chamber { (1 ≤ chamber) × (chamber ≤ size) }
-    ensures { AreInvolutions (told size numbers.now [] []) → IsPeriod (told size numbers.now [] []) pair chamber result }
+    ensures { AreInvolutions (told size numbers.now [] [])
+        → IsPeriod (told size numbers.now [] []) pair chamber result }
 {
     let mut place = chamber;
     for turn in 0..size {
@@ -108,7 +109,9 @@ impl Table {
     pub fn of(alloc: Global, size: u8, numbers: &[u8]) -> Result<Option<Table>, Memory>
         requires size { (1 ≤ size) × (size ≤ 36) }
         requires whole { length numbers.now ≡ 3 * size }
-        ensures { IfOk result (λ found. MatchOption found (HasNoTable size numbers.now) (λ table. IsTableOf size numbers.now table)) }
+        ensures { IfOk result
+            (λ found. MatchOption found (HasNoTable size numbers.now)
+            (λ table. IsTableOf size numbers.now table)) }
     {
         if !are_chambers(size, numbers) {
             return Ok(None);

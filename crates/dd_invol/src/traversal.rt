@@ -35,7 +35,8 @@ impl Visit {
         requires none { item self.old.number chamber ≡ 0 }
         ensures visiting { IsVisiting self.new }
         ensures order { self.new.order.items ≡ self.old.order.items ++ chamber ∷ [] }
-        ensures number { self.new.number ≡ set self.old.number (chamber - 1) (length self.old.order.items + 1) }
+        ensures number { self.new.number ≡ set self.old.number (chamber - 1)
+            (length self.old.order.items + 1) }
         ensures next { result ≡ length self.old.order.items + 1 }
     {
         self.order.push(chamber);
@@ -62,7 +63,8 @@ impl Visit {
         requires visiting { IsVisiting self.old }
         requires chamber { (1 ≤ chamber) × (chamber ≤ 36) }
         ensures visiting { IsVisiting self.new }
-        ensures meeting { IsMeeting self.old.order.items self.new.order.items self.new.number chamber result }
+        ensures meeting { IsMeeting self.old.order.items self.new.order.items
+            self.new.number chamber result }
     {
         let known = self.number[chamber as usize - 1];
         if known != 0 {
@@ -72,8 +74,8 @@ impl Visit {
     }
 }
 
-/// How the traversal from a start chamber stands to a prefix: it reads as the prefix and then smaller,
-/// or larger, whatever else is put in; or that is not decided yet.
+/// How the traversal from a start chamber stands to a prefix: it reads as the prefix and then
+/// smaller, or larger, whatever else is put in; or that is not decided yet.
 #[derive(Clone, Copy, Debug, PartialEq, Eq)]
 enum Standing {
     Smaller,
@@ -103,8 +105,8 @@ fn row_after(row: usize, i: Index) -> usize
     }
 }
 
-/// Where the traversal from a start chamber stands. Where it comes to an image that is not known, or
-/// to the end of the prefix, nothing is decided.
+/// Where the traversal from a start chamber stands. Where it comes to an image that is not known,
+/// or to the end of the prefix, nothing is decided.
 fn stand(rows: &Rows, prefix: &[u8], start: u8, visit: &mut Visit) -> Standing
     requires ready { IsReady rows.now }
     requires visiting { IsVisiting visit.old }
@@ -138,8 +140,8 @@ fn stand(rows: &Rows, prefix: &[u8], start: u8, visit: &mut Visit) -> Standing
     Standing::Open
 }
 
-/// Start chambers whose traversals may still read smaller than a prefix that grows. One that is left
-/// out in error is not tried, and nothing is cut for it.
+/// Start chambers whose traversals may still read smaller than a prefix that grows. One that is
+/// left out in error is not tried, and nothing is cut for it.
 #[derive(Clone, Copy, Debug, Default, PartialEq, Eq)]
 pub struct Starts {
     left_out: u64,
@@ -168,8 +170,8 @@ impl Starts {
     }
 }
 
-/// Whether the traversal from some start reads as the prefix and then smaller. A tie is none. Starts
-/// that read larger are left out. Chamber 1 reads as the prefix itself, and is not tried.
+/// Whether the traversal from some start reads as the prefix and then smaller. A tie is none.
+/// Starts that read larger are left out. Chamber 1 reads as the prefix itself, and is not tried.
 pub fn any_beats(rows: &Rows, prefix: &[u8], starts: &mut Starts, visit: &mut Visit) -> bool
     requires ready { IsReady rows.now }
     requires visiting { IsVisiting visit.old }

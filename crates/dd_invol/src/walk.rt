@@ -99,7 +99,8 @@ impl Walk {
         ensures found { IfOk result (λ found. MatchOption found
             (HasNoneLeft self.old.request self.old.job self.old.last)
             (λ table. IsNext self.old.request self.old.job self.old.last table)) }
-        ensures given { IfOk result (λ found. IfSome found (λ table. self.new ≡ after self.old table)) }
+        ensures given { IfOk result
+            (λ found. IfSome found (λ table. self.new ≡ after self.old table)) }
         ensures ended { IfOk result (λ found. IfNone found (self.new ≡ self.old)) }
         ensures failed { OnErr result (self.new ≡ self.old) }
     {

@@ -27,7 +27,8 @@ ghost use Rattle.dd_shares.specs.declared.shares.Shares.{Shares};
 pub fn a_cell_has_at_most_two_chambers_for_each_turn()
     ensures cell { (s : Symbol) (p : Pair) (d : ℕ) (es : List ℕ) → IsSymbol s → IsChamber s d
         → AreDistinct es → AllByRecursion (InCell s p d) es → length es ≤ 2 * degree s p d }
-    ensures chain { (s : Symbol) (p : Pair) (d : ℕ) (es : List ℕ) → IsSymbol s → IsChamber s d → IsChain s p d
+    ensures chain { (s : Symbol) (p : Pair) (d : ℕ) (es : List ℕ) → IsSymbol s → IsChamber s d
+        → IsChain s p d
         → AreDistinct es → AllByRecursion (InCell s p d) es → length es ≤ degree s p d }
 {}
 
@@ -35,7 +36,8 @@ pub fn a_cell_has_at_most_two_chambers_for_each_turn()
 /// degrees, twice the sum of all shares is at least that number for each chamber.
 pub fn flat_symbols_have_large_shares()
     ensures { (s : Symbol) (whole : ℕ) (tiles vertices : ℕ → ℕ) → IsSymbol s → Flat s
-        → ((d : ℕ) → IsChamber s d → whole ≤ tiles d * degree s Tile d) → ((d : ℕ) → IsChamber s d → whole ≤ vertices d * degree s Vertex d)
+        → ((d : ℕ) → IsChamber s d → whole ≤ tiles d * degree s Tile d)
+        → ((d : ℕ) → IsChamber s d → whole ≤ vertices d * degree s Vertex d)
         → s.size * whole ≤ 2 * (sum_by tiles (chambers s) + sum_by vertices (chambers s)) }
 {}
 
@@ -48,32 +50,41 @@ pub fn each_cell_adds_at_most_two()
 
 /// An involution of an odd number of chambers fixes one; a least table of odd size begins with 1.
 pub fn odd_tables_have_fixed_chambers()
-    ensures fixed { (s : Symbol) (i : Index) → IsTable s → s.size % 2 ≡ 1 → ¬ ((d : ℕ) → IsChamber s d → op s i d ≢ d) }
-    ensures first { (s : Symbol) → IsTable s → Connected s → LeastTable s → s.size % 2 ≡ 1 → op s Zero 1 ≤ 1 }
+    ensures fixed { (s : Symbol) (i : Index) → IsTable s → s.size % 2 ≡ 1
+        → ¬ ((d : ℕ) → IsChamber s d → op s i d ≢ d) }
+    ensures first { (s : Symbol) → IsTable s → Connected s → LeastTable s → s.size % 2 ≡ 1
+        → op s Zero 1 ≤ 1 }
 {}
 
 /// The shares of a table are shares of each table that it is filled to.
 pub fn shares_stay_while_a_table_is_filled()
-    ensures { (old new : Rows) (shares : Shares) → new.size ≡ old.size → unwound new (depth_of old) ≡ old
+    ensures { (old new : Rows) (shares : Shares) → new.size ≡ old.size
+        → unwound new (depth_of old) ≡ old
         → AreKept (partial_of old) shares → AreKept (partial_of new) shares }
 {}
 
 /// A cell has no fixed flags or two, where a flag is a chamber with an involution of the pair that
-/// fixes it. Twice what a cell adds to the sum of 1/m and the number of its fixed flags are at most 4
-/// together, in parts of any number that is divided by the degrees.
+/// fixes it. Twice what a cell adds to the sum of 1/m and the number of its fixed flags are at most
+/// 4 together, in parts of any number that is divided by the degrees.
 pub fn fixed_flags_halve_a_cell()
-    ensures flags { (s : Symbol) (p : Pair) (d : ℕ) (members : List ℕ) → IsSymbol s → IsChamber s d → AreMembers s p d members
-        → (sum_by (fixed_flags s p) members ≡ 0) ⊎ (IsChain s p d × (sum_by (fixed_flags s p) members ≡ 2)) }
-    ensures weight { (s : Symbol) (p : Pair) (d : ℕ) (members : List ℕ) (whole : ℕ) → IsSymbol s → IsChamber s d → AreMembers s p d members
-        → 2 * sum_by (λ x. whole / degree s p x) members + whole * sum_by (fixed_flags s p) members ≤ 4 * whole }
+    ensures flags { (s : Symbol) (p : Pair) (d : ℕ) (members : List ℕ) → IsSymbol s → IsChamber s d
+        → AreMembers s p d members
+        → (sum_by (fixed_flags s p) members ≡ 0)
+        ⊎ (IsChain s p d × (sum_by (fixed_flags s p) members ≡ 2)) }
+    ensures weight { (s : Symbol) (p : Pair) (d : ℕ) (members : List ℕ) (whole : ℕ) → IsSymbol s
+        → IsChamber s d → AreMembers s p d members
+        → 2 * sum_by (λ x. whole / degree s p x) members
+        + whole * sum_by (fixed_flags s p) members ≤ 4 * whole }
 {}
 
 /// What a census tells of the cells of a pair holds of each sought symbol, where a request sets a
-/// limit: no more cells are whole than the limit, each chamber is in a whole cell where as many are,
-/// and the sum of 1/m is at most what whole cells add, 1 for each further chain and 2 for each further
-/// cycle.
+/// limit: no more cells are whole than the limit, each chamber is in a whole cell where as many
+/// are, and the sum of 1/m is at most what whole cells add, 1 for each further chain and 2 for each
+/// further cycle.
 pub fn whole_cells_count()
-    ensures { (q : Request) (partial : Symbol) (p : Pair) (c : Census) (limit : ℕ) → (p ≡ Tile) ⊎ (p ≡ Vertex)
-        → ((s : Symbol) → Wanted q s → AtMost s p limit) → 1 ≤ limit → IsCensus q partial p partial.size c
+    ensures { (q : Request) (partial : Symbol) (p : Pair) (c : Census) (limit : ℕ)
+        → (p ≡ Tile) ⊎ (p ≡ Vertex)
+        → ((s : Symbol) → Wanted q s → AtMost s p limit) → 1 ≤ limit
+        → IsCensus q partial p partial.size c
         → (s : Symbol) → IsSought q partial s → HasRoom s p c limit }
 {}

@@ -23,9 +23,9 @@ fn limit_of(request: &Request, pair: Pair) -> u32
     }
 }
 
-/// What a table tells of the cells of a pair: the cells that are whole, how many of them are chains,
-/// their chambers, what they add at most, and how often an involution of the pair is known to fix a
-/// chamber.
+/// What a table tells of the cells of a pair: the cells that are whole, how many of them are
+/// chains, their chambers, what they add at most, and how often an involution of the pair is known
+/// to fix a chamber.
 #[derive(Drop)]
 pub(crate) struct Census {
     cells: u32,
@@ -40,7 +40,8 @@ impl Census {
 
     /// What no chambers tell.
     fn none() -> Census
-        ensures census { (q : Request) (partial : Tiling) (p : Pair) → IsCensus q partial p 0 result }
+        ensures census { (q : Request) (partial : Tiling) (p : Pair)
+            → IsCensus q partial p 0 result }
         ensures small { IsSmall 0 result }
     {
         Census {
@@ -61,7 +62,8 @@ impl Census {
         requires fits { side.now.total ≤ 36 * share_unit }
         requires small { IsSmall k self.old }
         ensures census { (q : Request) → IsSide q (partial_of table.now) pair side.now
-            → IsCensus q (partial_of table.now) pair k self.old → IsCensus q (partial_of table.now) pair (k + 1) self.new }
+            → IsCensus q (partial_of table.now) pair k self.old
+            → IsCensus q (partial_of table.now) pair (k + 1) self.new }
         ensures small { IsSmall (k + 1) self.new }
     {
         let chamber = k + 1;

@@ -101,7 +101,8 @@ impl Path {
     pub(crate) fn bound(&self) -> u32
         requires { 1 ≤ length self.now.chambers.items }
         ensures positive { 1 ≤ result }
-        ensures cases { (result ≤ (length self.now.chambers.items + 1) / 2) ⊎ (IsTrue self.now.is_capped × (result ≤ length self.now.chambers.items)) }
+        ensures cases { (result ≤ (length self.now.chambers.items + 1) / 2)
+            ⊎ (IsTrue self.now.is_capped × (result ≤ length self.now.chambers.items)) }
         ensures small { result ≤ 36 }
     {
         let chambers = self.chambers.len() as u32;

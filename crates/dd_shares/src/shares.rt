@@ -66,7 +66,8 @@ impl Shares {
         self.vertices.undo(mark.vertices);
     }
 
-    /// Exchanges the shares of the paths that have grown by what was put into the table after a mark.
+    /// Exchanges the shares of the paths that have grown by what was put into the table after a
+    /// mark.
     pub fn learn(&mut self, table: &Rows, mark: usize)
         requires ready { IsReady table.now }
         requires kept { AreKept (partial_of table.now) self.old }
@@ -117,7 +118,8 @@ impl Shares {
         self.tiles.renew(&self.request, table, Pair::Tile, chamber);
     }
 
-    /// Exchanges the shares of the vertex path of a chamber, unless they are exchanged at its image.
+    /// Exchanges the shares of the vertex path of a chamber, unless they are exchanged at its
+    /// image.
     fn renew_vertex(&mut self, table: &Rows, i: Index, chamber: u8)
         requires ready { IsReady table.now }
         requires low { 1 ≤ chamber }
@@ -137,7 +139,8 @@ impl Shares {
     pub fn rules_out(&self, table: &Rows) -> bool
         requires ready { IsReady table.now }
         requires kept { AreKept (partial_of table.now) self.now }
-        ensures { IsTrue result → (s : Tiling) → ¬ IsSought self.now.request (partial_of table.now) s }
+        ensures { IsTrue result → (s : Tiling)
+            → ¬ IsSought self.now.request (partial_of table.now) s }
     {
         if self.tiles.is_void() {
             return true;

@@ -15,7 +15,7 @@ use arrayvec::ArrayVec;
 use dd_invol::Rows;
 use dd_model::{Pair, Request};
 
-/// A number that each of 1 to 36 divides. Shares are parts of it.
+/// A number that each of 1 to 36 divides. The shares of chambers are parts of it.
 pub const SHARE_UNIT: u64 = 144_403_552_893_600;
 
 /// Whether a request allows the degree to the cells of a pair.
@@ -55,16 +55,18 @@ fn share_of(degree: u32) -> u64
 /// Whether a cell of so many turns may have the branching value.
 fn allows_cell(request: &Request, pair: Pair, branching: u32, turns: u8) -> bool
     requires branching { branching ≤ 6 }
-    ensures { IsTrue result ↔ (IsCrystallographic branching × IsAllowed request.now pair (branching * turns)) }
+    ensures { IsTrue result
+        ↔ (IsCrystallographic branching × IsAllowed request.now pair (branching * turns)) }
 {
     [1, 2, 3, 4, 6].contains(&branching) && allows(request, pair, branching * u32::from(turns))
 }
 
-/// SHARE_UNIT divided by the least degree that a request allows to a cell of so many turns, rounded up; 0
-/// where it allows none. The degree is the branching value times the turns.
+/// SHARE_UNIT divided by the least degree that a request allows to a cell of so many turns, rounded
+/// up; 0 where it allows none. The degree is the branching value times the turns.
 fn share_of_cell(request: &Request, pair: Pair, turns: u8) -> u64
     requires { 1 ≤ turns }
-    ensures { (v : ℕ) → IsCrystallographic v → IsAllowed request.now pair (v * turns) → share_unit ≤ result * (v * turns) }
+    ensures { (v : ℕ) → IsCrystallographic v → IsAllowed request.now pair (v * turns)
+        → share_unit ≤ result * (v * turns) }
 {
     for branching in 1..7 {
         if allows_cell(request, pair, branching, turns) {
@@ -81,7 +83,8 @@ fn share_near(request: &Request, table: &Rows, pair: Pair, path: &Path) -> u64
     requires walked { IsWalked (partial_of table.now) path.now }
     requires same { path.now.pair ≡ pair }
     ensures { (k : ℕ) → k < length path.now.chambers.items
-        → IsShare request.now (partial_of table.now) pair share_unit (slice_index path.now.chambers.items k) result }
+        → IsShare request.now (partial_of table.now) pair share_unit
+        (slice_index path.now.chambers.items k) result }
 {
     if let Some(cell) = WholeCell::from(table, pair, path.start(), 1) {
         return share_of_cell(request, pair, cell.turns);
@@ -103,7 +106,8 @@ impl Side {
     /// The shares of tables of which nothing is known.
     pub(crate) fn start(request: &Request, pair: Pair, size: u8) -> Side
         requires { size ≤ 36 }
-        ensures kept { (partial : Tiling) → partial.size ≡ size → IsSide request.now partial pair result }
+        ensures kept { (partial : Tiling) → partial.size ≡ size
+            → IsSide request.now partial pair result }
     {
         let share = share_of(least_degree(request, pair, 1));
         let mut shares = [0; 36];
@@ -159,7 +163,8 @@ impl Side {
         requires total { self.old.total ≡ sum self.old.shares }
         ensures total { self.new.total ≡ sum self.new.shares }
         ensures smaller { self.new.total ≤ self.old.total }
-        ensures shares { (self.new.shares ≡ self.old.shares) ⊎ (self.new.shares ≡ slice_set self.old.shares (chamber - 1) share) }
+        ensures shares { (self.new.shares ≡ self.old.shares)
+            ⊎ (self.new.shares ≡ slice_set self.old.shares (chamber - 1) share) }
         ensures exchanged { HasExchanged self.old self.new }
     {
         let place = chamber - 1;

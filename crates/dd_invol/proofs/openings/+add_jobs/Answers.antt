@@ -47,7 +47,7 @@ loop-k-preserved t c =
     elim c.if-can_follow.branch [
       | then-can_follow+in_ok-add_jobs w ↦
           let pushed : w.push-then-can_follow.new.self.items ≡ xs ++ k ∷ [] = w.push-then-can_follow.ensures.items ∙ ap (λ ys. ys ++ k ∷ []) i.same in
-          let after = w.in_ok-add_jobs.ensures.prefix ∙ pushed in
+          let after = w.in_ok-add_jobs.ensures.same ∙ pushed in
           let added = subst (λ ys. Appends (AreJobsUnder n end ys) c.loop-k.jobs.items w.add_jobs.new.jobs.items) pushed w.in_ok-add_jobs.ensures.jobs in
           record {
             same = ap (λ p. p.items) w.prefix-is ∙ w.pop.ensures.rest ∙ popped w.add_jobs.new.prefix.items xs k after;

@@ -41,8 +41,8 @@ loop-number-preserved g t c =
           let found = found_longer T.request T.wanted T.size T.prefix m S c.enter.new.self longer c.loop-number.list.items w.find.new.list.items w.in_ok-find.ensures.list in
           record {
             small = omega (arith, small);
-            valid = subst T.valid (sym (w.search-is ∙ w.leave.ensures ∙ ap (λ s. T.undone s c.mark-mark.result) w.in_ok-find.ensures.state ∙ ap (T.undone c.enter.new.self) i.mark ∙ back)) c.requires.valid;
-            same = w.search-is ∙ w.leave.ensures ∙ ap (λ s. T.undone s c.mark-mark.result) w.in_ok-find.ensures.state ∙ ap (T.undone c.enter.new.self) i.mark ∙ back;
+            valid = subst T.valid (sym (w.search-is ∙ w.leave.ensures ∙ ap (λ s. T.undone s c.mark-mark.result) w.in_ok-find.ensures.same ∙ ap (T.undone c.enter.new.self) i.mark ∙ back)) c.requires.valid;
+            same = w.search-is ∙ w.leave.ensures ∙ ap (λ s. T.undone s c.mark-mark.result) w.in_ok-find.ensures.same ∙ ap (T.undone c.enter.new.self) i.mark ∙ back;
             short = short;
             mark = i.mark;
             list = subst (λ l. Appends (AreUnderBefore W n base (m + 1)) c.args.list.now.items l.items) (sym w.list-is)
