@@ -44,7 +44,8 @@ fn put_orders(out: &mut Vec<u8>, orders: &[u32]) -> Result<(), Memory>
 
 /// Appends a star and the corners for each boundary.
 fn put_boundaries(out: &mut Vec<u8>, boundaries: &[Orders]) -> Result<(), Memory>
-    ensures boundaries { OnOk result (out.new.items ≡ out.old.items ++ flat_map boundary_text boundaries.now) }
+    ensures boundaries { OnOk result (out.new.items ≡ out.old.items
+        ++ flat_map boundary_text boundaries.now) }
     ensures longer { IsLonger out.old.items out.new.items }
 {
     for boundary in boundaries {

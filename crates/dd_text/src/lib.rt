@@ -9,7 +9,7 @@ mod involutions;
 mod lists;
 mod reader;
 mod reading;
-mod texts;
+mod symbol_text;
 mod writing;
 
 pub use fault_laws::{a_faulty_file_spells_nothing, a_file_has_one_fault};
