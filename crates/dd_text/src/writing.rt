@@ -168,8 +168,8 @@ fn put_number(out: &mut Vec<u8>, number: u128) -> Result<(), Memory>
     put_bytes(out, digits.format(number).as_bytes())
 }
 
-/// Appends some bytes.
-fn put_bytes(out: &mut Vec<u8>, bytes: &[u8]) -> Result<(), Memory>
+/// Appends some bytes. At `Err` the old text stays in front.
+pub fn put_bytes(out: &mut Vec<u8>, bytes: &[u8]) -> Result<(), Memory>
     ensures bytes { OnOk result (out.new.items ≡ out.old.items ++ bytes.now) }
     ensures longer { IsLonger out.old.items out.new.items }
 {
