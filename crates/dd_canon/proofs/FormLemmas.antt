@@ -8,7 +8,8 @@ use Rattle.dd_model.specs.Symbol.{Symbol, IsTable, IsSymbol, IsChamber, item}
 use Rattle.dd_model.specs.Connected.{Connected}
 use Rattle.dd_model.specs.Isomorphic.{IsBijection, IsIsomorphism, Isomorphic}
 use Rattle.dd_model.specs.Code.{code_cmp, Least, IsLeastForm}
-use Rattle.dd_model.specs.FirstVisit.{IsFirstVisit, IsNumberedFrom, IsBestTo}
+use Rattle.dd_model.specs.FirstVisit.{IsFirstVisit, IsNumberedFrom}
+use Rattle.dd_canon.specs.Standing.{IsBestTo, IsStanding, IsWhole}
 use Rattle.std.proofs.lemmas.Cmp.{tied_itself}
 use Rattle.dd_model.proofs.Bijections.{after}
 use Rattle.dd_model.proofs.Codes.{same_from_code_cmp, code_cmp_total}
@@ -16,7 +17,6 @@ use Rattle.dd_model.proofs.Isomorphisms.{Isomorphic-refl, Isomorphic-sym, Isomor
 use Rattle.dd_model.proofs.Exchanges.{renumbered, renumbered_table, renumbered_isomorphism}
 use Rattle.dd_model.proofs.LeastForms.{new_best, below_back, least_of_best, least_form_numbered, form_as_symbol, form_as_table, copy_is_symbol}
 use Rattle.dd_model.proofs.Numberings.{numbered_from}
-use Rattle.dd_canon.specs.Standing.{IsStanding, IsWhole}
 use Rattle.dd_canon.proofs.OrderLemmas.{less_of}
 
 pub nothing_best : (s t : Symbol) → IsBestTo s 0 t
@@ -44,12 +44,12 @@ becomes_best s t u start order number o is con h best standing less whole iu iso
     let e : start - 1 + 1 ≡ start = omega arith in
     let a = whole.numbered u iu iso in
     let below : code_cmp u t ≡ Less = standing.stands u a ∙ less_of o less in
-    let new = new_best s t u (start - 1) is con (subst (IsChamber s) (sym e) h) best (subst (λ c. IsNumberedFrom s c u) (sym e) a) (below_back u t below) in
-    subst (λ n. IsBestTo s n u) e new
+    let new = new_best s t u (start - 1) is con (subst (IsChamber s) (sym e) h) best.best (subst (λ c. IsNumberedFrom s c u) (sym e) a) (below_back u t below) in
+    subst (λ n. IsBestTo s n u) e (record { best = new })
 
 -- the best of all starts is the least form
 pub best_is_least : (s t : Symbol) (n : ℕ) → IsSymbol s → Connected s → IsTable t → Isomorphic s t → n ≡ s.size → IsBestTo s n t → IsLeastForm s t
-best_is_least s t n is con it iso e best = form_as_symbol s t is (least_of_best s t is.table con it iso (subst (λ k. IsBestTo s k t) e best))
+best_is_least s t n is con it iso e best = form_as_symbol s t is (least_of_best s t is.table con it iso (subst (λ k. IsBestTo s k t) e best).best)
 
 -- a symbol that is below no numbering of its own is not least
 pub beaten : (s : Symbol) (start : ℕ) (o : Ordering) → IsSymbol s → Connected s → IsChamber s start → IsStanding s s start o → is_lt o ≡ true → Least s → ⊥

@@ -1,3 +1,6 @@
+pub mod Meetings
+pub mod Traversals
+pub mod PartialTraversals
 mod OrderLemmas
 mod VisitLemmas
 mod StandingLemmas

@@ -5,7 +5,7 @@ use Rattle.std.specs.Cmp.Lexicographic.{slice_cmp}
 use Rattle.std.specs.declared.cmp.Ordering.{Ordering}
 use Rattle.std.specs.declared.cmp.Ordering.TheVariants.{Less, Equal, Greater}
 use Rattle.dd_model.specs.Symbol.{item}
-use Rattle.dd_model.proofs.Traversals.{then_assoc}
+use Rattle.dd_canon.proofs.Traversals.{then_assoc}
 
 -- lists of one length are compared before what follows them
 pub slice_cmp-append : (xs ys us vs : List ℕ) → length xs ≡ length ys

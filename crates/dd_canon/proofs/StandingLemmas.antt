@@ -11,11 +11,11 @@ use Rattle.dd_model.specs.Symbol.{Symbol, IsTable, item, degree}
 use Rattle.dd_model.specs.Connected.{Connected}
 use Rattle.dd_model.specs.Code.{code_cmp}
 use Rattle.dd_model.specs.FirstVisit.{IsNumberedFrom}
-use Rattle.dd_model.specs.Traversal.{IsVisit, IsExtension, IsTraversal}
+use Rattle.dd_canon.specs.Traversal.{IsVisit, IsExtension, IsTraversal}
 use Rattle.dd_model.proofs.Codes.{same_items}
 use Rattle.dd_model.proofs.Exchanges.{length-table, item-table}
 use Rattle.dd_model.proofs.Transport.{degree-along}
-use Rattle.dd_model.proofs.Traversals.{numbers_undone, extends_itself}
+use Rattle.dd_canon.proofs.Traversals.{numbers_undone, extends_itself}
 use Rattle.dd_canon.specs.Standing.{IsStanding, IsOngoing, IsWhole, degree_list}
 use Rattle.dd_canon.proofs.OrderLemmas.{slice_cmp-append, drop_step, then_first}
 

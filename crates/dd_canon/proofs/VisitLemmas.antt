@@ -7,8 +7,8 @@ use Rattle.dd_model.specs.declared.index.Index.{Index}
 use Rattle.dd_model.specs.declared.index.Index.TheVariants.{Zero, One, Two}
 use Rattle.dd_model.specs.Symbol.{Symbol, AreInvolutions, item, op}
 use Rattle.dd_model.specs.FirstVisit.{rows}
-use Rattle.dd_model.specs.Traversal.{IsVisit, IsTraversal}
-use Rattle.dd_model.proofs.Traversals.{still_numbered, advance, close, falls_behind, begin}
+use Rattle.dd_canon.specs.Traversal.{IsVisit, IsTraversal}
+use Rattle.dd_canon.proofs.Traversals.{still_numbered, advance, close, falls_behind, begin}
 use Rattle.dd_canon.specs.Standing.{IsStep, IsStanding, IsOngoing}
 use Rattle.dd_canon.proofs.OrderLemmas.{greater_of}
 

@@ -1,22 +1,26 @@
 -- How the numbering by first visits from a start stands to the code of another symbol.
-use Rattle.std.specs.Prelude.{◌≡◌, ◌⊎◌, ℕ, ◌≤◌, List, map, vec_capacity}
+use Rattle.std.specs.Prelude.{◌≡◌, ◌≢◌, ◌⊎◌, ℕ, ◌≤◌, List, map, vec_capacity}
 use Rattle.std.specs.Ordering.{nat_cmp, ordering_then}
 use Rattle.std.specs.declared.cmp.Ordering.{Ordering}
 use Rattle.std.specs.declared.cmp.Ordering.TheVariants.{Greater}
 use Rattle.dd_model.specs.declared.index.Index.{Index}
 use Rattle.dd_model.specs.declared.pair.Pair.{Pair}
 use Rattle.dd_model.specs.Symbol.{Symbol, IsTable, item, op, degree}
-use Rattle.dd_model.specs.Isomorphic.{IsIsomorphism}
+use Rattle.dd_model.specs.Connected.{Connected}
+use Rattle.dd_model.specs.Small.{IsSmallSymbol}
+use Rattle.dd_model.specs.Isomorphic.{IsIsomorphism, Isomorphic}
 use Rattle.dd_model.specs.Code.{code_cmp, chambers}
 use Rattle.dd_model.specs.FirstVisit.{IsNumberedFrom}
-use Rattle.dd_model.specs.Traversal.{IsVisit, IsMeeting, IsTraversal}
+use Rattle.dd_canon.specs.Traversal.{IsVisit, IsMeeting, IsTraversal}
 use Rattle.dd_symbol.specs.Maps.{AreInverse}
 use Rattle.dd_canon.specs.declared.visits.Visit.{Visit}
 
--- the lists of a visit to a symbol of n chambers, with room for all of them
-pub record IsReady (n : ℕ) (v : Visit) : Type 0 where
-  pub visit : IsVisit n v.order.items v.number.items
-  pub room : n ≤ vec_capacity v.order
+-- the lists of a visit to a connected symbol, with room for all its chambers
+pub record IsReady (s : Symbol) (v : Visit) : Type 0 where
+  pub symbol : IsSmallSymbol s
+  pub connected : Connected s
+  pub visit : IsVisit s.size v.order.items v.number.items
+  pub room : s.size ≤ vec_capacity v.order
 
 -- one image is met and compared
 pub record IsStep (s b : Symbol) (i : Index) (k : ℕ) (so_far : Ordering) (order order' number' : List ℕ) (o : Ordering) : Type 0 where
@@ -27,6 +31,16 @@ pub record IsStep (s b : Symbol) (i : Index) (k : ℕ) (so_far : Ordering) (orde
 -- the numbering by first visits from the start stands to b as o says
 pub record IsStanding (s b : Symbol) (start : ℕ) (o : Ordering) : Type 0 where
   pub stands : (t : Symbol) → IsNumberedFrom s start t → code_cmp t b ≡ o
+
+-- no numbering by first visits from one of the chambers 1 to n is below t
+pub record IsBestTo (s : Symbol) (n : ℕ) (t : Symbol) : Type 0 where
+  pub best : (d : ℕ) (u : Symbol) → 1 ≤ d → d ≤ n → IsNumberedFrom s d u → code_cmp t u ≢ Greater
+
+-- the best of the numberings from the chambers 1 to n, a renumbering of s
+pub record IsBestForm (s : Symbol) (n : ℕ) (t : Symbol) : Type 0 where
+  pub table : IsTable t
+  pub isomorphic : Isomorphic s t
+  pub best : IsBestTo s n t
 
 -- a traversal from the start that is above b, or one that goes on
 abbrev pub IsOngoing : Symbol → Symbol → ℕ → List ℕ → List ℕ → ℕ → (Symbol → List ℕ) → Ordering → Type 0

@@ -1,9 +1,7 @@
 ghost use Rattle.std.specs.Prelude.{◌≡◌, ◌+◌, ◌-◌, ◌*◌, ◌≤◌, ◌<◌, ◌↔◌, IsTrue, IfOk};
 ghost use Rattle.dd_model.specs.Symbol.{IsChamber};
-ghost use Rattle.dd_model.specs.Isomorphic.{Isomorphic};
 ghost use Rattle.dd_model.specs.Code.{Least, IsLeastForm};
-ghost use Rattle.dd_model.specs.FirstVisit.{IsBestTo};
-ghost use Rattle.dd_canon.specs.Standing.{IsReady};
+ghost use Rattle.dd_canon.specs.Standing.{IsBestForm, IsReady};
 
 use crate::steps::Steps;
 use crate::visits::Visit;
@@ -22,21 +20,16 @@ fn improved<L: Ledger>(
     visit: &mut Visit,
     steps: &mut Steps<L>,
 ) -> Result<Connected, Memory>
-    requires ready { IsReady s.now.size visit.old }
+    requires ready { IsReady s.now visit.old }
     requires start { IsChamber s.now start }
-    requires isomorphic { Isomorphic s.now form }
-    requires best { IsBestTo s.now (start - 1) form }
-    ensures ready { IsReady s.now.size visit.new }
-    ensures isomorphic { IfOk result (λ better. Isomorphic s.now better) }
-    ensures best { IfOk result (λ better. IsBestTo s.now start better) }
+    requires best { IsBestForm s.now (start - 1) form }
+    ensures ready { IsReady s.now visit.new }
+    ensures best { IfOk result (λ better. IsBestForm s.now start better) }
     ensures count { steps.new ≤ steps.old + 5 * s.now.size }
 {
-    s.known();
     let order = visit.stand(s, start, &form, steps);
     if order.is_lt() {
-        let better = s.renumber(alloc, &visit.number)?;
-        better.known();
-        return Ok(better);
+        return Ok(s.renumber(alloc, &visit.number)?);
     }
     Ok(form)
 }
@@ -50,13 +43,11 @@ pub fn least<L: Ledger>(
     ensures least { IfOk result (λ form. IsLeastForm s.now form) }
     ensures count { steps.new ≤ steps.old + 5 * s.now.size * s.now.size }
 {
-    s.known();
     let mut form = s.try_copy(alloc)?;
-    let mut visit = Visit::new(alloc, s.symbol().size())?;
+    let mut visit = Visit::new(alloc, s)?;
     for k in 0..s.symbol().size() {
         form = improved(alloc, s, k + 1, form, &mut visit, steps)?;
     }
-    form.known();
     Ok(form)
 }
 
@@ -85,9 +76,8 @@ fn is_least_from<L: Ledger>(alloc: Global, s: &Connected, blank: Blank) -> Resul
     requires some { 0 < blank.parts }
     ensures { IfOk result (λ least. IsTrue least ↔ Least s.now) }
 {
-    s.known();
     let mut steps = Steps::<L>::begin(blank);
-    let mut visit = Visit::new(alloc, s.symbol().size())?;
+    let mut visit = Visit::new(alloc, s)?;
     for k in 0..s.symbol().size() {
         let order = visit.stand(s, k + 1, s, &mut steps);
         if order.is_lt() {

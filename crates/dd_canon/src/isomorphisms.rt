@@ -21,16 +21,14 @@ fn reaches<L: Ledger>(
     form: &Connected,
     steps: &mut Steps<L>,
 ) -> bool
-    requires ready { IsReady s.now.size visit.old }
+    requires ready { IsReady s.now visit.old }
     requires size { form.now.size ≡ s.now.size }
     requires first_visit { IsFirstVisit form.now }
     ensures there { OnTrue result (IsIsomorphism s.now form.now visit.new.number.items) }
     ensures back { OnTrue result (IsIsomorphism form.now s.now visit.new.order.items) }
     ensures none { OnFalse result (¬ Isomorphic s.now form.now) }
 {
-    s.known();
-    form.known();
-    for k in 0..s.symbol().size() {
+    for k in 0..form.symbol().size() {
         let order = visit.stand(s, k + 1, form, steps);
         if order.is_eq() {
             return true;
@@ -41,7 +39,8 @@ fn reaches<L: Ledger>(
 
 /// First one map, then another.
 fn joined(alloc: Global, first: &[u32], then: &[u32]) -> Result<Map, Memory>
-    requires within { (d : ℕ) → 1 ≤ d → d ≤ length first.now → (1 ≤ item first.now d) × (item first.now d ≤ length then.now) }
+    requires within { (d : ℕ) → 1 ≤ d → d ≤ length first.now
+        → (1 ≤ item first.now d) × (item first.now d ≤ length then.now) }
     ensures { IfOk result (λ whole. whole ≡ map (item then.now) first.now) }
 {
     let mut images = Vec::with_capacity(alloc, first.len())?;
@@ -61,18 +60,16 @@ fn isomorphic_from<L: Ledger>(
     requires name { blank.name ≡ L.name }
     requires parts { blank.parts ≡ L.parts }
     requires some { 0 < blank.parts }
-    ensures { IfOk result (λ found. MatchOption found (¬ Isomorphic a.now b.now) (λ whole. IsIsomorphism a.now b.now whole)) }
+    ensures { IfOk result (λ found.
+        MatchOption found (¬ Isomorphic a.now b.now) (λ whole. IsIsomorphism a.now b.now whole)) }
 {
-    a.known();
-    b.known();
-    let size = a.symbol().size();
-    if b.symbol().size() != size {
+    if a.symbol().size() != b.symbol().size() {
         return Ok(None);
     }
     let mut steps = Steps::<L>::begin(blank);
     let form = least(alloc, a, &mut steps)?;
-    let mut here = Visit::new(alloc, size)?;
-    let mut there = Visit::new(alloc, size)?;
+    let mut here = Visit::new(alloc, a)?;
+    let mut there = Visit::new(alloc, b)?;
     // The form is that of `a`, so some start reaches it, and this return is never taken.
     if !reaches(&mut here, a, &form, &mut steps) {
         return Ok(None);
@@ -85,7 +82,8 @@ fn isomorphic_from<L: Ledger>(
 
 /// A map to an isomorphic symbol, if the symbols are isomorphic.
 pub fn isomorphic(alloc: Global, a: &Connected, b: &Connected) -> Result<Option<Map>, Memory>
-    ensures { IfOk result (λ found. MatchOption found (¬ Isomorphic a.now b.now) (λ whole. IsIsomorphism a.now b.now whole)) }
+    ensures { IfOk result (λ found.
+        MatchOption found (¬ Isomorphic a.now b.now) (λ whole. IsIsomorphism a.now b.now whole)) }
 {
     isomorphic_from::<Brand>(alloc, a, b, Blank::new(1))
 }

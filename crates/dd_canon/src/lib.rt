@@ -6,8 +6,10 @@ mod isomorphisms;
 mod steps;
 #[cfg(test)]
 mod tests;
+mod traversal_laws;
 mod visits;
 
 pub use forms::{is_least, least, least_form};
 pub use isomorphisms::isomorphic;
 pub use steps::Steps;
+pub use traversal_laws::{beaten_tables_have_no_least_completion, partial_tables_are_traversed};

@@ -4,11 +4,11 @@ ghost use Rattle.std.specs.Cmp.Lexicographic.{slice_cmp};
 ghost use Rattle.std.specs.declared.cmp.Ordering.TheVariants.{Equal, Greater};
 ghost use Rattle.dd_model.specs.Symbol.{IsChamber, item, Symbol as Tiling};
 ghost use Rattle.dd_model.specs.FirstVisit.{rows};
-ghost use Rattle.dd_model.specs.Traversal.{IsVisit, IsMeeting, IsExtension, IsTraversal};
+ghost use Rattle.dd_canon.specs.Traversal.{IsVisit, IsMeeting, IsExtension, IsTraversal};
 
 use crate::steps::Steps;
 use dd_model::{Index, Memory, Pair};
-use dd_symbol::Connected;
+use dd_symbol::{Connected, Symbol};
 use std::alloc::Global;
 use std::cmp::Ordering;
 use std::sync::ledger::Ledger;
@@ -24,12 +24,13 @@ pub(crate) struct Visit {
 impl Visit {
     ghost use Rattle.dd_canon.specs.Standing.{IsReady, IsStep, IsStanding, IsOngoing, IsWhole, degree_list};
 
-    /// Room for so many chambers, of which none has a number.
-    pub(crate) fn new(alloc: Global, size: u32) -> Result<Visit, Memory>
-        ensures { IfOk result (λ visit. IsReady size visit) }
+    /// Room for the chambers of a symbol, of which none has a number.
+    pub(crate) fn new(alloc: Global, s: &Connected) -> Result<Visit, Memory>
+        ensures { IfOk result (λ visit. IsReady s.now visit) }
     {
-        let number = vec![in alloc; 0u32; size as usize]?;
-        let order = Vec::with_capacity(alloc, size as usize)?;
+        let size = s.symbol().size() as usize;
+        let number = vec![in alloc; 0u32; size]?;
+        let order = Vec::with_capacity(alloc, size)?;
         Ok(Visit { order, number })
     }
 
@@ -44,15 +45,15 @@ impl Visit {
 
     /// A chamber without a number gets the next one.
     fn add(&mut self, s: &Connected, chamber: u32) -> u32
-        requires ready { IsReady s.now.size self.old }
+        requires ready { IsReady s.now self.old }
         requires chamber { IsChamber s.now chamber }
         requires none { item self.old.number.items chamber ≡ 0 }
-        ensures ready { IsReady s.now.size self.new }
+        ensures ready { IsReady s.now self.new }
         ensures order { self.new.order.items ≡ self.old.order.items ++ chamber ∷ [] }
-        ensures number { self.new.number.items ≡ set self.old.number.items (chamber - 1) (length self.old.order.items + 1) }
+        ensures number { self.new.number.items ≡
+            set self.old.number.items (chamber - 1) (length self.old.order.items + 1) }
         ensures next { result ≡ length self.old.order.items + 1 }
     {
-        s.known();
         self.order.push_reserved(chamber);
         let number = self.order.len() as u32;
         self.number[chamber as usize - 1] = number;
@@ -61,12 +62,11 @@ impl Visit {
 
     /// The start alone has a number.
     fn begin(&mut self, s: &Connected, start: u32)
-        requires ready { IsReady s.now.size self.old }
+        requires ready { IsReady s.now self.old }
         requires start { IsChamber s.now start }
-        ensures ready { IsReady s.now.size self.new }
+        ensures ready { IsReady s.now self.new }
         ensures order { self.new.order.items ≡ start ∷ [] }
     {
-        s.known();
         while let Some(chamber) = self.order.pop() {
             self.number[chamber as usize - 1] = 0;
         }
@@ -75,12 +75,12 @@ impl Visit {
 
     /// The number of a chamber, the next one where it has none.
     fn meet(&mut self, s: &Connected, chamber: u32) -> u32
-        requires ready { IsReady s.now.size self.old }
+        requires ready { IsReady s.now self.old }
         requires chamber { IsChamber s.now chamber }
-        ensures ready { IsReady s.now.size self.new }
-        ensures meeting { IsMeeting self.old.order.items self.new.order.items self.new.number.items chamber result }
+        ensures ready { IsReady s.now self.new }
+        ensures meeting { IsMeeting self.old.order.items
+            self.new.order.items self.new.number.items chamber result }
     {
-        s.known();
         let known = self.number[chamber as usize - 1];
         if known != 0 {
             return known;
@@ -92,24 +92,24 @@ impl Visit {
     fn step<L: Ledger>(
         &mut self,
         s: &Connected,
-        form: &Connected,
+        form: &Symbol,
         i: Index,
         k: u32,
         so_far: Ordering,
         steps: &mut Steps<L>,
     ) -> Ordering
-        requires ready { IsReady s.now.size self.old }
+        requires ready { IsReady s.now self.old }
         requires low { 1 ≤ k }
         requires high { k ≤ length self.old.order.items }
         requires chamber { IsChamber form.now k }
-        ensures ready { IsReady s.now.size self.new }
-        ensures step { IsStep s.now form.now i k so_far self.old.order.items self.new.order.items self.new.number.items result }
+        ensures ready { IsReady s.now self.new }
+        ensures step { IsStep s.now form.now i k so_far
+            self.old.order.items self.new.order.items self.new.number.items result }
         ensures count { steps.new ≡ steps.old + 1 }
     {
-        s.known();
         let image = s.symbol().op(i, self.chamber(k));
         let number = self.meet(s, image);
-        let own = steps.compare(number, form.symbol().op(i, k));
+        let own = steps.compare(number, form.op(i, k));
         so_far.then(own)
     }
 
@@ -117,21 +117,24 @@ impl Visit {
     fn row<L: Ledger>(
         &mut self,
         s: &Connected,
-        form: &Connected,
+        form: &Symbol,
         k: u32,
         so_far: Ordering,
         steps: &mut Steps<L>,
     ) -> Ordering
-        requires ready { IsReady s.now.size self.old }
-        requires traversal { IsTraversal s.now form.now self.old.order.items self.old.number.items k (λ u. rows u k (suc (s.now.size - k))) so_far }
+        requires ready { IsReady s.now self.old }
+        requires traversal { IsTraversal s.now form.now
+            self.old.order.items self.old.number.items k
+            (λ u. rows u k (suc (s.now.size - k))) so_far }
         requires low { 1 ≤ k }
         requires high { k ≤ s.now.size }
         requires size { form.now.size ≡ s.now.size }
-        ensures ready { IsReady s.now.size self.new }
-        ensures ongoing { IsOngoing s.now form.now (item self.old.order.items 1) self.new.order.items self.new.number.items (k + 1) (λ u. rows u (k + 1) (s.now.size - k)) result }
+        ensures ready { IsReady s.now self.new }
+        ensures ongoing { IsOngoing s.now form.now
+            (item self.old.order.items 1) self.new.order.items self.new.number.items (k + 1)
+            (λ u. rows u (k + 1) (s.now.size - k)) result }
         ensures count { steps.new ≤ steps.old + 3 }
     {
-        s.known();
         let zero = self.step(s, form, Index::Zero, k, so_far, steps);
         if zero.is_gt() {
             return zero;
@@ -144,15 +147,17 @@ impl Visit {
     }
 
     /// The rows of all chambers, as long as they do not fall behind.
-    fn rows<L: Ledger>(&mut self, s: &Connected, form: &Connected, steps: &mut Steps<L>) -> Ordering
-        requires ready { IsReady s.now.size self.old }
-        requires traversal { IsTraversal s.now form.now self.old.order.items self.old.number.items 1 (λ u. rows u 1 s.now.size) Equal }
+    fn rows<L: Ledger>(&mut self, s: &Connected, form: &Symbol, steps: &mut Steps<L>) -> Ordering
+        requires ready { IsReady s.now self.old }
+        requires traversal { IsTraversal s.now form.now
+            self.old.order.items self.old.number.items 1 (λ u. rows u 1 s.now.size) Equal }
         requires size { form.now.size ≡ s.now.size }
-        ensures ready { IsReady s.now.size self.new }
-        ensures ongoing { IsOngoing s.now form.now (item self.old.order.items 1) self.new.order.items self.new.number.items (s.now.size + 1) (λ u. []) result }
+        ensures ready { IsReady s.now self.new }
+        ensures ongoing { IsOngoing s.now form.now
+            (item self.old.order.items 1) self.new.order.items self.new.number.items (s.now.size + 1)
+            (λ u. []) result }
         ensures count { steps.new ≤ steps.old + 3 * s.now.size }
     {
-        s.known();
         let mut so_far = Ordering::Equal;
         for k in 0..s.symbol().size() {
             so_far = self.row(s, form, k + 1, so_far, steps);
@@ -167,21 +172,21 @@ impl Visit {
     fn degrees<L: Ledger>(
         &self,
         s: &Connected,
-        form: &Connected,
+        form: &Symbol,
         pair: Pair,
         steps: &mut Steps<L>,
     ) -> Ordering
         requires visit { IsVisit s.now.size self.now.order.items self.now.number.items }
         requires full { length self.now.order.items ≡ s.now.size }
         requires size { form.now.size ≡ s.now.size }
-        ensures order { (t : Tiling) (f : List ℕ) → IsExtension s.now self.now.order.items t f → result ≡ slice_cmp nat_cmp (degree_list t pair) (degree_list form.now pair) }
+        ensures order { (t : Tiling) (f : List ℕ) → IsExtension s.now self.now.order.items t f
+            → result ≡ slice_cmp nat_cmp (degree_list t pair) (degree_list form.now pair) }
         ensures count { steps.new ≤ steps.old + s.now.size }
     {
-        s.known();
         for k in 0..s.symbol().size() {
             let chamber = self.chamber(k + 1);
             let own = s.symbol().degree(pair, chamber);
-            let order = steps.compare(own, form.symbol().degree(pair, k + 1));
+            let order = steps.compare(own, form.degree(pair, k + 1));
             if order.is_ne() {
                 return order;
             }
@@ -197,16 +202,16 @@ impl Visit {
         form: &Connected,
         steps: &mut Steps<L>,
     ) -> Ordering
-        requires ready { IsReady s.now.size self.old }
+        requires ready { IsReady s.now self.old }
         requires start { IsChamber s.now start }
         requires size { form.now.size ≡ s.now.size }
-        ensures ready { IsReady s.now.size self.new }
+        ensures ready { IsReady s.now self.new }
         ensures standing { IsStanding s.now form.now start result }
-        ensures whole { result ≢ Greater → IsWhole s.now start self.new.order.items self.new.number.items }
+        ensures whole { result ≢ Greater
+            → IsWhole s.now start self.new.order.items self.new.number.items }
         ensures count { steps.new ≤ steps.old + 5 * s.now.size }
     {
-        s.known();
-        form.known();
+        let form = form.symbol();
         self.begin(s, start);
         let rows = self.rows(s, form, steps);
         if rows.is_ne() {

@@ -11,7 +11,7 @@ use Rattle.dd_model.specs.declared.index.Index.TheVariants.{Zero, One, Two}
 use Rattle.dd_model.specs.Symbol.{Symbol, op, operation}
 use Rattle.dd_model.specs.Code.{count_from}
 use Rattle.dd_model.specs.Partial.{Completes}
-use Rattle.dd_model.specs.Traversal.{unnumbered}
+use Rattle.dd_canon.specs.Traversal.{unnumbered}
 use Rattle.dd_model.proofs.Bijections.{length-count_from, get_or-count_from}
 use Rattle.dd_invol.specs.Places.{index_at, place}
 use Rattle.dd_invol.specs.Rows.{images_in, partial_from, partial_of, depth_of, popped, unwind, unwound, IsReady, Learns, Excludes}

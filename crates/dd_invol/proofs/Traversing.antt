@@ -4,7 +4,7 @@ use Rattle.std.proofs.lemmas.Bool.{cases_lt}
 use Rattle.std.proofs.lemmas.List.Folds.{sum_by-replicate}
 use Rattle.std.specs.List.{sum_by}
 use Rattle.dd_model.specs.Symbol.{Symbol, item, op}
-use Rattle.dd_model.specs.Traversal.{unnumbered, IsVisit, IsMeeting}
+use Rattle.dd_canon.specs.Traversal.{unnumbered, IsVisit, IsMeeting}
 use Rattle.dd_invol.specs.Places.{index_at}
 use Rattle.dd_invol.specs.Beaten.{ReadsKnown, IsBeaten, Extends, AreMet}
 use Rattle.dd_invol.proofs.Distinct.{distinct_from, all_from}

@@ -7,7 +7,7 @@ use Rattle.dd_model.specs.declared.pair.Pair.TheVariants.{Edge}
 use Rattle.dd_model.specs.Symbol.{Symbol, IsChamber, HasDegree, op}
 use Rattle.dd_model.specs.Code.{count_from}
 use Rattle.dd_model.specs.Partial.{Completes}
-use Rattle.dd_model.specs.Traversal.{unnumbered}
+use Rattle.dd_canon.specs.Traversal.{unnumbered}
 use Rattle.dd_invol.specs.Places.{place}
 use Rattle.dd_invol.specs.declared.rows.Rows.{Rows}
 

@@ -1,5 +1,5 @@
 -- A visit to some of 36 chambers.
-use Rattle.dd_model.specs.Traversal.{IsVisit}
+use Rattle.dd_canon.specs.Traversal.{IsVisit}
 use Rattle.dd_invol.specs.declared.traversal.Visit.{Visit}
 
 -- the order of the chambers and their numbers undo each other

@@ -9,7 +9,7 @@ use Rattle.dd_model.specs.Symbol.{Symbol, IsTable, IsSymbol, IsChamber, item}
 use Rattle.dd_model.specs.Connected.{Connected}
 use Rattle.dd_model.specs.Isomorphic.{HaveLengths, IsIsomorphism, Isomorphic}
 use Rattle.dd_model.specs.Code.{code_cmp, Least, IsLeastForm, count_from}
-use Rattle.dd_model.specs.FirstVisit.{IsFirstVisit, IsNumberedFrom, IsBestTo, LeastTable, IsLeastTableForm}
+use Rattle.dd_model.specs.FirstVisit.{IsFirstVisit, IsNumberedFrom, LeastTable, IsLeastTableForm}
 use Rattle.std.specs.List.{Contains}
 use Rattle.dd_model.specs.Wanted.{Wanted, IsCatalogue}
 use Rattle.dd_model.specs.declared.requests.Request.{Request}
@@ -81,8 +81,12 @@ pub record IsNumbered (s t : Symbol) : Type 0 where
   pub chamber : IsChamber s start
   pub numbered : IsNumberedFrom s start t
 
+-- no numbering by first visits from one of the chambers 1 to n is below t
+abbrev pub BestTo : Symbol → ℕ → Symbol → Type 0
+BestTo s n t = (d : ℕ) (u : Symbol) → 1 ≤ d → d ≤ n → IsNumberedFrom s d u → code_cmp t u ≢ Greater
+
 -- the best of all starts is least among all symbols that are isomorphic
-pub least_of_best : (s t : Symbol) → IsTable s → Connected s → IsTable t → Isomorphic s t → IsBestTo s s.size t → IsLeastTableForm s t
+pub least_of_best : (s t : Symbol) → IsTable s → Connected s → IsTable t → Isomorphic s t → BestTo s s.size t → IsLeastTableForm s t
 least_of_best s t is con it iso best = record {
   table = it;
   renumbering = iso;
@@ -93,7 +97,7 @@ least_of_best s t is con it iso best = record {
       let start = item b.inverse 1 in
       let h = b.right.within 1 (omega arith) pos in
       let u = numbered_from s start is con h in
-      not_above_trans t u.0 v (best.best start u.0 h.0 h.1 u.1) (numbered_wins s u.0 v start g.0 is con h u.1 iv g.1 (b.right.undone 1 (omega arith) pos));
+      not_above_trans t u.0 v (best start u.0 h.0 h.1 u.1) (numbered_wins s u.0 v start g.0 is con h u.1 iv g.1 (b.right.undone 1 (omega arith) pos));
 }
 
 -- what is least is numbered by first visits
@@ -126,57 +130,53 @@ least_form_numbered s t is con form =
     }
 
 -- one start more
-pub more_best : (s t u : Symbol) (n : ℕ) → IsTable s → Connected s → IsChamber s (n + 1) → IsBestTo s n t → IsNumberedFrom s (n + 1) u → code_cmp t u ≢ Greater → IsBestTo s (n + 1) t
-more_best s t u n is con h best a ahead = record {
-  best = λ d v low high b. ⊎_elim
-      (λ early. best.best d v low (omega arith) b)
-      (λ late. let e : d ≡ n + 1 = omega arith in
-      subst (λ w. code_cmp t w ≢ Greater) (numbered_unique s u v (n + 1) is con h a (subst (λ c. IsNumberedFrom s c v) e b)) ahead)
-      (cases_lt d (n + 1));
-}
+pub more_best : (s t u : Symbol) (n : ℕ) → IsTable s → Connected s → IsChamber s (n + 1) → BestTo s n t → IsNumberedFrom s (n + 1) u → code_cmp t u ≢ Greater → BestTo s (n + 1) t
+more_best s t u n is con h best a ahead d v low high b =
+    ⊎_elim
+    (λ early. best d v low (omega arith) b)
+    (λ late. let e : d ≡ n + 1 = omega arith in
+    subst (λ w. code_cmp t w ≢ Greater) (numbered_unique s u v (n + 1) is con h a (subst (λ c. IsNumberedFrom s c v) e b)) ahead)
+    (cases_lt d (n + 1))
 
 -- a new start that is below the best so far
-pub new_best : (s t u : Symbol) (n : ℕ) → IsTable s → Connected s → IsChamber s (n + 1) → IsBestTo s n t → IsNumberedFrom s (n + 1) u → code_cmp t u ≡ Greater → IsBestTo s (n + 1) u
-new_best s t u n is con h best a behind =
+pub new_best : (s t u : Symbol) (n : ℕ) → IsTable s → Connected s → IsChamber s (n + 1) → BestTo s n t → IsNumberedFrom s (n + 1) u → code_cmp t u ≡ Greater → BestTo s (n + 1) u
+new_best s t u n is con h best a behind d v low high b =
     let less : code_cmp u t ≡ Less = code_cmp_total.antisymm u t ∙ ap ordering_reverse behind in
-    record {
-      best = λ d v low high b. ⊎_elim
-          (λ early. ⊎_elim
-          (λ first. less_not_greater (code_cmp u v) (code_cmp_total.trans u t v less first))
-          (λ tied. let back : code_cmp v t ≡ code_cmp t t = sym (code_cmp_total.congr t v t tied) in
-          let e = tied_itself code_cmp_total t in
-          let same : code_cmp v t ≡ Equal = back ∙ e in
-          less_not_greater (code_cmp u v) (code_cmp_total.antisymm u v ∙ ap ordering_reverse (code_cmp_total.congr v t u same ∙ below_back u t less)))
-          (two_left (code_cmp t v) (best.best d v low (omega arith) b)))
-          (λ late. let e : d ≡ n + 1 = omega arith in
-          subst (λ w. code_cmp u w ≢ Greater) (numbered_unique s u v (n + 1) is con h a (subst (λ c. IsNumberedFrom s c v) e b)) (not_above_itself u))
-          (cases_lt d (n + 1));
-    }
+    ⊎_elim
+    (λ early. ⊎_elim
+    (λ first. less_not_greater (code_cmp u v) (code_cmp_total.trans u t v less first))
+    (λ tied. let back : code_cmp v t ≡ code_cmp t t = sym (code_cmp_total.congr t v t tied) in
+    let e = tied_itself code_cmp_total t in
+    let same : code_cmp v t ≡ Equal = back ∙ e in
+    less_not_greater (code_cmp u v) (code_cmp_total.antisymm u v ∙ ap ordering_reverse (code_cmp_total.congr v t u same ∙ below_back u t less)))
+    (two_left (code_cmp t v) (best d v low (omega arith) b)))
+    (λ late. let e : d ≡ n + 1 = omega arith in
+    subst (λ w. code_cmp u w ≢ Greater) (numbered_unique s u v (n + 1) is con h a (subst (λ c. IsNumberedFrom s c v) e b)) (not_above_itself u))
+    (cases_lt d (n + 1))
 
-pub first_best : (s t : Symbol) → IsTable s → Connected s → IsChamber s 1 → IsNumberedFrom s 1 t → IsBestTo s 1 t
-first_best s t is con h a = record {
-  best = λ d v low high b. let e : d ≡ 1 = omega arith in
-      subst (λ w. code_cmp t w ≢ Greater) (numbered_unique s t v 1 is con h a (subst (λ c. IsNumberedFrom s c v) e b)) (not_above_itself t);
-}
+pub first_best : (s t : Symbol) → IsTable s → Connected s → IsChamber s 1 → IsNumberedFrom s 1 t → BestTo s 1 t
+first_best s t is con h a d v low high b =
+    let e : d ≡ 1 = omega arith in
+    subst (λ w. code_cmp t w ≢ Greater) (numbered_unique s t v 1 is con h a (subst (λ c. IsNumberedFrom s c v) e b)) (not_above_itself t)
 
 -- the best of the first starts
 record IsFound (s : Symbol) (n : ℕ) : Type 0 where
   symbol : Symbol
   numbered : IsNumbered s symbol
-  best : IsBestTo s n symbol
+  best : BestTo s n symbol
 
 best_to : (s : Symbol) (n : ℕ) → IsTable s → Connected s → n + 1 ≤ s.size → IsFound s (n + 1)
 best_to s zero is con h =
     let one : IsChamber s 1 = (omega arith, omega arith) in
     let u = numbered_from s 1 is con one in
     let e : 1 ≡ zero + 1 = omega arith in
-    record { symbol = u.0; numbered = record { start = 1; chamber = one; numbered = u.1 }; best = subst (λ k. IsBestTo s k u.0) e (first_best s u.0 is con one u.1) }
+    record { symbol = u.0; numbered = record { start = 1; chamber = one; numbered = u.1 }; best = subst (λ k. BestTo s k u.0) e (first_best s u.0 is con one u.1) }
 best_to s (suc n) is con h =
     let e : suc n ≡ n + 1 = omega arith in
     let old = best_to s n is con (omega arith) in
     let here : IsChamber s (suc n + 1) = (omega arith, h) in
     let u = numbered_from s (suc n + 1) is con here in
-    let best : IsBestTo s (suc n) old.symbol = subst (λ k. IsBestTo s k old.symbol) (sym e) old.best in
+    let best : BestTo s (suc n) old.symbol = subst (λ k. BestTo s k old.symbol) (sym e) old.best in
     ⊎_elim
     (λ behind. record { symbol = u.0; numbered = record { start = suc n + 1; chamber = here; numbered = u.1 }; best = new_best s old.symbol u.0 (suc n) is con here best u.1 behind })
     (λ ahead. record { symbol = old.symbol; numbered = old.numbered; best = more_best s old.symbol u.0 (suc n) is con here best u.1 ahead })
@@ -194,7 +194,7 @@ least_form_exists s is con =
     let e : s.size - 1 + 1 ≡ s.size = omega arith in
     let found = best_to s (s.size - 1) is con (omega arith) in
     let a = found.numbered.numbered in
-    (found.symbol, least_of_best s found.symbol is con a.table (a.map, a.isomorphism) (subst (λ k. IsBestTo s k found.symbol) e found.best))
+    (found.symbol, least_of_best s found.symbol is con a.table (a.map, a.isomorphism) (subst (λ k. BestTo s k found.symbol) e found.best))
 
 -- two least tables that are isomorphic are equal
 pub least_table_unique : (s t : Symbol) → IsTable s → IsTable t → LeastTable s → LeastTable t → Isomorphic s t → s ≡ t

@@ -4,6 +4,7 @@ pub mod Numbers
 pub mod Fields
 pub mod Orders
 pub mod AllDegrees
+pub mod AllIndices
 pub mod AllowedLemmas
 pub mod AllowedSets
 pub mod Words
@@ -43,9 +44,6 @@ pub mod FirstVisits
 pub mod Exchanges
 pub mod Numberings
 pub mod LeastForms
-pub mod Traversals
-pub mod Partials
-pub mod Visits
 pub mod ReadingExamples
 pub mod WrittenLines
 pub mod WrittenNumbers

@@ -27,10 +27,6 @@ pub record IsNumberedFrom (s : Symbol) (start : ℕ) (t : Symbol) : Type 0 where
   pub start_first : item map start ≡ 1
   pub first_visit : IsFirstVisit t
 
--- no numbering by first visits from one of the chambers 1 to n is below t
-pub record IsBestTo (s : Symbol) (n : ℕ) (t : Symbol) : Type 0 where
-  pub best : (d : ℕ) (u : Symbol) → 1 ≤ d → d ≤ n → IsNumberedFrom s d u → code_cmp t u ≢ Greater
-
 -- No renumbering of a table has a smaller code. A symbol that is least is so as a table.
 abbrev pub LeastTable : Symbol → Type 0
 LeastTable s = (t : Symbol) → IsTable t → Isomorphic s t → code_cmp s t ≢ Greater

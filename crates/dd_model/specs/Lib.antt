@@ -6,7 +6,6 @@ pub mod Connected
 pub mod Isomorphic
 pub mod Code
 pub mod FirstVisit
-pub mod Traversal
 pub mod Partial
 pub mod Cell
 pub mod Small

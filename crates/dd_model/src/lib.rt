@@ -36,9 +36,8 @@ pub use cell_laws::{
 pub use index::Index;
 pub use jobs::{Job, Position, Prefix};
 pub use least_form_laws::{
-    beaten_tables_have_no_least_completion, each_start_has_one_numbering,
-    each_symbol_has_a_least_form, each_table_has_one_least_form, each_wanted_symbol_has_one_member,
-    partial_tables_are_traversed,
+    each_start_has_one_numbering, each_symbol_has_a_least_form, each_table_has_one_least_form,
+    each_wanted_symbol_has_one_member,
 };
 pub use maps::Map;
 pub use memory::Memory;

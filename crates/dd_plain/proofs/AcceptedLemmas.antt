@@ -11,7 +11,8 @@ use Rattle.dd_model.specs.Wanted.{Wanted}
 use Rattle.dd_model.proofs.Turns.{period_exists, period_turns}
 use Rattle.dd_symbol.specs.Building.{IsAccepted}
 use Rattle.dd_plain.specs.Trials.{HasImages}
-use Rattle.dd_plain.proofs.DegreeLemmas.{period_small, one_two_three, crystallographic_small}
+use Rattle.dd_plain.proofs.DegreeLemmas.{period_small, crystallographic_small}
+use Rattle.dd_model.proofs.Numbers.{by_three, quotient_bound}
 use Rattle.dd_plain.proofs.SameImages.{op-same, act-same, images-sym, chamber-same, involutions-same, connected-same, branching-same}
 
 -- six turns fix each chamber
@@ -20,7 +21,7 @@ six_turns s is few p d h =
     let has = is.degrees p d h in
     let period = period_exists s p d (degree s p d) has.positive has.turns in
     let most = period_small s is.table.involutions p d period.0 h period.1 in
-    period_turns s p d period.0 6 period.1 (one_two_three (λ r. 6 % r ≡ 0) refl refl refl period.0 period.1.positive (omega arith))
+    period_turns s p d period.0 6 period.1 (by_three (λ r. 6 % r ≡ 0) refl refl refl period.0 period.1.positive (omega arith))
 
 -- the degrees of a pair are those of s, or all 6
 abbrev pub KeepsOrSix : Symbol → Symbol → Pair → Type 0
@@ -92,9 +93,6 @@ accepted-with_sixes s t ok same m01 m12 degrees =
       within = subst (λ n. n ≤ 3) (sym same.size) ok.within;
     }
 
-two_small : (v r : ℕ) → 1 ≤ r → v * r ≡ 2 → v ≤ 30
-two_small v r positive e = grind arith
-
 -- a wanted symbol of at most three chambers is taken
 pub wanted-accepted : (q : Request) (s : Symbol) → Wanted q s → s.size ≤ 3 → IsAccepted 3 s
 wanted-accepted q s w few = record {
@@ -104,7 +102,7 @@ wanted-accepted q s w few = record {
     branching = λ p d v h b. (elim p as (λ r. IsBranching s r d v → v ≤ 30) [
       | Tile ↦ λ tile. crystallographic_small v (w.face_branching d v h tile)
       | Vertex ↦ λ vertex. crystallographic_small v (w.vertex_branching d v h vertex)
-      | Edge ↦ λ edge. two_small v edge.r edge.least_turns.positive edge.quotient
+      | Edge ↦ λ edge. quotient_bound v edge.r edge.least_turns.positive edge.quotient
     ]) b;
   };
   connected = w.connected;

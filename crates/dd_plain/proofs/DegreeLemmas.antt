@@ -9,6 +9,7 @@ use Rattle.dd_model.specs.Wanted.{IsCrystallographic}
 use Rattle.dd_model.proofs.Turns.{period_bound, period_exists, IsLeastTurns-from_period, least_turns_unique}
 use Rattle.dd_model.proofs.Branching.{branching_exists}
 use Rattle.dd_plain.specs.Choices.{degree_table}
+use Rattle.dd_model.proofs.Numbers.{by_three}
 
 -- at most so many turns as there are chambers
 pub period_small : (s : Symbol) → AreInvolutions s → (p : Pair) (d r : ℕ) → IsChamber s d → IsPeriod s p d r → r ≤ s.size
@@ -42,30 +43,23 @@ degree_is_product s is few p d h =
       product = b.quotient;
     }
 
-pub one_two_three : (P : ℕ → Type 0) → P 1 → P 2 → P 3 → (r : ℕ) → 1 ≤ r → r ≤ 3 → P r
-one_two_three P a b c zero some few = absurd (omega arith)
-one_two_three P a b c (suc zero) some few = a
-one_two_three P a b c (suc (suc zero)) some few = b
-one_two_three P a b c (suc (suc (suc zero))) some few = c
-one_two_three P a b c (suc (suc (suc (suc r)))) some few = absurd (omega arith)
-
 -- each of the products is in the table
 product_in_table : (v r : ℕ) → IsCrystallographic v → 1 ≤ r → r ≤ 3 → Contains degree_table (v * r)
 product_in_table v r (zero, h, e) some few =
     subst (λ x. Contains degree_table (x * r)) e
-    (one_two_three (λ k. Contains degree_table (1 * k)) (0, omega arith, refl) (1, omega arith, refl) (2, omega arith, refl) r some few)
+    (by_three (λ k. Contains degree_table (1 * k)) (0, omega arith, refl) (1, omega arith, refl) (2, omega arith, refl) r some few)
 product_in_table v r (suc zero, h, e) some few =
     subst (λ x. Contains degree_table (x * r)) e
-    (one_two_three (λ k. Contains degree_table (2 * k)) (1, omega arith, refl) (3, omega arith, refl) (4, omega arith, refl) r some few)
+    (by_three (λ k. Contains degree_table (2 * k)) (1, omega arith, refl) (3, omega arith, refl) (4, omega arith, refl) r some few)
 product_in_table v r (suc (suc zero), h, e) some few =
     subst (λ x. Contains degree_table (x * r)) e
-    (one_two_three (λ k. Contains degree_table (3 * k)) (2, omega arith, refl) (4, omega arith, refl) (6, omega arith, refl) r some few)
+    (by_three (λ k. Contains degree_table (3 * k)) (2, omega arith, refl) (4, omega arith, refl) (6, omega arith, refl) r some few)
 product_in_table v r (suc (suc (suc zero)), h, e) some few =
     subst (λ x. Contains degree_table (x * r)) e
-    (one_two_three (λ k. Contains degree_table (4 * k)) (3, omega arith, refl) (5, omega arith, refl) (7, omega arith, refl) r some few)
+    (by_three (λ k. Contains degree_table (4 * k)) (3, omega arith, refl) (5, omega arith, refl) (7, omega arith, refl) r some few)
 product_in_table v r (suc (suc (suc (suc zero))), h, e) some few =
     subst (λ x. Contains degree_table (x * r)) e
-    (one_two_three (λ k. Contains degree_table (6 * k)) (4, omega arith, refl) (7, omega arith, refl) (8, omega arith, refl) r some few)
+    (by_three (λ k. Contains degree_table (6 * k)) (4, omega arith, refl) (7, omega arith, refl) (8, omega arith, refl) r some few)
 product_in_table v r (suc (suc (suc (suc (suc k)))), h, e) some few = absurd (omega (arith, h))
 
 -- where branching values are crystallographic, degrees are in the table

@@ -17,6 +17,7 @@ use Rattle.dd_plain.proofs.DegreeLemmas.{degree_in_table}
 use Rattle.dd_plain.proofs.SameImages.{images-sym}
 use Rattle.dd_plain.proofs.AcceptedLemmas.{KeepsOrSix, accepted-with_sixes, wanted-accepted}
 use Rattle.dd_plain.proofs.AddsLemmas.{nothing_added, both_added, added_otherwise}
+use Rattle.dd_model.proofs.Lists.{Contains-none}
 
 -- the list of sixes, for at most three chambers
 six_items : (n d : ℕ) → n ≤ 3 → 1 ≤ d → d ≤ n → item (choices degree_table n 364) d ≡ 6
@@ -259,15 +260,12 @@ sizes-more q k a b c g h =
     both_added q (λ s. s.size ≤ k) (λ s. s.size ≡ k + 1) (λ s. s.size ≤ k + 1) a b c (λ s most.
     ⊎_elim (λ early. inl (omega arith)) (λ late. inr (omega arith)) (cases_lt s.size (k + 1))) g h
 
-no_member : (s : Symbol) → Contains [] s → ⊥
-no_member s (k, h, e) = omega (arith, h)
-
 -- what all sizes add to the empty list is the catalogue
 pub all_sizes : (q : Request) (k : ℕ) (list : List Symbol) → q.chambers ≤ k → Adds q (λ s. s.size ≤ k) [] list → IsCatalogue q list
 all_sizes q k list done h = record {
   ascending = h.ascending;
   members = λ s. (
-    (λ there. ⊎_elim (λ none. absurd (no_member s none)) (λ member. member) (h.sound s there)),
+    (λ there. ⊎_elim (λ none. absurd (Contains-none s none)) (λ member. member) (h.sound s there)),
     (λ member. let most = member.wanted.chambers in h.complete s (omega arith) member),
   );
 }

@@ -1,22 +1,22 @@
 -- How the least number of turns of a chamber decides its degree and its branching value.
-use Rattle.std.proofs.Common.{◌≡◌, ℕ, ◌+◌, ◌*◌, ◌/◌, ◌%◌, ◌≤◌, refl, sym, ap, ◌∙◌, subst, ⊎_elim, arith}
+use Rattle.std.proofs.Common.{◌≡◌, ℕ, ◌+◌, ◌/◌, ◌%◌, ◌≤◌, refl, sym, ap, ◌∙◌, subst, ⊎_elim, arith}
 use Rattle.std.proofs.lemmas.Bool.{cases_lt}
 use Rattle.dd_model.specs.declared.pair.Pair.{Pair}
 use Rattle.dd_model.specs.declared.pair.Pair.TheVariants.{Tile, Vertex, Edge}
 use Rattle.dd_model.specs.Symbol.{Symbol, AreInvolutions, IsChamber, HasDegree, first, second, op, degree}
-use Rattle.dd_model.specs.Cell.{IsBranching, IsPeriod, IsLeastTurns, InCell, turned}
+use Rattle.dd_model.specs.Cell.{IsBranching, IsPeriod, InCell, turned}
 use Rattle.dd_model.specs.Small.{IsSmallSymbol}
 use Rattle.dd_model.proofs.Transport.{HaveLengths, in_cell_within}
 use Rattle.dd_model.proofs.Turns.{period_divides, period_turns, IsLeastTurns-from_period, least_turns_unique}
 use Rattle.dd_model.proofs.CellWalks.{has_period, in_cell-refl, in_cell-sym, in_cell-trans, in_cell-first, in_cell-second}
 use Rattle.dd_model.proofs.CellSearch.{has_least}
 use Rattle.dd_symbol.specs.Degrees.{IsLeastFor}
-use Rattle.dd_symbol.specs.Refusals.{IsMultiple, IsSmall, HasDegreeOfCell, AreConnected, ArePositive, AreConstant, AreMultiples, AreSmall, OfBoth, PairBefore}
+use Rattle.dd_symbol.specs.Causes.{PairBefore}
+use Rattle.dd_symbol.specs.Conditions.{IsMultiple, IsSmall, HasDegreeOfCell, AreConnected, ArePositive, AreConstant, AreMultiples, AreSmall, OfBoth}
+use Rattle.dd_model.proofs.Branching.{turns-along}
+use Rattle.dd_model.proofs.Numbers.{whole_quotient, quotient_bound}
 
 -- ## At one chamber
-
-whole : (m r : ℕ) → 1 ≤ r → m % r ≡ 0 → m / r * r ≡ m
-whole m r pos even = grind arith
 
 -- the degree is a multiple of the period
 pub multiple-from_period : (s : Symbol) → AreInvolutions s → (p : Pair) (d r : ℕ) → IsChamber s d → IsPeriod s p d r → degree s p d % r ≡ 0 → IsMultiple s p d
@@ -29,7 +29,7 @@ pub branching-by_period : (s : Symbol) → AreInvolutions s → (p : Pair) (d r 
     → IsBranching s p d (degree s p d / r)
 branching-by_period s inv p d r h is multiple =
     let turns = IsLeastTurns-from_period s inv p d r h is in
-    record { r = r; least_turns = turns; quotient = whole (degree s p d) r is.positive (multiple r turns) }
+    record { r = r; least_turns = turns; quotient = whole_quotient (degree s p d) r is.positive (multiple r turns) }
 
 pub multiple-from_turns : (s : Symbol) → AreInvolutions s → (p : Pair) (d : ℕ) → IsChamber s d → turned s p (degree s p d) d ≡ d → IsMultiple s p d
 multiple-from_turns s inv p d h turns =
@@ -42,15 +42,6 @@ turns-from_multiple s inv p d h multiple =
     period_turns s p d has.r (degree s p d) has.period (multiple has.r (IsLeastTurns-from_period s inv p d has.r h has.period))
 
 -- ## At the other chambers of a cell
-
-turns-along : (s : Symbol) → AreInvolutions s → (p : Pair) (d l r : ℕ) → IsChamber s d → InCell s p d l → IsLeastTurns s p d r → IsLeastTurns s p l r
-turns-along s inv p d l r h there turns = record {
-  positive = turns.positive;
-  chamber = turns.chamber;
-  in_cell = in_cell-trans s p l d turns.chamber (in_cell-sym s inv p d l h there) turns.in_cell;
-  fixed = turns.fixed;
-  least = λ k e pos inside fixed. turns.least k e pos (in_cell-trans s p d l e there inside) fixed;
-}
 
 pub multiple-along : (s : Symbol) → AreInvolutions s → (p : Pair) (d l : ℕ) → IsChamber s d → HasDegreeOfCell s p d → IsLeastFor s p d l → IsMultiple s p l → IsMultiple s p d
 multiple-along s inv p d l h constant is multiple r turns =
@@ -96,9 +87,6 @@ has_degree s inv p positive constant multiples d h =
       along_second = along (op s (second p) d) (in_cell-second s p d d (in_cell-refl s p d));
       turns = turns-from_multiple s inv p d h (multiples d h);
     }
-
-quotient_bound : (v r : ℕ) → 1 ≤ r → v * r ≡ 2 → v ≤ 30
-quotient_bound v r pos e = grind arith
 
 pub small_symbol : (s : Symbol) → HaveLengths s → 1 ≤ s.size → s.size ≤ 16384 → AreConnected s
     → OfBoth (ArePositive s) → OfBoth (AreConstant s) → OfBoth (AreMultiples s) → OfBoth (AreSmall s) → IsSmallSymbol s

@@ -1,18 +1,22 @@
 -- What is refused is not accepted.
-use Rattle.std.proofs.Common.{◌≡◌, ◌≢◌, ℕ, Result, Ok, Err, IfErr, ◌%◌, List, [], ◌∷◌, length, get_or, refl, sym, ap, ◌∙◌, subst, ⊎_elim, arith}
+use Rattle.std.proofs.Common.{◌≡◌, ◌≢◌, ℕ, Result, Ok, Err, IfErr, ◌%◌, List, [], length, get_or, refl, sym, ap, ◌∙◌, subst, arith, zero, suc, ◌<◌}
 use Rattle.std.specs.Result.{IsErrAnd}
 use Rattle.std.specs.Global.{Global}
 use Rattle.std.specs.Prelude.{Vec}
 use Rattle.std.proofs.lemmas.List.{get_or-map}
 use Rattle.dd_model.specs.declared.pair.Pair.{Pair}
 use Rattle.dd_model.specs.declared.pair.Pair.TheVariants.{Edge}
-use Rattle.dd_model.specs.Symbol.{Symbol, IsSymbol, IsChamber, Word, op, degree, act}
-use Rattle.dd_model.specs.Cell.{InCell, IsWordOf}
+use Rattle.dd_model.specs.Symbol.{Symbol, IsSymbol, IsChamber, degree}
+use Rattle.dd_model.specs.Cell.{InCell}
 use Rattle.dd_symbol.specs.Building.{listed, lists, given, IsAccepted}
 use Rattle.dd_symbol.specs.Refusals.{HasSize, IsFault, IsRefused}
 use Rattle.dd_symbol.specs.declared.refusals.Refusal.{Refusal}
 use Rattle.dd_symbol.specs.declared.refusals.Refusal.TheVariants.{Empty, TooManyChambers, OpRange, NotInvolution, NotCommuting, NotConnected, DegreeZero, DegreeVaries, NotMultiple, BranchingTooLarge, Memory}
 use Rattle.dd_symbol.proofs.DegreeLemmas.{multiple-from_turns}
+use Rattle.dd_model.proofs.Branching.{degree_same}
+use Rattle.dd_model.specs.declared.index.Index.{Index}
+use Rattle.dd_model.proofs.AllIndices.{index_at_place}
+use Rattle.dd_symbol.specs.Causes.{IndexBefore}
 
 -- a fault of lists that are not empty and not too long refuses them
 pub refused-from_fault : (limit : ℕ) (s : Symbol) → HasSize limit s → (why : Refusal) → IsFault s why → IsRefused limit s why
@@ -28,19 +32,9 @@ refused-from_fault limit s size (NotMultiple p d r m) fault = (size, fault)
 refused-from_fault limit s size (BranchingTooLarge p d v) fault = (size, fault)
 refused-from_fault limit s size Memory fault = tt
 
-degree-along_word : (s : Symbol) → IsSymbol s → (p : Pair) (w : Word) (d : ℕ) → IsChamber s d → IsWordOf p w → degree s p (act s w d) ≡ degree s p d
-degree-along_word s is p [] d h letters = refl
-degree-along_word s is p (i ∷ w) d h letters =
-    let has = is.degrees p d h in
-    degree-along_word s is p w (op s i d) ((is.table.involutions i).within d h) letters.1
-    ∙ ⊎_elim
-    (λ e. ap (λ j. degree s p (op s j d)) e ∙ has.along_first)
-    (λ e. ap (λ j. degree s p (op s j d)) e ∙ has.along_second)
-    letters.0
-
 -- a symbol has one degree on each cell
 degree-along_cell : (s : Symbol) → IsSymbol s → (p : Pair) (d e : ℕ) → IsChamber s d → InCell s p d e → degree s p e ≡ degree s p d
-degree-along_cell s is p d e h there = ap (degree s p) (sym there.leads) ∙ degree-along_word s is p there.word d h there.letters
+degree-along_cell s is p d e h there = ap (degree s p) (sym there.leads) ∙ degree_same s is p there.word d h there.letters
 
 pub not_accepted : (limit : ℕ) (s : Symbol) (why : Refusal) → IsRefused limit s why → why ≢ Memory → IsAccepted limit s → ⊥
 not_accepted limit s Empty none some ok = let n = ok.symbol.symbol.table.chambers in omega arith
@@ -85,3 +79,10 @@ given-from_items ops three a b c s0 s1 s2 m01 m12 n01 n12 e0 e1 e2 e01 e12 =
     ∙ ap (λ xs. listed (get_or (lists ops) 0 []) xs s2 m01 m12) (e1 ∙ sym (get_or-map (λ v. v.items) ops 1 b [] (omega arith)))
     ∙ ap (λ xs. listed (get_or (lists ops) 0 []) (get_or (lists ops) 1 []) xs m01 m12) (e2 ∙ sym (get_or-map (λ v. v.items) ops 2 c [] (omega arith)))
     ∙ ap (λ xs. given ops xs m12) e01 ∙ ap (given ops n01) e12
+
+-- what holds at the places before one holds of the involutions before it
+pub index_before : (P : Index → Type 0) (n : ℕ) → n < 3 → ((k : ℕ) → k < n → P (index_at_place k)) → IndexBefore P (index_at_place n)
+index_before P zero h before = tt
+index_before P (suc zero) h before = before 0 (omega arith)
+index_before P (suc (suc zero)) h before = (before 0 (omega arith), before 1 (omega arith))
+index_before P (suc (suc (suc n))) h before = absurd (omega arith)

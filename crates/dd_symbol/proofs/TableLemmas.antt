@@ -7,7 +7,7 @@ use Rattle.dd_model.specs.declared.index.Index.{Index}
 use Rattle.dd_model.specs.declared.index.Index.TheVariants.{Zero, One, Two}
 use Rattle.dd_model.specs.Symbol.{item, op, operation}
 use Rattle.dd_model.specs.Code.{count_from, images, code}
-use Rattle.dd_model.proofs.Bijections.{length-count_from, get_or-count_from}
+use Rattle.dd_model.proofs.CountFrom.{length-count_from, get_or-count_from}
 use Rattle.dd_model.proofs.Codes.{same_items}
 use Rattle.dd_model.proofs.Transport.{HaveLengths}
 use Rattle.dd_symbol.specs.declared.table.Table.{Table}

@@ -55,7 +55,8 @@ impl Connected {
     /// Chamber D becomes chamber map(D).
     pub fn renumber(&self, alloc: Global, map: &[u32]) -> Result<Connected, Memory>
         requires { IsBijection self.now.size map.now }
-        ensures { IfOk result (λ other. IsIsomorphism self.now other map.now) }
+        ensures isomorphism { IfOk result (λ other. IsIsomorphism self.now other map.now) }
+        ensures symbol { IfOk result (λ other. IsSmallSymbol other) }
     {
         Ok(Connected {
             symbol: self.symbol.renumber(alloc, map)?,

@@ -1,7 +1,6 @@
 -- What the tests of a symbol say of it.
-use Rattle.std.proofs.Common.{◌≡◌, ℕ, zero, suc, ◌+◌, ◌≤◌, ◌↔◌, IsTrue, leb, List, [], ◌∷◌, ◌++◌, length, map, sym, ap, ◌∙◌, subst, inr, ⊎_elim, arith}
+use Rattle.std.proofs.Common.{◌≡◌, ℕ, ◌+◌, ◌≤◌, ◌↔◌, IsTrue, leb, List, [], ◌∷◌, ◌++◌, length, map, sym, ap, ◌∙◌, subst, inr, ⊎_elim, arith}
 use Rattle.std.proofs.lemmas.Bool.{cases_lt}
-use Rattle.std.proofs.lemmas.List.{map-append}
 use borrow.Author.Tests.{leb-true, le-leb}
 use Rattle.dd_model.specs.declared.pair.Pair.{Pair}
 use Rattle.dd_model.specs.Symbol.{Symbol}
@@ -10,6 +9,7 @@ use Rattle.dd_model.specs.Cell.{AreCells, IsBranching}
 use Rattle.dd_model.specs.Wanted.{AtMost, IsCrystallographic}
 use Rattle.dd_model.proofs.CellLists.{cells_unique}
 use Rattle.dd_model.proofs.Branching.{branching_unique}
+use Rattle.dd_model.proofs.CountFrom.{map-count_from-more}
 
 -- the number of cells against a limit
 pub at_most-test : (s : Symbol) (p : Pair) (limit n : ℕ) (ds : List ℕ) → ¬ (limit ≡ 0) → AreCells s p ds → n ≡ length ds → IsTrue (leb n limit) ↔ AtMost s p limit
@@ -35,20 +35,7 @@ crystallographic-more s p k v before b here d w low high there =
     subst IsCrystallographic (branching_unique s p (k + 1) v w b (subst (λ e. IsBranching s p e w) last there)) here)
     (cases_lt d (k + 1))
 
-count_from-more : (j k : ℕ) → count_from j (k + 1) ≡ count_from j k ++ (j + k) ∷ []
-count_from-more j zero = let e : j + zero ≡ j = omega arith in ap (λ x. x ∷ []) (sym e)
-count_from-more j (suc k) =
-    let e : j + 1 + k ≡ j + suc k = omega arith in
-    let more : suc k + 1 ≡ suc (k + 1) = omega arith in
-    ap (count_from j) more ∙ ap (λ xs. j ∷ xs) (count_from-more (j + 1) k) ∙ ap (λ x. j ∷ (count_from (j + 1) k ++ x ∷ [])) e
-
--- the values of one chamber more
-map-more : (f : ℕ → ℕ) (k : ℕ) → map f (count_from 1 (k + 1)) ≡ map f (count_from 1 k) ++ f (k + 1) ∷ []
-map-more f k =
-    let e : 1 + k ≡ k + 1 = omega arith in
-    ap (map f) (count_from-more 1 k) ∙ map-append f (count_from 1 k) ((1 + k) ∷ []) ∙ ap (λ x. map f (count_from 1 k) ++ f x ∷ []) e
-
 -- a list of the values of one chamber more
 pub map-pushed : (f : ℕ → ℕ) (k x : ℕ) (xs ys : List ℕ) → ys ≡ xs ++ x ∷ [] → xs ≡ map f (count_from 1 k) → x ≡ f (k + 1) → ys ≡ map f (count_from 1 (k + 1))
 map-pushed f k x xs ys pushed before here =
-    pushed ∙ ap (λ zs. zs ++ x ∷ []) before ∙ ap (λ z. map f (count_from 1 k) ++ z ∷ []) here ∙ sym (map-more f k)
+    pushed ∙ ap (λ zs. zs ++ x ∷ []) before ∙ ap (λ z. map f (count_from 1 k) ++ z ∷ []) here ∙ sym (map-count_from-more f k)

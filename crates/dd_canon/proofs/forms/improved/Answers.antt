@@ -11,10 +11,19 @@ renumber-requires g c =
 pub returns-then-is_lt-clause-best : goal.returns-then-is_lt-clause-best
 returns-then-is_lt-clause-best g c =
     let visit = c.stand-order.new.self in
-    becomes_best c.args.s.now c.args.form c.in_ok-better.better c.args.start visit.order.items visit.number.items c.stand-order.result
-    c.known.ensures.symbol.symbol.table c.known.ensures.connected c.requires.start c.requires.best c.stand-order.ensures.standing (cc)
-    (c.stand-order.ensures.whole (less_not_greater c.stand-order.result (cc)))
-    c.known-then-is_lt.ensures.symbol.symbol.table (rw (← c.deref.ensures.value) c.in_ok-better.ensures)
+    let new = c.in_ok-renumber.ensures in
+    record {
+      table = new.symbol.symbol.table;
+      isomorphic = (c.deref.result.now, new.isomorphism);
+      best = becomes_best c.args.s.now c.args.form c.in_ok-renumber.field-0 c.args.start visit.order.items visit.number.items c.stand-order.result
+          c.requires.ready.symbol.symbol.table c.requires.ready.connected c.requires.start c.requires.best.best c.stand-order.ensures.standing (cc)
+          (c.stand-order.ensures.whole (less_not_greater c.stand-order.result (cc)))
+          new.symbol.symbol.table (rw (← c.deref.ensures.value) new.isomorphism);
+    }
 
 pub returns-clause-best : goal.returns-clause-best
-returns-clause-best g c = stays_best c.args.s.now c.args.form c.args.start c.stand-order.result c.requires.best c.stand-order.ensures.standing (cc)
+returns-clause-best g c = record {
+  table = c.requires.best.table;
+  isomorphic = c.requires.best.isomorphic;
+  best = stays_best c.args.s.now c.args.form c.args.start c.stand-order.result c.requires.best.best c.stand-order.ensures.standing (cc);
+}

@@ -1,7 +1,7 @@
 use Rattle.std.proofs.Common.{◌≡◌, ◌+◌, ◌-◌, sym, ap, subst, arith}
-use Rattle.dd_model.specs.Symbol.{Symbol}
+use Rattle.dd_model.specs.Symbol.{Symbol, IsTable}
 use Rattle.dd_model.specs.Isomorphic.{Isomorphic}
-use Rattle.dd_model.specs.FirstVisit.{IsBestTo}
+use Rattle.dd_canon.specs.Standing.{IsBestForm}
 use Rattle.dd_model.proofs.Isomorphisms.{Isomorphic-refl}
 use Rattle.dd_canon.proofs.FormLemmas.{nothing_best, best_is_least}
 use Rattle.dd_canon.proofs.forms.least.Goals as goal
@@ -9,10 +9,14 @@ use Rattle.dd_canon.proofs.forms.least.Goals as goal
 pub loop-k-init : goal.loop-k-init
 loop-k-init g c =
     let s = c.args.s.now in
+    let table = c.in_ok-visit.ensures.symbol.symbol.table in
     record {
-      ready = rw (← c.symbol.ensures, ← c.size.ensures.size) c.in_ok-visit.ensures;
-      isomorphic = subst (Isomorphic s) (sym c.in_ok-form.ensures) (Isomorphic-refl s c.known.ensures.symbol.symbol.table);
-      best = nothing_best s c.in_ok-form.form;
+      ready = c.in_ok-visit.ensures;
+      best = record {
+        table = subst IsTable (sym c.in_ok-form.ensures) table;
+        isomorphic = subst (Isomorphic s) (sym c.in_ok-form.ensures) (Isomorphic-refl s table);
+        best = nothing_best s c.in_ok-form.form;
+      };
       count = omega arith;
     }
 
@@ -20,10 +24,11 @@ pub improved-requires-clause-best : goal.improved-requires-clause-best
 improved-requires-clause-best g c =
     let k = c.loop-k.k in
     let e : k ≡ k + 1 - 1 = omega arith in
-    subst (λ n. IsBestTo c.args.s.now n c.loop-k.form) e c.loop-k.invariant.best
+    subst (λ n. IsBestForm c.args.s.now n c.loop-k.form) e c.loop-k.invariant.best
 
 pub returns-clause-least : goal.returns-clause-least
 returns-clause-least g c =
     let s = c.args.s.now in
-    let size : c.symbol-2.result.now.size ≡ s.size = ap (λ (u : Symbol). u.size) c.symbol-2.ensures in
-    best_is_least s c.loop-k.form c.loop-k.k c.known.ensures.symbol.symbol c.known.ensures.connected c.known-2.ensures.symbol.symbol.table c.loop-k.invariant.isomorphic (omega arith) c.loop-k.invariant.best
+    let form = c.loop-k.invariant.best in
+    let size : c.symbol.result.now.size ≡ s.size = ap (λ (u : Symbol). u.size) c.symbol.ensures.same in
+    best_is_least s c.loop-k.form c.loop-k.k c.symbol.ensures.symbol.symbol c.symbol.ensures.connected form.table form.isomorphic (omega arith) form.best

@@ -4,6 +4,6 @@ use Rattle.dd_canon.proofs.isomorphisms.reaches.Given as goal
 
 abbrev pub invariant-loop-k : goal.invariant-loop-k
 invariant-loop-k g l = record {
-  ready : IsReady l.s.size l.visit;
+  ready : IsReady l.s l.visit;
   apart : AreApart l.s l.form l.k;
 }

@@ -1,6 +1,6 @@
 use Rattle.std.proofs.Common.{◌++◌, ◌∷◌, [], arith}
-use Rattle.dd_model.specs.Traversal.{IsVisit}
-use Rattle.dd_model.proofs.Visits.{left_visit, last_inside}
+use Rattle.dd_canon.specs.Traversal.{IsVisit}
+use Rattle.dd_canon.proofs.Meetings.{left_visit, last_inside}
 use Rattle.dd_canon.proofs.visits.Visit.begin.Goals as goal
 
 pub overflow_sub-chamber : goal.overflow_sub-chamber
@@ -23,6 +23,8 @@ loop-chamber-preserved c =
     let n = c.args.s.now.size in
     let v : IsVisit n (c.pop.new.self.items ++ c.in-Some.chamber ∷ []) c.loop-chamber.self.number.items = rw (← c.in-Some.ensures.items) c.loop-chamber.invariant.visit in
     record {
+      symbol = c.loop-chamber.invariant.symbol;
+      connected = c.loop-chamber.invariant.connected;
       visit = left_visit n c.pop.new.self.items c.loop-chamber.self.number.items c.in-Some.chamber v;
       room = rw c.pop.ensures.capacity c.loop-chamber.invariant.room;
     }

@@ -2,7 +2,7 @@ use Rattle.std.proofs.Common.{◌≡◌, ℕ, ◌+◌, ◌≤◌, List, drop}
 use Rattle.std.specs.Ordering.{nat_cmp}
 use Rattle.std.specs.Cmp.Lexicographic.{slice_cmp}
 use Rattle.dd_model.specs.Symbol.{Symbol}
-use Rattle.dd_model.specs.Traversal.{IsExtension}
+use Rattle.dd_canon.specs.Traversal.{IsExtension}
 use Rattle.dd_canon.specs.Standing.{degree_list}
 use Rattle.dd_canon.proofs.visits.Visit.degrees.Given as goal
 

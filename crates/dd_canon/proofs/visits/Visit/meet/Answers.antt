@@ -1,4 +1,4 @@
-use Rattle.dd_model.proofs.Visits.{meeting_new}
+use Rattle.dd_canon.proofs.Meetings.{meeting_new}
 use Rattle.dd_canon.proofs.visits.Visit.meet.Goals as goal
 
 pub returns-clause-meeting : goal.returns-clause-meeting

@@ -2,7 +2,7 @@ use Rattle.std.proofs.Common.{suc, inr, ◌+◌, ◌-◌, ◌≤◌, ◌∷◌, 
 use Rattle.dd_model.specs.declared.index.Index.TheVariants.{Zero, One, Two}
 use Rattle.dd_model.specs.Symbol.{op}
 use Rattle.dd_model.specs.FirstVisit.{rows}
-use Rattle.dd_model.proofs.Traversals.{next_row}
+use Rattle.dd_canon.proofs.Traversals.{next_row}
 use Rattle.dd_canon.proofs.VisitLemmas.{fallen_here, step_on, start_kept, still_inside, row_done}
 use Rattle.dd_canon.proofs.visits.Visit.row.Goals as goal
 
@@ -11,7 +11,7 @@ step-zero-requires-clause-high g c =
     let s = c.args.s.now in
     let k = c.args.k in
     next_row s c.args.form.now c.args.self.now.order.items c.args.self.now.number.items k (λ u. rows u k (suc (s.size - k))) c.args.so_far
-    c.known.ensures.symbol.symbol.table c.known.ensures.connected c.requires.traversal c.requires.high
+    c.requires.ready.symbol.symbol.table c.requires.ready.connected c.requires.traversal c.requires.high
 
 pub returns-then-is_gt-clause-ongoing : goal.returns-then-is_gt-clause-ongoing
 returns-then-is_gt-clause-ongoing g c =
@@ -21,9 +21,9 @@ returns-then-is_gt-clause-ongoing g c =
     let n = s.size - k in
     let order = c.args.self.now.order.items in
     let number = c.args.self.now.number.items in
-    let inv = c.known.ensures.symbol.symbol.table.involutions in
+    let inv = c.requires.ready.symbol.symbol.table.involutions in
     let here : k ≤ length order =
-    next_row s b order number k (λ u. rows u k (suc n)) c.args.so_far c.known.ensures.symbol.symbol.table c.known.ensures.connected c.requires.traversal c.requires.high in
+    next_row s b order number k (λ u. rows u k (suc n)) c.args.so_far c.requires.ready.symbol.symbol.table c.requires.ready.connected c.requires.traversal c.requires.high in
     let zero = c.step-zero.ensures in
     let order1 = c.step-zero.new.self.order.items in
     let number1 = c.step-zero.new.self.number.items in
@@ -38,7 +38,7 @@ step-one-requires-clause-high g c =
     let k = c.args.k in
     let here : k ≤ length c.args.self.now.order.items =
     next_row s c.args.form.now c.args.self.now.order.items c.args.self.now.number.items k (λ u. rows u k (suc (s.size - k))) c.args.so_far
-    c.known.ensures.symbol.symbol.table c.known.ensures.connected c.requires.traversal c.requires.high in
+    c.requires.ready.symbol.symbol.table c.requires.ready.connected c.requires.traversal c.requires.high in
     still_inside s c.args.form.now Zero k c.args.so_far _ _ _ _ here c.step-zero.ensures.step
 
 pub returns-then-is_gt-2-clause-ongoing : goal.returns-then-is_gt-2-clause-ongoing
@@ -49,9 +49,9 @@ returns-then-is_gt-2-clause-ongoing g c =
     let n = s.size - k in
     let order = c.args.self.now.order.items in
     let number = c.args.self.now.number.items in
-    let inv = c.known.ensures.symbol.symbol.table.involutions in
+    let inv = c.requires.ready.symbol.symbol.table.involutions in
     let here : k ≤ length order =
-    next_row s b order number k (λ u. rows u k (suc n)) c.args.so_far c.known.ensures.symbol.symbol.table c.known.ensures.connected c.requires.traversal c.requires.high in
+    next_row s b order number k (λ u. rows u k (suc n)) c.args.so_far c.requires.ready.symbol.symbol.table c.requires.ready.connected c.requires.traversal c.requires.high in
     let zero = c.step-zero.ensures in
     let one = c.step-one.ensures in
     let order1 = c.step-zero.new.self.order.items in
@@ -73,7 +73,7 @@ step-requires-clause-high g c =
     let k = c.args.k in
     let here : k ≤ length c.args.self.now.order.items =
     next_row s c.args.form.now c.args.self.now.order.items c.args.self.now.number.items k (λ u. rows u k (suc (s.size - k))) c.args.so_far
-    c.known.ensures.symbol.symbol.table c.known.ensures.connected c.requires.traversal c.requires.high in
+    c.requires.ready.symbol.symbol.table c.requires.ready.connected c.requires.traversal c.requires.high in
     still_inside s c.args.form.now One k _ _ _ _ _ (still_inside s c.args.form.now Zero k c.args.so_far _ _ _ _ here c.step-zero.ensures.step) c.step-one.ensures.step
 
 pub returns-clause-ongoing : goal.returns-clause-ongoing
@@ -85,7 +85,7 @@ returns-clause-ongoing g c =
     let order = c.args.self.now.order.items in
     let number = c.args.self.now.number.items in
     let here : k ≤ length order =
-    next_row s b order number k (λ u. rows u k (suc n)) c.args.so_far c.known.ensures.symbol.symbol.table c.known.ensures.connected c.requires.traversal c.requires.high in
+    next_row s b order number k (λ u. rows u k (suc n)) c.args.so_far c.requires.ready.symbol.symbol.table c.requires.ready.connected c.requires.traversal c.requires.high in
     let zero = c.step-zero.ensures in
     let one = c.step-one.ensures in
     let two = c.step.ensures in
@@ -104,7 +104,7 @@ returns-clause-ongoing g c =
     let start3 = start_kept s b Two k c.step-one.result c.step.result order2 order3 number3 (omega arith) two.step in
     inr (
       row_done s b order number order1 number1 order2 number2 order3 number3 k c.args.so_far c.step-zero.result c.step-one.result c.step.result
-          c.known.ensures.symbol.symbol.table.involutions c.requires.traversal c.requires.low here
+          c.requires.ready.symbol.symbol.table.involutions c.requires.traversal c.requires.low here
           zero.ready.visit zero.step one.ready.visit one.step two.ready.visit two.step,
       start3 ∙ start2 ∙ start1,
     )

@@ -1,7 +1,7 @@
 use Rattle.std.proofs.Common.{◌≡◌, ◌+◌, ◌-◌, length, set, sym, ap, ◌∙◌, subst}
 use Rattle.std.proofs.lemmas.List.{length_push}
-use Rattle.dd_model.specs.Traversal.{IsVisit}
-use Rattle.dd_model.proofs.Visits.{met_visit}
+use Rattle.dd_canon.specs.Traversal.{IsVisit}
+use Rattle.dd_canon.proofs.Meetings.{met_visit}
 use Rattle.dd_invol.proofs.traversal.Visit.add.Goals as goal
 
 pub returns-clause-visiting : goal.returns-clause-visiting

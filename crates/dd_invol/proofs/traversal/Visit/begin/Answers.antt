@@ -1,6 +1,6 @@
 use Rattle.std.proofs.Common.{◌≡◌, ℕ, true, false, ◌<◌, List, ◌++◌, ◌∷◌, [], length, refl, arith}
-use Rattle.dd_model.specs.Traversal.{IsVisit}
-use Rattle.dd_model.proofs.Visits.{left_visit, last_inside}
+use Rattle.dd_canon.specs.Traversal.{IsVisit}
+use Rattle.dd_canon.proofs.Meetings.{left_visit, last_inside}
 use Rattle.dd_invol.proofs.Traversing.{none_numbered}
 use Rattle.dd_invol.proofs.traversal.Visit.begin.Goals as goal
 

@@ -16,7 +16,7 @@ use Rattle.dd_model.specs.Connected.{Connected}
 use Rattle.dd_model.specs.Isomorphic.{Undoes, IsIsomorphism}
 use Rattle.dd_model.specs.Code.{code, code_cmp}
 use Rattle.dd_model.specs.FirstVisit.{Grows, IsFirstVisit, rows}
-use Rattle.dd_model.specs.Traversal.{unnumbered, IsVisit, IsMeeting, IsExtension, IsTraversal}
+use Rattle.dd_canon.specs.Traversal.{unnumbered, IsVisit, IsMeeting, IsExtension, IsTraversal}
 use Rattle.dd_model.proofs.Words.{backwards, act-backwards}
 use Rattle.dd_model.proofs.FirstVisits.{injective}
 

@@ -1,6 +1,6 @@
 use Rattle.dd_model.proofs.LeastForms.{least_as_table}
-use Rattle.dd_model.proofs.Partials.{no_least_completion}
-use Rattle.dd_model.proofs.least_form_laws.beaten_tables_have_no_least_completion.Goals as goal
+use Rattle.dd_canon.proofs.PartialTraversals.{no_least_completion}
+use Rattle.dd_canon.proofs.traversal_laws.beaten_tables_have_no_least_completion.Goals as goal
 
 pub returns : goal.returns
 returns c = record {

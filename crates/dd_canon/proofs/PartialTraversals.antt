@@ -7,9 +7,9 @@ use Rattle.dd_model.specs.declared.index.Index.{Index}
 use Rattle.dd_model.specs.Symbol.{Symbol, IsTable, item, op}
 use Rattle.dd_model.specs.Connected.{Connected}
 use Rattle.dd_model.specs.FirstVisit.{rows, LeastTable}
-use Rattle.dd_model.specs.Traversal.{IsVisit, IsMeeting, IsTraversal}
-use Rattle.dd_model.specs.Partial.{Completes, IsPartialTraversal}
-use Rattle.dd_model.proofs.Traversals.{advance, begin, gets_ahead}
+use Rattle.dd_canon.specs.Traversal.{IsVisit, IsMeeting, IsTraversal, IsPartialTraversal}
+use Rattle.dd_model.specs.Partial.{Completes}
+use Rattle.dd_canon.proofs.Traversals.{advance, begin, gets_ahead}
 use Rattle.dd_model.proofs.Numberings.{numbered_from}
 use Rattle.dd_model.proofs.LeastForms.{below_back}
 

@@ -8,6 +8,7 @@ use Rattle.dd_model.specs.declared.index.Index.{Index}
 use Rattle.dd_model.specs.Symbol.{Symbol, item, op}
 use Rattle.dd_model.specs.Isomorphic.{IsIsomorphism}
 use Rattle.dd_model.specs.Code.{code_cmp}
+use Rattle.dd_model.specs.Partial.{Completes}
 use Rattle.dd_model.specs.FirstVisit.{Grows, IsFirstVisit}
 
 -- one for each chamber that has no number
@@ -47,3 +48,7 @@ pub record IsTraversal (s b : Symbol) (order number : List ℕ) (k : ℕ) (rest 
   pub forced : (t : Symbol) (f : List ℕ) → IsIsomorphism s t f → item f (item order 1) ≡ 1 → IsFirstVisit t → IsExtension s order t f × Grows (length order) (rest t)
   pub verdict : (t : Symbol) (f : List ℕ) → IsExtension s order t f
       → code_cmp t b ≡ ordering_then o (slice_cmp nat_cmp (rest t ++ (t.m01 ++ t.m12)) (rest b ++ (b.m01 ++ b.m12)))
+
+-- a traversal of a partial table: it is that of each completion, compared with the completion's own code
+pub record IsPartialTraversal (partial : Symbol) (order number : List ℕ) (k : ℕ) (rest : Symbol → List ℕ) (o : Ordering) : Type 0 where
+  pub all : (s : Symbol) → Completes partial s → IsTraversal s s order number k rest o

@@ -5,7 +5,7 @@ use Rattle.std.proofs.lemmas.Bool.Decides.{nat_tests}
 use Rattle.std.proofs.lemmas.List.{get_or-set_same, get_or-set_other, length-set, get_or_append_left, get_or_push, length_push}
 use Rattle.std.proofs.lemmas.List.Sums.{sum_by-set}
 use Rattle.dd_model.specs.Symbol.{item}
-use Rattle.dd_model.specs.Traversal.{unnumbered, IsVisit, IsMeeting}
+use Rattle.dd_canon.specs.Traversal.{unnumbered, IsVisit, IsMeeting}
 
 item_push_old : (order : List ℕ) (d k : ℕ) → 1 ≤ k → k ≤ length order → item (order ++ d ∷ []) k ≡ item order k
 item_push_old order d k low high = get_or_append_left order (d ∷ []) 0 (k - 1) (omega arith)

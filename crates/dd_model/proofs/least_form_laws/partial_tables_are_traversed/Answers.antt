@@ -1,5 +1,0 @@
-use Rattle.dd_model.proofs.Partials.{begin_partial, advance_partial}
-use Rattle.dd_model.proofs.least_form_laws.partial_tables_are_traversed.Goals as goal
-
-pub returns : goal.returns
-returns c = record { begins = begin_partial; goes_on = advance_partial }
