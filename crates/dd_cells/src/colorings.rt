@@ -50,7 +50,8 @@ impl Coloring {
         requires reached { IsReached symbol.now chamber }
         requires forced { IsForced symbol.now chamber color }
         ensures coloring { OnOk result (IsColoring symbol.now self.new) }
-        ensures grows { OnOk result (Grows self.old.seen.items self.old.queue.items self.new.seen.items self.new.queue.items) }
+        ensures grows { OnOk result (Grows self.old.seen.items self.old.queue.items
+            self.new.seen.items self.new.queue.items) }
         ensures marked { OnOk result (IsMarked self.new.seen.items chamber) }
     {
         let place = chamber as usize - 1;
@@ -68,7 +69,8 @@ impl Coloring {
         requires chamber { IsChamber symbol.now chamber }
         requires marked { IsMarked self.old.seen.items chamber }
         ensures coloring { OnOk result (IsColoring symbol.now self.new) }
-        ensures grows { OnOk result (Grows self.old.seen.items self.old.queue.items self.new.seen.items self.new.queue.items) }
+        ensures grows { OnOk result (Grows self.old.seen.items self.old.queue.items
+            self.new.seen.items self.new.queue.items) }
         ensures marked { OnOk result (IsMarked self.new.seen.items (op symbol.now i chamber)) }
     {
         let neighbor = symbol.op(i, chamber);
@@ -85,8 +87,10 @@ impl Coloring {
         requires chamber { IsChamber symbol.now chamber }
         requires marked { IsMarked self.old.seen.items chamber }
         ensures coloring { OnOk result (IsColoring symbol.now self.new) }
-        ensures grows { OnOk result (Grows self.old.seen.items self.old.queue.items self.new.seen.items self.new.queue.items) }
-        ensures zero { OnOk result (IsMarked self.new.seen.items (op symbol.now Index.Zero chamber)) }
+        ensures grows { OnOk result (Grows self.old.seen.items self.old.queue.items
+            self.new.seen.items self.new.queue.items) }
+        ensures zero { OnOk result (IsMarked self.new.seen.items
+            (op symbol.now Index.Zero chamber)) }
         ensures one { OnOk result (IsMarked self.new.seen.items (op symbol.now Index.One chamber)) }
         ensures two { OnOk result (IsMarked self.new.seen.items (op symbol.now Index.Two chamber)) }
     {

@@ -1,4 +1,5 @@
 pub mod LawfulTables
+pub mod NamedTables
 pub mod RowLemmas
 pub mod WordLemmas
 pub mod JoinedLemmas

@@ -83,7 +83,9 @@ impl<const K: usize> Template<K> {
         requires lawful { IsLawful (table_of self.now) }
         requires small { symbol.now.size * K ≤ 1024 }
         requires chamber { IsChamber symbol.now chamber }
-        ensures { OnOk result (images.new.items ≡ images.old.items ++ of_chamber (table_of self.now) (image_of (table_of self.now) symbol.now index) chamber) }
+        ensures { OnOk result (images.new.items ≡ images.old.items
+            ++ of_chamber (table_of self.now) (image_of (table_of self.now) symbol.now index)
+            chamber) }
     {
         for part in 0..K {
             let there = self.move_of(index, part);
@@ -97,7 +99,8 @@ impl<const K: usize> Template<K> {
     fn images(&self, alloc: Global, symbol: &Symbol, index: Index) -> Result<Vec<u32>, Memory>
         requires lawful { IsLawful (table_of self.now) }
         requires small { symbol.now.size * K ≤ 1024 }
-        ensures { IfOk result (λ images. images.items ≡ made_operation (table_of self.now) symbol.now index) }
+        ensures { IfOk result (λ images. images.items ≡
+            made_operation (table_of self.now) symbol.now index) }
     {
         let mut images = Vec::with_capacity(alloc, symbol.size() as usize * K)?;
         for k in 0..symbol.size() {
@@ -116,7 +119,9 @@ impl<const K: usize> Template<K> {
     ) -> Result<(), Memory>
         requires lawful { IsLawful (table_of self.now) }
         requires chamber { IsChamber s.now chamber }
-        ensures { OnOk result (degrees.new.items ≡ degrees.old.items ++ of_chamber (table_of self.now) (degree_from s.now (entries (table_of self.now) pair)) chamber) }
+        ensures { OnOk result (degrees.new.items ≡ degrees.old.items
+            ++ of_chamber (table_of self.now) (degree_from s.now (entries (table_of self.now) pair))
+            chamber) }
     {
         for part in 0..K {
             degrees.push(degree_at(s, self.entry_of(pair, part), chamber))?;
@@ -128,7 +133,8 @@ impl<const K: usize> Template<K> {
     fn degrees(&self, alloc: Global, s: &Connected, pair: Pair) -> Result<Vec<u32>, Memory>
         requires lawful { IsLawful (table_of self.now) }
         requires small { s.now.size * K ≤ 1024 }
-        ensures { IfOk result (λ degrees. degrees.items ≡ made_degrees (table_of self.now) s.now (entries (table_of self.now) pair)) }
+        ensures { IfOk result (λ degrees. degrees.items ≡
+            made_degrees (table_of self.now) s.now (entries (table_of self.now) pair)) }
     {
         let mut degrees = Vec::with_capacity(alloc, s.symbol().size() as usize * K)?;
         for k in 0..s.symbol().size() {
@@ -148,7 +154,7 @@ pub fn apply<const K: usize>(
     requires { IsLawful (table_of template.now) }
     ensures made { IfOk result (λ derived. derived ≡ made (table_of template.now) symbol.now) }
     ensures within { OnOk result (symbol.now.size * K ≤ 1024) }
-    ensures fault { IfErr result (λ why. IsFaultOf (table_of template.now) symbol.now why) }
+    ensures why { IfErr result (λ why. IsFaultOf (table_of template.now) symbol.now why) }
 {
     let plain = symbol.symbol();
     let n = plain.size();

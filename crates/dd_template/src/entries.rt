@@ -54,7 +54,8 @@ impl<const K: usize> Template<K> {
         requires undone { AreUndone (table_of self.now) }
         requires part { part < K }
         requires few { K ≤ 64 }
-        ensures { IsTrue result ↔ Fits (table_of self.now) pair part (entry (entries (table_of self.now) pair) part) }
+        ensures { IsTrue result ↔ Fits (table_of self.now) pair part
+            (entry (entries (table_of self.now) pair) part) }
     {
         match self.entry_of(pair, part) {
             Degree::OfTile(turns) => {

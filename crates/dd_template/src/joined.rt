@@ -14,7 +14,8 @@ impl<const K: usize> Template<K> {
         requires undone { AreUndone (table_of self.now) }
         requires part { part < K }
         requires met { IsMet met.now part }
-        ensures { MatchOption result (LeadsToMet (table_of self.now) met.now index part) (λ y. IsNext (table_of self.now) met.now y) }
+        ensures { MatchOption result (LeadsToMet (table_of self.now) met.now index part)
+            (λ y. IsNext (table_of self.now) met.now y) }
     {
         let there = self.move_of(index, part);
         if there.by.is_some() || met[there.to] {
@@ -26,7 +27,8 @@ impl<const K: usize> Template<K> {
     /// A part that is not met, to which a move leads from one that is.
     fn next(&self, met: &[bool; K]) -> Option<usize>
         requires undone { AreUndone (table_of self.now) }
-        ensures { MatchOption result (IsClosed (table_of self.now) met.now) (λ y. IsNext (table_of self.now) met.now y) }
+        ensures { MatchOption result (IsClosed (table_of self.now) met.now)
+            (λ y. IsNext (table_of self.now) met.now y) }
     {
         for part in 0..K {
             if met[part] {

@@ -92,7 +92,8 @@ impl<const K: usize> Template<K> {
         requires part { part < K }
         requires turns { turns ≤ 64 }
         ensures part { result.part ≡ part_after (table_of self.now) (power (turn pair) turns) part }
-        ensures word { word_of result.word ≡ carried (table_of self.now) (power (turn pair) turns) part [] }
+        ensures word { word_of result.word ≡ carried (table_of self.now)
+            (power (turn pair) turns) part [] }
     {
         let mut place = part;
         let mut word = Letters::new();

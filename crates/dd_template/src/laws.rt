@@ -21,7 +21,8 @@ pub fn words_have_one_reduced_word()
     ensures reduced { (w : Word) → IsReduced (reduced w) }
     ensures stays { (w : Word) → IsReduced w → reduced w ≡ w }
     ensures struck { (u v : Word) (i : Index) → reduced (u ++ i ∷ i ∷ v) ≡ reduced (u ++ v) }
-    ensures exchanged { (u v : Word) → reduced (u ++ Two ∷ Zero ∷ v) ≡ reduced (u ++ Zero ∷ Two ∷ v) }
+    ensures exchanged { (u v : Word) → reduced (u ++ Two ∷ Zero ∷ v) ≡
+        reduced (u ++ Zero ∷ Two ∷ v) }
 {}
 
 /// Each of 1 to 64 divides the number in whose parts fractions are counted.
@@ -32,7 +33,8 @@ pub fn fractions_are_whole_numbers_of_parts()
 /// Where moves lead back and fewer than so many turns never lead a part back to itself, there are
 /// no more turns than parts.
 pub fn parts_are_met_again()
-    ensures { (t : Table) → AreUndone t → (p : Pair) (x c : ℕ) → IsPart t x → IsApart t p x c → c ≤ t.parts }
+    ensures { (t : Table) → AreUndone t → (p : Pair) (x c : ℕ) → IsPart t x → IsApart t p x c
+        → c ≤ t.parts }
 {}
 
 /// The table of the dual is lawful.

@@ -1,7 +1,5 @@
-use Rattle.dd_template.specs.Table.{table_of}
-use Rattle.dd_template.specs.declared.constants.TheConstants.{AMBO}
-use Rattle.dd_template.proofs.LawfulTables.{lawful}
+use Rattle.dd_template.proofs.NamedTables.{ambo_lawful}
 use Rattle.dd_template.proofs.laws.ambo_is_lawful.Goals as goal
 
 pub returns : goal.returns
-returns c = lawful (table_of AMBO) tt
+returns c = ambo_lawful
