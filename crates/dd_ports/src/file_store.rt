@@ -1,5 +1,5 @@
 ghost use Rattle.std.specs.Prelude.{◌≡◌, [], None, false};
-ghost use Rattle.dd_ports.specs.Texts.{FillsOk};
+ghost use Rattle.dd_ports.specs.Texts.{FillsOk, FillsKnown};
 
 use crate::fault_count::FaultCount;
 use crate::store::{Fetched, Store, StoreFault};
@@ -20,7 +20,9 @@ pub struct FileStore<R: Files + Drop> {
 
 impl<R: Files + Drop> FileStore<R> {
     /// The store of a system's files.
-    pub fn new(rt: R, alloc: Global) -> FileStore<R> {
+    pub fn new(rt: R, alloc: Global) -> FileStore<R>
+        ensures faults { ⟦<FileStore<R> as Store>⟧.faults result ≡ 0 }
+    {
         FileStore {
             rt,
             alloc,
@@ -32,7 +34,8 @@ impl<R: Files + Drop> FileStore<R> {
 /// Reads to the end or to the limit, whichever comes first.
 fn read_some<F: Read>(file: &mut F, into: &mut Vec<u8>, limit: usize) -> Result<Fetched, StoreFault>
     requires { into.old.items ≡ [] }
-    ensures { FillsOk limit into.new.items result }
+    ensures fills { FillsOk limit into.new.items result }
+    ensures bytes { FillsKnown (F.remaining file.old) limit into.new.items result }
 {
     let mut buf = [0u8; 16384];
     for _ in 0..u64::MAX {

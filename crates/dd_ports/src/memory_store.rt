@@ -59,12 +59,7 @@ impl Store for MemoryStore {
 
     ghost sure = { λ s. is_over s.schedule };
 
-    fn fetch(
-        &mut self,
-        name: &str,
-        into: &mut Vec<u8>,
-        limit: usize,
-    ) -> Result<Fetched, StoreFault>
+    fn fetch(&mut self, name: &str, into: &mut Vec<u8>, limit: usize) -> Result<Fetched, StoreFault>
         requires { into.old.items ≡ [] }
         ensures fills { Fills limit into.new.items result }
         ensures bytes { Fetches (memory_store_held self.old name.now) into.new.items result }

@@ -1,4 +1,4 @@
-ghost use Rattle.std.specs.Prelude.{false};
+ghost use Rattle.std.specs.Prelude.{◌≡◌, false};
 
 use crate::fault_count::FaultCount;
 use crate::sink::{Sink, SinkFault};
@@ -14,7 +14,10 @@ pub struct StdSink<W: Write + Drop> {
 
 impl<W: Write + Drop> StdSink<W> {
     /// A sink that hands all to a writer.
-    pub fn new(inner: W) -> StdSink<W> {
+    pub fn new(inner: W) -> StdSink<W>
+        ensures held { ⟦<StdSink<W> as Sink>⟧.held result ≡ W.contents inner }
+        ensures faults { ⟦<StdSink<W> as Sink>⟧.faults result ≡ 0 }
+    {
         StdSink {
             inner,
             faults: FaultCount::new(),

@@ -50,6 +50,12 @@ fn stores(rt: HostRuntime) -> Result<(), Fail> {
     let mut files = FileStore::new(&rt, alloc);
     assert_eq!(rt; kept_by(&mut files, "a", &mut got), Ok(Fetched::Longer));
     assert_eq!(rt; got.as_slice(), b"two".as_slice());
+    // A file of eight bytes is whole exactly where eight may be fetched.
+    for (limit, fetched) in [(7, Fetched::Longer), (8, Fetched::Whole)] {
+        got.clear();
+        assert_eq!(rt; files.fetch("a", &mut got, limit), Ok(fetched));
+        assert_eq!(rt; got.len(), limit);
+    }
     got.clear();
     assert_eq!(rt;
         files.fetch("no such file", &mut got, 3),

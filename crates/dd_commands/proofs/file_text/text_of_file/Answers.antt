@@ -10,7 +10,7 @@ returns-in-Err c = record {
       (stop_of_fault c.args.command c.in-Err.fault.why c.in-Err.fault c.args.bytes.now
       (λ other. record {
         none = λ symbols reads. other (c.in-Err.ensures.spelled symbols reads);
-        first = c.in-Err.ensures.fault;
+        first = c.in-Err.ensures.why;
         no_memory = other;
       }));
 }
