@@ -156,9 +156,7 @@ fn is_free_of(symbol: &Symbol, i: Index) -> bool
 fn is_free(symbol: &Symbol) -> bool
     ensures { IsTrue result ↔ ((i : Index) → IsFreeOf symbol.now i) }
 {
-    is_free_of(symbol, Index::Zero)
-        && is_free_of(symbol, Index::One)
-        && is_free_of(symbol, Index::Two)
+    Index::ALL.iter().all(|i| is_free_of(symbol, *i))
 }
 
 /// The orientation of a symbol. Its surface is orientable where the answer is not `None`.
