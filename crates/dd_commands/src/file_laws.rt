@@ -13,19 +13,25 @@ ghost use Rattle.dd_commands.specs.InTurn.{AreIsomorphicInTurn};
 
 /// A file has at most one text for a command.
 pub fn written_once()
-    ensures { (command : FileCommand) (a x y : List ℕ) → IsFileText command a x → IsFileText command a y → x ≡ y }
+    ensures { (command : FileCommand) (a x y : List ℕ) → IsFileText command a x
+        → IsFileText command a y → x ≡ y }
 {}
 
 /// A file with a symbol of which a command makes nothing has no text for the command.
 pub fn a_refused_file_has_no_text()
-    ensures { (command : FileCommand) (bytes text : List ℕ) (r : SymbolRefusal) → IsRefused command bytes r → IsFileText command bytes text → ⊥ }
+    ensures { (command : FileCommand) (bytes text : List ℕ) (r : SymbolRefusal)
+        → IsRefused command bytes r → IsFileText command bytes text → ⊥ }
 {}
 
 /// Canon writes the same of two files exactly where they spell lists of one length with isomorphic
 /// symbols at each place.
 pub fn canon_tells_classes_apart()
-    ensures equal { (a b x y : List ℕ) (ss ts : List Symbol) → Reads a ss → Reads b ts → IsFileText (Symbols Canon) a x → IsFileText (Symbols Canon) b y → AreIsomorphicInTurn ss ts → x ≡ y }
-    ensures apart { (a b x y : List ℕ) (ss ts : List Symbol) → Reads a ss → Reads b ts → IsFileText (Symbols Canon) a x → IsFileText (Symbols Canon) b y → x ≡ y → AreIsomorphicInTurn ss ts }
+    ensures equal { (a b x y : List ℕ) (ss ts : List Symbol) → Reads a ss → Reads b ts
+        → IsFileText (Symbols Canon) a x → IsFileText (Symbols Canon) b y
+        → AreIsomorphicInTurn ss ts → x ≡ y }
+    ensures apart { (a b x y : List ℕ) (ss ts : List Symbol) → Reads a ss → Reads b ts
+        → IsFileText (Symbols Canon) a x → IsFileText (Symbols Canon) b y → x ≡ y
+        → AreIsomorphicInTurn ss ts }
 {}
 
 /// The table of duals makes what the command `dual` takes for the dual.

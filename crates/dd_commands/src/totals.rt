@@ -39,7 +39,8 @@ impl Totals {
 
     /// Appends a line for each name.
     pub fn put(&self, out: &mut Vec<u8>) -> Result<(), Memory>
-        ensures { OnOk result (out.new.items ≡ out.old.items ++ flat_map total_text (counted_in self.now)) }
+        ensures { OnOk result
+            (out.new.items ≡ out.old.items ++ flat_map total_text (counted_in self.now)) }
     {
         for place in 0..self.counts.len() {
             let (name, count) = self.entry_at(place);

@@ -61,7 +61,8 @@ impl Sink for MemorySink {
     fn write(&mut self, piece: &[u8]) -> Result<usize, SinkFault>
         requires { 0 < length piece.now }
         ensures count { IfOk result (λ k. (0 < k) × (k ≤ length piece.now)) }
-        ensures bytes { WriteAppends (Some (memory_sink_held self.old)) (Some (memory_sink_held self.new))
+        ensures bytes { WriteAppends
+            (Some (memory_sink_held self.old)) (Some (memory_sink_held self.new))
             result piece.now }
         ensures cause { HasCause Failed self.old.faults self.new.faults result }
         ensures sure { is_over self.old.schedule ≡ true

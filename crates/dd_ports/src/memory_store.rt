@@ -66,7 +66,8 @@ impl Store for MemoryStore {
         ensures same { SameTexts (memory_store_held self.old) (memory_store_held self.new) }
         ensures cause { HasCause Failed self.old.faults self.new.faults result }
         ensures sure { is_over self.old.schedule ≡ true → is_over self.new.schedule ≡ true }
-        ensures passes { is_over self.old.schedule ≡ true → IsSome (memory_store_held self.old name.now)
+        ensures passes { is_over self.old.schedule ≡ true
+            → IsSome (memory_store_held self.old name.now)
             → StaysSure Failed self.old.faults self.new.faults (is_over self.new.schedule) result }
         ensures counted { CountsCall self.old self.new }
         ensures due { memory_store_is_due self.old ≡ true → result ≡ Err Failed }
@@ -88,18 +89,22 @@ impl Store for MemoryStore {
     }
 
     fn put(&mut self, name: &str, bytes: &[u8]) -> Result<(), StoreFault>
-        ensures bytes { Puts (memory_store_held self.old name.now) (memory_store_held self.new name.now)
+        ensures bytes { Puts (memory_store_held self.old name.now)
+            (memory_store_held self.new name.now)
             bytes.now result }
-        ensures same { SameOthers name.now (memory_store_held self.old) (memory_store_held self.new) }
+        ensures same { SameOthers name.now
+            (memory_store_held self.old) (memory_store_held self.new) }
         ensures cause { HasCause Failed self.old.faults self.new.faults result }
         ensures sure { is_over self.old.schedule ≡ true
             → StaysSure Failed self.old.faults self.new.faults (is_over self.new.schedule) result }
         ensures counted { CountsCall self.old self.new }
         ensures due { memory_store_is_due self.old ≡ true → OnOk result ⊥ }
         ensures not_due { memory_store_is_due self.old ≡ false → IsErrOf result Failed → ⊥ }
-        ensures old_left { memory_store_is_due self.old ≡ true → memory_store_keeps_new self.old ≡ false
+        ensures old_left { memory_store_is_due self.old ≡ true
+            → memory_store_keeps_new self.old ≡ false
             → memory_store_held self.new name.now ≡ memory_store_held self.old name.now }
-        ensures new_left { memory_store_is_due self.old ≡ true → memory_store_keeps_new self.old ≡ true
+        ensures new_left { memory_store_is_due self.old ≡ true
+            → memory_store_keeps_new self.old ≡ true
             → IsErrOf result Failed → memory_store_held self.new name.now ≡ Some bytes.now }
     {
         let fails = self.schedule.turn();

@@ -40,7 +40,8 @@ pub trait Sink {
         ensures count { IfOk result (λ k. (0 < k) × (k ≤ length piece.now)) }
         ensures bytes { WriteAppends (held self.old) (held self.new) result piece.now }
         ensures cause { HasCause Failed (faults self.old) (faults self.new) result }
-        ensures sure { sure self.old ≡ true → StaysSure Failed (faults self.old) (faults self.new) (sure self.new) result };
+        ensures sure { sure self.old ≡ true
+            → StaysSure Failed (faults self.old) (faults self.new) (sure self.new) result };
 }
 
 /// Writes all the bytes. After a fault the sink has taken a prefix of them.
@@ -48,7 +49,8 @@ pub fn write_all_of<O: Sink>(out: &mut O, bytes: &[u8]) -> Result<(), SinkFault>
     ensures whole { OnOk result (Appends (O.held out.old) (O.held out.new) bytes.now) }
     ensures prefix { GrowsByPrefix (O.held out.old) (O.held out.new) bytes.now }
     ensures cause { HasCause Failed (O.faults out.old) (O.faults out.new) result }
-    ensures sure { O.sure out.old ≡ true → StaysSure Failed (O.faults out.old) (O.faults out.new) (O.sure out.new) result }
+    ensures sure { O.sure out.old ≡ true
+        → StaysSure Failed (O.faults out.old) (O.faults out.new) (O.sure out.new) result }
 {
     let mut at = 0;
     while at < bytes.len() {

@@ -57,8 +57,10 @@ pub trait Store {
     fn fetch(&mut self, name: &str, into: &mut Vec<u8>, limit: usize) -> Result<Fetched, StoreFault>
         requires { into.old.items ≡ [] }
         ensures fills { Fills limit into.new.items result }
-        ensures bytes { tells self.old ≡ true → Fetches (held self.old name.now) into.new.items result }
-        ensures same { tells self.old ≡ true → (tells self.new ≡ true) × SameTexts (held self.old) (held self.new) }
+        ensures bytes { tells self.old ≡ true
+            → Fetches (held self.old name.now) into.new.items result }
+        ensures same { tells self.old ≡ true
+            → (tells self.new ≡ true) × SameTexts (held self.old) (held self.new) }
         ensures cause { HasCause Failed (faults self.old) (faults self.new) result }
         ensures sure { sure self.old ≡ true → sure self.new ≡ true }
         ensures passes { sure self.old ≡ true → IsSome (held self.old name.now)
@@ -66,8 +68,11 @@ pub trait Store {
 
     /// Puts a text in the place of what the name holds.
     fn put(&mut self, name: &str, bytes: &[u8]) -> Result<(), StoreFault>
-        ensures bytes { tells self.old ≡ true → Puts (held self.old name.now) (held self.new name.now) bytes.now result }
-        ensures same { tells self.old ≡ true → (tells self.new ≡ true) × SameOthers name.now (held self.old) (held self.new) }
+        ensures bytes { tells self.old ≡ true
+            → Puts (held self.old name.now) (held self.new name.now) bytes.now result }
+        ensures same { tells self.old ≡ true
+            → (tells self.new ≡ true) × SameOthers name.now (held self.old) (held self.new) }
         ensures cause { HasCause Failed (faults self.old) (faults self.new) result }
-        ensures sure { sure self.old ≡ true → StaysSure Failed (faults self.old) (faults self.new) (sure self.new) result };
+        ensures sure { sure self.old ≡ true
+            → StaysSure Failed (faults self.old) (faults self.new) (sure self.new) result };
 }

@@ -29,10 +29,13 @@ pub fn write_catalogue<F: Finder, O: Sink>(
     out: &mut O,
 ) -> Result<Finish, SinkFault>
     requires valid { IsValid (F.request finder.now) }
-    ensures prefix { (text : List ℕ) → IsText (F.request finder.now) beginning 0 text → GrowsByPrefix (O.held out.old) (O.held out.new) text }
-    ensures whole { IfOk result (λ finish. Finishes finish (F.request finder.now) (O.held out.old) (O.held out.new)) }
+    ensures prefix { (text : List ℕ) → IsText (F.request finder.now) beginning 0 text
+        → GrowsByPrefix (O.held out.old) (O.held out.new) text }
+    ensures whole { IfOk result (λ finish.
+        Finishes finish (F.request finder.now) (O.held out.old) (O.held out.new)) }
     ensures cause { HasCause Failed (O.faults out.old) (O.faults out.new) result }
-    ensures sure { O.sure out.old ≡ true → StaysSure Failed (O.faults out.old) (O.faults out.new) (O.sure out.new) result }
+    ensures sure { O.sure out.old ≡ true
+        → StaysSure Failed (O.faults out.old) (O.faults out.new) (O.sure out.new) result }
 {
     let Ok(jobs) = opening(alloc, &finder.request()) else {
         return Err(SinkFault::Memory);

@@ -16,8 +16,10 @@ const MOST_BYTES: usize = 16777216;
 
 /// All that a name holds.
 fn fetch_file<S: Store>(alloc: Global, name: &str, store: &mut S) -> Result<Vec<u8>, Ending>
-    ensures bytes { IfOk result (λ bytes. AreFetched (S.tells store.old) (S.held store.old name.now) bytes.items) }
-    ensures why { IfErr result (λ ending. IsFetchStop ending (S.tells store.old) (S.held store.old name.now)
+    ensures bytes { IfOk result (λ bytes.
+        AreFetched (S.tells store.old) (S.held store.old name.now) bytes.items) }
+    ensures why { IfErr result (λ ending.
+        IsFetchStop ending (S.tells store.old) (S.held store.old name.now)
         (S.faults store.old) (S.faults store.new)) }
     ensures same { S.tells store.old ≡ true
         → (S.tells store.new ≡ true) × SameTexts (S.held store.old) (S.held store.new) }
@@ -77,7 +79,12 @@ pub fn write_file<S: Store, O: Sink>(
           written = O.held out.old;
           sink_faults = O.faults out.old;
         })
-        (record { store_faults = S.faults store.new; written = O.held out.new; sink_faults = O.faults out.new }) }
+        (record {
+          store_faults = S.faults store.new;
+          written = O.held out.new;
+          sink_faults =
+              O.faults out.new;
+        }) }
     ensures same { S.tells store.old ≡ true
         → (S.tells store.new ≡ true) × SameTexts (S.held store.old) (S.held store.new) }
     ensures store_count { S.faults store.old ≤ S.faults store.new }

@@ -36,11 +36,13 @@ impl Page {
 
     /// Writes what is collected.
     pub(crate) fn flush<O: Sink>(&mut self, out: &mut O) -> Result<(), SinkFault>
-        ensures kept { OnOk result (KeepsLines (O.held out.old) (O.held out.new) self.old self.new) }
+        ensures kept { OnOk result
+            (KeepsLines (O.held out.old) (O.held out.new) self.old self.new) }
         ensures empty { OnOk result (self.new.buffer.items ≡ []) }
         ensures prefix { WritesPrefix (O.held out.old) (O.held out.new) self.old }
         ensures cause { HasCause Failed (O.faults out.old) (O.faults out.new) result }
-        ensures sure { O.sure out.old ≡ true → StaysSure Failed (O.faults out.old) (O.faults out.new) (O.sure out.new) result }
+        ensures sure { O.sure out.old ≡ true
+            → StaysSure Failed (O.faults out.old) (O.faults out.new) (O.sure out.new) result }
     {
         write_all_of(out, &self.buffer)?;
         self.buffer.clear();
@@ -49,10 +51,12 @@ impl Page {
 
     /// Writes what is collected where that is enough.
     fn flush_if_full<O: Sink>(&mut self, out: &mut O) -> Result<(), SinkFault>
-        ensures kept { OnOk result (KeepsLines (O.held out.old) (O.held out.new) self.old self.new) }
+        ensures kept { OnOk result
+            (KeepsLines (O.held out.old) (O.held out.new) self.old self.new) }
         ensures prefix { WritesPrefix (O.held out.old) (O.held out.new) self.old }
         ensures cause { HasCause Failed (O.faults out.old) (O.faults out.new) result }
-        ensures sure { O.sure out.old ≡ true → StaysSure Failed (O.faults out.old) (O.faults out.new) (O.sure out.new) result }
+        ensures sure { O.sure out.old ≡ true
+            → StaysSure Failed (O.faults out.old) (O.faults out.new) (O.sure out.new) result }
     {
         if self.buffer.len() < FULL {
             return Ok(());
@@ -64,7 +68,8 @@ impl Page {
     /// Collects the next lines.
     fn put(&mut self, members: &[Connected]) -> Result<(), SinkFault>
         requires few { self.old.count + length members.now ≤ 1000000000000000000 }
-        ensures lines { OnOk result ((held : Option (List ℕ)) → AddsAll held held self.old self.new members.now) }
+        ensures lines { OnOk result
+            ((held : Option (List ℕ)) → AddsAll held held self.old self.new members.now) }
         ensures failed { result ≡ Err Failed → ⊥ }
     {
         let Ok(()) = put_lines(&mut self.buffer, self.count, members) else {
@@ -82,11 +87,14 @@ impl Page {
         out: &mut O,
     ) -> Result<bool, SinkFault>
         requires few { self.old.count ≤ 1000000000000000000 }
-        ensures all { IfOk result (λ all. OnTrue all (AddsAll (O.held out.old) (O.held out.new) self.old self.new members.now)) }
-        ensures cut { IfOk result (λ all. OnFalse all (AddsTooMany (O.held out.old) (O.held out.new) self.old members.now)) }
+        ensures all { IfOk result (λ all.
+            OnTrue all (AddsAll (O.held out.old) (O.held out.new) self.old self.new members.now)) }
+        ensures cut { IfOk result (λ all.
+            OnFalse all (AddsTooMany (O.held out.old) (O.held out.new) self.old members.now)) }
         ensures prefix { WritesPrefixOf (O.held out.old) (O.held out.new) self.old members.now }
         ensures cause { HasCause Failed (O.faults out.old) (O.faults out.new) result }
-        ensures sure { O.sure out.old ≡ true → StaysSure Failed (O.faults out.old) (O.faults out.new) (O.sure out.new) result }
+        ensures sure { O.sure out.old ≡ true
+            → StaysSure Failed (O.faults out.old) (O.faults out.new) (O.sure out.new) result }
     {
         let room = MOST_LINES - self.count;
         if members.len() as u64 > room {

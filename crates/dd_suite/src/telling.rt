@@ -50,8 +50,10 @@ fn tell_refusal<E: Sink>(
     refusal: SymbolRefusal,
     err: &mut E,
 ) -> Result<(), SinkFault>
-    ensures whole { OnOk result (Appends (E.held err.old) (E.held err.new) (symbol_refusal_text refusal)) }
-    ensures prefix { GrowsByPrefix (E.held err.old) (E.held err.new) (symbol_refusal_text refusal) }
+    ensures whole { OnOk result
+        (Appends (E.held err.old) (E.held err.new) (symbol_refusal_text refusal)) }
+    ensures prefix { GrowsByPrefix
+        (E.held err.old) (E.held err.new) (symbol_refusal_text refusal) }
     ensures cause { HasCause Failed (E.faults err.old) (E.faults err.new) result }
     ensures sure { E.sure err.old ≡ true
         → StaysSure Failed (E.faults err.old) (E.faults err.new) (E.sure err.new) result }

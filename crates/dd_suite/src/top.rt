@@ -44,7 +44,8 @@ pub fn run<R: Threads + Wait + Sync, S: Store, O: Sink, E: Sink, G: Gate + Sync>
     ensures prefix { (bytes : List ℕ)
         → IsKnownOutput (map rc_str_bytes words.now) (S.tells store.old) (S.held store.old) bytes
         → GrowsByPrefix (O.held out.old) (O.held out.new) bytes }
-    ensures whole { result ≡ Status.Done → AppendsOutput (map rc_str_bytes words.now) (S.tells store.old)
+    ensures whole { result ≡ Status.Done
+        → AppendsOutput (map rc_str_bytes words.now) (S.tells store.old)
         (S.held store.old) (O.held out.old) (O.held out.new) }
 
     ensures usage { result ≡ Status.Usage → ¬ AreTaken (map rc_str_bytes words.now) }
@@ -57,16 +58,19 @@ pub fn run<R: Threads + Wait + Sync, S: Store, O: Sink, E: Sink, G: Gate + Sync>
     ensures quiet { (result ≡ Status.Refused) ⊎ (result ≡ Status.StoreFault)
         → Appends (O.held out.old) (O.held out.new) [] }
     ensures nothing { NameFile (map rc_str_bytes words.now)
-        → ((text : List ℕ) → IsFileOutput (map rc_str_bytes words.now) (S.tells store.old) (S.held store.old) text → ⊥)
+        → ((text : List ℕ) → IsFileOutput
+        (map rc_str_bytes words.now) (S.tells store.old) (S.held store.old) text → ⊥)
         → Appends (O.held out.old) (O.held out.new) [] }
 
     ensures store { S.tells store.old ≡ true
         → (S.tells store.new ≡ true) × SameTexts (S.held store.old) (S.held store.new) }
     ensures store_count { S.faults store.old ≤ S.faults store.new }
     ensures sink_count { O.faults out.old ≤ O.faults out.new }
-    ensures store_fault { result ≡ Status.StoreFault → Rose (S.faults store.old) (S.faults store.new) }
+    ensures store_fault { result ≡ Status.StoreFault
+        → Rose (S.faults store.old) (S.faults store.new) }
     ensures sink_fault { result ≡ Status.SinkFault → Rose (O.faults out.old) (O.faults out.new) }
-    ensures store_sure { S.sure store.old ≡ true → IsFileHeld (map rc_str_bytes words.now) (S.held store.old)
+    ensures store_sure { S.sure store.old ≡ true
+        → IsFileHeld (map rc_str_bytes words.now) (S.held store.old)
         → (S.faults store.new ≡ S.faults store.old) × (result ≡ Status.StoreFault → ⊥) }
     ensures sink_sure { O.sure out.old ≡ true
         → (O.faults out.new ≡ O.faults out.old) × (result ≡ Status.SinkFault → ⊥) }
@@ -75,18 +79,21 @@ pub fn run<R: Threads + Wait + Sync, S: Store, O: Sink, E: Sink, G: Gate + Sync>
     ensures cut_short { result ≡ Status.TooManyLines
         → CutsShort (map rc_str_bytes words.now) (O.held out.old) (O.held out.new) }
     ensures not_cut { result ≡ Status.Done → (q : Request) (members : List Symbol)
-        → AskFor (map rc_str_bytes words.now) q → IsCatalogue q members → length members ≤ most_lines }
+        → AskFor (map rc_str_bytes words.now) q → IsCatalogue q members
+        → length members ≤ most_lines }
 
     // Taken words end as Done or are cut short where the file is accepted, nothing is refused and no count rose,
     // unless memory is wanting.
     ensures complete { AreTaken (map rc_str_bytes words.now)
         → IsFileAccepted (map rc_str_bytes words.now) (S.tells store.old) (S.held store.old)
-        → (¬ Rose (S.faults store.old) (S.faults store.new)) → (¬ Rose (O.faults out.old) (O.faults out.new))
+        → (¬ Rose (S.faults store.old) (S.faults store.new))
+        → (¬ Rose (O.faults out.old) (O.faults out.new))
         → (result ≡ Status.Done) ⊎ ((result ≡ Status.TooManyLines) ⊎ (result ≡ Status.Memory)) }
 
     // The line may be cut off, and even be missing, since a sink may want memory: `tell` says whether all of it
     // was written, and then it was.
-    ensures err { TellsOf result (map rc_str_bytes words.now) (S.tells store.old) (S.held store.old)
+    ensures err { TellsOf result
+        (map rc_str_bytes words.now) (S.tells store.old) (S.held store.old)
         (E.held err.old) (E.held err.new) }
     ensures err_count { E.faults err.old ≤ E.faults err.new }
 {
@@ -100,7 +107,8 @@ fn perform<S: Store, O: Sink>(alloc: Global, words: &[RcStr], store: &mut S, out
     ensures prefix { (bytes : List ℕ)
         → IsKnownOutput (map rc_str_bytes words.now) (S.tells store.old) (S.held store.old) bytes
         → GrowsByPrefix (O.held out.old) (O.held out.new) bytes }
-    ensures whole { result ≡ Ending.Done → AppendsOutput (map rc_str_bytes words.now) (S.tells store.old)
+    ensures whole { result ≡ Ending.Done
+        → AppendsOutput (map rc_str_bytes words.now) (S.tells store.old)
         (S.held store.old) (O.held out.old) (O.held out.new) }
     ensures cause { HasCause result (map rc_str_bytes words.now)
         (record {
@@ -110,16 +118,23 @@ fn perform<S: Store, O: Sink>(alloc: Global, words: &[RcStr], store: &mut S, out
           written = O.held out.old;
           sink_faults = O.faults out.old;
         })
-        (record { store_faults = S.faults store.new; written = O.held out.new; sink_faults = O.faults out.new }) }
+        (record {
+          store_faults = S.faults store.new;
+          written = O.held out.new;
+          sink_faults =
+              O.faults out.new;
+        }) }
     ensures not_taken { (¬ AreTaken (map rc_str_bytes words.now))
         → (result ≡ Ending.Usage) ⊎ (result ≡ Ending.Memory) }
     ensures not_cut { result ≡ Ending.Done → (q : Request) (members : List Symbol)
-        → AskFor (map rc_str_bytes words.now) q → IsCatalogue q members → length members ≤ most_lines }
+        → AskFor (map rc_str_bytes words.now) q → IsCatalogue q members
+        → length members ≤ most_lines }
     ensures store { S.tells store.old ≡ true
         → (S.tells store.new ≡ true) × SameTexts (S.held store.old) (S.held store.new) }
     ensures store_count { S.faults store.old ≤ S.faults store.new }
     ensures sink_count { O.faults out.old ≤ O.faults out.new }
-    ensures store_sure { S.sure store.old ≡ true → IsFileHeld (map rc_str_bytes words.now) (S.held store.old)
+    ensures store_sure { S.sure store.old ≡ true
+        → IsFileHeld (map rc_str_bytes words.now) (S.held store.old)
         → (S.faults store.new ≡ S.faults store.old) × (result ≡ Ending.StoreFault → ⊥) }
     ensures sink_sure { O.sure out.old ≡ true
         → (O.faults out.new ≡ O.faults out.old) × (result ≡ Ending.SinkFault → ⊥) }
