@@ -1,5 +1,5 @@
 -- The causes of endings, and what they mean for statuses.
-use Rattle.std.proofs.Common.{◌≡◌, ◌⊎◌, ℕ, List, [], Bool, true, Option, None, Some, append-nil, inl, inr, refl, sym, ◌∙◌, ap, subst, length, ◌++◌, ◌∷◌, arith}
+use Rattle.std.proofs.Common.{◌≡◌, ◌⊎◌, ℕ, List, [], Bool, Option, None, Some, append-nil, inl, inr, refl, sym, ◌∙◌, subst}
 use Rattle.std.specs.Io.KnownBytes.{Appends}
 use Rattle.dd_model.specs.Reading.{Reads}
 use Rattle.dd_model.proofs.ReadingRows.{reads_once}
@@ -15,7 +15,7 @@ use Rattle.dd_suite.specs.declared.status.Status.TheVariants as status
 use Rattle.dd_suite.specs.Outside.{Before, After}
 use Rattle.dd_suite.specs.Messages.{IsItsFault}
 use Rattle.dd_suite.specs.Words.{AreTaken, IsOnFile}
-use Rattle.dd_suite.specs.Held.{AreFetched, AppendsPart}
+use Rattle.dd_suite.specs.Held.{AreFetched}
 use Rattle.dd_suite.specs.Stops.{WritesNothing, WritesPart, WritesPartOfFile, HasFileCause, HasCause}
 use Rattle.dd_suite.specs.Output.{IsOutput, AppendsOutput, CutsShort, IsFileAccepted, IsFileOutput, NameFile}
 use Rattle.dd_suite.specs.Endings.{status_of, fault_ending}

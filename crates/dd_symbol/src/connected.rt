@@ -35,14 +35,6 @@ impl Connected {
         Connected { symbol }
     }
 
-    /// What holds of every connected symbol.
-    pub fn known(&self)
-        ensures symbol { IsSmallSymbol self.now }
-        ensures connected { AllReached self.now }
-    {
-        self.symbol.known();
-    }
-
     /// The symbol without what is known of its connectedness.
     pub fn symbol(&self) -> &Symbol
         ensures same { result.now ≡ self.now }

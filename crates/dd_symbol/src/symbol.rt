@@ -43,13 +43,6 @@ impl Symbol {
         Symbol { table }
     }
 
-    /// What holds of every symbol.
-    pub fn known(&self)
-        ensures { IsSmallSymbol self.now }
-    {
-        let _ = &self.table;
-    }
-
     /// The number of chambers, at most 16,384.
     pub fn size(&self) -> u32
         ensures size { result ≡ self.now.size }

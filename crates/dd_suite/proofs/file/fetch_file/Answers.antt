@@ -1,5 +1,4 @@
-use Rattle.std.proofs.Common.{◌≡◌, subst, sym, Ok, true}
-use Rattle.dd_ports.specs.declared.store.Fetched.TheVariants.{Longer}
+use Rattle.std.proofs.Common.{◌≡◌, subst, Ok, true}
 use Rattle.dd_ports.specs.Texts.{Fills, Fetches}
 use Rattle.dd_suite.proofs.LongFiles.{long_held}
 use Rattle.dd_suite.proofs.file.fetch_file.Goals as goal
