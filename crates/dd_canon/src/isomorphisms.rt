@@ -39,7 +39,8 @@ fn reaches<L: Ledger>(
 
 /// First one map, then another.
 fn joined(alloc: Global, first: &[u32], then: &[u32]) -> Result<Map, Memory>
-    requires within { (d : ℕ) → 1 ≤ d → d ≤ length first.now → (1 ≤ item first.now d) × (item first.now d ≤ length then.now) }
+    requires within { (d : ℕ) → 1 ≤ d → d ≤ length first.now
+        → (1 ≤ item first.now d) × (item first.now d ≤ length then.now) }
     ensures { IfOk result (λ whole. whole ≡ map (item then.now) first.now) }
 {
     let mut images = Vec::with_capacity(alloc, first.len())?;
@@ -59,7 +60,8 @@ fn isomorphic_from<L: Ledger>(
     requires name { blank.name ≡ L.name }
     requires parts { blank.parts ≡ L.parts }
     requires some { 0 < blank.parts }
-    ensures { IfOk result (λ found. MatchOption found (¬ Isomorphic a.now b.now) (λ whole. IsIsomorphism a.now b.now whole)) }
+    ensures { IfOk result (λ found.
+        MatchOption found (¬ Isomorphic a.now b.now) (λ whole. IsIsomorphism a.now b.now whole)) }
 {
     if a.symbol().size() != b.symbol().size() {
         return Ok(None);
@@ -80,7 +82,8 @@ fn isomorphic_from<L: Ledger>(
 
 /// A map to an isomorphic symbol, if the symbols are isomorphic.
 pub fn isomorphic(alloc: Global, a: &Connected, b: &Connected) -> Result<Option<Map>, Memory>
-    ensures { IfOk result (λ found. MatchOption found (¬ Isomorphic a.now b.now) (λ whole. IsIsomorphism a.now b.now whole)) }
+    ensures { IfOk result (λ found.
+        MatchOption found (¬ Isomorphic a.now b.now) (λ whole. IsIsomorphism a.now b.now whole)) }
 {
     isomorphic_from::<Brand>(alloc, a, b, Blank::new(1))
 }

@@ -50,7 +50,8 @@ impl Visit {
         requires none { item self.old.number.items chamber ≡ 0 }
         ensures ready { IsReady s.now self.new }
         ensures order { self.new.order.items ≡ self.old.order.items ++ chamber ∷ [] }
-        ensures number { self.new.number.items ≡ set self.old.number.items (chamber - 1) (length self.old.order.items + 1) }
+        ensures number { self.new.number.items ≡
+            set self.old.number.items (chamber - 1) (length self.old.order.items + 1) }
         ensures next { result ≡ length self.old.order.items + 1 }
     {
         self.order.push_reserved(chamber);
@@ -77,7 +78,8 @@ impl Visit {
         requires ready { IsReady s.now self.old }
         requires chamber { IsChamber s.now chamber }
         ensures ready { IsReady s.now self.new }
-        ensures meeting { IsMeeting self.old.order.items self.new.order.items self.new.number.items chamber result }
+        ensures meeting { IsMeeting self.old.order.items
+            self.new.order.items self.new.number.items chamber result }
     {
         let known = self.number[chamber as usize - 1];
         if known != 0 {
@@ -101,7 +103,8 @@ impl Visit {
         requires high { k ≤ length self.old.order.items }
         requires chamber { IsChamber form.now k }
         ensures ready { IsReady s.now self.new }
-        ensures step { IsStep s.now form.now i k so_far self.old.order.items self.new.order.items self.new.number.items result }
+        ensures step { IsStep s.now form.now i k so_far
+            self.old.order.items self.new.order.items self.new.number.items result }
         ensures count { steps.new ≡ steps.old + 1 }
     {
         let image = s.symbol().op(i, self.chamber(k));
@@ -120,12 +123,16 @@ impl Visit {
         steps: &mut Steps<L>,
     ) -> Ordering
         requires ready { IsReady s.now self.old }
-        requires traversal { IsTraversal s.now form.now self.old.order.items self.old.number.items k (λ u. rows u k (suc (s.now.size - k))) so_far }
+        requires traversal { IsTraversal s.now form.now
+            self.old.order.items self.old.number.items k
+            (λ u. rows u k (suc (s.now.size - k))) so_far }
         requires low { 1 ≤ k }
         requires high { k ≤ s.now.size }
         requires size { form.now.size ≡ s.now.size }
         ensures ready { IsReady s.now self.new }
-        ensures ongoing { IsOngoing s.now form.now (item self.old.order.items 1) self.new.order.items self.new.number.items (k + 1) (λ u. rows u (k + 1) (s.now.size - k)) result }
+        ensures ongoing { IsOngoing s.now form.now
+            (item self.old.order.items 1) self.new.order.items self.new.number.items (k + 1)
+            (λ u. rows u (k + 1) (s.now.size - k)) result }
         ensures count { steps.new ≤ steps.old + 3 }
     {
         let zero = self.step(s, form, Index::Zero, k, so_far, steps);
@@ -142,10 +149,13 @@ impl Visit {
     /// The rows of all chambers, as long as they do not fall behind.
     fn rows<L: Ledger>(&mut self, s: &Connected, form: &Symbol, steps: &mut Steps<L>) -> Ordering
         requires ready { IsReady s.now self.old }
-        requires traversal { IsTraversal s.now form.now self.old.order.items self.old.number.items 1 (λ u. rows u 1 s.now.size) Equal }
+        requires traversal { IsTraversal s.now form.now
+            self.old.order.items self.old.number.items 1 (λ u. rows u 1 s.now.size) Equal }
         requires size { form.now.size ≡ s.now.size }
         ensures ready { IsReady s.now self.new }
-        ensures ongoing { IsOngoing s.now form.now (item self.old.order.items 1) self.new.order.items self.new.number.items (s.now.size + 1) (λ u. []) result }
+        ensures ongoing { IsOngoing s.now form.now
+            (item self.old.order.items 1) self.new.order.items self.new.number.items (s.now.size + 1)
+            (λ u. []) result }
         ensures count { steps.new ≤ steps.old + 3 * s.now.size }
     {
         let mut so_far = Ordering::Equal;
@@ -169,7 +179,8 @@ impl Visit {
         requires visit { IsVisit s.now.size self.now.order.items self.now.number.items }
         requires full { length self.now.order.items ≡ s.now.size }
         requires size { form.now.size ≡ s.now.size }
-        ensures order { (t : Tiling) (f : List ℕ) → IsExtension s.now self.now.order.items t f → result ≡ slice_cmp nat_cmp (degree_list t pair) (degree_list form.now pair) }
+        ensures order { (t : Tiling) (f : List ℕ) → IsExtension s.now self.now.order.items t f
+            → result ≡ slice_cmp nat_cmp (degree_list t pair) (degree_list form.now pair) }
         ensures count { steps.new ≤ steps.old + s.now.size }
     {
         for k in 0..s.symbol().size() {
@@ -196,7 +207,8 @@ impl Visit {
         requires size { form.now.size ≡ s.now.size }
         ensures ready { IsReady s.now self.new }
         ensures standing { IsStanding s.now form.now start result }
-        ensures whole { result ≢ Greater → IsWhole s.now start self.new.order.items self.new.number.items }
+        ensures whole { result ≢ Greater
+            → IsWhole s.now start self.new.order.items self.new.number.items }
         ensures count { steps.new ≤ steps.old + 5 * s.now.size }
     {
         let form = form.symbol();

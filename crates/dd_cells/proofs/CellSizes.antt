@@ -1,41 +1,16 @@
 -- A cycle has two chambers for each turn, a chain one.
-use Rattle.std.proofs.Common.{◌≡◌, ℕ, zero, suc, ◌+◌, ◌-◌, ◌*◌, ◌<◌, ◌≤◌, ◌⊎◌, List, length, sym, ap, ◌∙◌, subst, inl, inr, ⊎_elim, arith}
+use Rattle.std.proofs.Common.{◌≡◌, ℕ, ◌+◌, ◌-◌, ◌*◌, ◌<◌, ◌≤◌, ◌⊎◌, List, length, sym, ap, ◌∙◌, inl, inr, ⊎_elim, arith}
 use Rattle.std.proofs.lemmas.Bool.{cases_lt}
-use Rattle.std.proofs.lemmas.List.Elements.{Contains-get_or}
-use Rattle.std.proofs.lemmas.List.{get_or_default}
-use Rattle.std.specs.List.{Contains}
-use Rattle.std.specs.List.Sorted.{IsStrictlyIncreasing}
 use Rattle.dd_model.specs.declared.pair.Pair.{Pair}
 use Rattle.dd_model.specs.Symbol.{Symbol, AreInvolutions, IsChamber, first, op}
 use Rattle.dd_model.specs.Code.{count_from}
 use Rattle.dd_model.specs.Cell.{InCell, IsChain, turned, IsPeriod}
-use Rattle.dd_model.proofs.Bijections.{length-count_from, get_or-count_from}
-use Rattle.dd_model.proofs.CellLists.{increasing-cons}
 use Rattle.dd_model.proofs.CellWalks.{IsMet, met_from_in_cell, in_cell-turned, in_cell-first}
 use Rattle.dd_model.proofs.Counts.{length-le_from_partners}
 use Rattle.dd_model.proofs.Turns.{turned_within}
+use Rattle.dd_model.proofs.CountFrom.{within_count, count_contains, increasing-count_from, length-count_from}
 use Rattle.dd_cells.specs.Cells.{AreMembers}
 use Rattle.dd_cells.proofs.ChainLemmas.{turns_unique, place_in_chain, apart_in_cycle}
-
--- ## The numbers from k on
-
-pub within_count : (k n x : ℕ) → Contains (count_from k n) x → (k ≤ x) × (x < k + n)
-within_count k n x (i, below, e) =
-    let size = length-count_from k n in
-    let at : k + i ≡ x = sym (get_or-count_from k n i (omega arith)) ∙ sym (get_or_default (count_from k n) i x 0 below) ∙ e in
-    (omega arith, omega arith)
-
-pub count_contains : (k n x : ℕ) → k ≤ x → x < k + n → Contains (count_from k n) x
-count_contains k n x low high =
-    let size = length-count_from k n in
-    let at : x ≡ k + (x - k) = omega arith in
-    subst (Contains (count_from k n)) (get_or-count_from k n (x - k) (omega arith) ∙ sym at)
-    (Contains-get_or (count_from k n) (x - k) 0 (omega arith))
-
-pub increasing-count_from : (k n : ℕ) → IsStrictlyIncreasing (count_from k n)
-increasing-count_from k zero = λ i h. absurd (omega arith)
-increasing-count_from k (suc n) =
-    increasing-cons k (count_from (k + 1) n) (λ y later. let w = within_count (k + 1) n y later in omega (arith, w.0)) (increasing-count_from (k + 1) n)
 
 -- ## Chains
 

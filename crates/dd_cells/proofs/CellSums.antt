@@ -1,6 +1,5 @@
 -- A sum over all chambers is the sum over the cells of the sums over their chambers.
 use Rattle.std.proofs.Common.{◌≡◌, ℕ, ◌+◌, ◌*◌, Bool, true, false, cond, eqb, List, [], ◌∷◌, length, map, refl, sym, ap, ◌∙◌, subst, inl, inr, ⊎_elim, arith}
-use Rattle.std.proofs.lemmas.Bool.{cases_lt}
 use Rattle.std.proofs.lemmas.List.Kept.{IsStrictlyIncreasing-filter}
 use Rattle.std.proofs.lemmas.List.Sums.{sum_by-cons}
 use Rattle.std.specs.List.{Contains, filter, sum_by}
@@ -10,12 +9,13 @@ use Rattle.dd_model.specs.declared.pair.Pair.{Pair}
 use Rattle.dd_model.specs.Symbol.{Symbol, AreInvolutions, IsChamber}
 use Rattle.dd_model.specs.Code.{chambers}
 use Rattle.dd_model.specs.Cell.{InCell, IsLeastOfCell, AreCells}
-use Rattle.dd_model.proofs.CellLists.{Contains-head, Contains-later, Contains-cases, increasing-head, increasing-tail}
-use Rattle.dd_model.proofs.CellSearch.{Decided, has_least, least_of_cell_unique}
+use Rattle.dd_model.proofs.CellLists.{increasing-head, increasing-tail}
+use Rattle.dd_model.proofs.CellSearch.{Decided, has_least, least_of_cell_unique, decide_chamber}
 use Rattle.dd_model.proofs.CellWalks.{in_cell-sym, in_cell-trans}
 use Rattle.dd_model.proofs.Transport.{in_cell_within}
+use Rattle.dd_model.proofs.CountFrom.{within_count, count_contains, increasing-count_from}
+use Rattle.dd_model.proofs.Lists.{Contains-head, Contains-later, Contains-cases}
 use Rattle.dd_cells.specs.Cells.{AreMembers}
-use Rattle.dd_cells.proofs.CellSizes.{within_count, count_contains, increasing-count_from}
 
 -- ## Sums over lists
 
@@ -139,13 +139,6 @@ pub record HasRoots (s : Symbol) (p : Pair) : Type 0 where
   pub root : ℕ → ℕ
   pub are : AreRoots s p root
 
-chamber_or_not : (s : Symbol) (d : ℕ) → Decided (IsChamber s d)
-chamber_or_not s d =
-    ⊎_elim
-    (λ none. inr (λ h. let low = h.0 in absurd (omega arith)))
-    (λ some. ⊎_elim (λ over. inr (λ h. let high = h.1 in absurd (omega arith))) (λ within. inl (some, within)) (cases_lt s.size d))
-    (cases_lt d 1)
-
 abbrev root_at : (s : Symbol) → AreInvolutions s → (p : Pair) (d : ℕ) → Decided (IsChamber s d) → ℕ
 root_at s inv p d (inl h) = (has_least s inv p d h).least
 root_at s inv p d (inr out) = 0
@@ -160,10 +153,10 @@ root_least s inv p d (inr out) h = absurd (out h)
 
 pub has_roots : (s : Symbol) → AreInvolutions s → (p : Pair) → HasRoots s p
 has_roots s inv p = record {
-  root = λ d. root_at s inv p d (chamber_or_not s d);
+  root = λ d. root_at s inv p d (decide_chamber s d);
   are = record {
-    in_cell = λ d h. root_in_cell s inv p d (chamber_or_not s d) h;
-    least = λ d h. root_least s inv p d (chamber_or_not s d) h;
+    in_cell = λ d h. root_in_cell s inv p d (decide_chamber s d) h;
+    least = λ d h. root_least s inv p d (decide_chamber s d) h;
   };
 }
 

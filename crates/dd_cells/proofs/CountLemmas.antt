@@ -10,10 +10,10 @@ use Rattle.dd_model.specs.Symbol.{Symbol, AreInvolutions, IsChamber, first, seco
 use Rattle.dd_model.specs.Code.{chambers}
 use Rattle.dd_model.specs.Cell.{InCell, turned, IsLeastOfCell, AreCells}
 use Rattle.dd_cells.specs.Euler.{orbits}
-use Rattle.dd_model.proofs.Bijections.{length-count_from, get_or-count_from}
 use Rattle.dd_model.proofs.Turns.{turned-last, period_bound}
 use Rattle.dd_model.proofs.CellWalks.{IsMet, met_cases, met_from_in_cell, period_from_first_return, in_cell-turned, in_cell-first}
 use Rattle.dd_model.proofs.CellLists.{AreCellsBelow, cells_below-push, cells_below-skip, cells_below-end, cells_unique}
+use Rattle.dd_model.proofs.CountFrom.{length-count_from, get_or-count_from}
 
 -- ## The walk through a cell
 

@@ -1,17 +1,18 @@
 -- The curvature from the sums of the reciprocals of the degrees.
-use Rattle.std.proofs.Common.{◌≡◌, ◌↔◌, ℕ, ◌+◌, ◌-◌, ◌*◌, ◌/◌, ◌≤◌, ℤ, pos, ◌-ℤ◌, ◌*ℤ◌, nat_abs, List, [], ◌∷◌, length, map, get_or, sym, ap, ◌∙◌, subst, ⊎_elim, arith}
+use Rattle.std.proofs.Common.{◌≡◌, ◌↔◌, ℕ, ◌+◌, ◌-◌, ◌*◌, ◌/◌, ◌≤◌, ℤ, pos, ◌-ℤ◌, ◌*ℤ◌, nat_abs, List, [], ◌∷◌, length, map, sym, ap, ◌∙◌, ⊎_elim, arith}
 use Rattle.std.specs.List.{Contains, sum_by}
 use borrow.Author.Differences.{up, down}
 use Rattle.std.proofs.lemmas.Int.{ints}
-use Rattle.std.proofs.lemmas.List.{get_or-map, length-map, get_or_default}
+use Rattle.std.proofs.lemmas.List.{get_or-map, length-map}
 use Rattle.std.proofs.lemmas.List.Elements.{Contains-get_or}
 use Rattle.dd_model.specs.declared.pair.Pair.TheVariants.{Tile, Vertex}
 use Rattle.dd_model.specs.Symbol.{Symbol, IsTable, IsSymbol, degree, item}
 use Rattle.dd_model.specs.Code.{chambers, count_from}
 use Rattle.dd_model.specs.Flat.{product, all_degrees, reciprocals, Flat}
-use Rattle.dd_model.proofs.Bijections.{length-count_from, item-count_from}
-use Rattle.dd_model.proofs.CellLists.{Contains-head, Contains-later, Contains-cases}
 use Rattle.dd_model.proofs.Codes.{same_items}
+use Rattle.dd_model.proofs.AllDegrees.{all_degrees_positive}
+use Rattle.dd_model.proofs.CountFrom.{length-count_from, item-count_from}
+use Rattle.dd_model.proofs.Lists.{Contains-cases}
 use Rattle.dd_cells.specs.Curvature.{IsCurvature, IsReciprocalSum}
 use Rattle.dd_cells.specs.Fraction.{Divides, IsReduced, IsQuotient}
 use Rattle.dd_cells.specs.declared.fractions.Fraction.{Fraction}
@@ -30,34 +31,9 @@ divides_product m (x ∷ xs) here =
     record { quotient = x * rest.quotient; product = let t = ap (λ n. x * n) rest.product in omega arith })
     (Contains-cases x m xs here)
 
-both_positive : (a b : ℕ) → 1 ≤ a → 1 ≤ b → 1 ≤ a * b
-both_positive a b la lb = grind arith
-
-product_positive : (xs : List ℕ) → ((x : ℕ) → Contains xs x → 1 ≤ x) → 1 ≤ product xs
-product_positive [] some = omega arith
-product_positive (x ∷ xs) some =
-    let here = some x (Contains-head x xs) in
-    let rest = product_positive xs (λ y later. some y (Contains-later x y xs later)) in
-    both_positive x (product xs) here rest
-
 -- the item of a chamber is in the list
 item_listed : (xs : List ℕ) (n d : ℕ) → length xs ≡ n → 1 ≤ d → d ≤ n → Contains xs (item xs d)
 item_listed xs n d size low high = Contains-get_or xs (d - 1) 0 (omega arith)
-
--- each member is the item of a chamber
-listed_item : (xs : List ℕ) (n x : ℕ) → length xs ≡ n → Contains xs x → (d : ℕ) × (1 ≤ d) × (d ≤ n) × (item xs d ≡ x)
-listed_item xs n x size (k, below, e) =
-    let back : k + 1 - 1 ≡ k = omega arith in
-    (k + 1, omega arith, omega arith, ap (λ j. get_or xs j 0) back ∙ get_or_default xs k 0 x below ∙ e)
-
-items_positive : (xs : List ℕ) (n : ℕ) → length xs ≡ n → ((d : ℕ) → 1 ≤ d → d ≤ n → 1 ≤ item xs d) → 1 ≤ product xs
-items_positive xs n size some = product_positive xs (λ x listed. let at = listed_item xs n x size listed in subst (λ m. 1 ≤ m) at.3 (some at.0 at.1 at.2))
-
-pub all_degrees_positive : (s : Symbol) → IsSymbol s → 1 ≤ all_degrees s
-all_degrees_positive s is =
-    both_positive (product s.m01) (product s.m12)
-    (items_positive s.m01 s.size is.table.m01_length (λ d low high. (is.degrees Tile d (low, high)).positive))
-    (items_positive s.m12 s.size is.table.m12_length (λ d low high. (is.degrees Vertex d (low, high)).positive))
 
 divides_left : (d a b : ℕ) → Divides d a → Divides d (a * b)
 divides_left d a b h = record { quotient = h.quotient * b; product = let t = ap (λ n. n * b) h.product in omega arith }

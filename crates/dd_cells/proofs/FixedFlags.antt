@@ -12,9 +12,9 @@ use Rattle.dd_model.specs.declared.pair.Pair.{Pair}
 use Rattle.dd_model.specs.Symbol.{Symbol, AreInvolutions, IsChamber, first, second, turn, op, act}
 use Rattle.dd_model.specs.Code.{count_from}
 use Rattle.dd_model.specs.Cell.{IsChain, turned, IsPeriod}
-use Rattle.dd_model.proofs.Bijections.{length-count_from, get_or-count_from}
 use Rattle.dd_model.proofs.Counts.{AreApart, same_totals}
 use Rattle.dd_model.proofs.Turns.{turned_within, turned-suc, turned-last, turned-add, turned-mul, turned_apart, period_divides, period_turns}
+use Rattle.dd_model.proofs.CountFrom.{length-count_from, get_or-count_from}
 use Rattle.dd_cells.specs.Cells.{AreMembers}
 use Rattle.dd_cells.proofs.CellSizes.{chain_size}
 use Rattle.dd_cells.proofs.CellSums.{sum_by_listed, sum_by_none, sum_by-map}

@@ -6,8 +6,8 @@ use Rattle.std.proofs.lemmas.List.{get_or-map, get_or_default, length-map}
 use Rattle.dd_model.specs.declared.index.Index.{Index}
 use Rattle.dd_model.specs.Symbol.{Symbol, AreInvolutions, IsChamber, op}
 use Rattle.dd_model.specs.Code.{chambers}
-use Rattle.dd_model.proofs.Bijections.{length-count_from, get_or-count_from}
 use Rattle.dd_model.proofs.Counts.{AreApart, same_totals}
+use Rattle.dd_model.proofs.CountFrom.{length-count_from, get_or-count_from}
 use Rattle.dd_cells.specs.Euler.{orbits}
 use Rattle.dd_cells.specs.Surface.{fixed_chambers}
 use Rattle.dd_cells.proofs.CellSums.{sum_by_listed, sum_by_equal, sum_by_both, sum_by_same, sum_by-map, chamber_listed, listed_chamber}

@@ -12,10 +12,11 @@ use Rattle.dd_model.proofs.Branching.{degree_same}
 use Rattle.dd_model.proofs.CellLists.{AreCellsBelow, cells_below-start, cells_below-push, cells_below-skip, cells_below-end}
 use Rattle.dd_model.proofs.CellWalks.{in_cell-refl}
 use Rattle.dd_model.proofs.Transport.{in_cell_within}
+use Rattle.dd_model.proofs.CountFrom.{count_contains}
 use Rattle.dd_cells.specs.Cells.{AreMembers}
 use Rattle.dd_cells.specs.Curvature.{IsReciprocalSum}
 use Rattle.dd_cells.specs.Fraction.{Divides}
-use Rattle.dd_cells.proofs.CellSizes.{count_contains, chain_size, cycle_size}
+use Rattle.dd_cells.proofs.CellSizes.{chain_size, cycle_size}
 use Rattle.dd_cells.proofs.CellSums.{AreRoots, has_roots, members_at, members_at_are, sum_over_cells, sum_by_same, chamber_listed}
 use Rattle.dd_cells.proofs.MemberLemmas.{period_from_turns, value_positive}
 

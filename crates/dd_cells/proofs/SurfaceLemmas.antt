@@ -13,9 +13,10 @@ use Rattle.dd_model.specs.Code.{chambers}
 use Rattle.dd_model.specs.Cell.{AreCells}
 use Rattle.dd_model.specs.Flat.{all_degrees, reciprocals}
 use Rattle.dd_model.specs.Small.{IsSmallSymbol}
-use Rattle.dd_model.proofs.Bijections.{length-count_from}
 use Rattle.dd_model.proofs.CellLists.{cells_unique}
 use Rattle.dd_model.proofs.Transport.{in_cell_within}
+use Rattle.dd_model.proofs.AllDegrees.{all_degrees_positive}
+use Rattle.dd_model.proofs.CountFrom.{length-count_from}
 use Rattle.dd_cells.specs.Cells.{AreMembers, IsKindOf, IsCellOf, AreCellsOf}
 use Rattle.dd_cells.specs.Curvature.{IsCurvature, IsReciprocalSum}
 use Rattle.dd_cells.specs.Euler.{orbits, IsEuler}
@@ -26,7 +27,7 @@ use Rattle.dd_cells.specs.declared.kind.Kind.{Kind}
 use Rattle.dd_cells.specs.declared.kind.Kind.TheVariants.{Cycle, Chain}
 use Rattle.dd_cells.specs.declared.cell.Cell.{Cell}
 use Rattle.dd_cells.proofs.CellSums.{has_roots, members_at, members_at_are, sum_over_cells, sum_by_both, sum_by_same, chamber_listed}
-use Rattle.dd_cells.proofs.CurvatureLemmas.{all_degrees_positive, sum_of_both, numbers_of_quotient, quotient_of_numbers}
+use Rattle.dd_cells.proofs.CurvatureLemmas.{sum_of_both, numbers_of_quotient, quotient_of_numbers}
 use Rattle.dd_cells.proofs.FixedFlags.{one_if, fixed_flag, flags, flags_of_chain, flags_of_cycle}
 use Rattle.dd_cells.proofs.FractionLemmas.{same_factor, denominator}
 use Rattle.dd_cells.proofs.MemberLemmas.{period_from_turns, value_positive}

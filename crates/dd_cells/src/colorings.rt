@@ -50,7 +50,8 @@ impl Coloring {
         requires reached { IsReached symbol.now chamber }
         requires forced { IsForced symbol.now chamber color }
         ensures coloring { OnOk result (IsColoring symbol.now self.new) }
-        ensures grows { OnOk result (Grows self.old.seen.items self.old.queue.items self.new.seen.items self.new.queue.items) }
+        ensures grows { OnOk result (Grows self.old.seen.items self.old.queue.items
+            self.new.seen.items self.new.queue.items) }
         ensures marked { OnOk result (IsMarked self.new.seen.items chamber) }
     {
         let place = chamber as usize - 1;
@@ -68,7 +69,8 @@ impl Coloring {
         requires chamber { IsChamber symbol.now chamber }
         requires marked { IsMarked self.old.seen.items chamber }
         ensures coloring { OnOk result (IsColoring symbol.now self.new) }
-        ensures grows { OnOk result (Grows self.old.seen.items self.old.queue.items self.new.seen.items self.new.queue.items) }
+        ensures grows { OnOk result (Grows self.old.seen.items self.old.queue.items
+            self.new.seen.items self.new.queue.items) }
         ensures marked { OnOk result (IsMarked self.new.seen.items (op symbol.now i chamber)) }
     {
         let neighbor = symbol.op(i, chamber);
@@ -85,8 +87,10 @@ impl Coloring {
         requires chamber { IsChamber symbol.now chamber }
         requires marked { IsMarked self.old.seen.items chamber }
         ensures coloring { OnOk result (IsColoring symbol.now self.new) }
-        ensures grows { OnOk result (Grows self.old.seen.items self.old.queue.items self.new.seen.items self.new.queue.items) }
-        ensures zero { OnOk result (IsMarked self.new.seen.items (op symbol.now Index.Zero chamber)) }
+        ensures grows { OnOk result (Grows self.old.seen.items self.old.queue.items
+            self.new.seen.items self.new.queue.items) }
+        ensures zero { OnOk result (IsMarked self.new.seen.items
+            (op symbol.now Index.Zero chamber)) }
         ensures one { OnOk result (IsMarked self.new.seen.items (op symbol.now Index.One chamber)) }
         ensures two { OnOk result (IsMarked self.new.seen.items (op symbol.now Index.Two chamber)) }
     {
@@ -152,9 +156,7 @@ fn is_free_of(symbol: &Symbol, i: Index) -> bool
 fn is_free(symbol: &Symbol) -> bool
     ensures { IsTrue result ↔ ((i : Index) → IsFreeOf symbol.now i) }
 {
-    is_free_of(symbol, Index::Zero)
-        && is_free_of(symbol, Index::One)
-        && is_free_of(symbol, Index::Two)
+    Index::ALL.iter().all(|i| is_free_of(symbol, *i))
 }
 
 /// The orientation of a symbol. Its surface is orientable where the answer is not `None`.

@@ -4,6 +4,7 @@ pub mod Numbers
 pub mod Fields
 pub mod Orders
 pub mod AllDegrees
+pub mod AllIndices
 pub mod AllowedLemmas
 pub mod AllowedSets
 pub mod Words

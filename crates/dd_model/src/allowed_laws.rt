@@ -15,6 +15,7 @@ pub fn sets_with_the_same_numbers_are_equal()
 /// sets are the numbers f to 216 and g to 216, exactly the symbols are wanted that meet the other
 /// conditions and have all m01 at least f and all m12 at least g.
 pub fn sets_from_a_number_ask_for_all_degrees_of_at_least_it()
-    ensures { (q : Request) (s : Symbol) (f g : ℕ) → IsValid q → IsFrom f q.faces → IsFrom g q.degrees
+    ensures { (q : Request) (s : Symbol) (f g : ℕ) → IsValid q → IsFrom f q.faces
+        → IsFrom g q.degrees
         → Wanted q s ↔ (WantedOfAnyDegrees q s × HasDegreesFrom f g s) }
 {}

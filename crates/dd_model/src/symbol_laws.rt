@@ -9,7 +9,8 @@ ghost use Rattle.dd_model.specs.Code.{code_cmp, IsLeastForm};
 pub fn isomorphic_is_equivalence()
     ensures reflexive { (s : Symbol) → IsTable s → Isomorphic s s }
     ensures symmetric { (s t : Symbol) → IsTable s → Isomorphic s t → Isomorphic t s }
-    ensures transitive { (s t u : Symbol) → IsTable s → Isomorphic s t → Isomorphic t u → Isomorphic s u }
+    ensures transitive { (s t u : Symbol) → IsTable s → Isomorphic s t → Isomorphic t u
+        → Isomorphic s u }
 {}
 
 /// The order by size and code is total.

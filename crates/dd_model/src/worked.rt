@@ -43,5 +43,7 @@ pub fn truncated_squares_backwards_are_not_least()
 /// Three symbols have one chamber, whether all are asked for or the minimal ones alone.
 pub fn single_chambers_are_three()
     ensures catalogue { (q : Request) → AsksForOneChamber q → IsCatalogue q single_chambers }
-    ensures text { (q : Request) → AsksForOneChamber q → IsText q beginning 0 (codes "<1.1:1:1,1,1:3,6>\n<1.2:1:1,1,1:4,4>\n<1.3:1:1,1,1:6,3>\n") }
+    ensures text { (q : Request) → AsksForOneChamber q
+        → IsText q beginning 0
+        (codes "<1.1:1:1,1,1:3,6>\n<1.2:1:1,1,1:4,4>\n<1.3:1:1,1,1:6,3>\n") }
 {}

@@ -13,7 +13,7 @@ use Rattle.std.proofs.lemmas.Cmp.{tied_itself}
 use Rattle.std.proofs.lemmas.List.Sorted.{sorted_far, ranks_by, IsStrictWeakOrder-flip, sum_by-IsPermutation}
 use Rattle.std.proofs.lemmas.List.Sums.{sum_by-cons}
 use Rattle.dd_name.specs.Arranged.{IsDescending, dictionary}
-use Rattle.dd_name.proofs.ListLemmas.{member-head, member-later}
+use Rattle.dd_model.proofs.Lists.{Contains-head, Contains-later}
 
 -- what a comparison answers
 pub ordering_cases : (o : Ordering) → (o ≡ Less) ⊎ (o ≡ Equal) ⊎ (o ≡ Greater)
@@ -30,8 +30,8 @@ ranks_back {X} R total = IsStrictWeakOrder-flip (λ (x y : X). is_lt (R x y)) (r
 none_counted : {X : Type 0} (f : X → ℕ) (xs : List X) → ((x : X) → Contains xs x → f x ≡ 0) → sum_by f xs ≡ 0
 none_counted f [] none = refl
 none_counted f (x ∷ xs) none =
-    let here = none x (member-head x xs) in
-    let later = none_counted f xs (λ y there. none y (member-later x y xs there)) in
+    let here = none x (Contains-head x xs) in
+    let later = none_counted f xs (λ y there. none y (Contains-later x y xs there)) in
     sum_by-cons f x xs ∙ omega (arith, here, later)
 
 sorted_tail : {X : Type 0} (lt : X → X → Bool) (x : X) (xs : List X) → IsSortedBy lt (x ∷ xs) → IsSortedBy lt xs

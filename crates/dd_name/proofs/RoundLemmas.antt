@@ -10,12 +10,12 @@ use Rattle.dd_model.specs.Symbol.{Symbol, AreInvolutions}
 use Rattle.dd_model.specs.Cell.{IsBranching}
 use Rattle.dd_model.proofs.Branching.{branching_unique}
 use Rattle.dd_model.proofs.CellLists.{increasing_unique}
+use Rattle.dd_model.proofs.Lists.{Contains-head, Contains-later, Contains-cases, Contains-none}
 use Rattle.dd_name.specs.declared.flags.Flag.{Flag}
 use Rattle.dd_name.specs.declared.joints.Joint.{Joint}
 use Rattle.dd_name.specs.Flags.{IsOfPair, index_number, place_of}
 use Rattle.dd_name.specs.Rounds.{IsJoined, IsJoint, IsLinked, AreLinked, flags, first_pair, IsRoundFrom, IsRound, start_place, AreRounds}
 use Rattle.dd_name.proofs.ChainLemmas.{other_end_unique, joined-sym, same_flag}
-use Rattle.dd_name.proofs.ListLemmas.{member-head, member-later, member-cases, member-none}
 
 -- ## Pairs and places
 
@@ -121,15 +121,15 @@ same_rest : (s : Symbol) → AreInvolutions s → (t a : Joint) (xs ys : List Jo
 same_rest s inv t a [] [] l m x y = refl
 same_rest s inv t a [] (b ∷ ys) l m x y =
     let f : b.flag ≡ t.flag = other_end_unique s inv a.by a.flag b.flag t.flag m.0.joined l.0.joined in
-    absurd (y (subst (Contains (flags (b ∷ ys))) f (member-head b.flag (flags ys))))
+    absurd (y (subst (Contains (flags (b ∷ ys))) f (Contains-head b.flag (flags ys))))
 same_rest s inv t a (b ∷ xs) [] l m x y =
     let f : b.flag ≡ t.flag = other_end_unique s inv a.by a.flag b.flag t.flag l.0.joined m.0.joined in
-    absurd (x (subst (Contains (flags (b ∷ xs))) f (member-head b.flag (flags xs))))
+    absurd (x (subst (Contains (flags (b ∷ xs))) f (Contains-head b.flag (flags xs))))
 same_rest s inv t a (b ∷ xs) (c ∷ ys) l m x y =
     let same : b ≡ c = next_unique s inv a b c l.0 m.0 (joint_of_linked s b t xs l.1) (joint_of_linked s c t ys m.1) in
     let rest : xs ≡ ys =
     same_rest s inv t b xs ys l.1 (subst (λ (j : Joint). AreLinked s j (ys ++ t ∷ [])) (sym same) m.1)
-    (λ there. x (member-later b.flag t.flag (flags xs) there)) (λ there. y (member-later c.flag t.flag (flags ys) there)) in
+    (λ there. x (Contains-later b.flag t.flag (flags xs) there)) (λ there. y (Contains-later c.flag t.flag (flags ys) there)) in
     ap (λ (j : Joint). j ∷ xs) same ∙ ap (λ (js : List Joint). c ∷ js) rest
 
 -- rounds that begin at one flag are equal
@@ -172,50 +172,50 @@ closed_along : (s : Symbol) → AreInvolutions s → (M : Flag → Type 0) (t a 
 closed_along s inv M t a [] linked end inside entered p f g there joined =
     ⊎_elim
     (λ here. others_inside s inv M a t entered linked.0 end p g (subst (λ (h : Flag). IsJoined s p h g) (sym here) joined))
-    (λ none. absurd (member-none f none))
-    (member-cases a.flag f [] there)
+    (λ none. absurd (Contains-none f none))
+    (Contains-cases a.flag f [] there)
 closed_along s inv M t a (x ∷ xs) linked end inside entered p f g there joined =
-    let next : M x.flag = inside x.flag (member-later a.flag x.flag (flags (x ∷ xs)) (member-head x.flag (flags xs))) in
+    let next : M x.flag = inside x.flag (Contains-later a.flag x.flag (flags (x ∷ xs)) (Contains-head x.flag (flags xs))) in
     ⊎_elim
     (λ here. others_inside s inv M a x entered linked.0 next p g (subst (λ (h : Flag). IsJoined s p h g) (sym here) joined))
     (λ later.
-    closed_along s inv M t x xs linked.1 end (λ h on. inside h (member-later a.flag h (flags (x ∷ xs)) on))
-    (record { from = a; inside = inside a.flag (member-head a.flag (flags (x ∷ xs))); linked = linked.0 })
+    closed_along s inv M t x xs linked.1 end (λ h on. inside h (Contains-later a.flag h (flags (x ∷ xs)) on))
+    (record { from = a; inside = inside a.flag (Contains-head a.flag (flags (x ∷ xs))); linked = linked.0 })
     p f g later joined)
-    (member-cases a.flag f (flags (x ∷ xs)) there)
+    (Contains-cases a.flag f (flags (x ∷ xs)) there)
 
 -- the last of linked joints leads to t
 last_enters : (s : Symbol) (M : Flag → Type 0) (t a : Joint) (xs : List Joint) → AreLinked s a (xs ++ t ∷ []) → ((f : Flag) → Contains (flags (a ∷ xs)) f → M f) → IsEntered s M t
-last_enters s M t a [] linked inside = record { from = a; inside = inside a.flag (member-head a.flag []); linked = linked.0 }
-last_enters s M t a (x ∷ xs) linked inside = last_enters s M t x xs linked.1 (λ h on. inside h (member-later a.flag h (flags (x ∷ xs)) on))
+last_enters s M t a [] linked inside = record { from = a; inside = inside a.flag (Contains-head a.flag []); linked = linked.0 }
+last_enters s M t a (x ∷ xs) linked inside = last_enters s M t x xs linked.1 (λ h on. inside h (Contains-later a.flag h (flags (x ∷ xs)) on))
 
 pub round_closed : (s : Symbol) → AreInvolutions s → (a : Joint) (xs : List Joint) → AreLinked s a (xs ++ a ∷ [])
     → (p : Pair) (f g : Flag) → Contains (flags (a ∷ xs)) f → IsJoined s p f g → Contains (flags (a ∷ xs)) g
 round_closed s inv a xs linked =
     let M : Flag → Type 0 = Contains (flags (a ∷ xs)) in
-    closed_along s inv M a a xs linked (member-head a.flag (flags xs)) (λ f on. on) (last_enters s M a a xs linked (λ f on. on))
+    closed_along s inv M a a xs linked (Contains-head a.flag (flags xs)) (λ f on. on) (last_enters s M a a xs linked (λ f on. on))
 
 -- where M is closed under chains and has one flag of linked joints, it has all
 all_inside : (s : Symbol) → AreInvolutions s → (M : Flag → Type 0) → ((p : Pair) (f g : Flag) → M f → IsJoined s p f g → M g)
     → (a : Joint) (xs : List Joint) → AreLinked s a xs → (f : Flag) → Contains (flags (a ∷ xs)) f → M f → (g : Flag) → Contains (flags (a ∷ xs)) g → M g
 all_inside s inv M closed a [] linked f on inside g there =
     ⊎_elim
-    (λ here. ⊎_elim (λ beside. subst M (sym here ∙ beside) inside) (λ none. absurd (member-none g none)) (member-cases a.flag g [] there))
-    (λ none. absurd (member-none f none))
-    (member-cases a.flag f [] on)
+    (λ here. ⊎_elim (λ beside. subst M (sym here ∙ beside) inside) (λ none. absurd (Contains-none g none)) (Contains-cases a.flag g [] there))
+    (λ none. absurd (Contains-none f none))
+    (Contains-cases a.flag f [] on)
 all_inside s inv M closed a (x ∷ xs) linked f on inside g there =
     let link : IsJoined s a.by a.flag x.flag = linked.0.joined in
-    let head = member-head x.flag (flags xs) in
+    let head = Contains-head x.flag (flags xs) in
     ⊎_elim
     (λ here.
     let first : M a.flag = subst M (sym here) inside in
     let later = all_inside s inv M closed x xs linked.1 x.flag head (closed a.by a.flag x.flag first link) in
-    ⊎_elim (λ e. subst M e first) (λ l. later g l) (member-cases a.flag g (flags (x ∷ xs)) there))
+    ⊎_elim (λ e. subst M e first) (λ l. later g l) (Contains-cases a.flag g (flags (x ∷ xs)) there))
     (λ behind.
     let later = all_inside s inv M closed x xs linked.1 f behind inside in
     let first : M a.flag = closed a.by x.flag a.flag (later x.flag head) (joined-sym s inv a.by a.flag x.flag link) in
-    ⊎_elim (λ e. subst M e first) (λ l. later g l) (member-cases a.flag g (flags (x ∷ xs)) there))
-    (member-cases a.flag f (flags (x ∷ xs)) on)
+    ⊎_elim (λ e. subst M e first) (λ l. later g l) (Contains-cases a.flag g (flags (x ∷ xs)) there))
+    (Contains-cases a.flag f (flags (x ∷ xs)) on)
 
 -- the beginning of a round that shares a flag with another is on the other
 start_on : (s : Symbol) → AreInvolutions s → (a b : Joint) (xs ys : List Joint) → IsRoundFrom s a xs → IsRoundFrom s b ys
@@ -224,8 +224,8 @@ start_on s inv a b xs ys x y f on_a on_b =
     let M : Flag → Type 0 = Contains (flags (b ∷ ys)) in
     let there : M a.flag =
     all_inside s inv M (λ p g h inside joined. round_closed s inv b ys y.closed p g h inside joined) a xs (linked_front s a xs (a ∷ []) x.closed)
-    f on_a on_b a.flag (member-head a.flag (flags xs)) in
-    ⊎_elim (λ e. inl e) (λ later. inr (y.least a.flag later)) (member-cases b.flag a.flag (flags ys) there)
+    f on_a on_b a.flag (Contains-head a.flag (flags xs)) in
+    ⊎_elim (λ e. inl e) (λ later. inr (y.least a.flag later)) (Contains-cases b.flag a.flag (flags ys) there)
 
 -- rounds that share a flag begin at one flag
 pub same_start : (s : Symbol) → AreInvolutions s → (a b : Joint) (xs ys : List Joint) → IsRoundFrom s a xs → IsRoundFrom s b ys
@@ -247,7 +247,7 @@ record IsOnRound (s : Symbol) (rounds : List (List Joint)) (f : Flag) : Type 0 w
   listed : Contains (map start_place rounds) (place_of start.flag)
 
 on_round : (s : Symbol) (rounds : List (List Joint)) (f : Flag) → AllByRecursion (IsRound s) rounds → Contains (flat_map flags rounds) f → IsOnRound s rounds f
-on_round s [] f each on = absurd (member-none f on)
+on_round s [] f each on = absurd (Contains-none f on)
 on_round s ([] ∷ rounds) f each on = absurd each.0
 on_round s ((a ∷ xs) ∷ rounds) f each on =
     ⊎_elim
@@ -256,7 +256,7 @@ on_round s ((a ∷ xs) ∷ rounds) f each on =
       rest = xs;
       round = each.0;
       on = here;
-      listed = member-head (place_of a.flag) (map start_place rounds);
+      listed = Contains-head (place_of a.flag) (map start_place rounds);
     })
     (λ there.
     let later = on_round s rounds f each.1 there in
@@ -265,14 +265,14 @@ on_round s ((a ∷ xs) ∷ rounds) f each on =
       rest = later.rest;
       round = later.round;
       on = later.on;
-      listed = member-later (place_of a.flag) (place_of later.start.flag) (map start_place rounds) later.listed;
+      listed = Contains-later (place_of a.flag) (place_of later.start.flag) (map start_place rounds) later.listed;
     })
     (Contains-append_cases (flags (a ∷ xs)) (flat_map flags rounds) f on)
 
 -- the places where rounds begin are those of any other list of rounds
 starts_shared : (s : Symbol) → AreInvolutions s → (bs cs : List (List Joint)) → AllByRecursion (IsRound s) bs → AreRounds s cs
     → (y : ℕ) → Contains (map start_place bs) y → Contains (map start_place cs) y
-starts_shared s inv [] cs each others y there = absurd (member-none y there)
+starts_shared s inv [] cs each others y there = absurd (Contains-none y there)
 starts_shared s inv ([] ∷ bs) cs each others y there = absurd each.0
 starts_shared s inv ((a ∷ xs) ∷ bs) cs each others y there =
     ⊎_elim
@@ -280,10 +280,10 @@ starts_shared s inv ((a ∷ xs) ∷ bs) cs each others y there =
     let flag = (joint_of_linked s a a xs each.0.closed).end.flag in
     let other = on_round s cs a.flag others.each (others.complete a.flag flag) in
     let same : a.flag ≡ other.start.flag =
-    same_start s inv a other.start xs other.rest each.0 other.round a.flag (member-head a.flag (flags xs)) other.on in
+    same_start s inv a other.start xs other.rest each.0 other.round a.flag (Contains-head a.flag (flags xs)) other.on in
     subst (Contains (map start_place cs)) (sym (ap place_of same) ∙ here) other.listed)
     (λ later. starts_shared s inv bs cs each.1 others y later)
-    (member-cases (place_of a.flag) y (map start_place bs) there)
+    (Contains-cases (place_of a.flag) y (map start_place bs) there)
 
 same_list : (s : Symbol) → AreInvolutions s → (bs cs : List (List Joint)) → map start_place bs ≡ map start_place cs
     → AllByRecursion (IsRound s) bs → AllByRecursion (IsRound s) cs → bs ≡ cs

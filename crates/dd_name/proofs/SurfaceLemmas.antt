@@ -1,13 +1,9 @@
 -- The room on a surface, and what takes it.
-use Rattle.std.proofs.Common.{◌≡◌, ℕ, ◌+◌, ◌≤◌, ◌⊎◌, ℤ, pos, ◌+ℤ◌, ◌-ℤ◌, ◌<ℤ◌, ◌≤ℤ◌, length, nat_le, sym, ap, ◌∙◌, subst, ⊎_elim, arith}
+use Rattle.std.proofs.Common.{◌≡◌, ℕ, ◌+◌, ◌⊎◌, ℤ, pos, ◌-ℤ◌, ◌<ℤ◌, length, sym, ap, ◌∙◌, subst, ⊎_elim, arith}
 use Rattle.std.proofs.lemmas.Int.{ints}
-use Rattle.std.proofs.lemmas.List.Sums.{count_by-le-length}
-use Rattle.dd_model.specs.declared.index.Index.{Index}
 use Rattle.dd_model.specs.declared.index.Index.TheVariants.{Zero, One, Two}
 use Rattle.dd_model.specs.declared.pair.Pair.TheVariants.{Tile, Vertex, Edge}
-use Rattle.dd_model.specs.Symbol.{Symbol, op}
-use Rattle.dd_model.specs.Code.{chambers}
-use Rattle.dd_model.proofs.Bijections.{length-count_from}
+use Rattle.dd_model.specs.Symbol.{Symbol}
 use Rattle.dd_model.proofs.CellLists.{cells_unique}
 use Rattle.dd_cells.specs.Euler.{orbits, IsEuler}
 use Rattle.dd_name.specs.Surface.{IsRoom, IsHalf, AreHandlesAndCrosscaps}
@@ -21,22 +17,6 @@ euler_unique s e f a b =
     let all : length a.tiles + length a.vertices + length a.edges + s.size ≡ length b.tiles + length b.vertices + length b.edges + s.size =
     omega (arith, tiles, vertices, edges) in
     a.sum ∙ ap (λ (n : ℕ). pos n -ℤ sides) all ∙ sym b.sum
-
-pub orbits_small : (s : Symbol) (i : Index) → orbits s i ≤ s.size
-unfolding orbits
-orbits_small s i =
-    let few = count_by-le-length (λ (d : ℕ). nat_le d (op s i d)) (chambers s) in
-    let all = length-count_from 1 s.size in
-    omega (arith, few, all)
-
--- the Euler number is not far below 0
-pub euler_low : (s : Symbol) (e : ℤ) → IsEuler s e → s.size ≤ 16384 → pos 0 ≤ℤ (e +ℤ pos 49152)
-euler_low s e a small =
-    let zero = orbits_small s Zero in
-    let one = orbits_small s One in
-    let two = orbits_small s Two in
-    let sum = a.sum in
-    omega (arith, ints, zero, one, two, sum)
 
 room_alone : (x : ℤ) (r q : ℕ) → (x ≡ pos r) ⊎ ((x <ℤ pos 0) × (r ≡ 0)) → (x ≡ pos q) ⊎ ((x <ℤ pos 0) × (q ≡ 0)) → r ≡ q
 room_alone x r q a b =

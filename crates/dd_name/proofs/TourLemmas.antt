@@ -11,13 +11,14 @@ use Rattle.dd_model.specs.declared.index.Index.TheVariants.{Zero, One, Two}
 use Rattle.dd_model.specs.declared.pair.Pair.{Pair}
 use Rattle.dd_model.specs.Symbol.{Symbol, AreInvolutions, IsChamber}
 use Rattle.dd_model.proofs.CellLists.{increasing-push}
+use Rattle.dd_model.proofs.Lists.{Contains-head, Contains-later, Contains-cases, Contains-none}
 use Rattle.dd_name.specs.declared.flags.Flag.{Flag}
 use Rattle.dd_name.specs.declared.joints.Joint.{Joint}
 use Rattle.dd_name.specs.Flags.{IsFlag, IsOfPair, index_number, place_of}
 use Rattle.dd_name.specs.Rounds.{IsJoined, IsJoint, IsLinked, AreLinked, AreDistinct, flags, first_pair, IsRoundFrom, IsRound, start_place, AreRounds}
 use Rattle.dd_name.specs.Marks.{IsMarked, AreMarks, IsNewRound, AreTold}
 use Rattle.dd_name.proofs.ChainLemmas.{other_end_unique, joined-sym}
-use Rattle.dd_name.proofs.ListLemmas.{member-head, member-later, member-cases, member-none, distinct-push, distinct-append, flat_map-push, all-push}
+use Rattle.dd_name.proofs.ListLemmas.{distinct-push, distinct-append, flat_map-push, all-push}
 use Rattle.dd_name.proofs.RoundLemmas.{pair_cases, two_pairs, place_apart, same_joint}
 
 -- ## Marks
@@ -99,8 +100,8 @@ tour_starts s start old first marks fresh joint flag by = record {
   joint = joint;
   room = marks.room;
   distinct = tt;
-  unmarked = λ f none. absurd (member-none f none);
-  marked = λ f. (λ m. inl m, λ either. ⊎_elim (λ m. m) (λ none. absurd (member-none f none)) either);
+  unmarked = λ f none. absurd (Contains-none f none);
+  marked = λ f. (λ m. inl m, λ either. ⊎_elim (λ m. m) (λ none. absurd (Contains-none f none)) either);
   near = λ p f g joined m. inl (marks.closed p f g joined m);
   back = λ p g other joined. inr refl;
   returned = λ m. absurd (fresh (subst (IsMarked old) flag m));
@@ -226,7 +227,7 @@ tour_is_long s start old marks joints current w fresh m none =
     let at_start : current.flag ≡ start = ap (λ (j : Joint). j.flag) same ∙ w.flag in
     ⊎_elim
     (λ o. fresh (subst (IsMarked old) at_start o))
-    (λ on. member-none current.flag (subst (λ js. Contains (flags js) current.flag) none on))
+    (λ on. Contains-none current.flag (subst (λ js. Contains (flags js) current.flag) none on))
     ((w.marked current.flag).0 m)
 
 pub tour_closes : (s : Symbol) (start : Flag) (old marks : List Bool) (joints : List Joint) (current : Joint) → IsTour s start old marks joints current
@@ -297,12 +298,12 @@ told_skip s k marks rounds f w at known = record {
 
 flag_of_linked : (s : Symbol) (t a : Joint) (xs : List Joint) → AreLinked s a (xs ++ t ∷ []) → (f : Flag) → Contains (flags (a ∷ xs)) f → IsFlag s f
 flag_of_linked s t a [] linked f on =
-    ⊎_elim (λ here. subst (IsFlag s) here linked.0.joint.end.flag) (λ none. absurd (member-none f none)) (member-cases a.flag f [] on)
+    ⊎_elim (λ here. subst (IsFlag s) here linked.0.joint.end.flag) (λ none. absurd (Contains-none f none)) (Contains-cases a.flag f [] on)
 flag_of_linked s t a (x ∷ xs) linked f on =
     ⊎_elim
     (λ here. subst (IsFlag s) here linked.0.joint.end.flag)
     (λ later. flag_of_linked s t x xs linked.1 f later)
-    (member-cases a.flag f (flags (x ∷ xs)) on)
+    (Contains-cases a.flag f (flags (x ∷ xs)) on)
 
 -- a new round is told from its least flag
 new_round_is_round : (s : Symbol) (k : ℕ) (old new : List Bool) (rounds : List (List Joint)) (start : Flag) (round : List Joint) → AreTold s k old rounds → place_of start ≡ k
@@ -315,7 +316,7 @@ new_round_is_round s k old new rounds start round w at n =
       distinct = distinct;
       least = λ g there.
           let place : place_of a.flag ≡ k = ap place_of n.flag ∙ at in
-          let on : Contains (flags (a ∷ n.rest)) g = member-later a.flag g (flags n.rest) there in
+          let on : Contains (flags (a ∷ n.rest)) g = Contains-later a.flag g (flags n.rest) there in
           let flag = flag_of_linked s a a n.rest n.closed g on in
           ⊎_elim
           (λ low. absurd (n.unmarked g (subst (λ r. Contains (flags r) g) (sym n.is) on) (w.complete g flag low)))
@@ -340,7 +341,7 @@ told_more s k old new rounds start round w at marks n =
     map-append start_place rounds (round ∷ []) ∙ ap (λ y. map start_place rounds ++ y ∷ []) place in
     let all : flat_map flags (rounds ++ round ∷ []) ≡ flat_map flags rounds ++ flags round = flat_map-push flags rounds round in
     let begun : Contains (flags round) start =
-    subst (λ r. Contains (flags r) start) (sym n.is) (subst (Contains (flags (a ∷ n.rest))) n.flag (member-head a.flag (flags n.rest))) in
+    subst (λ r. Contains (flags r) start) (sym n.is) (subst (Contains (flags (a ∷ n.rest))) n.flag (Contains-head a.flag (flags n.rest))) in
     record {
       kept = marks;
       each = all-push (IsRound s) rounds round w.each (subst (IsRound s) (sym n.is) (new_round_is_round s k old new rounds start round w at n));

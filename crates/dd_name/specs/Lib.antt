@@ -7,4 +7,3 @@ pub mod Boundaries
 pub mod Surface
 pub mod Orbifold
 pub mod Name
-pub mod Longer

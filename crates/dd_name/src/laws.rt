@@ -5,5 +5,6 @@ ghost use Rattle.dd_name.specs.Orbifold.{IsOrbifold};
 
 /// A symbol has at most one orbifold.
 pub fn a_symbol_has_one_orbifold()
-    ensures { (s : Symbol) (o o' : Orbifold) → IsSymbol s → IsOrbifold s o → IsOrbifold s o' → o ≡ o' }
+    ensures { (s : Symbol) (o o' : Orbifold) → IsSymbol s → IsOrbifold s o → IsOrbifold s o'
+        → o ≡ o' }
 {}

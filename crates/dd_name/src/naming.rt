@@ -1,20 +1,13 @@
 ghost use Rattle.std.specs.Prelude.{◌≡◌, ◌++◌, ℕ, List, replicate, OnOk, OnErr};
 ghost use Rattle.std.specs.List.{flat_map};
 ghost use Rattle.dd_name.specs.Name.{order_text, orders_text, boundary_text, parts_text, name_text};
-ghost use Rattle.dd_name.specs.Longer.{IsLonger};
+ghost use Rattle.dd_text.specs.Writing.{IsLonger};
 
 use crate::orbifolds::Orbifold;
 use crate::orders::Orders;
 use dd_model::Memory;
+use dd_text::put_bytes;
 use itoa::Buffer;
-
-/// Appends some bytes.
-fn put_bytes(out: &mut Vec<u8>, bytes: &[u8]) -> Result<(), Memory>
-    ensures bytes { OnOk result (out.new.items ≡ out.old.items ++ bytes.now) }
-    ensures longer { IsLonger out.old.items out.new.items }
-{
-    Ok(out.extend_from_slice(bytes)?)
-}
 
 /// Appends an order.
 fn put_order(out: &mut Vec<u8>, order: u32) -> Result<(), Memory>
@@ -44,7 +37,8 @@ fn put_orders(out: &mut Vec<u8>, orders: &[u32]) -> Result<(), Memory>
 
 /// Appends a star and the corners for each boundary.
 fn put_boundaries(out: &mut Vec<u8>, boundaries: &[Orders]) -> Result<(), Memory>
-    ensures boundaries { OnOk result (out.new.items ≡ out.old.items ++ flat_map boundary_text boundaries.now) }
+    ensures boundaries { OnOk result (out.new.items ≡ out.old.items
+        ++ flat_map boundary_text boundaries.now) }
     ensures longer { IsLonger out.old.items out.new.items }
 {
     for boundary in boundaries {
@@ -92,7 +86,7 @@ fn put_name(out: &mut Vec<u8>, o: &Orbifold) -> Result<(), Memory>
 /// Appends the name of an orbifold. After want of memory the text is as before.
 pub fn name(out: &mut Vec<u8>, o: &Orbifold) -> Result<(), Memory>
     ensures name { OnOk result (out.new.items ≡ out.old.items ++ name_text o.now) }
-    ensures kept { OnErr result (out.new.items ≡ out.old.items) }
+    ensures same { OnErr result (out.new.items ≡ out.old.items) }
 {
     let length = out.len();
     let named = put_name(out, o);

@@ -13,7 +13,8 @@ fn place_of(list: &[Connected], symbol: &Connected) -> Result<usize, usize>
     requires { IsAscending list.now }
     ensures found { IfOk result (λ _. Contains list.now symbol.now) }
     ensures within { IfErr result (λ k. k ≤ length list.now) }
-    ensures below { IfErr result (λ k. AllByRecursion (λ y. IsBelow y symbol.now) (take k list.now)) }
+    ensures below { IfErr result (λ k.
+        AllByRecursion (λ y. IsBelow y symbol.now) (take k list.now)) }
     ensures above { IfErr result (λ k. AllByRecursion (IsBelow symbol.now) (drop k list.now)) }
 {
     symbol.known();
@@ -32,7 +33,8 @@ fn place_of(list: &[Connected], symbol: &Connected) -> Result<usize, usize>
 pub fn insert(list: &mut Vec<Connected>, symbol: Connected) -> Result<(), Memory>
     requires { IsAscending list.old.items }
     ensures ascending { OnOk result (IsAscending list.new.items) }
-    ensures members { OnOk result ((s : Tiling) → Contains list.new.items s ↔ (Contains list.old.items s ⊎ (s ≡ symbol))) }
+    ensures members { OnOk result
+        ((s : Tiling) → Contains list.new.items s ↔ (Contains list.old.items s ⊎ (s ≡ symbol))) }
 {
     match place_of(list, &symbol) {
         Ok(_) => Ok(()),

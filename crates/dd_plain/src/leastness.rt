@@ -17,7 +17,8 @@ fn is_beaten_by(alloc: Global, symbol: &Connected, number: u64) -> Result<bool, 
     requires { symbol.now.size ≤ 3 }
     ensures beaten { IfOk result (λ beaten. OnTrue beaten (Least symbol.now → ⊥)) }
     ensures unbeaten { IfOk result (λ beaten. OnFalse beaten ((t : Tiling) → IsSymbol t
-        → IsIsomorphism symbol.now t (choices chamber_table symbol.now.size number) → code_cmp symbol.now t ≢ Greater)) }
+        → IsIsomorphism symbol.now t (choices chamber_table symbol.now.size number)
+        → code_cmp symbol.now t ≢ Greater)) }
 {
     symbol.known();
     let map = list_of(alloc, &CHAMBERS, symbol.symbol().size(), number)?;

@@ -3,8 +3,6 @@ use Rattle.std.proofs.Common.{◌≡◌, ℕ, zero, suc, ◌+◌, ◌-◌, ◌<�
 use Rattle.std.proofs.lemmas.Bool.{cases_lt}
 use Rattle.std.proofs.lemmas.List.{length-append, get_or_push, get_or_append_left}
 use Rattle.std.specs.List.{Contains}
-use Rattle.std.specs.List.Sorted.{IsStrictlyIncreasing}
-use Rattle.std.proofs.lemmas.List.{get_or_default}
 use Rattle.dd_model.specs.declared.index.Index.{Index}
 use Rattle.dd_model.specs.declared.pair.Pair.{Pair}
 use Rattle.dd_model.specs.declared.pair.Pair.TheVariants.{Tile, Vertex, Edge}
@@ -14,7 +12,6 @@ use Rattle.dd_model.specs.Cell.{IsBranching}
 use Rattle.dd_model.specs.Isomorphic.{Undoes, IsMorphism, IsIsomorphism}
 use Rattle.dd_model.specs.Minimal.{Alike, Minimal}
 use Rattle.dd_model.proofs.Words.{act_within}
-use Rattle.dd_model.proofs.Bijections.{length-count_from, get_or-count_from, item-count_from}
 use Rattle.dd_model.proofs.Branching.{branching_unique}
 use Rattle.dd_model.proofs.Carried.{branching-along}
 use Rattle.dd_model.proofs.Codes.{same_items}
@@ -22,6 +19,7 @@ use Rattle.dd_model.proofs.Counts.{length-le_from_partners}
 use Rattle.dd_model.proofs.FixedMaps.{same_by_fixed_map}
 use Rattle.dd_model.proofs.Isomorphisms.{identity_isomorphism}
 use Rattle.dd_model.proofs.Transport.{act-along}
+use Rattle.dd_model.proofs.CountFrom.{within_count, increasing-count_from, count_contains, length-count_from, item-count_from}
 use Rattle.dd_quotient.specs.MinimalImage.{IsMinimalImage, IsInOrder, IsEarlier, AreAllSmall, IsFirstTooLarge}
 use Rattle.dd_quotient.proofs.OntoLemmas.{each_image}
 
@@ -123,35 +121,18 @@ partners s m t f g a = chosen (IsPartner s f g) m.size (λ e low high.
     let x = a.onto e (low, high) in
     (item g x.chamber, record { chamber = x.chamber; is_chamber = x.is_chamber; first = x.leads; second = refl }))
 
-count_increases : (n : ℕ) → IsStrictlyIncreasing (count_from 1 n)
-count_increases n k below =
-    let size = length-count_from 1 n in
-    let here = get_or-count_from 1 n k (omega arith) in
-    let next = get_or-count_from 1 n (k + 1) (omega arith) in
-    omega arith
-
 member_of_count : (n x : ℕ) → Contains (count_from 1 n) x → (1 ≤ x) × (x ≤ n)
-member_of_count n x (k, below, e) =
-    let size = length-count_from 1 n in
-    let here = get_or-count_from 1 n k (omega arith) in
-    let read = get_or_default (count_from 1 n) k 0 x below in
-    (omega (arith, e, read), omega (arith, e, read))
-
-count_member : (n x : ℕ) → 1 ≤ x → x ≤ n → Contains (count_from 1 n) x
-count_member n x low high =
-    let size = length-count_from 1 n in
-    let below : x - 1 < length (count_from 1 n) = omega arith in
-    (x - 1, below, get_or_default (count_from 1 n) (x - 1) x 0 below ∙ item-count_from n x low high)
+member_of_count n x there = let w = within_count 1 n x there in let high = w.1 in (w.0, omega arith)
 
 -- a minimal image has no more chambers than another
 size-le : (s m t : Symbol) (f g : List ℕ) → IsMinimalImage s m f → IsMinimalImage s t g → m.size ≤ t.size
 size-le s m t f g a b =
-    let long = length-le_from_partners (IsPartner s f g) (count_from 1 m.size) (count_from 1 t.size) (count_increases m.size)
+    let long = length-le_from_partners (IsPartner s f g) (count_from 1 m.size) (count_from 1 t.size) (increasing-count_from 1 m.size)
     (λ e here.
     let h = member_of_count m.size e here in
     let x = a.onto e h in
     let w = b.morphism.within x.chamber x.is_chamber in
-    (item g x.chamber, count_member t.size (item g x.chamber) w.0 w.1, record { chamber = x.chamber; is_chamber = x.is_chamber; first = x.leads; second = refl }))
+    (item g x.chamber, count_contains 1 t.size (item g x.chamber) w.0 (let high = w.1 in omega arith), record { chamber = x.chamber; is_chamber = x.is_chamber; first = x.leads; second = refl }))
     (λ e e' x _ _ p q. partner_unique s t m g f b a x e e' (turn_over s f g e x p) (turn_over s f g e' x q)) in
     let lm = length-count_from 1 m.size in
     let lt = length-count_from 1 t.size in

@@ -12,7 +12,9 @@ use Rattle.dd_model.proofs.Branching.{degree_same}
 use Rattle.dd_model.proofs.CellWalks.{has_period}
 use Rattle.dd_model.proofs.Turns.{period_divides, IsLeastTurns-from_period, least_turns_unique}
 use Rattle.dd_symbol.specs.Building.{listed}
-use Rattle.dd_symbol.specs.Refusals.{IsMultiple, PairBefore, AreSmall, IsTooLarge, IsRefused}
+use Rattle.dd_symbol.specs.Refusals.{IsRefused}
+use Rattle.dd_symbol.specs.Causes.{PairBefore, IsTooLarge}
+use Rattle.dd_symbol.specs.Conditions.{IsMultiple, AreSmall}
 use Rattle.dd_symbol.specs.declared.refusals.Refusal.{Refusal}
 use Rattle.dd_symbol.specs.declared.refusals.Refusal.TheVariants.{Empty, TooManyChambers, OpRange, NotInvolution, NotCommuting, NotConnected, DegreeZero, DegreeVaries, NotMultiple, BranchingTooLarge, Memory}
 use Rattle.dd_quotient.specs.Alike.{AreAlikeClasses}

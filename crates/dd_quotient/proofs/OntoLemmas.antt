@@ -1,12 +1,10 @@
 -- What a morphism onto a table carries from one to the other.
 use Rattle.std.proofs.Common.{◌≡◌, ℕ, ◌≤◌, List, ◌++◌, sym, ap, ◌∙◌, subst, arith}
-use Rattle.dd_model.specs.declared.index.Index.{Index}
-use Rattle.dd_model.specs.declared.pair.Pair.{Pair}
-use Rattle.dd_model.specs.Symbol.{Symbol, IsTable, IsSymbol, AreInvolutions, HasDegree, IsChamber, first, second, turn, degree, item, op, act, power}
+use Rattle.dd_model.specs.Symbol.{Symbol, IsTable, IsSymbol, AreInvolutions, HasDegree, IsChamber, item, op, act}
 use Rattle.dd_model.specs.Connected.{IsReached, Connected}
 use Rattle.dd_model.specs.Isomorphic.{HaveLengths, IsMorphism}
 use Rattle.dd_model.proofs.Words.{act-append, backwards, act-backwards}
-use Rattle.dd_model.proofs.Transport.{act-along, degree-along}
+use Rattle.dd_model.proofs.Transport.{act-along, has_degree-along}
 use Rattle.dd_quotient.specs.MinimalImage.{IsOnto}
 
 -- what holds of each image holds of each chamber
@@ -23,19 +21,6 @@ involutions-onto s m f inv mor onto i = record {
       ap (op m i) (sym (mor.op i d h)) ∙ sym (mor.op i (op s i d) ((inv i).within d h)) ∙ ap (item f) ((inv i).involutive d h));
 }
 
--- the image of a chamber has the degree of the chamber
-degree-image : (s m : Symbol) (f : List ℕ) → AreInvolutions s → IsMorphism s m f → (p : Pair) (d : ℕ) → IsChamber s d → HasDegree s p d → HasDegree m p (item f d)
-degree-image s m f inv mor p d h has =
-    let same = degree-along s m f mor p d h in
-    let along : (i : Index) → degree s p (op s i d) ≡ degree s p d → degree m p (op m i (item f d)) ≡ degree m p (item f d) = λ i e.
-    ap (degree m p) (sym (mor.op i d h)) ∙ degree-along s m f mor p (op s i d) ((inv i).within d h) ∙ e ∙ sym same in
-    record {
-      positive = subst (λ x. 1 ≤ x) (sym same) has.positive;
-      along_first = along (first p) has.along_first;
-      along_second = along (second p) has.along_second;
-      turns = ap (λ k. act m (power (turn p) k) (item f d)) same ∙ sym (act-along s m f inv mor (power (turn p) (degree s p d)) d h) ∙ ap (item f) has.turns;
-    }
-
 table-onto : (s m : Symbol) (f : List ℕ) → IsTable s → IsMorphism s m f → IsOnto s m f → HaveLengths m → IsTable m
 table-onto s m f is mor onto ls = record {
   chambers = let one = mor.within 1 (omega arith, is.chambers) in let low = one.0 in let high = one.1 in omega arith;
@@ -49,7 +34,7 @@ table-onto s m f is mor onto ls = record {
 pub symbol-onto : (s m : Symbol) (f : List ℕ) → IsSymbol s → IsMorphism s m f → IsOnto s m f → HaveLengths m → IsSymbol m
 symbol-onto s m f is mor onto ls = record {
   table = table-onto s m f is.table mor onto ls;
-  degrees = λ p. each_image s m f onto (HasDegree m p) (λ d h. degree-image s m f is.table.involutions mor p d h (is.degrees p d h));
+  degrees = λ p. each_image s m f onto (HasDegree m p) (λ d h. has_degree-along s m f is.table.involutions mor p d h (is.degrees p d h));
 }
 
 -- and a connected one only connected ones

@@ -34,7 +34,7 @@ pub fn minimal_image(alloc: Global, s: &Connected) -> Result<(Connected, Map), M
     ensures image { IfOk result (λ found. IsMinimalImage s.now found.0 found.1) }
     ensures order { IfOk result (λ found. IsInOrder s.now found.1) }
     ensures small { IfOk result (λ found. AreAllSmall found.0) }
-    ensures fault { IfErr result (λ fault. IsMinimalFault s.now fault) }
+    ensures why { IfErr result (λ fault. IsMinimalFault s.now fault) }
 {
     let symbol = s.symbol();
     let classes = alike_classes(alloc, s)?;

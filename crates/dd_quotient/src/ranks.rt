@@ -21,8 +21,10 @@ impl Ranks {
         requires led { HaveLeaders classes.now }
         requires low { 1 ≤ chamber }
         requires high { chamber ≤ length classes.now }
-        requires before { AreRanks classes.now self.old.leaders.items self.old.ranks.items (chamber - 1) }
-        ensures { OnOk result (AreRanks classes.now self.new.leaders.items self.new.ranks.items chamber) }
+        requires before { AreRanks classes.now self.old.leaders.items self.old.ranks.items
+            (chamber - 1) }
+        ensures { OnOk result (AreRanks classes.now self.new.leaders.items self.new.ranks.items
+            chamber) }
     {
         let leader = classes[chamber as usize - 1];
         if leader == chamber {
@@ -39,7 +41,8 @@ impl Ranks {
 pub(crate) fn ranks_of(alloc: Global, classes: &[u32]) -> Result<Ranks, Memory>
     requires led { HaveLeaders classes.now }
     requires few { length classes.now ≤ 16384 }
-    ensures { IfOk result (λ all. AreRanks classes.now all.leaders.items all.ranks.items (length classes.now)) }
+    ensures { IfOk result (λ all. AreRanks classes.now all.leaders.items all.ranks.items
+        (length classes.now)) }
 {
     let mut all = Ranks {
         leaders: Vec::new(alloc),
@@ -61,7 +64,8 @@ pub(crate) fn images_of(
 ) -> Result<Vec<u32>, Memory>
     requires chambers { (e : ℕ) → IsRank leaders.now e → IsChamber s.now (item leaders.now e) }
     requires ranks { length ranks.now ≡ s.now.size }
-    ensures { IfOk result (λ images. AreValues (image_of s.now leaders.now ranks.now i) (length leaders.now) images.items) }
+    ensures { IfOk result (λ images. AreValues (image_of s.now leaders.now ranks.now i)
+        (length leaders.now) images.items) }
 {
     let mut images = Vec::with_capacity(alloc, leaders.len())?;
     for leader in leaders {
@@ -78,7 +82,8 @@ pub(crate) fn degrees_of(
     pair: Pair,
 ) -> Result<Vec<u32>, Memory>
     requires { (e : ℕ) → IsRank leaders.now e → IsChamber s.now (item leaders.now e) }
-    ensures { IfOk result (λ degrees. AreValues (degree_of s.now leaders.now pair) (length leaders.now) degrees.items) }
+    ensures { IfOk result (λ degrees. AreValues (degree_of s.now leaders.now pair)
+        (length leaders.now) degrees.items) }
 {
     let mut degrees = Vec::with_capacity(alloc, leaders.len())?;
     for leader in leaders {

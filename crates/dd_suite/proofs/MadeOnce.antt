@@ -14,9 +14,7 @@ use Rattle.dd_template.specs.Table.{Table}
 use Rattle.dd_template.specs.Made.{made}
 use Rattle.dd_template.specs.Lawful.{IsLawful}
 use Rattle.dd_template.specs.Named.{ambo, truncate, chamfer}
-use Rattle.dd_template.proofs.AmboLawful.{ambo_lawful}
-use Rattle.dd_template.proofs.TruncateLawful.{truncate_lawful}
-use Rattle.dd_template.proofs.ChamferLawful.{chamfer_lawful}
+use Rattle.dd_template.proofs.NamedTables.{ambo_lawful, truncate_lawful, chamfer_lawful}
 use Rattle.dd_template.proofs.MadeSymbols.{made_symbol}
 use Rattle.dd_suite.specs.declared.commands.SymbolCommand.{SymbolCommand}
 use Rattle.dd_suite.specs.declared.commands.SymbolCommand.TheVariants.{Lines, Canon, Minimal, Dual, Ambo, Truncate, Chamfer}

@@ -1,5 +1,5 @@
 -- What is refused is not accepted.
-use Rattle.std.proofs.Common.{◌≡◌, ◌≢◌, ℕ, Result, Ok, Err, IfErr, ◌%◌, List, [], length, get_or, refl, sym, ap, ◌∙◌, subst, arith}
+use Rattle.std.proofs.Common.{◌≡◌, ◌≢◌, ℕ, Result, Ok, Err, IfErr, ◌%◌, List, [], length, get_or, refl, sym, ap, ◌∙◌, subst, arith, zero, suc, ◌<◌}
 use Rattle.std.specs.Result.{IsErrAnd}
 use Rattle.std.specs.Global.{Global}
 use Rattle.std.specs.Prelude.{Vec}
@@ -14,6 +14,9 @@ use Rattle.dd_symbol.specs.declared.refusals.Refusal.{Refusal}
 use Rattle.dd_symbol.specs.declared.refusals.Refusal.TheVariants.{Empty, TooManyChambers, OpRange, NotInvolution, NotCommuting, NotConnected, DegreeZero, DegreeVaries, NotMultiple, BranchingTooLarge, Memory}
 use Rattle.dd_symbol.proofs.DegreeLemmas.{multiple-from_turns}
 use Rattle.dd_model.proofs.Branching.{degree_same}
+use Rattle.dd_model.specs.declared.index.Index.{Index}
+use Rattle.dd_model.proofs.AllIndices.{index_at_place}
+use Rattle.dd_symbol.specs.Causes.{IndexBefore}
 
 -- a fault of lists that are not empty and not too long refuses them
 pub refused-from_fault : (limit : ℕ) (s : Symbol) → HasSize limit s → (why : Refusal) → IsFault s why → IsRefused limit s why
@@ -76,3 +79,10 @@ given-from_items ops three a b c s0 s1 s2 m01 m12 n01 n12 e0 e1 e2 e01 e12 =
     ∙ ap (λ xs. listed (get_or (lists ops) 0 []) xs s2 m01 m12) (e1 ∙ sym (get_or-map (λ v. v.items) ops 1 b [] (omega arith)))
     ∙ ap (λ xs. listed (get_or (lists ops) 0 []) (get_or (lists ops) 1 []) xs m01 m12) (e2 ∙ sym (get_or-map (λ v. v.items) ops 2 c [] (omega arith)))
     ∙ ap (λ xs. given ops xs m12) e01 ∙ ap (given ops n01) e12
+
+-- what holds at the places before one holds of the involutions before it
+pub index_before : (P : Index → Type 0) (n : ℕ) → n < 3 → ((k : ℕ) → k < n → P (index_at_place k)) → IndexBefore P (index_at_place n)
+index_before P zero h before = tt
+index_before P (suc zero) h before = before 0 (omega arith)
+index_before P (suc (suc zero)) h before = (before 0 (omega arith), before 1 (omega arith))
+index_before P (suc (suc (suc n))) h before = absurd (omega arith)

@@ -10,7 +10,9 @@ use Rattle.dd_model.specs.Connected.{IsReached}
 use Rattle.dd_model.specs.Cell.{IsLeastTurns, IsBranching}
 use Rattle.dd_model.proofs.Turns.{least_turns_unique}
 use Rattle.dd_model.proofs.Branching.{branching_unique}
-use Rattle.dd_symbol.specs.Refusals.{Commutes, HasDegreeOfCell, IsMultiple, IsSmall, AtAll, IsFirst, IndexBefore, PairBefore, OfBoth, HasSize, AreConnected, HasNoDegree, DegreeChanges, IsNoMultiple, IsTooLarge, IsRefused}
+use Rattle.dd_symbol.specs.Refusals.{HasSize, IsRefused}
+use Rattle.dd_symbol.specs.Causes.{IsFirst, IndexBefore, PairBefore, HasNoDegree, DegreeChanges, IsNoMultiple, IsTooLarge}
+use Rattle.dd_symbol.specs.Conditions.{Commutes, HasDegreeOfCell, IsMultiple, IsSmall, AtAll, OfBoth, AreConnected}
 use Rattle.dd_symbol.specs.declared.refusals.Refusal.{Refusal}
 use Rattle.dd_symbol.specs.declared.refusals.Refusal.TheVariants.{Empty, TooManyChambers, OpRange, NotInvolution, NotCommuting, NotConnected, DegreeZero, DegreeVaries, NotMultiple, BranchingTooLarge, Memory}
 

@@ -2,6 +2,8 @@ pub mod Table
 pub mod Rows
 pub mod Degrees
 pub mod Walk
+pub mod Conditions
+pub mod Causes
 pub mod Refusals
 pub mod Building
 pub mod Maps

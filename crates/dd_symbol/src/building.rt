@@ -22,7 +22,8 @@ impl Table {
         requires ones { length s1.now ≡ length s0.now }
         requires twos { length s2.now ≡ length s0.now }
         requires none { numbers.old.items ≡ [] }
-        ensures { OnOk result (HasRows (op (listed s0.now s1.now s2.now [] [])) (length s0.now) numbers.new.items) }
+        ensures { OnOk result
+            (HasRows (op (listed s0.now s1.now s2.now [] [])) (length s0.now) numbers.new.items) }
     {
         for k in 0..s0.len() {
             numbers.push(s0[k])?;
@@ -43,7 +44,8 @@ impl Table {
     ) -> Result<Table, Memory>
         requires lengths { HaveOneLength (listed s0.now s1.now s2.now m01.now m12.now) }
         requires small { length s0.now < 16385 }
-        ensures { IfOk result (λ table. symbol_of table ≡ listed s0.now s1.now s2.now m01.now m12.now) }
+        ensures { IfOk result (λ table.
+            symbol_of table ≡ listed s0.now s1.now s2.now m01.now m12.now) }
     {
         let mut numbers = Vec::with_capacity(alloc, 5 * s0.len())?;
         Table::push_rows(&mut numbers, s0, s1, s2)?;
@@ -83,7 +85,8 @@ pub fn build(
     requires limit { limit ≤ 16384 }
     ensures symbol { IfOk result (λ connected. connected ≡ given ops m01.items m12.items) }
     ensures accepted { IfOk result (λ _. IsAccepted limit (given ops m01.items m12.items)) }
-    ensures refused { IfErr result (λ why. why ≢ Refusal.Memory → IsAccepted limit (given ops m01.items m12.items) → ⊥) }
+    ensures refused { IfErr result (λ why.
+        why ≢ Refusal.Memory → IsAccepted limit (given ops m01.items m12.items) → ⊥) }
     ensures why { IfErr result (λ why. IsRefused limit (given ops m01.items m12.items) why) }
 {
     let [s0, s1, s2] = &ops;

@@ -10,7 +10,7 @@ impl Table {
     ghost use Rattle.dd_model.specs.Symbol.{AreInvolutions, IsChamber, item};
     ghost use Rattle.dd_model.specs.Cell.{IsPeriod, IsBranching, InCell, AreCells};
     ghost use Rattle.dd_symbol.specs.Degrees.{AreLeast};
-    ghost use Rattle.dd_symbol.specs.Refusals.{IsMultiple};
+    ghost use Rattle.dd_symbol.specs.Conditions.{IsMultiple};
 
     /// The least positive number of turns that fixes a chamber.
     pub fn period(&self, pair: Pair, chamber: u32) -> u32
@@ -44,8 +44,11 @@ impl Table {
         requires chamber { IsChamber (symbol_of self.now) chamber }
         requires length { length least.old.items ≡ (symbol_of self.now).size }
         ensures length { length least.new.items ≡ (symbol_of self.now).size }
-        ensures cell { (e : ℕ) → InCell (symbol_of self.now) pair chamber e → item least.new.items e ≡ chamber }
-        ensures others { (e : ℕ) → IsChamber (symbol_of self.now) e → (InCell (symbol_of self.now) pair chamber e → ⊥) → item least.new.items e ≡ item least.old.items e }
+        ensures cell { (e : ℕ) → InCell (symbol_of self.now) pair chamber e
+            → item least.new.items e ≡ chamber }
+        ensures others { (e : ℕ) → IsChamber (symbol_of self.now) e
+            → (InCell (symbol_of self.now) pair chamber e → ⊥)
+            → item least.new.items e ≡ item least.old.items e }
     {
         let turns = self.period(pair, chamber);
         let mut place = chamber;

@@ -12,7 +12,9 @@ const LARGEST_BRANCHING: u32 = 30;
 impl Table {
     ghost use Rattle.dd_symbol.specs.Table.{symbol_of};
     ghost use Rattle.dd_symbol.specs.Degrees.{AreLeast};
-    ghost use Rattle.dd_symbol.specs.Refusals.{PairBefore, OfBoth, AreConnected, ArePositive, AreConstant, AreMultiples, AreSmall, IsMultiple, IsSmall, IsFault};
+    ghost use Rattle.dd_symbol.specs.Refusals.{IsFault};
+    ghost use Rattle.dd_symbol.specs.Causes.{PairBefore};
+    ghost use Rattle.dd_symbol.specs.Conditions.{OfBoth, AreConnected, ArePositive, AreConstant, AreMultiples, AreSmall, IsMultiple, IsSmall};
     ghost use Rattle.dd_model.specs.Symbol.{IsChamber};
     ghost use Rattle.dd_model.specs.Small.{IsSmallSymbol};
 
@@ -57,7 +59,8 @@ impl Table {
         requires constant { OfBoth (AreConstant (symbol_of self.now)) }
         requires before { PairBefore (AreMultiples (symbol_of self.now)) pair }
         requires chamber { IsChamber (symbol_of self.now) chamber }
-        requires earlier { (e : ℕ) → IsChamber (symbol_of self.now) e → e < chamber → IsMultiple (symbol_of self.now) pair e }
+        requires earlier { (e : ℕ) → IsChamber (symbol_of self.now) e → e < chamber
+            → IsMultiple (symbol_of self.now) pair e }
         ensures multiple { OnOk result (IsMultiple (symbol_of self.now) pair chamber) }
         ensures why { IfErr result (λ why. IsFault (symbol_of self.now) why) }
     {
@@ -82,7 +85,8 @@ impl Table {
         requires multiples { OfBoth (AreMultiples (symbol_of self.now)) }
         requires before { PairBefore (AreSmall (symbol_of self.now)) pair }
         requires chamber { IsChamber (symbol_of self.now) chamber }
-        requires earlier { (e : ℕ) → IsChamber (symbol_of self.now) e → e < chamber → IsSmall (symbol_of self.now) pair e }
+        requires earlier { (e : ℕ) → IsChamber (symbol_of self.now) e → e < chamber
+            → IsSmall (symbol_of self.now) pair e }
         ensures small { OnOk result (IsSmall (symbol_of self.now) pair chamber) }
         ensures why { IfErr result (λ why. IsFault (symbol_of self.now) why) }
     {

@@ -6,7 +6,9 @@ use dd_model::{Index, Pair};
 
 impl Table {
     ghost use Rattle.dd_symbol.specs.Table.{symbol_of};
-    ghost use Rattle.dd_symbol.specs.Refusals.{IndexBefore, IsWithin, IsInvolutive, Commutes, AtAll, IsFault};
+    ghost use Rattle.dd_symbol.specs.Refusals.{IsFault};
+    ghost use Rattle.dd_symbol.specs.Causes.{IndexBefore};
+    ghost use Rattle.dd_symbol.specs.Conditions.{IsWithin, IsInvolutive, Commutes, AtAll};
     ghost use Rattle.dd_model.specs.Symbol.{AreInvolutions};
 
     /// Refuses images that are no chambers.
@@ -46,19 +48,20 @@ impl Table {
         ensures involutions { OnOk result (AreInvolutions (symbol_of self.now)) }
         ensures why { IfErr result (λ why. IsFault (symbol_of self.now) why) }
     {
-        self.check_range(Index::Zero)?;
-        self.check_range(Index::One)?;
-        self.check_range(Index::Two)?;
-        self.check_inverse(Index::Zero)?;
-        self.check_inverse(Index::One)?;
-        self.check_inverse(Index::Two)?;
+        for i in Index::ALL {
+            self.check_range(i)?;
+        }
+        for i in Index::ALL {
+            self.check_inverse(i)?;
+        }
         Ok(())
     }
 
     /// Refuses a chamber that s0 s2 s0 s2 moves.
     pub fn check_commuting(&self) -> Result<(), Refusal>
         requires involutions { AreInvolutions (symbol_of self.now) }
-        ensures commuting { OnOk result (AtAll (symbol_of self.now) (Commutes (symbol_of self.now))) }
+        ensures commuting { OnOk result
+            (AtAll (symbol_of self.now) (Commutes (symbol_of self.now))) }
         ensures why { IfErr result (λ why. IsFault (symbol_of self.now) why) }
     {
         let turn = [Pair::Edge.first(), Pair::Edge.second()];

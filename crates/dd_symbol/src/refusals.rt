@@ -72,6 +72,8 @@ impl From<Memory> for Refusal {
 
 /// No lists are refused for two causes, and none are refused that are accepted.
 pub fn refusals_exclude_each_other()
-    ensures unique { (limit : ℕ) (s : Symbol) (a b : Refusal) → IsRefused limit s a → IsRefused limit s b → a ≢ Refusal.Memory → b ≢ Refusal.Memory → a ≡ b }
-    ensures accepted { (limit : ℕ) (s : Symbol) (why : Refusal) → IsRefused limit s why → why ≢ Refusal.Memory → IsAccepted limit s → ⊥ }
+    ensures unique { (limit : ℕ) (s : Symbol) (a b : Refusal) → IsRefused limit s a
+        → IsRefused limit s b → a ≢ Refusal.Memory → b ≢ Refusal.Memory → a ≡ b }
+    ensures accepted { (limit : ℕ) (s : Symbol) (why : Refusal) → IsRefused limit s why
+        → why ≢ Refusal.Memory → IsAccepted limit s → ⊥ }
 {}

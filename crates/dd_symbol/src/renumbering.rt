@@ -27,7 +27,9 @@ impl Table {
         requires lists { AreInvolutions (symbol_of self.now) }
         requires maps { AreInverse (symbol_of self.now).size map.now back.now }
         requires none { numbers.old.items ≡ [] }
-        ensures { OnOk result (HasRows (λ i e. item map.now (op (symbol_of self.now) i (item back.now e))) (symbol_of self.now).size numbers.new.items) }
+        ensures { OnOk result
+            (HasRows (λ i e. item map.now (op (symbol_of self.now) i (item back.now e)))
+            (symbol_of self.now).size numbers.new.items) }
     {
         for k in 0..self.size() {
             numbers.push(self.carried(Index::Zero, map, back, k + 1))?;
@@ -39,9 +41,11 @@ impl Table {
 
     /// Appends the degrees of all chambers in the order that a map back gives.
     fn push_degrees(&self, numbers: &mut Vec<u32>, pair: Pair, back: &[u32]) -> Result<(), Memory>
-        requires within { (e : ℕ) → 1 ≤ e → e ≤ length back.now → IsChamber (symbol_of self.now) (item back.now e) }
+        requires within { (e : ℕ) → 1 ≤ e → e ≤ length back.now
+            → IsChamber (symbol_of self.now) (item back.now e) }
         requires size { length back.now ≤ 16384 }
-        ensures { OnOk result (numbers.new.items ≡ numbers.old.items ++ map (degree (symbol_of self.now) pair) back.now) }
+        ensures { OnOk result (numbers.new.items ≡ numbers.old.items
+            ++ map (degree (symbol_of self.now) pair) back.now) }
     {
         for k in 0..back.len() as u32 {
             numbers.push(self.degree(pair, item(back, k + 1)))?;
@@ -53,7 +57,8 @@ impl Table {
     pub fn renumbered(&self, alloc: Global, map: &[u32], back: &[u32]) -> Result<Table, Memory>
         requires lists { AreInvolutions (symbol_of self.now) }
         requires maps { AreInverse (symbol_of self.now).size map.now back.now }
-        ensures { IfOk result (λ table. IsIsomorphism (symbol_of self.now) (symbol_of table) map.now) }
+        ensures { IfOk result (λ table.
+            IsIsomorphism (symbol_of self.now) (symbol_of table) map.now) }
     {
         let mut numbers = Vec::with_capacity(alloc, 5 * self.size() as usize)?;
         self.push_images(&mut numbers, map, back)?;

@@ -123,7 +123,6 @@ fn octagons(alloc: Global) -> Result<Connected, Refusal> {
 #[test]
 fn reads_images_and_degrees(rt: HostRuntime) -> Result<(), Fail> {
     let connected = octagons(rt.alloc())?;
-    connected.known();
     let symbol = connected.symbol();
     assert_eq!(rt; symbol.size(), 3);
     assert_eq!(rt; symbol.op(Index::One, 2), 3);

@@ -7,10 +7,12 @@ use std::alloc::Global;
 
 impl Table {
     ghost use Rattle.dd_symbol.specs.Table.{symbol_of};
+    ghost use Rattle.dd_model.specs.declared.index.Index.{Index as Letter};
     ghost use Rattle.dd_model.specs.Symbol.{AreInvolutions, IsChamber, op};
     ghost use Rattle.dd_model.specs.Connected.{IsReached, Connected};
     ghost use Rattle.dd_symbol.specs.Walk.{IsWalk, IsMarked, Grows};
-    ghost use Rattle.dd_symbol.specs.Refusals.{AtAll, Commutes, IsFault};
+    ghost use Rattle.dd_symbol.specs.Refusals.{IsFault};
+    ghost use Rattle.dd_symbol.specs.Conditions.{AtAll, Commutes};
 
     /// Marks a chamber, and queues it if it was not marked.
     fn mark(&self, seen: &mut Vec<bool>, queue: &mut Vec<u32>, chamber: u32) -> Result<(), Memory>
@@ -18,7 +20,8 @@ impl Table {
         requires chamber { IsChamber (symbol_of self.now) chamber }
         requires reached { IsReached (symbol_of self.now) chamber }
         ensures walk { OnOk result (IsWalk (symbol_of self.now) seen.new.items queue.new.items) }
-        ensures grows { OnOk result (Grows seen.old.items queue.old.items seen.new.items queue.new.items) }
+        ensures grows { OnOk result
+            (Grows seen.old.items queue.old.items seen.new.items queue.new.items) }
         ensures marked { OnOk result (IsMarked seen.new.items chamber) }
     {
         let place = chamber as usize - 1;
@@ -36,14 +39,14 @@ impl Table {
         requires chamber { IsChamber (symbol_of self.now) chamber }
         requires reached { IsReached (symbol_of self.now) chamber }
         ensures walk { OnOk result (IsWalk (symbol_of self.now) seen.new.items queue.new.items) }
-        ensures grows { OnOk result (Grows seen.old.items queue.old.items seen.new.items queue.new.items) }
-        ensures zero { OnOk result (IsMarked seen.new.items (op (symbol_of self.now) Index.Zero chamber)) }
-        ensures one { OnOk result (IsMarked seen.new.items (op (symbol_of self.now) Index.One chamber)) }
-        ensures two { OnOk result (IsMarked seen.new.items (op (symbol_of self.now) Index.Two chamber)) }
+        ensures grows { OnOk result
+            (Grows seen.old.items queue.old.items seen.new.items queue.new.items) }
+        ensures images { OnOk result ((i : Letter)
+            → IsMarked seen.new.items (op (symbol_of self.now) i chamber)) }
     {
-        self.mark(seen, queue, self.op(Index::Zero, chamber))?;
-        self.mark(seen, queue, self.op(Index::One, chamber))?;
-        self.mark(seen, queue, self.op(Index::Two, chamber))?;
+        for i in Index::ALL {
+            self.mark(seen, queue, self.op(i, chamber))?;
+        }
         Ok(())
     }
 
@@ -52,7 +55,8 @@ impl Table {
         requires lists { AreInvolutions (symbol_of self.now) }
         requires some { 1 ≤ (symbol_of self.now).size }
         ensures length { IfOk result (λ seen. length seen.items ≡ (symbol_of self.now).size) }
-        ensures reached { IfOk result (λ seen. (d : ℕ) → IsChamber (symbol_of self.now) d → IsMarked seen.items d ↔ IsReached (symbol_of self.now) d) }
+        ensures reached { IfOk result (λ seen. (d : ℕ) → IsChamber (symbol_of self.now) d
+            → IsMarked seen.items d ↔ IsReached (symbol_of self.now) d) }
     {
         let mut seen = vec![in alloc; false; self.size() as usize]?;
         let mut queue = Vec::with_capacity(alloc, self.size() as usize)?;

@@ -7,7 +7,7 @@ use Rattle.dd_model.specs.Symbol.{Symbol, AreInvolutions, IsSymbol, IsChamber, W
 use Rattle.dd_template.specs.Table.{Table, IsPart, move, part_after}
 use Rattle.dd_template.specs.Reduced.{strike, put, reduced, put_move, carried}
 use Rattle.dd_template.specs.Made.{chamber_of, composed, moved, made}
-use Rattle.dd_template.specs.Lawful.{AreUndone, LeadsBack}
+use Rattle.dd_template.specs.Moves.{AreUndone, LeadsBack}
 use Rattle.dd_template.proofs.PlaceLemmas.{op-made}
 
 pub composed_within : (s : Symbol) → AreInvolutions s → (w : Word) (d : ℕ) → IsChamber s d → IsChamber s (composed s w d)

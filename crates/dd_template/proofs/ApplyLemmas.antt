@@ -1,5 +1,5 @@
 -- What is written of the symbol that a table makes.
-use Rattle.std.proofs.Common.{◌≡◌, ℕ, zero, suc, ◌+◌, ◌*◌, ◌≤◌, List, [], ◌∷◌, ◌++◌, map, length, sym, ap, ◌∙◌, subst, arith}
+use Rattle.std.proofs.Common.{◌≡◌, ℕ, ◌+◌, ◌*◌, ◌≤◌, List, [], ◌∷◌, ◌++◌, map, length, sym, ap, ◌∙◌, subst, arith}
 use Rattle.std.proofs.lemmas.List.{append_assoc, append-nil, map-append}
 use Rattle.std.proofs.lemmas.List.Concat.{flat_map-append}
 use Rattle.std.proofs.lemmas.Nat.{mul-le}
@@ -14,13 +14,15 @@ use Rattle.dd_model.specs.Code.{count_from}
 use Rattle.dd_model.proofs.Branching.{branching_exists}
 use Rattle.dd_model.proofs.CellWalks.{has_period}
 use Rattle.dd_model.proofs.Turns.{IsLeastTurns-from_period, least_turns_unique}
+use Rattle.dd_model.proofs.CountFrom.{count_from-more}
 use Rattle.dd_symbol.specs.Building.{listed, HaveOneLength, IsAccepted}
 use Rattle.dd_template.specs.declared.tables.Degree.{Degree}
 use Rattle.dd_template.specs.declared.tables.Degree.TheVariants.{OfTile, OfVertex, Fixed}
 use Rattle.dd_template.specs.Applying.{HasSmallFactor}
 use Rattle.dd_template.specs.Table.{Table, IsPart, entry}
 use Rattle.dd_template.specs.Made.{made}
-use Rattle.dd_template.specs.Lawful.{IsLawful, Fits, entries}
+use Rattle.dd_template.specs.Lawful.{IsLawful}
+use Rattle.dd_template.specs.Entries.{Fits, entries}
 use Rattle.dd_template.proofs.MadeSymbols.{made_table}
 use Rattle.dd_template.proofs.MadeConnected.{made_connected}
 use Rattle.dd_template.proofs.MadeBranching.{made_small}
@@ -60,13 +62,6 @@ pub fewer_chambers : (d n k : ℕ) → d ≤ n → n * k ≤ 1024 → d * k ≤ 
 fewer_chambers d n k h l = let e = mul-le d k n k h (omega arith) in omega arith
 
 -- ## One more
-
-count_from-more : (k n : ℕ) → count_from k (n + 1) ≡ count_from k n ++ (k + n) ∷ []
-count_from-more k zero = let e : k ≡ k + zero = omega arith in ap (λ m. m ∷ []) e
-count_from-more k (suc n) =
-    let e : suc n + 1 ≡ suc (n + 1) = omega arith in
-    let same : k + 1 + n ≡ k + suc n = omega arith in
-    ap (count_from k) e ∙ ap (λ xs. k ∷ xs) (count_from-more (k + 1) n ∙ ap (λ m. count_from (k + 1) n ++ m ∷ []) same)
 
 -- one part more of a chamber
 pub one_part_more : (before after : List ℕ) (g : ℕ → ℕ) (k y : ℕ) → after ≡ before ++ map g (count_from 0 k) → y ≡ g k → after ++ y ∷ [] ≡ before ++ map g (count_from 0 (k + 1))

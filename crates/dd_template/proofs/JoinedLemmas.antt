@@ -6,7 +6,8 @@ use Rattle.std.proofs.lemmas.List.Sums.{sum_by-set, sum_by-cons, get_or-le-sum_b
 use Rattle.std.specs.List.{sum_by}
 use Rattle.dd_model.specs.Symbol.{Word}
 use Rattle.dd_template.specs.Table.{Table, IsPart, move, part_after}
-use Rattle.dd_template.specs.Lawful.{AreUndone, IsSilent, IsJoined}
+use Rattle.dd_template.specs.Moves.{AreUndone}
+use Rattle.dd_template.specs.Connecting.{IsSilent, IsJoined}
 use Rattle.dd_template.specs.Joined.{IsMet, unmet, IsClosed, IsNext}
 
 -- the moves of a word and then of another

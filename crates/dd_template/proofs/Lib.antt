@@ -1,7 +1,6 @@
-pub mod DualLawful
-pub mod AmboLawful
-pub mod TruncateLawful
-pub mod ChamferLawful
+pub mod LawfulTables
+pub mod NamedTables
+pub mod RowLemmas
 pub mod WordLemmas
 pub mod JoinedLemmas
 pub mod ReducedLemmas

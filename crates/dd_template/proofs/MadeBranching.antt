@@ -9,15 +9,17 @@ use Rattle.dd_model.specs.Small.{IsSmallSymbol}
 use Rattle.dd_model.proofs.Turns.{fixed_from, IsLeastTurns-from_period}
 use Rattle.dd_model.proofs.CellWalks.{in_cell-refl}
 use Rattle.dd_model.proofs.Branching.{branching_exists, branching_unique}
+use Rattle.dd_model.proofs.Numbers.{positive_product}
 use Rattle.dd_template.specs.declared.tables.Degree.{Degree}
 use Rattle.dd_template.specs.declared.tables.Degree.TheVariants.{OfTile, OfVertex, Fixed}
 use Rattle.dd_template.specs.Table.{Table, IsPart, entry}
 use Rattle.dd_template.specs.Made.{chamber_of, degree_of, made}
 use Rattle.dd_template.specs.Kept.{HasSmallBranching}
-use Rattle.dd_template.specs.Lawful.{IsLawful, IsTurned, Fits, entries}
+use Rattle.dd_template.specs.Lawful.{IsLawful}
+use Rattle.dd_template.specs.Entries.{IsTurned, Fits, entries}
 use Rattle.dd_template.proofs.PlaceLemmas.{place_of, chamber_of_within}
 use Rattle.dd_template.proofs.TurnLemmas.{round_of, rounds, are_rounds}
-use Rattle.dd_template.proofs.MadeSymbols.{IsFitting, tiles_fit, vertices_fit, made_involutions, made_symbol, positive_product}
+use Rattle.dd_template.proofs.MadeSymbols.{IsFitting, tiles_fit, vertices_fit, made_involutions, made_symbol}
 
 -- the least turns of a cell fix each of its chambers
 period_of : (s : Symbol) → IsSymbol s → (p : Pair) (d r : ℕ) → IsChamber s d → IsLeastTurns s p d r → IsPeriod s p d r

@@ -6,7 +6,9 @@ use Rattle.dd_model.specs.Connected.{Connected}
 use Rattle.dd_model.proofs.Words.{act-append, act-backwards, backwards}
 use Rattle.dd_template.specs.Table.{Table, IsPart, move, part_after}
 use Rattle.dd_template.specs.Made.{chamber_of, moved, made}
-use Rattle.dd_template.specs.Lawful.{IsLawful, AreUndone, IsSilent}
+use Rattle.dd_template.specs.Lawful.{IsLawful}
+use Rattle.dd_template.specs.Moves.{AreUndone}
+use Rattle.dd_template.specs.Connecting.{IsSilent}
 use Rattle.dd_template.proofs.PlaceLemmas.{place_of, chamber_of_within, op-made}
 use Rattle.dd_template.proofs.MadeSymbols.{made_involutions}
 

@@ -6,18 +6,21 @@ use Rattle.dd_model.specs.Symbol.{Symbol, IsSymbol, IsChamber, item}
 use Rattle.dd_model.specs.Flat.{all_degrees, reciprocals, Flat}
 use Rattle.dd_model.specs.declared.pair.Pair.{Pair}
 use Rattle.dd_model.specs.declared.pair.Pair.TheVariants.{Tile, Vertex}
+use Rattle.dd_model.proofs.AllDegrees.{all_degrees_positive}
 use Rattle.dd_template.specs.declared.tables.Degree.{Degree}
 use Rattle.dd_template.specs.declared.tables.Degree.TheVariants.{OfTile, OfVertex, Fixed}
 use Rattle.dd_template.specs.declared.tables.Kind.TheVariants as kind
 use Rattle.dd_template.specs.Table.{Table, IsPart, entry}
 use Rattle.dd_template.specs.Made.{chamber_of, degree_of, degree_from, made, made_degrees}
 use Rattle.dd_template.specs.Kept.{HaveSameCurvature}
-use Rattle.dd_template.specs.Lawful.{IsLawful, Fits, share, whole}
+use Rattle.dd_template.specs.Lawful.{IsLawful}
+use Rattle.dd_template.specs.Entries.{Fits}
+use Rattle.dd_template.specs.Shares.{share, curvature_unit}
 use Rattle.dd_template.proofs.WholeLemmas.{whole_divided}
 use Rattle.dd_template.proofs.PlaceLemmas.{item-of_parts, chamber_of_within}
 use Rattle.dd_template.proofs.MadeSymbols.{made_symbol}
 use Rattle.dd_template.proofs.TotalLemmas.{total, total-cong, total-linear, total-scale, total-constant, sum_by-total, sum_by-items, sum_by-blocks}
-use Rattle.dd_template.proofs.ProductLemmas.{all_degrees_positive, tile_divides, vertex_divides}
+use Rattle.dd_template.proofs.ProductLemmas.{tile_divides, vertex_divides}
 
 -- ## One part of one chamber
 
@@ -46,27 +49,27 @@ of_vertex s d = all_degrees s / item s.m12 d
 -- the reciprocal of the degree that an entry gives
 entry_term : (t : Table) (s : Symbol) → IsLawful t → IsSymbol s → (p : Pair) (d x all : ℕ) → IsChamber s d → (e : Degree) → Fits t p x e
     → degree_of s e d * (all / degree_of s e d) ≡ all
-    → all / degree_of s e d * (all_degrees s * whole) ≡ all * (of_tile s d * share kind.Tile e + of_vertex s d * share kind.Vertex e + all_degrees s * share kind.Neither e)
+    → all / degree_of s e d * (all_degrees s * curvature_unit) ≡ all * (of_tile s d * share kind.Tile e + of_vertex s d * share kind.Vertex e + all_degrees s * share kind.Neither e)
 entry_term t s lawful is p d x all h (OfTile c) fits divides =
     let few = lawful.lists.few in
     let within = fits.1.within in
-    tile_term (all / (c * item s.m01 d)) (all_degrees s) whole (of_tile s d) (of_vertex s d) (whole / c) c (item s.m01 d) all
+    tile_term (all / (c * item s.m01 d)) (all_degrees s) curvature_unit (of_tile s d) (of_vertex s d) (curvature_unit / c) c (item s.m01 d) all
     (tile_divides s is d h) (whole_divided c fits.1.positive (omega arith)) divides
 entry_term t s lawful is p d x all h (OfVertex c) fits divides =
     let few = lawful.lists.few in
     let within = fits.1.within in
-    vertex_term (all / (c * item s.m12 d)) (all_degrees s) whole (of_tile s d) (of_vertex s d) (whole / c) c (item s.m12 d) all
+    vertex_term (all / (c * item s.m12 d)) (all_degrees s) curvature_unit (of_tile s d) (of_vertex s d) (curvature_unit / c) c (item s.m12 d) all
     (vertex_divides s is d h) (whole_divided c fits.1.positive (omega arith)) divides
 entry_term t s lawful is p d x all h (Fixed m) fits divides =
     let few = fits.1 in
-    fixed_term (all / m) (all_degrees s) whole (of_tile s d) (of_vertex s d) (whole / m) m all (whole_divided m fits.0 (omega arith)) divides
+    fixed_term (all / m) (all_degrees s) curvature_unit (of_tile s d) (of_vertex s d) (curvature_unit / m) m all (whole_divided m fits.0 (omega arith)) divides
 
 -- ## All parts of all chambers
 
 -- each entry of a list gives such a reciprocal at each chamber
 abbrev HaveTerms : Table → Symbol → ℕ → List Degree → Type 0
 HaveTerms t s all es = (d x : ℕ) → IsChamber s d → IsPart t x
-    → all / degree_from s es d x * (all_degrees s * whole)
+    → all / degree_from s es d x * (all_degrees s * curvature_unit)
     ≡ all * (of_tile s d * share kind.Tile (entry es x) + of_vertex s d * share kind.Vertex (entry es x) + all_degrees s * share kind.Neither (entry es x))
 
 exchanged : (a b c d e f : ℕ) → a * b + c * d + e * f ≡ b * a + d * c + f * e
@@ -78,7 +81,7 @@ scaled f c b n =
 
 -- over the parts of one chamber
 chamber_sum : (t : Table) (s : Symbol) (all : ℕ) (es : List Degree) → length es ≡ t.parts → HaveTerms t s all es → (d : ℕ) → IsChamber s d
-    → total (λ x. all / degree_from s es d x) 0 t.parts * (all_degrees s * whole)
+    → total (λ x. all / degree_from s es d x) 0 t.parts * (all_degrees s * curvature_unit)
     ≡ all * (sum_by (share kind.Tile) es * of_tile s d + sum_by (share kind.Vertex) es * of_vertex s d + sum_by (share kind.Neither) es * all_degrees s)
 chamber_sum t s all es long terms d h =
     let k = t.parts in
@@ -91,8 +94,8 @@ chamber_sum t s all es long terms d h =
     let over_tiles : total tiles 0 k ≡ sum_by (share kind.Tile) es = ap (total tiles 0) (sym long) ∙ sym (sum_by-total (share kind.Tile) es (Fixed 0)) in
     let over_vertices : total vertices 0 k ≡ sum_by (share kind.Vertex) es = ap (total vertices 0) (sym long) ∙ sym (sum_by-total (share kind.Vertex) es (Fixed 0)) in
     let over_others : total others 0 k ≡ sum_by (share kind.Neither) es = ap (total others 0) (sym long) ∙ sym (sum_by-total (share kind.Neither) es (Fixed 0)) in
-    scaled (λ x. all / degree_from s es d x) (p * whole) 0 k
-    ∙ total-cong (λ x. all / degree_from s es d x * (p * whole)) (λ x. all * (a * tiles x + b * vertices x + p * others x)) 0 k (λ j low high. terms d j h (omega arith))
+    scaled (λ x. all / degree_from s es d x) (p * curvature_unit) 0 k
+    ∙ total-cong (λ x. all / degree_from s es d x * (p * curvature_unit)) (λ x. all * (a * tiles x + b * vertices x + p * others x)) 0 k (λ j low high. terms d j h (omega arith))
     ∙ total-scale (λ x. a * tiles x + b * vertices x + p * others x) all 0 k
     ∙ ap (λ z. all * z)
     (total-linear tiles vertices others a b p 0 k
@@ -103,7 +106,7 @@ chamber_sum t s all es long terms d h =
 
 -- over all chambers
 pair_sum : (t : Table) (s : Symbol) (all : ℕ) (es : List Degree) → IsSymbol s → length es ≡ t.parts → HaveTerms t s all es
-    → sum_by (λ m. all / m) (made_degrees t s es) * (all_degrees s * whole)
+    → sum_by (λ m. all / m) (made_degrees t s es) * (all_degrees s * curvature_unit)
     ≡ all * (sum_by (share kind.Tile) es * sum_by (λ m. all_degrees s / m) s.m01 + sum_by (share kind.Vertex) es * sum_by (λ m. all_degrees s / m) s.m12
     + sum_by (share kind.Neither) es * (s.size * all_degrees s))
 pair_sum t s all es is long terms =
@@ -115,9 +118,9 @@ pair_sum t s all es is long terms =
     let part_sum = λ (d : ℕ). total (λ x. all / degree_from s es d x) 0 t.parts in
     let over_tiles : total (of_tile s) 1 n ≡ sum_by (λ m. p / m) s.m01 = ap (total (of_tile s) 1) (sym is.table.m01_length) ∙ sym (sum_by-items (λ m. p / m) s.m01) in
     let over_vertices : total (of_vertex s) 1 n ≡ sum_by (λ m. p / m) s.m12 = ap (total (of_vertex s) 1) (sym is.table.m12_length) ∙ sym (sum_by-items (λ m. p / m) s.m12) in
-    ap (λ z. z * (p * whole)) (sum_by-blocks (λ m. all / m) t.parts (degree_from s es) 1 n)
-    ∙ scaled part_sum (p * whole) 1 n
-    ∙ total-cong (λ d. part_sum d * (p * whole)) (λ d. all * (st * of_tile s d + sv * of_vertex s d + so * p)) 1 n (λ d low high. chamber_sum t s all es long terms d (omega arith, omega arith))
+    ap (λ z. z * (p * curvature_unit)) (sum_by-blocks (λ m. all / m) t.parts (degree_from s es) 1 n)
+    ∙ scaled part_sum (p * curvature_unit) 1 n
+    ∙ total-cong (λ d. part_sum d * (p * curvature_unit)) (λ d. all * (st * of_tile s d + sv * of_vertex s d + so * p)) 1 n (λ d low high. chamber_sum t s all es long terms d (omega arith, omega arith))
     ∙ total-scale (λ d. st * of_tile s d + sv * of_vertex s d + so * p) all 1 n
     ∙ ap (λ z. all * z)
     (total-linear (of_tile s) (of_vertex s) (λ _. p) st sv so 1 n
@@ -141,7 +144,7 @@ degree_terms t s lawful is d x h inside =
     entry_term t s lawful is Vertex d x (all_degrees (made t s)) h (entry t.degree x) (lawful.entries.degree x inside)
     (subst (λ m. m * (all_degrees (made t s) / m) ≡ all_degrees (made t s)) here divides)
 
--- the two sums together, with the whole cancelled
+-- the two sums together, with the curvature_unit cancelled
 cancelled : (w x y p q a b n k ta tb va vb na nb : ℕ) → 1 ≤ w
     → x * (p * w) ≡ q * (ta * a + va * b + na * (n * p))
     → y * (p * w) ≡ q * (tb * a + vb * b + nb * (n * p))
@@ -171,7 +174,7 @@ made_curvature t s lawful is =
     let a = sum_by (λ m. p / m) s.m01 in
     let b = sum_by (λ m. p / m) s.m12 in
     balanced x y p q a b s.size (t.parts - 1) t.parts (omega arith)
-    (cancelled whole x y p q a b s.size (t.parts - 1)
+    (cancelled curvature_unit x y p q a b s.size (t.parts - 1)
     (sum_by (share kind.Tile) t.face) (sum_by (share kind.Tile) t.degree)
     (sum_by (share kind.Vertex) t.face) (sum_by (share kind.Vertex) t.degree)
     (sum_by (share kind.Neither) t.face) (sum_by (share kind.Neither) t.degree)

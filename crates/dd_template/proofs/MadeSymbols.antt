@@ -6,11 +6,14 @@ use Rattle.dd_model.specs.declared.pair.Pair.{Pair}
 use Rattle.dd_model.specs.declared.pair.Pair.TheVariants.{Tile, Vertex, Edge}
 use Rattle.dd_model.specs.Symbol.{Symbol, AreInvolutions, IsSymbol, IsTable, IsChamber, HasDegree, first, second, turn, degree, item, op, operation, power}
 use Rattle.dd_model.specs.Cell.{turned}
+use Rattle.dd_model.proofs.Numbers.{positive_product}
 use Rattle.dd_template.specs.declared.tables.Degree.{Degree}
 use Rattle.dd_template.specs.declared.tables.Degree.TheVariants.{OfTile, OfVertex, Fixed}
 use Rattle.dd_template.specs.Table.{Table, IsPart, move, entry}
 use Rattle.dd_template.specs.Made.{chamber_of, moved, degree_of, made}
-use Rattle.dd_template.specs.Lawful.{IsLawful, AreUndone, GoesBy, Fits, AreConstant, AllFit, IsTurned, entries}
+use Rattle.dd_template.specs.Lawful.{IsLawful}
+use Rattle.dd_template.specs.Moves.{AreUndone}
+use Rattle.dd_template.specs.Entries.{GoesBy, Fits, AreConstant, AllFit, IsTurned, entries}
 use Rattle.dd_template.proofs.PlaceLemmas.{place_of, item-of_parts, length-of_parts, chamber_of_within, op-made}
 use Rattle.dd_template.proofs.ActLemmas.{act-back}
 use Rattle.dd_template.proofs.TurnLemmas.{round_of, rounds}
@@ -50,9 +53,6 @@ made_involutions t s some undone inv i = record {
       subst (λ y. op (made t s) i (op (made t s) i y) ≡ y) p.place (image_twice t s undone inv i p.chamber p.part p.is_chamber p.is_part);
 }
 
-some_chambers : (n k : ℕ) → 1 ≤ n → 1 ≤ k → 1 ≤ n * k
-some_chambers n k a b = grind arith
-
 made_lengths : (t : Table) (s : Symbol) (i : Index) → length (operation (made t s) i) ≡ s.size * t.parts
 made_lengths t s Zero = length-of_parts t s (λ d x. chamber_of t (moved s (move t Zero x).by d) (move t Zero x).to)
 made_lengths t s One = length-of_parts t s (λ d x. chamber_of t (moved s (move t One x).by d) (move t One x).to)
@@ -60,7 +60,7 @@ made_lengths t s Two = length-of_parts t s (λ d x. chamber_of t (moved s (move 
 
 pub made_table : (t : Table) (s : Symbol) → 1 ≤ t.parts → AreUndone t → IsTable s → IsTable (made t s)
 made_table t s some undone is = record {
-  chambers = some_chambers s.size t.parts is.chambers some;
+  chambers = positive_product s.size t.parts is.chambers some;
   lengths = made_lengths t s;
   m01_length = length-of_parts t s (λ d x. degree_of s (entry t.face x) d);
   m12_length = length-of_parts t s (λ d x. degree_of s (entry t.degree x) d);
@@ -90,9 +90,6 @@ tiles_fit t s lawful = record { of_entries = tiles_of_entries t s; constant = la
 
 pub vertices_fit : (t : Table) (s : Symbol) → IsLawful t → IsFitting t s Vertex
 vertices_fit t s lawful = record { of_entries = vertices_of_entries t s; constant = lawful.entries.constant_degree; fit = lawful.entries.degree }
-
-pub positive_product : (c m : ℕ) → 1 ≤ c → 1 ≤ m → 1 ≤ c * m
-positive_product c m a b = grind arith
 
 degree_positive : (t : Table) (s : Symbol) → IsSymbol s → (p : Pair) (d x : ℕ) → IsChamber s d → (e : Degree) → Fits t p x e → 1 ≤ degree_of s e d
 degree_positive t s is p d x h (OfTile c) fits = positive_product c (item s.m01 d) fits.1.positive (is.degrees Tile d h).positive

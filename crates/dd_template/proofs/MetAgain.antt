@@ -8,7 +8,8 @@ use Rattle.dd_model.specs.Worked.{single}
 use Rattle.dd_model.proofs.Turns.{period_bound}
 use Rattle.dd_template.specs.Table.{Table, IsPart, move, part_after}
 use Rattle.dd_template.specs.Made.{chamber_of, moved, made}
-use Rattle.dd_template.specs.Lawful.{AreUndone, IsApart}
+use Rattle.dd_template.specs.Moves.{AreUndone}
+use Rattle.dd_template.specs.Entries.{IsApart}
 use Rattle.dd_template.proofs.PlaceLemmas.{chamber_of_within, op-made, same_place}
 use Rattle.dd_template.proofs.MadeSymbols.{made_involutions}
 use Rattle.dd_template.proofs.TurnLemmas.{part_after_within}

@@ -8,7 +8,7 @@ use Rattle.dd_model.specs.declared.index.Index.{Index}
 use Rattle.dd_model.specs.declared.index.Index.TheVariants.{Zero, One, Two}
 use Rattle.dd_model.specs.Symbol.{Symbol, IsChamber, item, op}
 use Rattle.dd_model.specs.Code.{count_from}
-use Rattle.dd_model.proofs.Bijections.{length-count_from, get_or-count_from}
+use Rattle.dd_model.proofs.CountFrom.{length-count_from, get_or-count_from}
 use Rattle.dd_template.specs.Table.{Table, IsPart, move}
 use Rattle.dd_template.specs.Made.{chamber_of, moved, of_parts, made, IsPlace, SamePlace}
 

@@ -12,7 +12,8 @@ use Rattle.dd_model.proofs.Turns.{turned-add}
 use Rattle.dd_template.specs.Table.{Table, IsPart, move, part_after}
 use Rattle.dd_template.specs.Reduced.{carried}
 use Rattle.dd_template.specs.Made.{chamber_of, composed, made}
-use Rattle.dd_template.specs.Lawful.{AreUndone, IsTurned, IsApart, LeadsBack}
+use Rattle.dd_template.specs.Moves.{AreUndone, LeadsBack}
+use Rattle.dd_template.specs.Entries.{IsTurned, IsApart}
 use Rattle.dd_template.proofs.PlaceLemmas.{same_place}
 use Rattle.dd_template.proofs.ActLemmas.{composed_within, act-part, act-back}
 

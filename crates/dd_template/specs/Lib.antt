@@ -2,6 +2,10 @@ pub mod Table
 pub mod Reduced
 pub mod Letters
 pub mod Made
+pub mod Moves
+pub mod Entries
+pub mod Shares
+pub mod Connecting
 pub mod Lawful
 pub mod Joined
 pub mod Worked

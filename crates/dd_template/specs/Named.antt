@@ -1,8 +1,6 @@
 -- The tables of the derived tilings that have names.
-use Rattle.std.specs.Prelude.{List, [], ◌∷◌, Option, Some, None}
-use Rattle.dd_model.specs.declared.index.Index.{Index}
+use Rattle.std.specs.Prelude.{[], ◌∷◌, Some, None}
 use Rattle.dd_model.specs.declared.index.Index.TheVariants.{Zero, One, Two}
-use Rattle.dd_template.specs.declared.tables.Move.{Move}
 use Rattle.dd_template.specs.declared.tables.Degree.TheVariants.{OfTile, OfVertex, Fixed}
 use Rattle.dd_template.specs.Table.{Table}
 

@@ -38,9 +38,13 @@ moves t Zero = t.s0
 moves t One = t.s1
 moves t Two = t.s2
 
+-- the move of a part in a row
+abbrev pub move_in : List Move → ℕ → Move
+move_in row x = slice_index_or row x (record { by = None; to = 0 })
+
 -- the move of a part by an involution
 abbrev pub move : Table → Index → ℕ → Move
-move t i x = slice_index_or (moves t i) x (record { by = None; to = 0 })
+move t i x = move_in (moves t i) x
 
 -- the entry of a part
 abbrev pub entry : List Degree → ℕ → Degree

@@ -45,12 +45,12 @@ fn moved_by(symbol: &Symbol, by: Option<Index>, chamber: u32) -> u32
 }
 
 /// The degree that an entry gives at a chamber.
-fn degree_at(symbol: &Symbol, entry: Degree, chamber: u32) -> u32
-    requires chamber { IsChamber symbol.now chamber }
+fn degree_at(s: &Connected, entry: Degree, chamber: u32) -> u32
+    requires chamber { IsChamber s.now chamber }
     requires factor { HasSmallFactor entry }
-    ensures { result ≡ degree_of symbol.now entry chamber }
+    ensures { result ≡ degree_of s.now entry chamber }
 {
-    symbol.known();
+    let symbol = s.symbol();
     match entry {
         Degree::OfTile(factor) => factor * symbol.m01(chamber),
         Degree::OfVertex(factor) => factor * symbol.m12(chamber),
@@ -59,7 +59,7 @@ fn degree_at(symbol: &Symbol, entry: Degree, chamber: u32) -> u32
 }
 
 impl<const K: usize> Template<K> {
-    ghost use Rattle.dd_template.specs.Lawful.{entries};
+    ghost use Rattle.dd_template.specs.Entries.{entries};
     ghost use Rattle.dd_template.specs.Made.{chamber_of, degree_from, image_of, made_operation, made_degrees, of_chamber};
 
     /// The number of a part of a chamber: the parts of chamber 1 come first.
@@ -83,7 +83,9 @@ impl<const K: usize> Template<K> {
         requires lawful { IsLawful (table_of self.now) }
         requires small { symbol.now.size * K ≤ 1024 }
         requires chamber { IsChamber symbol.now chamber }
-        ensures { OnOk result (images.new.items ≡ images.old.items ++ of_chamber (table_of self.now) (image_of (table_of self.now) symbol.now index) chamber) }
+        ensures { OnOk result (images.new.items ≡ images.old.items
+            ++ of_chamber (table_of self.now) (image_of (table_of self.now) symbol.now index)
+            chamber) }
     {
         for part in 0..K {
             let there = self.move_of(index, part);
@@ -97,7 +99,8 @@ impl<const K: usize> Template<K> {
     fn images(&self, alloc: Global, symbol: &Symbol, index: Index) -> Result<Vec<u32>, Memory>
         requires lawful { IsLawful (table_of self.now) }
         requires small { symbol.now.size * K ≤ 1024 }
-        ensures { IfOk result (λ images. images.items ≡ made_operation (table_of self.now) symbol.now index) }
+        ensures { IfOk result (λ images. images.items ≡
+            made_operation (table_of self.now) symbol.now index) }
     {
         let mut images = Vec::with_capacity(alloc, symbol.size() as usize * K)?;
         for k in 0..symbol.size() {
@@ -110,29 +113,32 @@ impl<const K: usize> Template<K> {
     fn push_degrees(
         &self,
         degrees: &mut Vec<u32>,
-        symbol: &Symbol,
+        s: &Connected,
         pair: Pair,
         chamber: u32,
     ) -> Result<(), Memory>
         requires lawful { IsLawful (table_of self.now) }
-        requires chamber { IsChamber symbol.now chamber }
-        ensures { OnOk result (degrees.new.items ≡ degrees.old.items ++ of_chamber (table_of self.now) (degree_from symbol.now (entries (table_of self.now) pair)) chamber) }
+        requires chamber { IsChamber s.now chamber }
+        ensures { OnOk result (degrees.new.items ≡ degrees.old.items
+            ++ of_chamber (table_of self.now) (degree_from s.now (entries (table_of self.now) pair))
+            chamber) }
     {
         for part in 0..K {
-            degrees.push(degree_at(symbol, self.entry_of(pair, part), chamber))?;
+            degrees.push(degree_at(s, self.entry_of(pair, part), chamber))?;
         }
         Ok(())
     }
 
     /// The degrees of all parts of all chambers.
-    fn degrees(&self, alloc: Global, symbol: &Symbol, pair: Pair) -> Result<Vec<u32>, Memory>
+    fn degrees(&self, alloc: Global, s: &Connected, pair: Pair) -> Result<Vec<u32>, Memory>
         requires lawful { IsLawful (table_of self.now) }
-        requires small { symbol.now.size * K ≤ 1024 }
-        ensures { IfOk result (λ degrees. degrees.items ≡ made_degrees (table_of self.now) symbol.now (entries (table_of self.now) pair)) }
+        requires small { s.now.size * K ≤ 1024 }
+        ensures { IfOk result (λ degrees. degrees.items ≡
+            made_degrees (table_of self.now) s.now (entries (table_of self.now) pair)) }
     {
-        let mut degrees = Vec::with_capacity(alloc, symbol.size() as usize * K)?;
-        for k in 0..symbol.size() {
-            self.push_degrees(&mut degrees, symbol, pair, k + 1)?;
+        let mut degrees = Vec::with_capacity(alloc, s.symbol().size() as usize * K)?;
+        for k in 0..s.symbol().size() {
+            self.push_degrees(&mut degrees, s, pair, k + 1)?;
         }
         Ok(degrees)
     }
@@ -148,9 +154,8 @@ pub fn apply<const K: usize>(
     requires { IsLawful (table_of template.now) }
     ensures made { IfOk result (λ derived. derived ≡ made (table_of template.now) symbol.now) }
     ensures within { OnOk result (symbol.now.size * K ≤ 1024) }
-    ensures fault { IfErr result (λ why. IsFaultOf (table_of template.now) symbol.now why) }
+    ensures why { IfErr result (λ why. IsFaultOf (table_of template.now) symbol.now why) }
 {
-    symbol.known();
     let plain = symbol.symbol();
     let n = plain.size();
     if n as usize * K > MOST_CHAMBERS as usize {
@@ -161,8 +166,8 @@ pub fn apply<const K: usize>(
         template.images(alloc, plain, Index::One)?,
         template.images(alloc, plain, Index::Two)?,
     ];
-    let m01 = template.degrees(alloc, plain, Pair::Tile)?;
-    let m12 = template.degrees(alloc, plain, Pair::Vertex)?;
+    let m01 = template.degrees(alloc, symbol, Pair::Tile)?;
+    let m12 = template.degrees(alloc, symbol, Pair::Vertex)?;
     match build(alloc, ops, m01, m12, MOST_CHAMBERS) {
         Ok(derived) => Ok(derived),
         Err(why) => match why {

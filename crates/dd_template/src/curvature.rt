@@ -1,27 +1,28 @@
 ghost use Rattle.std.specs.Prelude.{◌≡◌, ℕ, ◌≤◌, ◌*◌, ◌/◌, ◌↔◌, IsTrue, length};
 ghost use Rattle.std.specs.List.{sum_by};
-ghost use Rattle.dd_template.specs.Lawful.{share, whole};
+ghost use Rattle.dd_template.specs.Shares.{share, curvature_unit};
 
 use crate::tables::{Degree, Kind, Template};
 use dd_model::Pair;
 
-/// The least common multiple of 1 to 64.
-const WHOLE: u128 = 1182266884102822267511361600;
+/// Curvature is counted in parts of 1, of which there are so many: the least common multiple of 1
+/// to 64, so that 1/c is a whole number of parts for each factor or degree c of a lawful table.
+const CURVATURE_UNIT: u128 = 1182266884102822267511361600;
 
 /// A fraction 1/c, counted in parts of 1.
 fn parts_of_whole(number: u32) -> u128
-    ensures { result ≡ whole / number }
+    ensures { result ≡ curvature_unit / number }
 {
     if number == 0 {
         return 0;
     }
-    WHOLE / number as u128
+    CURVATURE_UNIT / number as u128
 }
 
 /// What an entry adds to the sum of a kind.
 fn share_of(kind: Kind, entry: Degree) -> u128
     ensures share { result ≡ share kind entry }
-    ensures small { result ≤ whole }
+    ensures small { result ≤ curvature_unit }
 {
     match (kind, entry) {
         (Kind::Tile, Degree::OfTile(number)) => parts_of_whole(number),
@@ -33,14 +34,15 @@ fn share_of(kind: Kind, entry: Degree) -> u128
 
 impl<const K: usize> Template<K> {
     ghost use Rattle.dd_template.specs.Table.{table_of};
-    ghost use Rattle.dd_template.specs.Lawful.{KeepsCurvature, entries};
+    ghost use Rattle.dd_template.specs.Shares.{KeepsCurvature};
+    ghost use Rattle.dd_template.specs.Entries.{entries};
 
     /// The sum of a kind over the entries that belong to the tiles or to the vertices.
     fn total(&self, pair: Pair, kind: Kind) -> u128
         requires few { K ≤ 64 }
         requires entries { length (entries (table_of self.now) pair) ≡ K }
         ensures total { result ≡ sum_by (share kind) (entries (table_of self.now) pair) }
-        ensures small { result ≤ 64 * whole }
+        ensures small { result ≤ 64 * curvature_unit }
     {
         let mut total = 0u128;
         for part in 0..K {
@@ -55,13 +57,12 @@ impl<const K: usize> Template<K> {
         requires few { K ≤ 64 }
         ensures { IsTrue result ↔ KeepsCurvature (table_of self.now) }
     {
-        if self.total(Pair::Tile, Kind::Tile) + self.total(Pair::Vertex, Kind::Tile) != WHOLE {
-            return false;
-        }
-        if self.total(Pair::Tile, Kind::Vertex) + self.total(Pair::Vertex, Kind::Vertex) != WHOLE {
-            return false;
-        }
+        let tiles = self.total(Pair::Tile, Kind::Tile) + self.total(Pair::Vertex, Kind::Tile);
+        let vertices = self.total(Pair::Tile, Kind::Vertex)
+            + self.total(Pair::Vertex, Kind::Vertex);
         let fixed = self.total(Pair::Tile, Kind::Neither) + self.total(Pair::Vertex, Kind::Neither);
-        2 * fixed == (K - 1) as u128 * WHOLE
+        tiles == CURVATURE_UNIT
+            && vertices == CURVATURE_UNIT
+            && 2 * fixed == (K - 1) as u128 * CURVATURE_UNIT
     }
 }

@@ -1,6 +1,8 @@
-ghost use Rattle.std.specs.Prelude.{◌≤◌, ◌↔◌, IsTrue};
-ghost use Rattle.dd_template.specs.Table.{table_of};
-ghost use Rattle.dd_template.specs.Lawful.{IsLawful, AreUndone, HaveMoves, HaveEntries};
+ghost use Rattle.std.specs.Prelude.{◌≡◌, ◌≤◌, ◌↔◌, IsTrue, length};
+ghost use Rattle.dd_model.specs.declared.index.Index.{Index};
+ghost use Rattle.dd_template.specs.Table.{table_of, moves};
+ghost use Rattle.dd_template.specs.Lawful.{IsLawful, HaveMoves, HaveEntries};
+ghost use Rattle.dd_template.specs.Moves.{AreUndone};
 
 use crate::tables::Template;
 use dd_model::Pair;
@@ -8,18 +10,10 @@ use dd_model::Pair;
 /// Whether the moves lead back, s0 and s2 commute, and the parts are joined.
 fn have_moves<const K: usize>(template: &Template<K>) -> bool
     requires some { 1 ≤ K }
-    ensures { IsTrue result ↔ HaveMoves (table_of template.now) }
+    ensures moves { IsTrue result ↔ HaveMoves (table_of template.now) }
+    ensures parts { IsTrue result → (i : Index) → length (moves (table_of template.now) i) ≡ K }
 {
-    if !template.are_undone() {
-        return false;
-    }
-    if !template.commute() {
-        return false;
-    }
-    if !template.are_joined() {
-        return false;
-    }
-    template.are_used()
+    template.are_undone() && template.commute() && template.are_joined() && template.are_used()
 }
 
 /// Whether the entries are those of tiles and vertices, and keep the curvature.
@@ -29,19 +23,11 @@ fn have_entries<const K: usize>(template: &Template<K>) -> bool
     requires undone { AreUndone (table_of template.now) }
     ensures { IsTrue result ↔ HaveEntries (table_of template.now) }
 {
-    if !template.are_constant(Pair::Tile) {
-        return false;
-    }
-    if !template.are_constant(Pair::Vertex) {
-        return false;
-    }
-    if !template.all_fit(Pair::Tile) {
-        return false;
-    }
-    if !template.all_fit(Pair::Vertex) {
-        return false;
-    }
-    template.keeps_curvature()
+    template.are_constant(Pair::Tile)
+        && template.are_constant(Pair::Vertex)
+        && template.all_fit(Pair::Tile)
+        && template.all_fit(Pair::Vertex)
+        && template.keeps_curvature()
 }
 
 /// Whether a table of 1 to 64 parts is lawful: its moves lead back, commute and join all parts, and
@@ -49,15 +35,8 @@ fn have_entries<const K: usize>(template: &Template<K>) -> bool
 pub fn is_lawful<const K: usize>(template: &Template<K>) -> bool
     ensures { IsTrue result ↔ IsLawful (table_of template.now) }
 {
-    if K == 0 {
+    if K == 0 || K > 64 {
         return false;
     }
-    if K > 64 {
-        return false;
-    }
-    template.known();
-    if !have_moves(template) {
-        return false;
-    }
-    have_entries(template)
+    have_moves(template) && have_entries(template)
 }

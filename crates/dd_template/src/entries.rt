@@ -6,17 +6,16 @@ use dd_model::Pair;
 
 impl<const K: usize> Template<K> {
     ghost use Rattle.dd_template.specs.Table.{table_of, entry};
-    ghost use Rattle.dd_template.specs.Lawful.{AreUndone, AllFit, GoWithin, IsApart, IsTurned, Fits, entries};
+    ghost use Rattle.dd_template.specs.Moves.{AreUndone};
+    ghost use Rattle.dd_template.specs.Entries.{AllFit, GoWithin, IsApart, IsTurned, Fits, entries};
 
     /// Whether the moves of a pair go by the involutions of another, or by none.
     fn go_within(&self, pair: Pair, other: Pair, part: usize) -> bool
         requires part { part < K }
         ensures { IsTrue result ↔ GoWithin (table_of self.now) pair other part }
     {
-        if !goes_by(other, self.move_of(pair.first(), part).by) {
-            return false;
-        }
-        goes_by(other, self.move_of(pair.second(), part).by)
+        goes_by(other, self.move_of(pair.first(), part).by)
+            && goes_by(other, self.move_of(pair.second(), part).by)
     }
 
     /// Whether fewer turns do not lead a part back to itself.
@@ -41,23 +40,13 @@ impl<const K: usize> Template<K> {
         requires few { K ≤ 64 }
         ensures { IsTrue result ↔ IsTurned (table_of self.now) pair other part turns }
     {
-        if turns == 0 {
-            return false;
-        }
-        if turns as usize > K {
-            return false;
-        }
-        if !self.is_apart(pair, part, turns as usize) {
+        if turns == 0 || turns as usize > K || !self.is_apart(pair, part, turns as usize) {
             return false;
         }
         let walk = self.turned(pair, part, turns as usize);
-        if walk.part != part {
-            return false;
-        }
-        if walk.word.is_two(other.first(), other.second()) {
-            return true;
-        }
-        walk.word.is_two(other.second(), other.first())
+        walk.part == part
+            && (walk.word.is_two(other.first(), other.second())
+                || walk.word.is_two(other.second(), other.first()))
     }
 
     /// Whether the entry of a part fits the moves of its pair.
@@ -65,7 +54,8 @@ impl<const K: usize> Template<K> {
         requires undone { AreUndone (table_of self.now) }
         requires part { part < K }
         requires few { K ≤ 64 }
-        ensures { IsTrue result ↔ Fits (table_of self.now) pair part (entry (entries (table_of self.now) pair) part) }
+        ensures { IsTrue result ↔ Fits (table_of self.now) pair part
+            (entry (entries (table_of self.now) pair) part) }
     {
         match self.entry_of(pair, part) {
             Degree::OfTile(turns) => {

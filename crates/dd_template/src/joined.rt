@@ -6,20 +6,19 @@ use dd_model::Index;
 impl<const K: usize> Template<K> {
     ghost use Rattle.dd_template.specs.Table.{table_of};
     ghost use Rattle.dd_template.specs.Joined.{IsMet, LeadsToMet, IsClosed, IsNext};
-    ghost use Rattle.dd_template.specs.Lawful.{AreUndone, AreJoined, IsUsed, AreUsed};
+    ghost use Rattle.dd_template.specs.Moves.{AreUndone};
+    ghost use Rattle.dd_template.specs.Connecting.{AreJoined, IsUsed, AreUsed};
 
     /// The part to which a move leads that stays in the chamber, if that part is not met.
     fn next_by(&self, met: &[bool; K], index: Index, part: usize) -> Option<usize>
         requires undone { AreUndone (table_of self.now) }
         requires part { part < K }
         requires met { IsMet met.now part }
-        ensures { MatchOption result (LeadsToMet (table_of self.now) met.now index part) (λ y. IsNext (table_of self.now) met.now y) }
+        ensures { MatchOption result (LeadsToMet (table_of self.now) met.now index part)
+            (λ y. IsNext (table_of self.now) met.now y) }
     {
         let there = self.move_of(index, part);
-        if there.by.is_some() {
-            return None;
-        }
-        if met[there.to] {
+        if there.by.is_some() || met[there.to] {
             return None;
         }
         Some(there.to)
@@ -28,7 +27,8 @@ impl<const K: usize> Template<K> {
     /// A part that is not met, to which a move leads from one that is.
     fn next(&self, met: &[bool; K]) -> Option<usize>
         requires undone { AreUndone (table_of self.now) }
-        ensures { MatchOption result (IsClosed (table_of self.now) met.now) (λ y. IsNext (table_of self.now) met.now y) }
+        ensures { MatchOption result (IsClosed (table_of self.now) met.now)
+            (λ y. IsNext (table_of self.now) met.now y) }
     {
         for part in 0..K {
             if met[part] {
@@ -71,13 +71,10 @@ impl<const K: usize> Template<K> {
         ensures { IsTrue result ↔ IsUsed (table_of self.now) index }
     {
         for part in 0..K {
-            if self.move_of(Index::Zero, part).by == Some(index) {
-                return true;
-            }
-            if self.move_of(Index::One, part).by == Some(index) {
-                return true;
-            }
-            if self.move_of(Index::Two, part).by == Some(index) {
+            if self.move_of(Index::Zero, part).by == Some(index)
+                || self.move_of(Index::One, part).by == Some(index)
+                || self.move_of(Index::Two, part).by == Some(index)
+            {
                 return true;
             }
         }
@@ -88,12 +85,6 @@ impl<const K: usize> Template<K> {
     pub(crate) fn are_used(&self) -> bool
         ensures { IsTrue result ↔ AreUsed (table_of self.now) }
     {
-        if !self.is_used(Index::Zero) {
-            return false;
-        }
-        if !self.is_used(Index::One) {
-            return false;
-        }
-        self.is_used(Index::Two)
+        self.is_used(Index::Zero) && self.is_used(Index::One) && self.is_used(Index::Two)
     }
 }

@@ -1,5 +1,5 @@
 ghost use Rattle.std.specs.Prelude.{◌≡◌, ◌⊎◌, ℕ, ◌+◌, ◌*◌, ◌<◌, ◌≤◌, ◌↔◌, IsTrue, [], length};
-ghost use Rattle.dd_template.specs.Lawful.{GoesBy};
+ghost use Rattle.dd_template.specs.Entries.{GoesBy};
 
 use crate::tables::{Degree, Move, Template};
 use crate::words::Letters;
@@ -22,19 +22,14 @@ pub(crate) fn goes_by(pair: Pair, by: Option<Index>) -> bool
     }
 }
 
-/// A row of moves has one for each part.
-fn have_each_part<const K: usize>(moves: &[Move; K])
-    ensures { length moves.now ≡ K }
-{
-    let _ = moves;
-}
-
 impl<const K: usize> Template<K> {
     ghost use Rattle.dd_model.specs.Symbol.{power, turn};
     ghost use Rattle.dd_template.specs.Table.{table_of, moves, move, entry, part_after};
     ghost use Rattle.dd_template.specs.Reduced.{carried};
     ghost use Rattle.dd_template.specs.Letters.{word_of};
-    ghost use Rattle.dd_template.specs.Lawful.{AreUndoneBy, AreUndone, AreConstant, Commute, IsUndone, IsConstant, LeadsBack, entries};
+    ghost use Rattle.dd_model.specs.declared.index.Index.{Index};
+    ghost use Rattle.dd_template.specs.Moves.{RowLeadsBack, AreUndoneBy, AreUndone, Commute, LeadsBack};
+    ghost use Rattle.dd_template.specs.Entries.{AreConstant, IsConstant, entries};
 
     /// The moves of all parts by an involution.
     fn moves_by(&self, index: Index) -> &[Move; K]
@@ -47,17 +42,6 @@ impl<const K: usize> Template<K> {
         }
     }
 
-    /// Each of the three lists has a move for each part.
-    pub(crate) fn known(&self)
-        ensures zero { length (moves (table_of self.now) Index.Zero) ≡ K }
-        ensures one { length (moves (table_of self.now) Index.One) ≡ K }
-        ensures two { length (moves (table_of self.now) Index.Two) ≡ K }
-    {
-        have_each_part(self.moves_by(Index::Zero));
-        have_each_part(self.moves_by(Index::One));
-        have_each_part(self.moves_by(Index::Two));
-    }
-
     /// The move of a part by an involution.
     pub(crate) fn move_of(&self, index: Index, part: usize) -> Move
         requires part { part < K }
@@ -66,45 +50,40 @@ impl<const K: usize> Template<K> {
         self.moves_by(index)[part]
     }
 
-    /// Whether the move from there leads back by the same involution.
-    fn is_undone(&self, index: Index, part: usize) -> bool
-        requires part { part < K }
-        ensures { IsTrue result ↔ IsUndone (table_of self.now) index part }
-    {
-        let there = self.move_of(index, part);
-        if there.to >= K {
-            return false;
-        }
-        let back = self.move_of(index, there.to);
-        if back.by != there.by {
-            return false;
-        }
-        back.to == part
-    }
-
-    /// Whether all moves by an involution lead back.
-    fn are_undone_by(&self, index: Index) -> bool
-        ensures { IsTrue result ↔ AreUndoneBy (table_of self.now) index }
+    /// Whether each move of a row, which has one for each part, leads back by the same involution.
+    fn lead_back(row: &[Move; K]) -> bool
+        ensures back { IsTrue result ↔ RowLeadsBack row.now }
+        ensures parts { length row.now ≡ K }
     {
         for part in 0..K {
-            if !self.is_undone(index, part) {
+            let there = row[part];
+            if there.to >= K {
+                return false;
+            }
+            let back = row[there.to];
+            if back.by != there.by || back.to != part {
                 return false;
             }
         }
         true
     }
 
+    /// Whether all moves by an involution lead back.
+    fn are_undone_by(&self, index: Index) -> bool
+        ensures undone { IsTrue result ↔ AreUndoneBy (table_of self.now) index }
+        ensures parts { length (moves (table_of self.now) index) ≡ K }
+    {
+        Self::lead_back(self.moves_by(index))
+    }
+
     /// Whether all moves lead back.
     pub(crate) fn are_undone(&self) -> bool
-        ensures { IsTrue result ↔ AreUndone (table_of self.now) }
+        ensures undone { IsTrue result ↔ AreUndone (table_of self.now) }
+        ensures parts { IsTrue result → (i : Index) → length (moves (table_of self.now) i) ≡ K }
     {
-        if !self.are_undone_by(Index::Zero) {
-            return false;
-        }
-        if !self.are_undone_by(Index::One) {
-            return false;
-        }
-        self.are_undone_by(Index::Two)
+        self.are_undone_by(Index::Zero)
+            && self.are_undone_by(Index::One)
+            && self.are_undone_by(Index::Two)
     }
 
     /// Where so many turns of a pair lead.
@@ -113,7 +92,8 @@ impl<const K: usize> Template<K> {
         requires part { part < K }
         requires turns { turns ≤ 64 }
         ensures part { result.part ≡ part_after (table_of self.now) (power (turn pair) turns) part }
-        ensures word { word_of result.word ≡ carried (table_of self.now) (power (turn pair) turns) part [] }
+        ensures word { word_of result.word ≡ carried (table_of self.now)
+            (power (turn pair) turns) part [] }
     {
         let mut place = part;
         let mut word = Letters::new();
@@ -137,10 +117,7 @@ impl<const K: usize> Template<K> {
         ensures { IsTrue result ↔ LeadsBack (table_of self.now) (power (turn pair) turns) part [] }
     {
         let walk = self.turned(pair, part, turns);
-        if walk.part != part {
-            return false;
-        }
-        walk.word.is_empty()
+        walk.part == part && walk.word.is_empty()
     }
 
     /// Whether s0 and s2 commute.
@@ -176,11 +153,8 @@ impl<const K: usize> Template<K> {
     {
         let own = self.entry_of(pair, part);
         let first = self.move_of(pair.first(), part).to;
-        if self.entry_of(pair, first) != own {
-            return false;
-        }
         let second = self.move_of(pair.second(), part).to;
-        self.entry_of(pair, second) == own
+        self.entry_of(pair, first) == own && self.entry_of(pair, second) == own
     }
 
     /// Whether the entries are equal along all moves of the pair.

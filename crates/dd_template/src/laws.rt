@@ -8,7 +8,10 @@ ghost use Rattle.dd_template.specs.Dual.{exchanged};
 ghost use Rattle.dd_template.specs.Table.{Table, IsPart, table_of};
 ghost use Rattle.dd_template.specs.Made.{made};
 ghost use Rattle.dd_template.specs.Reduced.{reduced, IsReduced};
-ghost use Rattle.dd_template.specs.Lawful.{AreUndone, IsApart, IsLawful, whole};
+ghost use Rattle.dd_template.specs.Moves.{AreUndone};
+ghost use Rattle.dd_template.specs.Entries.{IsApart};
+ghost use Rattle.dd_template.specs.Lawful.{IsLawful};
+ghost use Rattle.dd_template.specs.Shares.{curvature_unit};
 ghost use Rattle.dd_template.specs.Worked.{trihexagonal};
 
 use crate::constants::{AMBO, CHAMFER, DUAL, TRUNCATE};
@@ -18,18 +21,20 @@ pub fn words_have_one_reduced_word()
     ensures reduced { (w : Word) → IsReduced (reduced w) }
     ensures stays { (w : Word) → IsReduced w → reduced w ≡ w }
     ensures struck { (u v : Word) (i : Index) → reduced (u ++ i ∷ i ∷ v) ≡ reduced (u ++ v) }
-    ensures exchanged { (u v : Word) → reduced (u ++ Two ∷ Zero ∷ v) ≡ reduced (u ++ Zero ∷ Two ∷ v) }
+    ensures exchanged { (u v : Word) → reduced (u ++ Two ∷ Zero ∷ v) ≡
+        reduced (u ++ Zero ∷ Two ∷ v) }
 {}
 
 /// Each of 1 to 64 divides the number in whose parts fractions are counted.
 pub fn fractions_are_whole_numbers_of_parts()
-    ensures { (c : ℕ) → 1 ≤ c → c ≤ 64 → c * (whole / c) ≡ whole }
+    ensures { (c : ℕ) → 1 ≤ c → c ≤ 64 → c * (curvature_unit / c) ≡ curvature_unit }
 {}
 
 /// Where moves lead back and fewer than so many turns never lead a part back to itself, there are
 /// no more turns than parts.
 pub fn parts_are_met_again()
-    ensures { (t : Table) → AreUndone t → (p : Pair) (x c : ℕ) → IsPart t x → IsApart t p x c → c ≤ t.parts }
+    ensures { (t : Table) → AreUndone t → (p : Pair) (x c : ℕ) → IsPart t x → IsApart t p x c
+        → c ≤ t.parts }
 {}
 
 /// The table of the dual is lawful.

@@ -91,12 +91,6 @@ impl Letters {
     pub(crate) fn is_two(&self, a: Index, b: Index) -> bool
         ensures { IsTrue result ↔ (word_of self.now ≡ a ∷ b ∷ []) }
     {
-        if self.count != 2 {
-            return false;
-        }
-        if self.letters[1] != a {
-            return false;
-        }
-        self.letters[0] == b
+        self.count == 2 && self.letters[1] == a && self.letters[0] == b
     }
 }

@@ -6,7 +6,8 @@ use Rattle.dd_model.specs.Symbol.{item}
 use Rattle.dd_model.proofs.ReadingImages.{told_from, told-yes, told-no}
 use Rattle.dd_model.specs.Spelling.{Told, values}
 use Rattle.dd_model.specs.declared.tokens.Numeral.{Numeral}
-use Rattle.dd_text.specs.ListFaults.{IsFirstUnknown, AllKnown, IsFree, Says, Say, Nothing, numbers_of, IsShortList, IsLongList, IsWrongImage}
+use Rattle.dd_text.specs.ToldImages.{IsFirstUnknown, AllKnown, IsFree, Says, Say, Nothing, numbers_of}
+use Rattle.dd_text.specs.ListFaults.{IsShortList, IsLongList, IsWrongImage}
 use Rattle.dd_text.proofs.ListSteps.{cut_at, one_more, all_of}
 use Rattle.dd_text.specs.Images.{IsNextUnknown, IsToldBy}
 

@@ -11,11 +11,11 @@ use Rattle.dd_text.specs.declared.faults.Why.{Why}
 use Rattle.dd_text.specs.declared.faults.Why.TheVariants as whys
 use Rattle.dd_text.specs.Reader.{step, stepped}
 use Rattle.dd_text.specs.TextFaults.{IsTextFault}
-use Rattle.dd_text.specs.FileFaults.{IsShapeFault}
+use Rattle.dd_text.specs.SymbolFaults.{IsShapeFault}
 use Rattle.dd_text.specs.Items.{TextTells, IsFaultOfText, IsFaultAtSymbol, ReadsSymbol, ReadsItem}
 use Rattle.dd_text.specs.Texts.{IsTextTo}
 use Rattle.dd_text.specs.declared.faults.Fault.{Fault}
-use Rattle.dd_text.specs.declared.lists.SymbolText.{SymbolText}
+use Rattle.dd_text.specs.declared.symbol_text.SymbolText.{SymbolText}
 use Rattle.dd_text.proofs.NextPart.{after_part-le, line_end-le}
 
 -- ---- one symbol

@@ -8,7 +8,8 @@ use Rattle.dd_model.proofs.ReadingImages.{told_from, told-yes, IsFold, told_same
 use Rattle.dd_model.proofs.Codes.{same_items}
 use Rattle.dd_text.specs.declared.faults.Why.{Why}
 use Rattle.dd_text.specs.declared.faults.Why.TheVariants as whys
-use Rattle.dd_text.specs.ListFaults.{IsFirstUnknown, IsFree, Says, Say, Nothing, numbers_of, IsShortList, IsLongList, IsWrongImage, IsImagesFault}
+use Rattle.dd_text.specs.ToldImages.{IsFirstUnknown, IsFree, Says, Say, Nothing, numbers_of}
+use Rattle.dd_text.specs.ListFaults.{IsShortList, IsLongList, IsWrongImage, IsImagesFault}
 use Rattle.dd_text.specs.Images.{IsToldBy}
 use Rattle.dd_text.proofs.ImageReads.{IsPartial, partial-nothing, partial-says, is_paired, frontier, three, told_none, told_skip, length-nothing, no_image}
 

@@ -1,7 +1,7 @@
 -- Lists of numbers, cut at one of them.
 use Rattle.std.proofs.Common.{◌≡◌, ℕ, zero, suc, ◌+◌, ◌<◌, List, [], ◌∷◌, ◌++◌, length, get_or, take, drop, refl, ap, ◌∙◌, arith}
 use Rattle.dd_model.specs.declared.tokens.Numeral.{Numeral}
-use Rattle.dd_text.specs.ListFaults.{numbers_of}
+use Rattle.dd_text.specs.ToldImages.{numbers_of}
 
 pub cut_at : (xs : List Numeral) (i : ℕ) (d : Numeral) → i < length xs → xs ≡ take i xs ++ get_or xs i d ∷ drop (suc i) xs
 cut_at [] i d h = absurd (omega arith)

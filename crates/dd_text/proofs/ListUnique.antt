@@ -9,7 +9,8 @@ use Rattle.dd_model.specs.Spelling.{Told}
 use Rattle.dd_model.proofs.CellLists.{cells_unique}
 use Rattle.dd_text.specs.declared.faults.Why.{Why}
 use Rattle.dd_text.specs.declared.faults.Why.TheVariants as whys
-use Rattle.dd_text.specs.ListFaults.{IsFirstUnknown, Says, Say, Nothing, numbers_of, IsShortList, IsLongList, IsWrongImage, IsImagesFault, IsShortOfCells, IsBeyondCells, IsDegreesFault}
+use Rattle.dd_text.specs.ToldImages.{IsFirstUnknown, Says, Say, Nothing, numbers_of}
+use Rattle.dd_text.specs.ListFaults.{IsShortList, IsLongList, IsWrongImage, IsImagesFault, IsShortOfCells, IsBeyondCells, IsDegreesFault}
 use Rattle.dd_text.proofs.ListExclusion.{mapped, split_values}
 use Rattle.dd_text.proofs.TextUnique.{SameFault}
 

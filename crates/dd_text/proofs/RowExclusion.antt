@@ -12,7 +12,8 @@ use Rattle.dd_model.proofs.ReadingRows.{reads_once, no_item, SameItem, same_item
 use Rattle.dd_text.specs.declared.faults.Why.{Why}
 use Rattle.dd_text.specs.declared.faults.Why.TheVariants as whys
 use Rattle.dd_text.specs.declared.faults.FileFault.{FileFault}
-use Rattle.dd_text.specs.FileFaults.{IsSymbolFault, IsFaultAfter, IsStrayBetween, IsOneTooMany, IsNextFault, IsFaultWithin, IsFileFault, IsFileFaultOf, IsShapeFault}
+use Rattle.dd_text.specs.SymbolFaults.{IsSymbolFault, IsShapeFault}
+use Rattle.dd_text.specs.FileFaults.{IsFaultAfter, IsStrayBetween, IsOneTooMany, IsNextFault, IsFaultWithin, IsFileFault, IsFileFaultOf}
 use Rattle.dd_text.proofs.TextExclusion.{text_excluded}
 use Rattle.dd_text.proofs.SymbolExclusion.{shape_excluded}
 

@@ -18,7 +18,8 @@ use Rattle.dd_text.specs.declared.faults.Why.TheVariants as whys
 use Rattle.dd_text.specs.declared.faults.FileFault.{FileFault}
 use Rattle.dd_text.specs.TextFaults.{IsTextFault}
 use Rattle.dd_text.specs.ListFaults.{IsDegreesFault}
-use Rattle.dd_text.specs.FileFaults.{AreTold, IsListsFault, in_s0, in_s1, in_s2, in_m01, in_m12, IsNoSymbol, IsShapeFault, IsSymbolFault, IsFaultAfter, IsStrayBetween, IsOneTooMany, IsNextFault, IsFaultWithin, IsTooLongFile, IsFileFault, IsFileFaultOf}
+use Rattle.dd_text.specs.SymbolFaults.{AreTold, IsListsFault, IsNoSymbol, IsShapeFault, IsSymbolFault, in_s0, in_s1, in_s2, in_m01, in_m12}
+use Rattle.dd_text.specs.FileFaults.{IsFaultAfter, IsStrayBetween, IsOneTooMany, IsNextFault, IsFaultWithin, IsTooLongFile, IsFileFault, IsFileFaultOf}
 use Rattle.dd_text.proofs.TextExclusion.{text_excluded}
 use Rattle.dd_text.proofs.ListExclusion.{told_by_unique, images_excluded}
 use Rattle.dd_text.proofs.SymbolExclusion.{degrees_excluded, lists_excluded, given_images, given_tells, tells_once}

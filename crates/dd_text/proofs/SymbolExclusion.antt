@@ -16,7 +16,8 @@ use Rattle.dd_model.proofs.Branching.{degree_same}
 use Rattle.dd_model.proofs.CellLists.{cells_unique}
 use Rattle.dd_model.proofs.CellSearch.{has_least}
 use Rattle.dd_model.proofs.Codes.{same_items}
-use Rattle.dd_model.proofs.ReadingSymbols.{HaveSameImages, in_cell_same, chamber_same, cells_same, map_at}
+use Rattle.dd_model.proofs.ReadingSymbols.{HaveSameImages, in_cell_same, chamber_same, cells_same}
+use Rattle.dd_model.proofs.Lists.{map_at}
 use Rattle.dd_symbol.specs.Building.{listed}
 use Rattle.dd_symbol.specs.Refusals.{IsRefused}
 use Rattle.dd_symbol.proofs.RefusalLemmas.{not_accepted}
@@ -24,7 +25,7 @@ use Rattle.dd_text.specs.declared.faults.Why.{Why}
 use Rattle.dd_text.specs.declared.faults.Why.TheVariants as whys
 use Rattle.dd_text.specs.ListFaults.{IsDegreesFault}
 use Rattle.dd_text.specs.Images.{IsToldBy}
-use Rattle.dd_text.specs.FileFaults.{Gives, AreTold, IsListsFault, in_s0, in_s1, in_s2, in_m01, in_m12, IsShapeFault}
+use Rattle.dd_text.specs.SymbolFaults.{Gives, AreTold, IsListsFault, IsShapeFault, in_s0, in_s1, in_s2, in_m01, in_m12}
 use Rattle.dd_text.proofs.CellReads.{length-numbers_of, length-mapped}
 use Rattle.dd_text.proofs.ListExclusion.{told_by_unique, images_excluded}
 

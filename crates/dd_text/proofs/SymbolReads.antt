@@ -16,11 +16,11 @@ use Rattle.dd_symbol.specs.declared.refusals.Refusal.TheVariants as refusals
 use Rattle.dd_symbol.specs.Refusals.{IsRefused}
 use Rattle.dd_text.specs.declared.faults.Why.{Why}
 use Rattle.dd_text.specs.declared.faults.Why.TheVariants as whys
-use Rattle.dd_text.specs.declared.lists.SymbolText.{SymbolText}
+use Rattle.dd_text.specs.declared.symbol_text.SymbolText.{SymbolText}
 use Rattle.dd_text.specs.Texts.{told_of, IsTextOf}
 use Rattle.dd_text.specs.Images.{IsToldBy, AreDegrees}
 use Rattle.dd_text.specs.ListFaults.{IsImagesFault, IsDegreesFault}
-use Rattle.dd_text.specs.FileFaults.{Gives, AreTold, IsListsFault, in_s1, in_s2, in_m01, in_m12, IsShapeFault}
+use Rattle.dd_text.specs.SymbolFaults.{Gives, AreTold, IsListsFault, IsShapeFault, in_s1, in_s2, in_m01, in_m12}
 use Rattle.dd_text.specs.Items.{why_of}
 
 -- ---- faults of lists

@@ -7,7 +7,7 @@ use Rattle.dd_model.specs.Parts.{Cursor, first_part, after_part, Spells}
 use Rattle.dd_model.specs.Spelling.{Told, Head, number_part, sign_part, with_head, with_dimension, with_list}
 use Rattle.dd_model.proofs.ReadingParts.{spells-append, sign_is_no_number, signs_differ}
 use Rattle.dd_text.specs.declared.faults.Fault.{Fault}
-use Rattle.dd_text.specs.declared.lists.SymbolText.{SymbolText}
+use Rattle.dd_text.specs.declared.symbol_text.SymbolText.{SymbolText}
 use Rattle.dd_text.specs.TextFaults.{IsSizeFault, IsDimensionFault, IsTextFault}
 use Rattle.dd_text.specs.Texts.{told_of, IsListFault, IsHeadTo, IsSizeTo, IsTextTo}
 use Rattle.dd_text.proofs.ShapeParts.{opened, opened-append, front, front-append, next_sign, signs, IsOther, listed, no_other_in_list, number_in_list}

@@ -8,9 +8,10 @@ use Rattle.dd_model.specs.Reading.{IsSpellingTo, Item, IsItem, symbols_of, IsRea
 use Rattle.dd_symbol.specs.declared.refusals.Refusal.{Refusal}
 use Rattle.dd_symbol.specs.declared.refusals.Refusal.TheVariants as refusals
 use Rattle.dd_text.specs.declared.faults.Fault.{Fault}
-use Rattle.dd_text.specs.declared.lists.SymbolText.{SymbolText}
+use Rattle.dd_text.specs.declared.symbol_text.SymbolText.{SymbolText}
 use Rattle.dd_text.specs.Texts.{IsTextOf}
-use Rattle.dd_text.specs.FileFaults.{IsShapeFault, IsFaultAfter, IsSymbolFault}
+use Rattle.dd_text.specs.SymbolFaults.{IsShapeFault, IsSymbolFault}
+use Rattle.dd_text.specs.FileFaults.{IsFaultAfter}
 use Rattle.dd_text.specs.declared.faults.Why.{Why}
 use Rattle.dd_text.specs.declared.faults.Why.TheVariants.{Stray, UnexpectedEnd, NumberTooLong, Dimension, Size, ListShort, ListLong, Image, Symbol as Refused, TooManySymbols, Long, Memory}
 

@@ -2,8 +2,10 @@ pub mod Writing
 pub mod Reader
 pub mod TextFaults
 pub mod Texts
+pub mod ToldImages
 pub mod ListFaults
 pub mod Images
 pub mod Involutions
+pub mod SymbolFaults
 pub mod FileFaults
 pub mod Items

@@ -10,7 +10,7 @@ use Rattle.dd_text.specs.declared.faults.Why.{Why}
 use Rattle.dd_text.specs.declared.faults.Why.TheVariants.{Stray, UnexpectedEnd, NumberTooLong, Memory}
 use Rattle.dd_text.specs.declared.faults.Fault.{Fault}
 use Rattle.dd_text.specs.declared.lists.NumberList.{NumberList}
-use Rattle.dd_text.specs.declared.lists.SymbolText.{SymbolText}
+use Rattle.dd_text.specs.declared.symbol_text.SymbolText.{SymbolText}
 
 -- why a part may not stand where a number may
 abbrev pub no_number_why : Part → Why

@@ -1,7 +1,7 @@
 ghost use Rattle.std.specs.Prelude.{◌≡◌, ℕ, ◌<◌, ◌≤◌, length, map, slice_index, IfOk, IfErr};
 ghost use Rattle.dd_model.specs.Symbol.{item};
 ghost use Rattle.std.specs.List.Sorted.{IsStrictlyIncreasing};
-ghost use Rattle.dd_text.specs.ListFaults.{numbers_of};
+ghost use Rattle.dd_text.specs.ToldImages.{numbers_of};
 ghost use Rattle.dd_text.specs.Images.{IsWithin};
 
 use crate::faults::{Fault, Why};
@@ -21,7 +21,7 @@ pub(crate) fn at_cells(
     requires chambers { (k : ℕ) → k < length cells.now → IsWithin size (slice_index cells.now k) }
     ensures length { IfOk result (λ told. length told.items ≡ size) }
     ensures told { IfOk result (λ told. map (item told.items) cells.now ≡ numbers_of numbers.now) }
-    ensures err { IfErr result (λ fault. fault.why ≡ Why.Memory) }
+    ensures why { IfErr result (λ fault. fault.why ≡ Why.Memory) }
 {
     let mut told = vec![in alloc; 0u32; size as usize]?;
     for k in 0..cells.len() {
@@ -32,9 +32,10 @@ pub(crate) fn at_cells(
 
 /// For each chamber the number that stands at the least one of its cell.
 pub(crate) fn spread(alloc: Global, least: &[u32], told: &[u32]) -> Result<Vec<u32>, Fault>
-    requires chambers { (k : ℕ) → k < length least.now → IsWithin (length told.now) (slice_index least.now k) }
+    requires chambers { (k : ℕ) → k < length least.now
+        → IsWithin (length told.now) (slice_index least.now k) }
     ensures ok { IfOk result (λ spread. spread.items ≡ map (item told.now) least.now) }
-    ensures err { IfErr result (λ fault. fault.why ≡ Why.Memory) }
+    ensures why { IfErr result (λ fault. fault.why ≡ Why.Memory) }
 {
     let mut spread = Vec::with_capacity(alloc, least.len())?;
     for chamber in least {

@@ -1,7 +1,8 @@
 ghost use Rattle.std.specs.Prelude.{◌≡◌, ◌↔◌, ◌-◌, ◌<◌, ◌≤◌, length, slice_set, IfOk, IfErr, IsTrue};
 ghost use Rattle.dd_model.specs.Spelling.{values};
 ghost use Rattle.dd_text.specs.Texts.{told_of};
-ghost use Rattle.dd_text.specs.ListFaults.{IsFree, IsImagesFault};
+ghost use Rattle.dd_text.specs.ToldImages.{IsFree};
+ghost use Rattle.dd_text.specs.ListFaults.{IsImagesFault};
 ghost use Rattle.dd_text.specs.Images.{IsNextUnknown, IsToldBy};
 
 use crate::faults::{Fault, Why};
@@ -36,7 +37,7 @@ fn is_free(images: &[u32], number: u32) -> bool
 pub(crate) fn images(alloc: Global, size: u32, list: &NumberList) -> Result<Vec<u32>, Fault>
     requires { size ≤ 1024 }
     ensures ok { IfOk result (λ images. IsToldBy size (values (told_of list.now)) images.items) }
-    ensures err { IfErr result (λ fault. IsImagesFault size (told_of list.now) fault.why fault.at) }
+    ensures why { IfErr result (λ fault. IsImagesFault size (told_of list.now) fault.why fault.at) }
 {
     let mut images = vec![in alloc; 0u32; size as usize]?;
     let mut known = 1;

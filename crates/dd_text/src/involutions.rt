@@ -90,8 +90,11 @@ impl Involutions {
         requires chamber { IsChamber (table_of self.now) chamber }
         requires length { length least.old.items ≡ (table_of self.now).size }
         ensures length { length least.new.items ≡ (table_of self.now).size }
-        ensures cell { (e : ℕ) → InCell (table_of self.now) pair chamber e → item least.new.items e ≡ chamber }
-        ensures others { (e : ℕ) → IsChamber (table_of self.now) e → (InCell (table_of self.now) pair chamber e → ⊥) → item least.new.items e ≡ item least.old.items e }
+        ensures cell { (e : ℕ) → InCell (table_of self.now) pair chamber e
+            → item least.new.items e ≡ chamber }
+        ensures others { (e : ℕ) → IsChamber (table_of self.now) e
+            → (InCell (table_of self.now) pair chamber e → ⊥)
+            → item least.new.items e ≡ item least.old.items e }
     {
         let turns = self.period(pair, chamber);
         let mut place = chamber;
@@ -107,7 +110,7 @@ impl Involutions {
     fn least_of_cells(&self, alloc: Global, pair: Pair) -> Result<Vec<u32>, Fault>
         requires lists { AreInvolutions (table_of self.now) }
         ensures ok { IfOk result (λ least. AreLeast (table_of self.now) pair least.items) }
-        ensures err { IfErr result (λ fault. fault.why ≡ Why.Memory) }
+        ensures why { IfErr result (λ fault. fault.why ≡ Why.Memory) }
     {
         let mut least = vec![in alloc; 0u32; self.size() as usize]?;
         for k in 0..self.size() {
@@ -124,7 +127,7 @@ impl Involutions {
         requires lists { AreInvolutions (table_of self.now) }
         requires least { AreLeast (table_of self.now) pair least.now }
         ensures ok { IfOk result (λ cells. AreCells (table_of self.now) pair cells.items) }
-        ensures err { IfErr result (λ fault. fault.why ≡ Why.Memory) }
+        ensures why { IfErr result (λ fault. fault.why ≡ Why.Memory) }
     {
         let mut cells = Vec::with_capacity(alloc, self.size() as usize)?;
         for k in 0..self.size() {
@@ -140,8 +143,10 @@ impl Involutions {
     /// least chambers.
     pub fn degrees(&self, alloc: Global, pair: Pair, list: &NumberList) -> Result<Vec<u32>, Fault>
         requires lists { AreInvolutions (table_of self.now) }
-        ensures ok { IfOk result (λ degrees. AreDegrees (table_of self.now) pair (values (told_of list.now)) degrees.items) }
-        ensures err { IfErr result (λ fault. IsDegreesFault (table_of self.now) pair (told_of list.now) fault.why fault.at) }
+        ensures ok { IfOk result (λ degrees. AreDegrees (table_of self.now) pair
+            (values (told_of list.now)) degrees.items) }
+        ensures why { IfErr result (λ fault. IsDegreesFault (table_of self.now) pair
+            (told_of list.now) fault.why fault.at) }
     {
         let least = self.least_of_cells(alloc, pair)?;
         let cells = self.least_chambers(alloc, pair, &least)?;

@@ -9,13 +9,13 @@ mod involutions;
 mod lists;
 mod reader;
 mod reading;
-mod texts;
+mod symbol_text;
 mod writing;
 
 pub use fault_laws::{a_faulty_file_spells_nothing, a_file_has_one_fault};
 pub use faults::{FileFault, Why};
 pub use reading::read_file;
-pub use writing::{put_line, put_lines};
+pub use writing::{put_bytes, put_line, put_lines};
 
 #[cfg(test)]
 mod reading_tests;

@@ -8,8 +8,8 @@ ghost use Rattle.dd_text.specs.Items.{why_of, TextTells, IsFaultOfText, IsFaultA
 use crate::faults::{Fault, FileFault, Why};
 use crate::images::images;
 use crate::involutions::Involutions;
-use crate::lists::SymbolText;
 use crate::reader::{Reader, is_blank};
+use crate::symbol_text::SymbolText;
 use dd_model::Pair;
 use dd_symbol::{Connected, Refusal, build};
 use std::alloc::Global;
@@ -35,7 +35,7 @@ fn symbol_of(alloc: Global, text: &SymbolText, at: u32) -> Result<Connected, Fau
     requires { text.now.size ≤ 1024 }
     ensures tells { IfOk result (λ symbol. TextTells text.now symbol) }
     ensures readable { IfOk result (λ symbol. IsReadable symbol) }
-    ensures err { IfErr result (λ fault. IsFaultOfText text.now at fault) }
+    ensures why { IfErr result (λ fault. IsFaultOfText text.now at fault) }
 {
     let s0 = images(alloc, text.size, &text.s0)?;
     let s1 = images(alloc, text.size, &text.s1)?;
@@ -56,8 +56,10 @@ fn symbol_of(alloc: Global, text: &SymbolText, at: u32) -> Result<Connected, Fau
 /// Reads a symbol; the reader stands at its `<`.
 fn read_symbol(alloc: Global, reader: &mut Reader<'_>) -> Result<Connected, Fault>
     requires { IsByteAt reader.old 60 }
-    ensures ok { IfOk result (λ symbol. ReadsSymbol (cursor_of reader.old) symbol (cursor_of reader.new)) }
-    ensures err { IfErr result (λ fault. IsFaultAtSymbol (cursor_of reader.old) fault.why fault.at) }
+    ensures ok { IfOk result (λ symbol. ReadsSymbol (cursor_of reader.old) symbol
+        (cursor_of reader.new)) }
+    ensures why { IfErr result (λ fault. IsFaultAtSymbol
+        (cursor_of reader.old) fault.why fault.at) }
 {
     let at = reader.at();
     reader.advance();
@@ -74,10 +76,12 @@ fn read_item(
 ) -> Result<(), Fault>
     requires byte { IsByteAt reader.old byte }
     requires count { length symbols.old.items ≤ 1000000 }
-    ensures ok { OnOk result (ReadsItem (cursor_of reader.old) (cursor_of reader.new) symbols.old.items symbols.new.items) }
+    ensures ok { OnOk result (ReadsItem (cursor_of reader.old)
+        (cursor_of reader.new) symbols.old.items symbols.new.items) }
     ensures count { length symbols.new.items ≤ 1000000 }
     ensures same { IfErr result (λ _. symbols.new.items ≡ symbols.old.items) }
-    ensures err { IfErr result (λ fault. IsNextFault (cursor_of reader.old) (length symbols.old.items) fault.why fault.at) }
+    ensures why { IfErr result (λ fault. IsNextFault (cursor_of reader.old)
+        (length symbols.old.items) fault.why fault.at) }
 {
     let at = reader.at();
     if is_blank(byte) {
@@ -102,14 +106,13 @@ fn read_item(
         });
     }
     let symbol = read_symbol(alloc, reader)?;
-    symbols.push(symbol)?;
-    Ok(())
+    Ok(symbols.push(symbol)?)
 }
 
 /// Reads a file, item by item.
 fn read(alloc: Global, bytes: &[u8]) -> Result<Vec<Connected>, FileFault>
     ensures reads { IfOk result (λ symbols. Reads bytes.now symbols.items) }
-    ensures fault { IfErr result (λ fault. IsFileFault bytes.now fault) }
+    ensures why { IfErr result (λ fault. IsFileFault bytes.now fault) }
 {
     if bytes.len() > MOST_BYTES {
         return Err(FileFault {
@@ -138,10 +141,11 @@ pub fn read_file(alloc: Global, bytes: &[u8]) -> Result<Vec<Connected>, FileFaul
     ensures reads { IfOk result (λ symbols. Reads bytes.now symbols.items) }
 
     // What is spelled is answered, unless memory runs out.
-    ensures spelled { (symbols : List Symbol) → Reads bytes.now symbols → MatchResult result (λ read. read.items ≡ symbols) (λ fault. fault.why ≡ Why.Memory) }
+    ensures spelled { (symbols : List Symbol) → Reads bytes.now symbols
+        → MatchResult result (λ read. read.items ≡ symbols) (λ fault. fault.why ≡ Why.Memory) }
 
     // What fault is answered, and for which symbol and place.
-    ensures fault { IfErr result (λ fault. IsFileFault bytes.now fault) }
+    ensures why { IfErr result (λ fault. IsFileFault bytes.now fault) }
 {
     read(alloc, bytes)
 }

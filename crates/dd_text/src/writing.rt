@@ -63,26 +63,29 @@ fn append_line(out: &mut Vec<u8>, k: u128, symbol: &Symbol) -> Result<(), Memory
 
 /// Appends `<1.k:n:`.
 fn put_head(out: &mut Vec<u8>, k: u128, size: u32) -> Result<(), Memory>
-    ensures head { OnOk result (out.new.items ≡ out.old.items ++ codes "<1." ++ decimal k ++ codes ":" ++ decimal size ++ codes ":") }
+    ensures head { OnOk result (out.new.items ≡ out.old.items ++ codes "<1." ++ decimal k
+        ++ codes ":" ++ decimal size ++ codes ":") }
     ensures longer { IsLonger out.old.items out.new.items }
 {
-    put_sign(out, b"<1.")?;
+    put_bytes(out, b"<1.")?;
     put_number(out, k)?;
-    put_sign(out, b":")?;
+    put_bytes(out, b":")?;
     put_number(out, u128::from(size))?;
-    put_sign(out, b":")
+    put_bytes(out, b":")
 }
 
 /// Appends the images of the three involutions, parted by commas.
 fn put_involutions(out: &mut Vec<u8>, symbol: &Symbol) -> Result<(), Memory>
-    ensures images { OnOk result (out.new.items ≡ out.old.items ++ spaced (told_images symbol.now Index.Zero) ++ codes ","
-        ++ spaced (told_images symbol.now Index.One) ++ codes "," ++ spaced (told_images symbol.now Index.Two)) }
+    ensures images { OnOk result (out.new.items ≡ out.old.items
+        ++ spaced (told_images symbol.now Index.Zero) ++ codes ","
+        ++ spaced (told_images symbol.now Index.One) ++ codes ","
+        ++ spaced (told_images symbol.now Index.Two)) }
     ensures longer { IsLonger out.old.items out.new.items }
 {
     put_images(out, symbol, Index::Zero)?;
-    put_sign(out, b",")?;
+    put_bytes(out, b",")?;
     put_images(out, symbol, Index::One)?;
-    put_sign(out, b",")?;
+    put_bytes(out, b",")?;
     put_images(out, symbol, Index::Two)
 }
 
@@ -95,20 +98,22 @@ fn put_cells(
 ) -> Result<(), Memory>
     requires tiles { All (IsChamber symbol.now) tiles.now }
     requires vertices { All (IsChamber symbol.now) vertices.now }
-    ensures degrees { OnOk result (out.new.items ≡ out.old.items ++ codes ":" ++ spaced (map (degree symbol.now Pair.Tile) tiles.now) ++ codes ","
+    ensures degrees { OnOk result (out.new.items ≡ out.old.items ++ codes ":"
+        ++ spaced (map (degree symbol.now Pair.Tile) tiles.now) ++ codes ","
         ++ spaced (map (degree symbol.now Pair.Vertex) vertices.now) ++ codes ">\n") }
     ensures longer { IsLonger out.old.items out.new.items }
 {
-    put_sign(out, b":")?;
+    put_bytes(out, b":")?;
     put_degrees(out, symbol, Pair::Tile, tiles)?;
-    put_sign(out, b",")?;
+    put_bytes(out, b",")?;
     put_degrees(out, symbol, Pair::Vertex, vertices)?;
-    put_sign(out, b">\n")
+    put_bytes(out, b">\n")
 }
 
 /// Appends the images of an involution, each pair of chambers told once.
 fn put_images(out: &mut Vec<u8>, symbol: &Symbol, i: Index) -> Result<(), Memory>
-    ensures images { OnOk result (out.new.items ≡ out.old.items ++ spaced (told_images symbol.now i)) }
+    ensures images { OnOk result (out.new.items ≡ out.old.items
+        ++ spaced (told_images symbol.now i)) }
     ensures longer { IsLonger out.old.items out.new.items }
 {
     let mut begun = false;
@@ -131,7 +136,8 @@ fn put_degrees(
     chambers: &[u32],
 ) -> Result<(), Memory>
     requires { All (IsChamber symbol.now) chambers.now }
-    ensures degrees { OnOk result (out.new.items ≡ out.old.items ++ spaced (map (degree symbol.now pair) chambers.now)) }
+    ensures degrees { OnOk result (out.new.items ≡ out.old.items
+        ++ spaced (map (degree symbol.now pair) chambers.now)) }
     ensures longer { IsLonger out.old.items out.new.items }
 {
     let mut begun = false;
@@ -148,7 +154,7 @@ fn put_next(out: &mut Vec<u8>, begun: bool, number: u32) -> Result<(), Memory>
     ensures longer { IsLonger out.old.items out.new.items }
 {
     if begun {
-        put_sign(out, b" ")?;
+        put_bytes(out, b" ")?;
     }
     put_number(out, u128::from(number))
 }
@@ -159,11 +165,11 @@ fn put_number(out: &mut Vec<u8>, number: u128) -> Result<(), Memory>
     ensures longer { IsLonger out.old.items out.new.items }
 {
     let mut digits = Buffer::new();
-    put_sign(out, digits.format(number).as_bytes())
+    put_bytes(out, digits.format(number).as_bytes())
 }
 
-/// Appends some bytes.
-fn put_sign(out: &mut Vec<u8>, bytes: &[u8]) -> Result<(), Memory>
+/// Appends some bytes. At `Err` the old text stays in front.
+pub fn put_bytes(out: &mut Vec<u8>, bytes: &[u8]) -> Result<(), Memory>
     ensures bytes { OnOk result (out.new.items ≡ out.old.items ++ bytes.now) }
     ensures longer { IsLonger out.old.items out.new.items }
 {

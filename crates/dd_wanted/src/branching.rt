@@ -15,7 +15,8 @@ fn is_crystallographic(value: u32) -> bool
 
 /// Whether each branching value of a pair is 1, 2, 3, 4 or 6.
 pub fn has_crystallographic_cells(symbol: &Symbol, pair: Pair) -> bool
-    ensures { IsTrue result ↔ ((d v : ℕ) → IsChamber symbol.now d → IsBranching symbol.now pair d v → IsCrystallographic v) }
+    ensures { IsTrue result
+        ↔ ((d v : ℕ) → IsChamber symbol.now d → IsBranching symbol.now pair d v → IsCrystallographic v) }
 {
     for k in 0..symbol.size() {
         if !is_crystallographic(symbol.branching(pair, k + 1)) {

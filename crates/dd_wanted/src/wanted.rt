@@ -24,7 +24,8 @@ fn has_at_most(alloc: Global, symbol: &Symbol, pair: Pair, limit: u32) -> Result
 
 /// Whether each degree of a pair is in a set.
 fn has_degrees_in(symbol: &Symbol, pair: Pair, set: &Allowed) -> bool
-    ensures { IsTrue result ↔ ((d : ℕ) → IsChamber symbol.now d → IsIn set.now (degree symbol.now pair d)) }
+    ensures { IsTrue result
+        ↔ ((d : ℕ) → IsChamber symbol.now d → IsIn set.now (degree symbol.now pair d)) }
 {
     for k in 0..symbol.size() {
         if !set.has(symbol.degree(pair, k + 1)) {

@@ -74,7 +74,8 @@ fn with_settings<'a>(
     verb: Verb,
     settings: &[Setting],
 ) -> Result<App<'a>, AllocError>
-    ensures { IfOk result (λ more. app_of more ≡ with_settings verb (app_of app.entry) settings.now) }
+    ensures { IfOk result (λ more.
+        app_of more ≡ with_settings verb (app_of app.entry) settings.now) }
 {
     let mut more = app;
     for setting in settings {
@@ -90,7 +91,9 @@ fn with_setting<'a>(
     verb: Verb,
     setting: Setting,
 ) -> Result<App<'a>, AllocError>
-    ensures { IfOk result (λ more. app_of more ≡ cond (has_setting verb setting) (with_rule (app_of app.entry) (setting_rule setting)) (app_of app.entry)) }
+    ensures { IfOk result (λ more.
+        app_of more ≡ cond (has_setting verb setting)
+        (with_rule (app_of app.entry) (setting_rule setting)) (app_of app.entry)) }
 {
     if setting.is_of(verb) {
         app.arg(option(alloc, setting))

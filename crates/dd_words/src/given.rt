@@ -27,8 +27,10 @@ pub fn number_or(
     default: u32,
 ) -> Option<u32>
     requires { AreSingle (map given_of settings.now) }
-    ensures some { IfSome result (λ n. IsNumberOr (map given_of settings.now) setting low high default n) }
-    ensures none { IfNone result ((n : ℕ) → IsNumberOr (map given_of settings.now) setting low high default n → ⊥) }
+    ensures some { IfSome result (λ n.
+        IsNumberOr (map given_of settings.now) setting low high default n) }
+    ensures none { IfNone result
+        ((n : ℕ) → IsNumberOr (map given_of settings.now) setting low high default n → ⊥) }
 {
     match value_of(settings, setting) {
         Some(word) => read_number_in(word, low, high),
@@ -44,8 +46,10 @@ pub fn number_if_given(
     high: u32,
 ) -> Option<Option<u32>>
     requires { AreSingle (map given_of settings.now) }
-    ensures some { IfSome result (λ n. IsNumberIfGiven (map given_of settings.now) setting low high n) }
-    ensures none { IfNone result ((n : Option ℕ) → IsNumberIfGiven (map given_of settings.now) setting low high n → ⊥) }
+    ensures some { IfSome result (λ n.
+        IsNumberIfGiven (map given_of settings.now) setting low high n) }
+    ensures none { IfNone result
+        ((n : Option ℕ) → IsNumberIfGiven (map given_of settings.now) setting low high n → ⊥) }
 {
     let Some(word) = value_of(settings, setting) else {
         return Some(None);
@@ -58,7 +62,8 @@ pub fn number_if_given(
 pub fn flag_if_given(settings: &[Given<'_>], setting: Setting) -> Option<bool>
     requires { AreSingle (map given_of settings.now) }
     ensures some { IfSome result (λ flag. IsFlagIfGiven (map given_of settings.now) setting flag) }
-    ensures none { IfNone result ((flag : Bool) → IsFlagIfGiven (map given_of settings.now) setting flag → ⊥) }
+    ensures none { IfNone result
+        ((flag : Bool) → IsFlagIfGiven (map given_of settings.now) setting flag → ⊥) }
 {
     let Some(word) = value_of(settings, setting) else {
         return Some(false);
@@ -73,7 +78,8 @@ pub fn flag_if_given(settings: &[Given<'_>], setting: Setting) -> Option<bool>
 pub fn set_of(settings: &[Given<'_>], set: Setting, least: Setting) -> Option<Allowed>
     requires { AreSingle (map given_of settings.now) }
     ensures some { IfSome result (λ a. IsSet (map given_of settings.now) set least a) }
-    ensures none { IfNone result ((a : Allowed) → IsSet (map given_of settings.now) set least a → ⊥) }
+    ensures none { IfNone result
+        ((a : Allowed) → IsSet (map given_of settings.now) set least a → ⊥) }
 {
     match value_of(settings, set) {
         Some(word) => {
@@ -93,7 +99,8 @@ pub fn set_of(settings: &[Given<'_>], set: Setting, least: Setting) -> Option<Al
 pub fn frame_of(settings: &[Given<'_>]) -> Option<Frame>
     requires { AreSingle (map given_of settings.now) }
     ensures some { IfSome result (λ frame. IsFramed (map given_of settings.now) frame) }
-    ensures none { IfNone result ((frame : Frame) → IsFramed (map given_of settings.now) frame → ⊥) }
+    ensures none { IfNone result
+        ((frame : Frame) → IsFramed (map given_of settings.now) frame → ⊥) }
 {
     match value_of(settings, Setting::Cell) {
         Some("square") => Some(Frame::Square),
@@ -124,7 +131,8 @@ pub fn name_if_given(
 ) -> Result<Option<Name>, WordsFault>
     requires { AreSingle (map given_of settings.now) }
     ensures given { IfOk result (λ name. IsNameIfGiven (map given_of settings.now) setting name) }
-    ensures not_taken { result ≡ Err WordsFault.NotTaken → (name : Option (List ℕ)) → IsNameIfGiven (map given_of settings.now) setting name → ⊥ }
+    ensures not_taken { result ≡ Err WordsFault.NotTaken → (name : Option (List ℕ))
+        → IsNameIfGiven (map given_of settings.now) setting name → ⊥ }
 {
     let Some(word) = value_of(settings, setting) else {
         return Ok(None);

@@ -7,11 +7,13 @@ ghost use Rattle.dd_words.specs.Grammar.{IsCommand};
 
 /// Words ask for at most one command.
 pub fn words_ask_for_one_command()
-    ensures { (words : List (List ℕ)) (c d : Command) → IsCommand words c → IsCommand words d → c ≡ d }
+    ensures { (words : List (List ℕ)) (c d : Command) → IsCommand words c → IsCommand words d
+        → c ≡ d }
 {}
 
 /// Each request of taken words is valid.
 pub fn taken_requests_are_valid()
-    ensures { (words : List (List ℕ)) (q : Request) (workers round : ℕ) (pause : Option ℕ) (checkpoint : Option (List ℕ))
+    ensures { (words : List (List ℕ)) (q : Request) (workers round : ℕ) (pause : Option ℕ)
+        (checkpoint : Option (List ℕ))
         → IsCommand words (Catalogue q workers round pause checkpoint) → IsValid q }
 {}

@@ -25,8 +25,10 @@ pub struct Laid<'a> {
 
 /// The arguments and the settings of the words after a verb, as clap reads them.
 pub fn lay_out<'a>(alloc: Global, verb: Verb, words: &'a [RcStr]) -> Result<Laid<'a>, WordsFault>
-    ensures matched { IfOk result (λ laid. AreMatched verb (map rc_str_bytes words.now) (arguments_in laid) (settings_in laid)) }
-    ensures not_taken { result ≡ Err WordsFault.NotTaken → fault_of (app_for verb) (map rc_str_bytes words.now) ≢ [] }
+    ensures matched { IfOk result (λ laid.
+        AreMatched verb (map rc_str_bytes words.now) (arguments_in laid) (settings_in laid)) }
+    ensures not_taken { result ≡ Err WordsFault.NotTaken
+        → fault_of (app_for verb) (map rc_str_bytes words.now) ≢ [] }
 {
     let matches = match app_for(alloc, verb)?.try_get_matches_from(words) {
         Ok(matches) => matches,
@@ -42,7 +44,8 @@ pub fn lay_out<'a>(alloc: Global, verb: Verb, words: &'a [RcStr]) -> Result<Laid
 
 /// The arguments that clap found.
 fn read_arguments<'a>(alloc: Global, matches: &ArgMatches<'a>) -> Result<Vec<&'a str>, AllocError>
-    ensures { IfOk result (λ arguments. texts arguments.items ≡ arguments_read (rows_of (found_of matches.now))) }
+    ensures { IfOk result (λ arguments.
+        texts arguments.items ≡ arguments_read (rows_of (found_of matches.now))) }
 {
     let mut arguments = Vec::new(alloc);
     add_argument(&mut arguments, matches.get_str(FIRST))?;
@@ -55,7 +58,8 @@ fn add_argument<'a>(
     arguments: &mut Vec<&'a str>,
     argument: Option<&'a str>,
 ) -> Result<(), AllocError>
-    ensures { IfOk result (λ _. texts arguments.new.items ≡ texts arguments.old.items ++ listed (option_map (λ s. s.now) argument.entry)) }
+    ensures { IfOk result (λ _. texts arguments.new.items ≡ texts arguments.old.items
+        ++ listed (option_map (λ s. s.now) argument.entry)) }
 {
     if let Some(word) = argument {
         arguments.push(word)?;
@@ -69,7 +73,8 @@ fn read_settings<'a>(
     matches: &ArgMatches<'a>,
     settings: &[Setting],
 ) -> Result<Vec<Given<'a>>, AllocError>
-    ensures { IfOk result (λ given. AreRead (rows_of (found_of matches.now)) settings.now (map given_of given.items)) }
+    ensures { IfOk result (λ given.
+        AreRead (rows_of (found_of matches.now)) settings.now (map given_of given.items)) }
 {
     let mut given = Vec::new(alloc);
     for setting in settings {
@@ -84,7 +89,8 @@ fn add_setting<'a>(
     setting: Setting,
     value: Option<&'a str>,
 ) -> Result<(), AllocError>
-    ensures { IfOk result (λ _. map given_of given.new.items ≡ map given_of given.old.items ++ given_by setting (option_map (λ s. s.now) value.entry)) }
+    ensures { IfOk result (λ _. map given_of given.new.items ≡ map given_of given.old.items
+        ++ given_by setting (option_map (λ s. s.now) value.entry)) }
 {
     if let Some(value) = value {
         given.push(Given { setting, value })?;
@@ -94,7 +100,8 @@ fn add_setting<'a>(
 
 /// The value that clap found of a setting; that of a flag is empty.
 fn value_in<'a>(matches: &ArgMatches<'a>, setting: Setting) -> Option<&'a str>
-    ensures { IsValueRead (rows_of (found_of matches.now)) setting (option_map (λ s. s.now) result) }
+    ensures { IsValueRead (rows_of (found_of matches.now)) setting
+        (option_map (λ s. s.now) result) }
 {
     if setting.has_value() {
         return matches.get_str(setting.name());

@@ -27,7 +27,8 @@ const MOST_TASKS: u32 = 10_000;
 /// The command that the words after the program's name ask for.
 pub fn read_words(alloc: Global, words: &[RcStr]) -> Result<Command, WordsFault>
     ensures command { IfOk result (IsCommand (map rc_str_bytes words.now)) }
-    ensures not_taken { result ≡ Err WordsFault.NotTaken → (c : Command) → IsCommand (map rc_str_bytes words.now) c → ⊥ }
+    ensures not_taken { result ≡ Err WordsFault.NotTaken → (c : Command)
+        → IsCommand (map rc_str_bytes words.now) c → ⊥ }
 {
     let [first, rest @ ..] = words else {
         return Err(WordsFault::NotTaken);
@@ -37,8 +38,10 @@ pub fn read_words(alloc: Global, words: &[RcStr]) -> Result<Command, WordsFault>
 
 /// The command of a first word and the others.
 fn read_from(alloc: Global, first: &RcStr, rest: &[RcStr]) -> Result<Command, WordsFault>
-    ensures command { IfOk result (IsCommand (rc_str_bytes first.now ∷ map rc_str_bytes rest.now)) }
-    ensures not_taken { result ≡ Err WordsFault.NotTaken → (c : Command) → IsCommand (rc_str_bytes first.now ∷ map rc_str_bytes rest.now) c → ⊥ }
+    ensures command { IfOk result
+        (IsCommand (rc_str_bytes first.now ∷ map rc_str_bytes rest.now)) }
+    ensures not_taken { result ≡ Err WordsFault.NotTaken → (c : Command)
+        → IsCommand (rc_str_bytes first.now ∷ map rc_str_bytes rest.now) c → ⊥ }
 {
     let Some(verb) = Verb::named(first.as_str()) else {
         return Err(WordsFault::NotTaken);
@@ -57,8 +60,10 @@ fn read_command(
     settings: &[Given<'_>],
 ) -> Result<Command, WordsFault>
     requires { AreSingle (map given_of settings.now) }
-    ensures command { IfOk result (IsReadAs verb (texts arguments.now) (map given_of settings.now)) }
-    ensures not_taken { result ≡ Err WordsFault.NotTaken → (c : Command) → IsReadAs verb (texts arguments.now) (map given_of settings.now) c → ⊥ }
+    ensures command { IfOk result
+        (IsReadAs verb (texts arguments.now) (map given_of settings.now)) }
+    ensures not_taken { result ≡ Err WordsFault.NotTaken → (c : Command)
+        → IsReadAs verb (texts arguments.now) (map given_of settings.now) c → ⊥ }
 {
     match verb {
         Verb::Catalogue => read_catalogue(alloc, arguments, settings),
@@ -76,8 +81,10 @@ fn read_catalogue(
     settings: &[Given<'_>],
 ) -> Result<Command, WordsFault>
     requires { AreSingle (map given_of settings.now) }
-    ensures command { IfOk result (IsReadAs Verb.Catalogue (texts arguments.now) (map given_of settings.now)) }
-    ensures not_taken { result ≡ Err WordsFault.NotTaken → (c : Command) → IsReadAs Verb.Catalogue (texts arguments.now) (map given_of settings.now) c → ⊥ }
+    ensures command { IfOk result
+        (IsReadAs Verb.Catalogue (texts arguments.now) (map given_of settings.now)) }
+    ensures not_taken { result ≡ Err WordsFault.NotTaken → (c : Command)
+        → IsReadAs Verb.Catalogue (texts arguments.now) (map given_of settings.now) c → ⊥ }
 {
     let [chambers] = arguments else {
         return Err(WordsFault::NotTaken);
@@ -113,8 +120,10 @@ fn read_resume(
     settings: &[Given<'_>],
 ) -> Result<Command, WordsFault>
     requires { AreSingle (map given_of settings.now) }
-    ensures command { IfOk result (IsReadAs Verb.Resume (texts arguments.now) (map given_of settings.now)) }
-    ensures not_taken { result ≡ Err WordsFault.NotTaken → (c : Command) → IsReadAs Verb.Resume (texts arguments.now) (map given_of settings.now) c → ⊥ }
+    ensures command { IfOk result
+        (IsReadAs Verb.Resume (texts arguments.now) (map given_of settings.now)) }
+    ensures not_taken { result ≡ Err WordsFault.NotTaken → (c : Command)
+        → IsReadAs Verb.Resume (texts arguments.now) (map given_of settings.now) c → ⊥ }
 {
     let [name] = arguments else {
         return Err(WordsFault::NotTaken);
@@ -143,8 +152,10 @@ fn read_drawing(
     settings: &[Given<'_>],
 ) -> Result<Command, WordsFault>
     requires { AreSingle (map given_of settings.now) }
-    ensures command { IfOk result (IsReadAs Verb.Draw (texts arguments.now) (map given_of settings.now)) }
-    ensures not_taken { result ≡ Err WordsFault.NotTaken → (c : Command) → IsReadAs Verb.Draw (texts arguments.now) (map given_of settings.now) c → ⊥ }
+    ensures command { IfOk result
+        (IsReadAs Verb.Draw (texts arguments.now) (map given_of settings.now)) }
+    ensures not_taken { result ≡ Err WordsFault.NotTaken → (c : Command)
+        → IsReadAs Verb.Draw (texts arguments.now) (map given_of settings.now) c → ⊥ }
 {
     let [file] = arguments else {
         return Err(WordsFault::NotTaken);
@@ -159,8 +170,10 @@ fn read_drawing(
 /// An exercise with these arguments.
 fn read_exercise(arguments: &[&str], settings: &[Given<'_>]) -> Result<Command, WordsFault>
     requires { AreSingle (map given_of settings.now) }
-    ensures command { IfOk result (IsReadAs Verb.Exercise (texts arguments.now) (map given_of settings.now)) }
-    ensures not_taken { result ≡ Err WordsFault.NotTaken → (c : Command) → IsReadAs Verb.Exercise (texts arguments.now) (map given_of settings.now) c → ⊥ }
+    ensures command { IfOk result
+        (IsReadAs Verb.Exercise (texts arguments.now) (map given_of settings.now)) }
+    ensures not_taken { result ≡ Err WordsFault.NotTaken → (c : Command)
+        → IsReadAs Verb.Exercise (texts arguments.now) (map given_of settings.now) c → ⊥ }
 {
     let [start, count] = arguments else {
         return Err(WordsFault::NotTaken);
@@ -182,8 +195,10 @@ fn read_file(
     settings: &[Given<'_>],
 ) -> Result<Command, WordsFault>
     requires { AreSingle (map given_of settings.now) }
-    ensures command { IfOk result (IsReadAs (Verb.File kind) (texts arguments.now) (map given_of settings.now)) }
-    ensures not_taken { result ≡ Err WordsFault.NotTaken → (c : Command) → IsReadAs (Verb.File kind) (texts arguments.now) (map given_of settings.now) c → ⊥ }
+    ensures command { IfOk result
+        (IsReadAs (Verb.File kind) (texts arguments.now) (map given_of settings.now)) }
+    ensures not_taken { result ≡ Err WordsFault.NotTaken → (c : Command)
+        → IsReadAs (Verb.File kind) (texts arguments.now) (map given_of settings.now) c → ⊥ }
 {
     let [file] = arguments else {
         return Err(WordsFault::NotTaken);

@@ -24,7 +24,8 @@ pub struct Run {
 pub fn read_request(chambers: &str, settings: &[Given<'_>]) -> Option<Request>
     requires { AreSingle (map given_of settings.now) }
     ensures some { IfSome result (IsRequested chambers.now (map given_of settings.now)) }
-    ensures none { IfNone result ((q : Request) → IsRequested chambers.now (map given_of settings.now) q → ⊥) }
+    ensures none { IfNone result
+        ((q : Request) → IsRequested chambers.now (map given_of settings.now) q → ⊥) }
 {
     let chambers = read_number_in(chambers, 1, 36)?;
     let tiles = number_or(settings, Setting::Tiles, 1, 36, 0)?;
@@ -45,8 +46,10 @@ pub fn read_request(chambers: &str, settings: &[Given<'_>]) -> Option<Request>
 /// How the settings ask a catalogue to be run.
 pub fn read_run(settings: &[Given<'_>]) -> Option<Run>
     requires { AreSingle (map given_of settings.now) }
-    ensures some { IfSome result (λ run. IsRun (map given_of settings.now) run.workers run.round run.pause) }
-    ensures none { IfNone result ((workers round : ℕ) (pause : Option ℕ) → IsRun (map given_of settings.now) workers round pause → ⊥) }
+    ensures some { IfSome result (λ run.
+        IsRun (map given_of settings.now) run.workers run.round run.pause) }
+    ensures none { IfNone result ((workers round : ℕ) (pause : Option ℕ)
+        → IsRun (map given_of settings.now) workers round pause → ⊥) }
 {
     let workers = number_or(settings, Setting::Workers, 1, 64, 1)?;
     let round = number_or(settings, Setting::Round, 1, 4096, 64)?;

@@ -23,8 +23,8 @@ returns-in-Ok-clause-order c =
 pub returns-in-Ok-clause-small : goal.returns-in-Ok-clause-small
 returns-in-Ok-clause-small c = subst AreAllSmall (sym c.in-Ok.ensures.symbol) c.in-Ok.ensures.accepted.symbol.branching
 
-pub returns-in-BranchingTooLarge-clause-fault : goal.returns-in-BranchingTooLarge-clause-fault
-returns-in-BranchingTooLarge-clause-fault c =
+pub returns-in-BranchingTooLarge-clause-why : goal.returns-in-BranchingTooLarge-clause-why
+returns-in-BranchingTooLarge-clause-why c =
     let s = c.args.s.now in
     let made = made_from_values c.symbol-symbol.ensures.same c.in_ok-classes.ensures c.deref.ensures.value c.in_ok-all.ensures c.as_slice-leaders.ensures.value c.as_slice-ranks.ensures.value
     c.in_ok-images_of.ensures c.in_ok-images_of-2.ensures c.in_ok-images_of-3.ensures c.in_ok-m01.ensures c.in_ok-m12.ensures in

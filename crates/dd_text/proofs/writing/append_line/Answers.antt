@@ -1,4 +1,4 @@
-use Rattle.std.proofs.Common.{◌≡◌, ◌∙◌, All, codes, decimal, map, ◌++◌, refl, subst, sym, ap}
+use Rattle.std.proofs.Common.{◌∙◌, All, codes, decimal, map, ◌++◌, refl, subst, sym, ap}
 use Rattle.dd_model.specs.declared.index.Index.TheVariants.{Zero, One, Two}
 use Rattle.dd_model.specs.declared.pair.Pair.TheVariants.{Tile, Vertex}
 use Rattle.dd_model.specs.Symbol.{IsChamber, degree}

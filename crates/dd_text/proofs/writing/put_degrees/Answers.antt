@@ -1,4 +1,4 @@
-use Rattle.std.proofs.Common.{◌∙◌, ◌+◌, ◌++◌, drop, get_or, map, subst, sym, ap}
+use Rattle.std.proofs.Common.{◌∙◌, ◌+◌, ◌++◌, drop, get_or, map, subst, ap}
 use Rattle.dd_model.specs.Symbol.{degree}
 use Rattle.dd_text.specs.Writing.{next_number}
 use Rattle.dd_text.proofs.Spacing.{IsSpaced, spaced_none, spaced_next, spaced_all, degrees-cons, degrees_end}

@@ -1,4 +1,4 @@
-use Rattle.std.proofs.Common.{◌≡◌, ◌++◌, ◌+◌, ◌<◌, ◌≤◌, ◌∷◌, ◌∙◌, false, true, subst, sym, ap, arith}
+use Rattle.std.proofs.Common.{◌++◌, ◌+◌, ◌<◌, ◌∙◌, false, subst, sym, ap, arith}
 use Rattle.dd_model.specs.Symbol.{op}
 use Rattle.dd_model.specs.Line.{told_images}
 use Rattle.dd_text.specs.Writing.{next_number}

@@ -1,6 +1,6 @@
 use Rattle.std.proofs.Common.{ℕ, ◌≤◌}
 use Rattle.dd_model.specs.Symbol.{IsChamber}
-use Rattle.dd_symbol.specs.Refusals.{HasDegreeOfCell}
+use Rattle.dd_symbol.specs.Conditions.{HasDegreeOfCell}
 use Rattle.dd_symbol.specs.Table.{symbol_of}
 use Rattle.dd_symbol.proofs.table.Table.check_constant.Given as goal
 

@@ -1,7 +1,7 @@
 use Rattle.std.proofs.Common.{arith}
 use Rattle.dd_model.proofs.Branching.{branching_unique}
 use Rattle.dd_symbol.specs.Table.{symbol_of}
-use Rattle.dd_symbol.specs.Refusals.{AreMultiples, AreSmall}
+use Rattle.dd_symbol.specs.Conditions.{AreMultiples, AreSmall}
 use Rattle.dd_symbol.proofs.DegreeLemmas.{of_both}
 use Rattle.dd_symbol.proofs.table.Table.check_value.Goals as goal
 

@@ -1,7 +1,5 @@
 use Rattle.std.proofs.Common.{◌<◌, length, subst, arith}
 use Rattle.std.proofs.lemmas.List.{get_or_read}
-use Rattle.dd_model.specs.declared.index.Index.{Index}
-use Rattle.dd_model.specs.declared.index.Index.TheVariants.{Zero, One, Two}
 use Rattle.dd_model.specs.Symbol.{op}
 use Rattle.dd_symbol.specs.Table.{symbol_of}
 use Rattle.dd_symbol.specs.Walk.{IsMarked}
@@ -14,13 +12,11 @@ loop-at-preserved c =
     let done = c.in_ok-visit.ensures in
     let inside : c.loop-at.at < length c.loop-at.queue.items = omega arith in
     let read = get_or_read c.loop-at.queue.items c.loop-at.at c.index-chamber.result.now inside c.index-chamber.ensures 0 in
-    let images : (i : Index) → IsMarked c.visit.new.seen.items (op s i c.index-chamber.result.now) =
-    λ i. elim i as (λ j. IsMarked c.visit.new.seen.items (op s j c.index-chamber.result.now)) [ Zero ↦ done.zero | One ↦ done.one | Two ↦ done.two ] in
     record {
       walk = done.walk;
       closed = closed_more s c.loop-at.seen.items c.loop-at.queue.items c.visit.new.seen.items c.visit.new.queue.items c.loop-at.at
           c.loop-at.invariant.closed inside done.grows
-          (λ i. subst (λ d. IsMarked c.visit.new.seen.items (op s i d)) read (images i));
+          (λ i. subst (λ d. IsMarked c.visit.new.seen.items (op s i d)) read (done.images i));
       first = done.grows.marks 1 c.loop-at.invariant.first;
       within = let longer = done.grows.longer in omega arith;
     }

@@ -1,22 +1,37 @@
-use Rattle.dd_model.specs.declared.index.Index.TheVariants.{Zero, One, Two}
+use Rattle.std.proofs.Common.{arith}
+use Rattle.dd_model.specs.Symbol.{op}
+use Rattle.dd_model.proofs.AllIndices.{index_at_place, none_at_places, more_places, each_index}
 use Rattle.dd_symbol.specs.Table.{symbol_of}
-use Rattle.dd_symbol.proofs.WalkLemmas.{next_reached}
+use Rattle.dd_symbol.specs.Walk.{IsMarked}
+use Rattle.dd_symbol.proofs.WalkLemmas.{Grows-refl, Grows-trans, next_reached}
 use Rattle.dd_symbol.proofs.table.Table.visit.Goals as goal
 
+pub loop-i-init : goal.loop-i-init
+loop-i-init c = record {
+  walk = c.requires.walk;
+  grows = Grows-refl c.args.seen.now.items c.args.queue.now.items;
+  marked = none_at_places (λ i. IsMarked c.args.seen.now.items (op (symbol_of c.args.self.now) i c.args.chamber));
+}
+
 pub mark-requires-clause-chamber : goal.mark-requires-clause-chamber
-mark-requires-clause-chamber c = rw c.op.ensures ((c.requires.lists Zero).within c.args.chamber c.requires.chamber)
+mark-requires-clause-chamber c = rw c.op.ensures ((c.requires.lists _).within c.args.chamber c.requires.chamber)
 
 pub mark-requires-clause-reached : goal.mark-requires-clause-reached
-mark-requires-clause-reached c = rw c.op.ensures (next_reached (symbol_of c.args.self.now) c.args.chamber Zero c.requires.reached)
+mark-requires-clause-reached c = rw c.op.ensures (next_reached (symbol_of c.args.self.now) c.args.chamber _ c.requires.reached)
 
-pub mark-requires-2-clause-chamber : goal.mark-requires-2-clause-chamber
-mark-requires-2-clause-chamber c = rw c.op-2.ensures ((c.requires.lists One).within c.args.chamber c.requires.chamber)
+pub loop-i-preserved : goal.loop-i-preserved
+loop-i-preserved c =
+    let s = symbol_of c.args.self.now in
+    let seen = c.mark.new.seen.items in
+    let step = c.in_ok-mark.ensures in
+    record {
+      walk = step.walk;
+      grows = Grows-trans c.args.seen.now.items c.args.queue.now.items c.loop-i.seen.items c.loop-i.queue.items seen c.mark.new.queue.items
+          c.loop-i.invariant.grows step.grows;
+      marked = more_places (λ i. IsMarked seen (op s i c.args.chamber)) c.loop-i.i-index
+          (λ k h. step.grows.marks (op s (index_at_place k) c.args.chamber) (c.loop-i.invariant.marked k h))
+          (rw c.op.ensures at step.marked);
+    }
 
-pub mark-requires-2-clause-reached : goal.mark-requires-2-clause-reached
-mark-requires-2-clause-reached c = rw c.op-2.ensures (next_reached (symbol_of c.args.self.now) c.args.chamber One c.requires.reached)
-
-pub mark-requires-3-clause-chamber : goal.mark-requires-3-clause-chamber
-mark-requires-3-clause-chamber c = rw c.op-3.ensures ((c.requires.lists Two).within c.args.chamber c.requires.chamber)
-
-pub mark-requires-3-clause-reached : goal.mark-requires-3-clause-reached
-mark-requires-3-clause-reached c = rw c.op-3.ensures (next_reached (symbol_of c.args.self.now) c.args.chamber Two c.requires.reached)
+pub returns-clause-images : goal.returns-clause-images
+returns-clause-images c = each_index (λ i. IsMarked c.loop-i.seen.items (op (symbol_of c.args.self.now) i c.args.chamber)) (λ k h. c.loop-i.invariant.marked k (omega arith))

@@ -1,6 +1,6 @@
 use Rattle.std.proofs.Common.{ℕ, ◌<◌}
 use Rattle.dd_template.specs.Table.{table_of, entry}
-use Rattle.dd_template.specs.Lawful.{Fits, entries}
+use Rattle.dd_template.specs.Entries.{Fits, entries}
 use Rattle.dd_template.proofs.tables.Template.all_fit.Given as goal
 
 abbrev pub invariant-loop-part : goal.invariant-loop-part

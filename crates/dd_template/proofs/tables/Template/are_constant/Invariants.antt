@@ -1,6 +1,6 @@
 use Rattle.std.proofs.Common.{ℕ, ◌<◌}
 use Rattle.dd_template.specs.Table.{table_of}
-use Rattle.dd_template.specs.Lawful.{IsConstant}
+use Rattle.dd_template.specs.Entries.{IsConstant}
 use Rattle.dd_template.proofs.tables.Template.are_constant.Given as goal
 
 abbrev pub invariant-loop-part : goal.invariant-loop-part

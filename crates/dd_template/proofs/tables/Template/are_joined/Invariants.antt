@@ -1,7 +1,7 @@
 use Rattle.std.proofs.Common.{◌≡◌, ◌+◌, ℕ, length}
 use Rattle.std.specs.List.{sum_by}
 use Rattle.dd_template.specs.Table.{table_of}
-use Rattle.dd_template.specs.Lawful.{IsJoined}
+use Rattle.dd_template.specs.Connecting.{IsJoined}
 use Rattle.dd_template.specs.Joined.{IsMet, unmet}
 use Rattle.dd_template.proofs.tables.Template.are_joined.Given as goal
 

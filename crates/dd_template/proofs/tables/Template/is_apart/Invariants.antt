@@ -1,6 +1,6 @@
 use Rattle.std.proofs.Common.{◌≤◌}
 use Rattle.dd_template.specs.Table.{table_of}
-use Rattle.dd_template.specs.Lawful.{IsApart}
+use Rattle.dd_template.specs.Entries.{IsApart}
 use Rattle.dd_template.proofs.tables.Template.is_apart.Given as goal
 
 abbrev pub invariant-loop-fewer : goal.invariant-loop-fewer

@@ -9,8 +9,8 @@ use Rattle.dd_text.specs.Images.{IsWithin}
 use Rattle.dd_text.proofs.CellReads.{within_cells, within_least, beyond_at, are_degrees, degrees_if}
 use Rattle.dd_text.proofs.involutions.Involutions.degrees.Goals as goal
 
-pub returns-then-len-2-clause-err : goal.returns-then-len-2-clause-err
-returns-then-len-2-clause-err c =
+pub returns-then-len-2-clause-why : goal.returns-then-len-2-clause-why
+returns-then-len-2-clause-why c =
     let count : c.len-then-len-2.result ≡ length c.in_ok-cells.cells.items = omega (arith, c.len-then-len-2.ensures) in
     beyond_at (table_of c.args.self.now) c.args.pair (told_of c.args.list.now) c.in_ok-cells.cells.items c.len-then-len-2.result c.index.result.now
     c.in_ok-cells.ensures.ok count (omega (arith, c.len-3.ensures, c.len-4.ensures)) c.index.ensures

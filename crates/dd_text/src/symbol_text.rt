@@ -3,13 +3,24 @@ ghost use Rattle.dd_model.specs.Spelling.{number_part, sign_part};
 ghost use Rattle.dd_text.specs.Texts.{no_number_why, no_sign_why, IsNoNumber, IsNoSign};
 
 use crate::faults::{Fault, Why};
-use crate::lists::{NumberList, SymbolText};
+use crate::lists::NumberList;
 use crate::reader::Reader;
 use dd_model::{Numeral, Part, Placed};
 use std::alloc::Global;
 
 /// The most chambers of a symbol in a file.
 const MOST_CHAMBERS: u32 = 1024;
+
+/// What stands in the text of a symbol: its number of chambers, and five lists.
+#[derive(Drop)]
+pub(crate) struct SymbolText {
+    pub size: u32,
+    pub s0: NumberList,
+    pub s1: NumberList,
+    pub s2: NumberList,
+    pub m01: NumberList,
+    pub m12: NumberList,
+}
 
 /// The fault of a part that may not stand where a number may.
 fn no_number(part: Placed) -> Fault
@@ -39,7 +50,7 @@ fn no_sign(part: Placed) -> Fault
 /// The number that a part is.
 fn number(part: Placed) -> Result<Numeral, Fault>
     ensures ok { IfOk result (λ x. part ≡ number_part x) }
-    ensures err { IfErr result (λ fault. IsNoNumber part fault) }
+    ensures why { IfErr result (λ fault. IsNoNumber part fault) }
 {
     match part.part {
         Part::Number(value) => Ok(Numeral { at: part.at, value }),
@@ -60,7 +71,7 @@ fn is_sign(part: Placed, byte: u8) -> bool
 /// Ok where a part is this sign.
 fn expect_sign(part: Placed, byte: u8) -> Result<(), Fault>
     ensures ok { OnOk result (part ≡ sign_part byte part.at) }
-    ensures err { IfErr result (λ fault. IsNoSign part byte fault) }
+    ensures why { IfErr result (λ fault. IsNoSign part byte fault) }
 {
     if is_sign(part, byte) {
         Ok(())
@@ -78,8 +89,9 @@ impl<'a> Reader<'a> {
 
     /// Reads the size, with the head before it if there is one, and the part after it.
     fn head(&mut self) -> Result<(Numeral, Placed), Fault>
-        ensures ok { IfOk result (λ read. IsHeadTo (cursor_of self.old) read.0 read.1 (cursor_of self.new)) }
-        ensures err { IfErr result (λ fault. IsTextFault (cursor_of self.old) fault.why fault.at) }
+        ensures ok { IfOk result (λ read. IsHeadTo (cursor_of self.old) read.0 read.1
+            (cursor_of self.new)) }
+        ensures why { IfErr result (λ fault. IsTextFault (cursor_of self.old) fault.why fault.at) }
     {
         let first = number(self.part())?;
         let next = self.part();
@@ -95,7 +107,7 @@ impl<'a> Reader<'a> {
     /// Reads up to the colon after the size, and answers the size.
     fn size(&mut self) -> Result<u32, Fault>
         ensures ok { IfOk result (λ size. IsSizeTo (cursor_of self.old) size (cursor_of self.new)) }
-        ensures err { IfErr result (λ fault. IsTextFault (cursor_of self.old) fault.why fault.at) }
+        ensures why { IfErr result (λ fault. IsTextFault (cursor_of self.old) fault.why fault.at) }
     {
         let (size, next) = self.head()?;
         if size.value == 0 || size.value > MOST_CHAMBERS {
@@ -120,8 +132,9 @@ impl<'a> Reader<'a> {
 
     /// Reads a list and the sign that ends it.
     fn list(&mut self, alloc: Global, end: u8) -> Result<NumberList, Fault>
-        ensures ok { IfOk result (λ list. Spells (cursor_of self.old) (with_list (told_of list) end []) (cursor_of self.new)) }
-        ensures err { IfErr result (λ fault. IsListFault (cursor_of self.old) end fault) }
+        ensures ok { IfOk result (λ list. Spells (cursor_of self.old)
+            (with_list (told_of list) end []) (cursor_of self.new)) }
+        ensures why { IfErr result (λ fault. IsListFault (cursor_of self.old) end fault) }
     {
         let mut numbers = Vec::new(alloc);
         loop {
@@ -140,7 +153,7 @@ impl<'a> Reader<'a> {
     /// Reads the text of a symbol after its `<`.
     pub fn text(&mut self, alloc: Global) -> Result<SymbolText, Fault>
         ensures ok { IfOk result (λ text. IsTextTo (cursor_of self.old) text (cursor_of self.new)) }
-        ensures err { IfErr result (λ fault. IsTextFault (cursor_of self.old) fault.why fault.at) }
+        ensures why { IfErr result (λ fault. IsTextFault (cursor_of self.old) fault.why fault.at) }
     {
         let size = self.size()?;
         let s0 = self.list(alloc, b',')?;
