@@ -1,16 +1,11 @@
 -- The steps of a walk over tables.
-use Rattle.std.proofs.Common.{◌≡◌, ◌≢◌, ◌↔◌, IsTrue, leb, Option, Some, None, MatchOption, ℕ, ◌+◌, ◌*◌, ◌<◌, ◌≤◌, List, [], ◌∷◌, ◌++◌, length, get_or, refl, sym, ap, ◌∙◌, subst, inl, inr, ⊎_elim, arith}
+use Rattle.std.proofs.Common.{◌≡◌, ◌≢◌, Option, Some, None, MatchOption, ℕ, ◌+◌, ◌*◌, ◌<◌, ◌≤◌, List, [], ◌∷◌, ◌++◌, length, get_or, refl, sym, ap, ◌∙◌, subst, inl, inr, ⊎_elim, arith}
 use Rattle.std.proofs.lemmas.Bool.{cases_lt, cases_eq}
 use Rattle.std.proofs.lemmas.List.{ext_get_or, get_or_append_left, append_assoc}
 use Rattle.std.specs.Ordering.{nat_cmp}
 use Rattle.std.specs.Cmp.Lexicographic.{slice_cmp}
 use Rattle.std.specs.declared.cmp.Ordering.TheVariants.{Less, Greater}
-use borrow.Author.Tests.{leb-true, le-leb}
-use Rattle.dd_model.specs.declared.pair.Pair.{Pair}
 use Rattle.dd_model.specs.declared.pair.Pair.TheVariants.{Edge}
-use Rattle.dd_model.specs.Cell.{AreCells}
-use Rattle.dd_model.specs.Wanted.{AtMost}
-use Rattle.dd_model.proofs.CellLists.{cells_unique}
 use Rattle.dd_invol.specs.Search.{IsLonger}
 use Rattle.dd_invol.specs.Growth.{Growing}
 use Rattle.dd_model.specs.Symbol.{Symbol}
@@ -190,20 +185,6 @@ here_longer old new number is =
     let size = is.same_size in
     let prefix = is.longer in
     λ x. record { size = size x; prefix = prefix x }
-
--- the number of cells against a limit
-pub at_most-test : (s : Symbol) (p : Pair) (limit n : ℕ) (ds : List ℕ) → (limit ≡ 0 → ⊥) → AreCells s p ds → n ≡ length ds → IsTrue (leb n limit) ↔ AtMost s p limit
-at_most-test s p limit n ds some are size = (
-  (λ few. let most = leb-true n limit few in inr (ds, are, omega arith)),
-  (λ at_most.
-      ⊎_elim
-      (λ none. absurd (some none))
-      (λ others. let same = cells_unique s p others.0 ds others.1 are in
-      let count : length others.0 ≡ length ds = ap length same in
-      let most = others.2 in
-      le-leb n limit (omega arith))
-      at_most),
-)
 
 pub moved_next : (old new : Growing) (number : ℕ) (bound : List ℕ) (t : Symbol) → IsLonger (λ t. t.request) (λ t. size_of t.stem) (λ t. prefix_of t.stem) number old new
     → IsNext new.request (here new.stem) bound t → IsNext old.request (extended (here old.stem) number) bound t

@@ -1,5 +1,4 @@
 ghost use Rattle.std.specs.Prelude.{◌≡◌, ◌↔◌, ◌*◌, ◌≤◌, IsTrue, IfOk, OnOk, MatchOption, length};
-ghost use Rattle.dd_model.specs.Wanted.{AtMost};
 ghost use Rattle.dd_invol.specs.Stem.{IsStem, prefix_of, size_of};
 ghost use Rattle.dd_invol.specs.Walk.{IsSought, IsNext, HasNoneLeft, IsLeastNext, here};
 
@@ -7,28 +6,19 @@ use crate::search::PrefixSearch;
 use crate::table::Table;
 use crate::tables::Tables;
 use dd_canon::is_least;
-use dd_cells::count;
+use dd_cells::has_at_most;
 use dd_model::{Memory, Pair, Request};
 use std::alloc::Global;
-
-/// Whether a pair has at most so many cells, where 0 sets no limit.
-fn has_at_most(table: &Table, pair: Pair, limit: u32) -> bool
-    ensures { IsTrue result ↔ AtMost table.now pair limit }
-{
-    if limit == 0 {
-        return true;
-    }
-    count(table.symbol(), pair) <= limit
-}
 
 /// Whether a table is one that a request asks for.
 fn is_sought(alloc: Global, request: &Request, table: &Table) -> Result<bool, Memory>
     ensures { IfOk result (λ yes. IsTrue yes ↔ IsSought request.now table.now) }
 {
+    let symbol = table.symbol();
     Ok(
-        has_at_most(table, Pair::Tile, request.tiles)
-            && has_at_most(table, Pair::Vertex, request.vertices)
-            && is_least(alloc, table.symbol())?,
+        has_at_most(symbol, Pair::Tile, request.tiles)
+            && has_at_most(symbol, Pair::Vertex, request.vertices)
+            && is_least(alloc, symbol)?,
     )
 }
 
