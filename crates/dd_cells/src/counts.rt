@@ -1,6 +1,7 @@
 ghost use Rattle.std.specs.Prelude.{◌≡◌, ◌↔◌, ◌≤◌, ℕ, IsTrue, List, length, pos, ◌+ℤ◌, ◌≤ℤ◌};
 ghost use Rattle.dd_model.specs.Symbol.{IsChamber};
 ghost use Rattle.dd_model.specs.Cell.{IsLeastOfCell, AreCells};
+ghost use Rattle.dd_model.specs.Wanted.{AtMost};
 ghost use Rattle.dd_cells.specs.Euler.{orbits as orbits_of, IsEuler};
 
 use dd_model::{Index, Pair};
@@ -28,6 +29,7 @@ pub(crate) fn is_least_of_cell(symbol: &Symbol, pair: Pair, chamber: u32) -> boo
 /// The number of cells of a pair. It takes no memory.
 pub fn count(s: &Connected, pair: Pair) -> u32
     ensures cells { (chambers : List ℕ) → AreCells s.now pair chambers → result ≡ length chambers }
+    ensures exist { (chambers : List ℕ) × AreCells s.now pair chambers }
     ensures small { result ≤ 16384 }
 {
     let symbol = s.symbol();
@@ -38,6 +40,13 @@ pub fn count(s: &Connected, pair: Pair) -> u32
         }
     }
     cells
+}
+
+/// Whether a pair has at most so many cells, where 0 sets no limit. It takes no memory.
+pub fn has_at_most(s: &Connected, pair: Pair, limit: u32) -> bool
+    ensures { IsTrue result ↔ AtMost s.now pair limit }
+{
+    limit == 0 || count(s, pair) <= limit
 }
 
 /// The number of orbits of an involution.

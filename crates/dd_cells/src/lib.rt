@@ -17,7 +17,7 @@ mod tests;
 
 pub use cell::Cell;
 pub use colorings::orientation;
-pub use counts::{count, euler};
+pub use counts::{count, euler, has_at_most};
 pub use curvatures::{COMMON_MULTIPLE, curvature, is_flat};
 pub use fractions::Fraction;
 pub use kind::Kind;

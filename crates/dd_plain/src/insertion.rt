@@ -17,9 +17,7 @@ fn place_of(list: &[Connected], symbol: &Connected) -> Result<usize, usize>
         AllByRecursion (λ y. IsBelow y symbol.now) (take k list.now)) }
     ensures above { IfErr result (λ k. AllByRecursion (IsBelow symbol.now) (drop k list.now)) }
 {
-    symbol.known();
     for (k, other) in list.iter().enumerate() {
-        other.known();
         match cmp_code(other.symbol(), symbol.symbol()) {
             Ordering::Less => {}
             Ordering::Equal => return Ok(k),

@@ -20,13 +20,11 @@ fn is_beaten_by(alloc: Global, symbol: &Connected, number: u64) -> Result<bool, 
         → IsIsomorphism symbol.now t (choices chamber_table symbol.now.size number)
         → code_cmp symbol.now t ≢ Greater)) }
 {
-    symbol.known();
     let map = list_of(alloc, &CHAMBERS, symbol.symbol().size(), number)?;
     if !is_bijection(alloc, &map)? {
         return Ok(false);
     }
     let other = symbol.renumber(alloc, &map)?;
-    other.known();
     Ok(cmp_code(symbol.symbol(), other.symbol()).is_gt())
 }
 
@@ -35,11 +33,9 @@ pub fn is_least(alloc: Global, symbol: &Connected) -> Result<bool, Memory>
     requires { symbol.now.size ≤ 3 }
     ensures { IfOk result (λ least. IsTrue least ↔ Least symbol.now) }
 {
-    symbol.known();
     // Each list of at most three chambers of three has a number below 27.
     for number in 0..27 {
-        let beaten = is_beaten_by(alloc, symbol, number)?;
-        if beaten {
+        if is_beaten_by(alloc, symbol, number)? {
             return Ok(false);
         }
     }

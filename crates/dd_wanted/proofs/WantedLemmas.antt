@@ -1,29 +1,16 @@
 -- What the tests of a symbol say of it.
-use Rattle.std.proofs.Common.{◌≡◌, ℕ, ◌+◌, ◌≤◌, ◌↔◌, IsTrue, leb, List, [], ◌∷◌, ◌++◌, length, map, sym, ap, ◌∙◌, subst, inr, ⊎_elim, arith}
+use Rattle.std.proofs.Common.{◌≡◌, ℕ, ◌+◌, ◌≤◌, IsTrue, List, [], ◌∷◌, ◌++◌, map, sym, ap, ◌∙◌, subst, ⊎_elim, arith}
 use Rattle.std.proofs.lemmas.Bool.{cases_lt}
-use borrow.Author.Tests.{leb-true, le-leb}
 use Rattle.dd_model.specs.declared.pair.Pair.{Pair}
 use Rattle.dd_model.specs.Symbol.{Symbol}
 use Rattle.dd_model.specs.Code.{count_from}
-use Rattle.dd_model.specs.Cell.{AreCells, IsBranching}
-use Rattle.dd_model.specs.Wanted.{AtMost, IsCrystallographic}
-use Rattle.dd_model.proofs.CellLists.{cells_unique}
+use Rattle.dd_model.specs.Cell.{IsBranching}
+use Rattle.dd_model.specs.declared.requests.Request.{Request}
+use Rattle.dd_model.specs.Minimal.{Minimal}
+use Rattle.dd_model.specs.Wanted.{Wanted, IsCrystallographic}
+use Rattle.dd_wanted.specs.Passes.{Passes}
 use Rattle.dd_model.proofs.Branching.{branching_unique}
 use Rattle.dd_model.proofs.CountFrom.{map-count_from-more}
-
--- the number of cells against a limit
-pub at_most-test : (s : Symbol) (p : Pair) (limit n : ℕ) (ds : List ℕ) → ¬ (limit ≡ 0) → AreCells s p ds → n ≡ length ds → IsTrue (leb n limit) ↔ AtMost s p limit
-at_most-test s p limit n ds some are size = (
-  (λ few. let most = leb-true n limit few in inr (ds, are, omega arith)),
-  (λ at_most.
-      ⊎_elim
-      (λ none. absurd (some none))
-      (λ others. let same = cells_unique s p others.0 ds others.1 are in
-      let count : length others.0 ≡ length ds = ap length same in
-      let most = others.2 in
-      le-leb n limit (omega arith))
-      at_most),
-)
 
 -- one chamber more
 pub crystallographic-more : (s : Symbol) (p : Pair) (k v : ℕ) → ((d w : ℕ) → 1 ≤ d → d ≤ k → IsBranching s p d w → IsCrystallographic w)
@@ -39,3 +26,33 @@ crystallographic-more s p k v before b here d w low high there =
 pub map-pushed : (f : ℕ → ℕ) (k x : ℕ) (xs ys : List ℕ) → ys ≡ xs ++ x ∷ [] → xs ≡ map f (count_from 1 k) → x ≡ f (k + 1) → ys ≡ map f (count_from 1 (k + 1))
 map-pushed f k x xs ys pushed before here =
     pushed ∙ ap (λ zs. zs ++ x ∷ []) before ∙ ap (λ z. map f (count_from 1 k) ++ z ∷ []) here ∙ sym (map-count_from-more f k)
+
+-- a symbol that passes the tests is wanted where it is minimal or that is not asked for
+pub passes-wanted : (q : Request) (s : Symbol) → Passes q s → (IsTrue q.minimal → Minimal s) → Wanted q s
+passes-wanted q s p minimal = record {
+  symbol = p.symbol;
+  connected = p.connected;
+  chambers = p.chambers;
+  tiles = p.tiles;
+  vertices = p.vertices;
+  faces = p.faces;
+  degrees = p.degrees;
+  face_branching = p.face_branching;
+  vertex_branching = p.vertex_branching;
+  flat = p.flat;
+  minimal = minimal;
+}
+
+pub wanted-passes : (q : Request) (s : Symbol) → Wanted q s → Passes q s
+wanted-passes q s w = record {
+  symbol = w.symbol;
+  connected = w.connected;
+  chambers = w.chambers;
+  flat = w.flat;
+  faces = w.faces;
+  degrees = w.degrees;
+  face_branching = w.face_branching;
+  vertex_branching = w.vertex_branching;
+  tiles = w.tiles;
+  vertices = w.vertices;
+}

@@ -4,7 +4,7 @@ ghost use Rattle.dd_model.specs.Cell.{IsBranching};
 ghost use Rattle.dd_model.specs.Wanted.{IsCrystallographic};
 
 use dd_model::Pair;
-use dd_symbol::Symbol;
+use dd_symbol::Connected;
 
 /// Whether a number is 1, 2, 3, 4 or 6.
 fn is_crystallographic(value: u32) -> bool
@@ -14,10 +14,11 @@ fn is_crystallographic(value: u32) -> bool
 }
 
 /// Whether each branching value of a pair is 1, 2, 3, 4 or 6.
-pub fn has_crystallographic_cells(symbol: &Symbol, pair: Pair) -> bool
+pub fn has_crystallographic_cells(s: &Connected, pair: Pair) -> bool
     ensures { IsTrue result
-        ↔ ((d v : ℕ) → IsChamber symbol.now d → IsBranching symbol.now pair d v → IsCrystallographic v) }
+        ↔ ((d v : ℕ) → IsChamber s.now d → IsBranching s.now pair d v → IsCrystallographic v) }
 {
+    let symbol = s.symbol();
     for k in 0..symbol.size() {
         if !is_crystallographic(symbol.branching(pair, k + 1)) {
             return false;

@@ -1,7 +1,6 @@
 -- Clap takes the words of each command, and its matches ask for the commands that the words ask for.
-use Rattle.std.proofs.Common.{◌≡◌, ◌≢◌, ◌∙◌, ◌||◌, ◌++◌, ◌==◌, ℕ, suc, Bool, true, false, List, [], ◌∷◌, None, refl, sym, ap, ap₂, subst, bytes_eq, arith}
+use Rattle.std.proofs.Common.{◌≡◌, ◌≢◌, ◌∙◌, ◌||◌, ◌++◌, ℕ, suc, Bool, true, false, List, [], ◌∷◌, None, refl, sym, ap, ap₂, subst, bytes_eq, arith}
 use Rattle.std.specs.List.{AllByRecursion}
-use Rattle.std.proofs.lemmas.Bool.Decides.{nat_tests}
 use Rattle.std.proofs.lemmas.Slice.Eq.{bytes_eq-Decides}
 use Rattle.clap.specs.Lexer.{long_of, short_of}
 use Rattle.clap.specs.Words.{Rule, Row, matches_of, fault_of}
@@ -12,8 +11,11 @@ use Rattle.dd_words.specs.declared.verbs.Verb.TheVariants as verb
 use Rattle.dd_words.specs.declared.commands.Command.{Command}
 use Rattle.dd_words.specs.declared.commands.Command.TheVariants as command
 use Rattle.dd_words.specs.Values.{Text}
-use Rattle.dd_words.specs.Layout.{Layout, nothing, ended, argument, flag, spaced, tied, words_of, arguments_of, settings_of, word_of, has_setting, has_value, IsPlain, Fits, Given, AreSingle, Has, Lacks}
-use Rattle.dd_words.specs.Grammar.{first_word, verb_of, IsSaid, IsCommand}
+use Rattle.dd_words.specs.Layout.{Layout, nothing, ended, argument, flag, spaced, tied, words_of, arguments_of, settings_of, IsPlain, Fits}
+use Rattle.dd_words.specs.Given.{Given, AreSingle, Has, Lacks}
+use Rattle.dd_words.specs.SettingNames.{word_of, has_setting, has_value}
+use Rattle.dd_words.specs.Grammar.{IsSaid, IsCommand}
+use Rattle.dd_words.specs.FirstWords.{first_word, verb_of}
 use Rattle.dd_words.specs.Reading.{IsReadAs}
 use Rattle.dd_words.specs.Apps.{app_for, all_settings}
 use Rattle.dd_words.specs.Matching.{AreMatched, AreRead, arguments_read}
@@ -26,11 +28,9 @@ use Rattle.dd_words.proofs.ClapRows.{placed_joins, valued_joins, flagged_joins, 
 use Rattle.dd_words.proofs.ClapReads.{picked, has_pushed, settings_read, arguments_are}
 use Rattle.dd_words.proofs.GivenValues.{picked_from, picked_to, said, all_single}
 use Rattle.dd_words.proofs.PlainWords.{value_plain, argument_plain}
+use Rattle.dd_words.proofs.FormLemmas.{no_dash}
 
 -- ---- a word that begins with no dash
-
-no_dash : (x : ℕ) → x ≢ 45 → (x == 45) ≡ false
-no_dash x ne = grind (arith, nat_tests)
 
 not_dashes : (x : ℕ) (xs : Text) → x ≢ 45 → bytes_eq (x ∷ xs) dash_dash ≡ false
 not_dashes x xs ne = rw (no_dash x ne) refl

@@ -7,7 +7,8 @@ use Rattle.clap.specs.Kinds.{or_else}
 use Rattle.dd_words.specs.declared.settings.Setting.{Setting}
 use Rattle.dd_words.specs.declared.verbs.Verb.{Verb}
 use Rattle.dd_words.specs.Values.{Text}
-use Rattle.dd_words.specs.Layout.{Layout, nothing, ended, argument, flag, spaced, tied, words_of, word_of, dashed, assigned, IsFlagOf, IsValuedOf}
+use Rattle.dd_words.specs.Layout.{Layout, nothing, ended, argument, flag, spaced, tied, words_of, IsFlagOf, IsValuedOf}
+use Rattle.dd_words.specs.SettingNames.{word_of, dashed, assigned}
 use Rattle.dd_words.proofs.SettingWords.{not_dashes_alone, not_dashes_tied, long_alone, long_tied}
 use Rattle.dd_words.proofs.ClapSteps.{valued, flagged, holding, standing, IsFree}
 use Rattle.dd_words.proofs.ClapWalks.{IsReader, place_of, place_after, row_placed, row_valued, row_flagged, Placed, Walks, rows_placed, rows_from, Ends, Sound, ends_here, ends_after, sound_valued, sound_placed, use_valued, use_flagged, free_moves, free_asks, late_moves, late_asks, dashes_move, dashes_ask, long_moves, long_asks, place_asked, value_moves, value_asks}

@@ -10,7 +10,9 @@ use Rattle.dd_words.specs.declared.settings.Setting.{Setting}
 use Rattle.dd_words.specs.declared.settings.Setting.TheVariants.{Tiles, Vertices, LeastFace, LeastDegree, Faces, Degrees, Minimal, Workers, Round, Pause, Checkpoint, Cell}
 use Rattle.dd_words.specs.declared.verbs.Verb.{Verb}
 use Rattle.dd_words.specs.Values.{Text}
-use Rattle.dd_words.specs.Layout.{Layout, nothing, ended, argument, flag, spaced, tied, arguments_of, settings_of, word_of, has_value, Given}
+use Rattle.dd_words.specs.Layout.{Layout, nothing, ended, argument, flag, spaced, tied, arguments_of, settings_of}
+use Rattle.dd_words.specs.Given.{Given}
+use Rattle.dd_words.specs.SettingNames.{word_of, has_value}
 use Rattle.dd_words.specs.Apps.{first_place, second_place}
 use Rattle.dd_words.specs.Matching.{IsValueRead, given_by, AreRead, listed, arguments_read}
 use Rattle.dd_words.proofs.ClapSteps.{flagged}
@@ -141,12 +143,6 @@ empty_flag v c (tied s y l) rows k t f w x e =
 
 -- ---- the arguments
 
-is_not_first : (s : Setting) → bytes_eq (word_of s) first_place ≡ false
-is_not_first s = is_no_place 1 s
-
-is_not_second : (s : Setting) → bytes_eq (word_of s) second_place ≡ false
-is_not_second s = is_no_place 2 s
-
 placed_here : (id : Text) (k : ℕ) (w : Text) (rows : List Row) → place_of k ≡ id → first_of id (placed_row k w ∷ rows) ≡ Some w
 placed_here id k w rows e = first_of_cons id (placed_row k w) rows ∙ ap (λ b. cond b (Some w) (first_of id rows)) ((bytes_eq-Decides (place_of k) id).1 e)
 
@@ -164,10 +160,10 @@ second_at nothing = refl
 second_at (ended []) = refl
 second_at (ended (w ∷ [])) = refl
 second_at (ended (w ∷ x ∷ ws)) = refl
-second_at (argument w l) = first_passes second_place (placed_row 1 w) (list_of (place_after 1) l) _ refl (head_at second_place is_not_second l (place_after 1) refl)
-second_at (flag s l) = first_passes second_place (flagged_row s) (list_of 1 l) _ (is_not_second s) (second_at l)
-second_at (spaced s x l) = first_passes second_place (valued_row s x) (list_of 1 l) _ (is_not_second s) (second_at l)
-second_at (tied s x l) = first_passes second_place (valued_row s x) (list_of 1 l) _ (is_not_second s) (second_at l)
+second_at (argument w l) = first_passes second_place (placed_row 1 w) (list_of (place_after 1) l) _ refl (head_at second_place (is_no_place 2) l (place_after 1) refl)
+second_at (flag s l) = first_passes second_place (flagged_row s) (list_of 1 l) _ (is_no_place 2 s) (second_at l)
+second_at (spaced s x l) = first_passes second_place (valued_row s x) (list_of 1 l) _ (is_no_place 2 s) (second_at l)
+second_at (tied s x l) = first_passes second_place (valued_row s x) (list_of 1 l) _ (is_no_place 2 s) (second_at l)
 
 listed_all : (xs : List Text) → length xs + 1 ≤ 3 → listed (slice_get xs 0) ++ listed (slice_get xs 1) ≡ xs
 listed_all [] h = refl
@@ -251,5 +247,5 @@ module _ (v : Verb) (c : List Rule) (r : IsReader v c) (l : Layout) (w : Walks v
 
   pub arguments_are : arguments_read last ≡ arguments_of l
   arguments_are =
-      ap₂ (λ a b. listed a ++ listed b) (place_read 1 refl ∙ head_at first_place is_not_first l 1 refl) (place_read 2 refl ∙ second_at l)
+      ap₂ (λ a b. listed a ++ listed b) (place_read 1 refl ∙ head_at first_place (is_no_place 1) l 1 refl) (place_read 2 refl ∙ second_at l)
       ∙ listed_all (arguments_of l) (few_arguments v c r l [] 1 (omega arith) w)

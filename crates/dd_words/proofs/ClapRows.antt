@@ -10,7 +10,9 @@ use Rattle.dd_words.specs.declared.settings.Setting.{Setting}
 use Rattle.dd_words.specs.declared.settings.Setting.TheVariants.{Tiles, Vertices, LeastFace, LeastDegree, Faces, Degrees, Minimal, Workers, Round, Pause, Checkpoint, Cell}
 use Rattle.dd_words.specs.declared.verbs.Verb.{Verb}
 use Rattle.dd_words.specs.Values.{Text}
-use Rattle.dd_words.specs.Layout.{Layout, nothing, ended, argument, flag, spaced, tied, settings_of, word_of, has_value, Given}
+use Rattle.dd_words.specs.Layout.{Layout, nothing, ended, argument, flag, spaced, tied, settings_of}
+use Rattle.dd_words.specs.Given.{Given}
+use Rattle.dd_words.specs.SettingNames.{word_of, has_value}
 use Rattle.dd_words.specs.Apps.{first_place, second_place}
 use Rattle.dd_words.proofs.Told.{same_setting}
 use Rattle.dd_words.proofs.ClapSteps.{valued, flagged, placed}
@@ -119,43 +121,21 @@ not_second Pause = refl
 not_second Checkpoint = refl
 not_second Cell = refl
 
-first_not : (s : Setting) → bytes_eq (word_of s) first_place ≡ false
-first_not Tiles = refl
-first_not Vertices = refl
-first_not LeastFace = refl
-first_not LeastDegree = refl
-first_not Faces = refl
-first_not Degrees = refl
-first_not Minimal = refl
-first_not Workers = refl
-first_not Round = refl
-first_not Pause = refl
-first_not Checkpoint = refl
-first_not Cell = refl
-
-second_not : (s : Setting) → bytes_eq (word_of s) second_place ≡ false
-second_not Tiles = refl
-second_not Vertices = refl
-second_not LeastFace = refl
-second_not LeastDegree = refl
-second_not Faces = refl
-second_not Degrees = refl
-second_not Minimal = refl
-second_not Workers = refl
-second_not Round = refl
-second_not Pause = refl
-second_not Checkpoint = refl
-second_not Cell = refl
-
 pub no_place_is : (k : ℕ) (s : Setting) → bytes_eq (place_of k) (word_of s) ≡ false
 no_place_is zero s = not_second s
 no_place_is (suc zero) s = not_first s
 no_place_is (suc (suc k)) s = not_second s
 
+-- two texts that are not equal
+apart_sym : (xs ys : Text) → bytes_eq xs ys ≡ false → bytes_eq ys xs ≡ false
+apart_sym xs ys e = go (bytes_eq ys xs) ((bytes_eq-Decides ys xs).0)
+  where
+    go : (b : Bool) → (b ≡ true → ys ≡ xs) → b ≡ false
+    go true same = let bad = (bytes_eq-Decides xs ys).1 (sym (same refl)) in absurd (cc)
+    go false same = refl
+
 pub is_no_place : (k : ℕ) (s : Setting) → bytes_eq (word_of s) (place_of k) ≡ false
-is_no_place zero s = second_not s
-is_no_place (suc zero) s = first_not s
-is_no_place (suc (suc k)) s = second_not s
+is_no_place k s = apart_sym (place_of k) (word_of s) (no_place_is k s)
 
 -- ---- the value of a setting
 
@@ -194,11 +174,7 @@ apart s t f v = go (same_word s t) ((bytes_eq-Decides (word_of s) (word_of t)).0
     go false same = refl
 
 pub same_word_sym : (s t : Setting) → same_word s t ≡ false → same_word t s ≡ false
-same_word_sym s t e = go (same_word t s) ((bytes_eq-Decides (word_of t) (word_of s)).0)
-  where
-    go : (b : Bool) → (b ≡ true → word_of t ≡ word_of s) → b ≡ false
-    go true same = let bad = (bytes_eq-Decides (word_of s) (word_of t)).1 (sym (same refl)) in absurd (cc)
-    go false same = refl
+same_word_sym s t e = apart_sym (word_of s) (word_of t) e
 
 first_after : (s t : Setting) (x : Text) (rs : List Row) (gs : List Given) → first_of (word_of t) rs ≡ value_in gs t
     → first_of (word_of t) (valued_row s x ∷ rs) ≡ value_in (record { setting = s; value = x } ∷ gs) t

@@ -16,7 +16,8 @@ use Rattle.dd_words.specs.declared.commands.FileKind.{FileKind}
 use Rattle.dd_words.specs.declared.verbs.Verb.{Verb}
 use Rattle.dd_words.specs.declared.verbs.Verb.TheVariants as verb
 use Rattle.dd_words.specs.Values.{Text}
-use Rattle.dd_words.specs.Layout.{word_of, has_setting, IsFlagOf, IsValuedOf}
+use Rattle.dd_words.specs.Layout.{IsFlagOf, IsValuedOf}
+use Rattle.dd_words.specs.SettingNames.{word_of, has_setting}
 use Rattle.dd_words.specs.Apps.{app_for, setting_rule, first_place, second_place}
 use Rattle.dd_words.proofs.ClapSteps.{shape_with, valued, flagged, placed}
 use Rattle.dd_words.proofs.ClapWalks.{IsPlace, IsReader}

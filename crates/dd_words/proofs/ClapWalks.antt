@@ -13,7 +13,8 @@ use Rattle.clap.specs.declared.error.kind.ErrorKind.TheVariants as kind
 use Rattle.dd_words.specs.declared.settings.Setting.{Setting}
 use Rattle.dd_words.specs.declared.verbs.Verb.{Verb}
 use Rattle.dd_words.specs.Values.{Text}
-use Rattle.dd_words.specs.Layout.{Layout, nothing, ended, argument, flag, spaced, tied, word_of, has_setting, IsFlagOf, IsValuedOf}
+use Rattle.dd_words.specs.Layout.{Layout, nothing, ended, argument, flag, spaced, tied, IsFlagOf, IsValuedOf}
+use Rattle.dd_words.specs.SettingNames.{word_of, has_setting}
 use Rattle.dd_words.specs.Apps.{first_place, second_place}
 use Rattle.dd_words.proofs.ClapSteps.{shape_with, valued, flagged, placed, holding, standing, dash_dash, moved, turned, met_dashes, fault_dashes, met_long, fault_long, long_word_is, IsFree}
 

@@ -5,7 +5,7 @@ use Rattle.dd_words.specs.declared.settings.Setting.{Setting}
 use Rattle.dd_words.specs.declared.settings.Setting.TheVariants.{Tiles, Vertices, LeastFace, LeastDegree, Faces, Degrees, Minimal, Workers, Round, Pause, Checkpoint, Cell}
 use Rattle.dd_words.specs.declared.verbs.Verb.{Verb}
 use Rattle.dd_words.specs.Values.{Text}
-use Rattle.dd_words.specs.Layout.{has_value, dashed, assigned}
+use Rattle.dd_words.specs.SettingNames.{has_value, dashed, assigned}
 use Rattle.dd_words.proofs.Forms.{Form, argument, end, flag, spaced, tied, IsForm}
 use Rattle.dd_words.proofs.Told.{setting_of}
 
@@ -64,7 +64,7 @@ sort_assigned Pause value = refl
 sort_assigned Checkpoint value = refl
 sort_assigned Cell value = refl
 
-no_dash : (b : ℕ) → b ≢ 45 → (b == 45) ≡ false
+pub no_dash : (b : ℕ) → b ≢ 45 → (b == 45) ≡ false
 no_dash b ne = grind (arith, nat_tests)
 
 sorted : (v : Verb) (w : Text) (f : Form) → IsForm v w f → sort w ≡ Some f

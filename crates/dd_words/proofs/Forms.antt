@@ -3,7 +3,8 @@ use Rattle.std.specs.Prelude.{◌≡◌}
 use Rattle.dd_words.specs.declared.settings.Setting.{Setting}
 use Rattle.dd_words.specs.declared.verbs.Verb.{Verb}
 use Rattle.dd_words.specs.Values.{Text}
-use Rattle.dd_words.specs.Layout.{IsPlain, IsFlagOf, IsValuedOf, dashes, dashed, assigned}
+use Rattle.dd_words.specs.Layout.{IsPlain, IsFlagOf, IsValuedOf}
+use Rattle.dd_words.specs.SettingNames.{dashes, dashed, assigned}
 
 -- an argument, the end of the settings, a flag, a setting whose value is the next word, or one with its value
 pub data Form : Type 0 where

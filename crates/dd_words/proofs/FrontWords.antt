@@ -3,7 +3,9 @@ use Rattle.std.proofs.Common.{◌≡◌, List, [], ◌∷◌, refl, sym, ap, ◌
 use Rattle.dd_words.specs.declared.settings.Setting.{Setting}
 use Rattle.dd_words.specs.declared.verbs.Verb.{Verb}
 use Rattle.dd_words.specs.Values.{Text}
-use Rattle.dd_words.specs.Layout.{Layout, nothing, ended, argument, flag, spaced, tied, words_of, arguments_of, settings_of, Fits, IsLaid, Given, IsPlain, dashes, dashed, assigned}
+use Rattle.dd_words.specs.Layout.{Layout, nothing, ended, argument, flag, spaced, tied, words_of, arguments_of, settings_of, Fits, IsLaid, IsPlain}
+use Rattle.dd_words.specs.Given.{Given}
+use Rattle.dd_words.specs.SettingNames.{dashes, dashed, assigned}
 use Rattle.dd_words.proofs.Forms as forms
 use Rattle.dd_words.proofs.Forms.{Form, IsForm}
 use Rattle.dd_words.proofs.FormLemmas.{same_form}

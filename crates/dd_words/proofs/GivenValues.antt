@@ -10,20 +10,20 @@ use Rattle.dd_words.specs.declared.commands.Command.{Command}
 use Rattle.dd_words.specs.declared.commands.Command.TheVariants as command
 use Rattle.dd_words.specs.declared.commands.Frame.{Frame}
 use Rattle.dd_words.specs.Values.{Text}
-use Rattle.dd_words.specs.Layout.{word_of, Given, AreSingle, Has, Lacks}
-use Rattle.dd_words.specs.Grammar.{IsNumberGiven, IsNumberOr, IsNumberIfGiven, IsNameIfGiven, IsFlagIfGiven, IsSet, IsRun, IsRequested, IsFramed, IsSaid}
+use Rattle.dd_words.specs.Given.{Given, AreSingle, Has, Lacks}
+use Rattle.dd_words.specs.SettingNames.{word_of}
+use Rattle.dd_words.specs.Grammar.{IsRun, IsRequested, IsSaid}
+use Rattle.dd_words.specs.GivenValues.{IsNumberGiven, IsNumberOr, IsNumberIfGiven, IsNameIfGiven, IsFlagIfGiven, IsSet, IsFramed}
 use Rattle.dd_words.specs.Apps.{all_settings}
 use Rattle.dd_words.specs.Matching.{given_by}
 use Rattle.dd_words.proofs.Told.{same_setting}
 use Rattle.dd_words.proofs.OneValue.{not_both, same_value}
 use Rattle.dd_words.proofs.ClapRows.{same_word, value_in}
 use Rattle.dd_words.proofs.ClapReads.{picked}
+use Rattle.std.proofs.lemmas.Option.{same_Some}
 
 same_given : (g : Given) (s : Setting) (x : Text) → g.setting ≡ s → g.value ≡ x → g ≡ record { setting = s; value = x }
 same_given g s x e f = λ i. record { setting = e i; value = f i }
-
-some_same : {A : Type 0} (a b : A) → Some a ≡ Some b → a ≡ b
-some_same a b e = cc
 
 -- ---- the first value
 
@@ -35,7 +35,7 @@ value_has (g ∷ gs) s x e = go (same_word g.setting s) (λ t. same_setting g.se
     later h = (suc h.0, (let low = h.1 in omega arith), h.2)
 
     go : (b : Bool) → (b ≡ true → g.setting ≡ s) → cond b (Some g.value) (value_in gs s) ≡ Some x → (value_in gs s ≡ Some x → Has gs s x) → Has (g ∷ gs) s x
-    go true same f more = (0, omega arith, same_given g s x (same refl) (some_same g.value x f))
+    go true same f more = (0, omega arith, same_given g s x (same refl) (same_Some g.value x f))
     go false same f more = later (more f)
 
 value_lacks : (gs : List Given) (s : Setting) → value_in gs s ≡ None → Lacks gs s

@@ -12,7 +12,8 @@ use Rattle.clap.specs.declared.error.kind.ErrorKind.TheVariants as kind
 use Rattle.dd_words.specs.declared.settings.Setting.{Setting}
 use Rattle.dd_words.specs.declared.verbs.Verb.{Verb}
 use Rattle.dd_words.specs.Values.{Text}
-use Rattle.dd_words.specs.Layout.{Given, word_of, has_value}
+use Rattle.dd_words.specs.Given.{Given}
+use Rattle.dd_words.specs.SettingNames.{word_of, has_value}
 use Rattle.dd_words.specs.Apps.{first_place, second_place, app_for, all_settings, with_places, with_settings}
 use Rattle.dd_words.specs.Matching.{IsValueRead, given_by, AreRead, AreMatched, listed, arguments_read}
 use Rattle.dd_words.proofs.ClapRules.{simple_for, plain_for}

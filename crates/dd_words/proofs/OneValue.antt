@@ -8,8 +8,8 @@ use Rattle.dd_words.specs.declared.settings.Setting.TheVariants.{Cell}
 use Rattle.dd_words.specs.declared.commands.Frame.{Frame}
 use Rattle.dd_words.specs.declared.commands.Frame.TheVariants.{Square, Hex}
 use Rattle.dd_words.specs.Values.{Text, IsNumberIn, IsSetWord, IsName}
-use Rattle.dd_words.specs.Layout.{Given, AreSingle, Has, Lacks}
-use Rattle.dd_words.specs.Grammar.{IsNumberOr, IsNumberIfGiven, IsNameIfGiven, IsFlagIfGiven, IsSet, word_of_frame, IsFramed}
+use Rattle.dd_words.specs.Given.{Given, AreSingle, Has, Lacks}
+use Rattle.dd_words.specs.GivenValues.{IsNumberOr, IsNumberIfGiven, IsNameIfGiven, IsFlagIfGiven, IsSet, word_of_frame, IsFramed}
 use Rattle.dd_words.proofs.Items.{same_number}
 
 pub not_both : (ss : List Given) (s : Setting) (w : Text) → Has ss s w → Lacks ss s → ⊥

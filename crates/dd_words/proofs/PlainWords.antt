@@ -11,8 +11,12 @@ use Rattle.dd_words.specs.declared.commands.Command.TheVariants as command
 use Rattle.dd_words.specs.declared.commands.Frame.{Frame}
 use Rattle.dd_words.specs.declared.commands.Frame.TheVariants.{Square, Hex}
 use Rattle.dd_words.specs.Values.{Text, IsNumber, AreBounds, AsksForNumbers, IsSetWord, IsName, items_of}
-use Rattle.dd_words.specs.Layout.{Given, AreSingle, Has, Lacks, IsPlain, has_setting, has_value}
-use Rattle.dd_words.specs.Grammar.{IsNumberOr, IsNumberIfGiven, IsNameIfGiven, IsSet, IsFramed, IsRun, word_of_frame, verb_of, IsSaid}
+use Rattle.dd_words.specs.Layout.{IsPlain}
+use Rattle.dd_words.specs.Given.{Given, AreSingle, Has}
+use Rattle.dd_words.specs.SettingNames.{has_setting, has_value}
+use Rattle.dd_words.specs.Grammar.{IsRun, IsSaid}
+use Rattle.dd_words.specs.GivenValues.{IsNumberOr, IsNumberIfGiven, IsNameIfGiven, IsSet, IsFramed, word_of_frame}
+use Rattle.dd_words.specs.FirstWords.{verb_of}
 use Rattle.dd_words.proofs.OneValue.{not_both, same_value, only_number}
 
 digit_is_no_dash : (b : ℕ) → IsAsciiDigit b → b ≢ 45
@@ -78,7 +82,7 @@ module _ (gs : List Given) (single : AreSingle gs) where
   cell_plain f x (inl h) has = absurd (not_both gs Cell x has h.0)
   cell_plain f x (inr h) has = subst IsPlain (same_value gs Cell (word_of_frame f) x single h has) (frame_plain f)
 
-  run_plain : (s : Setting) (workers round : ℕ) (pause : Option ℕ) (x : Text) → IsRun gs workers round pause → Rattle.dd_words.specs.Layout.is_of_run s ≡ true → Has gs s x → IsPlain x
+  run_plain : (s : Setting) (workers round : ℕ) (pause : Option ℕ) (x : Text) → IsRun gs workers round pause → Rattle.dd_words.specs.SettingNames.is_of_run s ≡ true → Has gs s x → IsPlain x
   run_plain Workers workers round pause x h o has = or_plain Workers 1 64 1 workers x h.workers_are has
   run_plain Round workers round pause x h o has = or_plain Round 1 4096 64 round x h.round_is has
   run_plain Pause workers round pause x h o has = if_plain Pause 1 1000000000 pause x h.pause_is has

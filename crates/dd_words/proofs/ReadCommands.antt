@@ -10,9 +10,12 @@ use Rattle.dd_words.specs.declared.settings.Setting.TheVariants.{Pause, Checkpoi
 use Rattle.dd_words.specs.declared.verbs.Verb.{Verb}
 use Rattle.dd_words.specs.declared.verbs.Verb.TheVariants as verb
 use Rattle.dd_words.specs.Values.{Text}
-use Rattle.dd_words.specs.Layout.{Given, IsLaid, AreSingle}
+use Rattle.dd_words.specs.Layout.{IsLaid}
+use Rattle.dd_words.specs.Given.{Given, AreSingle}
 use Rattle.dd_words.specs.Laying.{texts}
-use Rattle.dd_words.specs.Grammar.{first_word, verb_of, IsCatalogue, IsResumed, IsDrawn, IsNumberIfGiven, IsNameIfGiven, IsRequested, IsSaid, IsCommand}
+use Rattle.dd_words.specs.Grammar.{IsCatalogue, IsResumed, IsDrawn, IsRequested, IsSaid, IsCommand}
+use Rattle.dd_words.specs.GivenValues.{IsNumberIfGiven, IsNameIfGiven}
+use Rattle.dd_words.specs.FirstWords.{first_word, verb_of}
 use Rattle.dd_words.specs.Reading.{IsReadAs}
 use Rattle.dd_words.proofs.Told.{same_verb}
 use Rattle.dd_words.proofs.FrontWords.{same_laid}

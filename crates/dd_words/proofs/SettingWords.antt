@@ -4,7 +4,7 @@ use Rattle.clap.specs.Lexer.{long_of}
 use Rattle.dd_words.specs.declared.settings.Setting.{Setting}
 use Rattle.dd_words.specs.declared.settings.Setting.TheVariants.{Tiles, Vertices, LeastFace, LeastDegree, Faces, Degrees, Minimal, Workers, Round, Pause, Checkpoint, Cell}
 use Rattle.dd_words.specs.Values.{Text}
-use Rattle.dd_words.specs.Layout.{word_of, dashed, assigned}
+use Rattle.dd_words.specs.SettingNames.{word_of, dashed, assigned}
 
 pub not_dashes_alone : (s : Setting) → bytes_eq (dashed s) (45 ∷ 45 ∷ []) ≡ false
 not_dashes_alone Tiles = refl

@@ -5,8 +5,9 @@ use Rattle.dd_words.specs.declared.settings.Setting.TheVariants.{Tiles, Vertices
 use Rattle.dd_words.specs.declared.verbs.Verb.{Verb}
 use Rattle.dd_words.specs.declared.verbs.Verb.TheVariants as verb
 use Rattle.dd_words.specs.declared.commands.FileKind.TheVariants as kind
-use Rattle.dd_words.specs.Layout.{word_of}
-use Rattle.dd_words.specs.Grammar.{first_word}
+use Rattle.dd_words.specs.SettingNames.{word_of}
+use Rattle.dd_words.specs.FirstWords.{first_word}
+use Rattle.std.proofs.lemmas.Option.{same_Some}
 
 -- the setting of a word
 abbrev pub setting_of : List ℕ → Option Setting
@@ -26,11 +27,8 @@ setting_told Pause = refl
 setting_told Checkpoint = refl
 setting_told Cell = refl
 
-some_same : {A : Type 0} (a b : A) → Some a ≡ Some b → a ≡ b
-some_same a b e = cc
-
 pub same_setting : (s t : Setting) → word_of s ≡ word_of t → s ≡ t
-same_setting s t e = some_same s t (sym (setting_told s) ∙ ap setting_of e ∙ setting_told t)
+same_setting s t e = same_Some s t (sym (setting_told s) ∙ ap setting_of e ∙ setting_told t)
 
 -- the verb of a word
 abbrev pub verb_told_by : List ℕ → Option Verb
@@ -53,4 +51,4 @@ verb_told (verb.File kind.Oriented) = refl
 verb_told (verb.File kind.Torus) = refl
 
 pub same_verb : (v w : Verb) → first_word v ≡ first_word w → v ≡ w
-same_verb v w e = some_same v w (sym (verb_told v) ∙ ap verb_told_by e ∙ verb_told w)
+same_verb v w e = same_Some v w (sym (verb_told v) ∙ ap verb_told_by e ∙ verb_told w)

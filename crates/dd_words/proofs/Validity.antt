@@ -8,8 +8,9 @@ use Rattle.dd_model.specs.declared.requests.Request.{Request}
 use Rattle.dd_words.specs.declared.settings.Setting.{Setting}
 use Rattle.dd_words.specs.declared.commands.Command.TheVariants.{Catalogue}
 use Rattle.dd_words.specs.Values.{Text, AsksForNumbers, IsCovered, items_of}
-use Rattle.dd_words.specs.Layout.{Given}
-use Rattle.dd_words.specs.Grammar.{IsNumberOr, IsSet, IsSaid, IsCommand}
+use Rattle.dd_words.specs.Given.{Given}
+use Rattle.dd_words.specs.Grammar.{IsSaid, IsCommand}
+use Rattle.dd_words.specs.GivenValues.{IsNumberOr, IsSet}
 use Rattle.dd_words.proofs.OneValue.{least_range}
 
 -- the first item has a number

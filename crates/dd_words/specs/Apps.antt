@@ -8,7 +8,7 @@ use Rattle.dd_words.specs.declared.settings.Setting.TheVariants.{Tiles, Vertices
 use Rattle.dd_words.specs.declared.verbs.Verb.{Verb}
 use Rattle.dd_words.specs.declared.verbs.Verb.TheVariants as verb
 use Rattle.dd_words.specs.Values.{Text}
-use Rattle.dd_words.specs.Layout.{word_of, has_value, has_setting}
+use Rattle.dd_words.specs.SettingNames.{word_of, has_value, has_setting}
 
 -- all settings, in the order in which they are told
 abbrev pub all_settings : List Setting

@@ -3,7 +3,7 @@ use Rattle.std.specs.Prelude.{List, map}
 use Rattle.std.specs.Borrow.{Bor}
 use Rattle.dd_words.specs.declared.layouts.Laid.{Laid}
 use Rattle.dd_words.specs.Values.{Text}
-use Rattle.dd_words.specs.Layout.{Given}
+use Rattle.dd_words.specs.Given.{Given}
 use Rattle.dd_words.specs.Settings.{given_of}
 
 -- the texts behind references

@@ -1,5 +1,9 @@
 pub mod Values
+pub mod SettingNames
+pub mod Given
 pub mod Layout
+pub mod FirstWords
+pub mod GivenValues
 pub mod Grammar
 pub mod Settings
 pub mod Parted

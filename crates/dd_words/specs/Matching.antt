@@ -4,7 +4,8 @@ use Rattle.clap.specs.Words.{Row, first_of, one_of, matches_of, fault_of}
 use Rattle.dd_words.specs.declared.settings.Setting.{Setting}
 use Rattle.dd_words.specs.declared.verbs.Verb.{Verb}
 use Rattle.dd_words.specs.Values.{Text}
-use Rattle.dd_words.specs.Layout.{Given, word_of, has_value}
+use Rattle.dd_words.specs.Given.{Given}
+use Rattle.dd_words.specs.SettingNames.{word_of, has_value}
 use Rattle.dd_words.specs.Apps.{app_for, all_settings, first_place, second_place}
 
 -- the value of a setting; that of a flag is empty

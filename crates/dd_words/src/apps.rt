@@ -1,6 +1,6 @@
 ghost use Rattle.std.specs.Prelude.{◌≡◌, false, cond, IfOk};
 ghost use Rattle.clap.specs.Words.{app_of, rule_of, with_rule};
-ghost use Rattle.dd_words.specs.Layout.{has_setting};
+ghost use Rattle.dd_words.specs.SettingNames.{has_setting};
 ghost use Rattle.dd_words.specs.Apps.{all_settings, first_place, second_place, place_rule, setting_rule, bare_app, with_places, with_settings, app_for};
 
 use crate::settings::Setting;

@@ -1,10 +1,10 @@
 //! The values of settings and arguments.
 ghost use Rattle.std.specs.Prelude.{◌≡◌, ◌≤◌, ℕ, Option, Bool, List, map, IfSome, IfNone, IfOk};
 ghost use Rattle.dd_model.specs.declared.allowed.Allowed.{Allowed};
-ghost use Rattle.dd_words.specs.Layout.{AreSingle};
+ghost use Rattle.dd_words.specs.Given.{AreSingle};
 ghost use Rattle.dd_words.specs.Settings.{given_of};
 ghost use Rattle.dd_words.specs.Values.{IsName};
-ghost use Rattle.dd_words.specs.Grammar.{IsNumberOr, IsNumberIfGiven, IsNameIfGiven, IsFlagIfGiven, IsSet, IsFramed};
+ghost use Rattle.dd_words.specs.GivenValues.{IsNumberOr, IsNumberIfGiven, IsNameIfGiven, IsFlagIfGiven, IsSet, IsFramed};
 
 use crate::commands::Frame;
 use crate::fault::WordsFault;

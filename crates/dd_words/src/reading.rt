@@ -1,7 +1,7 @@
 ghost use Rattle.std.specs.Prelude.{◌≡◌, ◌∷◌, map, IfOk};
 ghost use Rattle.std.specs.Rc.{rc_str_bytes};
 ghost use Rattle.dd_words.specs.declared.commands.Command.{Command};
-ghost use Rattle.dd_words.specs.Layout.{AreSingle};
+ghost use Rattle.dd_words.specs.Given.{AreSingle};
 ghost use Rattle.dd_words.specs.Laying.{texts};
 ghost use Rattle.dd_words.specs.Settings.{given_of};
 ghost use Rattle.dd_words.specs.Grammar.{IsCommand};

@@ -1,6 +1,6 @@
 ghost use Rattle.std.specs.Prelude.{ℕ, Option, map, IfSome, IfNone};
 ghost use Rattle.dd_model.specs.declared.requests.Request.{Request};
-ghost use Rattle.dd_words.specs.Layout.{AreSingle};
+ghost use Rattle.dd_words.specs.Given.{AreSingle};
 ghost use Rattle.dd_words.specs.Settings.{given_of};
 ghost use Rattle.dd_words.specs.Grammar.{IsRequested, IsRun};
 

@@ -1,5 +1,6 @@
 ghost use Rattle.std.specs.Prelude.{◌≡◌, ◌↔◌, IfSome, IfNone, IsTrue, map};
-ghost use Rattle.dd_words.specs.Layout.{word_of, has_value, has_setting, Has, Lacks};
+ghost use Rattle.dd_words.specs.Given.{Has, Lacks};
+ghost use Rattle.dd_words.specs.SettingNames.{word_of, has_value, has_setting};
 ghost use Rattle.dd_words.specs.Settings.{given_of};
 
 use crate::verbs::Verb;

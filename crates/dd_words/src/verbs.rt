@@ -1,5 +1,5 @@
 ghost use Rattle.std.specs.Prelude.{◌≡◌, IfSome, IfNone};
-ghost use Rattle.dd_words.specs.Grammar.{first_word};
+ghost use Rattle.dd_words.specs.FirstWords.{first_word};
 
 use crate::commands::FileKind;
 

@@ -3,6 +3,7 @@ use Rattle.dd_model.specs.Cell.{AreCells}
 use Rattle.dd_cells.proofs.CountLemmas.{IsCount, one_more, none_more, whole_count}
 use Rattle.dd_cells.proofs.counts.count.Goals as goal
 use Rattle.dd_cells.proofs.counts.count.Goals.{then-is_least_of_cell, else-is_least_of_cell}
+use Rattle.dd_model.proofs.CellLists.{cells_exist}
 
 pub loop-k-preserved : goal.loop-k-preserved
 loop-k-preserved c =
@@ -26,3 +27,6 @@ returns-clause-cells c chambers are =
     let whole : c.loop-k.k ≡ s.size = omega arith in
     whole_count s p c.loop-k.cells (subst (λ k. IsCount s p k c.loop-k.cells) whole c.loop-k.invariant) chambers
     (subst (λ t. AreCells t p chambers) (sym c.symbol-symbol.ensures.same) are)
+
+pub returns-clause-exist : goal.returns-clause-exist
+returns-clause-exist c = cells_exist c.args.s.now c.symbol-symbol.ensures.symbol.symbol.table.involutions c.args.pair

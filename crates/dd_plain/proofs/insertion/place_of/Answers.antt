@@ -11,8 +11,8 @@ returns-in-Equal-clause-found c =
     let other = c.index-list-k.result in
     let symbol = c.args.symbol.now in
     let order : code_cmp other symbol ≡ Equal =
-    ap (λ x. code_cmp x symbol) (sym c.symbol.ensures) ∙ ap (code_cmp c.symbol.result.now) (sym c.symbol-in-loop-k.ensures) ∙ sym c.cmp_code.ensures ∙ c.in-Equal.is in
-    let same = same_from_code_cmp other symbol c.known-in-loop-k.ensures.symbol.symbol.table c.known.ensures.symbol.symbol.table order in
+    ap (λ x. code_cmp x symbol) (sym c.symbol.ensures.same) ∙ ap (code_cmp c.symbol.result.now) (sym c.symbol-in-loop-k.ensures.same) ∙ sym c.cmp_code.ensures ∙ c.in-Equal.is in
+    let same = same_from_code_cmp other symbol c.symbol.ensures.symbol.symbol.table c.symbol-in-loop-k.ensures.symbol.symbol.table order in
     (c.loop-k.k, c.loop-k-test.true, get_or_default c.args.list.now c.loop-k.k symbol other c.loop-k-test.true ∙ sym c.index-list-k.is ∙ same)
 
 pub returns-in-Greater-clause-above : goal.returns-in-Greater-clause-above
@@ -20,6 +20,6 @@ returns-in-Greater-clause-above c =
     let other = c.index-list-k.result in
     let symbol = c.args.symbol.now in
     let order : code_cmp other symbol ≡ Greater =
-    ap (λ x. code_cmp x symbol) (sym c.symbol.ensures) ∙ ap (code_cmp c.symbol.result.now) (sym c.symbol-in-loop-k.ensures) ∙ sym c.cmp_code.ensures ∙ c.in-Greater.is in
+    ap (λ x. code_cmp x symbol) (sym c.symbol.ensures.same) ∙ ap (code_cmp c.symbol.result.now) (sym c.symbol-in-loop-k.ensures.same) ∙ sym c.cmp_code.ensures ∙ c.in-Greater.is in
     above-from c.args.symbol.now c.args.list.now c.loop-k.k c.index-list-k.result c.requires c.loop-k-test.true
     (subst (IsBelow symbol) c.index-list-k.is (greater_is_above other symbol order))

@@ -11,5 +11,5 @@ returns-clause-unbeaten c =
     let t = c.in_ok-other.other in
     let map : choices chamber_table s.size c.args.number ≡ c.deref-2.result.now = cc (c.in_ok-map.ensures.items, c.deref-2.ensures.value) in
     let test : is_gt (code_cmp s t) ≡ c.is_gt.result =
-    sym (c.is_gt.ensures ∙ ap is_gt (c.cmp_code.ensures ∙ ap (λ x. code_cmp x c.symbol-3.result.now) c.symbol-2.ensures ∙ ap (code_cmp s) c.symbol-3.ensures)) in
-    unbeaten s t c.deref-2.result.now (choices chamber_table s.size c.args.number) c.known-2.ensures.symbol.symbol c.in_ok-other.ensures map c.is_gt.result test
+    sym (c.is_gt.ensures ∙ ap is_gt (c.cmp_code.ensures ∙ ap (λ x. code_cmp x c.symbol-3.result.now) c.symbol-2.ensures.same ∙ ap (code_cmp s) c.symbol-3.ensures.same)) in
+    unbeaten s t c.deref-2.result.now (choices chamber_table s.size c.args.number) c.in_ok-other.ensures.symbol.symbol c.in_ok-other.ensures.isomorphism map c.is_gt.result test

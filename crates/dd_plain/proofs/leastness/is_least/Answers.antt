@@ -10,7 +10,7 @@ loop-number-preserved c k below t it iso =
     ⊎_elim
     (λ before. c.loop-number.invariant k before t it iso)
     (λ last. let here : k ≡ c.loop-number.number = omega arith in
-    let this = rw c.if-beaten.false at c.in_ok-beaten.ensures.unbeaten in
+    let this = rw c.if-branch.false at c.in_ok-is_beaten_by.ensures.unbeaten in
     this t it (subst (λ j. IsIsomorphism c.args.symbol.now t (choices chamber_table c.args.symbol.now.size j)) here iso))
     (cases_lt k c.loop-number.number)
 

@@ -2,8 +2,9 @@ use Rattle.std.proofs.Common.{◌≡◌, ◌∷◌, ◌∙◌, Err, map, sym, ap
 use Rattle.std.proofs.lemmas.Result.{IfOk-weaker}
 use Rattle.std.specs.Rc.{rc_str_bytes}
 use Rattle.dd_words.specs.declared.commands.Command.{Command}
-use Rattle.dd_words.specs.Grammar.{first_word, IsCommand}
-use Rattle.dd_words.specs.Layout.{AreSingle}
+use Rattle.dd_words.specs.Grammar.{IsCommand}
+use Rattle.dd_words.specs.FirstWords.{first_word}
+use Rattle.dd_words.specs.Given.{AreSingle}
 use Rattle.dd_words.specs.Laying.{texts, arguments_in, settings_in}
 use Rattle.dd_words.specs.Reading.{IsReadAs}
 use Rattle.dd_words.specs.Settings.{given_of}

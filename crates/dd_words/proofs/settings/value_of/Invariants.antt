@@ -1,5 +1,5 @@
 use Rattle.std.proofs.Common.{take, map}
-use Rattle.dd_words.specs.Layout.{Lacks}
+use Rattle.dd_words.specs.Given.{Lacks}
 use Rattle.dd_words.specs.Settings.{given_of}
 use Rattle.dd_words.proofs.settings.value_of.Given as goal
 

@@ -1,0 +1,38 @@
+-- The first word of each command.
+use Rattle.std.specs.Prelude.{codes}
+use Rattle.dd_words.specs.declared.commands.FileKind.{FileKind}
+use Rattle.dd_words.specs.declared.commands.FileKind.TheVariants as kind
+use Rattle.dd_words.specs.declared.commands.Command.{Command}
+use Rattle.dd_words.specs.declared.commands.Command.TheVariants as command
+use Rattle.dd_words.specs.declared.verbs.Verb.{Verb}
+use Rattle.dd_words.specs.declared.verbs.Verb.TheVariants as verb
+use Rattle.dd_words.specs.Values.{Text}
+
+-- the first word of a command on a file
+abbrev pub word_of_kind : FileKind → Text
+word_of_kind kind.Canon = codes "canon"
+word_of_kind kind.Lines = codes "lines"
+word_of_kind kind.Info = codes "info"
+word_of_kind kind.Minimal = codes "minimal"
+word_of_kind kind.Dual = codes "dual"
+word_of_kind kind.Ambo = codes "ambo"
+word_of_kind kind.Truncate = codes "truncate"
+word_of_kind kind.Chamfer = codes "chamfer"
+word_of_kind kind.Oriented = codes "oriented"
+word_of_kind kind.Torus = codes "torus"
+
+-- the first word
+abbrev pub first_word : Verb → Text
+first_word verb.Catalogue = codes "catalogue"
+first_word verb.Resume = codes "resume"
+first_word verb.Draw = codes "draw"
+first_word verb.Exercise = codes "exercise"
+first_word (verb.File kind) = word_of_kind kind
+
+-- what a command does, without its values
+abbrev pub verb_of : Command → Verb
+verb_of (command.Catalogue request workers round pause checkpoint) = verb.Catalogue
+verb_of (command.Resume name workers round pause) = verb.Resume
+verb_of (command.Draw file frame) = verb.Draw
+verb_of (command.Exercise start count) = verb.Exercise
+verb_of (command.File kind file) = verb.File kind
