@@ -1,14 +1,13 @@
 -- What a walk through a cell lists.
-use Rattle.std.proofs.Common.{◌≡◌, ◌⊎◌, ◌↔◌, ℕ, zero, suc, ◌+◌, ◌*◌, ◌/◌, ◌<◌, ◌≤◌, List, [], ◌∷◌, ◌++◌, length, map, take, slice_index, sym, ap, ◌∙◌, subst, inl, inr, ⊎_elim, arith}
+use Rattle.std.proofs.Common.{◌≡◌, ◌↔◌, ℕ, zero, suc, ◌+◌, ◌*◌, ◌/◌, ◌<◌, ◌≤◌, List, [], ◌∷◌, ◌++◌, length, map, take, slice_index, sym, ap, ◌∙◌, subst, inl, inr, ⊎_elim, arith}
 use Rattle.std.specs.List.{AllByRecursion, Contains}
-use Rattle.std.proofs.lemmas.List.{get_or_default, map-append, take_more}
+use Rattle.std.proofs.lemmas.List.{map-append, take_more}
 use Rattle.std.proofs.lemmas.List.Elements.{Contains-push, Contains-push_cases, Contains-append_left}
 use Rattle.dd_model.specs.declared.pair.Pair.{Pair}
-use Rattle.dd_model.specs.Symbol.{Symbol, IsSymbol, AreInvolutions, IsChamber, first, second, op, degree}
-use Rattle.dd_model.specs.Cell.{InCell, IsChain, turned, IsPeriod, IsLeastTurns, IsBranching}
+use Rattle.dd_model.specs.Symbol.{Symbol, IsSymbol, AreInvolutions, IsChamber, first, op, degree}
+use Rattle.dd_model.specs.Cell.{InCell, turned, IsPeriod, IsLeastTurns, IsBranching}
 use Rattle.dd_model.proofs.Turns.{IsLeastTurns-from_period, least_turns_unique}
 use Rattle.dd_model.proofs.CellWalks.{IsMet, met_cases, met_later, met_from_in_cell, in_cell_from_met, has_period}
-use Rattle.dd_cells.specs.Cells.{HasFixed, AreMembers}
 use Rattle.dd_cells.specs.declared.cell.Cell.{Cell}
 
 -- ## The chambers that are met
@@ -76,25 +75,7 @@ pub turns_by_value : (s : Symbol) → IsSymbol s → (p : Pair) (d v : ℕ) → 
 turns_by_value s is p d v h b =
     subst (IsLeastTurns s p d) (sym (quotient_of v b.r (degree s p d) (value_positive s is p d v h b) b.quotient)) b.least_turns
 
--- ## Fixed chambers
-
--- one of the two involutions fixes d
-abbrev pub IsFixed : Symbol → Pair → ℕ → Type 0
-IsFixed s p d = (op s (first p) d ≡ d) ⊎ (op s (second p) d ≡ d)
-
--- where no listed chamber is fixed, none is
-pub none_fixed : (s : Symbol) (p : Pair) (k : ℕ) (xs : List ℕ) → ((j : ℕ) → j < k → IsFixed s p (slice_index xs j) → ⊥) → length xs ≤ k → HasFixed s p xs → ⊥
-none_fixed s p k xs none whole has =
-    let place = has.listed.0 in
-    let below : place < length xs = has.listed.1 in
-    let at : slice_index xs place ≡ has.chamber = get_or_default xs place 0 has.chamber below ∙ has.listed.2 in
-    none place (omega arith) (subst (IsFixed s p) (sym at) has.fixed)
-
-pub chain_from_fixed : (s : Symbol) (p : Pair) (d : ℕ) (xs : List ℕ) → AreMembers s p d xs → HasFixed s p xs → IsChain s p d
-chain_from_fixed s p d xs are has = record { chamber = has.chamber; in_cell = (are.each has.chamber).0 has.listed; fixed = has.fixed }
-
-pub fixed_from_chain : (s : Symbol) (p : Pair) (d : ℕ) (xs : List ℕ) → AreMembers s p d xs → IsChain s p d → HasFixed s p xs
-fixed_from_chain s p d xs are chain = record { chamber = chain.chamber; listed = (are.each chain.chamber).1 chain.in_cell; fixed = chain.fixed }
+-- ## One more
 
 -- the least chambers of a list of cells, one more being told
 pub least_more : (cells : List Cell) (cell : Cell) (chambers : List ℕ) (k : ℕ) → map (λ (c : Cell). c.least) cells ≡ take k chambers → k < length chambers → cell.least ≡ slice_index chambers k

@@ -1,19 +1,13 @@
 -- The cells of a pair, as they are told.
-use Rattle.std.specs.Prelude.{◌≡◌, ◌⊎◌, ◌↔◌, ℕ, List, map}
+use Rattle.std.specs.Prelude.{◌↔◌, ℕ, List, map}
 use Rattle.std.specs.List.{AllByRecursion, Contains}
 use Rattle.std.specs.List.Sorted.{IsStrictlyIncreasing}
-use Rattle.dd_model.specs.Symbol.{Symbol, first, second, op}
+use Rattle.dd_model.specs.Symbol.{Symbol}
 use Rattle.dd_model.specs.Cell.{InCell, IsChain, IsLeastTurns, IsBranching, IsLeastOfCell, AreCells}
 use Rattle.dd_model.specs.declared.pair.Pair.{Pair}
 use Rattle.dd_cells.specs.declared.kind.Kind.{Kind}
 use Rattle.dd_cells.specs.declared.kind.Kind.TheVariants.{Cycle, Chain}
 use Rattle.dd_cells.specs.declared.cell.Cell.{Cell}
-
--- an involution of the pair fixes a chamber of a list
-pub record HasFixed (s : Symbol) (p : Pair) (ds : List ℕ) : Type 0 where
-  pub chamber : ℕ
-  pub listed : Contains ds chamber
-  pub fixed : (op s (first p) chamber ≡ chamber) ⊎ (op s (second p) chamber ≡ chamber)
 
 -- the chambers of the cell of d, ascending
 pub record AreMembers (s : Symbol) (p : Pair) (d : ℕ) (members : List ℕ) : Type 0 where

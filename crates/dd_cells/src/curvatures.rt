@@ -1,38 +1,18 @@
 ghost use Rattle.std.specs.Prelude.{◌≡◌, ◌↔◌, ◌*◌, ◌≤◌, ℕ, IsTrue, List};
 ghost use Rattle.dd_model.specs.Symbol.{IsChamber, IsTable};
-ghost use Rattle.dd_model.specs.Cell.{IsChain};
 ghost use Rattle.dd_model.specs.Code.{chambers};
 ghost use Rattle.dd_model.specs.Flat.{Flat, all_degrees, reciprocals};
 ghost use Rattle.dd_cells.specs.Cells.{AreMembers};
 ghost use Rattle.dd_cells.specs.Curvature.{IsCurvature, IsReciprocalSum};
 
+use crate::chains::is_chain;
 use crate::counts::is_least_of_cell;
 use crate::fractions::Fraction;
 use dd_model::Pair;
-use dd_symbol::{Connected, Symbol};
+use dd_symbol::Connected;
 
 /// The least common multiple of the numbers 1 to 30, so a multiple of every branching value.
 pub const COMMON_MULTIPLE: u64 = 2_329_089_562_800;
-
-/// Whether an involution of the pair fixes a chamber of the cell of a chamber.
-fn is_chain(symbol: &Symbol, pair: Pair, chamber: u32) -> bool
-    requires { IsChamber symbol.now chamber }
-    ensures { IsTrue result ↔ IsChain symbol.now pair chamber }
-{
-    let mut place = chamber;
-    for _turn in 0..symbol.size() {
-        let neighbor = symbol.op(pair.first(), place);
-        let next = symbol.op(pair.second(), neighbor);
-        if neighbor == place || next == neighbor {
-            return true;
-        }
-        if next == chamber {
-            return false;
-        }
-        place = next;
-    }
-    unreachable!()
-}
 
 /// The sum of 1/m over the chambers of a cell, in parts of `COMMON_MULTIPLE`: 2/v for a cycle, and
 /// 1/v for a chain.

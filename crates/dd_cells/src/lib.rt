@@ -2,6 +2,7 @@
 #![tactic(auto)]
 
 mod cell;
+mod chains;
 mod colorings;
 mod counts;
 mod curvatures;

@@ -1,14 +1,14 @@
-ghost use Rattle.std.specs.Prelude.{◌≡◌, ◌↔◌, ℕ, IsTrue, IfOk};
+ghost use Rattle.std.specs.Prelude.{◌≡◌, IfOk};
 ghost use Rattle.dd_model.specs.Symbol.{IsChamber};
 ghost use Rattle.dd_model.specs.Cell.{IsLeastTurns, IsLeastOfCell};
-ghost use Rattle.dd_cells.specs.Cells.{HasFixed, AreMembers, IsCellOf, AreCellsOf};
-ghost use Rattle.std.specs.List.{Contains};
+ghost use Rattle.dd_cells.specs.Cells.{AreMembers, IsCellOf, AreCellsOf};
 
 use crate::cell::Cell;
+use crate::chains::is_chain;
 use crate::kind::Kind;
 use crate::members::Members;
 use dd_model::{Memory, Pair};
-use dd_symbol::{Connected, Symbol};
+use dd_symbol::Connected;
 use std::alloc::Global;
 
 /// The chambers of the cell of a chamber, which are met within r turns.
@@ -31,22 +31,6 @@ fn walked(alloc: Global, s: &Connected, pair: Pair, chamber: u32, r: u32) -> Res
     Ok(Members::from_vec(chambers))
 }
 
-/// Whether an involution of the pair fixes one of these chambers.
-fn has_fixed(symbol: &Symbol, pair: Pair, chambers: &[u32]) -> bool
-    requires { (d : ℕ) → Contains chambers.now d → IsChamber symbol.now d }
-    ensures { IsTrue result ↔ HasFixed symbol.now pair chambers.now }
-{
-    for chamber in chambers {
-        let chamber = *chamber;
-        if symbol.op(pair.first(), chamber) == chamber
-            || symbol.op(pair.second(), chamber) == chamber
-        {
-            return true;
-        }
-    }
-    false
-}
-
 /// The cell of its least chamber.
 fn cell_at(alloc: Global, s: &Connected, pair: Pair, least: u32) -> Result<Cell, Memory>
     requires { IsLeastOfCell s.now pair least }
@@ -57,7 +41,7 @@ fn cell_at(alloc: Global, s: &Connected, pair: Pair, least: u32) -> Result<Cell,
     let v = symbol.branching(pair, least);
     let r = symbol.degree(pair, least) / v;
     let members = walked(alloc, s, pair, least, r)?;
-    let kind = if has_fixed(symbol, pair, members.as_slice()) {
+    let kind = if is_chain(symbol, pair, least) {
         Kind::Chain
     } else {
         Kind::Cycle

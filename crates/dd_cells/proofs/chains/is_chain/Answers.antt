@@ -1,8 +1,8 @@
 use Rattle.std.proofs.Common.{◌≡◌, refl, sym, ap, ◌∙◌, subst, inl, inr, arith}
 use Rattle.dd_model.specs.Symbol.{op, first, second}
 use Rattle.dd_cells.proofs.FreeWalks.{IsFreeWalk, free_walk_goes_on, free_walk_comes_back, free_walk_ends, chain_from_walk}
-use Rattle.dd_cells.proofs.curvatures.is_chain.Goals as goal
-use Rattle.dd_cells.proofs.curvatures.is_chain.Goals.{then-neighbor-place-via-then-neighbor-place, then-neighbor-place-via-else-neighbor-place+then-next-neighbor}
+use Rattle.dd_cells.proofs.chains.is_chain.Goals as goal
+use Rattle.dd_cells.proofs.chains.is_chain.Goals.{then-neighbor-place-via-then-neighbor-place, then-neighbor-place-via-else-neighbor-place+then-next-neighbor}
 
 pub returns-then-neighbor-place : goal.returns-then-neighbor-place
 returns-then-neighbor-place c =
