@@ -9,7 +9,7 @@ use Rattle.dd_model.specs.declared.pair.Pair.TheVariants.{Tile, Vertex}
 use Rattle.dd_model.specs.Symbol.{Symbol, IsTable, IsSymbol, degree, item}
 use Rattle.dd_model.specs.Code.{chambers, count_from}
 use Rattle.dd_model.specs.Flat.{product, all_degrees, reciprocals, Flat}
-use Rattle.dd_model.proofs.Codes.{same_items}
+use Rattle.dd_model.proofs.Codes.{items_again}
 use Rattle.dd_model.proofs.AllDegrees.{all_degrees_positive}
 use Rattle.dd_model.proofs.CountFrom.{length-count_from, item-count_from}
 use Rattle.dd_model.proofs.Lists.{Contains-cases}
@@ -54,12 +54,6 @@ vertex_divides s is d listed =
     (divides_product (item s.m12 d) s.m12 (item_listed s.m12 s.size d is.m12_length h.0 h.1))
 
 -- ## Sums over the lists of degrees
-
-items_again : (xs : List ℕ) (n : ℕ) → length xs ≡ n → map (item xs) (count_from 1 n) ≡ xs
-items_again xs n size =
-    let count = length-count_from 1 n in
-    same_items (map (item xs) (count_from 1 n)) xs n (length-map (count_from 1 n) (item xs) ∙ count) size (λ d low high.
-    get_or-map (item xs) (count_from 1 n) (d - 1) 0 0 (omega arith) ∙ ap (item xs) (item-count_from n d low (omega arith)))
 
 sum_by_items : (g : ℕ → ℕ) (xs : List ℕ) (n : ℕ) → length xs ≡ n → sum_by (λ d. g (item xs d)) (count_from 1 n) ≡ sum_by g xs
 sum_by_items g xs n size = sym (sum_by-map g (item xs) (count_from 1 n)) ∙ ap (sum_by g) (items_again xs n size)

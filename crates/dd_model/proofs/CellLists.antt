@@ -8,7 +8,6 @@ use Rattle.std.proofs.lemmas.List.Kept.{AllPairs-from_increasing}
 use Rattle.dd_model.specs.declared.pair.Pair.{Pair}
 use Rattle.dd_model.specs.Symbol.{Symbol, AreInvolutions}
 use Rattle.dd_model.specs.Cell.{IsLeastOfCell, AreCells}
-pub use Rattle.dd_model.proofs.Lists.{Contains-head, Contains-later, Contains-cases}
 use Rattle.dd_model.proofs.CellSearch.{decide_least_of_cell}
 use Rattle.dd_model.proofs.Lists.{Contains-head, Contains-later, Contains-cases}
 

@@ -1,7 +1,7 @@
 -- The order by size and code is total, and equal codes are those of equal symbols.
-use Rattle.std.proofs.Common.{◌≡◌, ◌≢◌, ℕ, zero, suc, ◌+◌, ◌-◌, ◌*◌, ◌<◌, ◌≤◌, List, ◌++◌, length, get_or, take, drop, refl, sym, ap, ◌∙◌, subst, ⊎_elim, arith}
+use Rattle.std.proofs.Common.{◌≡◌, ◌≢◌, ℕ, zero, suc, ◌+◌, ◌-◌, ◌*◌, ◌<◌, ◌≤◌, List, ◌++◌, map, length, get_or, take, drop, refl, sym, ap, ◌∙◌, subst, ⊎_elim, arith}
 use Rattle.std.proofs.lemmas.Bool.{cases_eq}
-use Rattle.std.proofs.lemmas.List.{take_at, drop_at, ext_get_or, append_assoc}
+use Rattle.std.proofs.lemmas.List.{take_at, drop_at, ext_get_or, append_assoc, length-map}
 use Rattle.std.specs.List.{flat_map}
 use Rattle.std.specs.Cmp.{IsTotalOrder, nat_cmp_total, on_total, then_total}
 use Rattle.std.specs.Cmp.Lexicographic.{slice_cmp, nat_list_cmp_total}
@@ -13,6 +13,7 @@ use Rattle.dd_model.specs.declared.index.Index.{Index}
 use Rattle.dd_model.specs.declared.index.Index.TheVariants.{Zero, One, Two}
 use Rattle.dd_model.specs.Symbol.{Symbol, IsTable, IsSymbol, item, op, operation}
 use Rattle.dd_model.specs.Isomorphic.{Isomorphic}
+use Rattle.dd_model.proofs.CountFrom.{length-count_from, item-map-count_from}
 use Rattle.dd_model.specs.Code.{count_from, chambers, images, code, code_cmp, Least}
 use Rattle.dd_model.proofs.Isomorphisms.{Isomorphic-sym}
 use Rattle.dd_model.proofs.Fields.{same_fields}
@@ -88,3 +89,9 @@ pub least_unique : (s t : Symbol) → IsSymbol s → IsSymbol t → Least s → 
 least_unique s t is it ls lt iso =
     same_from_code_cmp s t is.table it.table
     (equal_from_both (code_cmp s t) (code_cmp t s) (code_cmp_total.antisymm s t) (ls t it iso) (lt s is (Isomorphic-sym s t is.table iso)))
+
+-- the items of all chambers are the list
+pub items_again : (xs : List ℕ) (n : ℕ) → length xs ≡ n → map (item xs) (count_from 1 n) ≡ xs
+items_again xs n size =
+    same_items (map (item xs) (count_from 1 n)) xs n (length-map (count_from 1 n) (item xs) ∙ length-count_from 1 n) size
+    (λ d low high. item-map-count_from (item xs) n d low (omega arith))

@@ -12,7 +12,7 @@ use Rattle.dd_model.proofs.Turns.{turned-suc, turned-last, turned_within}
 use Rattle.dd_model.proofs.Transport.{in_cell_within}
 use Rattle.dd_symbol.specs.Building.{listed, HaveOneLength, IsAccepted}
 use Rattle.dd_model.specs.Code.{count_from}
-use Rattle.dd_model.proofs.Codes.{same_items}
+use Rattle.dd_model.proofs.Codes.{items_again}
 use Rattle.dd_model.proofs.CountFrom.{length-count_from, item-map-count_from}
 use Rattle.std.proofs.lemmas.List.{length-map}
 use Rattle.dd_quotient.specs.Dual.{dual_of, degrees_of}
@@ -168,14 +168,8 @@ pub accepted-dual : (s t : Symbol) → IsSmallSymbol s → Connected s → t ≡
 accepted-dual s t is all e = subst (IsAccepted 16384) (sym e)
     (record { symbol = small_symbol-dual s is; connected = connected-dual s all; within = is.size })
 
--- the items of all chambers are the list
-items_of : (xs : List ℕ) (n : ℕ) → length xs ≡ n → map (item xs) (count_from 1 n) ≡ xs
-items_of xs n size =
-    same_items (map (item xs) (count_from 1 n)) xs n (length-map (count_from 1 n) (item xs) ∙ length-count_from 1 n) size
-    (λ d low high. item-map-count_from (item xs) n d low (omega arith))
-
 pub tile_degrees : (s : Symbol) → IsTable s → degrees_of s Tile ≡ s.m01
-tile_degrees s table = items_of s.m01 s.size table.m01_length
+tile_degrees s table = items_again s.m01 s.size table.m01_length
 
 pub vertex_degrees : (s : Symbol) → IsTable s → degrees_of s Vertex ≡ s.m12
-vertex_degrees s table = items_of s.m12 s.size table.m12_length
+vertex_degrees s table = items_again s.m12 s.size table.m12_length

@@ -16,6 +16,7 @@ use Rattle.dd_model.proofs.Branching.{degree_same}
 use Rattle.dd_model.proofs.CellLists.{cells_unique}
 use Rattle.dd_model.proofs.CellSearch.{has_least}
 use Rattle.dd_model.proofs.Codes.{same_items}
+use Rattle.dd_model.proofs.Fields.{same_fields}
 use Rattle.dd_model.proofs.ReadingSymbols.{HaveSameImages, in_cell_same, chamber_same, cells_same}
 use Rattle.dd_model.proofs.Lists.{map_at}
 use Rattle.dd_symbol.specs.Building.{listed}
@@ -125,15 +126,6 @@ degrees_agree s t inv h p ds const_s const_t cells e d c =
     let at_least = map_at (degree s p) (degree t p) ds e l.least ((cells.members l.least).1 l.is_least) in
     const_s d l.least c l.in_cell ∙ at_least ∙ sym (const_t d l.least (chamber_same s t h d c) (in_cell_same s t h p d l.least l.in_cell))
 
-same_lists : (s t : Symbol) → s.size ≡ t.size → s.s0 ≡ t.s0 → s.s1 ≡ t.s1 → s.s2 ≡ t.s2 → s.m01 ≡ t.m01 → s.m12 ≡ t.m12 → s ≡ t
-same_lists s t n a b c d e =
-    ap (λ x. record { size = x; s0 = s.s0; s1 = s.s1; s2 = s.s2; m01 = s.m01; m12 = s.m12 }) n
-    ∙ ap (λ x. record { size = t.size; s0 = x; s1 = s.s1; s2 = s.s2; m01 = s.m01; m12 = s.m12 }) a
-    ∙ ap (λ x. record { size = t.size; s0 = t.s0; s1 = x; s2 = s.s2; m01 = s.m01; m12 = s.m12 }) b
-    ∙ ap (λ x. record { size = t.size; s0 = t.s0; s1 = t.s1; s2 = x; m01 = s.m01; m12 = s.m12 }) c
-    ∙ ap (λ x. record { size = t.size; s0 = t.s0; s1 = t.s1; s2 = t.s2; m01 = x; m12 = s.m12 }) d
-    ∙ ap (λ x. record { size = t.size; s0 = t.s0; s1 = t.s1; s2 = t.s2; m01 = t.m01; m12 = x }) e
-
 -- what is known of lists that a shape tells, be they a symbol or not
 pub record TellsAll (x : Shape) (s : Symbol) : Type 0 where
   pub tells : Tells x s
@@ -161,7 +153,7 @@ tells_once x s t a b =
     let vertices : u.vertices ≡ v.vertices = cells_unique t Vertex u.vertices v.vertices (cells_same s t same Vertex u.vertices u.are_vertices) v.are_vertices in
     let m01_at : map (item s.m01) u.tiles ≡ map (item t.m01) u.tiles = sym u.m01 ∙ v.m01 ∙ ap (map (item t.m01)) (sym tiles) in
     let m12_at : map (item s.m12) u.vertices ≡ map (item t.m12) u.vertices = sym u.m12 ∙ v.m12 ∙ ap (map (item t.m12)) (sym vertices) in
-    same_lists s t size (lists Zero) (lists One) (lists Two)
+    same_fields s t size (lists Zero) (lists One) (lists Two)
     (same_items s.m01 t.m01 s.size a.m01_length (b.m01_length ∙ sym size)
     (λ d low high. degrees_agree s t a.images.involutions same Tile u.tiles (a.constant Tile) (b.constant Tile) u.are_tiles m01_at d (low, omega arith)))
     (same_items s.m12 t.m12 s.size a.m12_length (b.m12_length ∙ sym size)
