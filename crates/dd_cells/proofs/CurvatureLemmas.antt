@@ -1,9 +1,8 @@
 -- The curvature from the sums of the reciprocals of the degrees.
-use Rattle.std.proofs.Common.{◌≡◌, ◌↔◌, ℕ, ◌+◌, ◌-◌, ◌*◌, ◌/◌, ◌≤◌, ℤ, pos, ◌-ℤ◌, ◌*ℤ◌, nat_abs, List, [], ◌∷◌, length, map, sym, ap, ◌∙◌, ⊎_elim, arith}
+use Rattle.std.proofs.Common.{◌≡◌, ◌↔◌, ℕ, ◌+◌, ◌-◌, ◌*◌, ◌/◌, ◌≤◌, ℤ, pos, ◌-ℤ◌, ◌*ℤ◌, nat_abs, List, [], ◌∷◌, length, sym, ap, ◌∙◌, ⊎_elim, arith}
 use Rattle.std.specs.List.{Contains, sum_by}
 use borrow.Author.Differences.{up, down}
 use Rattle.std.proofs.lemmas.Int.{ints}
-use Rattle.std.proofs.lemmas.List.{get_or-map, length-map}
 use Rattle.std.proofs.lemmas.List.Elements.{Contains-get_or}
 use Rattle.dd_model.specs.declared.pair.Pair.TheVariants.{Tile, Vertex}
 use Rattle.dd_model.specs.Symbol.{Symbol, IsTable, IsSymbol, degree, item}
@@ -11,7 +10,6 @@ use Rattle.dd_model.specs.Code.{chambers, count_from}
 use Rattle.dd_model.specs.Flat.{product, all_degrees, reciprocals, Flat}
 use Rattle.dd_model.proofs.Codes.{items_again}
 use Rattle.dd_model.proofs.AllDegrees.{all_degrees_positive}
-use Rattle.dd_model.proofs.CountFrom.{length-count_from, item-count_from}
 use Rattle.dd_model.proofs.Lists.{Contains-cases}
 use Rattle.dd_cells.specs.Curvature.{IsCurvature, IsReciprocalSum}
 use Rattle.dd_cells.specs.Fraction.{Divides, IsReduced, IsQuotient}

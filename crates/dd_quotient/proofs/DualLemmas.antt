@@ -1,20 +1,17 @@
 -- The dual of a connected symbol is one.
-use Rattle.std.proofs.Common.{◌≡◌, ℕ, zero, suc, [], ◌∷◌, length, map, refl, sym, ap, ◌∙◌, subst, inl, inr, ⊎_elim, List, arith}
+use Rattle.std.proofs.Common.{◌≡◌, ℕ, zero, suc, [], ◌∷◌, length, refl, sym, ap, ◌∙◌, subst, inl, inr, ⊎_elim, List}
 use Rattle.dd_model.specs.declared.index.Index.{Index}
 use Rattle.dd_model.specs.declared.index.Index.TheVariants.{Zero, One, Two}
 use Rattle.dd_model.specs.declared.pair.Pair.{Pair}
 use Rattle.dd_model.specs.declared.pair.Pair.TheVariants.{Tile, Vertex, Edge}
-use Rattle.dd_model.specs.Symbol.{Symbol, item, IsChamber, AreInvolutions, IsTable, IsSymbol, HasDegree, Word, operation, op, act, first, second, turn, degree}
+use Rattle.dd_model.specs.Symbol.{Symbol, IsChamber, AreInvolutions, IsTable, IsSymbol, HasDegree, Word, operation, op, act, first, second, turn, degree}
 use Rattle.dd_model.specs.Connected.{Connected}
 use Rattle.dd_model.specs.Cell.{IsWordOf, InCell, turned, IsLeastTurns, IsBranching}
 use Rattle.dd_model.specs.Small.{IsSmallSymbol}
 use Rattle.dd_model.proofs.Turns.{turned-suc, turned-last, turned_within}
 use Rattle.dd_model.proofs.Transport.{in_cell_within}
 use Rattle.dd_symbol.specs.Building.{listed, HaveOneLength, IsAccepted}
-use Rattle.dd_model.specs.Code.{count_from}
 use Rattle.dd_model.proofs.Codes.{items_again}
-use Rattle.dd_model.proofs.CountFrom.{length-count_from, item-map-count_from}
-use Rattle.std.proofs.lemmas.List.{length-map}
 use Rattle.dd_quotient.specs.Dual.{dual_of, degrees_of}
 
 abbrev flip : Index → Index
