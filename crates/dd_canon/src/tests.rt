@@ -120,18 +120,40 @@ fn torus(alloc: Global, squares: u32, step: u32) -> Result<Connected, Fail>
     Ok(build(alloc, [s0, s1, s2], m01, m12, 16384)?)
 }
 
+/// Whether the least form of a symbol is least, and its own least form.
+fn has_one_form(alloc: Global, s: &Connected) -> Result<bool, Fail> {
+    let form = least_form(alloc, s)?;
+    let again = least_form(alloc, &form)?;
+    Ok(is_least(alloc, &form)? && cmp_code(form.symbol(), again.symbol()).is_eq())
+}
+
+fn are_isomorphic(alloc: Global, a: &Connected, b: &Connected) -> Result<bool, Fail> {
+    Ok(isomorphic(alloc, a, b)?.is_some())
+}
+
 #[test]
 fn torus_of_97_squares(rt: HostRuntime) -> Result<(), Fail> {
     let alloc = rt.alloc();
+    let torus = torus(alloc, 97, 5)?;
+    assert!(rt; !is_least(alloc, &torus)?);
+    assert!(rt; has_one_form(alloc, &torus)?);
+    Ok(())
+}
+
+#[test]
+fn tori_of_as_many_squares(rt: HostRuntime) -> Result<(), Fail> {
+    let alloc = rt.alloc();
     let a = torus(alloc, 97, 1)?;
     let b = torus(alloc, 97, 5)?;
-    let form = least_form(alloc, &a)?;
-    assert!(rt; is_least(alloc, &form)?);
-    assert!(rt; !is_least(alloc, &b)?);
-    assert!(rt; isomorphic(alloc, &a, &b)?.is_some());
-    let again = least_form(alloc, &form)?;
-    assert!(rt; cmp_code(form.symbol(), again.symbol()).is_eq());
+    assert!(rt; are_isomorphic(alloc, &a, &b)?);
+    Ok(())
+}
+
+#[test]
+fn tori_of_more_squares(rt: HostRuntime) -> Result<(), Fail> {
+    let alloc = rt.alloc();
+    let longer = torus(alloc, 97, 1)?;
     let shorter = torus(alloc, 96, 1)?;
-    assert!(rt; isomorphic(alloc, &a, &shorter)?.is_none());
+    assert!(rt; !are_isomorphic(alloc, &longer, &shorter)?);
     Ok(())
 }
