@@ -15,11 +15,11 @@ use Rattle.dd_model.specs.Wanted.{IsMember, IsCrystallographic}
 use Rattle.dd_model.proofs.Branching.{branching_exists, degree_same}
 use Rattle.dd_model.proofs.CellWalks.{in_cell-refl}
 use Rattle.dd_model.proofs.Turns.{least_turns_unique}
-use Rattle.dd_invol.specs.Table.{HaveSameInvolutions}
+use Rattle.dd_model.specs.Involutions.{HaveSameInvolutions}
 use Rattle.dd_invol.specs.Under.{AreUnder, Appends}
 use Rattle.dd_invol.proofs.Follows.{member_orderly}
 use Rattle.dd_invol.proofs.Places.{length-code, chamber_at}
-use Rattle.dd_invol.proofs.SameInvolutions.{in_cell-same, least_turns-same}
+use Rattle.dd_model.proofs.SameInvolutions.{in_cell-same, least_turns-same}
 use Rattle.dd_invol.proofs.TableFronts.{front_same, front_begins, begins_with_take}
 use Rattle.dd_branch.specs.Choice.{IsChoice}
 use Rattle.dd_branch.specs.Reciprocals.{degree_unit, AreReciprocals}

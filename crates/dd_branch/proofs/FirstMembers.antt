@@ -13,7 +13,7 @@ use Rattle.dd_model.proofs.Lists.{Contains-none, Contains-one, all_from_members,
 use Rattle.dd_model.proofs.Orders.{not_below_itself, not_below_both}
 use Rattle.dd_invol.specs.Opening.{IsOpening}
 use Rattle.dd_invol.proofs.OpeningLaws.{covered}
-use Rattle.dd_branch.specs.Joined.{AreUnderJobs, IsPartBelow, AreFirstMembers}
+use Rattle.dd_model.specs.Joined.{AreUnderJobs, IsPartBelow, AreFirstMembers}
 use Rattle.dd_branch.proofs.JoinedLists.{under_append, under_one, under_below, opening_as_long}
 
 -- An ascending list that has the members of another, and besides Contains-one symbols that come after all of these, begins with it.

@@ -18,7 +18,7 @@ use Rattle.dd_model.proofs.Lists.{Contains-none, Contains-one, each_of}
 use Rattle.dd_invol.specs.Opening.{IsOpening}
 use Rattle.dd_invol.proofs.Ascending.{ascending-append}
 use Rattle.dd_invol.proofs.OpeningLaws.{covered}
-use Rattle.dd_branch.specs.Joined.{AreUnderInTurn, joined, AreUnderJobs, IsPartBelow}
+use Rattle.dd_model.specs.Joined.{AreUnderInTurn, joined, AreUnderJobs, IsPartBelow}
 
 less_or_same : (a b : Ordering) → ordering_then a b ≡ Less → (a ≡ Less) ⊎ ((a ≡ Equal) × (b ≡ Less))
 less_or_same Less b e = inl refl

@@ -5,4 +5,3 @@ pub mod Rests
 pub mod Assignment
 pub mod Members
 pub mod Descent
-pub mod Joined

@@ -4,7 +4,7 @@ use Rattle.std.specs.List.{Contains}
 use Rattle.dd_model.specs.declared.requests.Request.{Request}
 use Rattle.dd_model.specs.Symbol.{Symbol}
 use Rattle.dd_model.specs.Wanted.{IsAscending, IsMember}
-use Rattle.dd_invol.specs.Table.{HaveSameInvolutions}
+use Rattle.dd_model.specs.Involutions.{HaveSameInvolutions}
 
 -- all of them, ascending
 pub record AreMembersWith (q : Request) (t : Symbol) (ss : List Symbol) : Type 0 where

@@ -9,7 +9,7 @@ ghost use Rattle.dd_model.specs.Wanted.{IsCatalogue};
 ghost use Rattle.dd_model.specs.declared.jobs.Job.{Job};
 ghost use Rattle.dd_model.specs.declared.requests.Request.{Request};
 ghost use Rattle.dd_invol.specs.Opening.{IsOpening};
-ghost use Rattle.dd_branch.specs.Joined.{AreUnderInTurn, joined};
+ghost use Rattle.dd_model.specs.Joined.{AreUnderInTurn, joined};
 
 /// Where each chamber of a flat symbol has two shares, no more than some number divided by its two
 /// degrees, twice the sum of all shares is at most that number for each chamber.

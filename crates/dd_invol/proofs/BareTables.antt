@@ -26,12 +26,13 @@ use Rattle.dd_model.proofs.Carried.{branching-along}
 use Rattle.dd_model.proofs.CellWalks.{has_period}
 use Rattle.dd_model.proofs.LeastForms.{below_back, not_above, copy_is_symbol}
 use Rattle.dd_invol.specs.Orderly.{IsOrderly}
-use Rattle.dd_invol.specs.Table.{HaveSameInvolutions, IsUnbranched}
+use Rattle.dd_invol.specs.Table.{IsUnbranched}
+use Rattle.dd_model.specs.Involutions.{HaveSameInvolutions}
 use Rattle.dd_invol.specs.Walk.{IsListed, HasTable}
 use Rattle.dd_invol.proofs.Ascending.{begins_at, begins_from}
 use Rattle.dd_invol.proofs.Places.{length-code}
 use Rattle.dd_invol.proofs.Follows.{member_orderly}
-use Rattle.dd_invol.proofs.SameInvolutions.{op-same, same-sym, chamber-same, involutions-same, connected-same, in_cell-same, period-same}
+use Rattle.dd_model.proofs.SameInvolutions.{op-same, same-sym, chamber-same, involutions-same, connected-same, in_cell-same, period-same}
 use Rattle.dd_invol.proofs.TableFronts.{agreeing_from_same, front_same}
 use Rattle.dd_invol.proofs.TableLemmas.{commuting-same}
 use Rattle.dd_invol.proofs.Unbranched.{HasPeriods, symbol_of_periods, unbranched_of_periods, unbranched_unique}

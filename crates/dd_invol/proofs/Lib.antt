@@ -16,7 +16,6 @@ pub mod JobLists
 pub mod OpeningLaws
 pub mod Extensions
 pub mod Stems
-pub mod SameInvolutions
 pub mod TableFronts
 pub mod Unbranched
 pub mod TableLemmas

@@ -14,11 +14,12 @@ use Rattle.dd_model.specs.Code.{code, count_from}
 use Rattle.dd_model.proofs.Turns.{turned-last, period_bound}
 use Rattle.dd_model.proofs.CountFrom.{count_from-more}
 use Rattle.dd_invol.specs.Places.{place}
-use Rattle.dd_invol.specs.Table.{AreChambers, ArePeriods, HaveSameInvolutions, HasNoTable, IsBareTable, IsTableOf, IsUnbranched, images_of, told}
+use Rattle.dd_invol.specs.Table.{AreChambers, ArePeriods, HasNoTable, IsBareTable, IsTableOf, IsUnbranched, images_of, told}
+use Rattle.dd_model.specs.Involutions.{HaveSameInvolutions}
 use Rattle.dd_invol.proofs.Ascending.{begins_at}
 use Rattle.dd_invol.proofs.Places.{chamber_at}
 use Rattle.dd_invol.proofs.TableFronts.{told_at, told_same, told_begins, lengths_told, length-images_of, place_inside}
-use Rattle.dd_invol.proofs.SameInvolutions.{chamber-same, involutions-same, connected-same, turned-same, period-same}
+use Rattle.dd_model.proofs.SameInvolutions.{chamber-same, involutions-same, connected-same, turned-same, period-same}
 use Rattle.dd_invol.proofs.Unbranched.{HasPeriods, unbranched_of_periods, small_of_periods}
 use Rattle.dd_symbol.specs.Building.{listed, HaveOneLength, IsAccepted}
 

@@ -10,8 +10,9 @@ use Rattle.dd_model.proofs.Codes.{same_items}
 use Rattle.dd_model.proofs.CellWalks.{in_cell-refl, in_cell-first, in_cell-second}
 use Rattle.dd_model.proofs.Turns.{IsLeastTurns-from_period, least_turns_unique}
 use Rattle.dd_model.proofs.Numbers.{quotient_bound}
-use Rattle.dd_invol.specs.Table.{IsUnbranched, HaveSameInvolutions}
-use Rattle.dd_invol.proofs.SameInvolutions.{chamber-same, least_turns-same}
+use Rattle.dd_invol.specs.Table.{IsUnbranched}
+use Rattle.dd_model.specs.Involutions.{HaveSameInvolutions}
+use Rattle.dd_model.proofs.SameInvolutions.{chamber-same, least_turns-same}
 
 -- each degree of a pair is the least number of turns that fixes the chamber
 pub record HasPeriods (s : Symbol) (p : Pair) : Type 0 where

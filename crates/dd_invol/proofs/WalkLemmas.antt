@@ -19,7 +19,8 @@ use Rattle.dd_model.proofs.LeastForms.{not_above}
 use Rattle.dd_model.proofs.Orders.{list_not_below_both}
 use Rattle.dd_invol.specs.Orderly.{IsOrderly}
 use Rattle.dd_invol.specs.Stem.{Any, prefix_of, size_of}
-use Rattle.dd_invol.specs.Table.{HaveSameInvolutions, HasNoTable, IsTableOf}
+use Rattle.dd_invol.specs.Table.{HasNoTable, IsTableOf}
+use Rattle.dd_model.specs.Involutions.{HaveSameInvolutions}
 use Rattle.dd_invol.specs.Under.{IsUnder, HasNothingUnder, HasNoNumberFrom, SkipsTo, next_number}
 use Rattle.dd_invol.specs.Walk.{IsSought, IsListed, IsPast, IsNext, HasNoneLeft, IsLeastNext, here}
 use Rattle.dd_invol.proofs.Ascending.{begins_at, begins_length, begins_from, begins_more, begins_less, agree_from, less_at}

@@ -23,13 +23,6 @@ pub record IsBareTable (s : Symbol) : Type 0 where
   pub unbranched : IsUnbranched s
   pub small : s.size ≤ 36
 
--- as many chambers, and the same three involutions
-pub record HaveSameInvolutions (s t : Symbol) : Type 0 where
-  pub size : t.size ≡ s.size
-  pub s0 : t.s0 ≡ s.s0
-  pub s1 : t.s1 ≡ s.s1
-  pub s2 : t.s2 ≡ s.s2
-
 -- no connected table of n chambers in which s0 s2 s0 s2 moves no chamber has a code that begins with the numbers
 abbrev pub HasNoTable : ℕ → List ℕ → Type 0
 HasNoTable n numbers = (s : Symbol) → IsTable s → Connected s → ((d : ℕ) → IsChamber s d → HasDegree s Edge d) → s.size ≡ n → Begins numbers (code s) → ⊥

@@ -16,7 +16,8 @@ use Rattle.dd_model.specs.Wanted.{AtMost, IsAscending}
 use Rattle.dd_model.specs.declared.requests.Request.{Request}
 use Rattle.dd_model.specs.declared.jobs.Job.{Job}
 use Rattle.dd_invol.specs.Stem.{prefix_of, size_of}
-use Rattle.dd_invol.specs.Table.{IsUnbranched, HaveSameInvolutions}
+use Rattle.dd_invol.specs.Table.{IsUnbranched}
+use Rattle.dd_model.specs.Involutions.{HaveSameInvolutions}
 use Rattle.dd_invol.specs.declared.stem.Stem.{Stem}
 
 -- what a request asks of a table: that no renumbering is smaller, and that it has no more tiles and vertices than asked for

@@ -7,7 +7,7 @@ ghost use Rattle.dd_model.specs.declared.jobs.Job.{Job};
 ghost use Rattle.dd_model.specs.declared.requests.Request.{Request};
 ghost use Rattle.dd_model.specs.Jobs.{IsMemberUnder};
 ghost use Rattle.dd_invol.specs.Opening.{IsOpeningJob, IsCoveredBy};
-ghost use Rattle.dd_invol.specs.Table.{HaveSameInvolutions};
+ghost use Rattle.dd_model.specs.Involutions.{HaveSameInvolutions};
 ghost use Rattle.dd_invol.specs.Walk.{IsListed, HasTable};
 
 /// The code of each connected least symbol begins with exactly one prefix of the opening.

@@ -47,3 +47,4 @@ pub mod LeastForms
 pub mod ReadingExamples
 pub mod WrittenLines
 pub mod WrittenNumbers
+pub mod SameInvolutions

@@ -25,6 +25,15 @@ abbrev pub AreAscendingJobs : List Job → Type 0
 AreAscendingJobs [] = Unit {0}
 AreAscendingJobs (j ∷ js) = AllByRecursion (IsJobBelow j) js × AreAscendingJobs js
 
+-- where the sizes are equal, neither prefix begins the other
+abbrev pub AreJobsApart : Job → Job → Type 0
+AreJobsApart j k = j.size ≡ k.size → (¬ Begins j.prefix k.prefix) × (¬ Begins k.prefix j.prefix)
+
+-- each is apart from all that follow it
+abbrev pub AreApart : List Job → Type 0
+AreApart [] = Unit {0}
+AreApart (j ∷ js) = AllByRecursion (AreJobsApart j) js × AreApart js
+
 -- the job with one number more at the end of its prefix
 abbrev pub extended : Job → ℕ → Job
 extended job k = record { size = job.size; prefix = job.prefix ++ k ∷ [] }

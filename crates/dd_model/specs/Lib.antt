@@ -20,3 +20,5 @@ pub mod Parts
 pub mod Spelling
 pub mod Reading
 pub mod Jobs
+pub mod Joined
+pub mod Involutions

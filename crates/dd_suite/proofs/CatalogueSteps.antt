@@ -11,7 +11,7 @@ use Rattle.dd_model.proofs.Texts.{all_from_beginning, without_unique}
 use Rattle.dd_ports.specs.Causes.{Rose}
 use Rattle.dd_ports.specs.Grows.{GrowsByPrefix}
 use Rattle.dd_invol.specs.Opening.{IsOpening}
-use Rattle.dd_branch.specs.Joined.{AreUnderJobs}
+use Rattle.dd_model.specs.Joined.{AreUnderJobs}
 use Rattle.dd_branch.proofs.JoinedLists.{under_none, opening_whole}
 use Rattle.dd_branch.proofs.FirstMembers.{catalogue_begins, under_first_jobs, under_next_job}
 use Rattle.dd_suite.specs.Catalogue.{AppendsText, AppendsFirstLines}

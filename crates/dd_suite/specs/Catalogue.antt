@@ -4,7 +4,7 @@ use Rattle.std.specs.Io.KnownBytes.{Appends}
 use Rattle.dd_model.specs.Symbol.{Symbol}
 use Rattle.dd_model.specs.Text.{IsText, AreLines, beginning}
 use Rattle.dd_model.specs.declared.requests.Request.{Request}
-use Rattle.dd_branch.specs.Joined.{AreFirstMembers}
+use Rattle.dd_model.specs.Joined.{AreFirstMembers}
 
 -- the number of the last line that is written
 abbrev pub most_lines : ℕ

@@ -1,4 +1,4 @@
-use Rattle.dd_branch.specs.Joined.{joined}
+use Rattle.dd_model.specs.Joined.{joined}
 use Rattle.dd_branch.proofs.JoinedLists.{in_turn_joined, opening_as_long, opening_whole}
 use Rattle.dd_branch.proofs.laws.lists_under_an_opening_are_the_catalogue.Goals as goal
 

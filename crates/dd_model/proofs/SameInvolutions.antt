@@ -6,7 +6,7 @@ use Rattle.dd_model.specs.declared.index.Index.TheVariants.{Zero, One, Two}
 use Rattle.dd_model.specs.Symbol.{Symbol, Word, IsChamber, AreInvolutions, op, act, degree, power, turn}
 use Rattle.dd_model.specs.Connected.{Connected}
 use Rattle.dd_model.specs.Cell.{InCell, IsPeriod, IsLeastTurns, IsBranching, turned}
-use Rattle.dd_invol.specs.Table.{HaveSameInvolutions}
+use Rattle.dd_model.specs.Involutions.{HaveSameInvolutions}
 
 pub op-same : (s t : Symbol) → HaveSameInvolutions s t → (i : Index) (d : ℕ) → op t i d ≡ op s i d
 op-same s t h i d = elim i as (λ j. op t j d ≡ op s j d) [ Zero ↦ cc (h.s0) | One ↦ cc (h.s1) | Two ↦ cc (h.s2) ]

@@ -4,7 +4,7 @@ use Rattle.std.specs.List.{AllByRecursion, Contains}
 use Rattle.dd_model.specs.Symbol.{Symbol}
 use Rattle.dd_model.specs.Code.{IsBelow}
 use Rattle.dd_model.specs.Wanted.{IsMember, IsAscending}
-use Rattle.dd_model.specs.Jobs.{IsJobBelow, IsMemberUnder, AreMembersUnder}
+use Rattle.dd_model.specs.Jobs.{IsJobBelow, AreJobsApart, IsMemberUnder, AreMembersUnder}
 use Rattle.dd_model.specs.declared.requests.Request.{Request}
 use Rattle.dd_model.specs.declared.jobs.Job.{Job}
 
@@ -31,10 +31,10 @@ pub record AreUnderJobs (q : Request) (jobs : List Job) (ss : List Symbol) : Typ
   pub ascending : IsAscending ss
   pub members : (s : Symbol) → Contains ss s ↔ IsUnderOne q jobs s
 
--- j comes before k, and where they have one size their prefixes are equally long
+-- j comes before k, and neither is a part of the other
 pub record IsPartBelow (j k : Job) : Type 0 where
   pub below : IsJobBelow j k
-  pub as_long : j.size ≡ k.size → length j.prefix ≡ length k.prefix
+  pub apart : AreJobsApart j k
 
 -- the first members of a catalogue: each other member comes after all of them
 pub record AreFirstMembers (q : Request) (ss : List Symbol) : Type 0 where

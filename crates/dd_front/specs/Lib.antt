@@ -1,0 +1,5 @@
+pub mod Machine
+pub mod Allowed
+pub mod Step
+pub mod Covered
+pub mod Absorbed

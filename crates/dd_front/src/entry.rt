@@ -1,0 +1,24 @@
+use crate::members::Members;
+use dd_model::Job;
+
+/// How far a job is.
+#[derive(Drop)]
+pub enum State {
+    /// It waits.
+    Open,
+    /// A worker has it.
+    Out,
+    /// These are the members under it, ascending.
+    Done(Members),
+}
+
+/// A job with its number and its state.
+#[derive(Drop)]
+pub struct Entry {
+    /// Entries are counted from 1.
+    pub number: u64,
+    /// What is looked for.
+    pub job: Job,
+    /// How far it is.
+    pub state: State,
+}
