@@ -11,7 +11,7 @@ use Rattle.dd_model.specs.Code.{chambers}
 use Rattle.dd_model.specs.Cell.{InCell, turned, IsLeastOfCell, AreCells}
 use Rattle.dd_cells.specs.Euler.{orbits}
 use Rattle.dd_model.proofs.Turns.{turned-last, period_bound}
-use Rattle.dd_model.proofs.CellWalks.{IsMet, met_cases, met_from_in_cell, period_from_first_return, in_cell-turned, in_cell-first}
+use Rattle.dd_model.proofs.CellWalks.{next_place, IsMet, met_cases, met_from_in_cell, period_from_first_return, in_cell-turned, in_cell-first}
 use Rattle.dd_model.proofs.CellLists.{AreCellsBelow, cells_below-push, cells_below-skip, cells_below-end, cells_unique}
 use Rattle.dd_model.proofs.CountFrom.{length-count_from, get_or-count_from}
 
@@ -24,12 +24,6 @@ pub record IsWalked (s : Symbol) (p : Pair) (d k place : ℕ) : Type 0 where
   pub low : d ≤ place
   pub above : (e : ℕ) → IsMet s p d k e → d ≤ e
   pub unfixed : (j : ℕ) → 1 ≤ j → j < k + 1 → turned s p j d ≡ d → ⊥
-
--- the next place is a turn further
-pub next_place : (s : Symbol) (p : Pair) (d k place : ℕ) → place ≡ turned s p k d → op s (second p) (op s (first p) place) ≡ turned s p (k + 1) d
-next_place s p d k place is =
-    let e : suc k ≡ k + 1 = omega arith in
-    ap (act s (turn p)) is ∙ sym (turned-last s p k d) ∙ ap (λ j. turned s p j d) e
 
 -- no smaller chamber is met in one turn more
 above_more : (s : Symbol) (p : Pair) (d k place : ℕ) → IsWalked s p d k place → d ≤ op s (first p) place → (e : ℕ) → IsMet s p d (k + 1) e → d ≤ e

@@ -4,7 +4,6 @@ pub mod CellUniqueness
 pub mod ChainLemmas
 pub mod CellSizes
 pub mod CellSums
-pub mod FreeWalks
 pub mod FractionLemmas
 pub mod ReciprocalSums
 pub mod CurvatureLemmas

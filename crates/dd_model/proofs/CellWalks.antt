@@ -22,6 +22,12 @@ pub letters-turns : (p : Pair) (k : ℕ) → IsWordOf p (power (turn p) k)
 letters-turns p zero = tt
 letters-turns p (suc k) = letters-append p (turn p) (power (turn p) k) (inl refl, (inr refl, tt)) (letters-turns p k)
 
+-- the next place is a turn further
+pub next_place : (s : Symbol) (p : Pair) (d k place : ℕ) → place ≡ turned s p k d → op s (second p) (op s (first p) place) ≡ turned s p (k + 1) d
+next_place s p d k place is =
+    let e : suc k ≡ k + 1 = omega arith in
+    ap (act s (turn p)) is ∙ sym (turned-last s p k d) ∙ ap (λ j. turned s p j d) e
+
 -- ## To lie in one cell is an equivalence of chambers
 
 pub in_cell-refl : (s : Symbol) (p : Pair) (d : ℕ) → InCell s p d d

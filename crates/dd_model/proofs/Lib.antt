@@ -48,3 +48,4 @@ pub mod ReadingExamples
 pub mod WrittenLines
 pub mod WrittenNumbers
 pub mod SameInvolutions
+pub mod FreeWalks

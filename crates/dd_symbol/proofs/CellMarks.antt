@@ -12,7 +12,7 @@ use Rattle.dd_model.proofs.Turns.{turned_within}
 use Rattle.dd_model.proofs.Transport.{in_cell_within}
 use Rattle.dd_model.proofs.CellWalks.{IsMet, in_cell-refl, in_cell-sym, in_cell-trans, in_cell-first, in_cell-turned}
 use Rattle.dd_model.proofs.CellSearch.{decide_in_cell, least_of_cell_unique}
-use Rattle.dd_symbol.specs.Degrees.{IsLeastFor}
+use Rattle.dd_symbol.specs.Cells.{IsLeastFor}
 
 -- ## Marking one cell
 

@@ -10,7 +10,7 @@ use Rattle.dd_model.proofs.Transport.{HaveLengths, in_cell_within}
 use Rattle.dd_model.proofs.Turns.{period_divides, period_turns, IsLeastTurns-from_period, least_turns_unique}
 use Rattle.dd_model.proofs.CellWalks.{has_period, in_cell-refl, in_cell-sym, in_cell-trans, in_cell-first, in_cell-second}
 use Rattle.dd_model.proofs.CellSearch.{has_least}
-use Rattle.dd_symbol.specs.Degrees.{IsLeastFor}
+use Rattle.dd_symbol.specs.Cells.{IsLeastFor}
 use Rattle.dd_symbol.specs.Causes.{PairBefore}
 use Rattle.dd_symbol.specs.Conditions.{IsMultiple, IsSmall, HasDegreeOfCell, AreConnected, ArePositive, AreConstant, AreMultiples, AreSmall, OfBoth}
 use Rattle.dd_model.proofs.Branching.{turns-along}

@@ -4,6 +4,7 @@ pub mod CellMarks
 pub mod DegreeLemmas
 pub mod RefusalLemmas
 pub mod RefusalRows
-pub mod SmallLemmas
 pub mod MapLemmas
 pub mod RenumberLemmas
+pub mod CellShapes
+pub mod SameCells

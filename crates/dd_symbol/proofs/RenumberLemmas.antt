@@ -1,17 +1,18 @@
 -- A symbol under other numbers is isomorphic, and as small.
-use Rattle.std.proofs.Common.{◌≡◌, ℕ, ◌-◌, List, ◌++◌, length, map, refl, sym, ap, ◌∙◌, subst, arith}
-use Rattle.std.proofs.lemmas.List.{get_or-map, length-map}
+use Rattle.std.proofs.Common.{◌≡◌, ℕ, ◌-◌, List, map, sym, ap, ◌∙◌, subst, arith}
+use Rattle.std.proofs.lemmas.List.{get_or-map}
 use Rattle.dd_model.specs.declared.pair.Pair.TheVariants.{Tile, Vertex}
 use Rattle.dd_model.specs.declared.index.Index.{Index}
+use Rattle.dd_model.specs.declared.index.Index.TheVariants.{Zero, One, Two}
 use Rattle.dd_model.specs.Symbol.{Symbol, AreInvolutions, IsChamber, item, op, degree}
 use Rattle.dd_model.specs.Isomorphic.{IsIsomorphism}
 use Rattle.dd_model.proofs.Isomorphisms.{inverse_isomorphism}
 use Rattle.dd_model.proofs.Transport.{HaveLengths, IsSymbol-along, degree-along, least_turns-along}
 use Rattle.dd_model.specs.Small.{IsSmallSymbol}
-use Rattle.dd_symbol.specs.Maps.{AreInverse}
-use Rattle.dd_symbol.specs.Table.{symbol_with}
+use Rattle.dd_symbol.specs.Maps.{AreInverse, IsCarried}
 use Rattle.dd_symbol.specs.Rows.{HasRows}
-use Rattle.dd_symbol.proofs.TableLemmas.{op-rows, m01-rows, m12-rows}
+use Rattle.dd_symbol.specs.Images.{of_rows, with_degrees, AreThreeInvolutions}
+use Rattle.dd_symbol.proofs.TableLemmas.{op-rows, three_of_rows}
 
 pub isomorphism : (s t : Symbol) (f g : List ℕ) → AreInvolutions s → AreInverse s.size f g → t.size ≡ s.size
     → ((i : Index) (e : ℕ) → IsChamber s e → op t i e ≡ item f (op s i (item g e)))
@@ -30,23 +31,64 @@ isomorphism s t f g inv maps size ops m01 m12 = record {
   };
 }
 
--- the symbol of the images that a map carries and the degrees in the order of the map back
-pub isomorphism-rows : (s : Symbol) (f g xs ys zs : List ℕ) → AreInvolutions s → AreInverse s.size f g
-    → HasRows (λ i e. item f (op s i (item g e))) s.size xs → ys ≡ xs ++ map (degree s Tile) g → zs ≡ ys ++ map (degree s Vertex) g
-    → IsIsomorphism s (symbol_with s.size zs) f
-isomorphism-rows s f g xs ys zs inv maps rows ey ez =
-    let n = s.size in
-    let m01 = map (degree s Tile) g in
-    let m12 = map (degree s Vertex) g in
-    let l01 : length m01 ≡ n = length-map g (degree s Tile) ∙ maps.back_images in
-    let l12 : length m12 ≡ n = length-map g (degree s Vertex) ∙ maps.back_images in
-    let all : zs ≡ xs ++ m01 ++ m12 = ez ∙ ap (λ us. us ++ m12) ey in
-    let l = maps.back_images in
-    subst (λ us. IsIsomorphism s (symbol_with n us) f) (sym all)
-    (isomorphism s (symbol_with n (xs ++ m01 ++ m12)) f g inv maps refl
-    (λ i e h. op-rows (λ j x. item f (op s j (item g x))) n xs m01 m12 rows i e h.0 h.1)
-    (λ e h. ap (λ us. item us e) (m01-rows n xs m01 m12 rows.rows l01) ∙ get_or-map (degree s Tile) g (e - 1) 0 0 (let low = h.0 in let high = h.1 in omega arith))
-    (λ e h. ap (λ us. item us e) (m12-rows n xs m01 m12 rows.rows l01 l12) ∙ get_or-map (degree s Vertex) g (e - 1) 0 0 (let low = h.0 in let high = h.1 in omega arith)))
+-- involutions that a map carries are involutions
+pub carried_involutions : (s t : Symbol) (f g : List ℕ) → AreInvolutions s → AreInverse s.size f g → IsCarried s t f g → AreInvolutions t
+carried_involutions s t f g inv maps is i = record {
+  within = λ d h.
+      let size = is.size in
+      let e = inside d h in
+      let there = maps.left.within (op s i (item g d)) ((inv i).within (item g d) e).0 ((inv i).within (item g d) e).1 in
+      subst (IsChamber t) (sym (is.images i d (old d h))) (there.0, omega (arith, there.1, size));
+  involutive = λ d h.
+      let e = inside d h in
+      let there = maps.left.within (op s i (item g d)) ((inv i).within (item g d) e).0 ((inv i).within (item g d) e).1 in
+      let back : item g (op t i d) ≡ op s i (item g d) =
+      ap (item g) (is.images i d (old d h)) ∙ maps.left.undone (op s i (item g d)) ((inv i).within (item g d) e).0 ((inv i).within (item g d) e).1 in
+      is.images i (op t i d) (subst (IsChamber s) (sym (is.images i d (old d h))) there)
+      ∙ ap (λ x. item f (op s i x)) back ∙ ap (item f) ((inv i).involutive (item g d) e) ∙ maps.right.undone d h.0 (old d h).1;
+} where
+  old : (d : ℕ) → IsChamber t d → IsChamber s d
+  old d h = let size = is.size in (h.0, omega (arith, h.1, size))
+  inside : (d : ℕ) → IsChamber t d → IsChamber s (item g d)
+  inside d h = maps.right.within d h.0 (old d h).1
+
+-- the rows that a map carries
+pub carried_rows : (s : Symbol) (f g xs : List ℕ) (n : ℕ) → n ≡ s.size → HasRows (λ i e. item f (op s i (item g e))) s.size xs → IsCarried s (of_rows n xs) f g
+carried_rows s f g xs n size rows = record {
+  size = size;
+  images = λ i e h. op-rows (λ j x. item f (op s j (item g x))) n xs (subst (λ k. HasRows (λ j x. item f (op s j (item g x))) k xs) (sym size) rows) i e h.0
+      (let high = h.1 in omega arith);
+}
+
+pub three_carried : (s : Symbol) (f g xs : List ℕ) (n : ℕ) → AreThreeInvolutions s → AreInverse s.size f g → n ≡ s.size
+    → HasRows (λ i e. item f (op s i (item g e))) s.size xs → AreThreeInvolutions (of_rows n xs)
+three_carried s f g xs n three maps size rows =
+    three_of_rows n xs (let small = three.small in omega arith)
+    (carried_involutions s (of_rows n xs) f g three.involutions maps (carried_rows s f g xs n size rows))
+
+pub carried_with : (s u : Symbol) (f g m01 m12 : List ℕ) → IsCarried s u f g → IsCarried (with_degrees s m01 m12) u f g
+carried_with s u f g m01 m12 is = record {
+  size = is.size;
+  images = λ i e h. elim i as (λ j. op u j e ≡ item f (op (with_degrees s m01 m12) j (item g e))) [
+    | Zero ↦ is.images Zero e h
+    | One ↦ is.images One e h
+    | Two ↦ is.images Two e h
+  ];
+}
+
+-- a symbol with the involutions that a map carries, and the degrees in the order of the map back
+pub isomorphism-carried : (s u : Symbol) (f g m01 m12 : List ℕ) → AreInvolutions s → AreInverse s.size f g → IsCarried s u f g
+    → m01 ≡ map (degree s Tile) g → m12 ≡ map (degree s Vertex) g → IsIsomorphism s (with_degrees u m01 m12) f
+isomorphism-carried s u f g m01 m12 inv maps carried e01 e12 =
+    let long = maps.back_images in
+    isomorphism s (with_degrees u m01 m12) f g inv maps carried.size
+    (λ i e h. elim i as (λ j. op (with_degrees u m01 m12) j e ≡ item f (op s j (item g e))) [
+      | Zero ↦ carried.images Zero e h
+      | One ↦ carried.images One e h
+      | Two ↦ carried.images Two e h
+    ])
+    (λ e h. ap (λ us. item us e) e01 ∙ get_or-map (degree s Tile) g (e - 1) 0 0 (let low = h.0 in let high = h.1 in omega arith))
+    (λ e h. ap (λ us. item us e) e12 ∙ get_or-map (degree s Vertex) g (e - 1) 0 0 (let low = h.0 in let high = h.1 in omega arith))
 
 pub small-along : (s t : Symbol) (f : List ℕ) → IsSmallSymbol s → IsIsomorphism s t f → HaveLengths t → IsSmallSymbol t
 small-along s t f is iso ls =

@@ -1,19 +1,27 @@
--- A code and its symbol give each other back.
+-- Rows and the involutions of them give each other back.
 use Rattle.std.proofs.Common.{◌≡◌, ℕ, zero, suc, ◌+◌, ◌-◌, ◌*◌, ◌<◌, ◌≤◌, List, [], ◌∷◌, ◌++◌, length, get_or, take, drop, refl, sym, ap, ◌∙◌, subst, ⊎_elim, arith}
-use Rattle.std.proofs.lemmas.List.{get_or-map, length-map, get_or-take, get_or-drop, length-take-le, take_all, length-drop, length-append, length_push, take-append-drop, drop-drop, drop_more, append_assoc, get_or_append_left, get_or_push, take_at, drop_at}
+use Rattle.std.proofs.lemmas.List.{get_or-map, length-map, take_all, length-append, length_push, drop_more, get_or_append_left, get_or_push}
 use Rattle.std.proofs.lemmas.Bool.{cases_lt}
 use Rattle.std.specs.List.{flat_map}
+use Rattle.std.specs.Ordering.{nat_cmp, ordering_then}
+use Rattle.std.specs.Cmp.Lexicographic.{slice_cmp}
+use Rattle.std.specs.FinMap.{nat_cmp-IsAntisymmetric}
+use Rattle.std.specs.declared.cmp.Ordering.{Ordering}
+use Rattle.std.specs.declared.cmp.Ordering.TheVariants.{Less, Equal, Greater}
 use Rattle.dd_model.specs.declared.index.Index.{Index}
 use Rattle.dd_model.specs.declared.index.Index.TheVariants.{Zero, One, Two}
-use Rattle.dd_model.specs.Symbol.{item, op, operation}
-use Rattle.dd_model.specs.Code.{count_from, images, code}
+use Rattle.dd_model.specs.Symbol.{Symbol, AreInvolutions, IsChamber, item, op, operation}
+use Rattle.dd_model.specs.Code.{count_from, images, all_images, code, code_cmp}
 use Rattle.dd_model.proofs.CountFrom.{length-count_from, get_or-count_from}
-use Rattle.dd_model.proofs.Codes.{same_items}
-use Rattle.dd_model.proofs.Transport.{HaveLengths}
+use Rattle.dd_model.proofs.Codes.{same_items, length-flat_images}
+use Rattle.dd_symbol.specs.Images.{column, of_rows, with_degrees, AreThreeInvolutions}
+use Rattle.dd_symbol.specs.Table.{symbol_of}
 use Rattle.dd_symbol.specs.declared.table.Table.{Table}
-use Rattle.dd_symbol.specs.Table.{column, part, symbol_with, symbol_of}
+use Rattle.dd_model.specs.Involutions.{HaveSameInvolutions}
+use Rattle.dd_model.proofs.SameInvolutions.{involutions-same}
+use Rattle.dd_model.proofs.Transport.{HaveLengths}
 use Rattle.dd_symbol.specs.Rows.{HasRows}
-use Rattle.dd_symbol.specs.Building.{listed, HaveOneLength}
+use Rattle.dd_symbol.specs.Building.{listed}
 
 -- ## What stands where
 
@@ -33,26 +41,41 @@ item-first xs n d low high =
     let e : 3 * (d - 1) + 0 ≡ 3 * (d - 1) = omega arith in
     item-column xs 0 n d low high ∙ ap (λ k. get_or xs k 0) e
 
-pub item-part : (xs : List ℕ) (k n d : ℕ) → 1 ≤ d → d ≤ n → item (part xs k n) d ≡ get_or xs (k + (d - 1)) 0
-unfolding part
-item-part xs k n d low high = get_or-take n (drop k xs) (d - 1) 0 (omega arith) ∙ get_or-drop k xs (d - 1) 0
+pub lengths : (n : ℕ) (xs : List ℕ) (i : Index) → length (operation (of_rows n xs) i) ≡ n
+lengths n xs i = elim i as (λ j. length (operation (of_rows n xs) j) ≡ n) [
+  | Zero ↦ length-column xs 0 n
+  | One ↦ length-column xs 1 n
+  | Two ↦ length-column xs 2 n
+]
 
-pub length-part : (xs : List ℕ) (k n : ℕ) → k + n ≤ length xs → length (part xs k n) ≡ n
-unfolding part
-length-part xs k n e = length-take-le n (drop k xs) (let l = length-drop k xs in omega arith)
+-- ## Symbols with degrees
 
-pub lengths : (t : Table) → HaveLengths (symbol_of t)
-lengths t = record {
-  lengths = λ i. elim i as (λ j. length (operation (symbol_of t) j) ≡ t.size) [
-    | Zero ↦ length-column t.numbers.items 0 t.size
-    | One ↦ length-column t.numbers.items 1 t.size
-    | Two ↦ length-column t.numbers.items 2 t.size
+pub with_same : (s : Symbol) (m01 m12 : List ℕ) → HaveSameInvolutions s (with_degrees s m01 m12)
+with_same s m01 m12 = record { size = refl; s0 = refl; s1 = refl; s2 = refl }
+
+pub table_lengths : (t : Table) → HaveLengths (symbol_of t)
+table_lengths t = record {
+  lengths = λ i. elim i as (λ j. length (operation (symbol_of t) j) ≡ t.involutions.size) [
+    | Zero ↦ t.three.lengths Zero
+    | One ↦ t.three.lengths One
+    | Two ↦ t.three.lengths Two
   ];
-  m01_length = length-part t.numbers.items (3 * t.size) t.size (let l = t.length in omega arith);
-  m12_length = length-part t.numbers.items (4 * t.size) t.size (let l = t.length in omega arith);
+  m01_length = t.tiles;
+  m12_length = t.vertices;
 }
 
--- ## The code of the symbol of a code
+pub table_involutions : (t : Table) → AreInvolutions (symbol_of t)
+table_involutions t = involutions-same t.involutions (symbol_of t) (with_same t.involutions t.m01.items t.m12.items) t.three.involutions
+
+pub image_within : (s t : Symbol) → AreThreeInvolutions s → s ≡ t → (i : Index) (d r : ℕ) → IsChamber t d → r ≡ op s i d → IsChamber t r
+image_within s t is same i d r h image =
+    let there : IsChamber s (op s i d) = (is.involutions i).within d (subst (λ u. IsChamber u d) (sym same) h) in
+    subst (IsChamber t) (sym image) (subst (λ u. IsChamber u (op s i d)) same there)
+
+pub three_of_rows : (n : ℕ) (xs : List ℕ) → n ≤ 16384 → AreInvolutions (of_rows n xs) → AreThreeInvolutions (of_rows n xs)
+three_of_rows n xs small inv = record { small = small; lengths = lengths n xs; involutions = inv }
+
+-- ## The images of rows
 
 three_more : (xs : List ℕ) (k : ℕ) → 3 * k + 2 < length xs
     → drop (3 * k) xs ≡ get_or xs (3 * k) 0 ∷ get_or xs (3 * k + 1) 0 ∷ get_or xs (3 * k + 2) 0 ∷ drop (3 * (k + 1)) xs
@@ -66,7 +89,7 @@ three_more xs k h =
     ∙ ap (λ j. get_or xs (3 * k) 0 ∷ get_or xs (3 * k + 1) 0 ∷ get_or xs (3 * k + 2) 0 ∷ drop j xs) three
 
 row : (n : ℕ) (xs : List ℕ) (k : ℕ) → k < n
-    → images (symbol_with n xs) (k + 1) ≡ get_or xs (3 * k) 0 ∷ get_or xs (3 * k + 1) 0 ∷ get_or xs (3 * k + 2) 0 ∷ []
+    → images (of_rows n xs) (k + 1) ≡ get_or xs (3 * k) 0 ∷ get_or xs (3 * k + 1) 0 ∷ get_or xs (3 * k + 2) 0 ∷ []
 row n xs k h =
     let place : k + 1 - 1 ≡ k = omega arith in
     let zero_at : item (column xs 0 n) (k + 1) ≡ get_or xs (3 * k) 0 = item-first xs n (k + 1) (omega arith) (omega arith) ∙ ap (λ j. get_or xs (3 * j) 0) place in
@@ -77,76 +100,82 @@ row n xs k h =
     ∙ ap (λ x. get_or xs (3 * k) 0 ∷ get_or xs (3 * k + 1) 0 ∷ x ∷ []) two_at
 
 rows_from : (n : ℕ) (xs : List ℕ) → 3 * n ≤ length xs → (k m : ℕ) → k + m ≡ n
-    → flat_map (images (symbol_with n xs)) (count_from (k + 1) m) ≡ take (3 * m) (drop (3 * k) xs)
+    → flat_map (images (of_rows n xs)) (count_from (k + 1) m) ≡ take (3 * m) (drop (3 * k) xs)
 rows_from n xs long k zero e = refl
 rows_from n xs long k (suc m) e =
     let more : 3 * suc m ≡ suc (suc (suc (3 * m))) = omega arith in
-    let rest = flat_map (images (symbol_with n xs)) (count_from (k + 1 + 1) m) in
+    let rest = flat_map (images (of_rows n xs)) (count_from (k + 1 + 1) m) in
     ap (λ ys. ys ++ rest) (row n xs k (omega arith))
     ∙ ap (λ ys. get_or xs (3 * k) 0 ∷ get_or xs (3 * k + 1) 0 ∷ get_or xs (3 * k + 2) 0 ∷ ys) (rows_from n xs long (k + 1) m (omega arith))
     ∙ sym (ap (take (suc (suc (suc (3 * m))))) (three_more xs k (omega arith)))
     ∙ sym (ap (λ j. take j (drop (3 * k) xs)) more)
 
--- the degrees, one list after the other
-parts : (n : ℕ) (xs : List ℕ) → length xs ≡ 5 * n → part xs (3 * n) n ++ part xs (4 * n) n ≡ drop (3 * n) xs
-unfolding part
-parts n xs e =
-    let four : 3 * n + n ≡ 4 * n = omega arith in
-    let last : take n (drop (4 * n) xs) ≡ drop n (drop (3 * n) xs) =
-    take_all n (drop (4 * n) xs) (let l = length-drop (4 * n) xs in omega arith) ∙ sym (ap (λ k. drop k xs) four) ∙ sym (drop-drop n (3 * n) xs) in
-    ap (λ ys. take n (drop (3 * n) xs) ++ ys) last ∙ take-append-drop n (drop (3 * n) xs)
+-- the images of rows are those rows
+pub images-of_rows : (n : ℕ) (xs : List ℕ) → length xs ≡ 3 * n → all_images (of_rows n xs) ≡ xs
+images-of_rows n xs e = rows_from n xs (omega arith) 0 n (omega arith) ∙ take_all (3 * n) xs (omega arith)
 
--- the code of the symbol of a code is that code
-pub code-symbol_with : (n : ℕ) (xs : List ℕ) → length xs ≡ 5 * n → code (symbol_with n xs) ≡ xs
-code-symbol_with n xs e =
-    let front = flat_map (images (symbol_with n xs)) (count_from 1 n) in
-    let there : front ≡ take (3 * n) xs = rows_from n xs (omega arith) 0 n (omega arith) in
-    append_assoc front (part xs (3 * n) n) (part xs (4 * n) n)
-    ∙ ap (λ ys. front ++ ys) (parts n xs e)
-    ∙ ap (λ ys. ys ++ drop (3 * n) xs) there
-    ∙ take-append-drop (3 * n) xs
+-- ## The involutions of rows
 
-pub code-symbol_of : (t : Table) → code (symbol_of t) ≡ t.numbers.items
-code-symbol_of t = code-symbol_with t.size t.numbers.items t.length
-
--- ## The symbol of rows and two lists of degrees
-
-pub op-rows : (h : Index → ℕ → ℕ) (n : ℕ) (xs ys zs : List ℕ) → HasRows h n xs → (i : Index) (d : ℕ) → 1 ≤ d → d ≤ n
-    → op (symbol_with n (xs ++ ys ++ zs)) i d ≡ h i d
-op-rows h n xs ys zs rows i d low high =
-    let l = rows.rows in
-    let left : (j : ℕ) → j < 3 * n → get_or (xs ++ ys ++ zs) j 0 ≡ get_or xs j 0 = λ j below.
-    ap (λ us. get_or us j 0) (append_assoc xs ys zs) ∙ get_or_append_left xs (ys ++ zs) 0 j (omega arith) in
-    elim i as (λ j. op (symbol_with n (xs ++ ys ++ zs)) j d ≡ h j d) [
-      | Zero ↦ item-first (xs ++ ys ++ zs) n d low high ∙ left (3 * (d - 1)) (omega arith) ∙ rows.zero d low high
-      | One ↦ item-column (xs ++ ys ++ zs) 1 n d low high ∙ left (3 * (d - 1) + 1) (omega arith) ∙ rows.one d low high
-      | Two ↦ item-column (xs ++ ys ++ zs) 2 n d low high ∙ left (3 * (d - 1) + 2) (omega arith) ∙ rows.two d low high
+pub op-rows : (h : Index → ℕ → ℕ) (n : ℕ) (xs : List ℕ) → HasRows h n xs → (i : Index) (d : ℕ) → 1 ≤ d → d ≤ n → op (of_rows n xs) i d ≡ h i d
+op-rows h n xs rows i d low high =
+    elim i as (λ j. op (of_rows n xs) j d ≡ h j d) [
+      | Zero ↦ item-first xs n d low high ∙ rows.zero d low high
+      | One ↦ item-column xs 1 n d low high ∙ rows.one d low high
+      | Two ↦ item-column xs 2 n d low high ∙ rows.two d low high
     ]
 
-pub m01-rows : (n : ℕ) (xs ys zs : List ℕ) → length xs ≡ 3 * n → length ys ≡ n → part (xs ++ ys ++ zs) (3 * n) n ≡ ys
-unfolding part
-m01-rows n xs ys zs lx ly =
-    ap (λ us. take n (drop (3 * n) us)) (append_assoc xs ys zs) ∙ ap (take n) (drop_at xs (ys ++ zs) (3 * n) lx) ∙ take_at ys zs n ly
-
-pub m12-rows : (n : ℕ) (xs ys zs : List ℕ) → length xs ≡ 3 * n → length ys ≡ n → length zs ≡ n → part (xs ++ ys ++ zs) (4 * n) n ≡ zs
-unfolding part
-m12-rows n xs ys zs lx ly lz =
-    ap (take n) (drop_at (xs ++ ys) zs (4 * n) (let l = length-append xs ys in omega arith)) ∙ take_all n zs (omega arith)
-
--- the symbol of five lists
-pub listed-from_rows : (s0 s1 s2 m01 m12 xs : List ℕ) → HaveOneLength (listed s0 s1 s2 m01 m12) → HasRows (op (listed s0 s1 s2 [] [])) (length s0) xs
-    → symbol_with (length s0) (xs ++ m01 ++ m12) ≡ listed s0 s1 s2 m01 m12
-listed-from_rows s0 s1 s2 m01 m12 xs l rows =
+-- the involutions of three lists
+pub listed-from_rows : (s0 s1 s2 xs : List ℕ) → length s1 ≡ length s0 → length s2 ≡ length s0 → HasRows (op (listed s0 s1 s2 [] [])) (length s0) xs
+    → of_rows (length s0) xs ≡ listed s0 s1 s2 [] []
+listed-from_rows s0 s1 s2 xs l1 l2 rows =
     let n = length s0 in
-    let all = xs ++ m01 ++ m12 in
-    let at : (i : Index) (d : ℕ) → 1 ≤ d → d < 1 + n → op (symbol_with n all) i d ≡ op (listed s0 s1 s2 [] []) i d
-    = λ i d low high. op-rows (op (listed s0 s1 s2 [] [])) n xs m01 m12 rows i d low (omega arith) in
-    let e0 : column all 0 n ≡ s0 = same_items (column all 0 n) s0 n (length-column all 0 n) refl (at Zero) in
-    let e1 : column all 1 n ≡ s1 = same_items (column all 1 n) s1 n (length-column all 1 n) l.s1 (at One) in
-    let e2 : column all 2 n ≡ s2 = same_items (column all 2 n) s2 n (length-column all 2 n) l.s2 (at Two) in
-    let e01 : part all (3 * n) n ≡ m01 = m01-rows n xs m01 m12 rows.rows l.m01 in
-    let e12 : part all (4 * n) n ≡ m12 = m12-rows n xs m01 m12 rows.rows l.m01 l.m12 in
-    λ x. record { size = n; s0 = e0 x; s1 = e1 x; s2 = e2 x; m01 = e01 x; m12 = e12 x }
+    let at : (i : Index) (d : ℕ) → 1 ≤ d → d < 1 + n → op (of_rows n xs) i d ≡ op (listed s0 s1 s2 [] []) i d
+    = λ i d low high. op-rows (op (listed s0 s1 s2 [] [])) n xs rows i d low (omega arith) in
+    let e0 : column xs 0 n ≡ s0 = same_items (column xs 0 n) s0 n (length-column xs 0 n) refl (at Zero) in
+    let e1 : column xs 1 n ≡ s1 = same_items (column xs 1 n) s1 n (length-column xs 1 n) l1 (at One) in
+    let e2 : column xs 2 n ≡ s2 = same_items (column xs 2 n) s2 n (length-column xs 2 n) l2 (at Two) in
+    λ x. record { size = n; s0 = e0 x; s1 = e1 x; s2 = e2 x; m01 = []; m12 = [] }
+
+-- ## Codes in parts
+
+then_assoc : (a b c : Ordering) → ordering_then (ordering_then a b) c ≡ ordering_then a (ordering_then b c)
+then_assoc Less b c = refl
+then_assoc Equal b c = refl
+then_assoc Greater b c = refl
+
+-- Lists with parts of one length in front are compared part by part.
+pub compared_in_parts : (xs ys us vs : List ℕ) → length xs ≡ length ys → slice_cmp nat_cmp (xs ++ us) (ys ++ vs) ≡ ordering_then (slice_cmp nat_cmp xs ys) (slice_cmp nat_cmp us vs)
+compared_in_parts [] [] us vs e = refl
+compared_in_parts [] (y ∷ ys) us vs e = absurd (omega arith)
+compared_in_parts (x ∷ xs) [] us vs e = absurd (omega arith)
+compared_in_parts (x ∷ xs) (y ∷ ys) us vs e =
+    ap (ordering_then (nat_cmp x y)) (compared_in_parts xs ys us vs (omega arith)) ∙ sym (then_assoc (nat_cmp x y) (slice_cmp nat_cmp xs ys) (slice_cmp nat_cmp us vs))
+
+pub same_size : (a b : ℕ) → nat_cmp a b ≡ Equal → a ≡ b
+same_size a b e = nat_cmp-IsAntisymmetric a b e
+
+-- symbols of one size are compared by their images, and then by their degrees
+codes_compared : (s t : Symbol) → HaveLengths s → HaveLengths t → s.size ≡ t.size
+    → slice_cmp nat_cmp (code s) (code t) ≡ ordering_then (ordering_then (slice_cmp nat_cmp (all_images s) (all_images t)) (slice_cmp nat_cmp s.m01 t.m01)) (slice_cmp nat_cmp s.m12 t.m12)
+codes_compared s t a b same =
+    let ia = length-flat_images s 1 s.size in
+    let ib = length-flat_images t 1 t.size in
+    let la = length-append (all_images s) s.m01 in
+    let lb = length-append (all_images t) t.m01 in
+    let ma = a.m01_length in
+    let mb = b.m01_length in
+    compared_in_parts (all_images s ++ s.m01) (all_images t ++ t.m01) s.m12 t.m12 (omega arith)
+    ∙ ap (λ o. ordering_then o (slice_cmp nat_cmp s.m12 t.m12)) (compared_in_parts (all_images s) (all_images t) s.m01 t.m01 (omega arith))
+
+-- the same whatever the sizes are
+pub compared_by_parts : (s t : Symbol) → HaveLengths s → HaveLengths t
+    → code_cmp s t ≡ ordering_then (ordering_then (ordering_then (nat_cmp s.size t.size) (slice_cmp nat_cmp (all_images s) (all_images t))) (slice_cmp nat_cmp s.m01 t.m01)) (slice_cmp nat_cmp s.m12 t.m12)
+compared_by_parts s t a b = by_size (nat_cmp s.size t.size) refl where
+  by_size : (o : Ordering) → nat_cmp s.size t.size ≡ o
+      → code_cmp s t ≡ ordering_then (ordering_then (ordering_then (nat_cmp s.size t.size) (slice_cmp nat_cmp (all_images s) (all_images t))) (slice_cmp nat_cmp s.m01 t.m01)) (slice_cmp nat_cmp s.m12 t.m12)
+  by_size Less e = rw e refl
+  by_size Greater e = rw e refl
+  by_size Equal e = rw e (codes_compared s t a b (same_size s.size t.size e))
 
 -- ## One row more
 

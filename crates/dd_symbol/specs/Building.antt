@@ -26,6 +26,11 @@ pub record HaveOneLength (s : Symbol) : Type 0 where
   pub m01 : length s.m01 ≡ s.size
   pub m12 : length s.m12 ≡ s.size
 
+-- a connected symbol with branching values of at most 30
+pub record IsConnectedSymbol (s : Symbol) : Type 0 where
+  pub symbol : IsSmallSymbol s
+  pub connected : Connected s
+
 -- a connected symbol within the limit
 pub record IsAccepted (limit : ℕ) (s : Symbol) : Type 0 where
   pub symbol : IsSmallSymbol s

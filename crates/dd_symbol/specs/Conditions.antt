@@ -6,7 +6,7 @@ use Rattle.dd_model.specs.Cell.{turned, IsLeastTurns, IsBranching}
 use Rattle.dd_model.specs.declared.index.Index.{Index}
 use Rattle.dd_model.specs.declared.pair.Pair.{Pair}
 use Rattle.dd_model.specs.declared.pair.Pair.TheVariants.{Tile, Vertex, Edge}
-use Rattle.dd_symbol.specs.Degrees.{IsLeastFor}
+use Rattle.dd_symbol.specs.Cells.{IsLeastFor}
 
 -- ## At one chamber, or of one involution
 

@@ -1,6 +1,7 @@
+pub mod Images
 pub mod Table
 pub mod Rows
-pub mod Degrees
+pub mod Cells
 pub mod Walk
 pub mod Conditions
 pub mod Causes

@@ -10,6 +10,15 @@ pub record HasSize (limit : ℕ) (s : Symbol) : Type 0 where
   pub some : 1 ≤ s.size
   pub within : s.size ≤ limit
 
+-- what a refusal says of three lists of images
+abbrev pub IsInvolutionsFault : Symbol → Refusal → Type 0
+IsInvolutionsFault s (OpRange i d) = IsOutOfRange s i d
+IsInvolutionsFault s (NotInvolution i d) = IsNoInvolution s i d
+IsInvolutionsFault s (NotCommuting d) = DoesNotCommute s d
+IsInvolutionsFault s (NotConnected d) = IsNotReached s d
+IsInvolutionsFault s Memory = Unit {0}
+IsInvolutionsFault s why = ⊥
+
 -- what a refusal says of lists that are not empty and not too long
 abbrev pub IsFault : Symbol → Refusal → Type 0
 IsFault s Empty = ⊥
@@ -23,6 +32,11 @@ IsFault s (DegreeVaries p d) = DegreeChanges s p d
 IsFault s (NotMultiple p d r m) = IsNoMultiple s p d r m
 IsFault s (BranchingTooLarge p d v) = IsTooLarge s p d v
 IsFault s Memory = Unit {0}
+
+-- the same of lists that may be empty
+abbrev pub IsCause : Symbol → Refusal → Type 0
+IsCause s Empty = s.size ≡ 0
+IsCause s why = IsFault s why
 
 -- What a refusal says: its cause holds, and none that comes before it. Want of memory says nothing.
 abbrev pub IsRefused : ℕ → Symbol → Refusal → Type 0

@@ -1,8 +1,10 @@
-ghost use Rattle.std.specs.Prelude.{◌≡◌, ◌≢◌, ◌≤◌, ◌<◌, List, [], length, IfOk, IfErr, OnOk};
-ghost use Rattle.dd_symbol.specs.Building.{given, HaveOneLength, IsAccepted};
-ghost use Rattle.dd_symbol.specs.Refusals.{IsRefused, IsFault};
+ghost use Rattle.std.specs.Prelude.{◌≡◌, ◌≢◌, ◌≤◌, length, IfOk, IfErr, OnOk, MatchOption};
+ghost use Rattle.dd_symbol.specs.Building.{given, HaveOneLength, IsAccepted, IsConnectedSymbol};
+ghost use Rattle.dd_symbol.specs.Images.{with_degrees};
+ghost use Rattle.dd_symbol.specs.Refusals.{IsRefused, IsFault, IsCause};
 
 use crate::connected::Connected;
+use crate::involutions::Involutions;
 use crate::refusals::Refusal;
 use crate::symbol::Symbol;
 use crate::table::Table;
@@ -11,51 +13,8 @@ use std::alloc::Global;
 
 impl Table {
     ghost use Rattle.dd_symbol.specs.Table.{symbol_of};
-    ghost use Rattle.dd_symbol.specs.Building.{listed, HaveOneLength};
-    ghost use Rattle.dd_symbol.specs.Rows.{HasRows};
-    ghost use Rattle.dd_model.specs.Symbol.{op};
     ghost use Rattle.dd_model.specs.Connected.{Connected as AllReached};
     ghost use Rattle.dd_model.specs.Small.{IsSmallSymbol};
-
-    /// Appends the images of three lists, chamber by chamber.
-    fn push_rows(numbers: &mut Vec<u32>, s0: &[u32], s1: &[u32], s2: &[u32]) -> Result<(), Memory>
-        requires ones { length s1.now ≡ length s0.now }
-        requires twos { length s2.now ≡ length s0.now }
-        requires none { numbers.old.items ≡ [] }
-        ensures { OnOk result
-            (HasRows (op (listed s0.now s1.now s2.now [] [])) (length s0.now) numbers.new.items) }
-    {
-        for k in 0..s0.len() {
-            numbers.push(s0[k])?;
-            numbers.push(s1[k])?;
-            numbers.push(s2[k])?;
-        }
-        Ok(())
-    }
-
-    /// The code of five lists of one length.
-    pub fn from_lists(
-        alloc: Global,
-        s0: &[u32],
-        s1: &[u32],
-        s2: &[u32],
-        m01: &[u32],
-        m12: &[u32],
-    ) -> Result<Table, Memory>
-        requires lengths { HaveOneLength (listed s0.now s1.now s2.now m01.now m12.now) }
-        requires small { length s0.now < 16385 }
-        ensures { IfOk result (λ table.
-            symbol_of table ≡ listed s0.now s1.now s2.now m01.now m12.now) }
-    {
-        let mut numbers = Vec::with_capacity(alloc, 5 * s0.len())?;
-        Table::push_rows(&mut numbers, s0, s1, s2)?;
-        numbers.extend_from_slice(m01)?;
-        numbers.extend_from_slice(m12)?;
-        Ok(Table {
-            numbers,
-            size: s0.len() as u32,
-        })
-    }
 
     /// Refuses what is no connected symbol with branching values of at most 30.
     fn check(&self, alloc: Global) -> Result<(), Refusal>
@@ -64,11 +23,57 @@ impl Table {
         ensures connected { OnOk result (AllReached (symbol_of self.now)) }
         ensures why { IfErr result (λ why. IsFault (symbol_of self.now) why) }
     {
-        self.check_involutions()?;
-        self.check_commuting()?;
-        self.check_connected(alloc)?;
-        self.check_degrees(alloc)?;
-        Ok(())
+        self.involutions.check_commuting()?;
+        self.involutions.check_connected(alloc)?;
+        self.check_degrees(alloc)
+    }
+}
+
+/// The connected symbol with these involutions and degrees, if they are those of one with branching
+/// values of at most 30; else the first cause why not. `Empty` comes where there are no chambers.
+pub fn build_on(
+    alloc: Global,
+    involutions: Involutions,
+    m01: Vec<u32>,
+    m12: Vec<u32>,
+) -> Result<Connected, Refusal>
+    requires tiles { length m01.items ≡ involutions.size }
+    requires vertices { length m12.items ≡ involutions.size }
+    ensures symbol { IfOk result (λ it. it ≡ with_degrees involutions m01.items m12.items) }
+    ensures accepted { IfOk result (λ it. IsConnectedSymbol it) }
+    ensures refused { IfErr result (λ why. why ≢ Refusal.Memory
+        → IsConnectedSymbol (with_degrees involutions m01.items m12.items) → ⊥) }
+    ensures why { IfErr result (λ why. IsCause (with_degrees involutions m01.items m12.items) why) }
+{
+    if involutions.size() == 0 {
+        return Err(Refusal::Empty);
+    }
+    let table = Table {
+        involutions,
+        m01,
+        m12,
+    };
+    table.check(alloc)?;
+    Ok(Connected::from_symbol(Symbol::from_table(table)))
+}
+
+/// The same, where the cause is of no interest.
+pub fn build_if(
+    alloc: Global,
+    involutions: Involutions,
+    m01: Vec<u32>,
+    m12: Vec<u32>,
+) -> Result<Option<Connected>, Memory>
+    requires tiles { length m01.items ≡ involutions.size }
+    requires vertices { length m12.items ≡ involutions.size }
+    ensures { IfOk result (λ found. MatchOption found
+        (IsConnectedSymbol (with_degrees involutions m01.items m12.items) → ⊥)
+        (λ it. it ≡ with_degrees involutions m01.items m12.items)) }
+{
+    match build_on(alloc, involutions, m01, m12) {
+        Ok(symbol) => Ok(Some(symbol)),
+        Err(Refusal::Memory) => Err(Memory),
+        Err(_) => Ok(None),
     }
 }
 
@@ -91,13 +96,9 @@ pub fn build(
 {
     let [s0, s1, s2] = &ops;
     let n = s0.len();
-    if n == 0 {
-        return Err(Refusal::Empty);
-    }
     if n > limit as usize {
         return Err(Refusal::TooManyChambers { n });
     }
-    let table = Table::from_lists(alloc, s0, s1, s2, &m01, &m12)?;
-    table.check(alloc)?;
-    Ok(Connected::from_symbol(Symbol::from_table(table)))
+    let involutions = Involutions::from_lists(alloc, s0, s1, s2)?;
+    build_on(alloc, involutions, m01, m12)
 }

@@ -1,69 +1,95 @@
 ghost use Rattle.std.specs.Prelude.{◌≡◌, ℕ, length, IfOk};
 
+use crate::involutions::Involutions;
+use crate::kind::Kind;
 use crate::maps::item;
-use crate::table::Table;
+use crate::shapes::CellShape;
 use dd_model::{Memory, Pair};
 use std::alloc::Global;
 
-impl Table {
-    ghost use Rattle.dd_symbol.specs.Table.{symbol_of};
-    ghost use Rattle.dd_model.specs.Symbol.{AreInvolutions, IsChamber, item};
-    ghost use Rattle.dd_model.specs.Cell.{IsPeriod, IsBranching, InCell, AreCells};
-    ghost use Rattle.dd_symbol.specs.Degrees.{AreLeast};
-    ghost use Rattle.dd_symbol.specs.Conditions.{IsMultiple};
+impl Involutions {
+    ghost use Rattle.dd_model.specs.Symbol.{IsChamber, item};
+    ghost use Rattle.dd_model.specs.Cell.{IsPeriod, InCell, AreCells};
+    ghost use Rattle.dd_symbol.specs.Images.{AreThreeInvolutions};
+    ghost use Rattle.dd_symbol.specs.Cells.{AreLeast, ArePeriods, IsShapeOf};
 
     /// The least positive number of turns that fixes a chamber.
     pub fn period(&self, pair: Pair, chamber: u32) -> u32
-        requires lists { AreInvolutions (symbol_of self.now) }
-        requires chamber { IsChamber (symbol_of self.now) chamber }
-        ensures { IsPeriod (symbol_of self.now) pair chamber result }
+        requires { IsChamber self.now chamber }
+        ensures period { IsPeriod self.now pair chamber result }
+        ensures three { AreThreeInvolutions self.now }
     {
-        let turn = [pair.first(), pair.second()];
-        let mut place = self.act(&turn, chamber);
+        let mut place = self.turned(pair, chamber);
         let mut turns = 1;
         while place != chamber {
-            place = self.act(&turn, place);
+            place = self.turned(pair, place);
             turns += 1;
         }
         turns
     }
 
-    /// The branching value of a pair at a chamber.
-    pub fn branching(&self, pair: Pair, chamber: u32) -> u32
-        requires lists { AreInvolutions (symbol_of self.now) }
-        requires multiple { IsMultiple (symbol_of self.now) pair chamber }
-        requires chamber { IsChamber (symbol_of self.now) chamber }
-        ensures { IsBranching (symbol_of self.now) pair chamber result }
+    /// The cell of a chamber: its least chamber, its kind and its r.
+    pub fn cell(&self, pair: Pair, chamber: u32) -> CellShape
+        requires { IsChamber self.now chamber }
+        ensures { IsShapeOf self.now pair chamber result }
     {
-        self.degree(pair, chamber) / self.period(pair, chamber)
+        let mut least = chamber;
+        let mut kind = Kind::Cycle;
+        let mut place = chamber;
+        for turn in 0..self.size() {
+            let neighbor = self.op(pair.first(), place);
+            let next = self.op(pair.second(), neighbor);
+            least = least.min(place).min(neighbor);
+            if neighbor == place || next == neighbor {
+                kind = Kind::Chain;
+            }
+            if next == chamber {
+                return CellShape {
+                    least,
+                    kind,
+                    r: turn + 1,
+                };
+            }
+            place = next;
+        }
+        unreachable!()
+    }
+
+    /// For each chamber the least positive number of turns that fixes it.
+    pub fn periods(&self, alloc: Global, pair: Pair) -> Result<Vec<u32>, Memory>
+        ensures { IfOk result (λ periods. ArePeriods self.now pair periods.items) }
+    {
+        let mut periods = Vec::with_capacity(alloc, self.size() as usize)?;
+        for k in 0..self.size() {
+            periods.push(self.period(pair, k + 1))?;
+        }
+        Ok(periods)
     }
 
     /// Writes a chamber at each chamber of its cell.
     fn mark_cell(&self, least: &mut Vec<u32>, pair: Pair, chamber: u32)
-        requires lists { AreInvolutions (symbol_of self.now) }
-        requires chamber { IsChamber (symbol_of self.now) chamber }
-        requires length { length least.old.items ≡ (symbol_of self.now).size }
-        ensures length { length least.new.items ≡ (symbol_of self.now).size }
-        ensures cell { (e : ℕ) → InCell (symbol_of self.now) pair chamber e
+        requires chamber { IsChamber self.now chamber }
+        requires length { length least.old.items ≡ self.now.size }
+        ensures length { length least.new.items ≡ self.now.size }
+        ensures cell { (e : ℕ) → InCell self.now pair chamber e
             → item least.new.items e ≡ chamber }
-        ensures others { (e : ℕ) → IsChamber (symbol_of self.now) e
-            → (InCell (symbol_of self.now) pair chamber e → ⊥)
+        ensures others { (e : ℕ) → IsChamber self.now e
+            → (InCell self.now pair chamber e → ⊥)
             → item least.new.items e ≡ item least.old.items e }
     {
         let turns = self.period(pair, chamber);
         let mut place = chamber;
         for _turn in 0..turns {
-            let neighbor = self.image(pair.first(), place);
+            let neighbor = self.op(pair.first(), place);
             least[place as usize - 1] = chamber;
             least[neighbor as usize - 1] = chamber;
-            place = self.image(pair.second(), neighbor);
+            place = self.op(pair.second(), neighbor);
         }
     }
 
     /// For each chamber the least one of its cell.
     pub fn least_of_cells(&self, alloc: Global, pair: Pair) -> Result<Vec<u32>, Memory>
-        requires lists { AreInvolutions (symbol_of self.now) }
-        ensures { IfOk result (λ least. AreLeast (symbol_of self.now) pair least.items) }
+        ensures { IfOk result (λ least. AreLeast self.now pair least.items) }
     {
         let mut least = vec![in alloc; 0u32; self.size() as usize]?;
         for k in 0..self.size() {
@@ -77,8 +103,7 @@ impl Table {
 
     /// The least chambers of the cells of a pair, ascending.
     pub fn least_chambers(&self, alloc: Global, pair: Pair) -> Result<Vec<u32>, Memory>
-        requires lists { AreInvolutions (symbol_of self.now) }
-        ensures { IfOk result (λ chambers. AreCells (symbol_of self.now) pair chambers.items) }
+        ensures { IfOk result (λ chambers. AreCells self.now pair chambers.items) }
     {
         let least = self.least_of_cells(alloc, pair)?;
         let mut chambers = Vec::with_capacity(alloc, self.size() as usize)?;

@@ -11,7 +11,7 @@ const LARGEST_BRANCHING: u32 = 30;
 
 impl Table {
     ghost use Rattle.dd_symbol.specs.Table.{symbol_of};
-    ghost use Rattle.dd_symbol.specs.Degrees.{AreLeast};
+    ghost use Rattle.dd_symbol.specs.Cells.{AreLeast};
     ghost use Rattle.dd_symbol.specs.Refusals.{IsFault};
     ghost use Rattle.dd_symbol.specs.Causes.{PairBefore};
     ghost use Rattle.dd_symbol.specs.Conditions.{OfBoth, AreConnected, ArePositive, AreConstant, AreMultiples, AreSmall, IsMultiple, IsSmall};
@@ -137,7 +137,7 @@ impl Table {
     }
 
     /// Refuses degrees that are not those of a symbol with branching values of at most 30.
-    pub fn check_degrees(&self, alloc: Global) -> Result<(), Refusal>
+    pub(crate) fn check_degrees(&self, alloc: Global) -> Result<(), Refusal>
         requires table { AreConnected (symbol_of self.now) }
         requires some { 1 ≤ (symbol_of self.now).size }
         ensures symbol { OnOk result (IsSmallSymbol (symbol_of self.now)) }

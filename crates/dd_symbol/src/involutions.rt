@@ -1,77 +1,125 @@
-ghost use Rattle.std.specs.Prelude.{OnOk, IfErr};
+ghost use Rattle.std.specs.Prelude.{◌≡◌, ◌≤◌, ◌*◌, [], length, IfOk, IfErr, OnOk};
+ghost use Rattle.dd_symbol.specs.Building.{listed};
+ghost use Rattle.dd_symbol.specs.Rows.{HasRows};
+ghost use Rattle.dd_model.specs.Symbol.{op};
 
 use crate::refusals::Refusal;
-use crate::table::Table;
-use dd_model::{Index, Pair};
+use crate::rows::Rows;
+use dd_model::{Index, Memory, Pair};
+use std::alloc::Global;
+use std::marker::Model;
 
-impl Table {
-    ghost use Rattle.dd_symbol.specs.Table.{symbol_of};
-    ghost use Rattle.dd_symbol.specs.Refusals.{IsFault};
-    ghost use Rattle.dd_symbol.specs.Causes.{IndexBefore};
-    ghost use Rattle.dd_symbol.specs.Conditions.{IsWithin, IsInvolutive, Commutes, AtAll};
-    ghost use Rattle.dd_model.specs.Symbol.{AreInvolutions};
+/// Three involutions of the chambers 1 to n, n at most 16,384. They are kept as rows of the three
+/// images of each chamber, which is the order of codes.
+#[derive(Drop)]
+pub struct Involutions {
+    pub(crate) rows: Rows,
+}
 
-    /// Refuses images that are no chambers.
-    fn check_range(&self, i: Index) -> Result<(), Refusal>
-        requires before { IndexBefore (IsWithin (symbol_of self.now)) i }
-        ensures within { OnOk result (IsWithin (symbol_of self.now) i) }
-        ensures why { IfErr result (λ why. IsFault (symbol_of self.now) why) }
+impl Model for Involutions {
+    ghost use Rattle.dd_model.specs.Symbol.{Symbol as Tiling};
+    ghost use Rattle.dd_symbol.specs.Images.{rows_of, AreThreeInvolutions};
+
+    ghost Value = { Tiling };
+
+    ghost view = { λ a. rows_of a.rows };
+
+    ghost invariant = { λ a. AreThreeInvolutions (rows_of a.rows) };
+}
+
+/// The images of three lists, chamber by chamber.
+fn interleaved(alloc: Global, s0: &[u32], s1: &[u32], s2: &[u32]) -> Result<Vec<u32>, Memory>
+    requires ones { length s1.now ≡ length s0.now }
+    requires twos { length s2.now ≡ length s0.now }
+    requires small { length s0.now ≤ 16384 }
+    ensures { IfOk result (λ numbers.
+        HasRows (op (listed s0.now s1.now s2.now [] [])) (length s0.now) numbers.items) }
+{
+    let mut numbers = Vec::with_capacity(alloc, 3 * s0.len())?;
+    for k in 0..s0.len() {
+        numbers.push(s0[k])?;
+        numbers.push(s1[k])?;
+        numbers.push(s2[k])?;
+    }
+    Ok(numbers)
+}
+
+impl Involutions {
+    ghost use Rattle.dd_symbol.specs.Images.{of_rows, AreThreeInvolutions};
+    ghost use Rattle.dd_symbol.specs.Refusals.{IsInvolutionsFault};
+    ghost use Rattle.dd_model.specs.Symbol.{IsChamber, act, turn};
+    ghost use Rattle.dd_model.specs.Code.{all_images};
+
+    /// The involutions with these images, s0, s1 and s2 of chamber 1, then those of chamber 2 and so
+    /// on; else the first cause why they are none.
+    pub fn from_rows(numbers: Vec<u32>, size: u32) -> Result<Involutions, Refusal>
+        requires length { length numbers.items ≡ 3 * size }
+        requires small { size ≤ 16384 }
+        ensures same { IfOk result (λ it. it ≡ of_rows size numbers.items) }
+        ensures why { IfErr result (λ why. IsInvolutionsFault (of_rows size numbers.items) why) }
     {
-        for k in 0..self.size() {
-            let chamber = k + 1;
-            if !self.has(self.op(i, chamber)) {
-                return Err(Refusal::OpRange { i, chamber });
-            }
-        }
-        Ok(())
+        let rows = Rows { numbers, size };
+        rows.check()?;
+        Ok(Involutions { rows })
     }
 
-    /// Refuses a list that does not lead back.
-    fn check_inverse(&self, i: Index) -> Result<(), Refusal>
-        requires within { (j : Index) → IsWithin (symbol_of self.now) j }
-        requires before { IndexBefore (IsInvolutive (symbol_of self.now)) i }
-        ensures involutive { OnOk result (IsInvolutive (symbol_of self.now) i) }
-        ensures why { IfErr result (λ why. IsFault (symbol_of self.now) why) }
+    /// The involutions with these lists of images; else the first cause why they are none.
+    pub fn from_lists(alloc: Global, s0: &[u32], s1: &[u32], s2: &[u32]) -> Result<Involutions, Refusal>
+        requires ones { length s1.now ≡ length s0.now }
+        requires twos { length s2.now ≡ length s0.now }
+        requires small { length s0.now ≤ 16384 }
+        ensures same { IfOk result (λ it. it ≡ listed s0.now s1.now s2.now [] []) }
+        ensures why { IfErr result (λ why. IsInvolutionsFault (listed s0.now s1.now s2.now [] []) why) }
     {
-        for k in 0..self.size() {
-            let chamber = k + 1;
-            let image = self.op(i, chamber);
-            if self.op(i, image) != chamber {
-                return Err(Refusal::NotInvolution { i, chamber });
-            }
-        }
-        Ok(())
+        Involutions::from_rows(interleaved(alloc, s0, s1, s2)?, s0.len() as u32)
     }
 
-    /// Refuses lists that are not three involutions of the chambers.
-    pub fn check_involutions(&self) -> Result<(), Refusal>
-        ensures involutions { OnOk result (AreInvolutions (symbol_of self.now)) }
-        ensures why { IfErr result (λ why. IsFault (symbol_of self.now) why) }
+    /// The number of chambers, at most 16,384.
+    pub fn size(&self) -> u32
+        ensures size { result ≡ self.now.size }
+        ensures three { AreThreeInvolutions self.now }
     {
-        for i in Index::ALL {
-            self.check_range(i)?;
-        }
-        for i in Index::ALL {
-            self.check_inverse(i)?;
-        }
-        Ok(())
+        self.rows.size()
     }
 
-    /// Refuses a chamber that s0 s2 s0 s2 moves.
-    pub fn check_commuting(&self) -> Result<(), Refusal>
-        requires involutions { AreInvolutions (symbol_of self.now) }
-        ensures commuting { OnOk result
-            (AtAll (symbol_of self.now) (Commutes (symbol_of self.now))) }
-        ensures why { IfErr result (λ why. IsFault (symbol_of self.now) why) }
+    /// The image of a chamber.
+    pub fn op(&self, i: Index, chamber: u32) -> u32
+        requires { IsChamber self.now chamber }
+        ensures image { result ≡ op self.now i chamber }
+        ensures chamber { IsChamber self.now result }
+        ensures three { AreThreeInvolutions self.now }
     {
-        let turn = [Pair::Edge.first(), Pair::Edge.second()];
-        for k in 0..self.size() {
-            let chamber = k + 1;
-            let once = self.act(&turn, chamber);
-            if self.act(&turn, once) != chamber {
-                return Err(Refusal::NotCommuting { chamber });
-            }
-        }
-        Ok(())
+        self.rows.image(i, chamber)
+    }
+
+    /// The images of all chambers in the order of codes: s0, s1 and s2 of chamber 1, and so on.
+    pub fn rows(&self) -> &[u32]
+        ensures { result.now ≡ all_images self.now }
+    {
+        self.rows.numbers.as_slice()
+    }
+
+    /// Equal involutions.
+    pub fn try_copy(&self, alloc: Global) -> Result<Involutions, Memory>
+        ensures { IfOk result (λ copy. copy ≡ self.now) }
+    {
+        let numbers = Vec::from_slice(alloc, &self.rows.numbers)?;
+        Ok(Involutions {
+            rows: Rows {
+                numbers,
+                size: self.rows.size,
+            },
+        })
+    }
+
+    /// The chamber to which one turn leads.
+    pub fn turned(&self, pair: Pair, chamber: u32) -> u32
+        requires { IsChamber self.now chamber }
+        ensures image { result ≡ act self.now (turn pair) chamber }
+        ensures chamber { IsChamber self.now result }
+        ensures three { AreThreeInvolutions self.now }
+    {
+        let neighbor = self.op(pair.first(), chamber);
+        self.op(pair.second(), neighbor)
     }
 }

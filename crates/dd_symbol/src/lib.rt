@@ -6,17 +6,24 @@ mod cells;
 mod connected;
 mod degrees;
 mod involutions;
+mod kind;
 mod maps;
+mod range_checks;
 mod refusals;
 mod renumbering;
+mod rows;
+mod shapes;
 mod symbol;
 mod table;
 #[cfg(test)]
 mod tests;
 mod walk;
 
-pub use building::build;
+pub use building::{build, build_if, build_on};
 pub use connected::Connected;
+pub use involutions::Involutions;
+pub use kind::Kind;
 pub use maps::{inverse, is_bijection};
 pub use refusals::{Refusal, refusals_exclude_each_other};
+pub use shapes::CellShape;
 pub use symbol::{Symbol, cmp_code};

@@ -3,6 +3,7 @@ ghost use Rattle.dd_model.specs.Isomorphic.{IsBijection, IsIsomorphism};
 ghost use Rattle.dd_model.specs.Code.{code_cmp};
 
 use crate::maps::inverse;
+use crate::shapes::CellShape;
 use crate::table::Table;
 use dd_model::{Code, Index, Memory, Pair};
 use std::alloc::Global;
@@ -33,6 +34,7 @@ impl Symbol {
     ghost use Rattle.dd_model.specs.Cell.{IsBranching, AreCells};
     ghost use Rattle.dd_model.specs.Code.{code};
     ghost use Rattle.dd_symbol.specs.Table.{symbol_of};
+    ghost use Rattle.dd_symbol.specs.Cells.{IsShapeOf};
     ghost use Rattle.dd_model.specs.Small.{IsSmallSymbol};
 
     /// The symbol of a table.
@@ -93,11 +95,19 @@ impl Symbol {
         self.table.branching(pair, chamber)
     }
 
+    /// The cell of a chamber: its least chamber, its kind and its r.
+    pub fn cell(&self, pair: Pair, chamber: u32) -> CellShape
+        requires { IsChamber self.now chamber }
+        ensures { IsShapeOf self.now pair chamber result }
+    {
+        self.table.involutions.cell(pair, chamber)
+    }
+
     /// The least chambers of the cells of a pair, ascending: one for each cell.
     pub fn least_chambers(&self, alloc: Global, pair: Pair) -> Result<Vec<u32>, Memory>
         ensures { IfOk result (λ chambers. AreCells self.now pair chambers.items) }
     {
-        self.table.least_chambers(alloc, pair)
+        self.table.involutions.least_chambers(alloc, pair)
     }
 
     /// A copy of the code.

@@ -129,6 +129,8 @@ fn reads_images_and_degrees(rt: HostRuntime) -> Result<(), Fail> {
     assert_eq!(rt; (symbol.m01(3), symbol.m12(3)), (8, 3));
     assert_eq!(rt; symbol.degree(Pair::Edge, 1), 2);
     assert_eq!(rt; symbol.branching(Pair::Tile, 3), 4);
+    let (least, kind, r) = (2, Kind::Chain, 2);
+    assert_eq!(rt; symbol.cell(Pair::Tile, 3), CellShape { least, kind, r });
     Ok(())
 }
 

@@ -1,6 +1,6 @@
 use Rattle.std.proofs.Common.{◌≡◌, ap, ◌∙◌, subst, inl, inr, ⊎_elim, arith}
 use Rattle.dd_model.specs.Symbol.{op, first, second}
-use Rattle.dd_cells.proofs.CountLemmas.{next_place}
+use Rattle.dd_model.proofs.CellWalks.{next_place}
 use Rattle.dd_branch.proofs.Roots.{IsRootTo, least_of_two, root_more, root_all}
 use Rattle.dd_branch.proofs.places.least_of_cell.Goals as goal
 

@@ -5,7 +5,7 @@ use Rattle.std.proofs.lemmas.List.Sorted.{Contains-permutation, IsPermutation-sy
 use Rattle.std.proofs.lemmas.Map.Keys.{IsStrictlyIncreasing-dedup}
 use Rattle.dd_model.specs.Symbol.{op, first, second}
 use Rattle.dd_cells.specs.Cells.{AreMembers}
-use Rattle.dd_cells.proofs.CountLemmas.{next_place}
+use Rattle.dd_model.proofs.CellWalks.{next_place}
 use Rattle.dd_cells.proofs.MemberLemmas.{AreMet, met_more, cell_from_met}
 use Rattle.dd_cells.proofs.listing.walked.Goals as goal
 

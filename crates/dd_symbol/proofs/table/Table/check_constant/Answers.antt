@@ -1,7 +1,7 @@
 use Rattle.std.proofs.Common.{◌≡◌, ◌+◌, sym, ap, ◌∙◌, subst, arith}
 use Rattle.dd_model.specs.Symbol.{IsChamber, degree}
 use Rattle.dd_symbol.specs.Table.{symbol_of}
-use Rattle.dd_symbol.specs.Degrees.{IsLeastFor}
+use Rattle.dd_symbol.specs.Cells.{IsLeastFor}
 use Rattle.dd_symbol.specs.Conditions.{HasDegreeOfCell}
 use Rattle.dd_symbol.proofs.CellMarks.{least_for_unique}
 use Rattle.dd_symbol.proofs.DegreeLemmas.{at_more}

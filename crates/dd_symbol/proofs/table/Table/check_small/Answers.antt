@@ -1,7 +1,7 @@
 use Rattle.std.proofs.Common.{◌+◌, sym, subst, arith}
 use Rattle.dd_model.specs.Symbol.{IsChamber}
 use Rattle.dd_symbol.specs.Table.{symbol_of}
-use Rattle.dd_symbol.specs.Degrees.{IsLeastFor}
+use Rattle.dd_symbol.specs.Cells.{IsLeastFor}
 use Rattle.dd_symbol.specs.Conditions.{IsSmall, AreSmall, AreConstant, HasDegreeOfCell}
 use Rattle.dd_symbol.proofs.DegreeLemmas.{at_more, test_more, of_both, small-along_cell}
 use Rattle.dd_symbol.proofs.table.Table.check_small.Goals as goal

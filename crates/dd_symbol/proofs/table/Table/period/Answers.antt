@@ -1,44 +1,9 @@
-use Rattle.std.proofs.Common.{◌≡◌, ℕ, suc, ◌+◌, ◌≤◌, ◌<◌, [], ◌∷◌, sym, ap, ◌∙◌, ⊎_elim, arith}
-use Rattle.std.proofs.lemmas.Bool.{cases_lt}
-use Rattle.dd_model.specs.declared.pair.Pair.{Pair}
-use Rattle.dd_model.specs.Symbol.{Symbol, turn, act}
-use Rattle.dd_model.specs.Cell.{turned}
-use Rattle.dd_model.proofs.Turns.{turned-last, period_bound}
+use Rattle.dd_model.proofs.SameInvolutions.{period-same}
 use Rattle.dd_symbol.specs.Table.{symbol_of}
+use Rattle.dd_symbol.proofs.TableLemmas.{with_same}
 use Rattle.dd_symbol.proofs.table.Table.period.Goals as goal
 
--- one more number of turns that does not fix the chamber
-unfixed_more : (s : Symbol) (p : Pair) (d t place : ℕ) → place ≡ turned s p t d → (place ≡ d → ⊥)
-    → ((k : ℕ) → 1 ≤ k → k < t → turned s p k d ≡ d → ⊥) → (k : ℕ) → 1 ≤ k → k < t + 1 → turned s p k d ≡ d → ⊥
-unfixed_more s p d t place is moved before k low high fixed =
-    ⊎_elim
-    (λ earlier. before k low earlier fixed)
-    (λ last. let same : k ≡ t = omega arith in moved (is ∙ ap (λ j. turned s p j d) (sym same) ∙ fixed))
-    (cases_lt k t)
-
-next_place : (s : Symbol) (p : Pair) (d t place : ℕ) → place ≡ turned s p t d → act s (turn p) place ≡ turned s p (t + 1) d
-next_place s p d t place is =
-    let e : suc t ≡ t + 1 = omega arith in
-    ap (act s (turn p)) is ∙ sym (turned-last s p t d) ∙ ap (λ k. turned s p k d) e
-
-pub loop-place-smaller : goal.loop-place-smaller
-loop-place-smaller c =
-    let i = c.loop-place.invariant in
-    let bound = period_bound (symbol_of c.args.self.now) c.requires.lists c.args.pair c.args.chamber (c.loop-place.turns + 1) c.requires.chamber
-    (unfixed_more (symbol_of c.args.self.now) c.args.pair c.args.chamber c.loop-place.turns c.loop-place.place i.place c.loop-place-test.true i.unfixed) in
-    omega arith
-
-pub loop-place-preserved : goal.loop-place-preserved
-loop-place-preserved c =
-    let s = symbol_of c.args.self.now in
-    let i = c.loop-place.invariant in
-    let unfixed = unfixed_more s c.args.pair c.args.chamber c.loop-place.turns c.loop-place.place i.place c.loop-place-test.true i.unfixed in
-    let word : c.first.result ∷ c.second.result ∷ [] ≡ turn c.args.pair = cc in
-    record {
-      positive = omega arith;
-      few = period_bound s c.requires.lists c.args.pair c.args.chamber (c.loop-place.turns + 1) c.requires.chamber unfixed;
-      place = c.act-place-in-loop-place.ensures.image ∙ ap (λ w. act s w c.loop-place.place) word
-          ∙ next_place s c.args.pair c.args.chamber c.loop-place.turns c.loop-place.place i.place;
-      chamber = c.act-place-in-loop-place.ensures.chamber;
-      unfixed = unfixed;
-    }
+pub returns : goal.returns
+returns c =
+    let t = c.args.self.now in
+    period-same t.involutions (symbol_of t) (with_same t.involutions t.m01.items t.m12.items) c.args.pair c.args.chamber c.period.result c.period.ensures.period

@@ -1,9 +1,11 @@
 use Rattle.dd_symbol.specs.Table.{symbol_of}
-use Rattle.dd_symbol.proofs.RenumberLemmas.{isomorphism-rows}
+use Rattle.dd_symbol.proofs.TableLemmas.{table_involutions}
+use Rattle.dd_symbol.proofs.RenumberLemmas.{isomorphism-carried, carried_with}
 use Rattle.dd_symbol.proofs.table.Table.renumbered.Goals as goal
 
 pub returns : goal.returns
 returns c =
-    isomorphism-rows (symbol_of c.args.self.now) c.args.map.now c.args.back.now
-    c.push_images.new.numbers.items c.push_degrees.new.numbers.items c.push_degrees-2.new.numbers.items
-    c.requires.lists c.requires.maps c.in_ok-push_images.ensures c.in_ok-push_degrees.ensures c.in_ok-push_degrees-2.ensures
+    let t = c.args.self.now in
+    isomorphism-carried (symbol_of t) c.in_ok-involutions.involutions c.args.map.now c.args.back.now c.in_ok-m01.m01.items c.in_ok-m12.m12.items (table_involutions t) c.requires.maps
+    (carried_with t.involutions c.in_ok-involutions.involutions c.args.map.now c.args.back.now t.m01.items t.m12.items c.in_ok-involutions.ensures.carried)
+    c.in_ok-m01.ensures c.in_ok-m12.ensures

@@ -1,8 +1,0 @@
-use Rattle.std.specs.Prelude.{[]}
-use Rattle.dd_model.specs.Symbol.{op}
-use Rattle.dd_symbol.specs.Building.{listed}
-use Rattle.dd_symbol.specs.Rows.{HasRows}
-use Rattle.dd_symbol.proofs.table.Table.push_rows.Given as goal
-
-abbrev pub invariant-loop-k : goal.invariant-loop-k
-invariant-loop-k l = HasRows (op (listed l.s0 l.s1 l.s2 [] [])) l.k l.numbers.items

@@ -1,0 +1,45 @@
+ghost use Rattle.std.specs.Prelude.{◌≡◌, ◌<◌, ◌*◌, ◌↔◌, IsTrue, length};
+
+use dd_model::Index;
+
+/// The images of the chambers 1 to n, three for each, of which no more is known than their number.
+#[derive(Drop)]
+pub(crate) struct Rows {
+    pub(crate) numbers: Vec<u32>,
+    pub(crate) size: u32,
+    ghost length: { length numbers.items ≡ 3 * size },
+    ghost small: { size < 16385 },
+}
+
+impl Rows {
+    ghost use Rattle.dd_symbol.specs.Images.{rows_of};
+    ghost use Rattle.dd_model.specs.Symbol.{IsChamber, op};
+
+    /// The number of chambers, at most 16,384.
+    pub(crate) fn size(&self) -> u32
+        ensures size { result ≡ (rows_of self.now).size }
+        ensures small { result < 16385 }
+    {
+        self.size
+    }
+
+    /// Whether a chamber number is one of 1 to the size.
+    pub(crate) fn has(&self, chamber: u32) -> bool
+        ensures { IsTrue result ↔ IsChamber (rows_of self.now) chamber }
+    {
+        chamber >= 1 && chamber <= self.size
+    }
+
+    /// The image of a chamber under an involution.
+    pub(crate) fn image(&self, i: Index, chamber: u32) -> u32
+        requires { IsChamber (rows_of self.now) chamber }
+        ensures { result ≡ op (rows_of self.now) i chamber }
+    {
+        let row = 3 * (chamber as usize - 1);
+        match i {
+            Index::Zero => self.numbers[row],
+            Index::One => self.numbers[row + 1],
+            Index::Two => self.numbers[row + 2],
+        }
+    }
+}
