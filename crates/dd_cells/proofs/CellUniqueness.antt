@@ -7,10 +7,11 @@ use Rattle.dd_model.specs.Cell.{IsLeastTurns, IsBranching}
 use Rattle.dd_model.proofs.Turns.{least_turns_unique}
 use Rattle.dd_model.proofs.Branching.{branching_unique}
 use Rattle.dd_model.proofs.CellLists.{cells_unique, increasing_unique}
-use Rattle.dd_cells.specs.declared.kind.Kind.{Kind}
-use Rattle.dd_cells.specs.declared.kind.Kind.TheVariants.{Cycle, Chain}
+use Rattle.dd_symbol.specs.declared.kind.Kind.{Kind}
+use Rattle.dd_symbol.specs.declared.kind.Kind.TheVariants.{Cycle, Chain}
 use Rattle.dd_cells.specs.declared.cell.Cell.{Cell}
-use Rattle.dd_cells.specs.Cells.{AreMembers, IsKindOf, IsCellOf, AreCellsOf}
+use Rattle.dd_cells.specs.Cells.{AreMembers, IsCellOf, AreCellsOf}
+use Rattle.dd_symbol.specs.Cells.{IsKindOf}
 
 kinds_agree : (s : Symbol) (p : Pair) (d : ℕ) (k l : Kind) → IsKindOf s p d k → IsKindOf s p d l → k ≡ l
 kinds_agree s p d Cycle Cycle a b = refl

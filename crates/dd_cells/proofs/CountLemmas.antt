@@ -1,16 +1,16 @@
 -- How the cells and the orbits are counted.
-use Rattle.std.proofs.Common.{◌≡◌, ℕ, suc, ◌+◌, ◌<◌, ◌≤◌, true, false, List, [], ◌∷◌, ◌++◌, length, take, get_or, nat_le, sym, ap, ◌∙◌, subst, ⊎_elim, arith}
+use Rattle.std.proofs.Common.{◌≡◌, ℕ, ◌+◌, ◌<◌, ◌≤◌, true, false, List, [], ◌∷◌, ◌++◌, length, take, get_or, nat_le, sym, ap, ◌∙◌, subst, ⊎_elim, arith}
 use Rattle.std.specs.List.{count_by}
 use Rattle.std.proofs.lemmas.Bool.{cases_lt}
 use Rattle.std.proofs.lemmas.List.Sums.{count_by_more_yes, count_by_more_no}
 use Rattle.std.proofs.lemmas.List.{length_push, take_all}
 use Rattle.dd_model.specs.declared.index.Index.{Index}
 use Rattle.dd_model.specs.declared.pair.Pair.{Pair}
-use Rattle.dd_model.specs.Symbol.{Symbol, AreInvolutions, IsChamber, first, second, turn, op, act}
+use Rattle.dd_model.specs.Symbol.{Symbol, AreInvolutions, IsChamber, first, second, op}
 use Rattle.dd_model.specs.Code.{chambers}
 use Rattle.dd_model.specs.Cell.{InCell, turned, IsLeastOfCell, AreCells}
 use Rattle.dd_cells.specs.Euler.{orbits}
-use Rattle.dd_model.proofs.Turns.{turned-last, period_bound}
+use Rattle.dd_model.proofs.Turns.{period_bound}
 use Rattle.dd_model.proofs.CellWalks.{next_place, IsMet, met_cases, met_from_in_cell, period_from_first_return, in_cell-turned, in_cell-first}
 use Rattle.dd_model.proofs.CellLists.{AreCellsBelow, cells_below-push, cells_below-skip, cells_below-end, cells_unique}
 use Rattle.dd_model.proofs.CountFrom.{length-count_from, get_or-count_from}

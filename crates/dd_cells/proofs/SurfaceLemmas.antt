@@ -17,14 +17,15 @@ use Rattle.dd_model.proofs.CellLists.{cells_unique}
 use Rattle.dd_model.proofs.Transport.{in_cell_within}
 use Rattle.dd_model.proofs.AllDegrees.{all_degrees_positive}
 use Rattle.dd_model.proofs.CountFrom.{length-count_from}
-use Rattle.dd_cells.specs.Cells.{AreMembers, IsKindOf, IsCellOf, AreCellsOf}
+use Rattle.dd_cells.specs.Cells.{AreMembers, IsCellOf, AreCellsOf}
+use Rattle.dd_symbol.specs.Cells.{IsKindOf}
 use Rattle.dd_cells.specs.Curvature.{IsCurvature, IsReciprocalSum}
 use Rattle.dd_cells.specs.Euler.{orbits, IsEuler}
 use Rattle.dd_cells.specs.Fraction.{Divides, IsQuotient}
 use Rattle.dd_cells.specs.Surface.{sides, is_chain, defects, chains, fixed_chambers, AreAllCells}
 use Rattle.dd_cells.specs.declared.fractions.Fraction.{Fraction}
-use Rattle.dd_cells.specs.declared.kind.Kind.{Kind}
-use Rattle.dd_cells.specs.declared.kind.Kind.TheVariants.{Cycle, Chain}
+use Rattle.dd_symbol.specs.declared.kind.Kind.{Kind}
+use Rattle.dd_symbol.specs.declared.kind.Kind.TheVariants.{Cycle, Chain}
 use Rattle.dd_cells.specs.declared.cell.Cell.{Cell}
 use Rattle.dd_cells.proofs.CellSums.{has_roots, members_at, members_at_are, sum_over_cells, sum_by_both, sum_by_same, chamber_listed}
 use Rattle.dd_cells.proofs.CurvatureLemmas.{sum_of_both, numbers_of_quotient, quotient_of_numbers}

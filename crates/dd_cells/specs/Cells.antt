@@ -3,21 +3,15 @@ use Rattle.std.specs.Prelude.{◌↔◌, ℕ, List, map}
 use Rattle.std.specs.List.{AllByRecursion, Contains}
 use Rattle.std.specs.List.Sorted.{IsStrictlyIncreasing}
 use Rattle.dd_model.specs.Symbol.{Symbol}
-use Rattle.dd_model.specs.Cell.{InCell, IsChain, IsLeastTurns, IsBranching, IsLeastOfCell, AreCells}
+use Rattle.dd_model.specs.Cell.{InCell, IsLeastTurns, IsBranching, IsLeastOfCell, AreCells}
 use Rattle.dd_model.specs.declared.pair.Pair.{Pair}
-use Rattle.dd_cells.specs.declared.kind.Kind.{Kind}
-use Rattle.dd_cells.specs.declared.kind.Kind.TheVariants.{Cycle, Chain}
+use Rattle.dd_symbol.specs.Cells.{IsKindOf}
 use Rattle.dd_cells.specs.declared.cell.Cell.{Cell}
 
 -- the chambers of the cell of d, ascending
 pub record AreMembers (s : Symbol) (p : Pair) (d : ℕ) (members : List ℕ) : Type 0 where
   pub ascending : IsStrictlyIncreasing members
   pub each : (e : ℕ) → Contains members e ↔ InCell s p d e
-
--- the kind of the cell of d: a chain where an involution fixes one of its chambers, else a cycle
-abbrev pub IsKindOf : Symbol → Pair → ℕ → Kind → Type 0
-IsKindOf s p d Chain = IsChain s p d
-IsKindOf s p d Cycle = ¬ IsChain s p d
 
 -- a cell with its least chamber, its kind, its least number of turns, its branching value and its chambers
 pub record IsCellOf (s : Symbol) (p : Pair) (c : Cell) : Type 0 where

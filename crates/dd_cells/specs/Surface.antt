@@ -7,8 +7,8 @@ use Rattle.dd_model.specs.declared.index.Index.{Index}
 use Rattle.dd_model.specs.declared.pair.Pair.{Pair}
 use Rattle.dd_cells.specs.Cells.{AreCellsOf}
 use Rattle.dd_cells.specs.Fraction.{Divides}
-use Rattle.dd_cells.specs.declared.kind.Kind.{Kind}
-use Rattle.dd_cells.specs.declared.kind.Kind.TheVariants.{Cycle, Chain}
+use Rattle.dd_symbol.specs.declared.kind.Kind.{Kind}
+use Rattle.dd_symbol.specs.declared.kind.Kind.TheVariants.{Cycle, Chain}
 use Rattle.dd_cells.specs.declared.cell.Cell.{Cell}
 
 -- how many chambers a cell has for each turn

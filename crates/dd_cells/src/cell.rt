@@ -1,5 +1,5 @@
-use crate::kind::Kind;
 use crate::members::Members;
+use dd_symbol::Kind;
 
 /// A tile, a vertex or an edge of the tiling, up to symmetry.
 #[derive(Drop)]

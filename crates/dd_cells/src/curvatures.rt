@@ -5,11 +5,10 @@ ghost use Rattle.dd_model.specs.Flat.{Flat, all_degrees, reciprocals};
 ghost use Rattle.dd_cells.specs.Cells.{AreMembers};
 ghost use Rattle.dd_cells.specs.Curvature.{IsCurvature, IsReciprocalSum};
 
-use crate::chains::is_chain;
 use crate::counts::is_least_of_cell;
 use crate::fractions::Fraction;
 use dd_model::Pair;
-use dd_symbol::Connected;
+use dd_symbol::{Connected, Kind};
 
 /// The least common multiple of the numbers 1 to 30, so a multiple of every branching value.
 pub const COMMON_MULTIPLE: u64 = 2_329_089_562_800;
@@ -23,10 +22,9 @@ fn cell_share(s: &Connected, pair: Pair, chamber: u32) -> u64
     ensures small { result ≤ 2 * COMMON_MULTIPLE }
 {
     let symbol = s.symbol();
-    let sides = if is_chain(symbol, pair, chamber) {
-        1
-    } else {
-        2
+    let sides = match symbol.cell(pair, chamber).kind {
+        Kind::Chain => 1,
+        Kind::Cycle => 2,
     };
     sides * (COMMON_MULTIPLE / u64::from(symbol.branching(pair, chamber)))
 }

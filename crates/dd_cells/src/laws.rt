@@ -13,7 +13,7 @@ ghost use Rattle.dd_cells.specs.Fraction.{Divides, IsQuotient};
 ghost use Rattle.dd_cells.specs.Surface.{chains, defects, fixed_chambers, AreAllCells};
 ghost use Rattle.dd_cells.specs.declared.fractions.Fraction.{Fraction};
 ghost use Rattle.dd_cells.specs.declared.cell.Cell.{Cell};
-ghost use Rattle.dd_cells.specs.declared.kind.Kind.TheVariants.{Cycle, Chain};
+ghost use Rattle.dd_symbol.specs.declared.kind.Kind.TheVariants.{Cycle, Chain};
 
 use crate::curvatures::COMMON_MULTIPLE;
 

@@ -2,12 +2,10 @@
 #![tactic(auto)]
 
 mod cell;
-mod chains;
 mod colorings;
 mod counts;
 mod curvatures;
 mod fractions;
-mod kind;
 mod laws;
 mod listing;
 mod members;
@@ -20,7 +18,6 @@ pub use colorings::orientation;
 pub use counts::{count, euler, has_at_most};
 pub use curvatures::{COMMON_MULTIPLE, curvature, is_flat};
 pub use fractions::Fraction;
-pub use kind::Kind;
 pub use laws::{
     a_pair_determines_its_cells, a_symbol_determines_its_curvature, cells_have_sizes,
     fixed_chambers_are_the_ends_of_chains, the_curvature_is_that_of_the_surface,

@@ -4,11 +4,9 @@ ghost use Rattle.dd_model.specs.Cell.{IsLeastTurns, IsLeastOfCell};
 ghost use Rattle.dd_cells.specs.Cells.{AreMembers, IsCellOf, AreCellsOf};
 
 use crate::cell::Cell;
-use crate::chains::is_chain;
-use crate::kind::Kind;
 use crate::members::Members;
 use dd_model::{Memory, Pair};
-use dd_symbol::Connected;
+use dd_symbol::{CellShape, Connected};
 use std::alloc::Global;
 
 /// The chambers of the cell of a chamber, which are met within r turns.
@@ -38,20 +36,13 @@ fn cell_at(alloc: Global, s: &Connected, pair: Pair, least: u32) -> Result<Cell,
     ensures least { IfOk result (λ cell. cell.least ≡ least) }
 {
     let symbol = s.symbol();
-    let v = symbol.branching(pair, least);
-    let r = symbol.degree(pair, least) / v;
-    let members = walked(alloc, s, pair, least, r)?;
-    let kind = if is_chain(symbol, pair, least) {
-        Kind::Chain
-    } else {
-        Kind::Cycle
-    };
+    let CellShape { kind, r, .. } = symbol.cell(pair, least);
     Ok(Cell {
         least,
         kind,
         r,
-        v,
-        members,
+        v: symbol.branching(pair, least),
+        members: walked(alloc, s, pair, least, r)?,
     })
 }
 

@@ -1,8 +1,8 @@
 ghost use Rattle.std.specs.Prelude.{◌≤◌};
 
-use crate::{Fraction, Kind, Orientation, cells, count, curvature, euler, is_flat, orientation};
+use crate::{Fraction, Orientation, cells, count, curvature, euler, is_flat, orientation};
 use dd_model::Pair;
-use dd_symbol::{Connected, build};
+use dd_symbol::{Connected, Kind, build};
 use std::alloc::Global;
 use std::test::Fail;
 

@@ -2,9 +2,9 @@ ghost use Rattle.std.specs.Prelude.{◌≡◌, ◌++◌, IfOk, OnOk};
 ghost use Rattle.dd_name.specs.Cones.{AreCones, cone_values};
 
 use crate::orders::Orders;
-use dd_cells::{Cell, Kind, cells};
+use dd_cells::{Cell, cells};
 use dd_model::{Memory, Pair};
-use dd_symbol::Connected;
+use dd_symbol::{Connected, Kind};
 use std::alloc::Global;
 
 /// Appends the values of the cones among some cells.

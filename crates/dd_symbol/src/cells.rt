@@ -101,15 +101,15 @@ impl Involutions {
         Ok(least)
     }
 
-    /// The least chambers of the cells of a pair, ascending.
-    pub fn least_chambers(&self, alloc: Global, pair: Pair) -> Result<Vec<u32>, Memory>
+    /// The least chambers of the cells of a pair, ascending, from the list of `least_of_cells`.
+    pub fn least_chambers(&self, alloc: Global, pair: Pair, least: &[u32]) -> Result<Vec<u32>, Memory>
+        requires { AreLeast self.now pair least.now }
         ensures { IfOk result (λ chambers. AreCells self.now pair chambers.items) }
     {
-        let least = self.least_of_cells(alloc, pair)?;
         let mut chambers = Vec::with_capacity(alloc, self.size() as usize)?;
         for k in 0..self.size() {
             let chamber = k + 1;
-            if item(&least, chamber) == chamber {
+            if item(least, chamber) == chamber {
                 chambers.push(chamber)?;
             }
         }

@@ -47,7 +47,7 @@ fn interleaved(alloc: Global, s0: &[u32], s1: &[u32], s2: &[u32]) -> Result<Vec<
 impl Involutions {
     ghost use Rattle.dd_symbol.specs.Images.{of_rows, AreThreeInvolutions};
     ghost use Rattle.dd_symbol.specs.Refusals.{IsInvolutionsFault};
-    ghost use Rattle.dd_model.specs.Symbol.{IsChamber, act, turn};
+    ghost use Rattle.dd_model.specs.Symbol.{AreInvolutions, IsChamber, act, turn};
     ghost use Rattle.dd_model.specs.Code.{all_images};
 
     /// The involutions with these images, s0, s1 and s2 of chamber 1, then those of chamber 2 and so
@@ -72,6 +72,21 @@ impl Involutions {
         ensures why { IfErr result (λ why. IsInvolutionsFault (listed s0.now s1.now s2.now [] []) why) }
     {
         Involutions::from_rows(interleaved(alloc, s0, s1, s2)?, s0.len() as u32)
+    }
+
+    /// The involutions with these lists of images, which are known to be those of some.
+    pub fn from_known(alloc: Global, s0: &[u32], s1: &[u32], s2: &[u32]) -> Result<Involutions, Memory>
+        requires ones { length s1.now ≡ length s0.now }
+        requires twos { length s2.now ≡ length s0.now }
+        requires small { length s0.now ≤ 16384 }
+        requires involutions { AreInvolutions (listed s0.now s1.now s2.now [] []) }
+        ensures { IfOk result (λ it. it ≡ listed s0.now s1.now s2.now [] []) }
+    {
+        let numbers = interleaved(alloc, s0, s1, s2)?;
+        let size = s0.len() as u32;
+        Ok(Involutions {
+            rows: Rows { numbers, size },
+        })
     }
 
     /// The number of chambers, at most 16,384.

@@ -23,7 +23,7 @@ pub use building::{build, build_if, build_on};
 pub use connected::Connected;
 pub use involutions::Involutions;
 pub use kind::Kind;
-pub use maps::{inverse, is_bijection};
+pub use maps::{inverse, is_bijection, item};
 pub use refusals::{Refusal, refusals_exclude_each_other};
 pub use shapes::CellShape;
 pub use symbol::{Symbol, cmp_code};

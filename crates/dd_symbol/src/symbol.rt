@@ -107,7 +107,9 @@ impl Symbol {
     pub fn least_chambers(&self, alloc: Global, pair: Pair) -> Result<Vec<u32>, Memory>
         ensures { IfOk result (λ chambers. AreCells self.now pair chambers.items) }
     {
-        self.table.involutions.least_chambers(alloc, pair)
+        let involutions = &self.table.involutions;
+        let least = involutions.least_of_cells(alloc, pair)?;
+        involutions.least_chambers(alloc, pair, &least)
     }
 
     /// A copy of the code.

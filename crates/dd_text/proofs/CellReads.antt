@@ -15,7 +15,7 @@ use Rattle.dd_model.specs.Cell.{IsLeastOfCell, AreCells}
 use Rattle.dd_model.specs.Spelling.{Told, values}
 use Rattle.dd_model.proofs.CellWalks.{in_cell-trans}
 use Rattle.dd_model.proofs.Transport.{in_cell_within}
-use Rattle.dd_symbol.specs.Degrees.{IsLeastFor, AreLeast}
+use Rattle.dd_symbol.specs.Cells.{IsLeastFor, AreLeast}
 use Rattle.dd_symbol.proofs.CellMarks.{own_least, least_for_unique}
 use Rattle.dd_text.specs.ToldImages.{numbers_of}
 use Rattle.dd_text.specs.ListFaults.{IsShortOfCells, IsBeyondCells}

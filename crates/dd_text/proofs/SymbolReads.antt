@@ -158,6 +158,16 @@ pub text_gives : (t : SymbolText) (x : Shape) (s0 s1 s2 m01 m12 : List ℕ) → 
 text_gives t x s0 s1 s2 m01 m12 e told a b =
     gives x s0 s1 s2 m01 m12 told (subst (λ z. AreDegrees (listed s0 s1 s2 [] []) Tile (values z) m01) e.m01 a) (subst (λ z. AreDegrees (listed s0 s1 s2 [] []) Vertex (values z) m12) e.m12 b)
 
+-- the same for involutions that were made of the lists
+pub lists_give : (t : SymbolText) (x : Shape) (s0 s1 s2 m01 m12 : List ℕ) (it : Symbol) → IsTextOf t x → it ≡ listed s0 s1 s2 [] []
+    → IsToldBy t.size (values (told_of t.s0)) s0 → IsToldBy t.size (values (told_of t.s1)) s1 → IsToldBy t.size (values (told_of t.s2)) s2
+    → AreDegrees it Tile (values (told_of t.m01)) m01 → AreDegrees it Vertex (values (told_of t.m12)) m12
+    → Gives x (record { size = it.size; s0 = it.s0; s1 = it.s1; s2 = it.s2; m01 = m01; m12 = m12 })
+lists_give t x s0 s1 s2 m01 m12 it e same a b c tiles vertices =
+    subst (λ u. Gives x (record { size = u.size; s0 = u.s0; s1 = u.s1; s2 = u.s2; m01 = m01; m12 = m12 })) (sym same)
+    (text_gives t x s0 s1 s2 m01 m12 e (are_told t x s0 s1 s2 e a b c)
+    (subst (λ u. AreDegrees u Tile (values (told_of t.m01)) m01) same tiles) (subst (λ u. AreDegrees u Vertex (values (told_of t.m12)) m12) same vertices))
+
 -- a refusal is the fault of the shape
 pub refusal_fault : (x : Shape) (s : Symbol) (place : ℕ) (why : Refusal) → Gives x s → IsRefused 1024 s why → IsShapeFault x place (why_of why) place
 refusal_fault x s place refusals.Memory g r = tt

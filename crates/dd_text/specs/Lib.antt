@@ -5,7 +5,6 @@ pub mod Texts
 pub mod ToldImages
 pub mod ListFaults
 pub mod Images
-pub mod Involutions
 pub mod SymbolFaults
 pub mod FileFaults
 pub mod Items

@@ -5,8 +5,8 @@ ghost use Rattle.dd_text.specs.ToldImages.{numbers_of};
 ghost use Rattle.dd_text.specs.Images.{IsWithin};
 
 use crate::faults::{Fault, Why};
-use crate::involutions::item;
 use dd_model::Numeral;
+use dd_symbol::item;
 use std::alloc::Global;
 
 /// A list of `size` numbers that has the given ones at ascending chambers.

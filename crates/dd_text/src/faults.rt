@@ -1,5 +1,6 @@
 ghost use Rattle.std.specs.Prelude.{◌≡◌};
 
+use dd_model::Memory;
 use dd_symbol::Refusal;
 use std::alloc::{AllocError, AllocFailed};
 
@@ -60,6 +61,16 @@ impl Fault {
             at: 0,
             why: Why::Memory,
         }
+    }
+}
+
+impl From<Memory> for Fault {
+    ghost use Rattle.dd_text.specs.declared.faults.Why.TheVariants as whys;
+
+    ghost from_gives = { λ _ fault. fault.why ≡ whys.Memory };
+
+    fn from(_: Memory) -> Self {
+        Fault::memory()
     }
 }
 

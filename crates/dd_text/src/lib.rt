@@ -2,10 +2,10 @@
 #![tactic(auto)]
 
 mod cells;
+mod degrees;
 mod fault_laws;
 mod faults;
 mod images;
-mod involutions;
 mod lists;
 mod reader;
 mod reading;

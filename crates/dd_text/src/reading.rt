@@ -5,13 +5,13 @@ ghost use Rattle.dd_text.specs.Reader.{cursor_of, IsByteAt};
 ghost use Rattle.dd_text.specs.FileFaults.{IsNextFault, IsFileFault};
 ghost use Rattle.dd_text.specs.Items.{why_of, TextTells, IsFaultOfText, IsFaultAtSymbol, ReadsSymbol, ReadsItem};
 
+use crate::degrees::degrees;
 use crate::faults::{Fault, FileFault, Why};
 use crate::images::images;
-use crate::involutions::Involutions;
 use crate::reader::{Reader, is_blank};
 use crate::symbol_text::SymbolText;
 use dd_model::Pair;
-use dd_symbol::{Connected, Refusal, build};
+use dd_symbol::{Connected, Involutions, Refusal, build_on};
 use std::alloc::Global;
 
 /// The most bytes of a file.
@@ -40,11 +40,10 @@ fn symbol_of(alloc: Global, text: &SymbolText, at: u32) -> Result<Connected, Fau
     let s0 = images(alloc, text.size, &text.s0)?;
     let s1 = images(alloc, text.size, &text.s1)?;
     let s2 = images(alloc, text.size, &text.s2)?;
-    let involutions = Involutions { s0, s1, s2 };
-    let m01 = involutions.degrees(alloc, Pair::Tile, &text.m01)?;
-    let m12 = involutions.degrees(alloc, Pair::Vertex, &text.m12)?;
-    let Involutions { s0, s1, s2 } = involutions;
-    match build(alloc, [s0, s1, s2], m01, m12, 1024) {
+    let involutions = Involutions::from_known(alloc, &s0, &s1, &s2)?;
+    let m01 = degrees(alloc, &involutions, Pair::Tile, &text.m01)?;
+    let m12 = degrees(alloc, &involutions, Pair::Vertex, &text.m12)?;
+    match build_on(alloc, involutions, m01, m12) {
         Ok(symbol) => Ok(symbol),
         Err(refusal) => Err(Fault {
             at,

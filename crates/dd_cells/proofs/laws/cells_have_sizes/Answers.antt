@@ -1,5 +1,5 @@
 use Rattle.std.proofs.Common.{subst}
-use Rattle.dd_cells.specs.Cells.{IsKindOf}
+use Rattle.dd_symbol.specs.Cells.{IsKindOf}
 use Rattle.dd_cells.proofs.CellSizes.{chain_size, cycle_size}
 use Rattle.dd_cells.proofs.MemberLemmas.{period_from_turns}
 use Rattle.dd_cells.proofs.laws.cells_have_sizes.Goals as goal

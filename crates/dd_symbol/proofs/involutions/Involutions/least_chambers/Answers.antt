@@ -1,4 +1,4 @@
-use Rattle.std.proofs.Common.{◌≡◌, ◌+◌, sym, ap, ◌∙◌, subst, arith}
+use Rattle.std.proofs.Common.{◌≡◌, ◌+◌, sym, subst, arith}
 use Rattle.dd_model.specs.Symbol.{item}
 use Rattle.dd_model.specs.Cell.{IsLeastOfCell}
 use Rattle.dd_symbol.specs.Cells.{IsLeastFor}
@@ -11,9 +11,9 @@ loop-k-preserved c =
     let s = c.args.self.now in
     let p = c.args.pair in
     let k = c.loop-k.k in
-    let read : c.item.result ≡ item c.in_ok-least.least.items (k + 1) = c.item.ensures ∙ ap (λ xs. item xs (k + 1)) c.deref.ensures.value in
+    let read : c.item.result ≡ item c.args.least.now (k + 1) = c.item.ensures in
     let is : IsLeastFor s p (k + 1) c.item.result =
-    subst (IsLeastFor s p (k + 1)) (sym read) (c.in_ok-least.ensures.each (k + 1) (omega arith, omega arith)) in
+    subst (IsLeastFor s p (k + 1)) (sym read) (c.requires.each (k + 1) (omega arith, omega arith)) in
     elim c.if-item-chamber.branch [
       | then-item-chamber+in_ok-push w ↦
           subst (λ v. AreCellsTo s p (k + 1) v.items) (sym w.chambers-is)

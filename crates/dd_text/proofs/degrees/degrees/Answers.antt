@@ -3,31 +3,30 @@ use Rattle.std.specs.Prelude.{IfOk}
 use Rattle.dd_model.specs.Symbol.{item}
 use Rattle.dd_model.specs.Spelling.{values}
 use Rattle.dd_model.specs.declared.tokens.Numeral.{Numeral}
-use Rattle.dd_text.specs.Involutions.{table_of}
 use Rattle.dd_text.specs.Texts.{told_of}
 use Rattle.dd_text.specs.Images.{IsWithin}
 use Rattle.dd_text.proofs.CellReads.{within_cells, within_least, beyond_at, are_degrees, degrees_if}
-use Rattle.dd_text.proofs.involutions.Involutions.degrees.Goals as goal
+use Rattle.dd_text.proofs.degrees.degrees.Goals as goal
 
 pub returns-then-len-2-clause-why : goal.returns-then-len-2-clause-why
 returns-then-len-2-clause-why c =
     let count : c.len-then-len-2.result ≡ length c.in_ok-cells.cells.items = omega (arith, c.len-then-len-2.ensures) in
-    beyond_at (table_of c.args.self.now) c.args.pair (told_of c.args.list.now) c.in_ok-cells.cells.items c.len-then-len-2.result c.index.result.now
-    c.in_ok-cells.ensures.ok count (omega (arith, c.len-3.ensures, c.len-4.ensures)) c.index.ensures
+    beyond_at c.args.involutions.now c.args.pair (told_of c.args.list.now) c.in_ok-cells.cells.items c.len-then-len-2.result c.index.result.now
+    c.in_ok-cells.ensures count (omega (arith, c.len-3.ensures, c.len-4.ensures)) c.index.ensures
 
 pub at_cells-requires-clause-chambers : goal.at_cells-requires-clause-chambers
 at_cells-requires-clause-chambers c =
-    subst (λ n. (k : ℕ) → k < length c.deref-2.result.now → IsWithin n (slice_index c.deref-2.result.now k)) (sym c.size.ensures)
-    (subst (λ (zs : List ℕ). (k : ℕ) → k < length zs → IsWithin (table_of c.args.self.now).size (slice_index zs k)) (sym c.deref-2.ensures.value)
-    (within_cells (table_of c.args.self.now) c.args.pair c.in_ok-cells.cells.items c.in_ok-cells.ensures.ok))
+    subst (λ n. (k : ℕ) → k < length c.deref-2.result.now → IsWithin n (slice_index c.deref-2.result.now k)) (sym c.size.ensures.size)
+    (subst (λ (zs : List ℕ). (k : ℕ) → k < length zs → IsWithin c.args.involutions.now.size (slice_index zs k)) (sym c.deref-2.ensures.value)
+    (within_cells c.args.involutions.now c.args.pair c.in_ok-cells.cells.items c.in_ok-cells.ensures))
 
 pub spread-requires : goal.spread-requires
 spread-requires c = record {
   chambers =
       subst (λ n. (k : ℕ) → k < length c.deref-4.result.now → IsWithin n (slice_index c.deref-4.result.now k))
-      (sym (ap length c.deref-5.ensures.value ∙ c.in_ok-told.ensures.length ∙ c.size.ensures))
-      (subst (λ (zs : List ℕ). (k : ℕ) → k < length zs → IsWithin (table_of c.args.self.now).size (slice_index zs k)) (sym c.deref-4.ensures.value)
-      (within_least (table_of c.args.self.now) c.args.pair c.in_ok-least.least.items c.in_ok-least.ensures.ok));
+      (sym (ap length c.deref-5.ensures.value ∙ c.in_ok-told.ensures.length ∙ c.size.ensures.size))
+      (subst (λ (zs : List ℕ). (k : ℕ) → k < length zs → IsWithin c.args.involutions.now.size (slice_index zs k)) (sym c.deref-4.ensures.value)
+      (within_least c.args.involutions.now c.args.pair c.in_ok-least.least.items c.in_ok-least.ensures));
 }
 
 pub returns-clause-ok : goal.returns-clause-ok
@@ -37,7 +36,7 @@ returns-clause-ok c =
     ∙ ap (map (item c.in_ok-told.told.items)) (sym c.deref-2.ensures.value)
     ∙ c.in_ok-told.ensures.told
     ∙ ap (λ (xs : List Numeral). map (λ x. x.value) xs) c.deref-3.ensures.value in
-    degrees_if (table_of c.args.self.now) c.args.pair (values (told_of c.args.list.now)) (map (item c.deref-5.result.now) c.in_ok-least.least.items) c.spread.result
-    (are_degrees (table_of c.args.self.now) c.requires.lists c.args.pair (values (told_of c.args.list.now)) c.in_ok-least.least.items c.in_ok-cells.cells.items
-    c.deref-5.result.now c.in_ok-least.ensures.ok c.in_ok-cells.ensures.ok at_cells)
+    degrees_if c.args.involutions.now c.args.pair (values (told_of c.args.list.now)) (map (item c.deref-5.result.now) c.in_ok-least.least.items) c.spread.result
+    (are_degrees c.args.involutions.now c.size.ensures.three.involutions c.args.pair (values (told_of c.args.list.now)) c.in_ok-least.least.items c.in_ok-cells.cells.items
+    c.deref-5.result.now c.in_ok-least.ensures c.in_ok-cells.ensures at_cells)
     (subst (λ (zs : List ℕ). IfOk c.spread.result (λ v. v.items ≡ map (item c.deref-5.result.now) zs)) c.deref-4.ensures.value c.spread.ensures.ok)
