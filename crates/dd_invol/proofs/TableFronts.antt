@@ -9,6 +9,8 @@ use Rattle.dd_model.specs.Code.{code, all_images, count_from}
 use Rattle.dd_model.proofs.Codes.{length-flat_images}
 use Rattle.dd_model.proofs.CountFrom.{length-count_from, get_or-count_from}
 use Rattle.dd_invol.specs.Places.{index_at, place}
+use Rattle.dd_symbol.specs.Images.{of_rows}
+use Rattle.dd_symbol.proofs.TableLemmas.{item-first, item-column, lengths}
 use Rattle.dd_invol.specs.Table.{images_of, told}
 use Rattle.dd_model.specs.Involutions.{HaveSameInvolutions}
 use Rattle.dd_invol.proofs.Ascending.{begins_at, begins_from}
@@ -82,24 +84,23 @@ own_front_decides s t is it size =
 -- ## Images that stand in a list
 
 pub length-images_of : (n : ℕ) (numbers : List ℕ) (i : Index) → length (images_of n numbers i) ≡ n
-unfolding images_of
-length-images_of n numbers i = length-map (count_from 1 n) (λ d. get_or numbers (place i d) 0) ∙ length-count_from 1 n
-
-images_of-at : (n : ℕ) (numbers : List ℕ) (i : Index) (k : ℕ) → k < n → get_or (images_of n numbers i) k 0 ≡ get_or numbers (place i (1 + k)) 0
-unfolding images_of
-images_of-at n numbers i k low =
-    let size = length-count_from 1 n in
-    get_or-map (λ d. get_or numbers (place i d) 0) (count_from 1 n) k 0 0 (omega arith) ∙ ap (λ d. get_or numbers (place i d) 0) (get_or-count_from 1 n k low)
+length-images_of n numbers i = lengths n numbers i
 
 -- the image of a chamber stands at its place
+pub rows_at : (n : ℕ) (numbers : List ℕ) (i : Index) (d : ℕ) → 1 ≤ d → d ≤ n → op (of_rows n numbers) i d ≡ get_or numbers (place i d) 0
+rows_at n numbers i d low high = elim i as (λ j. op (of_rows n numbers) j d ≡ get_or numbers (place j d) 0) [
+  | Zero ↦ item-first numbers n d low high
+  | One ↦ item-column numbers 1 n d low high
+  | Two ↦ item-column numbers 2 n d low high
+]
+
+-- the same with degrees
 pub told_at : (n : ℕ) (numbers m01 m12 : List ℕ) (i : Index) (d : ℕ) → 1 ≤ d → d ≤ n → op (told n numbers m01 m12) i d ≡ get_or numbers (place i d) 0
-told_at n numbers m01 m12 i d low high =
-    let whole : 1 + (d - 1) ≡ d = omega arith in
-    elim i as (λ j. op (told n numbers m01 m12) j d ≡ get_or numbers (place j d) 0) [
-      | Zero ↦ images_of-at n numbers Zero (d - 1) (omega arith) ∙ ap (λ e. get_or numbers (place Zero e) 0) whole
-      | One ↦ images_of-at n numbers One (d - 1) (omega arith) ∙ ap (λ e. get_or numbers (place One e) 0) whole
-      | Two ↦ images_of-at n numbers Two (d - 1) (omega arith) ∙ ap (λ e. get_or numbers (place Two e) 0) whole
-    ]
+told_at n numbers m01 m12 i d low high = elim i as (λ j. op (told n numbers m01 m12) j d ≡ get_or numbers (place j d) 0) [
+  | Zero ↦ rows_at n numbers Zero d low high
+  | One ↦ rows_at n numbers One d low high
+  | Two ↦ rows_at n numbers Two d low high
+]
 
 pub lengths_told : (n : ℕ) (numbers m01 m12 : List ℕ) (i : Index) → length (operation (told n numbers m01 m12) i) ≡ n
 lengths_told n numbers m01 m12 i = elim i as (λ j. length (operation (told n numbers m01 m12) j) ≡ n) [
@@ -115,7 +116,8 @@ told_list s numbers is whole begins i =
     ext_get_or 0 (images_of s.size numbers i) (operation s i) (size ∙ sym own) (λ k low.
     let inside : place i (1 + k) < 3 * s.size = place_inside i (1 + k) s.size (omega arith) (omega arith) in
     let back : 1 + k - 1 ≡ k = omega arith in
-    images_of-at s.size numbers i k (omega arith)
+    ap (λ j. get_or (images_of s.size numbers i) j 0) (sym back)
+    ∙ rows_at s.size numbers i (1 + k) (omega arith) (omega arith)
     ∙ sym (begins_at numbers (code s) (place i (1 + k)) begins (omega arith))
     ∙ image_at s i (1 + k) (omega arith) inside
     ∙ ap (λ j. get_or (operation s i) j 0) back)

@@ -11,6 +11,5 @@ pub mod Stem
 pub mod Growth
 pub mod Opening
 pub mod Children
-pub mod Building
 pub mod Table
 pub mod Walk

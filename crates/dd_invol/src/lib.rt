@@ -1,7 +1,6 @@
 //! Prefixes of codes, and the tables of involutions under them.
 #![tactic(auto)]
 
-mod building;
 mod laws;
 mod next_table;
 mod numbering;
@@ -17,7 +16,6 @@ mod tests;
 mod traversal;
 mod walk;
 
-pub use building::build_if;
 pub use laws::{each_least_code_begins_with_one_job, each_member_has_one_table};
 pub use numbering::{can_follow, greatest, is_first_visit};
 pub use openings::{is_opening, opening};

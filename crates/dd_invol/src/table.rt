@@ -1,84 +1,19 @@
-ghost use Rattle.std.specs.Prelude.{◌≡◌, ◌≢◌, ◌↔◌, ℕ, ◌+◌, ◌*◌, ◌≤◌, ◌<◌, [], IsTrue, IfOk, MatchOption, length, slice_index};
-ghost use Rattle.dd_model.specs.Symbol.{AreInvolutions};
-ghost use Rattle.dd_model.specs.Cell.{IsPeriod};
-ghost use Rattle.dd_invol.specs.Places.{place};
-ghost use Rattle.dd_invol.specs.Table.{AreChambers, ArePeriods, images_of, told};
+ghost use Rattle.std.specs.Prelude.{◌≡◌, ℕ, ◌*◌, ◌≤◌, IfOk, MatchOption, length};
 
-use crate::building::build_if;
 use dd_model::{Index, Memory, Pair};
-use dd_symbol::Connected;
+use dd_symbol::{Connected, Involutions, build_if};
 use std::alloc::Global;
 use std::marker::Model;
 
-/// Whether each number is a chamber.
-fn are_chambers(size: u8, numbers: &[u8]) -> bool
-    ensures { IsTrue result ↔ AreChambers size numbers.now }
+/// The numbers, wide enough for images of larger tables.
+fn widened(alloc: Global, numbers: &[u8]) -> Result<Vec<u32>, Memory>
+    ensures { IfOk result (λ wide. wide.items ≡ numbers.now) }
 {
+    let mut wide = Vec::with_capacity(alloc, numbers.len())?;
     for number in numbers {
-        if *number == 0 || *number > size {
-            return false;
-        }
+        wide.push(u32::from(*number))?;
     }
-    true
-}
-
-/// The image of a chamber in numbers that stand in the order of codes.
-fn image_in(numbers: &[u8], i: Index, chamber: u8) -> u8
-    requires low { 1 ≤ chamber }
-    requires inside { 3 * chamber ≤ length numbers.now }
-    ensures { result ≡ slice_index numbers.now (place i chamber) }
-{
-    let row = 3 * (chamber as usize - 1);
-    match i {
-        Index::Zero => numbers[row],
-        Index::One => numbers[row + 1],
-        Index::Two => numbers[row + 2],
-    }
-}
-
-/// The images of all chambers under an involution.
-fn images(alloc: Global, size: u8, numbers: &[u8], i: Index) -> Result<Vec<u32>, Memory>
-    requires whole { length numbers.now ≡ 3 * size }
-    ensures { IfOk result (λ images. images.items ≡ images_of size numbers.now i) }
-{
-    let mut images = Vec::with_capacity(alloc, size as usize)?;
-    for k in 0..size {
-        images.push(image_in(numbers, i, k + 1) as u32)?;
-    }
-    Ok(images)
-}
-
-/// The least number of turns that fixes a chamber, where the numbers tell involutions. Where they
-/// do not, the walk may never come back; so it goes on for as many turns as there are chambers.
-fn turns(size: u8, numbers: &[u8], pair: Pair, chamber: u8) -> u32
-    requires whole { length numbers.now ≡ 3 * size }
-    requires within { AreChambers size numbers.now }
-    requires chamber { (1 ≤ chamber) × (chamber ≤ size) }
-    ensures { AreInvolutions (told size numbers.now [] [])
-        → IsPeriod (told size numbers.now [] []) pair chamber result }
-{
-    let mut place = chamber;
-    for turn in 0..size {
-        let neighbor = image_in(numbers, pair.first(), place);
-        place = image_in(numbers, pair.second(), neighbor);
-        if place == chamber {
-            return turn as u32 + 1;
-        }
-    }
-    1
-}
-
-/// The least numbers of turns that fix the chambers.
-fn periods(alloc: Global, size: u8, numbers: &[u8], pair: Pair) -> Result<Vec<u32>, Memory>
-    requires whole { length numbers.now ≡ 3 * size }
-    requires within { AreChambers size numbers.now }
-    ensures { IfOk result (λ periods. ArePeriods size numbers.now pair periods.items) }
-{
-    let mut periods = Vec::with_capacity(alloc, size as usize)?;
-    for k in 0..size {
-        periods.push(turns(size, numbers, pair, k + 1))?;
-    }
-    Ok(periods)
+    Ok(wide)
 }
 
 /// Three whole involutions of one size, connected, with s0 s2 = s2 s0. They are kept as the symbol
@@ -113,17 +48,13 @@ impl Table {
             (λ found. MatchOption found (HasNoTable size numbers.now)
             (λ table. IsTableOf size numbers.now table)) }
     {
-        if !are_chambers(size, numbers) {
+        let rows = widened(alloc, numbers)?;
+        let Ok(involutions) = Involutions::from_rows(rows, u32::from(size)) else {
             return Ok(None);
-        }
-        let ops = [
-            images(alloc, size, numbers, Index::Zero)?,
-            images(alloc, size, numbers, Index::One)?,
-            images(alloc, size, numbers, Index::Two)?,
-        ];
-        let m01 = periods(alloc, size, numbers, Pair::Tile)?;
-        let m12 = periods(alloc, size, numbers, Pair::Vertex)?;
-        let Some(symbol) = build_if(alloc, ops, m01, m12)? else {
+        };
+        let m01 = involutions.periods(alloc, Pair::Tile)?;
+        let m12 = involutions.periods(alloc, Pair::Vertex)?;
+        let Some(symbol) = build_if(alloc, involutions, m01, m12)? else {
             return Ok(None);
         };
         Ok(Some(Table { symbol }))

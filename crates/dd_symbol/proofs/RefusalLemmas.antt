@@ -6,12 +6,12 @@ use Rattle.std.specs.Prelude.{Vec}
 use Rattle.std.proofs.lemmas.List.{get_or-map}
 use Rattle.dd_model.specs.declared.pair.Pair.{Pair}
 use Rattle.dd_model.specs.declared.pair.Pair.TheVariants.{Edge}
-use Rattle.dd_model.specs.Symbol.{Symbol, IsSymbol, IsChamber, op, degree}
+use Rattle.dd_model.specs.Symbol.{Symbol, IsSymbol, AreInvolutions, IsChamber, op, degree}
 use Rattle.dd_model.specs.Connected.{IsReached}
 use Rattle.dd_model.specs.Cell.{InCell, turned}
 use Rattle.dd_symbol.specs.Building.{listed, lists, given, IsConnectedSymbol, IsAccepted}
 use Rattle.dd_symbol.specs.Images.{with_degrees}
-use Rattle.dd_symbol.specs.Refusals.{HasSize, IsInvolutionsFault, IsFault, IsCause, IsRefused}
+use Rattle.dd_symbol.specs.Refusals.{HasSize, IsRowsFault, IsInvolutionsFault, IsFault, IsCause, IsRefused}
 use Rattle.dd_symbol.specs.declared.refusals.Refusal.{Refusal}
 use Rattle.dd_symbol.specs.declared.refusals.Refusal.TheVariants.{Empty, TooManyChambers, OpRange, NotInvolution, NotCommuting, NotConnected, DegreeZero, DegreeVaries, NotMultiple, BranchingTooLarge, Memory}
 use Rattle.dd_symbol.proofs.DegreeLemmas.{multiple-from_turns}
@@ -86,6 +86,34 @@ refused-from_fault limit s within (DegreeVaries p d) fault = (sized limit s d wi
 refused-from_fault limit s within (NotMultiple p d r m) fault = (sized limit s d within fault.first.chamber, fault)
 refused-from_fault limit s within (BranchingTooLarge p d v) fault = (sized limit s d within fault.first.chamber, fault)
 refused-from_fault limit s within Memory fault = tt
+
+-- what is refused of rows is refused of involutions
+pub fault_of_rows : (s : Symbol) (why : Refusal) → IsRowsFault s why → IsInvolutionsFault s why
+fault_of_rows s Empty fault = fault
+fault_of_rows s (TooManyChambers n) fault = fault
+fault_of_rows s (OpRange i d) fault = fault
+fault_of_rows s (NotInvolution i d) fault = fault
+fault_of_rows s (NotCommuting d) fault = absurd fault
+fault_of_rows s (NotConnected d) fault = absurd fault
+fault_of_rows s (DegreeZero p d) fault = fault
+fault_of_rows s (DegreeVaries p d) fault = fault
+fault_of_rows s (NotMultiple p d r m) fault = fault
+fault_of_rows s (BranchingTooLarge p d v) fault = fault
+fault_of_rows s Memory fault = tt
+
+-- rows of involutions have no fault
+pub no_rows_fault : (s : Symbol) (why : Refusal) → AreInvolutions s → IsRowsFault s why → ⊥
+no_rows_fault s Empty inv fault = fault
+no_rows_fault s (TooManyChambers n) inv fault = fault
+no_rows_fault s (OpRange i d) inv fault = let f = fault.first in f.fails ((inv i).within d f.chamber)
+no_rows_fault s (NotInvolution i d) inv fault = let f = fault.first in f.fails ((inv i).involutive d f.chamber)
+no_rows_fault s (NotCommuting d) inv fault = fault
+no_rows_fault s (NotConnected d) inv fault = fault
+no_rows_fault s (DegreeZero p d) inv fault = fault
+no_rows_fault s (DegreeVaries p d) inv fault = fault
+no_rows_fault s (NotMultiple p d r m) inv fault = fault
+no_rows_fault s (BranchingTooLarge p d v) inv fault = fault
+no_rows_fault s Memory inv fault = fault
 
 -- what is refused of involutions is refused of a symbol with them
 pub fault_of_involutions : (s t : Symbol) → HaveSameInvolutions s t → (why : Refusal) → IsInvolutionsFault s why → IsFault t why

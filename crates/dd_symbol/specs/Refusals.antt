@@ -10,6 +10,12 @@ pub record HasSize (limit : ℕ) (s : Symbol) : Type 0 where
   pub some : 1 ≤ s.size
   pub within : s.size ≤ limit
 
+-- what a refusal says of rows of images
+abbrev pub IsRowsFault : Symbol → Refusal → Type 0
+IsRowsFault s (OpRange i d) = IsOutOfRange s i d
+IsRowsFault s (NotInvolution i d) = IsNoInvolution s i d
+IsRowsFault s why = ⊥
+
 -- what a refusal says of three lists of images
 abbrev pub IsInvolutionsFault : Symbol → Refusal → Type 0
 IsInvolutionsFault s (OpRange i d) = IsOutOfRange s i d

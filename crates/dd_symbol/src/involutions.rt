@@ -46,7 +46,7 @@ fn interleaved(alloc: Global, s0: &[u32], s1: &[u32], s2: &[u32]) -> Result<Vec<
 
 impl Involutions {
     ghost use Rattle.dd_symbol.specs.Images.{of_rows, AreThreeInvolutions};
-    ghost use Rattle.dd_symbol.specs.Refusals.{IsInvolutionsFault};
+    ghost use Rattle.dd_symbol.specs.Refusals.{IsRowsFault, IsInvolutionsFault};
     ghost use Rattle.dd_model.specs.Symbol.{AreInvolutions, IsChamber, act, turn};
     ghost use Rattle.dd_model.specs.Code.{all_images};
 
@@ -56,7 +56,7 @@ impl Involutions {
         requires length { length numbers.items ≡ 3 * size }
         requires small { size ≤ 16384 }
         ensures same { IfOk result (λ it. it ≡ of_rows size numbers.items) }
-        ensures why { IfErr result (λ why. IsInvolutionsFault (of_rows size numbers.items) why) }
+        ensures why { IfErr result (λ why. IsRowsFault (of_rows size numbers.items) why) }
     {
         let rows = Rows { numbers, size };
         rows.check()?;

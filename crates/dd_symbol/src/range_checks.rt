@@ -6,7 +6,7 @@ use dd_model::Index;
 
 impl Rows {
     ghost use Rattle.dd_symbol.specs.Images.{rows_of};
-    ghost use Rattle.dd_symbol.specs.Refusals.{IsInvolutionsFault};
+    ghost use Rattle.dd_symbol.specs.Refusals.{IsRowsFault};
     ghost use Rattle.dd_symbol.specs.Causes.{IndexBefore};
     ghost use Rattle.dd_symbol.specs.Conditions.{IsWithin, IsInvolutive};
     ghost use Rattle.dd_model.specs.Symbol.{AreInvolutions};
@@ -15,7 +15,7 @@ impl Rows {
     fn check_range(&self, i: Index) -> Result<(), Refusal>
         requires before { IndexBefore (IsWithin (rows_of self.now)) i }
         ensures within { OnOk result (IsWithin (rows_of self.now) i) }
-        ensures why { IfErr result (λ why. IsInvolutionsFault (rows_of self.now) why) }
+        ensures why { IfErr result (λ why. IsRowsFault (rows_of self.now) why) }
     {
         for k in 0..self.size() {
             let chamber = k + 1;
@@ -31,7 +31,7 @@ impl Rows {
         requires within { (j : Index) → IsWithin (rows_of self.now) j }
         requires before { IndexBefore (IsInvolutive (rows_of self.now)) i }
         ensures involutive { OnOk result (IsInvolutive (rows_of self.now) i) }
-        ensures why { IfErr result (λ why. IsInvolutionsFault (rows_of self.now) why) }
+        ensures why { IfErr result (λ why. IsRowsFault (rows_of self.now) why) }
     {
         for k in 0..self.size() {
             let chamber = k + 1;
@@ -46,7 +46,7 @@ impl Rows {
     /// Refuses images that are not those of three involutions of the chambers.
     pub(crate) fn check(&self) -> Result<(), Refusal>
         ensures involutions { OnOk result (AreInvolutions (rows_of self.now)) }
-        ensures why { IfErr result (λ why. IsInvolutionsFault (rows_of self.now) why) }
+        ensures why { IfErr result (λ why. IsRowsFault (rows_of self.now) why) }
     {
         for i in Index::ALL {
             self.check_range(i)?;
