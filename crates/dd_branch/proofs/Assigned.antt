@@ -7,7 +7,7 @@ use Rattle.dd_model.specs.Code.{code, all_images, count_from}
 use Rattle.dd_model.specs.Wanted.{IsMember}
 use Rattle.dd_model.proofs.Codes.{length-flat_images}
 use Rattle.dd_model.proofs.CountFrom.{count_from-more}
-use Rattle.dd_symbol.specs.Table.{column, part}
+use Rattle.dd_branch.specs.WholePrefix.{part}
 use Rattle.dd_shares.proofs.Bounds.{rounded, rounded_small}
 use Rattle.dd_invol.specs.Under.{IsUnder}
 use Rattle.dd_invol.proofs.Ascending.{begins_at}
@@ -60,18 +60,6 @@ part_small xs m parts small = ⊎_elim
     (cases_lt m 1)
 
 -- ## Lists that are read from a prefix
-
-pub no_column : (xs : List ℕ) (i : ℕ) → [] ≡ column xs i 0
-unfolding column
-no_column xs i = refl
-
-pub column_more : (xs : List ℕ) (i k : ℕ) → column xs i (k + 1) ≡ column xs i k ++ get_or xs (3 * k + i) 0 ∷ []
-unfolding column
-column_more xs i k =
-    let here : 0 + k ≡ k = omega arith in
-    ap (map (λ j. get_or xs (3 * j + i) 0)) (count_from-more 0 k)
-    ∙ map-append (λ j. get_or xs (3 * j + i) 0) (count_from 0 k) ((0 + k) ∷ [])
-    ∙ ap (λ j. map (λ j. get_or xs (3 * j + i) 0) (count_from 0 k) ++ get_or xs (3 * j + i) 0 ∷ []) here
 
 pub part_is : (xs : List ℕ) (k n : ℕ) → take n (drop k xs) ≡ part xs k n
 unfolding part

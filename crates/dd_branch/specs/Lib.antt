@@ -5,3 +5,4 @@ pub mod Rests
 pub mod Assignment
 pub mod Members
 pub mod Descent
+pub mod WholePrefix

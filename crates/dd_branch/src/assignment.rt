@@ -4,8 +4,8 @@ ghost use Rattle.std.specs.List.{slice_get};
 ghost use Rattle.dd_model.specs.Symbol.{Symbol as Tiling};
 ghost use Rattle.dd_model.specs.Code.{code};
 ghost use Rattle.dd_model.specs.Wanted.{IsMember};
-ghost use Rattle.dd_symbol.specs.Table.{column, part, symbol_with};
 ghost use Rattle.dd_invol.specs.Under.{HasNothingUnder, IsUnder};
+ghost use Rattle.dd_branch.specs.WholePrefix.{part, symbol_with};
 ghost use Rattle.dd_branch.specs.Assignment.{IsAssignment, IsBeginning, prefix_of, shortened, told};
 
 use crate::places::{Place, add_places, least_choice};
@@ -13,9 +13,9 @@ use crate::reciprocals::{DEGREE_UNIT, reciprocals};
 use crate::rests::Rests;
 use arrayvec::ArrayVec;
 use dd_canon::is_least;
-use dd_invol::{CollectingSearch, PrefixSearch, build_if};
+use dd_invol::{CollectingSearch, PrefixSearch};
 use dd_model::{Memory, Pair, Request};
-use dd_symbol::{Connected, Symbol};
+use dd_symbol::{Connected, Involutions, Symbol, build_if};
 use dd_wanted::is_wanted;
 use std::alloc::Global;
 
@@ -162,31 +162,17 @@ impl Assignment {
         2 * self.lower_sum() > flat
     }
 
-    /// The images of the prefix under an involution.
-    fn images(&self, i: usize) -> Result<Vec<u32>, Memory>
-        requires whole { length (prefix_of self.now) ≡ 5 * self.now.size }
-        requires involution { i < 3 }
+    /// Some numbers of the prefix, from a place on.
+    fn numbers(&self, from: usize, count: usize) -> Result<Vec<u32>, Memory>
+        requires { from + count ≤ length (prefix_of self.now) }
         ensures { IfOk result
-            (λ images. images.items ≡ column (prefix_of self.now) i self.now.size) }
+            (λ numbers. numbers.items ≡ part (prefix_of self.now) from count) }
     {
-        let mut images = Vec::with_capacity(self.alloc, self.size as usize)?;
-        for k in 0..self.size as usize {
-            images.push(u32::from(self.prefix.as_slice()[3 * k + i]))?;
+        let mut numbers = Vec::with_capacity(self.alloc, count)?;
+        for k in 0..count {
+            numbers.push(u32::from(self.prefix.as_slice()[from + k]))?;
         }
-        Ok(images)
-    }
-
-    /// The degrees of the prefix from a place on, one for each chamber.
-    fn degrees(&self, from: usize) -> Result<Vec<u32>, Memory>
-        requires { from + self.now.size ≤ length (prefix_of self.now) }
-        ensures { IfOk result
-            (λ degrees. degrees.items ≡ part (prefix_of self.now) from self.now.size) }
-    {
-        let mut degrees = Vec::with_capacity(self.alloc, self.size as usize)?;
-        for k in 0..self.size as usize {
-            degrees.push(u32::from(self.prefix.as_slice()[from + k]))?;
-        }
-        Ok(degrees)
+        Ok(numbers)
     }
 
     /// The symbol whose code is the prefix, if there is one.
@@ -198,12 +184,13 @@ impl Assignment {
             (λ c. c ≡ symbol_with self.now.size (prefix_of self.now))) }
     {
         let n = self.size as usize;
-        let s0 = self.images(0)?;
-        let s1 = self.images(1)?;
-        let s2 = self.images(2)?;
-        let m01 = self.degrees(3 * n)?;
-        let m12 = self.degrees(4 * n)?;
-        build_if(self.alloc, [s0, s1, s2], m01, m12)
+        let rows = self.numbers(0, 3 * n)?;
+        let Ok(involutions) = Involutions::from_rows(rows, u32::from(self.size)) else {
+            return Ok(None);
+        };
+        let m01 = self.numbers(3 * n, n)?;
+        let m12 = self.numbers(4 * n, n)?;
+        build_if(self.alloc, involutions, m01, m12)
     }
 
     /// The member whose code is the prefix, if there is one.
@@ -264,7 +251,8 @@ impl Assignment {
 
 impl PrefixSearch for Assignment {
     ghost use Rattle.dd_model.specs.Wanted.{IsMember};
-    ghost use Rattle.dd_branch.specs.Assignment.{IsAssignment, prefix_of, shortened};
+    ghost use Rattle.dd_branch.specs.WholePrefix.{part, symbol_with};
+ghost use Rattle.dd_branch.specs.Assignment.{IsAssignment, prefix_of, shortened};
 
     ghost request = { λ a. a.request };
 

@@ -1,14 +1,13 @@
 ghost use Rattle.std.specs.Prelude.{◌≡◌, ◌⊎◌, ℕ, ◌*◌, ◌≤◌, ◌<◌, MatchOption, length};
 ghost use Rattle.dd_model.specs.Symbol.{IsChamber};
-ghost use Rattle.dd_model.specs.Cell.{IsLeastTurns};
 ghost use Rattle.dd_branch.specs.Choice.{IsChoice, HasNoChoiceFrom, IsLeastChoice};
-ghost use Rattle.dd_branch.specs.Place.{IsRoot, IsPlaceOf, HasPlaces};
+ghost use Rattle.dd_branch.specs.Place.{IsPlaceOf, HasPlaces};
 ghost use Rattle.dd_branch.specs.Reciprocals.{degree_unit};
 
 use crate::reciprocals::{lower_share, upper_share};
 use arrayvec::ArrayVec;
 use dd_model::{Allowed, Pair};
-use dd_symbol::Connected;
+use dd_symbol::{CellShape, Connected};
 
 /// What a table tells of one degree. The degrees of a table have places, those of the tiles at the
 /// chambers 1 to n first, and then those of the vertices.
@@ -49,35 +48,6 @@ pub(crate) fn least_choice(set: &Allowed, turns: u8, k: u8) -> Option<u8>
     None
 }
 
-/// The least chamber of the cell of a chamber, which is met within r turns.
-fn least_of_cell(table: &Connected, pair: Pair, chamber: u32, turns: u8) -> u32
-    requires chamber { IsChamber table.now chamber }
-    requires turns { IsLeastTurns table.now pair chamber turns }
-    ensures { IsRoot table.now pair chamber result }
-{
-    let symbol = table.symbol();
-    let mut least = chamber;
-    let mut place = chamber;
-    for _turn in 0..turns {
-        let neighbor = symbol.op(pair.first(), place);
-        least = least.min(place).min(neighbor);
-        place = symbol.op(pair.second(), neighbor);
-    }
-    least
-}
-
-/// The least positive number of turns that fixes a chamber of the cell of a chamber.
-fn turns_of(table: &Connected, pair: Pair, chamber: u32) -> u8
-    requires small { table.now.size ≤ 36 }
-    requires chamber { IsChamber table.now chamber }
-    ensures turns { IsLeastTurns table.now pair chamber result }
-    ensures few { result ≤ 36 }
-{
-    let symbol = table.symbol();
-    let turns = symbol.degree(pair, chamber) / symbol.branching(pair, chamber);
-    turns as u8
-}
-
 /// DEGREE_UNIT divided by the least degree that may stand at a place, rounded up.
 fn most_share(set: &Allowed, turns: u8) -> u64
     requires { turns ≤ 36 }
@@ -97,8 +67,8 @@ fn place_of(table: &Connected, set: &Allowed, pair: Pair, first: u8, chamber: u3
     requires chamber { IsChamber table.now chamber }
     ensures { IsPlaceOf table.now set.now pair first chamber result }
 {
-    let turns = turns_of(table, pair, chamber);
-    let least = least_of_cell(table, pair, chamber, turns);
+    let CellShape { least, r, .. } = table.symbol().cell(pair, chamber);
+    let turns = r as u8;
     Place {
         root: first + (least - 1) as u8,
         turns,

@@ -1,13 +1,12 @@
 -- Tables of one size have the same involutions exactly where their codes begin with the same images.
 use Rattle.std.proofs.Common.{◌≡◌, ◌↔◌, ℕ, zero, suc, ◌+◌, ◌-◌, ◌*◌, ◌/◌, ◌%◌, ◌<◌, ◌≤◌, List, ◌++◌, length, length-take-le, length-append, get_or, take, refl, sym, ap, ◌∙◌, arith}
-use Rattle.std.proofs.lemmas.List.{ext_get_or, get_or-map, get_or-take, length-map}
+use Rattle.std.proofs.lemmas.List.{ext_get_or, get_or-take}
 use Rattle.dd_model.specs.declared.index.Index.{Index}
 use Rattle.dd_model.specs.declared.index.Index.TheVariants.{Zero, One, Two}
 use Rattle.dd_model.specs.Symbol.{Symbol, IsTable, op, operation}
 use Rattle.dd_model.specs.Lists.{Begins}
-use Rattle.dd_model.specs.Code.{code, all_images, count_from}
+use Rattle.dd_model.specs.Code.{code, all_images}
 use Rattle.dd_model.proofs.Codes.{length-flat_images}
-use Rattle.dd_model.proofs.CountFrom.{length-count_from, get_or-count_from}
 use Rattle.dd_invol.specs.Places.{index_at, place}
 use Rattle.dd_symbol.specs.Images.{of_rows}
 use Rattle.dd_symbol.proofs.TableLemmas.{item-first, item-column, lengths}

@@ -1,23 +1,12 @@
 -- How a table is read from numbers.
-use Rattle.std.proofs.Common.{◌≡◌, ℕ, suc, ◌+◌, ◌*◌, ◌<◌, ◌≤◌, List, [], ◌∷◌, ◌++◌, length, get_or, map, refl, sym, ap, ◌∙◌, subst, ⊎_elim, arith}
-use Rattle.std.proofs.lemmas.Bool.{cases_lt}
-use Rattle.std.proofs.lemmas.List.{map_push}
-use Rattle.dd_model.specs.declared.index.Index.{Index}
-use Rattle.dd_model.specs.declared.index.Index.TheVariants.{Zero, One, Two}
-use Rattle.dd_model.specs.declared.pair.Pair.{Pair}
+use Rattle.std.proofs.Common.{◌≡◌, ℕ, ◌*◌, ◌≤◌, List, [], length, refl, sym, ap, ◌∙◌, subst, arith}
 use Rattle.dd_model.specs.declared.pair.Pair.TheVariants.{Tile, Vertex, Edge}
-use Rattle.dd_model.specs.Symbol.{Symbol, IsTable, IsChamber, AreInvolutions, HasDegree, item, first, second, op, act, turn}
+use Rattle.dd_model.specs.Symbol.{Symbol, IsTable, IsChamber, AreInvolutions, HasDegree, item}
 use Rattle.dd_model.specs.Connected.{Connected}
-use Rattle.dd_model.specs.Cell.{IsPeriod, turned}
 use Rattle.dd_model.specs.Lists.{Begins}
-use Rattle.dd_model.specs.Code.{code, count_from}
-use Rattle.dd_model.proofs.Turns.{turned-last, period_bound}
-use Rattle.dd_model.proofs.CountFrom.{count_from-more}
-use Rattle.dd_invol.specs.Places.{place}
+use Rattle.dd_model.specs.Code.{code}
 use Rattle.dd_invol.specs.Table.{HasNoTable, IsBareTable, IsTableOf, IsUnbranched, told}
 use Rattle.dd_model.specs.Involutions.{HaveSameInvolutions}
-use Rattle.dd_invol.proofs.Ascending.{begins_at}
-use Rattle.dd_invol.proofs.Places.{chamber_at}
 use Rattle.dd_invol.proofs.TableFronts.{told_same, told_begins, lengths_told}
 use Rattle.dd_model.proofs.SameInvolutions.{chamber-same, involutions-same, connected-same, turned-same, period-same}
 use Rattle.dd_invol.proofs.Unbranched.{HasPeriods, unbranched_of_periods, small_of_periods}
@@ -90,8 +79,8 @@ told_accepted s n numbers m01 m12 few whole both is connected commuting size beg
       connected = connected-same s t same connected;
     }
 
-pub none_accepted : (n : ℕ) (numbers m01 m12 : List ℕ) → n ≤ 36 → length numbers ≡ 3 * n → HaveBothPeriods n numbers m01 m12 → (IsConnectedSymbol (told n numbers m01 m12) → ⊥) → HasNoTable n numbers
-none_accepted n numbers m01 m12 few whole both refused s is connected commuting size begins =
+pub none_built : (n : ℕ) (numbers m01 m12 : List ℕ) → n ≤ 36 → length numbers ≡ 3 * n → HaveBothPeriods n numbers m01 m12 → (IsConnectedSymbol (told n numbers m01 m12) → ⊥) → HasNoTable n numbers
+none_built n numbers m01 m12 few whole both refused s is connected commuting size begins =
     refused (told_accepted s n numbers m01 m12 few whole both is connected commuting size begins)
 
 -- what was built is bare

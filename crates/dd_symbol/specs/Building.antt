@@ -31,6 +31,11 @@ pub record IsConnectedSymbol (s : Symbol) : Type 0 where
   pub symbol : IsSmallSymbol s
   pub connected : Connected s
 
+-- the symbol of these lists, which is connected
+pub record IsBuilt (lists s : Symbol) : Type 0 where
+  pub same : s ≡ lists
+  pub connected : IsConnectedSymbol lists
+
 -- a connected symbol within the limit
 pub record IsAccepted (limit : ℕ) (s : Symbol) : Type 0 where
   pub symbol : IsSmallSymbol s

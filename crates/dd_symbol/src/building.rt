@@ -1,5 +1,5 @@
 ghost use Rattle.std.specs.Prelude.{◌≡◌, ◌≢◌, ◌≤◌, length, IfOk, IfErr, OnOk, MatchOption};
-ghost use Rattle.dd_symbol.specs.Building.{given, HaveOneLength, IsAccepted, IsConnectedSymbol};
+ghost use Rattle.dd_symbol.specs.Building.{given, HaveOneLength, IsAccepted, IsBuilt, IsConnectedSymbol};
 ghost use Rattle.dd_symbol.specs.Images.{with_degrees};
 ghost use Rattle.dd_symbol.specs.Refusals.{IsRefused, IsFault, IsCause};
 
@@ -68,7 +68,7 @@ pub fn build_if(
     requires vertices { length m12.items ≡ involutions.size }
     ensures { IfOk result (λ found. MatchOption found
         (IsConnectedSymbol (with_degrees involutions m01.items m12.items) → ⊥)
-        (λ it. it ≡ with_degrees involutions m01.items m12.items)) }
+        (IsBuilt (with_degrees involutions m01.items m12.items))) }
 {
     match build_on(alloc, involutions, m01, m12) {
         Ok(symbol) => Ok(Some(symbol)),

@@ -1,6 +1,6 @@
 use Rattle.std.proofs.Common.{◌≡◌, MatchOption, sym, ◌∙◌, subst}
 use Rattle.dd_model.specs.Wanted.{IsMember}
-use Rattle.dd_symbol.specs.Table.{symbol_with}
+use Rattle.dd_branch.specs.WholePrefix.{symbol_with}
 use Rattle.dd_invol.specs.Under.{HasNothingUnder}
 use Rattle.dd_branch.specs.Assignment.{prefix_of}
 use Rattle.dd_branch.proofs.WholePrefixes.{symbol_of_prefix, member_under}
