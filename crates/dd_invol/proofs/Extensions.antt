@@ -14,7 +14,7 @@ use Rattle.dd_invol.specs.FirstVisit.{IsFirstVisitPrefix, CanFollow}
 use Rattle.dd_model.specs.Jobs.{IsJobBelow, AreAscendingJobs, extended}
 use Rattle.dd_model.specs.Jobs.{IsMemberUnder, AreExtensions, AreChildren}
 use Rattle.dd_model.proofs.Lists.{Contains-one}
-use Rattle.dd_invol.proofs.Ascending.{begins_from, begins_less}
+use Rattle.dd_model.proofs.Ascending.{begins_from, begins_less}
 use Rattle.dd_invol.proofs.Growth.{begins_take}
 use Rattle.dd_invol.proofs.Follows.{member_orderly}
 use Rattle.dd_invol.proofs.FirstVisits.{first_less, old_at}

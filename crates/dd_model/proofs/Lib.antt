@@ -48,3 +48,6 @@ pub mod ReadingExamples
 pub mod WrittenLines
 pub mod WrittenNumbers
 pub mod SameInvolutions
+pub mod Ascending
+pub mod Positions
+pub mod JoinedLists
