@@ -67,6 +67,16 @@ begins_from (x ∷ xs) (y ∷ ys) long same = (sym (same 0 (omega arith)), begin
 pub begins_itself : (xs : List ℕ) → Begins xs xs
 begins_itself xs = begins_from xs xs (omega arith) (λ u h. refl)
 
+pub begins_through : (xs ys zs : List ℕ) → Begins xs ys → Begins ys zs → Begins xs zs
+begins_through [] ys zs a b = tt
+begins_through (x ∷ xs) [] zs a b = absurd a
+begins_through (x ∷ xs) (y ∷ ys) [] a b = absurd b
+begins_through (x ∷ xs) (y ∷ ys) (z ∷ zs) a b = (a.0 ∙ b.0, begins_through xs ys zs a.1 b.1)
+
+pub begins_append : (xs ys : List ℕ) → Begins xs (xs ++ ys)
+begins_append [] ys = tt
+begins_append (x ∷ xs) ys = (refl, begins_append xs ys)
+
 -- of two lists of one length the one that begins with the other is the other
 pub same_when_whole : (xs ys : List ℕ) → Begins xs ys → length xs ≡ length ys → ys ≡ xs
 same_when_whole [] [] b e = refl

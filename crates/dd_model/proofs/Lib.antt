@@ -50,4 +50,6 @@ pub mod WrittenNumbers
 pub mod SameInvolutions
 pub mod Ascending
 pub mod Positions
+pub mod Pairs
+pub mod Without
 pub mod JoinedLists

@@ -270,6 +270,26 @@ job_comes_below j k (inr h) =
     ap (λ o. ordering_then o (slice_cmp nat_cmp j.prefix k.prefix)) (subst (λ z. nat_cmp j.size z ≡ Equal) h.0 (nat_cmp-same j.size))
     ∙ smaller_less j.prefix k.prefix h.1
 
+smaller_apart : (xs ys : List ℕ) → IsSmallerWhereTheyDiffer xs ys → (Begins xs ys → ⊥) × (Begins ys xs → ⊥)
+smaller_apart xs ys less = (
+  (λ begins. smaller_not_itself ys (smaller_fronts xs ys ys ys less begins (begins_itself ys))),
+  (λ begins. smaller_not_itself xs (smaller_fronts xs ys xs xs less (begins_itself xs) begins)),
+)
+
+comes_part : (j k : Job) → Comes j.size j.prefix k.size k.prefix → IsPartBelow j k
+comes_part j k comes = record {
+  below = job_comes_below j k comes;
+  apart = λ size. ⊎_elim (λ lower. absurd (omega arith)) (λ both. smaller_apart j.prefix k.prefix both.1) comes;
+}
+
+-- both jobs may have longer prefixes
+pub part_fronts : (j k j' k' : Job) → IsPartBelow j k → j'.size ≡ j.size → k'.size ≡ k.size → Begins j.prefix j'.prefix → Begins k.prefix k'.prefix → IsPartBelow j' k'
+part_fronts j k j' k' part sj sk bj bk =
+    comes_part j' k'
+    (subst (λ m. Comes m j'.prefix k'.size k'.prefix) (sym sj)
+    (subst (λ n. Comes j.size j'.prefix n k'.prefix) (sym sk)
+    (comes_fronts j.size k.size j.prefix k.prefix j'.prefix k'.prefix (part_comes j k part) bj bk)))
+
 -- what comes with a symbol under a job comes with the job, and the other way round
 under_comes : (q : Request) (j : Job) (s : Symbol) (m : ℕ) (xs : List ℕ) → IsMemberUnder q j s → Comes m xs j.size j.prefix → Comes m xs s.size (code s)
 under_comes q j s m xs under comes =

@@ -7,7 +7,8 @@ use Rattle.dd_model.specs.Text.{AreLines, IsText, beginning}
 use Rattle.dd_model.specs.Jobs.{IsJobOf, AreMembersUnder}
 use Rattle.dd_model.specs.declared.requests.Request.{Request}
 use Rattle.dd_model.specs.declared.jobs.Job.{Job}
-use Rattle.dd_model.proofs.Texts.{all_from_beginning, without_unique}
+use Rattle.dd_model.proofs.Texts.{all_from_beginning}
+use Rattle.dd_model.proofs.Without.{without_unique}
 use Rattle.dd_ports.specs.Causes.{Rose}
 use Rattle.dd_ports.specs.Grows.{GrowsByPrefix}
 use Rattle.dd_invol.specs.Opening.{IsOpening}
