@@ -320,6 +320,11 @@ before_under q j s t before under = comes_below s t (under_comes q j t s.size (c
 pub before_later : (j k : Job) (s : Symbol) → IsPartBelow j k → IsBefore (At j) s → IsBefore (At k) s
 before_later j k s part before = comes_through s.size j.size k.size (code s) j.prefix k.prefix before (part_comes j k part)
 
+-- what is before a job is before each with a longer prefix
+pub before_longer : (j k : Job) (s : Symbol) → k.size ≡ j.size → Begins j.prefix k.prefix → IsBefore (At j) s → IsBefore (At k) s
+before_longer j k s size begins before =
+    subst (λ n. Comes s.size (code s) n k.prefix) (sym size) (comes_fronts s.size j.size (code s) j.prefix (code s) k.prefix before (begins_itself (code s)) begins)
+
 pub under_before_later : (q : Request) (j k : Job) (s : Symbol) → IsPartBelow j k → IsMemberUnder q j s → IsBefore (At k) s
 under_before_later q j k s part under = comes_under q j s k.size k.prefix under (part_comes j k part)
 
