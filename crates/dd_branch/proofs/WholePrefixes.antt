@@ -10,7 +10,7 @@ use Rattle.dd_model.specs.Cell.{IsBranching}
 use Rattle.dd_model.specs.Lists.{Begins}
 use Rattle.dd_model.specs.Code.{code}
 use Rattle.dd_model.specs.Wanted.{Wanted, IsMember}
-use Rattle.dd_model.proofs.Codes.{same_items}
+use Rattle.dd_model.proofs.Codes.{same_items, length-code}
 use Rattle.dd_model.proofs.Numbers.{quotient_bound}
 use Rattle.dd_model.proofs.SameInvolutions.{involutions-same}
 use Rattle.dd_symbol.specs.Images.{column, of_rows}
@@ -23,7 +23,6 @@ use Rattle.dd_branch.specs.WholePrefix.{part, symbol_with}
 use Rattle.dd_invol.specs.Under.{IsUnder, HasNothingUnder}
 use Rattle.dd_invol.proofs.Follows.{member_orderly}
 use Rattle.dd_invol.proofs.Growth.{begins_take}
-use Rattle.dd_invol.proofs.Places.{length-code}
 use Rattle.dd_invol.proofs.CodeFronts.{image_at}
 use Rattle.dd_branch.proofs.Assigned.{code_degree}
 use Rattle.dd_branch.proofs.Choices.{value_of}

@@ -1,0 +1,7 @@
+pub mod Standing
+pub mod GoingOn
+pub mod Entries
+pub mod Holding
+pub mod Events
+pub mod Absorbing
+pub mod Runs

@@ -3,3 +3,4 @@ pub mod Allowed
 pub mod Step
 pub mod Covered
 pub mod Absorbed
+pub mod Held

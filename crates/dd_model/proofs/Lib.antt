@@ -49,3 +49,9 @@ pub mod WrittenLines
 pub mod WrittenNumbers
 pub mod SameInvolutions
 pub mod FreeWalks
+pub mod Ascending
+pub mod Differing
+pub mod Positions
+pub mod Pairs
+pub mod Without
+pub mod JoinedLists

@@ -1,0 +1,18 @@
+ghost use Rattle.std.specs.Prelude.{ℕ, ◌<◌, List, length, get_or, take, drop};
+ghost use Rattle.std.specs.List.{AllByRecursion};
+ghost use Rattle.dd_model.specs.Symbol.{Symbol, IsTable};
+ghost use Rattle.dd_model.specs.Code.{IsBelow};
+ghost use Rattle.dd_model.specs.Lists.{IsWithout};
+ghost use Rattle.dd_model.specs.Wanted.{IsAscending};
+ghost use Rattle.dd_model.specs.Position.{IsBefore};
+ghost use Rattle.dd_model.specs.declared.jobs.Position.{Position};
+
+/// What comes after a symbol that is not before a position is not before it either. So in an
+/// ascending list what is before the position comes first.
+pub fn not_being_before_a_position_is_closed_upward()
+    ensures symbols { (at : Position) (s t : Symbol) → IsTable s → IsTable t → IsBelow s t
+        → IsBefore at t → IsBefore at s }
+    ensures list { (at : Position) (ss : List Symbol) (i : ℕ) (d : Symbol) → IsAscending ss
+        → AllByRecursion IsTable ss → AllByRecursion (IsBefore at) (take i ss)
+        → (i < length ss → ¬ IsBefore at (get_or ss i d)) → IsWithout (IsBefore at) ss (drop i ss) }
+{}
