@@ -69,7 +69,11 @@ fn lines_of_files(rt: HostRuntime) -> Result<(), Fail> {
             "<1.1:1:1,1,1:3,6>",
             "<1.1:2:1 2,1 2,2:3 6,4>\n",
         ),
-        (SymbolCommand::Derived(Operation::Truncate), SQUARES, OCTAGONS),
+        (
+            SymbolCommand::Derived(Operation::Truncate),
+            SQUARES,
+            OCTAGONS,
+        ),
         (SymbolCommand::Derived(Operation::Chamfer), "", ""),
         (SymbolCommand::Canon, OTHER, OCTAGONS),
         (SymbolCommand::Canon, OCTAGONS, OCTAGONS),

@@ -27,10 +27,8 @@ impl Operation {
     pub fn apply(self, alloc: Global, symbol: &Connected) -> Result<Connected, ApplyFault>
         ensures made { IfOk result (λ derived.
             derived ≡ made (table_of_operation self) symbol.now) }
-        ensures within { OnOk result
-            (symbol.now.size * (table_of_operation self).parts ≤ 1024) }
-        ensures why { IfErr result (λ why.
-            IsFaultOf (table_of_operation self) symbol.now why) }
+        ensures within { OnOk result (symbol.now.size * (table_of_operation self).parts ≤ 1024) }
+        ensures why { IfErr result (λ why. IsFaultOf (table_of_operation self) symbol.now why) }
     {
         match self {
             Operation::Ambo => apply(alloc, &AMBO, symbol),

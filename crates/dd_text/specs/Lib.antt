@@ -9,3 +9,4 @@ pub mod Involutions
 pub mod SymbolFaults
 pub mod FileFaults
 pub mod Items
+pub mod Messages
