@@ -13,11 +13,11 @@ use Rattle.dd_quotient.proofs.ImageLemmas.{between, too_large_or_small}
 use Rattle.dd_template.specs.Table.{Table}
 use Rattle.dd_template.specs.Made.{made}
 use Rattle.dd_template.specs.Lawful.{IsLawful}
-use Rattle.dd_template.specs.Named.{ambo, truncate, chamfer}
-use Rattle.dd_template.proofs.NamedTables.{ambo_lawful, truncate_lawful, chamfer_lawful}
+use Rattle.dd_template.specs.Named.{table_of_operation}
+use Rattle.dd_template.proofs.NamedTables.{operation_lawful}
 use Rattle.dd_template.proofs.MadeSymbols.{made_symbol}
 use Rattle.dd_commands.specs.declared.commands.SymbolCommand.{SymbolCommand}
-use Rattle.dd_commands.specs.declared.commands.SymbolCommand.TheVariants.{Lines, Canon, Minimal, Dual, Ambo, Truncate, Chamfer}
+use Rattle.dd_commands.specs.declared.commands.SymbolCommand.TheVariants.{Lines, Canon, Minimal, Dual, Derived}
 use Rattle.dd_commands.specs.InTurn.{AreInTurn}
 use Rattle.dd_commands.specs.declared.refusals.SymbolFault.{SymbolFault}
 use Rattle.dd_commands.specs.declared.refusals.SymbolFault.TheVariants.{TooManyChambers, BranchingTooLarge}
@@ -45,9 +45,7 @@ made_once Lines s t u readable a b = sym a ∙ b
 made_once Canon s t u readable a b = form_once s t u readable.symbol.symbol.table a b
 made_once Minimal s t u readable a b = image_once s t u readable a b
 made_once Dual s t u readable a b = dual_once s t u readable a b
-made_once Ambo s t u readable a b = derived_once ambo ambo_lawful s t u readable a b
-made_once Truncate s t u readable a b = derived_once truncate truncate_lawful s t u readable a b
-made_once Chamfer s t u readable a b = derived_once chamfer chamfer_lawful s t u readable a b
+made_once (Derived operation) s t u readable a b = derived_once (table_of_operation operation) (operation_lawful operation) s t u readable a b
 
 -- of a symbol with a fault nothing is made
 pub nothing_made : (command : SymbolCommand) (s t : Symbol) (why : SymbolFault) → IsReadable s → IsFaultOf command s why → IsMade command s t → ⊥
@@ -57,12 +55,8 @@ nothing_made Minimal s t (TooManyChambers n) readable fault is = fault
 nothing_made Minimal s t (BranchingTooLarge v) readable fault is =
     too_large_or_small s fault.image is.image fault.map is.map v readable.symbol.symbol.table.involutions fault.first is.is_image is.small.branching
 nothing_made Dual s t why readable fault is = fault
-nothing_made Ambo s t (TooManyChambers n) readable fault is = let few = is.few in let many = fault.1 in omega arith
-nothing_made Ambo s t (BranchingTooLarge v) readable fault is = fault
-nothing_made Truncate s t (TooManyChambers n) readable fault is = let few = is.few in let many = fault.1 in omega arith
-nothing_made Truncate s t (BranchingTooLarge v) readable fault is = fault
-nothing_made Chamfer s t (TooManyChambers n) readable fault is = let few = is.few in let many = fault.1 in omega arith
-nothing_made Chamfer s t (BranchingTooLarge v) readable fault is = fault
+nothing_made (Derived operation) s t (TooManyChambers n) readable fault is = let few = is.few in let many = fault.1 in omega arith
+nothing_made (Derived operation) s t (BranchingTooLarge v) readable fault is = fault
 
 -- of symbols of which one has a fault there is no list of what is made
 pub none_all_made : (command : SymbolCommand) (k : ℕ) (ss ts : List Symbol) (r : SymbolRefusal) → AllByRecursion IsReadable ss → IsFirstFault command k ss r → AreInTurn (IsMade command) ss ts → ⊥

@@ -7,9 +7,9 @@ use Rattle.dd_quotient.specs.Dual.{dual_of}
 use Rattle.dd_quotient.specs.MinimalImage.{IsMinimalImage, HasTooLarge}
 use Rattle.dd_template.specs.Table.{Table}
 use Rattle.dd_template.specs.Made.{made}
-use Rattle.dd_template.specs.Named.{ambo, truncate, chamfer}
+use Rattle.dd_template.specs.Named.{table_of_operation}
 use Rattle.dd_commands.specs.declared.commands.SymbolCommand.{SymbolCommand}
-use Rattle.dd_commands.specs.declared.commands.SymbolCommand.TheVariants.{Lines, Canon, Minimal, Dual, Ambo, Truncate, Chamfer}
+use Rattle.dd_commands.specs.declared.commands.SymbolCommand.TheVariants.{Lines, Canon, Minimal, Dual, Derived}
 use Rattle.dd_commands.specs.declared.refusals.SymbolFault.{SymbolFault}
 use Rattle.dd_commands.specs.declared.refusals.SymbolFault.TheVariants.{TooManyChambers, BranchingTooLarge}
 use Rattle.dd_commands.specs.declared.refusals.SymbolRefusal.{SymbolRefusal}
@@ -33,9 +33,7 @@ IsMade Lines s t = s ≡ t
 IsMade Canon s t = IsLeastForm s t
 IsMade Minimal s t = IsLeastImage s t
 IsMade Dual s t = IsLeastForm (dual_of s) t
-IsMade Ambo s t = IsDerived ambo s t
-IsMade Truncate s t = IsDerived truncate s t
-IsMade Chamfer s t = IsDerived chamfer s t
+IsMade (Derived operation) s t = IsDerived (table_of_operation operation) s t
 
 -- a symbol of n chambers, of which the table would make more than 1,024
 abbrev pub IsTooLong : Table → Symbol → SymbolFault → Type 0
@@ -53,9 +51,7 @@ IsFaultOf Lines s fault = ⊥
 IsFaultOf Canon s fault = ⊥
 IsFaultOf Minimal s fault = IsTooSharp s fault
 IsFaultOf Dual s fault = ⊥
-IsFaultOf Ambo s fault = IsTooLong ambo s fault
-IsFaultOf Truncate s fault = IsTooLong truncate s fault
-IsFaultOf Chamfer s fault = IsTooLong chamfer s fault
+IsFaultOf (Derived operation) s fault = IsTooLong (table_of_operation operation) s fault
 
 -- something is made of a symbol
 abbrev pub IsTaken : SymbolCommand → Symbol → Type 0

@@ -1,4 +1,5 @@
 use crate::*;
+use dd_template::Operation;
 use std::alloc::{AllocError, Global};
 use std::test::Fail;
 
@@ -64,12 +65,16 @@ fn lines_of_files(rt: HostRuntime) -> Result<(), Fail> {
         ),
         (SymbolCommand::Minimal, "<1.1:2:2,2,2:4,4>", SQUARES),
         (
-            SymbolCommand::Ambo,
+            SymbolCommand::Derived(Operation::Ambo),
             "<1.1:1:1,1,1:3,6>",
             "<1.1:2:1 2,1 2,2:3 6,4>\n",
         ),
-        (SymbolCommand::Truncate, SQUARES, OCTAGONS),
-        (SymbolCommand::Chamfer, "", ""),
+        (
+            SymbolCommand::Derived(Operation::Truncate),
+            SQUARES,
+            OCTAGONS,
+        ),
+        (SymbolCommand::Derived(Operation::Chamfer), "", ""),
         (SymbolCommand::Canon, OTHER, OCTAGONS),
         (SymbolCommand::Canon, OCTAGONS, OCTAGONS),
         (SymbolCommand::Canon, "# nothing\n#", ""),
@@ -135,7 +140,7 @@ fn symbols_that_are_refused(rt: HostRuntime) -> Result<(), Fail> {
     let why = SymbolFault::TooManyChambers { n: 342 };
     for (file, symbol) in [(long.as_str(), 1), (second.as_str(), 2)] {
         assert_eq!(rt;
-            fault_of(alloc, SymbolCommand::Truncate, file),
+            fault_of(alloc, SymbolCommand::Derived(Operation::Truncate), file),
             Some(CommandFault::Symbol(SymbolRefusal { symbol, why }))
         );
     }
@@ -145,8 +150,8 @@ fn symbols_that_are_refused(rt: HostRuntime) -> Result<(), Fail> {
         Some(CommandFault::Symbol(SymbolRefusal { symbol: 1, why }))
     );
     for (command, file) in [
-        (SymbolCommand::Truncate, short.as_str()),
-        (SymbolCommand::Ambo, long.as_str()),
+        (SymbolCommand::Derived(Operation::Truncate), short.as_str()),
+        (SymbolCommand::Derived(Operation::Ambo), long.as_str()),
         (SymbolCommand::Canon, sharp),
     ] {
         assert_eq!(rt; fault_of(alloc, command, file), None);

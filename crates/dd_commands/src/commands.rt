@@ -1,3 +1,5 @@
+use dd_template::Operation;
+
 /// A command that writes a line for each symbol of a file.
 #[derive(Clone, Copy, Debug, PartialEq, Eq)]
 pub enum SymbolCommand {
@@ -9,12 +11,8 @@ pub enum SymbolCommand {
     Minimal,
     /// The least form of its dual.
     Dual,
-    /// The least form of the tiling with a vertex on each edge.
-    Ambo,
-    /// The least form of the tiling with its vertices cut off.
-    Truncate,
-    /// The least form of the tiling with its edges made hexagons.
-    Chamfer,
+    /// The least form of a derived tiling.
+    Derived(Operation),
 }
 
 /// A command on the symbols of a file.

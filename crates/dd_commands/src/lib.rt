@@ -7,7 +7,6 @@ mod facts;
 mod file_laws;
 mod file_text;
 mod info;
-mod messages;
 mod refusals;
 mod stop;
 mod symbol_commands;
@@ -21,7 +20,6 @@ pub use file_laws::{
     written_once,
 };
 pub use file_text::text_of_file;
-pub use messages::{fault_message, symbol_message};
 pub use refusals::{SymbolFault, SymbolRefusal};
 
 #[cfg(test)]

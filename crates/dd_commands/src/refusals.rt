@@ -1,3 +1,8 @@
+ghost use Rattle.std.specs.Prelude.{Some};
+ghost use Rattle.dd_commands.specs.Messages.{symbol_fault_text, symbol_refusal_text};
+
+use std::fmt;
+
 /// Why a command makes nothing of a symbol.
 #[derive(Clone, Copy, Debug, PartialEq, Eq)]
 pub enum SymbolFault {
@@ -13,6 +18,17 @@ pub enum SymbolFault {
     },
 }
 
+impl fmt::Display for SymbolFault {
+    ghost output = { λ fault. Some (symbol_fault_text fault) };
+
+    fn fmt<W: fmt::Write>(&self, f: &mut fmt::Formatter<W>) -> fmt::Result {
+        match self {
+            SymbolFault::TooManyChambers { n } => write!(f, "too many chambers {n}"),
+            SymbolFault::BranchingTooLarge { v } => write!(f, "branching too large {v}"),
+        }
+    }
+}
+
 /// A symbol of a file of which a command makes nothing.
 #[derive(Clone, Copy, Debug, PartialEq, Eq)]
 pub struct SymbolRefusal {
@@ -20,4 +36,12 @@ pub struct SymbolRefusal {
     pub symbol: usize,
     /// Why.
     pub why: SymbolFault,
+}
+
+impl fmt::Display for SymbolRefusal {
+    ghost output = { λ refusal. Some (symbol_refusal_text refusal) };
+
+    fn fmt<W: fmt::Write>(&self, f: &mut fmt::Formatter<W>) -> fmt::Result {
+        write!(f, "symbol {}: {}", self.symbol, self.why)
+    }
 }

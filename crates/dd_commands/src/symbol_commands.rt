@@ -1,6 +1,5 @@
 ghost use Rattle.std.specs.Prelude.{IfOk, IfErr};
-ghost use Rattle.dd_template.specs.Table.{table_of};
-ghost use Rattle.dd_template.specs.Lawful.{IsLawful};
+ghost use Rattle.dd_template.specs.Named.{table_of_operation};
 ghost use Rattle.dd_commands.specs.InTurn.{AreInTurn};
 ghost use Rattle.dd_commands.specs.Made.{IsLeastImage, IsDerived, IsTooLong, IsTooSharp, IsMade, IsFaultOf, IsFirstFault};
 ghost use Rattle.dd_commands.specs.Files.{AreLinesOfMade};
@@ -13,10 +12,7 @@ use dd_canon::least_form;
 use dd_model::Memory;
 use dd_quotient::{MinimalFault, dual, minimal_image};
 use dd_symbol::Connected;
-use dd_template::{
-    AMBO, ApplyFault, CHAMFER, TRUNCATE, Template, ambo_is_lawful, apply, chamfer_is_lawful,
-    truncate_is_lawful,
-};
+use dd_template::{ApplyFault, Operation};
 use dd_text::put_lines;
 use std::alloc::Global;
 
@@ -92,18 +88,7 @@ fn made_of_one(
             let dual = dual(alloc, s)?;
             Ok(least_form(alloc, &dual)?)
         }
-        SymbolCommand::Ambo => {
-            ambo_is_lawful();
-            derived(alloc, &AMBO, s)
-        }
-        SymbolCommand::Truncate => {
-            truncate_is_lawful();
-            derived(alloc, &TRUNCATE, s)
-        }
-        SymbolCommand::Chamfer => {
-            chamfer_is_lawful();
-            derived(alloc, &CHAMFER, s)
-        }
+        SymbolCommand::Derived(operation) => derived(alloc, operation, s),
     }
 }
 
@@ -122,17 +107,16 @@ fn least_image(alloc: Global, s: &Connected) -> Result<Connected, Stop<SymbolFau
     Ok(least_form(alloc, &image)?)
 }
 
-/// The least form of what a table makes of a symbol.
-fn derived<const K: usize>(
+/// The least form of what the table of an operation makes of a symbol.
+fn derived(
     alloc: Global,
-    template: &Template<K>,
+    operation: Operation,
     s: &Connected,
 ) -> Result<Connected, Stop<SymbolFault>>
-    requires { IsLawful (table_of template.now) }
-    ensures form { IfOk result (λ form. IsDerived (table_of template.now) s.now form) }
-    ensures why { IfErr result (IsStop (IsTooLong (table_of template.now) s.now)) }
+    ensures form { IfOk result (λ form. IsDerived (table_of_operation operation) s.now form) }
+    ensures why { IfErr result (IsStop (IsTooLong (table_of_operation operation) s.now)) }
 {
-    let made = match apply(alloc, template, s) {
+    let made = match operation.apply(alloc, s) {
         Ok(made) => made,
         Err(ApplyFault::TooManyChambers { n }) => {
             return Err(Stop::Refused(SymbolFault::TooManyChambers { n }));

@@ -22,3 +22,4 @@ pub mod Reading
 pub mod Jobs
 pub mod Joined
 pub mod Involutions
+pub mod Names

@@ -1,6 +1,8 @@
-ghost use Rattle.std.specs.Prelude.{◌≡◌};
+ghost use Rattle.std.specs.Prelude.{◌≡◌, Some};
+ghost use Rattle.dd_model.specs.Names.{pair_name};
 
 use crate::Index;
+use std::fmt;
 
 /// Two of the three involutions. Their orbits are the tiles, the vertices and the edges.
 #[derive(Debug, Clone, Copy, PartialEq, Eq)]
@@ -38,6 +40,18 @@ impl Pair {
             Pair::Tile => Index::One,
             Pair::Vertex => Index::Two,
             Pair::Edge => Index::Two,
+        }
+    }
+}
+
+impl fmt::Display for Pair {
+    ghost output = { λ pair. Some (pair_name pair) };
+
+    fn fmt<W: fmt::Write>(&self, f: &mut fmt::Formatter<W>) -> fmt::Result {
+        match self {
+            Pair::Tile => f.write_str("tile"),
+            Pair::Vertex => f.write_str("vertex"),
+            Pair::Edge => f.write_str("edge"),
         }
     }
 }

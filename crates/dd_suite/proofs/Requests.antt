@@ -11,7 +11,7 @@ use Rattle.dd_words.specs.declared.commands.FileKind.{FileKind}
 use Rattle.dd_words.specs.declared.commands.FileKind.TheVariants as kind
 use Rattle.dd_commands.specs.declared.commands.FileCommand.{FileCommand}
 use Rattle.dd_commands.specs.declared.commands.FileCommand.TheVariants.{Symbols, Info}
-use Rattle.dd_commands.specs.declared.commands.SymbolCommand.TheVariants.{Lines, Canon, Minimal, Dual, Ambo, Truncate, Chamfer}
+use Rattle.dd_commands.specs.declared.commands.SymbolCommand.TheVariants.{Lines, Canon, Minimal, Dual, Derived}
 use Rattle.dd_suite.specs.declared.task.Task.{Task}
 use Rattle.dd_suite.specs.declared.task.Task.TheVariants as task
 use Rattle.dd_suite.specs.Words.{AskFor, kind_of, IsOnFile, AreTaken}
@@ -27,9 +27,7 @@ command_of kind.Lines = Symbols Lines
 command_of kind.Canon = Symbols Canon
 command_of kind.Minimal = Symbols Minimal
 command_of kind.Dual = Symbols Dual
-command_of kind.Ambo = Symbols Ambo
-command_of kind.Truncate = Symbols Truncate
-command_of kind.Chamfer = Symbols Chamfer
+command_of (kind.Derived operation) = Symbols (Derived operation)
 command_of kind.Oriented = Info
 command_of kind.Torus = Info
 
@@ -40,9 +38,7 @@ back_from_kind (Symbols Lines) = refl
 back_from_kind (Symbols Canon) = refl
 back_from_kind (Symbols Minimal) = refl
 back_from_kind (Symbols Dual) = refl
-back_from_kind (Symbols Ambo) = refl
-back_from_kind (Symbols Truncate) = refl
-back_from_kind (Symbols Chamfer) = refl
+back_from_kind (Symbols (Derived operation)) = refl
 
 same_kind : (k l : FileCommand) → kind_of k ≡ kind_of l → k ≡ l
 same_kind k l e = sym (back_from_kind k) ∙ ap command_of e ∙ back_from_kind l

@@ -1,10 +1,13 @@
 -- What an ending says, and what has caused it.
-use Rattle.std.specs.Prelude.{ℕ, List, [], Result, Ok, Err, codes}
+use Rattle.std.specs.Prelude.{ℕ, List, [], ◌++◌, Result, Ok, Err, codes}
 use Rattle.dd_ports.specs.declared.sink.SinkFault.{SinkFault as Fault}
 use Rattle.dd_ports.specs.declared.sink.SinkFault.TheVariants.{Failed, Memory as NoMemory}
 use Rattle.dd_commands.specs.declared.command_fault.CommandFault.{CommandFault}
 use Rattle.dd_commands.specs.declared.command_fault.CommandFault.TheVariants.{File, Symbol, Memory as NoRoom}
-use Rattle.dd_commands.specs.Messages.{fault_text, symbol_refusal_text}
+use Rattle.dd_text.specs.declared.faults.FileFault.{FileFault}
+use Rattle.dd_text.specs.Messages.{fault_text}
+use Rattle.dd_commands.specs.declared.refusals.SymbolRefusal.{SymbolRefusal}
+use Rattle.dd_commands.specs.Messages.{symbol_refusal_text}
 use Rattle.dd_suite.specs.declared.status.Status.{Status}
 use Rattle.dd_suite.specs.declared.status.Status.TheVariants as status
 use Rattle.dd_suite.specs.declared.ending.Ending.{Ending}
@@ -24,12 +27,20 @@ status_of SinkFault = status.SinkFault
 status_of Memory = status.Memory
 status_of TooManyLines = status.TooManyLines
 
+-- the line that tells of a refused file
+abbrev pub fault_line : FileFault → List ℕ
+fault_line fault = codes "dressline: file: " ++ (fault_text fault ++ codes "\n")
+
+-- the line that tells of a symbol of which nothing is made
+abbrev pub refusal_line : SymbolRefusal → List ℕ
+refusal_line refusal = codes "dressline: " ++ (symbol_refusal_text refusal ++ codes "\n")
+
 -- the line on the error stream
 abbrev pub message_of : Ending → List ℕ
 message_of Done = []
 message_of Usage = codes "dressline: words not taken\n"
-message_of (Refused fault) = fault_text fault
-message_of (RefusedSymbol refusal) = symbol_refusal_text refusal
+message_of (Refused fault) = fault_line fault
+message_of (RefusedSymbol refusal) = refusal_line refusal
 message_of StoreFault = codes "dressline: store failed\n"
 message_of SinkFault = codes "dressline: sink failed\n"
 message_of Memory = codes "dressline: out of memory\n"

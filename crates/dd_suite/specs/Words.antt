@@ -7,7 +7,7 @@ use Rattle.dd_words.specs.declared.commands.FileKind.{FileKind}
 use Rattle.dd_words.specs.declared.commands.FileKind.TheVariants as kind
 use Rattle.dd_commands.specs.declared.commands.FileCommand.{FileCommand}
 use Rattle.dd_commands.specs.declared.commands.FileCommand.TheVariants.{Symbols, Info}
-use Rattle.dd_commands.specs.declared.commands.SymbolCommand.TheVariants.{Lines, Canon, Minimal, Dual, Ambo, Truncate, Chamfer}
+use Rattle.dd_commands.specs.declared.commands.SymbolCommand.TheVariants.{Lines, Canon, Minimal, Dual, Derived}
 
 -- the words of a catalogue with the default number of workers and length of a round, and no checkpoint
 pub record AskFor (words : List (List ℕ)) (q : Request) : Type 0 where
@@ -20,9 +20,7 @@ kind_of (Symbols Lines) = kind.Lines
 kind_of (Symbols Canon) = kind.Canon
 kind_of (Symbols Minimal) = kind.Minimal
 kind_of (Symbols Dual) = kind.Dual
-kind_of (Symbols Ambo) = kind.Ambo
-kind_of (Symbols Truncate) = kind.Truncate
-kind_of (Symbols Chamfer) = kind.Chamfer
+kind_of (Symbols (Derived operation)) = kind.Derived operation
 
 -- the words of a command on the file of a name
 abbrev pub IsOnFile : List (List ℕ) → FileCommand → List ℕ → Type 0

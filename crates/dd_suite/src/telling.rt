@@ -3,11 +3,10 @@ ghost use Rattle.std.specs.Io.KnownBytes.{Appends};
 ghost use Rattle.dd_ports.specs.declared.sink.SinkFault.TheVariants.{Failed};
 ghost use Rattle.dd_ports.specs.Causes.{HasCause, StaysSure};
 ghost use Rattle.dd_ports.specs.Grows.{GrowsByPrefix};
-ghost use Rattle.dd_commands.specs.Messages.{fault_text, symbol_refusal_text};
-ghost use Rattle.dd_suite.specs.Endings.{message_of};
+ghost use Rattle.dd_suite.specs.Endings.{message_of, fault_line, refusal_line};
 
 use crate::ending::Ending;
-use dd_commands::{SymbolRefusal, fault_message, symbol_message};
+use dd_commands::SymbolRefusal;
 use dd_ports::{Sink, SinkFault, write_all_of};
 use dd_text::FileFault;
 use std::alloc::Global;
@@ -34,13 +33,13 @@ pub fn tell<E: Sink>(alloc: Global, ending: Ending, err: &mut E) -> Result<(), S
 
 /// Writes the line of a refused file.
 fn tell_fault<E: Sink>(alloc: Global, fault: FileFault, err: &mut E) -> Result<(), SinkFault>
-    ensures whole { OnOk result (Appends (E.held err.old) (E.held err.new) (fault_text fault)) }
-    ensures prefix { GrowsByPrefix (E.held err.old) (E.held err.new) (fault_text fault) }
+    ensures whole { OnOk result (Appends (E.held err.old) (E.held err.new) (fault_line fault)) }
+    ensures prefix { GrowsByPrefix (E.held err.old) (E.held err.new) (fault_line fault) }
     ensures cause { HasCause Failed (E.faults err.old) (E.faults err.new) result }
     ensures sure { E.sure err.old ≡ true
         → StaysSure Failed (E.faults err.old) (E.faults err.new) (E.sure err.new) result }
 {
-    let line = fault_message(alloc, fault)?;
+    let line = format!(in alloc; "dressline: file: {fault}\n")?;
     write_all_of(err, line.as_bytes())
 }
 
@@ -51,13 +50,12 @@ fn tell_refusal<E: Sink>(
     err: &mut E,
 ) -> Result<(), SinkFault>
     ensures whole { OnOk result
-        (Appends (E.held err.old) (E.held err.new) (symbol_refusal_text refusal)) }
-    ensures prefix { GrowsByPrefix
-        (E.held err.old) (E.held err.new) (symbol_refusal_text refusal) }
+        (Appends (E.held err.old) (E.held err.new) (refusal_line refusal)) }
+    ensures prefix { GrowsByPrefix (E.held err.old) (E.held err.new) (refusal_line refusal) }
     ensures cause { HasCause Failed (E.faults err.old) (E.faults err.new) result }
     ensures sure { E.sure err.old ≡ true
         → StaysSure Failed (E.faults err.old) (E.faults err.new) (E.sure err.new) result }
 {
-    let line = symbol_message(alloc, refusal)?;
+    let line = format!(in alloc; "dressline: {refusal}\n")?;
     write_all_of(err, line.as_bytes())
 }

@@ -62,9 +62,9 @@ fn command_of(kind: FileKind) -> Option<FileCommand>
         FileKind::Canon => Some(FileCommand::Symbols(SymbolCommand::Canon)),
         FileKind::Minimal => Some(FileCommand::Symbols(SymbolCommand::Minimal)),
         FileKind::Dual => Some(FileCommand::Symbols(SymbolCommand::Dual)),
-        FileKind::Ambo => Some(FileCommand::Symbols(SymbolCommand::Ambo)),
-        FileKind::Truncate => Some(FileCommand::Symbols(SymbolCommand::Truncate)),
-        FileKind::Chamfer => Some(FileCommand::Symbols(SymbolCommand::Chamfer)),
+        FileKind::Derived(operation) => {
+            Some(FileCommand::Symbols(SymbolCommand::Derived(operation)))
+        }
         FileKind::Oriented | FileKind::Torus => None,
     }
 }

@@ -6,5 +6,6 @@ pub mod Walk
 pub mod Conditions
 pub mod Causes
 pub mod Refusals
+pub mod Messages
 pub mod Building
 pub mod Maps

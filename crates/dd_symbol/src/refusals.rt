@@ -1,9 +1,11 @@
-ghost use Rattle.std.specs.Prelude.{◌≡◌, ◌≢◌, ℕ};
+ghost use Rattle.std.specs.Prelude.{◌≡◌, ◌≢◌, ℕ, Some};
 ghost use Rattle.dd_model.specs.Symbol.{Symbol};
 ghost use Rattle.dd_symbol.specs.Building.{IsAccepted};
+ghost use Rattle.dd_symbol.specs.Messages.{refusal_text};
 ghost use Rattle.dd_symbol.specs.Refusals.{IsRefused};
 
 use dd_model::{Index, Memory, Pair};
+use std::fmt;
 
 /// Why five lists are not taken as a connected symbol, in the order in which the causes are looked for.
 #[derive(Debug, Clone, Copy, PartialEq, Eq)]
@@ -67,6 +69,33 @@ impl From<Memory> for Refusal {
 
     fn from(_: Memory) -> Self {
         Refusal::Memory
+    }
+}
+
+impl fmt::Display for Refusal {
+    ghost output = { λ refusal. Some (refusal_text refusal) };
+
+    fn fmt<W: fmt::Write>(&self, f: &mut fmt::Formatter<W>) -> fmt::Result {
+        match self {
+            Refusal::Empty => f.write_str("empty"),
+            Refusal::TooManyChambers { n } => write!(f, "too many chambers {n}"),
+            Refusal::OpRange { chamber, .. } => write!(f, "image {chamber}"),
+            Refusal::NotInvolution { chamber, .. } => write!(f, "no involution {chamber}"),
+            Refusal::NotCommuting { chamber } => write!(f, "not commuting {chamber}"),
+            Refusal::NotConnected { chamber } => write!(f, "not connected {chamber}"),
+            Refusal::DegreeZero { pair, chamber } => write!(f, "degree zero {pair} {chamber}"),
+            Refusal::DegreeVaries { pair, chamber } => write!(f, "degree varies {pair} {chamber}"),
+            Refusal::NotMultiple {
+                pair,
+                chamber,
+                r,
+                m,
+            } => write!(f, "not multiple {pair} {chamber} r {r} m {m}"),
+            Refusal::BranchingTooLarge { pair, chamber, v } => {
+                write!(f, "branching too large {pair} {chamber} v {v}")
+            }
+            Refusal::Memory => f.write_str("out of memory"),
+        }
     }
 }
 

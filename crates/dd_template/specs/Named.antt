@@ -1,7 +1,9 @@
--- The tables of the derived tilings that have names.
+-- The tables that have names, and which of them are those of operations.
 use Rattle.std.specs.Prelude.{[], ◌∷◌, Some, None}
 use Rattle.dd_model.specs.declared.index.Index.TheVariants.{Zero, One, Two}
 use Rattle.dd_template.specs.declared.tables.Degree.TheVariants.{OfTile, OfVertex, Fixed}
+use Rattle.dd_template.specs.declared.operations.Operation.{Operation}
+use Rattle.dd_template.specs.declared.operations.Operation.TheVariants.{Ambo, Truncate, Chamfer}
 use Rattle.dd_template.specs.Table.{Table}
 
 -- Tiles and vertices are exchanged.
@@ -47,3 +49,9 @@ chamfer = record {
   face = OfTile 1 ∷ Fixed 6 ∷ Fixed 6 ∷ Fixed 6 ∷ [];
   degree = Fixed 3 ∷ Fixed 3 ∷ Fixed 3 ∷ OfVertex 1 ∷ [];
 }
+
+-- the table of an operation
+abbrev pub table_of_operation : Operation → Table
+table_of_operation Ambo = ambo
+table_of_operation Truncate = truncate
+table_of_operation Chamfer = chamfer

@@ -14,7 +14,7 @@ ghost use Rattle.dd_template.specs.Lawful.{IsLawful};
 ghost use Rattle.dd_template.specs.Shares.{curvature_unit};
 ghost use Rattle.dd_template.specs.Worked.{trihexagonal};
 
-use crate::constants::{AMBO, CHAMFER, DUAL, TRUNCATE};
+use crate::constants::{AMBO, DUAL, TRUNCATE};
 
 /// Striking equal neighbours and writing 2 0 as 0 2 lead to one word, in which neither can be done.
 pub fn words_have_one_reduced_word()
@@ -40,21 +40,6 @@ pub fn parts_are_met_again()
 /// The table of the dual is lawful.
 pub fn dual_is_lawful()
     ensures { IsLawful (table_of DUAL) }
-{}
-
-/// The table of the ambo is lawful.
-pub fn ambo_is_lawful()
-    ensures { IsLawful (table_of AMBO) }
-{}
-
-/// The table of the truncation is lawful.
-pub fn truncate_is_lawful()
-    ensures { IsLawful (table_of TRUNCATE) }
-{}
-
-/// The table of the chamfer is lawful.
-pub fn chamfer_is_lawful()
-    ensures { IsLawful (table_of CHAMFER) }
 {}
 
 /// The ambo of the triangles is the tiling by triangles and hexagons.

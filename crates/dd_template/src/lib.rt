@@ -11,6 +11,7 @@ mod lawful;
 mod laws;
 mod made_laws;
 mod named;
+mod operations;
 mod tables;
 #[cfg(test)]
 mod tests;
@@ -20,9 +21,8 @@ pub use applying::{ApplyFault, apply};
 pub use constants::{AMBO, CHAMFER, DUAL, TRUNCATE};
 pub use deciding::is_lawful;
 pub use laws::{
-    ambo_is_lawful, ambo_of_triangles, chamfer_is_lawful, dual_is_lawful, duals_are_made,
-    fractions_are_whole_numbers_of_parts, parts_are_met_again, truncate_is_lawful,
-    truncated_squares_are_made, words_have_one_reduced_word,
+    ambo_of_triangles, dual_is_lawful, duals_are_made, fractions_are_whole_numbers_of_parts,
+    parts_are_met_again, truncated_squares_are_made, words_have_one_reduced_word,
 };
 pub use made_laws::{
     branching_values_stay_small, chambers_are_parts_of_chambers,
@@ -31,4 +31,5 @@ pub use made_laws::{
     symbols_are_made_of_symbols, the_curvature_stays, words_act_by_their_reduced_words,
 };
 pub use named::tables_have_names;
+pub use operations::{Operation, operations_are_lawful};
 pub use tables::{Degree, Move, Template};

@@ -1,6 +1,8 @@
 ghost use Rattle.std.specs.Prelude.{◌≡◌};
 
-use crate::{AMBO, ApplyFault, CHAMFER, DUAL, Degree, Move, TRUNCATE, Template, apply, is_lawful};
+use crate::{
+    AMBO, ApplyFault, CHAMFER, DUAL, Degree, Move, Operation, TRUNCATE, Template, apply, is_lawful,
+};
 use dd_model::Index;
 use dd_symbol::{Connected, build};
 use std::alloc::Global;
@@ -119,6 +121,20 @@ fn tables_make_symbols(rt: HostRuntime) -> Result<(), Fail> {
     assert!(rt; squares_and_octagons_are_made(alloc)?);
     assert!(rt; squares_and_hexagons_are_made(alloc)?);
     assert!(rt; triangles_are_made(alloc)?);
+    Ok(())
+}
+
+/// The number of chambers of what an operation makes of the squares.
+fn size_made(alloc: Global, operation: Operation) -> Result<u32, Fail> {
+    let squares = one_chamber(alloc, 4, 4)?;
+    Ok(operation.apply(alloc, &squares)?.symbol().size())
+}
+
+#[test]
+fn operations_make_symbols(rt: HostRuntime) -> Result<(), Fail> {
+    assert_eq!(rt; size_made(rt.alloc(), Operation::Ambo)?, 2);
+    assert_eq!(rt; size_made(rt.alloc(), Operation::Truncate)?, 3);
+    assert_eq!(rt; size_made(rt.alloc(), Operation::Chamfer)?, 4);
     Ok(())
 }
 

@@ -8,3 +8,4 @@ pub mod Images
 pub mod SymbolFaults
 pub mod FileFaults
 pub mod Items
+pub mod Messages

@@ -1,8 +1,10 @@
-ghost use Rattle.std.specs.Prelude.{◌≡◌};
+ghost use Rattle.std.specs.Prelude.{◌≡◌, Some};
+ghost use Rattle.dd_text.specs.Messages.{why_text, fault_text};
 
 use dd_model::Memory;
 use dd_symbol::Refusal;
 use std::alloc::{AllocError, AllocFailed};
+use std::fmt;
 
 /// Why a file is not read.
 #[derive(Debug, Clone, Copy, PartialEq, Eq)]
@@ -41,6 +43,35 @@ pub struct FileFault {
     /// The place in the file, in bytes, counted from 0.
     pub at: u64,
     pub why: Why,
+}
+
+impl fmt::Display for Why {
+    ghost output = { λ why. Some (why_text why) };
+
+    fn fmt<W: fmt::Write>(&self, f: &mut fmt::Formatter<W>) -> fmt::Result {
+        match self {
+            Why::Stray => f.write_str("stray"),
+            Why::UnexpectedEnd => f.write_str("unexpected end"),
+            Why::NumberTooLong => f.write_str("number too long"),
+            Why::Dimension => f.write_str("dimension"),
+            Why::Size => f.write_str("size"),
+            Why::ListShort => f.write_str("list short"),
+            Why::ListLong => f.write_str("list long"),
+            Why::Image => f.write_str("image"),
+            Why::Symbol(refusal) => write!(f, "{refusal}"),
+            Why::TooManySymbols => f.write_str("too many symbols"),
+            Why::Long => f.write_str("file too long"),
+            Why::Memory => f.write_str("out of memory"),
+        }
+    }
+}
+
+impl fmt::Display for FileFault {
+    ghost output = { λ fault. Some (fault_text fault) };
+
+    fn fmt<W: fmt::Write>(&self, f: &mut fmt::Formatter<W>) -> fmt::Result {
+        write!(f, "symbol {} at {}: {}", self.symbol, self.at, self.why)
+    }
 }
 
 /// A fault in the text of one symbol, and its place.

@@ -1,5 +1,7 @@
 -- The first word of each command.
 use Rattle.std.specs.Prelude.{codes}
+use Rattle.dd_template.specs.declared.operations.Operation.{Operation}
+use Rattle.dd_template.specs.declared.operations.Operation.TheVariants as operation
 use Rattle.dd_words.specs.declared.commands.FileKind.{FileKind}
 use Rattle.dd_words.specs.declared.commands.FileKind.TheVariants as kind
 use Rattle.dd_words.specs.declared.commands.Command.{Command}
@@ -8,6 +10,12 @@ use Rattle.dd_words.specs.declared.verbs.Verb.{Verb}
 use Rattle.dd_words.specs.declared.verbs.Verb.TheVariants as verb
 use Rattle.dd_words.specs.Values.{Text}
 
+-- the first word of the command that makes a derived tiling
+abbrev pub word_of_operation : Operation → Text
+word_of_operation operation.Ambo = codes "ambo"
+word_of_operation operation.Truncate = codes "truncate"
+word_of_operation operation.Chamfer = codes "chamfer"
+
 -- the first word of a command on a file
 abbrev pub word_of_kind : FileKind → Text
 word_of_kind kind.Canon = codes "canon"
@@ -15,9 +23,7 @@ word_of_kind kind.Lines = codes "lines"
 word_of_kind kind.Info = codes "info"
 word_of_kind kind.Minimal = codes "minimal"
 word_of_kind kind.Dual = codes "dual"
-word_of_kind kind.Ambo = codes "ambo"
-word_of_kind kind.Truncate = codes "truncate"
-word_of_kind kind.Chamfer = codes "chamfer"
+word_of_kind (kind.Derived operation) = word_of_operation operation
 word_of_kind kind.Oriented = codes "oriented"
 word_of_kind kind.Torus = codes "torus"
 

@@ -1,5 +1,6 @@
 use crate::names::Name;
 use dd_model::Request;
+use dd_template::Operation;
 
 /// What a command does with the symbols of a file.
 #[derive(Debug, Clone, Copy, PartialEq, Eq)]
@@ -14,12 +15,8 @@ pub enum FileKind {
     Minimal,
     /// Duals.
     Dual,
-    /// Ambo.
-    Ambo,
-    /// Truncation.
-    Truncate,
-    /// Chamfering.
-    Chamfer,
+    /// Derived tilings.
+    Derived(Operation),
     /// Oriented covers.
     Oriented,
     /// Covers by a torus.

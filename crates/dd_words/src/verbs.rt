@@ -2,6 +2,7 @@ ghost use Rattle.std.specs.Prelude.{◌≡◌, IfSome, IfNone};
 ghost use Rattle.dd_words.specs.FirstWords.{first_word};
 
 use crate::commands::FileKind;
+use dd_template::Operation;
 
 /// What the first word of a command says.
 #[derive(Debug, Clone, Copy, PartialEq, Eq)]
@@ -34,9 +35,9 @@ impl Verb {
             "info" => Some(Verb::File(FileKind::Info)),
             "minimal" => Some(Verb::File(FileKind::Minimal)),
             "dual" => Some(Verb::File(FileKind::Dual)),
-            "ambo" => Some(Verb::File(FileKind::Ambo)),
-            "truncate" => Some(Verb::File(FileKind::Truncate)),
-            "chamfer" => Some(Verb::File(FileKind::Chamfer)),
+            "ambo" => Some(Verb::File(FileKind::Derived(Operation::Ambo))),
+            "truncate" => Some(Verb::File(FileKind::Derived(Operation::Truncate))),
+            "chamfer" => Some(Verb::File(FileKind::Derived(Operation::Chamfer))),
             "oriented" => Some(Verb::File(FileKind::Oriented)),
             "torus" => Some(Verb::File(FileKind::Torus)),
             _ => None,
