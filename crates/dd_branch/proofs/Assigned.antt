@@ -1,12 +1,11 @@
 -- What an assignment tells of the members under it.
-use Rattle.std.proofs.Common.{⊎_elim, ◌/◌, ◌≡◌, ℕ, ◌+◌, ◌-◌, ◌*◌, ◌<◌, ◌≤◌, List, [], ◌∷◌, ◌++◌, length, get_or, take, drop, map, refl, sym, ap, ◌∙◌, subst, arith}
+use Rattle.std.proofs.Common.{⊎_elim, ◌/◌, ◌≡◌, ℕ, ◌+◌, ◌-◌, ◌*◌, ◌<◌, ◌≤◌, List, ◌++◌, length, get_or, take, drop, refl, sym, ap, ◌∙◌, subst, arith}
 use Rattle.std.proofs.lemmas.Bool.{cases_lt}
-use Rattle.std.proofs.lemmas.List.{append_assoc, get_or-append_right, map-append}
+use Rattle.std.proofs.lemmas.List.{append_assoc, get_or-append_right}
 use Rattle.dd_model.specs.Symbol.{Symbol}
-use Rattle.dd_model.specs.Code.{code, all_images, count_from}
+use Rattle.dd_model.specs.Code.{code, all_images}
 use Rattle.dd_model.specs.Wanted.{IsMember}
 use Rattle.dd_model.proofs.Codes.{length-flat_images}
-use Rattle.dd_model.proofs.CountFrom.{count_from-more}
 use Rattle.dd_branch.specs.WholePrefix.{part}
 use Rattle.dd_shares.proofs.Bounds.{rounded, rounded_small}
 use Rattle.dd_invol.specs.Under.{IsUnder}

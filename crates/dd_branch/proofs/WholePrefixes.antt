@@ -75,9 +75,9 @@ symbol_of_prefix W n prefix s under whole =
     let s0 : s.s0 ≡ column rows 0 n = same_items s.s0 (column rows 0 n) n (table.lengths Zero ∙ size) (length-column rows 0 n) (λ d low high.
     sym (image_at s Zero d low (omega (arith, high, size))) ∙ ap (λ xs. get_or xs (3 * (d - 1)) 0) same ∙ sym (front_number prefix (3 * n) (3 * (d - 1)) (omega (arith, low, high))) ∙ sym (item-first rows n d low (omega arith))) in
     let s1 : s.s1 ≡ column rows 1 n = same_items s.s1 (column rows 1 n) n (table.lengths One ∙ size) (length-column rows 1 n) (λ d low high.
-    sym (image_at s One d low (omega (arith, low, high, size))) ∙ ap (λ xs. get_or xs (3 * (d - 1) + 1) 0) same ∙ sym (item-column rows 1 n d low (omega arith))) in
+    sym (image_at s One d low (omega (arith, low, high, size))) ∙ ap (λ xs. get_or xs (3 * (d - 1) + 1) 0) same ∙ sym (front_number prefix (3 * n) (3 * (d - 1) + 1) (omega (arith, low, high))) ∙ sym (item-column rows 1 n d low (omega arith))) in
     let s2 : s.s2 ≡ column rows 2 n = same_items s.s2 (column rows 2 n) n (table.lengths Two ∙ size) (length-column rows 2 n) (λ d low high.
-    sym (image_at s Two d low (omega (arith, low, high, size))) ∙ ap (λ xs. get_or xs (3 * (d - 1) + 2) 0) same ∙ sym (item-column rows 2 n d low (omega arith))) in
+    sym (image_at s Two d low (omega (arith, low, high, size))) ∙ ap (λ xs. get_or xs (3 * (d - 1) + 2) 0) same ∙ sym (front_number prefix (3 * n) (3 * (d - 1) + 2) (omega (arith, low, high))) ∙ sym (item-column rows 2 n d low (omega arith))) in
     let m01 : s.m01 ≡ part prefix (3 * n) n = same_items s.m01 (part prefix (3 * n) n) n (table.m01_length ∙ size) (length-part prefix (3 * n) n (omega arith)) (λ d low high.
     let len = table.m01_length in
     sym (get_or_append_left s.m01 s.m12 0 (d - 1) (omega (arith, low, high, size, len))) ∙ sym (code_degree s n (d - 1) size)
