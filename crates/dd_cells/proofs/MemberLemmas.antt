@@ -70,11 +70,6 @@ some_value (suc v) r m low e = omega arith
 pub value_positive : (s : Symbol) → IsSymbol s → (p : Pair) (d v : ℕ) → IsChamber s d → IsBranching s p d v → 1 ≤ v
 value_positive s is p d v h b = some_value v b.r (degree s p d) (is.degrees p d h).positive b.quotient
 
--- the degree divided by the branching value
-pub turns_by_value : (s : Symbol) → IsSymbol s → (p : Pair) (d v : ℕ) → IsChamber s d → IsBranching s p d v → IsLeastTurns s p d (degree s p d / v)
-turns_by_value s is p d v h b =
-    subst (IsLeastTurns s p d) (sym (quotient_of v b.r (degree s p d) (value_positive s is p d v h b) b.quotient)) b.least_turns
-
 -- ## One more
 
 -- the least chambers of a list of cells, one more being told
