@@ -1,4 +1,5 @@
 pub mod Lists
+pub mod Differing
 pub mod CountFrom
 pub mod Numbers
 pub mod Fields

@@ -12,6 +12,7 @@ mod least_form_laws;
 mod maps;
 mod memory;
 mod pair;
+mod positions;
 mod reading_laws;
 mod requests;
 mod symbol_codes;
