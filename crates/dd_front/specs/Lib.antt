@@ -3,3 +3,8 @@ pub mod Allowed
 pub mod Step
 pub mod Covered
 pub mod Absorbed
+pub mod Numbers
+pub mod Taken
+pub mod Places
+pub mod Held
+pub mod Room

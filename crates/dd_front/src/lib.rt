@@ -2,10 +2,12 @@
 //! members.
 #![tactic(auto)]
 
+mod entries;
 mod entry;
 mod event;
 mod finder;
 mod job_list;
+mod listing;
 mod members;
 
 pub use entry::{Entry, State};

@@ -3,6 +3,7 @@
 
 mod allowed;
 mod allowed_laws;
+mod before;
 mod carried_laws;
 mod catalogue_laws;
 mod cell_laws;
@@ -12,7 +13,6 @@ mod least_form_laws;
 mod maps;
 mod memory;
 mod pair;
-mod positions;
 mod reading_laws;
 mod requests;
 mod symbol_codes;

@@ -1,7 +1,7 @@
 use Rattle.std.proofs.Common.{◌≤◌, ◌<◌, ◌⊎◌, length, arith, inl, inr, ⊎_elim}
 use Rattle.std.proofs.lemmas.Bool.{cases_lt}
 use Rattle.dd_model.proofs.Differing.{smaller_after, smaller_here, not_smaller_past}
-use Rattle.dd_model.proofs.positions.is_smaller_where_they_differ.Goals as goal
+use Rattle.dd_model.proofs.before.is_smaller_where_they_differ.Goals as goal
 
 pub returns : goal.returns
 returns c =
