@@ -10,7 +10,7 @@ use Rattle.dd_model.proofs.CountFrom.{count_from-more}
 use Rattle.dd_symbol.specs.Table.{column, part}
 use Rattle.dd_shares.proofs.Bounds.{rounded, rounded_small}
 use Rattle.dd_invol.specs.Under.{IsUnder}
-use Rattle.dd_invol.proofs.Ascending.{begins_at}
+use Rattle.dd_model.proofs.Ascending.{begins_at}
 use Rattle.dd_branch.specs.Reciprocals.{degree_unit, AreReciprocals}
 use Rattle.dd_branch.specs.Assignment.{degree_at, prefix_of, told}
 use Rattle.dd_branch.specs.declared.assignment.Assignment.{Assignment}

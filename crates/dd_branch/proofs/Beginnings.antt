@@ -18,7 +18,8 @@ use Rattle.dd_model.proofs.Turns.{least_turns_unique}
 use Rattle.dd_model.specs.Involutions.{HaveSameInvolutions}
 use Rattle.dd_invol.specs.Under.{AreUnder, Appends}
 use Rattle.dd_invol.proofs.Follows.{member_orderly}
-use Rattle.dd_invol.proofs.Places.{length-code, chamber_at}
+use Rattle.dd_invol.proofs.Places.{chamber_at}
+use Rattle.dd_model.proofs.Codes.{length-code}
 use Rattle.dd_model.proofs.SameInvolutions.{in_cell-same, least_turns-same}
 use Rattle.dd_invol.proofs.TableFronts.{front_same, front_begins, begins_with_take}
 use Rattle.dd_branch.specs.Choice.{IsChoice}

@@ -1,20 +1,21 @@
 -- The first members of a catalogue.
-use Rattle.std.proofs.Common.{◌≡◌, ◌⊎◌, ℕ, zero, suc, ◌+◌, ◌<◌, List, [], ◌∷◌, ◌++◌, length, get_or, take, drop, refl, sym, ap, ◌∙◌, subst, inl, inr, ⊎_elim, arith, take-append-drop}
+use Rattle.std.proofs.Common.{◌≡◌, ◌⊎◌, ℕ, zero, suc, ◌+◌, ◌<◌, List, [], ◌∷◌, ◌++◌, length, get_or, take, refl, sym, ap, ◌∙◌, subst, inl, inr, ⊎_elim, arith}
 use Rattle.std.proofs.lemmas.List.{take_more}
 use Rattle.std.proofs.lemmas.List.Elements.{Contains-append_right, Contains-append_left, Contains-append_cases, Contains-push}
 use Rattle.std.specs.List.{AllByRecursion, Contains}
 use Rattle.dd_model.specs.Symbol.{Symbol}
 use Rattle.dd_model.specs.Code.{IsBelow}
 use Rattle.dd_model.specs.Wanted.{IsAscending, IsCatalogue}
-use Rattle.dd_model.specs.Jobs.{IsJobBelow, AreAscendingJobs, IsMemberUnder, AreMembersUnder}
+use Rattle.dd_model.specs.Jobs.{AreAscendingJobs, AreApart, IsMemberUnder, AreMembersUnder}
 use Rattle.dd_model.specs.declared.requests.Request.{Request}
 use Rattle.dd_model.specs.declared.jobs.Job.{Job}
 use Rattle.dd_model.proofs.Lists.{Contains-none, Contains-one, all_from_members, each_of}
 use Rattle.dd_model.proofs.Orders.{not_below_itself, not_below_both}
+use Rattle.dd_model.proofs.Positions.{under_below}
+use Rattle.dd_model.proofs.JoinedLists.{under_append, under_one, first_parts}
 use Rattle.dd_invol.specs.Opening.{IsOpening}
-use Rattle.dd_invol.proofs.OpeningLaws.{covered}
+use Rattle.dd_invol.proofs.OpeningLaws.{covered, opening_apart}
 use Rattle.dd_model.specs.Joined.{AreUnderJobs, IsPartBelow, AreFirstMembers}
-use Rattle.dd_branch.proofs.JoinedLists.{under_append, under_one, under_below, opening_as_long}
 
 -- An ascending list that has the members of another, and besides Contains-one symbols that come after all of these, begins with it.
 pub begins_with : (ss ts : List Symbol) → IsAscending ss → IsAscending ts → ((s : Symbol) → Contains ss s → Contains ts s)
@@ -74,28 +75,25 @@ catalogue_begins q ss ts first is =
 pub catalogue_first : (q : Request) (ss : List Symbol) → IsCatalogue q ss → AreFirstMembers q ss
 catalogue_first q ss is = record { ascending = is.ascending; members = λ s there. (is.members s).0 there; first = λ s member. inl ((is.members s).1 member) }
 
--- a job of an ascending list is among the first k, or after all of them
-where_listed : (js : List Job) (k : ℕ) (job : Job) → AreAscendingJobs js → Contains js job → Contains (take k js) job ⊎ ((j : Job) → Contains (take k js) j → IsJobBelow j job)
-where_listed js zero job ascending there = inr (λ j none. absurd (nothing js j none))
+-- a job of a list of jobs that ascend and are apart is among the first k, or after all of them
+where_listed : (js : List Job) (k : ℕ) (job : Job) → AreAscendingJobs js → AreApart js → Contains js job → Contains (take k js) job ⊎ ((j : Job) → Contains (take k js) j → IsPartBelow j job)
+where_listed js zero job ascending apart there = inr (λ j none. absurd (nothing js j none))
   where
     nothing : (xs : List Job) (x : Job) → Contains (take 0 xs) x → ⊥
     nothing [] x h = Contains-none x h
     nothing (y ∷ ys) x h = Contains-none x h
-where_listed [] (suc k) job ascending there = absurd (Contains-none job there)
-where_listed (x ∷ xs) (suc k) job ascending there =
+where_listed [] (suc k) job ascending apart there = absurd (Contains-none job there)
+where_listed (x ∷ xs) (suc k) job ascending apart there =
     ⊎_elim
     (λ first. inl (Contains-append_left (x ∷ []) (take k xs) job first))
     (λ past. ⊎_elim
     (λ early. inl (Contains-append_right (x ∷ []) (take k xs) job early))
     (λ late. inr (λ j hj. ⊎_elim
-    (λ first. subst (λ z. IsJobBelow z job) (Contains-one x j first) (each_of (IsJobBelow x) xs job ascending.0 past))
+    (λ first. subst (λ z. IsPartBelow z job) (Contains-one x j first) (first_parts x job xs ascending apart past))
     (λ further. late j further)
     (Contains-append_cases (x ∷ []) (take k xs) j hj)))
-    (where_listed xs k job ascending.1 past))
+    (where_listed xs k job ascending.1 apart.1 past))
     (Contains-append_cases (x ∷ []) xs job there)
-
-taken_there : (js : List Job) (k : ℕ) (job : Job) → Contains (take k js) job → Contains js job
-taken_there js k job there = subst (λ xs. Contains xs job) (take-append-drop k js) (Contains-append_left (take k js) (drop k js) job there)
 
 -- what is under the first jobs of an opening are the first members
 pub under_first_jobs : (q : Request) (js : List Job) (k : ℕ) (ss : List Symbol) → IsOpening q js → AreUnderJobs q (take k js) ss → AreFirstMembers q ss
@@ -110,9 +108,8 @@ under_first_jobs q js k ss is are = record {
       (λ early. inl ((are.members s).1 (record { job = c.job; listed = early; under = under })))
       (λ late. inr (all_from_members (λ m. IsBelow m s) ss (λ m there.
       let a = (are.members m).0 there in
-      let part : IsPartBelow a.job c.job = record { below = late a.job a.listed; as_long = opening_as_long q js is a.job c.job (taken_there js k a.job a.listed) listed } in
-      under_below q a.job c.job m s part a.under under)))
-      (where_listed js k c.job is.ascending listed);
+      under_below q a.job c.job m s (late a.job a.listed) a.under under)))
+      (where_listed js k c.job is.ascending (opening_apart q js is) listed);
 }
 
 -- one job more
@@ -124,8 +121,7 @@ under_next_job q js k d ss ts is low are more =
     (under_append q (take k js) (job ∷ []) ss ts
     (λ i j hi hj.
     let same : job ≡ j = Contains-one job j hj in
-    let listed : Contains js job = (k, low, get_same js k d low) in
-    subst (IsPartBelow i) same (record { below = before js k i is.ascending low hi; as_long = opening_as_long q js is i job (taken_there js k i hi) listed }))
+    subst (IsPartBelow i) same (before js k i is.ascending (opening_apart q js is) low hi))
     are (under_one q job ts more))
   where
     get_same : (xs : List Job) (i : ℕ) (e : Job) → i < length xs → get_or xs i (get_or xs i e) ≡ get_or xs i e
@@ -133,11 +129,11 @@ under_next_job q js k d ss ts is low are more =
     get_same (x ∷ xs) zero e low = refl
     get_same (x ∷ xs) (suc i) e low = get_same xs i e (omega arith)
 
-    before : (xs : List Job) (i : ℕ) (j : Job) → AreAscendingJobs xs → i < length xs → Contains (take i xs) j → IsJobBelow j (get_or xs i d)
-    before [] i j ascending low there = absurd (omega arith)
-    before (x ∷ xs) zero j ascending low there = absurd (Contains-none j there)
-    before (x ∷ xs) (suc i) j ascending low there =
+    before : (xs : List Job) (i : ℕ) (j : Job) → AreAscendingJobs xs → AreApart xs → i < length xs → Contains (take i xs) j → IsPartBelow j (get_or xs i d)
+    before [] i j ascending apart low there = absurd (omega arith)
+    before (x ∷ xs) zero j ascending apart low there = absurd (Contains-none j there)
+    before (x ∷ xs) (suc i) j ascending apart low there =
         ⊎_elim
-        (λ first. subst (λ y. IsJobBelow y (get_or xs i d)) (Contains-one x j first) (each_of (IsJobBelow x) xs (get_or xs i d) ascending.0 (i, omega arith, get_same xs i d (omega arith))))
-        (λ further. before xs i j ascending.1 (omega arith) further)
+        (λ first. subst (λ y. IsPartBelow y (get_or xs i d)) (Contains-one x j first) (first_parts x (get_or xs i d) xs ascending apart (i, omega arith, get_same xs i d (omega arith))))
+        (λ further. before xs i j ascending.1 apart.1 (omega arith) further)
         (Contains-append_cases (x ∷ []) (take i xs) j there)

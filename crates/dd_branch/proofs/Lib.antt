@@ -10,5 +10,4 @@ pub mod Advancing
 pub mod Beginnings
 pub mod Descents
 pub mod Splits
-pub mod JoinedLists
 pub mod FirstMembers

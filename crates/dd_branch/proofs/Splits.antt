@@ -96,6 +96,7 @@ one_ascends (x ∷ xs) = (tt, tt)
 -- where no child is left, any one of them is kept
 pub one_kept : (q : Request) (job : Job) (js alive : List Job) → AreChildren q job js → length alive ≡ 0 → AreExtensions q job alive → AreChildren q job (take 1 js)
 one_kept q job js alive children empty none = record {
+  shorter = children.shorter;
   some = take_one js children.some;
   extensions = record {
     ascending = one_ascends js;

@@ -10,7 +10,7 @@ use Rattle.dd_model.specs.Cell.{IsBranching}
 use Rattle.dd_model.specs.Lists.{Begins}
 use Rattle.dd_model.specs.Code.{code}
 use Rattle.dd_model.specs.Wanted.{Wanted, IsMember}
-use Rattle.dd_model.proofs.Codes.{same_items}
+use Rattle.dd_model.proofs.Codes.{same_items, length-code}
 use Rattle.dd_model.proofs.Numbers.{quotient_bound}
 use Rattle.dd_symbol.specs.Table.{column, part, symbol_with}
 use Rattle.dd_symbol.specs.Building.{listed, HaveOneLength, IsAccepted}
@@ -19,7 +19,6 @@ use Rattle.dd_invol.specs.Building.{IsBuilt}
 use Rattle.dd_invol.specs.Under.{IsUnder, HasNothingUnder}
 use Rattle.dd_invol.proofs.Follows.{member_orderly}
 use Rattle.dd_invol.proofs.Growth.{begins_take}
-use Rattle.dd_invol.proofs.Places.{length-code}
 use Rattle.dd_invol.proofs.CodeFronts.{image_at}
 use Rattle.dd_branch.proofs.Assigned.{code_degree}
 use Rattle.dd_branch.proofs.Choices.{value_of}

@@ -3,6 +3,7 @@ use Rattle.std.proofs.Common.{◌≡◌, ◌≢◌, ◌⊎◌, ℕ, zero, suc, �
 use Rattle.std.proofs.lemmas.Bool.Decides.{eqb_tells}
 use Rattle.std.proofs.lemmas.List.{append_assoc, set_split, drop-set-add}
 use Rattle.std.specs.List.{AllByRecursion}
+use Rattle.dd_model.proofs.Ascending.{all-append}
 use Rattle.dd_model.specs.declared.jobs.Job.{Job}
 use Rattle.dd_front.specs.declared.entry.Entry.{Entry}
 use Rattle.dd_front.specs.declared.entry.State.{State}
@@ -13,10 +14,6 @@ use Rattle.dd_front.specs.Numbers.{HaveOwnNumbers, AreBelow}
 use Rattle.dd_front.specs.Places.{IsPlaceOf, HasNoneOf}
 
 -- ## Properties of all
-
-pub all-append : {A : Type 0} (P : A → Type 0) (xs ys : List A) → AllByRecursion P xs → AllByRecursion P ys → AllByRecursion P (xs ++ ys)
-all-append P [] ys hx hy = hy
-all-append P (x ∷ xs) ys hx hy = (hx.0, all-append P xs ys hx.1 hy)
 
 pub all-map : {A : Type 0} (P Q : A → Type 0) (xs : List A) → ((x : A) → P x → Q x) → AllByRecursion P xs → AllByRecursion Q xs
 all-map P Q [] f h = tt

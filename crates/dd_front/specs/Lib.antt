@@ -3,8 +3,9 @@ pub mod Allowed
 pub mod Step
 pub mod Covered
 pub mod Absorbed
+pub mod Held
 pub mod Numbers
 pub mod Taken
 pub mod Places
-pub mod Held
+pub mod Invariant
 pub mod Room

@@ -2,16 +2,23 @@
 //! members.
 #![tactic(auto)]
 
-mod entries;
 mod entry;
+mod entry_list;
 mod event;
 mod finder;
+mod front;
 mod job_list;
+mod laws;
 mod listing;
 mod members;
 
 pub use entry::{Entry, State};
 pub use event::Event;
 pub use finder::Finder;
+pub use front::Front;
 pub use job_list::JobList;
+pub use laws::{
+    a_machine_is_held_at_its_opening, a_machine_stands_at_one_position, a_run_covers_its_opening,
+    absorbing_keeps_what_is_held, an_event_keeps_what_is_held, what_is_held_is_covered,
+};
 pub use members::Members;

@@ -29,8 +29,8 @@ use Rattle.dd_invol.specs.Orderly.{IsOrderly}
 use Rattle.dd_invol.specs.Table.{IsUnbranched}
 use Rattle.dd_model.specs.Involutions.{HaveSameInvolutions}
 use Rattle.dd_invol.specs.Walk.{IsListed, HasTable}
-use Rattle.dd_invol.proofs.Ascending.{begins_at, begins_from}
-use Rattle.dd_invol.proofs.Places.{length-code}
+use Rattle.dd_model.proofs.Ascending.{begins_at, begins_from}
+use Rattle.dd_model.proofs.Codes.{length-code}
 use Rattle.dd_invol.proofs.Follows.{member_orderly}
 use Rattle.dd_model.proofs.SameInvolutions.{op-same, same-sym, chamber-same, involutions-same, connected-same, in_cell-same, period-same}
 use Rattle.dd_invol.proofs.TableFronts.{agreeing_from_same, front_same}

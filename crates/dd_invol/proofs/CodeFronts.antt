@@ -7,14 +7,14 @@ use Rattle.dd_model.specs.declared.index.Index.{Index}
 use Rattle.dd_model.specs.Symbol.{Symbol, IsChamber, op, operation}
 use Rattle.dd_model.specs.Code.{code, all_images}
 use Rattle.dd_model.specs.FirstVisit.{Grows}
-use Rattle.dd_model.proofs.Codes.{length-flat_images}
+use Rattle.dd_model.proofs.Codes.{length-flat_images, length-code}
 use Rattle.dd_model.proofs.FirstVisits.{IsMet, met_all}
 use Rattle.dd_model.proofs.LeastForms.{least_first_visit}
 use Rattle.dd_model.proofs.Lists.{Contains-head, Contains-later}
 use Rattle.dd_invol.specs.Places.{place}
 use Rattle.dd_invol.specs.Orderly.{IsOrderly}
 use Rattle.dd_invol.specs.FirstVisit.{greatest, image_in, IsFirstVisitPrefix}
-use Rattle.dd_invol.proofs.Places.{code_at, chamber_at, length-code}
+use Rattle.dd_invol.proofs.Places.{code_at, chamber_at}
 use Rattle.dd_invol.proofs.Growth.{code_grows}
 use Rattle.dd_invol.proofs.RowsLemmas.{index_of_place, chamber_of_place}
 

@@ -14,7 +14,7 @@ use Rattle.dd_invol.specs.FirstVisit.{IsFirstVisitPrefix, CanFollow}
 use Rattle.dd_model.specs.Jobs.{IsJobBelow, AreAscendingJobs, extended}
 use Rattle.dd_model.specs.Jobs.{IsMemberUnder, AreExtensions, AreChildren}
 use Rattle.dd_model.proofs.Lists.{Contains-one}
-use Rattle.dd_invol.proofs.Ascending.{begins_from, begins_less}
+use Rattle.dd_model.proofs.Ascending.{begins_from, begins_less}
 use Rattle.dd_invol.proofs.Growth.{begins_take}
 use Rattle.dd_invol.proofs.Follows.{member_orderly}
 use Rattle.dd_invol.proofs.FirstVisits.{first_less, old_at}
@@ -104,10 +104,11 @@ extensions_all q job jobs short old = record {
 }
 
 -- one child where there is none else
-pub one_child : (q : Request) (job : Job) (jobs new : List Job) → jobs ≡ [] → new ≡ jobs ++ extended job 1 ∷ [] → AreExtensions q job jobs → AreChildren q job new
-one_child q job jobs new none grown old =
+pub one_child : (q : Request) (job : Job) (jobs new : List Job) → length job.prefix < 3 * job.size → jobs ≡ [] → new ≡ jobs ++ extended job 1 ∷ [] → AreExtensions q job jobs → AreChildren q job new
+one_child q job jobs new short none grown old =
     let whole : new ≡ extended job 1 ∷ [] = grown ∙ ap (λ js. js ++ extended job 1 ∷ []) none in
     record {
+      shorter = short;
       some = λ e. let clash : extended job 1 ∷ [] ≡ [] = sym whole ∙ e in absurd (ends clash);
       extensions = subst (AreExtensions q job) (sym whole) (record {
         ascending = (tt, tt);
@@ -122,8 +123,8 @@ one_child q job jobs new none grown old =
     ends : extended job 1 ∷ [] ≡ [] → ⊥
     ends e = let l : length (extended job 1 ∷ []) ≡ 0 = ap length e in omega arith
 
-pub some_children : (q : Request) (job : Job) (jobs : List Job) → (length jobs ≡ 0 → ⊥) → AreExtensions q job jobs → AreChildren q job jobs
-some_children q job jobs some old = record { some = λ e. some (ap length e); extensions = old }
+pub some_children : (q : Request) (job : Job) (jobs : List Job) → length job.prefix < 3 * job.size → (length jobs ≡ 0 → ⊥) → AreExtensions q job jobs → AreChildren q job jobs
+some_children q job jobs short some old = record { shorter = short; some = λ e. some (ap length e); extensions = old }
 
 -- a list of no length
 pub no_items : (jobs : List Job) → length jobs ≡ 0 → jobs ≡ []

@@ -17,7 +17,7 @@ use Rattle.dd_model.proofs.Lists.{Contains-none, Contains-one, all_from_members}
 use Rattle.dd_model.proofs.Orders.{nat_cmp-same}
 use Rattle.dd_invol.specs.Opening.{IsOpening, IsJobUnder, AreJobsUnder}
 use Rattle.dd_invol.specs.Under.{Appends}
-use Rattle.dd_invol.proofs.Ascending.{all-append, less_at, agree_from, begins_more, begins_less, begins_from}
+use Rattle.dd_model.proofs.Ascending.{all-append, less_at, agree_from, begins_more, begins_less, begins_itself, same_when_whole}
 use Rattle.dd_invol.proofs.Growth.{begins_take}
 use Rattle.dd_invol.proofs.FirstVisits.{first_less, first_front}
 
@@ -119,15 +119,6 @@ jobs_all n end prefix js low part = record {
     (λ under. (part.members job).1 (under, let inside = number_inside n end prefix job low under in let most = inside.1 in omega arith)),
   );
 }
-
-same_when_whole : (xs ys : List ℕ) → Begins xs ys → length xs ≡ length ys → ys ≡ xs
-same_when_whole [] [] b e = refl
-same_when_whole [] (y ∷ ys) b e = absurd (omega arith)
-same_when_whole (x ∷ xs) [] b e = absurd b
-same_when_whole (x ∷ xs) (y ∷ ys) b e = ap (λ z. z ∷ ys) (sym b.0) ∙ ap (λ zs. x ∷ zs) (same_when_whole xs ys b.1 (omega arith))
-
-begins_itself : (xs : List ℕ) → Begins xs xs
-begins_itself xs = begins_from xs xs (omega arith) (λ u h. refl)
 
 jobs_whole : (n end : ℕ) (prefix : List ℕ) (job : Job) → length prefix ≡ end → IsFirstVisitPrefix n prefix → job.size ≡ n → job.prefix ≡ prefix → AreJobsUnder n end prefix (job ∷ [])
 jobs_whole n end prefix job whole first size is = record {

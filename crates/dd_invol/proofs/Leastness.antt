@@ -11,10 +11,11 @@ use Rattle.dd_model.proofs.LeastForms.{below_back}
 use Rattle.dd_invol.specs.Places.{index_at}
 use Rattle.dd_invol.specs.Beaten.{Extends, Reads, IsBeatenBy, IsUndercut, ReadsKnown, BeatsPrefix, IsBeaten}
 use Rattle.dd_invol.specs.Under.{Follows, HasNothingUnder}
-use Rattle.dd_invol.proofs.Ascending.{below_at, begins_at}
+use Rattle.dd_model.proofs.Ascending.{below_at, begins_at}
 use Rattle.dd_invol.proofs.Distinct.{all_map}
 use Rattle.dd_invol.proofs.Orders.{numbering}
-use Rattle.dd_invol.proofs.Places.{code_at, length-code}
+use Rattle.dd_invol.proofs.Places.{code_at}
+use Rattle.dd_model.proofs.Codes.{length-code}
 
 -- the number at a place, where the chambers of the list come first
 reads_there : (s : Symbol) → IsTable s → (order : List ℕ) (f : List ℕ) (b : IsBijection s.size f) → Extends order b.inverse

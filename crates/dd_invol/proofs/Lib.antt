@@ -1,4 +1,3 @@
-pub mod Ascending
 pub mod Places
 pub mod Prefixes
 pub mod SearchSteps

@@ -18,15 +18,6 @@ images_at s k (suc n) (suc (suc (suc t))) low =
     let e : k + 1 + t / 3 ≡ k + suc (suc (suc t)) / 3 = omega arith in
     images_at s (k + 1) n t (omega arith) ∙ ap (λ j. op s (index_at j) (k + 1 + t / 3)) r ∙ ap (op s (index_at (suc (suc (suc t)) % 3))) e
 
-pub length-code : (s : Symbol) → IsTable s → length (code s) ≡ 5 * s.size
-length-code s is =
-    let a = length-append (all_images s ++ s.m01) s.m12 in
-    let b = length-append (all_images s) s.m01 in
-    let c = length-flat_images s 1 s.size in
-    let d = is.m01_length in
-    let e = is.m12_length in
-    omega (arith, a, b, c, d, e)
-
 -- the number at a place below three times the size
 pub code_at : (s : Symbol) (t : ℕ) → t < 3 * s.size → get_or (code s) t 0 ≡ op s (index_at (t % 3)) (1 + t / 3)
 code_at s t low =

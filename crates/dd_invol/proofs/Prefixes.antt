@@ -5,8 +5,8 @@ use Rattle.std.proofs.lemmas.List.Elements.{Contains-append_right, Contains-appe
 use Rattle.dd_model.specs.Symbol.{Symbol}
 use Rattle.dd_model.specs.Code.{code, IsBelow}
 use Rattle.dd_invol.specs.Under.{IsUnder, HasNothingUnder, AreUnder, AreUnderBefore, next_number, Appends, HasNoNumberFrom, SkipsTo}
-use Rattle.dd_invol.proofs.Ascending.{ascending-append, below_at, agree_from, begins_more, begins_less}
-use Rattle.dd_invol.proofs.Places.{length-code}
+use Rattle.dd_model.proofs.Ascending.{ascending-append, below_at, agree_from, begins_more, begins_less}
+use Rattle.dd_model.proofs.Codes.{length-code}
 
 -- a prefix that is no whole code leaves room for a number
 pub room : (W : Symbol → Type 0) (n : ℕ) (prefix : List ℕ) (s : Symbol) → length prefix < 5 * n → IsUnder W n prefix s → length prefix < length (code s)

@@ -6,13 +6,13 @@ use Rattle.dd_model.specs.declared.index.Index.TheVariants.{Zero, One, Two}
 use Rattle.dd_model.specs.Symbol.{Symbol, IsTable, op, operation}
 use Rattle.dd_model.specs.Lists.{Begins}
 use Rattle.dd_model.specs.Code.{code, all_images, count_from}
-use Rattle.dd_model.proofs.Codes.{length-flat_images}
+use Rattle.dd_model.proofs.Codes.{length-flat_images, length-code}
 use Rattle.dd_model.proofs.CountFrom.{length-count_from, get_or-count_from}
 use Rattle.dd_invol.specs.Places.{index_at, place}
 use Rattle.dd_invol.specs.Table.{images_of, told}
 use Rattle.dd_model.specs.Involutions.{HaveSameInvolutions}
-use Rattle.dd_invol.proofs.Ascending.{begins_at, begins_from}
-use Rattle.dd_invol.proofs.Places.{code_at, length-code}
+use Rattle.dd_model.proofs.Ascending.{begins_at, begins_from}
+use Rattle.dd_invol.proofs.Places.{code_at}
 use Rattle.dd_invol.proofs.CodeFronts.{image_at}
 use Rattle.dd_invol.proofs.RowsLemmas.{chamber_of_place}
 use Rattle.dd_model.proofs.SameInvolutions.{op-same}

@@ -16,7 +16,7 @@ use Rattle.dd_model.proofs.CountFrom.{count_from-more}
 use Rattle.dd_invol.specs.Places.{place}
 use Rattle.dd_invol.specs.Table.{AreChambers, ArePeriods, HasNoTable, IsBareTable, IsTableOf, IsUnbranched, images_of, told}
 use Rattle.dd_model.specs.Involutions.{HaveSameInvolutions}
-use Rattle.dd_invol.proofs.Ascending.{begins_at}
+use Rattle.dd_model.proofs.Ascending.{begins_at}
 use Rattle.dd_invol.proofs.Places.{chamber_at}
 use Rattle.dd_invol.proofs.TableFronts.{told_at, told_same, told_begins, lengths_told, length-images_of, place_inside}
 use Rattle.dd_model.proofs.SameInvolutions.{chamber-same, involutions-same, connected-same, turned-same, period-same}

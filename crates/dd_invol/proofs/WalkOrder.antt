@@ -27,7 +27,7 @@ use Rattle.dd_model.proofs.CountFrom.{count_from-more}
 use Rattle.dd_model.proofs.Orders.{nat_cmp-same, list_not_below_both, list_not_below_itself}
 use Rattle.dd_model.specs.Involutions.{HaveSameInvolutions}
 use Rattle.dd_invol.specs.Walk.{IsListed, IsPast, IsNext, HasNoneLeft, AreListed, Walking}
-use Rattle.dd_invol.proofs.Ascending.{ascending-append}
+use Rattle.dd_model.proofs.Ascending.{ascending-append}
 use Rattle.dd_invol.proofs.Places.{chamber_at}
 use Rattle.dd_invol.proofs.TableFronts.{front_same}
 use Rattle.dd_invol.proofs.Unbranched.{unbranched_unique}

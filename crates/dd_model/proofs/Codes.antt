@@ -1,5 +1,5 @@
 -- The order by size and code is total, and equal codes are those of equal symbols.
-use Rattle.std.proofs.Common.{◌≡◌, ◌≢◌, ℕ, zero, suc, ◌+◌, ◌-◌, ◌*◌, ◌<◌, ◌≤◌, List, ◌++◌, map, length, get_or, take, drop, refl, sym, ap, ◌∙◌, subst, ⊎_elim, arith}
+use Rattle.std.proofs.Common.{◌≡◌, ◌≢◌, ℕ, zero, suc, ◌+◌, ◌-◌, ◌*◌, ◌<◌, ◌≤◌, List, ◌++◌, map, length, length-append, get_or, take, drop, refl, sym, ap, ◌∙◌, subst, ⊎_elim, arith}
 use Rattle.std.proofs.lemmas.Bool.{cases_eq}
 use Rattle.std.proofs.lemmas.List.{take_at, drop_at, ext_get_or, append_assoc, length-map}
 use Rattle.std.specs.List.{flat_map}
@@ -14,7 +14,7 @@ use Rattle.dd_model.specs.declared.index.Index.TheVariants.{Zero, One, Two}
 use Rattle.dd_model.specs.Symbol.{Symbol, IsTable, IsSymbol, item, op, operation}
 use Rattle.dd_model.specs.Isomorphic.{Isomorphic}
 use Rattle.dd_model.proofs.CountFrom.{length-count_from, item-map-count_from}
-use Rattle.dd_model.specs.Code.{count_from, chambers, images, code, code_cmp, Least}
+use Rattle.dd_model.specs.Code.{count_from, chambers, images, all_images, code, code_cmp, Least}
 use Rattle.dd_model.proofs.Isomorphisms.{Isomorphic-sym}
 use Rattle.dd_model.proofs.Fields.{same_fields}
 
@@ -29,6 +29,15 @@ then_equal Greater b e = cc
 pub length-flat_images : (s : Symbol) (k n : ℕ) → length (flat_map (images s) (count_from k n)) ≡ 3 * n
 length-flat_images s k zero = refl
 length-flat_images s k (suc n) = let e = length-flat_images s (k + 1) n in omega arith
+
+pub length-code : (s : Symbol) → IsTable s → length (code s) ≡ 5 * s.size
+length-code s is =
+    let a = length-append (all_images s ++ s.m01) s.m12 in
+    let b = length-append (all_images s) s.m01 in
+    let c = length-flat_images s 1 s.size in
+    let d = is.m01_length in
+    let e = is.m12_length in
+    omega (arith, a, b, c, d, e)
 
 same_images : (s t : Symbol) (k n : ℕ) → flat_map (images s) (count_from k n) ≡ flat_map (images t) (count_from k n)
     → (i : Index) (d : ℕ) → k ≤ d → d < k + n → op s i d ≡ op t i d

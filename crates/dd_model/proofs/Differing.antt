@@ -2,6 +2,7 @@
 use Rattle.std.proofs.Common.{◌≡◌, ◌≢◌, ◌↔◌, ◌⊎◌, ℕ, suc, ◌+◌, ◌<◌, ◌≤◌, Bool, true, IsTrue, List, [], ◌∷◌, ◌++◌, length, get_or, take, drop, refl, sym, ap, ◌∙◌, subst, inl, inr, ⊎_elim, arith}
 use Rattle.std.proofs.lemmas.List.{length-drop}
 use Rattle.std.proofs.Math.Seq.{drop-cons}
+use Rattle.dd_model.proofs.Ascending.{begins_append}
 use Rattle.dd_model.specs.Lists.{Begins, IsSmallerWhereTheyDiffer}
 
 -- the question from a place on
@@ -52,10 +53,6 @@ not_smaller_past k xs ys ends h = ⊎_elim
 
 -- ## Beginnings
 
-pub begins_itself : (xs ys : List ℕ) → Begins xs (xs ++ ys)
-begins_itself [] ys = tt
-begins_itself (x ∷ xs) ys = (refl, begins_itself xs ys)
-
 pub begins_is_front : (xs ys : List ℕ) → Begins xs ys → ys ≡ xs ++ drop (length xs) ys
 begins_is_front [] ys b = refl
 begins_is_front (x ∷ xs) [] b = absurd b
@@ -64,5 +61,5 @@ begins_is_front (x ∷ xs) (y ∷ ys) b = ap (λ z. z ∷ ys) (sym b.0) ∙ ap (
 -- a test of the front of a list tells whether the list begins with it
 pub begins_by_test : (xs ys : List ℕ) (r : Bool) → (r ≡ true → ys ≡ xs ++ drop (length xs) ys) × ((rest : List ℕ) → ys ≡ xs ++ rest → r ≡ true) → IsTrue r ↔ Begins xs ys
 begins_by_test xs ys r both =
-    ((λ yes. subst (Begins xs) (sym (both.0 yes)) (begins_itself xs (drop (length xs) ys))),
+    ((λ yes. subst (Begins xs) (sym (both.0 yes)) (begins_append xs (drop (length xs) ys))),
      (λ begins. both.1 (drop (length xs) ys) (begins_is_front xs ys begins)))

@@ -49,3 +49,8 @@ pub mod ReadingExamples
 pub mod WrittenLines
 pub mod WrittenNumbers
 pub mod SameInvolutions
+pub mod Ascending
+pub mod Positions
+pub mod Pairs
+pub mod Without
+pub mod JoinedLists

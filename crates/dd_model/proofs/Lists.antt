@@ -1,5 +1,5 @@
 -- Lists: their members, and lists of numbers.
-use Rattle.std.proofs.Common.{◌≡◌, ℕ, zero, suc, ◌⊎◌, List, [], ◌∷◌, get_or, map, replicate, refl, sym, ap, ◌∙◌, inl, inr, arith}
+use Rattle.std.proofs.Common.{◌≡◌, ℕ, zero, suc, ◌⊎◌, List, [], ◌∷◌, get_or, map, replicate, refl, sym, ap, ◌∙◌, subst, inl, inr, ⊎_elim, arith}
 use Rattle.std.proofs.lemmas.List.{get_or-map}
 use Rattle.std.proofs.lemmas.List.Elements.{All-from_recursion, All-contains}
 use Rattle.std.specs.List.{Contains, AllByRecursion}
@@ -32,6 +32,22 @@ each_of P xs x all there = All-contains P xs x (All-from_recursion P xs all) the
 pub all_from_members : {A : Type 0} (P : A → Type 0) (xs : List A) → ((x : A) → Contains xs x → P x) → AllByRecursion P xs
 all_from_members P [] each = tt
 all_from_members P (x ∷ xs) each = (each x (Contains-head x xs), all_from_members P xs (λ y there. each y (Contains-later x y xs there)))
+
+pub Contains-map : {A B : Type 0} (f : A → B) (xs : List A) (x : A) → Contains xs x → Contains (map f xs) (f x)
+Contains-map f [] x there = absurd (Contains-none x there)
+Contains-map f (y ∷ xs) x there =
+    ⊎_elim
+    (λ first. subst (λ z. Contains (map f (y ∷ xs)) (f z)) first (Contains-head (f y) (map f xs)))
+    (λ later. Contains-later (f y) (f x) (map f xs) (Contains-map f xs x later))
+    (Contains-cases y x xs there)
+
+pub Contains-from_map : {A B : Type 0} (f : A → B) (xs : List A) (y : B) → Contains (map f xs) y → (x : A) × Contains xs x × (f x ≡ y)
+Contains-from_map f [] y there = absurd (Contains-none y there)
+Contains-from_map f (x ∷ xs) y there =
+    ⊎_elim
+    (λ first. (x, Contains-head x xs, first))
+    (λ later. let r = Contains-from_map f xs y later in (r.0, Contains-later x r.0 xs r.1, r.2))
+    (Contains-cases (f x) y (map f xs) there)
 
 -- ## Parts and values
 

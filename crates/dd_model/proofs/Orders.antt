@@ -1,13 +1,16 @@
 -- The orders of numbers, of lists of numbers and of symbols: nothing is below itself.
-use Rattle.std.proofs.Common.{◌≡◌, ℕ, ◌<◌, List, sym}
+use Rattle.std.proofs.Common.{◌≡◌, ℕ, ◌<◌, List, sym, subst, ⊎_elim, arith}
+use Rattle.std.proofs.lemmas.Bool.{cases_lt, cases_eq}
 use Rattle.std.proofs.lemmas.Cmp.{tied_itself}
-use Rattle.std.specs.Cmp.{IsTotalOrder, nat_cmp_is, nat_cmp_total}
+use Rattle.std.specs.Cmp.{IsTotalOrder, nat_cmp_is, nat_cmp_total, on_total, then_total}
 use Rattle.std.specs.Cmp.Lexicographic.{slice_cmp, nat_list_cmp_total}
 use Rattle.std.specs.Ordering.{nat_cmp}
 use Rattle.std.specs.declared.cmp.Ordering.{Ordering}
-use Rattle.std.specs.declared.cmp.Ordering.TheVariants.{Less, Equal}
+use Rattle.std.specs.declared.cmp.Ordering.TheVariants.{Less, Equal, Greater}
 use Rattle.dd_model.specs.Symbol.{Symbol}
 use Rattle.dd_model.specs.Code.{IsBelow}
+use Rattle.dd_model.specs.Jobs.{IsJobBelow, job_cmp}
+use Rattle.dd_model.specs.declared.jobs.Job.{Job}
 use Rattle.dd_model.proofs.Codes.{code_cmp_total}
 
 pub nat_cmp-less : (x y : ℕ) → x < y → nat_cmp x y ≡ Less
@@ -16,8 +19,21 @@ nat_cmp-less x y h = sym (nat_cmp_is x y Less h)
 pub nat_cmp-same : (x : ℕ) → nat_cmp x x ≡ Equal
 nat_cmp-same x = tied_itself nat_cmp_total x
 
+pub less_number : (x y : ℕ) → nat_cmp x y ≡ Less → x < y
+less_number x y less =
+    ⊎_elim
+    (λ smaller. smaller)
+    (λ not_smaller. ⊎_elim
+    (λ same. absurd (let e : nat_cmp x y ≡ Equal = subst (λ z. nat_cmp x z ≡ Equal) same (nat_cmp-same x) in cc))
+    (λ different. absurd (let e : Greater ≡ nat_cmp x y = nat_cmp_is x y Greater (omega arith) in cc))
+    (cases_eq x y))
+    (cases_lt x y)
+
 not_less_than_itself : {A : Type 0} (cmp : A → A → Ordering) → IsTotalOrder cmp → (x : A) → cmp x x ≡ Less → ⊥
 not_less_than_itself cmp total x less = let e = tied_itself total x in cc
+
+pub job_cmp_total : IsTotalOrder job_cmp
+job_cmp_total = then_total (on_total (λ (j : Job). j.size) nat_cmp_total) (on_total (λ (j : Job). j.prefix) nat_list_cmp_total)
 
 not_less_both : {A : Type 0} (cmp : A → A → Ordering) → IsTotalOrder cmp → (x y : A) → cmp x y ≡ Less → cmp y x ≡ Less → ⊥
 not_less_both cmp total x y a b = not_less_than_itself cmp total x (total.trans x y x a b)
@@ -35,3 +51,8 @@ not_below_itself s less = let e = tied_itself code_cmp_total s in cc
 
 pub not_below_both : (s t : Symbol) → IsBelow s t → IsBelow t s → ⊥
 not_below_both s t a b = not_below_itself s (code_cmp_total.trans s t s a b)
+
+-- jobs
+pub job_not_below_itself : (j k : Job) → IsJobBelow j k → j.size ≡ k.size → j.prefix ≡ k.prefix → ⊥
+job_not_below_itself j k less size prefix =
+    not_less_than_itself job_cmp job_cmp_total k (subst (λ j. IsJobBelow j k) (λ i. record { size = size i; prefix = prefix i }) less)

@@ -14,26 +14,7 @@ use Rattle.dd_model.specs.declared.jobs.Position.{Position}
 use Rattle.dd_model.specs.declared.pair.Pair.TheVariants.{Tile, Vertex}
 use Rattle.dd_model.proofs.CellLists.{cells_unique}
 use Rattle.dd_model.proofs.Catalogues.{catalogue_unique}
-
--- a list is without what is left out in one way
-pub without_unique : {A : Type 0} (P : A → Type 0) (xs ys zs : List A) → IsWithout P xs ys → IsWithout P xs zs → ys ≡ zs
-without_unique P [] [] [] a b = refl
-without_unique P [] [] (z ∷ zs) a b = absurd b
-without_unique P [] (y ∷ ys) zs a b = absurd a
-without_unique P (x ∷ xs) [] [] a b = refl
-without_unique P (x ∷ xs) [] (z ∷ zs) a (inl b) = without_unique P xs [] (z ∷ zs) a.1 b.1
-without_unique P (x ∷ xs) [] (z ∷ zs) a (inr b) = absurd (b.0 a.0)
-without_unique P (x ∷ xs) (y ∷ ys) [] (inl a) b = without_unique P xs (y ∷ ys) [] a.1 b.1
-without_unique P (x ∷ xs) (y ∷ ys) [] (inr a) b = absurd (a.0 b.0)
-without_unique P (x ∷ xs) (y ∷ ys) (z ∷ zs) (inl a) (inl b) = without_unique P xs (y ∷ ys) (z ∷ zs) a.1 b.1
-without_unique P (x ∷ xs) (y ∷ ys) (z ∷ zs) (inl a) (inr b) = absurd (b.0 a.0)
-without_unique P (x ∷ xs) (y ∷ ys) (z ∷ zs) (inr a) (inl b) = absurd (a.0 b.0)
-without_unique P (x ∷ xs) (y ∷ ys) (z ∷ zs) (inr a) (inr b) = rw (← a.1) (rw (← b.1) (ap (λ t. x ∷ t) (without_unique P xs ys zs a.2 b.2)))
-
--- where nothing is to be left out, the list stays
-without_none : {A : Type 0} (P : A → Type 0) (xs : List A) → AllByRecursion (λ x. ¬ P x) xs → IsWithout P xs xs
-without_none P [] h = tt
-without_none P (x ∷ xs) h = inr (h.0, refl, without_none P xs h.1)
+use Rattle.dd_model.proofs.Without.{without_unique, without_none}
 
 not_smaller_than_nothing : (xs : List ℕ) → IsSmallerWhereTheyDiffer xs [] → ⊥
 not_smaller_than_nothing [] h = h

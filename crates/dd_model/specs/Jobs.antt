@@ -1,5 +1,5 @@
 -- Jobs: what a part of a catalogue is, and how a part is split.
-use Rattle.std.specs.Prelude.{◌≡◌, ◌≢◌, ◌⊎◌, ◌↔◌, ℕ, ◌*◌, ◌≤◌, List, [], ◌∷◌, ◌++◌, length}
+use Rattle.std.specs.Prelude.{◌≡◌, ◌≢◌, ◌⊎◌, ◌↔◌, ℕ, ◌*◌, ◌<◌, ◌≤◌, List, [], ◌∷◌, ◌++◌, length}
 use Rattle.std.specs.List.{AllByRecursion, Contains}
 use Rattle.std.specs.Ordering.{nat_cmp, ordering_then}
 use Rattle.std.specs.Cmp.Lexicographic.{slice_cmp}
@@ -55,8 +55,9 @@ pub record AreExtensions (q : Request) (job : Job) (jobs : List Job) : Type 0 wh
   pub extend : (child : Job) → Contains jobs child → (k : ℕ) × (child ≡ extended job k)
   pub complete : (k : ℕ) → Contains jobs (extended job k) ⊎ ((s : Symbol) → IsMemberUnder q (extended job k) s → ⊥)
 
--- at least one of them
+-- at least one of them, where the prefix has fewer numbers than a code has images
 pub record AreChildren (q : Request) (job : Job) (jobs : List Job) : Type 0 where
+  pub shorter : length job.prefix < 3 * job.size
   pub some : jobs ≢ []
   pub extensions : AreExtensions q job jobs
 

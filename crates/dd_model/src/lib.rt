@@ -13,6 +13,7 @@ mod least_form_laws;
 mod maps;
 mod memory;
 mod pair;
+mod position_laws;
 mod reading_laws;
 mod requests;
 mod symbol_codes;
@@ -43,6 +44,7 @@ pub use least_form_laws::{
 pub use maps::Map;
 pub use memory::Memory;
 pub use pair::Pair;
+pub use position_laws::not_being_before_a_position_is_closed_upward;
 pub use reading_laws::{
     a_file_of_one_symbol, a_file_spells_one_list, comments_spell_nothing, lines_read_back,
 };

@@ -7,12 +7,14 @@ use Rattle.dd_model.specs.Text.{AreLines, IsText, beginning}
 use Rattle.dd_model.specs.Jobs.{IsJobOf, AreMembersUnder}
 use Rattle.dd_model.specs.declared.requests.Request.{Request}
 use Rattle.dd_model.specs.declared.jobs.Job.{Job}
-use Rattle.dd_model.proofs.Texts.{all_from_beginning, without_unique}
+use Rattle.dd_model.proofs.Texts.{all_from_beginning}
+use Rattle.dd_model.proofs.Without.{without_unique}
 use Rattle.dd_ports.specs.Causes.{Rose}
 use Rattle.dd_ports.specs.Grows.{GrowsByPrefix}
 use Rattle.dd_invol.specs.Opening.{IsOpening}
 use Rattle.dd_model.specs.Joined.{AreUnderJobs}
-use Rattle.dd_branch.proofs.JoinedLists.{under_none, opening_whole}
+use Rattle.dd_model.proofs.JoinedLists.{under_none}
+use Rattle.dd_invol.proofs.OpeningLaws.{under_opening}
 use Rattle.dd_branch.proofs.FirstMembers.{catalogue_begins, under_first_jobs, under_next_job}
 use Rattle.dd_suite.specs.Catalogue.{AppendsText, AppendsFirstLines}
 use Rattle.dd_suite.specs.Pages.{HasLines, AddsAll, AddsTooMany, WritesPrefix, WritesPrefixOf}
@@ -109,7 +111,7 @@ found_too_many q start before now page jobs k job more is low same are cuts foun
 -- all jobs are done, and nothing is left to be written
 pub found_whole : (q : Request) (start now : Option (List ℕ)) (page : Page) (jobs : List Job) → IsOpening q jobs → page.buffer.items ≡ [] → HasFound q start now page jobs → AppendsText q start now
 found_whole q start now page jobs is empty found =
-    let catalogue = opening_whole q jobs found.members is found.under in
+    let catalogue = under_opening q jobs found.members is found.under in
     let has = found.lines in
     record {
       text = has.written;

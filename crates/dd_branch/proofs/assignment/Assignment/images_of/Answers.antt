@@ -1,7 +1,8 @@
 use Rattle.std.proofs.Common.{◌≡◌, ◌++◌, [], ◌∷◌, length, get_or, take, sym, ap, ◌∙◌, arith}
 use Rattle.std.proofs.lemmas.List.{take_more}
 use Rattle.dd_model.specs.Code.{code}
-use Rattle.dd_invol.proofs.Places.{length-code, chamber_at}
+use Rattle.dd_invol.proofs.Places.{chamber_at}
+use Rattle.dd_model.proofs.Codes.{length-code}
 use Rattle.dd_branch.proofs.assignment.Assignment.images_of.Goals as goal
 
 pub bounds-as_slice-k : goal.bounds-as_slice-k

@@ -10,14 +10,14 @@ use std::mem;
 
 /// Entries in order, with numbers of their own. The first one can leave without memory.
 #[derive(Drop)]
-pub struct Entries {
+pub struct EntryList {
     /// The entries, after those that have left.
     all: Vec<Entry>,
     /// How many have left.
     gone: usize,
 }
 
-impl Model for Entries {
+impl Model for EntryList {
     ghost use Rattle.std.specs.Prelude.{◌≤◌, List, length, drop};
     ghost use Rattle.dd_front.specs.declared.entry.Entry.{Entry as Row};
 
@@ -31,7 +31,7 @@ impl Model for Entries {
         × HaveOwnNumbers (drop a.gone a.all.items) };
 }
 
-impl Entries {
+impl EntryList {
     ghost use Rattle.dd_front.specs.Machine.{open_entries};
     ghost use Rattle.std.specs.List.{splice};
     ghost use Rattle.dd_front.specs.Numbers.{HaveOwnNumbers, AreBelow};
@@ -40,10 +40,10 @@ impl Entries {
     ghost use Rattle.dd_front.specs.Taken.{BeginsDone, BeginsNotDone};
 
     /// Open entries of these jobs, numbered from 1 on.
-    pub fn of_jobs(alloc: Global, jobs: Vec<Job>) -> Result<Entries, Memory>
+    pub fn of_jobs(alloc: Global, jobs: Vec<Job>) -> Result<EntryList, Memory>
         ensures { IfOk result (λ entries. entries ≡ open_entries 1 jobs.items) }
     {
-        Ok(Entries {
+        Ok(EntryList {
             all: listed(alloc, 1, jobs)?,
             gone: 0,
         })

@@ -1,5 +1,5 @@
 -- Ascending lists one after the other, and codes that first differ at a place.
-use Rattle.std.proofs.Common.{◌≡◌, ℕ, zero, suc, ◌<◌, ◌≤◌, List, [], ◌∷◌, ◌++◌, length, get_or, sym, ap, ◌∙◌, subst, arith}
+use Rattle.std.proofs.Common.{◌≡◌, ℕ, zero, suc, ◌<◌, ◌≤◌, List, [], ◌∷◌, ◌++◌, length, get_or, refl, sym, ap, ◌∙◌, subst, arith}
 use Rattle.std.specs.List.{AllByRecursion, Contains}
 use Rattle.std.proofs.lemmas.List.Elements.{Contains-append_right, Contains-append_left, Contains-push}
 use Rattle.std.specs.Ordering.{nat_cmp, ordering_then}
@@ -63,6 +63,26 @@ pub begins_from : (xs ys : List ℕ) → length xs ≤ length ys → ((u : ℕ) 
 begins_from [] ys long same = tt
 begins_from (x ∷ xs) [] long same = absurd (omega arith)
 begins_from (x ∷ xs) (y ∷ ys) long same = (sym (same 0 (omega arith)), begins_from xs ys (omega arith) (λ u h. same (suc u) (omega arith)))
+
+pub begins_itself : (xs : List ℕ) → Begins xs xs
+begins_itself xs = begins_from xs xs (omega arith) (λ u h. refl)
+
+pub begins_through : (xs ys zs : List ℕ) → Begins xs ys → Begins ys zs → Begins xs zs
+begins_through [] ys zs a b = tt
+begins_through (x ∷ xs) [] zs a b = absurd a
+begins_through (x ∷ xs) (y ∷ ys) [] a b = absurd b
+begins_through (x ∷ xs) (y ∷ ys) (z ∷ zs) a b = (a.0 ∙ b.0, begins_through xs ys zs a.1 b.1)
+
+pub begins_append : (xs ys : List ℕ) → Begins xs (xs ++ ys)
+begins_append [] ys = tt
+begins_append (x ∷ xs) ys = (refl, begins_append xs ys)
+
+-- of two lists of one length the one that begins with the other is the other
+pub same_when_whole : (xs ys : List ℕ) → Begins xs ys → length xs ≡ length ys → ys ≡ xs
+same_when_whole [] [] b e = refl
+same_when_whole [] (y ∷ ys) b e = absurd (omega arith)
+same_when_whole (x ∷ xs) [] b e = absurd b
+same_when_whole (x ∷ xs) (y ∷ ys) b e = ap (λ z. z ∷ ys) (sym b.0) ∙ ap (λ zs. x ∷ zs) (same_when_whole xs ys b.1 (omega arith))
 
 -- two that begin with one list agree so far
 pub agree_from : (xs ys zs : List ℕ) → Begins xs ys → Begins xs zs → AgreeBefore (length xs) ys zs

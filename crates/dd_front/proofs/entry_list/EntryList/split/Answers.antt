@@ -7,7 +7,7 @@ use Rattle.dd_front.specs.Places.{IsPlaceOf, HasNoneOf}
 use Rattle.dd_front.proofs.Placed.{found}
 use Rattle.dd_front.proofs.Replaced.{split_of_none}
 use Rattle.dd_front.proofs.Kept.{splice_there, splice_kept}
-use Rattle.dd_front.proofs.entries.Entries.split.Goals as goal
+use Rattle.dd_front.proofs.entry_list.EntryList.split.Goals as goal
 
 there : (c : goal.In_ok-listed-in-Some) → IsPlaceOf c.args.number c.args.self.now c.in-Some.place
 there c = subst (λ es. IsPlaceOf c.args.number es c.in-Some.place) c.as_slice.ensures.entries (found c.args.number c.as_slice.result.now (Some c.in-Some.place) c.in-Some.ensures)

@@ -4,7 +4,7 @@ use Rattle.std.specs.List.{splice}
 use Rattle.dd_front.specs.declared.entry.Entry.{Entry}
 use Rattle.dd_front.specs.Numbers.{HaveOwnNumbers}
 use Rattle.dd_front.proofs.Kept.{splice_in, splice_long, place_inside}
-use Rattle.dd_front.proofs.entries.Entries.replace.Goals as goal
+use Rattle.dd_front.proofs.entry_list.EntryList.replace.Goals as goal
 
 -- the vector after the call
 spliced : (c : goal.After-drop-branch) → c.splice.new.self.items ≡ splice c.self.inside.all.items (c.self.inside.gone + c.args.place) (c.self.inside.gone + c.args.place + 1) c.args.entries.items

@@ -1,5 +1,5 @@
 use Rattle.dd_front.proofs.Kept.{written_in, written_kept}
-use Rattle.dd_front.proofs.entries.Entries.put_state.Goals as goal
+use Rattle.dd_front.proofs.entry_list.EntryList.put_state.Goals as goal
 
 pub invariant_of-self : goal.invariant_of-self
 invariant_of-self c =

@@ -3,7 +3,7 @@ use Rattle.dd_front.specs.Places.{IsPlaceOf, HasNoneOf}
 use Rattle.dd_front.proofs.Placed.{found}
 use Rattle.dd_front.proofs.Replaced.{state_of_none}
 use Rattle.dd_front.proofs.Kept.{state_there}
-use Rattle.dd_front.proofs.entries.Entries.set_state.Goals as goal
+use Rattle.dd_front.proofs.entry_list.EntryList.set_state.Goals as goal
 
 pub returns-in-Some : goal.returns-in-Some
 returns-in-Some c =
