@@ -1,6 +1,8 @@
 mod Placed
 mod Replaced
 mod Kept
+mod Skipped
+mod Telling
 pub mod Standing
 pub mod GoingOn
 pub mod Entries

@@ -12,6 +12,8 @@ use Rattle.dd_front.specs.Machine.{entry_of, open_entries}
 use Rattle.dd_front.specs.Step.{replaced, with_state, split_entries}
 use Rattle.dd_front.specs.Numbers.{HaveOwnNumbers, AreBelow}
 use Rattle.dd_front.specs.Places.{IsPlaceOf, HasNoneOf}
+use Rattle.dd_front.specs.Invariant.{AreListed}
+use Rattle.dd_model.specs.declared.requests.Request.{Request}
 
 -- ## Properties of all
 
@@ -155,3 +157,8 @@ opened_push first [] job = ap (λ k. entry_of k job Open ∷ []) (sym (add-zero 
 opened_push first (j ∷ jobs) job =
     let e : first + 1 + length jobs ≡ first + length (j ∷ jobs) = omega arith in
     ap (λ es. entry_of first j Open ∷ es) (opened_push (first + 1) jobs job ∙ ap (λ k. open_entries (first + 1) jobs ++ entry_of k job Open ∷ []) e)
+
+-- open entries have no list
+pub opened_listed : (q : Request) (next : ℕ) (jobs : List Job) → AreListed q (open_entries next jobs)
+opened_listed q next [] = tt
+opened_listed q next (job ∷ jobs) = (tt, opened_listed q (next + 1) jobs)

@@ -10,6 +10,7 @@ mod front;
 mod job_list;
 mod laws;
 mod listing;
+mod looking;
 mod members;
 
 pub use entry::{Entry, State};
