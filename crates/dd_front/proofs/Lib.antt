@@ -1,6 +1,9 @@
 mod Placed
 mod Replaced
 mod Kept
+mod Lasting
+mod SmallCodes
+mod Emitted
 mod Skipped
 mod Telling
 pub mod Standing

@@ -2,6 +2,7 @@
 //! members.
 #![tactic(auto)]
 
+mod emitting;
 mod entry;
 mod entry_list;
 mod event;
@@ -12,6 +13,8 @@ mod laws;
 mod listing;
 mod looking;
 mod members;
+mod saving;
+mod steps;
 
 pub use entry::{Entry, State};
 pub use event::Event;
