@@ -1,3 +1,11 @@
+mod Placed
+mod Replaced
+mod Kept
+mod Lasting
+mod SmallCodes
+mod Emitted
+mod Skipped
+mod Telling
 pub mod Standing
 pub mod GoingOn
 pub mod Entries

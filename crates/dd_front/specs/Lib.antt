@@ -4,3 +4,8 @@ pub mod Step
 pub mod Covered
 pub mod Absorbed
 pub mod Held
+pub mod Numbers
+pub mod Taken
+pub mod Places
+pub mod Invariant
+pub mod Room

@@ -1,3 +1,5 @@
+ghost use Rattle.std.specs.Prelude.{◌≡◌, ◌↔◌, IsTrue};
+
 use crate::members::Members;
 use dd_model::Job;
 
@@ -10,6 +12,22 @@ pub enum State {
     Out,
     /// These are the members under it, ascending.
     Done(Members),
+}
+
+impl State {
+    /// Whether it waits.
+    pub fn is_open(&self) -> bool
+        ensures { IsTrue result ↔ (self.now ≡ State.Open) }
+    {
+        matches!(self, State::Open)
+    }
+
+    /// Whether a worker has it.
+    pub fn is_out(&self) -> bool
+        ensures { IsTrue result ↔ (self.now ≡ State.Out) }
+    {
+        matches!(self, State::Out)
+    }
 }
 
 /// A job with its number and its state.

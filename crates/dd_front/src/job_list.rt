@@ -30,4 +30,11 @@ impl JobList {
     {
         self.jobs.as_slice()
     }
+
+    /// The jobs in order, moved and not copied.
+    pub fn into_vec(self) -> Vec<Job>
+        ensures { result.items ≡ self }
+    {
+        self.jobs
+    }
 }

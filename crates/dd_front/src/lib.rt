@@ -2,16 +2,24 @@
 //! members.
 #![tactic(auto)]
 
+mod emitting;
 mod entry;
+mod entry_list;
 mod event;
 mod finder;
+mod front;
 mod job_list;
 mod laws;
+mod listing;
+mod looking;
 mod members;
+mod saving;
+mod steps;
 
 pub use entry::{Entry, State};
 pub use event::Event;
 pub use finder::Finder;
+pub use front::Front;
 pub use job_list::JobList;
 pub use laws::{
     a_machine_is_held_at_its_opening, a_machine_stands_at_one_position, a_run_covers_its_opening,

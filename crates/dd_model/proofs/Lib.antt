@@ -1,4 +1,5 @@
 pub mod Lists
+pub mod Differing
 pub mod CountFrom
 pub mod Numbers
 pub mod Fields
@@ -50,8 +51,8 @@ pub mod WrittenNumbers
 pub mod SameInvolutions
 pub mod FreeWalks
 pub mod Ascending
-pub mod Differing
 pub mod Positions
 pub mod Pairs
 pub mod Without
 pub mod JoinedLists
+pub mod FirstPlaces

@@ -3,6 +3,7 @@
 
 mod allowed;
 mod allowed_laws;
+mod before;
 mod carried_laws;
 mod catalogue_laws;
 mod cell_laws;

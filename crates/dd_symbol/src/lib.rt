@@ -1,6 +1,7 @@
 //! Symbols, and the connected ones.
 #![tactic(auto)]
 
+mod before;
 mod building;
 mod cells;
 mod connected;

@@ -1,11 +1,11 @@
-ghost use Rattle.std.specs.Prelude.{◌≡◌, ◌≤◌, ◌<◌, IfOk};
+ghost use Rattle.std.specs.Prelude.{◌≡◌, ◌≤◌, ◌<◌, ◌↔◌, IfOk, IsTrue};
 ghost use Rattle.dd_model.specs.Isomorphic.{IsBijection, IsIsomorphism};
 ghost use Rattle.dd_model.specs.Code.{code_cmp};
 
 use crate::maps::inverse;
 use crate::shapes::CellShape;
 use crate::table::Table;
-use dd_model::{Code, Index, Memory, Pair};
+use dd_model::{Code, Index, Memory, Pair, Position};
 use std::alloc::Global;
 use std::cmp::Ordering;
 use std::marker::Model;
@@ -33,6 +33,7 @@ impl Symbol {
     ghost use Rattle.dd_model.specs.Symbol.{IsChamber, op, degree};
     ghost use Rattle.dd_model.specs.Cell.{IsBranching, AreCells};
     ghost use Rattle.dd_model.specs.Code.{code};
+    ghost use Rattle.dd_model.specs.Position.{IsBefore};
     ghost use Rattle.dd_symbol.specs.Table.{symbol_of};
     ghost use Rattle.dd_symbol.specs.Cells.{IsShapeOf};
     ghost use Rattle.dd_model.specs.Small.{IsSmallSymbol};
@@ -117,6 +118,13 @@ impl Symbol {
         ensures { IfOk result (λ numbers. numbers ≡ code self.now) }
     {
         self.table.code(alloc)
+    }
+
+    /// Whether the symbol is before a position.
+    pub fn is_before(&self, position: &Position) -> bool
+        ensures { IsTrue result ↔ IsBefore position.now self.now }
+    {
+        self.table.is_before(position)
     }
 
     /// An equal symbol.

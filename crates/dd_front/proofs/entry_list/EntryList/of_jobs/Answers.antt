@@ -1,0 +1,7 @@
+use Rattle.std.proofs.Common.{sym, subst, arith}
+use Rattle.dd_front.specs.Numbers.{HaveOwnNumbers}
+use Rattle.dd_front.proofs.Replaced.{opened_own}
+use Rattle.dd_front.proofs.entry_list.EntryList.of_jobs.Goals as goal
+
+pub invariant_of-result : goal.invariant_of-result
+invariant_of-result c = (omega arith, subst HaveOwnNumbers (sym c.in_ok-listed.ensures) (opened_own 1 c.args.jobs.items (omega arith)))

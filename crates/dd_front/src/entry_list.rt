@@ -1,0 +1,122 @@
+ghost use Rattle.std.specs.Prelude.{◌≡◌, ◌+◌, ◌<◌, ◌^◌, length, IfOk, OnOk, OnErr, MatchOption};
+
+use crate::entry::{Entry, State};
+use crate::listing::{listed, place_of};
+use crate::members::Members;
+use dd_model::{Job, Memory};
+use std::alloc::Global;
+use std::marker::Model;
+use std::mem;
+
+/// Entries in order, with numbers of their own. The first one can leave without memory.
+#[derive(Drop)]
+pub struct EntryList {
+    /// The entries, after those that have left.
+    all: Vec<Entry>,
+    /// How many have left.
+    gone: usize,
+}
+
+impl Model for EntryList {
+    ghost use Rattle.std.specs.Prelude.{◌≤◌, List, length, drop};
+    ghost use Rattle.dd_front.specs.declared.entry.Entry.{Entry as Row};
+
+    ghost Value = { List Row };
+
+    ghost use Rattle.dd_front.specs.Numbers.{HaveOwnNumbers};
+
+    ghost view = { λ a. drop a.gone a.all.items };
+
+    ghost invariant = { λ a. (a.gone ≤ length a.all.items)
+        × HaveOwnNumbers (drop a.gone a.all.items) };
+}
+
+impl EntryList {
+    ghost use Rattle.dd_front.specs.Machine.{open_entries};
+    ghost use Rattle.std.specs.List.{splice};
+    ghost use Rattle.dd_front.specs.Numbers.{HaveOwnNumbers, AreBelow};
+    ghost use Rattle.dd_front.specs.Places.{with_state_at};
+    ghost use Rattle.dd_front.specs.Step.{with_state, split_entries};
+    ghost use Rattle.dd_front.specs.Taken.{BeginsDone, BeginsNotDone};
+
+    /// Open entries of these jobs, numbered from 1 on.
+    pub fn of_jobs(alloc: Global, jobs: Vec<Job>) -> Result<EntryList, Memory>
+        ensures { IfOk result (λ entries. entries ≡ open_entries 1 jobs.items) }
+    {
+        Ok(EntryList {
+            all: listed(alloc, 1, jobs)?,
+            gone: 0,
+        })
+    }
+
+    /// The entries in order.
+    pub fn as_slice(&self) -> &[Entry]
+        ensures entries { result.now ≡ self.now }
+        ensures numbers { HaveOwnNumbers self.now }
+    {
+        &self.all[self.gone..]
+    }
+
+    /// Gives the entry at a place, counted from 0, another state.
+    pub fn put_state(&mut self, place: usize, state: State)
+        requires { place < length self.old }
+        ensures { self.new ≡ with_state_at place state self.old }
+    {
+        let at = self.gone + place;
+        let _ = mem::replace(&mut self.all[at].state, state);
+    }
+
+    /// Gives the entry of a number another state. The number 0 changes nothing.
+    pub fn set_state(&mut self, number: u64, state: State)
+        ensures { self.new ≡ with_state number state self.old }
+    {
+        if let Some(place) = place_of(self.as_slice(), number) {
+            self.put_state(place, state);
+        }
+    }
+
+    /// Puts entries in the place of one.
+    fn replace(&mut self, place: usize, entries: Vec<Entry>) -> Result<(), Memory>
+        requires place { place < length self.old }
+        requires numbers { HaveOwnNumbers (splice self.old place (place + 1) entries.items) }
+        ensures entries { OnOk result (self.new ≡ splice self.old place (place + 1) entries.items) }
+        ensures same { OnErr result (self.new ≡ self.old) }
+    {
+        let at = self.gone + place;
+        let _ = self.all.splice(at..at + 1, entries)?;
+        Ok(())
+    }
+
+    /// Puts open entries for jobs, numbered from `next` on, in the place of the one of a number. The
+    /// number 0 changes nothing.
+    pub fn split(&mut self, alloc: Global, number: u64, next: u64, jobs: Vec<Job>) -> Result<(), Memory>
+        requires below { AreBelow next self.old }
+        requires room { next + length jobs.items < 2 ^ 64 }
+        ensures entries { OnOk result (self.new ≡ split_entries number next jobs.items self.old) }
+        ensures same { OnErr result (self.new ≡ self.old) }
+    {
+        match place_of(self.as_slice(), number) {
+            Some(place) => self.replace(place, listed(alloc, next, jobs)?),
+            None => Ok(()),
+        }
+    }
+
+    /// Takes the first entry off where it is done.
+    pub fn take_done(&mut self) -> Option<Members>
+        ensures { MatchOption result
+            ((self.new ≡ self.old) × BeginsNotDone self.old)
+            (λ list. BeginsDone self.old list self.new) }
+    {
+        let first = self.all.get_mut(self.gone)?;
+        match mem::replace(&mut first.state, State::Out) {
+            State::Done(list) => {
+                self.gone += 1;
+                Some(list)
+            }
+            other => {
+                first.state = other;
+                None
+            }
+        }
+    }
+}

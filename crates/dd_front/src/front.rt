@@ -1,0 +1,145 @@
+ghost use Rattle.std.specs.Prelude.{◌≡◌, ◌↔◌, IfOk, IsTrue};
+ghost use Rattle.dd_model.specs.Request.{IsValid};
+ghost use Rattle.dd_model.specs.Position.{IsPosition};
+ghost use Rattle.dd_model.specs.Jobs.{AreAscendingJobs, AreApart};
+
+use crate::entry::Entry;
+use crate::entry_list::EntryList;
+use crate::event::Event;
+use crate::listing::{copies_of, position_of};
+use crate::looking::{count_before, first_list, has_open, has_out, has_some_open};
+use dd_model::{Job, Memory, Position, Request};
+use std::alloc::Global;
+use std::marker::Model;
+
+/// The jobs of a catalogue on their way from open to done: entries in order, from which members are
+/// emitted at the front.
+#[derive(Drop)]
+pub struct Front {
+    pub(crate) alloc: Global,
+    pub(crate) request: Request,
+    pub(crate) opening: Vec<Job>,
+    pub(crate) opened: u128,
+    pub(crate) from: Position,
+    pub(crate) entries: EntryList,
+    pub(crate) next: u64,
+    pub(crate) lines: u128,
+    pub(crate) saved_lines: u128,
+    pub(crate) saved_position: Position,
+}
+
+impl Model for Front {
+    ghost use Rattle.dd_front.specs.Machine.{Machine};
+
+    ghost Value = { Machine };
+
+    ghost use Rattle.dd_front.specs.Invariant.{IsFront};
+
+    ghost view = { λ a. record {
+        request = a.request;
+        opening = a.opening.items;
+        opened = a.opened;
+        from = a.from;
+        entries = a.entries;
+        next = a.next;
+        lines = a.lines;
+        saved = record { lines = a.saved_lines; position = a.saved_position };
+    } };
+
+    ghost invariant = { λ a. IsFront a.request a.next a.entries };
+}
+
+impl Front {
+    ghost use Rattle.dd_front.specs.Machine.{IsOpened, StandsAt};
+    ghost use Rattle.dd_front.specs.Allowed.{IsPermitted};
+
+    /// A front with these jobs, all open, that goes on from a position after so many lines.
+    pub fn open(
+        alloc: Global,
+        request: Request,
+        jobs: Vec<Job>,
+        from: Position,
+        lines: u128,
+    ) -> Result<Front, Memory>
+        requires valid { IsValid request }
+        requires ascending { AreAscendingJobs jobs.items }
+        requires apart { AreApart jobs.items }
+        requires position { IsPosition from }
+        ensures { IfOk result (λ front. IsOpened request jobs.items from lines front) }
+    {
+        let next = jobs.len() as u64 + 1;
+        let entries = EntryList::of_jobs(alloc, copies_of(alloc, &jobs)?)?;
+        let position = position_of(entries.as_slice(), &from)?;
+        Ok(Front {
+            alloc,
+            request,
+            opening: jobs,
+            opened: lines,
+            from,
+            entries,
+            next,
+            lines,
+            saved_lines: lines,
+            saved_position: position,
+        })
+    }
+
+    /// Whether an event is allowed, but for what its jobs and its list are.
+    pub fn allowed(&self, event: &Event) -> bool
+        ensures { IsTrue result ↔ IsPermitted self.now event.now }
+    {
+        let entries = self.entries.as_slice();
+        match event {
+            Event::Take { entry, .. } => has_open(entries, *entry),
+            Event::Look { .. } => !has_some_open(entries),
+            Event::Split { entry, .. }
+            | Event::Finish { entry, .. }
+            | Event::Back { entry, .. } => *entry == 0 || has_out(entries, *entry),
+            Event::Emit => first_list(entries).is_some(),
+            Event::Part { count } => match first_list(entries) {
+                Some(list) => {
+                    let before = count_before(list.as_slice(), &self.from);
+                    *count < (list.len() - before) as u64
+                }
+                None => false,
+            },
+            Event::Save | Event::Resume => true,
+        }
+    }
+
+    /// What is asked for.
+    pub fn request(&self) -> Request
+        ensures request { result ≡ self.now.request }
+        ensures valid { IsValid self.now.request }
+    {
+        self.request
+    }
+
+    /// The entries in order.
+    pub fn entries(&self) -> &[Entry]
+        ensures { result.now ≡ self.now.entries }
+    {
+        self.entries.as_slice()
+    }
+
+    /// The number of the next new entry.
+    pub fn next_number(&self) -> u64
+        ensures { result ≡ self.now.next }
+    {
+        self.next
+    }
+
+    /// How many lines came before the next symbol.
+    pub fn lines(&self) -> u128
+        ensures { result ≡ self.now.lines }
+    {
+        self.lines
+    }
+
+    /// Where the front stands.
+    pub fn position(&self) -> Result<Position, Memory>
+        ensures { IfOk result (λ position. StandsAt self.now.from self.now.entries position) }
+    {
+        position_of(self.entries.as_slice(), &self.from)
+    }
+}

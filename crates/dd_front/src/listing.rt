@@ -1,0 +1,56 @@
+ghost use Rattle.std.specs.Prelude.{◌≡◌, ◌+◌, ◌<◌, ◌^◌, ◌==◌, length, IfOk};
+ghost use Rattle.std.specs.List.{position};
+ghost use Rattle.dd_front.specs.Machine.{open_entries, StandsAt};
+
+use crate::entry::{Entry, State};
+use dd_model::{Job, Memory, Position};
+use std::alloc::Global;
+
+/// Open entries of jobs, numbered from `first` on.
+pub fn listed(alloc: Global, first: u64, jobs: Vec<Job>) -> Result<Vec<Entry>, Memory>
+    requires { first + length jobs.items < 2 ^ 64 }
+    ensures { IfOk result (λ entries. entries.items ≡ open_entries first jobs.items) }
+{
+    let mut entries = Vec::with_capacity(alloc, jobs.len())?;
+    let mut number = first;
+    for job in jobs {
+        entries.push(Entry {
+            number,
+            job,
+            state: State::Open,
+        })?;
+        number += 1;
+    }
+    Ok(entries)
+}
+
+/// The place of the first entry of a number, counted from 0.
+pub fn place_of(entries: &[Entry], number: u64) -> Option<usize>
+    ensures { result ≡ position (λ e. e.number == number) entries.now }
+{
+    entries.iter().position(|entry| entry.number == number)
+}
+
+/// Copies of jobs.
+pub fn copies_of(alloc: Global, jobs: &[Job]) -> Result<Vec<Job>, Memory>
+    ensures { IfOk result (λ copies. copies.items ≡ jobs.now) }
+{
+    let mut copies = Vec::with_capacity(alloc, jobs.len())?;
+    for job in jobs {
+        copies.push(job.try_copy()?)?;
+    }
+    Ok(copies)
+}
+
+/// Where a machine stands that has these entries and goes on from a position.
+pub fn position_of(entries: &[Entry], from: &Position) -> Result<Position, Memory>
+    ensures { IfOk result (λ position. StandsAt from.now entries.now position) }
+{
+    let Some(entry) = entries.first() else {
+        return Ok(Position::End);
+    };
+    if entry.job.is_wholly_before(from) || entry.job.has_within(from) {
+        return from.try_copy();
+    }
+    Ok(Position::At(entry.job.try_copy()?))
+}

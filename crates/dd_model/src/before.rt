@@ -1,0 +1,63 @@
+ghost use Rattle.std.specs.Prelude.{◌≡◌, ◌↔◌, IfOk, IsTrue};
+ghost use Rattle.dd_model.specs.Lists.{IsSmallerWhereTheyDiffer};
+ghost use Rattle.dd_model.specs.Position.{IsWhollyBefore, IsWithin};
+
+use crate::Memory;
+use crate::jobs::{Job, Position};
+
+/// Whether the first list is smaller at the first place that both have and where they differ.
+fn is_smaller_where_they_differ(numbers: &[u8], others: &[u8]) -> bool
+    ensures { IsTrue result ↔ IsSmallerWhereTheyDiffer numbers.now others.now }
+{
+    let shared = numbers.len().min(others.len());
+    for k in 0..shared {
+        if numbers[k] != others[k] {
+            return numbers[k] < others[k];
+        }
+    }
+    false
+}
+
+impl Position {
+    /// An equal position.
+    pub fn try_copy(&self) -> Result<Position, Memory>
+        ensures { IfOk result (λ position. position ≡ self.now) }
+    {
+        match self {
+            Position::At(place) => Ok(Position::At(place.try_copy()?)),
+            Position::End => Ok(Position::End),
+        }
+    }
+}
+
+impl Job {
+    /// Whether all that may be under the job is before a position.
+    pub fn is_wholly_before(&self, position: &Position) -> bool
+        ensures { IsTrue result ↔ IsWhollyBefore position.now self.now }
+    {
+        match position {
+            Position::At(place) => {
+                self.size < place.size
+                    || self.size == place.size
+                        && is_smaller_where_they_differ(
+                            self.prefix.as_slice(),
+                            place.prefix.as_slice(),
+                        )
+            }
+            Position::End => true,
+        }
+    }
+
+    /// Whether a position is at the job or further on in it.
+    pub fn has_within(&self, position: &Position) -> bool
+        ensures { IsTrue result ↔ IsWithin self.now position.now }
+    {
+        match position {
+            Position::At(place) => {
+                let prefix = self.prefix.as_slice();
+                self.size == place.size && place.prefix.as_slice().starts_with(prefix)
+            }
+            Position::End => false,
+        }
+    }
+}
