@@ -64,6 +64,17 @@ table_lengths t = record {
   m12_length = t.vertices;
 }
 
+-- how long the code is
+pub length-code_of : (t : Table) → length (code (symbol_of t)) ≡ 5 * t.involutions.size
+length-code_of t =
+    let s = symbol_of t in
+    let images = length-flat_images s 1 s.size in
+    let front = length-append (all_images s) s.m01 in
+    let whole = length-append (all_images s ++ s.m01) s.m12 in
+    let tiles = t.tiles in
+    let vertices = t.vertices in
+    omega arith
+
 pub table_involutions : (t : Table) → AreInvolutions (symbol_of t)
 table_involutions t = involutions-same t.involutions (symbol_of t) (with_same t.involutions t.m01.items t.m12.items) t.three.involutions
 
