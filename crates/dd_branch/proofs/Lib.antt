@@ -11,3 +11,4 @@ pub mod Beginnings
 pub mod Descents
 pub mod Splits
 pub mod FirstMembers
+pub mod Emissions

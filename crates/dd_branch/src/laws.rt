@@ -1,4 +1,4 @@
-ghost use Rattle.std.specs.Prelude.{◌+◌, ◌*◌, ◌≤◌, ℕ, List};
+ghost use Rattle.std.specs.Prelude.{◌≡◌, ◌+◌, ◌*◌, ◌≤◌, ℕ, List, [], ◌++◌};
 ghost use Rattle.std.specs.List.{sum_by};
 ghost use Rattle.dd_model.specs.Symbol.{Symbol, IsSymbol, IsChamber, degree};
 ghost use Rattle.dd_model.specs.Code.{chambers};
@@ -9,7 +9,11 @@ ghost use Rattle.dd_model.specs.Wanted.{IsCatalogue};
 ghost use Rattle.dd_model.specs.declared.jobs.Job.{Job};
 ghost use Rattle.dd_model.specs.declared.requests.Request.{Request};
 ghost use Rattle.dd_invol.specs.Opening.{IsOpening};
-ghost use Rattle.dd_model.specs.Joined.{AreUnderInTurn, joined};
+ghost use Rattle.dd_model.specs.Text.{beginning};
+ghost use Rattle.dd_model.specs.Joined.{AreUnderInTurn, joined, AreFirstMembers};
+ghost use Rattle.dd_front.specs.declared.event.Event.{Event};
+ghost use Rattle.dd_front.specs.Machine.{Machine, IsOpened};
+ghost use Rattle.dd_front.specs.Step.{IsRun};
 
 /// Where each chamber of a flat symbol has two shares, no more than some number divided by its two
 /// degrees, twice the sum of all shares is at most that number for each chamber.
@@ -24,4 +28,15 @@ pub fn flat_symbols_have_small_shares()
 pub fn lists_under_an_opening_are_the_catalogue()
     ensures { (q : Request) (jobs : List Job) (lists : List (List Symbol)) → IsOpening q jobs
         → AreUnderInTurn q jobs lists → IsCatalogue q (joined lists) }
+{}
+
+/// What a front emits from the opening of a request and from the beginning on are the first members
+/// of the catalogue, in order, whatever happens to it: each catalogue begins with them.
+pub fn a_front_emits_the_first_members()
+    ensures first { (q : Request) (jobs : List Job) (k : ℕ) (f g : Machine) (es : List Event)
+        (out : List Symbol) → IsOpening q jobs → IsOpened q jobs beginning k f
+        → IsRun f [] es g out → AreFirstMembers q out }
+    ensures prefix { (q : Request) (jobs : List Job) (k : ℕ) (f g : Machine) (es : List Event)
+        (out all : List Symbol) → IsOpening q jobs → IsOpened q jobs beginning k f
+        → IsRun f [] es g out → IsCatalogue q all → (rest : List Symbol) × (all ≡ out ++ rest) }
 {}
