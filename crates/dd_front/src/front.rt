@@ -46,7 +46,7 @@ impl Model for Front {
         saved = record { lines = a.saved_lines; position = a.saved_position };
     } };
 
-    ghost invariant = { λ a. IsFront a.request a.next a.entries };
+    ghost invariant = { λ a. IsFront a.request a.opening.items a.next a.entries };
 }
 
 impl Front {

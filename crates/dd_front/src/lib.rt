@@ -9,10 +9,12 @@ mod event;
 mod finder;
 mod front;
 mod job_list;
+mod joining;
 mod laws;
 mod listing;
 mod looking;
 mod members;
+mod rounds;
 mod saving;
 mod steps;
 
