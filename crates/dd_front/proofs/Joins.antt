@@ -3,14 +3,16 @@ use Rattle.std.proofs.Common.{◌≡◌, ◌≢◌, ◌⊎◌, ℕ, zero, suc, �
 use Rattle.std.proofs.lemmas.List.{append_assoc, length_push, length-append, length-take, length-map, get_or-map, get_or-take}
 use Rattle.std.specs.List.{AllByRecursion}
 use Rattle.dd_model.specs.Symbol.{Symbol}
+use Rattle.dd_model.specs.Lists.{Begins}
 use Rattle.dd_model.specs.declared.jobs.Job.{Job}
 use Rattle.dd_model.proofs.Ascending.{all-append}
 use Rattle.dd_front.specs.declared.entry.Entry.{Entry}
 use Rattle.dd_front.specs.declared.entry.State.{State}
 use Rattle.dd_front.specs.declared.entry.State.TheVariants.{Done}
-use Rattle.dd_front.specs.Machine.{jobs_of}
+use Rattle.dd_front.specs.Machine.{jobs_of, entry_of}
+use Rattle.dd_front.specs.Places.{with_state_at}
 use Rattle.dd_front.specs.Absorbed.{Extends, found_by, list_of}
-use Rattle.dd_front.specs.Joining.{IsBlock, AreBlocks, AreJoined}
+use Rattle.dd_front.specs.Joining.{IsBlock, AreBlocks, AreJoined, done_with}
 
 -- Some jobs have their lists, one is at hand, and the others are to come.
 pub record AreJoining (jobs : List Job) (whole rest : List Entry) (lists : List (List Symbol)) (joined : List Symbol) : Type 0 where
@@ -64,7 +66,7 @@ joining_first (job ∷ jobs) whole some blocks = record {
   blocks = blocks.3;
 }
 
-found-append : (xs ys : List Entry) → found_by (xs ++ ys) ≡ found_by xs ++ found_by ys
+pub found-append : (xs ys : List Entry) → found_by (xs ++ ys) ≡ found_by xs ++ found_by ys
 found-append [] ys = refl
 found-append (x ∷ xs) ys = ap (λ ss. list_of x.state ++ ss) (found-append xs ys) ∙ sym (append_assoc (list_of x.state) (found_by xs) (found_by ys))
 
@@ -101,11 +103,11 @@ joining_same jobs whole rest tail e lists joined now s is comes longer = go s.ow
 -- one list more
 joined_push : (jobs : List Job) (job : Job) (es own : List Entry) (lists : List (List Symbol)) (list : List Symbol) → AreJoined jobs es lists → AllByRecursion (λ e. Extends e.job job) own → list ≡ found_by own
     → AreJoined (jobs ++ job ∷ []) (es ++ own) (lists ++ list ∷ [])
-joined_push [] job es own [] list earlier comes is = (own, [], (ap (λ ds. ds ++ own) earlier ∙ sym (append-nil own), (comes, (is, refl))))
+joined_push [] job es own [] list earlier comes is = (own, [], ap (λ ds. ds ++ own) earlier ∙ sym (append-nil own), comes, is, refl)
 joined_push [] job es own (l ∷ lists) list earlier comes is = absurd earlier
 joined_push (j ∷ jobs) job es own [] list earlier comes is = absurd earlier
 joined_push (j ∷ jobs) job es own (l ∷ lists) list earlier comes is =
-    (earlier.0, (earlier.1 ++ own, (ap (λ ds. ds ++ own) earlier.2 ∙ append_assoc earlier.0 earlier.1 own, (earlier.3, (earlier.4, joined_push jobs job earlier.1 own lists list earlier.5 comes is)))))
+    (earlier.0, earlier.1 ++ own, ap (λ ds. ds ++ own) earlier.2 ∙ append_assoc earlier.0 earlier.1 own, earlier.3, earlier.4, joined_push jobs job earlier.1 own lists list earlier.5 comes is)
 
 -- the next entry comes from the next job
 pub joining_next : (jobs : List Job) (whole rest tail : List Entry) (e : Entry) (lists : List (List Symbol)) (joined now : List Symbol) (s : AreJoining jobs whole rest lists joined) → rest ≡ e ∷ tail
@@ -175,7 +177,7 @@ at_hand olds whole rest k lists joined s d =
     let n = length lists in
     let long : length (jobs_of (take k olds)) ≡ length s.before + length (s.job ∷ s.after) = ap length s.jobs_are ∙ length-append s.before (s.job ∷ s.after) in
     let count = s.count in
-    let short : length (jobs_of (take k olds)) ≡ length (take k olds) = length-map (λ e. e.job) (take k olds) in
+    let short : length (jobs_of (take k olds)) ≡ length (take k olds) = length-map (take k olds) (λ e. e.job) in
     let taken = length-take k olds in
     let low : n < length (take k olds) = omega arith in
     let under : n < k = omega arith in
@@ -186,3 +188,56 @@ at_hand olds whole rest k lists joined s d =
     in_front : (js : List Job) (j : Job) (ks : List Job) (d' : Job) → get_or (js ++ j ∷ ks) (length js) d' ≡ j
     in_front [] j ks d' = refl
     in_front (x ∷ js) j ks d' = in_front js j ks d'
+
+pub joining_start : (jobs : List Job) (whole rest : List Entry) (lists : List (List Symbol)) (joined : List Symbol) → whole ≢ [] → AreBlocks jobs whole → rest ≡ whole → lists ≡ [] → joined ≡ []
+    → AreJoining jobs whole rest lists joined
+joining_start jobs whole rest lists joined some blocks all none nothing =
+    subst (λ es. AreJoining jobs whole es lists joined) (sym all)
+        (subst (λ ls. AreJoining jobs whole whole ls joined) (sym none) (subst (AreJoining jobs whole whole []) (sym nothing) (joining_first jobs whole some blocks)))
+
+-- what tells whether a job extends another
+abbrev pub Tells : Job → Job → Type 0
+Tells child job = (child.size ≡ job.size) × Begins job.prefix child.prefix
+
+to_extends : (child old job : Job) → old ≡ job → Tells child old → Extends child job
+to_extends child old job e h = subst (Extends child) e (record { size = h.0; begins = h.1 })
+
+from_extends : (child old job : Job) → old ≡ job → Extends child job → Tells child old
+from_extends child old job e h = let back : Extends child old = subst (Extends child) (sym e) h in (back.size, back.begins)
+
+-- a turn whose entry comes from the job at hand
+pub step_same : (olds whole rest tail : List Entry) (k n : ℕ) (e d : Entry) (lists lists' : List (List Symbol)) (joined joined' now list : List Symbol)
+    → AreJoining (jobs_of (take k olds)) whole rest lists joined → rest ≡ e ∷ tail → n ≡ length lists → Tells e.job (get_or olds n d).job → e.state ≡ Done list → lists' ≡ lists → joined' ≡ joined → now ≡ joined' ++ list
+    → AreJoining (jobs_of (take k olds)) whole tail lists' now
+step_same olds whole rest tail k n e d lists lists' joined joined' now list s is len tells done same kept longer =
+    let old : (get_or olds n d).job ≡ s.job = ap (λ i. (get_or olds i d).job) len ∙ (at_hand olds whole rest k lists joined s d).1 in
+    let now_is : now ≡ joined ++ list_of e.state = longer ∙ ap (λ ss. ss ++ list) kept ∙ ap (λ st. joined ++ list_of st) (sym done) in
+    subst (λ ls. AreJoining (jobs_of (take k olds)) whole tail ls now) (sym same)
+        (joining_same (jobs_of (take k olds)) whole rest tail e lists joined now s is (to_extends e.job (get_or olds n d).job s.job old tells) now_is)
+
+-- a turn whose entry comes from the next job
+pub step_next : (olds whole rest tail : List Entry) (k n : ℕ) (e d : Entry) (lists lists' : List (List Symbol)) (joined joined' now list : List Symbol)
+    → AreJoining (jobs_of (take k olds)) whole rest lists joined → rest ≡ e ∷ tail → n ≡ length lists → ¬ Tells e.job (get_or olds n d).job → e.state ≡ Done list → lists' ≡ lists ++ joined ∷ [] → joined' ≡ [] → now ≡ joined' ++ list
+    → AreJoining (jobs_of (take k olds)) whole tail lists' now
+step_next olds whole rest tail k n e d lists lists' joined joined' now list s is len not done more none longer =
+    let old : (get_or olds n d).job ≡ s.job = ap (λ i. (get_or olds i d).job) len ∙ (at_hand olds whole rest k lists joined s d).1 in
+    let now_is : now ≡ list_of e.state = longer ∙ ap (λ ss. ss ++ list) none ∙ ap list_of (sym done) in
+    subst (λ ls. AreJoining (jobs_of (take k olds)) whole tail ls now) (sym more)
+        (joining_next (jobs_of (take k olds)) whole rest tail e lists joined now s is (λ extends. not (from_extends e.job (get_or olds n d).job s.job old extends)) now_is)
+
+pub none_left : {A : Type 0} (xs : List A) (n : ℕ) → n ≡ length xs → n ≡ 0 → xs ≡ []
+none_left [] n long zero' = refl
+none_left (x ∷ xs) n long zero' = absurd (omega arith)
+
+-- ## Lists put into entries
+
+pub length-done_with : (lists : List (List Symbol)) (es : List Entry) → length (done_with lists es) ≡ length es
+length-done_with [] es = refl
+length-done_with (l ∷ lists) [] = refl
+length-done_with (l ∷ lists) (e ∷ es) = ap suc (length-done_with lists es)
+
+pub done_push : (lists : List (List Symbol)) (list : List Symbol) (es : List Entry) → length lists < length es → with_state_at (length lists) (Done list) (done_with lists es) ≡ done_with (lists ++ list ∷ []) es
+done_push [] list [] low = absurd (omega arith)
+done_push [] list (e ∷ es) low = refl
+done_push (l ∷ lists) list [] low = refl
+done_push (l ∷ lists) list (e ∷ es) low = ap (λ ds. entry_of e.number e.job (Done l) ∷ ds) (done_push lists list es (omega arith))

@@ -2,7 +2,9 @@ mod Placed
 mod Replaced
 mod Kept
 mod Firsts
+mod Blocks
 mod Joins
+mod Rounding
 mod Lasting
 mod SmallCodes
 mod Emitted

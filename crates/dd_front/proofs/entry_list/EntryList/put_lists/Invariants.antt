@@ -7,3 +7,4 @@ abbrev pub invariant-loop-list : goal.invariant-loop-list
 invariant-loop-list l =
     (l.place ≡ length l.yielded)
     × (l.self ≡ done_with l.yielded l.initial.self)
+    × (length l.yielded + length (into_iter_items l.list-iterator) ≡ length l.fn.lists.items)
