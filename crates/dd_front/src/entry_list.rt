@@ -102,7 +102,13 @@ impl EntryList {
 
     /// Puts open entries for jobs, numbered from `next` on, in the place of the one of a number. The
     /// number 0 changes nothing.
-    pub fn split(&mut self, alloc: Global, number: u64, next: u64, jobs: Vec<Job>) -> Result<(), Memory>
+    pub fn split(
+        &mut self,
+        alloc: Global,
+        number: u64,
+        next: u64,
+        jobs: Vec<Job>,
+    ) -> Result<(), Memory>
         requires below { AreBelow next self.old }
         requires room { next + length jobs.items < 2 ^ 64 }
         ensures entries { OnOk result (self.new ≡ split_entries number next jobs.items self.old) }
