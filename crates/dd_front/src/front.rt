@@ -36,17 +36,17 @@ impl Model for Front {
     ghost use Rattle.dd_front.specs.Invariant.{IsFront};
 
     ghost view = { λ a. record {
-        request = a.request;
-        opening = a.opening.items;
-        opened = a.opened;
-        from = a.from;
-        entries = a.entries;
-        next = a.next;
-        lines = a.lines;
-        saved = record { lines = a.saved_lines; position = a.saved_position };
+      request = a.request;
+      opening = a.opening.items;
+      opened = a.opened;
+      from = a.from;
+      entries = a.entries;
+      next = a.next;
+      lines = a.lines;
+      saved = record { lines = a.saved_lines; position = a.saved_position };
     } };
 
-    ghost invariant = { λ a. IsFront a.request a.next a.entries };
+    ghost invariant = { λ a. IsFront a.request a.opening.items a.next a.entries };
 }
 
 impl Front {
@@ -92,9 +92,8 @@ impl Front {
         match event {
             Event::Take { entry, .. } => has_open(entries, *entry),
             Event::Look { .. } => !has_some_open(entries),
-            Event::Split { entry, .. }
-            | Event::Finish { entry, .. }
-            | Event::Back { entry, .. } => *entry == 0 || has_out(entries, *entry),
+            Event::Split { entry, .. } | Event::Finish { entry, .. } | Event::Back { entry, .. } =>
+                *entry == 0 || has_out(entries, *entry),
             Event::Emit => first_list(entries).is_some(),
             Event::Part { count } => match first_list(entries) {
                 Some(list) => {

@@ -9,12 +9,16 @@ mod event;
 mod finder;
 mod front;
 mod job_list;
+mod joining;
 mod laws;
 mod listing;
 mod looking;
 mod members;
+mod rounds;
 mod saving;
 mod steps;
+#[cfg(test)]
+mod tests;
 
 pub use entry::{Entry, State};
 pub use event::Event;

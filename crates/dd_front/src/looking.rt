@@ -18,14 +18,18 @@ use dd_symbol::Connected;
 pub fn has_open(entries: &[Entry], number: u64) -> bool
     ensures { IsTrue result ↔ ((job : Part) × Contains entries.now (entry_of number job State.Open)) }
 {
-    entries.iter().any(|entry| entry.number == number && entry.state.is_open())
+    entries
+        .iter()
+        .any(|entry| entry.number == number && entry.state.is_open())
 }
 
 /// Whether the entry of a number is out.
 pub fn has_out(entries: &[Entry], number: u64) -> bool
     ensures { IsTrue result ↔ ((job : Part) × Contains entries.now (entry_of number job State.Out)) }
 {
-    entries.iter().any(|entry| entry.number == number && entry.state.is_out())
+    entries
+        .iter()
+        .any(|entry| entry.number == number && entry.state.is_out())
 }
 
 /// Whether some entry is open.

@@ -8,7 +8,7 @@ use crate::job_list::JobList;
 use dd_model::Memory;
 
 impl Front {
-    ghost use Rattle.dd_front.specs.Allowed.{IsAllowed};
+    ghost use Rattle.dd_front.specs.Allowed.{IsAllowed, MaySplit};
     ghost use Rattle.dd_front.specs.Invariant.{IsListed};
     ghost use Rattle.dd_front.specs.Room.{HasRoom};
     ghost use Rattle.dd_front.specs.Step.{IsStep, with_state, split_entries, taken_numbers};
@@ -51,10 +51,11 @@ impl Front {
 
     /// Puts open entries for jobs in the place of the one of a number. The number 0 changes nothing.
     fn split(&mut self, number: u64, jobs: JobList) -> Result<(), Memory>
-        requires { self.old.next + taken_numbers number jobs < 2 ^ 64 }
+        requires children { (number ≡ 0) ⊎ MaySplit self.old number jobs }
+        requires room { self.old.next + taken_numbers number jobs < 2 ^ 64 }
         ensures entries { OnOk result (self.new ≡ record self.old {
-            entries = split_entries number self.old.next jobs self.old.entries;
-            next = self.old.next + taken_numbers number jobs;
+          entries = split_entries number self.old.next jobs self.old.entries;
+          next = self.old.next + taken_numbers number jobs;
         }) }
         ensures same { OnErr result (self.new ≡ self.old) }
     {

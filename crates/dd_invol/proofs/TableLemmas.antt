@@ -34,6 +34,15 @@ pub record HaveBothPeriods (n : ℕ) (numbers m01 m12 : List ℕ) : Type 0 where
   pub tiles : ArePeriods (of_rows n numbers) Tile m01
   pub vertices : ArePeriods (of_rows n numbers) Vertex m12
 
+-- involutions with these rows
+pub both_periods : (n : ℕ) (numbers m01 m12 : List ℕ) (it : Symbol) → it ≡ of_rows n numbers → ArePeriods it Tile m01 → ArePeriods it Vertex m12 → HaveBothPeriods n numbers m01 m12
+both_periods n numbers m01 m12 it same tiles vertices =
+    record { tiles = subst (λ s. ArePeriods s Tile m01) same tiles; vertices = subst (λ s. ArePeriods s Vertex m12) same vertices }
+
+-- the numbers and the size that were handed on
+pub same_rows : (n m : ℕ) (numbers wide : List ℕ) (it : Symbol) → it ≡ of_rows m wide → m ≡ n → wide ≡ numbers → it ≡ of_rows n numbers
+same_rows n m numbers wide it is size rows = is ∙ ap (λ k. of_rows k wide) size ∙ ap (of_rows n) rows
+
 told_tiles : (n : ℕ) (numbers m01 m12 : List ℕ) → HaveBothPeriods n numbers m01 m12 → HasPeriods (told n numbers m01 m12) Tile
 told_tiles n numbers m01 m12 both = record {
   each = λ d h. period-same (of_rows n numbers) (told n numbers m01 m12) (rows_same n numbers m01 m12) Tile d (item m01 d) (both.tiles.each d h);

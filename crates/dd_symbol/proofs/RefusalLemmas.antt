@@ -11,7 +11,7 @@ use Rattle.dd_model.specs.Connected.{IsReached}
 use Rattle.dd_model.specs.Cell.{InCell, turned}
 use Rattle.dd_symbol.specs.Building.{listed, lists, given, IsConnectedSymbol, IsAccepted}
 use Rattle.dd_symbol.specs.Images.{with_degrees}
-use Rattle.dd_symbol.specs.Refusals.{HasSize, IsRowsFault, IsInvolutionsFault, IsFault, IsCause, IsRefused}
+use Rattle.dd_symbol.specs.Refusals.{HasSize, IsRowsFault, IsInvolutionsFault, IsFault, IsRefused}
 use Rattle.dd_symbol.specs.declared.refusals.Refusal.{Refusal}
 use Rattle.dd_symbol.specs.declared.refusals.Refusal.TheVariants.{Empty, TooManyChambers, OpRange, NotInvolution, NotCommuting, NotConnected, DegreeZero, DegreeVaries, NotMultiple, BranchingTooLarge, Memory}
 use Rattle.dd_symbol.proofs.DegreeLemmas.{multiple-from_turns}
@@ -61,20 +61,7 @@ first-same s t h P Q Fails Fails' good bad d first = record {
 sized : (limit : ℕ) (s : Symbol) (d : ℕ) → s.size ≤ limit → IsChamber s d → HasSize limit s
 sized limit s d within h = record { some = let low = h.0 in let high = h.1 in omega arith; within = within }
 
-pub cause_of_fault : (s : Symbol) (why : Refusal) → IsFault s why → IsCause s why
-cause_of_fault s Empty fault = absurd fault
-cause_of_fault s (TooManyChambers n) fault = fault
-cause_of_fault s (OpRange i d) fault = fault
-cause_of_fault s (NotInvolution i d) fault = fault
-cause_of_fault s (NotCommuting d) fault = fault
-cause_of_fault s (NotConnected d) fault = fault
-cause_of_fault s (DegreeZero p d) fault = fault
-cause_of_fault s (DegreeVaries p d) fault = fault
-cause_of_fault s (NotMultiple p d r m) fault = fault
-cause_of_fault s (BranchingTooLarge p d v) fault = fault
-cause_of_fault s Memory fault = fault
-
-pub refused-from_fault : (limit : ℕ) (s : Symbol) → s.size ≤ limit → (why : Refusal) → IsCause s why → IsRefused limit s why
+pub refused-from_fault : (limit : ℕ) (s : Symbol) → s.size ≤ limit → (why : Refusal) → IsFault s why → IsRefused limit s why
 refused-from_fault limit s within Empty none = none
 refused-from_fault limit s within (TooManyChambers n) fault = absurd fault
 refused-from_fault limit s within (OpRange i d) fault = (sized limit s d within fault.first.chamber, fault)
@@ -154,7 +141,7 @@ degree-along_cell : (s : Symbol) → IsSymbol s → (p : Pair) (d e : ℕ) → I
 degree-along_cell s is p d e h there = ap (degree s p) (sym there.leads) ∙ degree_same s is p there.word d h there.letters
 
 -- lists with a fault are no connected symbol
-pub no_symbol : (s : Symbol) (why : Refusal) → IsCause s why → why ≢ Memory → IsConnectedSymbol s → ⊥
+pub no_symbol : (s : Symbol) (why : Refusal) → IsFault s why → why ≢ Memory → IsConnectedSymbol s → ⊥
 no_symbol s Empty none some ok = let n = ok.symbol.symbol.table.chambers in omega arith
 no_symbol s (TooManyChambers n) many some ok = many
 no_symbol s (OpRange i d) fault some ok = let f = fault.first in f.fails ((ok.symbol.symbol.table.involutions i).within d f.chamber)
@@ -181,7 +168,7 @@ no_symbol s (BranchingTooLarge p d v) fault some ok =
 no_symbol s Memory fault some ok = some refl
 
 -- what is refused within a limit has a cause, or too many chambers
-cause_of_refused : (limit : ℕ) (s : Symbol) (why : Refusal) → IsRefused limit s why → IsAccepted limit s → IsCause s why
+cause_of_refused : (limit : ℕ) (s : Symbol) (why : Refusal) → IsRefused limit s why → IsAccepted limit s → IsFault s why
 cause_of_refused limit s Empty none ok = none
 cause_of_refused limit s (TooManyChambers n) many ok = let w = ok.within in let e = many.0 in let b = many.1 in absurd (omega arith)
 cause_of_refused limit s (OpRange i d) fault ok = fault.1

@@ -25,9 +25,9 @@ IsInvolutionsFault s (NotConnected d) = IsNotReached s d
 IsInvolutionsFault s Memory = Unit {0}
 IsInvolutionsFault s why = ⊥
 
--- what a refusal says of lists that are not empty and not too long
+-- what a refusal says of lists that are not too long
 abbrev pub IsFault : Symbol → Refusal → Type 0
-IsFault s Empty = ⊥
+IsFault s Empty = s.size ≡ 0
 IsFault s (TooManyChambers n) = ⊥
 IsFault s (OpRange i d) = IsOutOfRange s i d
 IsFault s (NotInvolution i d) = IsNoInvolution s i d
@@ -38,11 +38,6 @@ IsFault s (DegreeVaries p d) = DegreeChanges s p d
 IsFault s (NotMultiple p d r m) = IsNoMultiple s p d r m
 IsFault s (BranchingTooLarge p d v) = IsTooLarge s p d v
 IsFault s Memory = Unit {0}
-
--- the same of lists that may be empty
-abbrev pub IsCause : Symbol → Refusal → Type 0
-IsCause s Empty = s.size ≡ 0
-IsCause s why = IsFault s why
 
 -- What a refusal says: its cause holds, and none that comes before it. Want of memory says nothing.
 abbrev pub IsRefused : ℕ → Symbol → Refusal → Type 0

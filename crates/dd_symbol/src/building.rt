@@ -1,7 +1,7 @@
 ghost use Rattle.std.specs.Prelude.{◌≡◌, ◌≢◌, ◌≤◌, length, IfOk, IfErr, OnOk, MatchOption};
 ghost use Rattle.dd_symbol.specs.Building.{given, HaveOneLength, IsAccepted, IsBuilt, IsConnectedSymbol};
 ghost use Rattle.dd_symbol.specs.Images.{with_degrees};
-ghost use Rattle.dd_symbol.specs.Refusals.{IsRefused, IsFault, IsCause};
+ghost use Rattle.dd_symbol.specs.Refusals.{IsRefused, IsFault};
 
 use crate::connected::Connected;
 use crate::involutions::Involutions;
@@ -43,7 +43,7 @@ pub fn build_on(
     ensures accepted { IfOk result (λ it. IsConnectedSymbol it) }
     ensures refused { IfErr result (λ why. why ≢ Refusal.Memory
         → IsConnectedSymbol (with_degrees involutions m01.items m12.items) → ⊥) }
-    ensures why { IfErr result (λ why. IsCause (with_degrees involutions m01.items m12.items) why) }
+    ensures why { IfErr result (λ why. IsFault (with_degrees involutions m01.items m12.items) why) }
 {
     if involutions.size() == 0 {
         return Err(Refusal::Empty);

@@ -61,7 +61,7 @@ impl Symbol {
         ensures image { result ≡ op self.now i chamber }
         ensures chamber { IsChamber self.now result }
     {
-        self.table.op(i, chamber)
+        self.table.involutions.op(i, chamber)
     }
 
     /// The degree of the tile at a chamber.

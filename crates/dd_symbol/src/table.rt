@@ -3,7 +3,7 @@ ghost use Rattle.dd_symbol.specs.Images.{AreThreeInvolutions};
 
 use crate::involutions::Involutions;
 use crate::maps::item;
-use dd_model::{Code, Index, Memory, Pair};
+use dd_model::{Code, Memory, Pair};
 use std::alloc::Global;
 use std::cmp::Ordering;
 
@@ -22,7 +22,7 @@ impl Table {
     ghost use Rattle.dd_symbol.specs.Table.{symbol_of};
     ghost use Rattle.dd_symbol.specs.Cells.{AreLeast};
     ghost use Rattle.dd_symbol.specs.Conditions.{IsMultiple};
-    ghost use Rattle.dd_model.specs.Symbol.{IsChamber, op, degree};
+    ghost use Rattle.dd_model.specs.Symbol.{IsChamber, degree};
     ghost use Rattle.dd_model.specs.Cell.{IsPeriod, IsBranching};
     ghost use Rattle.dd_model.specs.Code.{code, code_cmp};
 
@@ -32,15 +32,6 @@ impl Table {
         ensures small { result ≤ 16384 }
     {
         self.involutions.size()
-    }
-
-    /// The image of a chamber under an involution.
-    pub(crate) fn op(&self, i: Index, chamber: u32) -> u32
-        requires { IsChamber (symbol_of self.now) chamber }
-        ensures image { result ≡ op (symbol_of self.now) i chamber }
-        ensures chamber { IsChamber (symbol_of self.now) result }
-    {
-        self.involutions.op(i, chamber)
     }
 
     /// The degree of a pair at a chamber, which for edges is 2.

@@ -2,10 +2,10 @@ use Rattle.std.proofs.Common.{◌≡◌, ◌≢◌, ◌≤◌, [], length, sym, 
 use Rattle.std.proofs.lemmas.Result.{IfOk-weaker, IfErr-weaker}
 use Rattle.dd_symbol.specs.Images.{with_degrees}
 use Rattle.dd_symbol.specs.Building.{listed, given, IsConnectedSymbol, IsAccepted}
-use Rattle.dd_symbol.specs.Refusals.{IsCause, IsRefused}
+use Rattle.dd_symbol.specs.Refusals.{IsFault, IsRefused}
 use Rattle.dd_symbol.specs.declared.refusals.Refusal.TheVariants.{Memory}
 use Rattle.dd_symbol.proofs.TableLemmas.{with_same}
-use Rattle.dd_symbol.proofs.RefusalLemmas.{refused-from_fault, fault_of_involutions, cause_of_fault, not_accepted, handed_on, both_hold, given-from_items}
+use Rattle.dd_symbol.proofs.RefusalLemmas.{refused-from_fault, fault_of_involutions, not_accepted, handed_on, both_hold, given-from_items}
 use Rattle.dd_symbol.proofs.building.build.Goals as goal
 use Rattle.dd_symbol.proofs.building.build.Goals.{After-array_drop-ops-in_err-involutions, After-array_drop-ops-2}
 
@@ -22,7 +22,7 @@ refused c =
     subst (λ u. IsRefused c.args.limit u why)
     (given-from_items c.args.ops (omega (arith, c.well_formed)) c.index-ops-0.result c.index-ops-1.result c.index-ops-2.result
     c.deref.result.now c.deref-2.result.now c.deref-3.result.now m01 m12 c.deref.ensures.value c.deref-2.ensures.value c.deref-3.ensures.value)
-    (refused-from_fault c.args.limit s (omega arith) why (cause_of_fault s why (fault_of_involutions t s (with_same t m01 m12) why c.in_err-involutions.ensures.why)))
+    (refused-from_fault c.args.limit s (omega arith) why (fault_of_involutions t s (with_same t m01 m12) why c.in_err-involutions.ensures.why))
 
 pub returns-in_err-involutions-clause-refused : goal.returns-in_err-involutions-clause-refused
 returns-in_err-involutions-clause-refused c =
@@ -69,4 +69,4 @@ returns-clause-refused c =
 pub returns-clause-why : goal.returns-clause-why
 returns-clause-why c =
     IfErr-weaker c.build_on.result _ _
-    (λ why cause. refused-from_fault c.args.limit (given c.args.ops c.args.m01.items c.args.m12.items) (few c) why (subst (λ u. IsCause u why) (same c) cause)) c.build_on.ensures.why
+    (λ why cause. refused-from_fault c.args.limit (given c.args.ops c.args.m01.items c.args.m12.items) (few c) why (subst (λ u. IsFault u why) (same c) cause)) c.build_on.ensures.why

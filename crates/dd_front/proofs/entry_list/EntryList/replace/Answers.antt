@@ -20,11 +20,12 @@ pub returns-clause-entries : goal.returns-clause-entries
 returns-clause-entries c =
     let now = spliced c in
     let view : drop c.self.inside.gone (splice c.self.inside.all.items (c.self.inside.gone + c.args.place) (c.self.inside.gone + c.args.place + 1) c.args.entries.items)
-        ≡ splice c.args.self.now c.args.place (c.args.place + 1) c.args.entries.items =
-        splice_in c.self.inside.all.items c.self.inside.gone c.args.place c.args.self.now c.args.entries.items c.self.view_is (inside c) in
+    ≡ splice c.args.self.now c.args.place (c.args.place + 1) c.args.entries.items =
+    splice_in c.self.inside.all.items c.self.inside.gone c.args.place c.args.self.now c.args.entries.items c.self.view_is (inside c) in
     ap (drop c.self.inside.gone) now ∙ view
 
 pub invariant_of-self-2 : goal.invariant_of-self-2
-invariant_of-self-2 c =
-    (subst (λ es. c.self.inside.gone ≤ length es) (sym (spliced c)) (splice_long c.self.inside.all.items c.self.inside.gone c.args.place c.args.entries.items (inside c)),
-     subst HaveOwnNumbers (sym (returns-clause-entries c)) c.requires.numbers)
+invariant_of-self-2 c = (
+  subst (λ es. c.self.inside.gone ≤ length es) (sym (spliced c)) (splice_long c.self.inside.all.items c.self.inside.gone c.args.place c.args.entries.items (inside c)),
+  subst HaveOwnNumbers (sym (returns-clause-entries c)) c.requires.numbers,
+)

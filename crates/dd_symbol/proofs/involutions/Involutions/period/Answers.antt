@@ -3,7 +3,8 @@ use Rattle.std.proofs.lemmas.Bool.{cases_lt}
 use Rattle.dd_model.specs.declared.pair.Pair.{Pair}
 use Rattle.dd_model.specs.Symbol.{Symbol, turn, act}
 use Rattle.dd_model.specs.Cell.{turned}
-use Rattle.dd_model.proofs.Turns.{turned-last, period_bound}
+use Rattle.dd_model.proofs.Turns.{period_bound}
+use Rattle.dd_model.proofs.CellWalks.{next_place}
 use Rattle.dd_symbol.proofs.involutions.Involutions.period.Goals as goal
 
 -- one more number of turns that does not fix the chamber
@@ -14,11 +15,6 @@ unfixed_more s p d t place is moved before k low high fixed =
     (λ earlier. before k low earlier fixed)
     (λ last. let same : k ≡ t = omega arith in moved (is ∙ ap (λ j. turned s p j d) (sym same) ∙ fixed))
     (cases_lt k t)
-
-next_place : (s : Symbol) (p : Pair) (d t place : ℕ) → place ≡ turned s p t d → act s (turn p) place ≡ turned s p (t + 1) d
-next_place s p d t place is =
-    let e : suc t ≡ t + 1 = omega arith in
-    ap (act s (turn p)) is ∙ sym (turned-last s p t d) ∙ ap (λ k. turned s p k d) e
 
 pub loop-place-smaller : goal.loop-place-smaller
 loop-place-smaller c =
