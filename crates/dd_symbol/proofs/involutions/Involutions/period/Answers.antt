@@ -1,7 +1,7 @@
-use Rattle.std.proofs.Common.{◌≡◌, ℕ, suc, ◌+◌, ◌≤◌, ◌<◌, sym, ap, ◌∙◌, ⊎_elim, arith}
+use Rattle.std.proofs.Common.{◌≡◌, ℕ, ◌+◌, ◌≤◌, ◌<◌, sym, ap, ◌∙◌, ⊎_elim, arith}
 use Rattle.std.proofs.lemmas.Bool.{cases_lt}
 use Rattle.dd_model.specs.declared.pair.Pair.{Pair}
-use Rattle.dd_model.specs.Symbol.{Symbol, turn, act}
+use Rattle.dd_model.specs.Symbol.{Symbol}
 use Rattle.dd_model.specs.Cell.{turned}
 use Rattle.dd_model.proofs.Turns.{period_bound}
 use Rattle.dd_model.proofs.CellWalks.{next_place}
