@@ -1,0 +1,3 @@
+pub mod Desks
+mod Firsts
+mod Numbers
