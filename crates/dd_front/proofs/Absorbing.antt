@@ -51,10 +51,10 @@ own_under q job es s found extend there =
     let r = found_in es s there in
     under_extended q r.entry.job job s (each_of (λ e. Extends e.job job) es r.entry extend r.listed) (found_under q r.entry s (each_of (IsFound q) es r.entry found r.listed) r.there)
 
-all_front : {A : Type 0} (P : A → Type 0) (xs ys : List A) → AllByRecursion P (xs ++ ys) → AllByRecursion P xs
+pub all_front : {A : Type 0} (P : A → Type 0) (xs ys : List A) → AllByRecursion P (xs ++ ys) → AllByRecursion P xs
 all_front P xs ys all = all_from_members P xs (λ x there. each_of P (xs ++ ys) x all (Contains-append_left xs ys x there))
 
-all_back : {A : Type 0} (P : A → Type 0) (xs ys : List A) → AllByRecursion P (xs ++ ys) → AllByRecursion P ys
+pub all_back : {A : Type 0} (P : A → Type 0) (xs ys : List A) → AllByRecursion P (xs ++ ys) → AllByRecursion P ys
 all_back P xs ys all = all_from_members P ys (λ x there. each_of P (xs ++ ys) x all (Contains-append_right xs ys x there))
 
 -- what the entries handed in have found is under a job of the round

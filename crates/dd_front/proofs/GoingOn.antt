@@ -24,6 +24,7 @@ use Rattle.dd_model.proofs.JoinedLists.{first_parts}
 use Rattle.dd_front.specs.Step.{at_symbol}
 use Rattle.dd_front.specs.Covered.{IsLater, IsBetween}
 use Rattle.dd_front.specs.Absorbed.{Extends}
+use Rattle.dd_front.proofs.Splitting.{child_extends, children_pairs}
 use Rattle.dd_front.specs.Held.{IsPast, IsFurther, GoOn}
 use Rattle.dd_front.proofs.Standing.{inside}
 
@@ -45,28 +46,6 @@ go_on_first q jobs at ascending apart = record {
 
 -- ## Children in the place of a job
 
--- jobs that extend one job by a number each, and ascend, are apart
-child_pairs : (job : Job) (cs : List Job) → AreAscendingJobs cs → ((c : Job) → Contains cs c → (k : ℕ) × (c ≡ extended job k)) → ArePairs IsPartBelow cs
-child_pairs job [] ascending extend = tt
-child_pairs job (c ∷ cs) ascending extend = (
-  all_from_members (IsPartBelow c) cs (λ d there. record { below = each_of (IsJobBelow c) cs d ascending.0 there; apart = apart d there }),
-  child_pairs job cs ascending.1 (λ d there. extend d (Contains-later c d cs there)),
-)
-  where
-    as_long : (d : Job) → (k : ℕ) × (d ≡ extended job k) → length d.prefix ≡ length job.prefix + 1
-    as_long d is = ap (λ (x : Job). length x.prefix) is.1 ∙ length_push job.prefix is.0
-
-    apart : (d : Job) → Contains cs d → AreJobsApart c d
-    apart d there size =
-        let below = each_of (IsJobBelow c) cs d ascending.0 there in
-        let long : length c.prefix ≡ length d.prefix = as_long c (extend c (Contains-head c cs)) ∙ sym (as_long d (extend d (Contains-later c d cs there))) in (
-          (λ begins. job_not_below_itself c d below size (sym (same_when_whole c.prefix d.prefix begins long))),
-          (λ begins. job_not_below_itself c d below size (same_when_whole d.prefix c.prefix begins (sym long))),
-        )
-
-child_extends : (job child : Job) → (k : ℕ) × (child ≡ extended job k) → Extends child job
-child_extends job child is = subst (λ c. Extends c job) (sym is.1) (record { size = refl; begins = begins_append job.prefix (is.0 ∷ []) })
-
 -- a member under a job is under one of its children
 under_child : (q : Request) (job : Job) (cs : List Job) (s : Symbol) → AreChildren q job cs → IsMemberUnder q job s → IsUnderOne q cs s
 under_child q job cs s children under =
@@ -86,23 +65,7 @@ module _ (q : Request) (opening : List Job) (at from : Position) (out : List Sym
   child_of c there = child_extends job c (children.extensions.extend c there)
 
   split_pairs : ArePairs IsPartBelow (front ++ (cs ++ back))
-  split_pairs =
-      let pairs : ArePairs IsPartBelow (front ++ job ∷ back) = part_pairs (front ++ job ∷ back) go.ascending_jobs go.apart in
-      let behind : ArePairs IsPartBelow (job ∷ back) = pairs_back IsPartBelow front (job ∷ back) pairs in
-      pairs_append IsPartBelow front (cs ++ back)
-      (pairs_front IsPartBelow front (job ∷ back) pairs)
-      (pairs_append IsPartBelow cs back
-      (child_pairs job cs children.extensions.ascending children.extensions.extend)
-      behind.1
-      (λ c k hc hk.
-      let e = child_of c hc in
-      part_fronts job k c k (each_of (IsPartBelow job) back k behind.0 hk) e.size refl e.begins (begins_itself k.prefix)))
-      (λ j k hj hk. ⊎_elim
-      (λ hc.
-      let e = child_of k hc in
-      part_fronts j job j k (pairs_across IsPartBelow front (job ∷ back) pairs j job hj (Contains-head job back)) refl e.size (begins_itself j.prefix) e.begins)
-      (λ hb. pairs_across IsPartBelow front (job ∷ back) pairs j k hj (Contains-later job k back hb))
-      (Contains-append_cases cs back k hk))
+  split_pairs = children_pairs q front back cs job (part_pairs (front ++ job ∷ back) go.ascending_jobs go.apart) children
 
   -- each of the jobs after a split is one of those before it, or a child
   split_from : (k : Job) → Contains (front ++ (cs ++ back)) k → Contains (front ++ job ∷ back) k ⊎ Contains cs k

@@ -1,9 +1,17 @@
 mod Placed
 mod Replaced
 mod Kept
+mod Firsts
+mod Blocks
+mod Joins
+mod Rounding
+mod Lasting
+mod SmallCodes
+mod Emitted
 mod Skipped
 mod Telling
 pub mod Standing
+pub mod Splitting
 pub mod GoingOn
 pub mod Entries
 pub mod Holding

@@ -84,7 +84,7 @@ own-append (x ∷ xs) ys next hx hy from below =
      own-append xs ys next hx.2 hy from.1 below)
 
 -- the entry in another state
-abbrev restated : State → Entry → List Entry
+abbrev pub restated : State → Entry → List Entry
 restated state e = entry_of e.number e.job state ∷ []
 
 own_restated : (k : ℕ) (state : State) (es : List Entry) → HaveOwnNumbers es → HaveOwnNumbers (replaced k (restated state) es)

@@ -1,5 +1,5 @@
 -- Members of an ascending list that are before a position are its first ones.
-use Rattle.std.proofs.Common.{◌≡◌, ◌⊎◌, ℕ, zero, suc, ◌+◌, ◌<◌, ◌≤◌, List, [], ◌∷◌, length, get_or, take, drop, refl, inl, inr, arith}
+use Rattle.std.proofs.Common.{◌≡◌, ◌⊎◌, ℕ, zero, suc, ◌+◌, ◌<◌, ◌≤◌, List, [], ◌∷◌, ◌++◌, length, get_or, take, drop, refl, inl, inr, ⊎_elim, arith}
 use Rattle.std.specs.List.{AllByRecursion}
 use Rattle.dd_model.specs.Symbol.{Symbol, IsSymbol}
 use Rattle.dd_model.specs.Code.{IsBelow}
@@ -32,3 +32,13 @@ without_front at (s ∷ ss) (suc k) d ascending symbols low before not =
 pub without_whole : {A : Type 0} (P : A → Type 0) (xs : List A) → AllByRecursion P xs → IsWithout P xs (drop (length xs) xs)
 without_whole P [] all = tt
 without_whole P (x ∷ xs) all = without_more P x xs (drop (length xs) xs) all.0 (without_whole P xs all.1)
+
+-- one list after the other
+pub without_append : {A : Type 0} (P : A → Type 0) (xs ys vs ws : List A) → IsWithout P xs ys → IsWithout P vs ws → IsWithout P (xs ++ vs) (ys ++ ws)
+without_append P [] [] vs ws w more = more
+without_append P [] (y ∷ ys) vs ws w more = absurd w
+without_append P (x ∷ xs) [] vs ws w more = without_more P x (xs ++ vs) ws w.0 (without_append P xs [] vs ws w.1 more)
+without_append P (x ∷ xs) (y ∷ ys) vs ws w more = ⊎_elim
+    (λ out. without_more P x (xs ++ vs) (y ∷ (ys ++ ws)) out.0 (without_append P xs (y ∷ ys) vs ws out.1 more))
+    (λ kept. inr (kept.0, kept.1, without_append P xs ys vs ws kept.2 more))
+    w

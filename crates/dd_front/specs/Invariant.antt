@@ -4,10 +4,13 @@ use Rattle.std.specs.List.{AllByRecursion}
 use Rattle.dd_model.specs.Symbol.{Symbol}
 use Rattle.dd_model.specs.Request.{IsValid}
 use Rattle.dd_model.specs.Wanted.{IsMember, IsAscending}
+use Rattle.dd_model.specs.Jobs.{AreAscendingJobs, AreApart}
+use Rattle.dd_model.specs.declared.jobs.Job.{Job}
 use Rattle.dd_model.specs.declared.requests.Request.{Request}
 use Rattle.dd_front.specs.declared.entry.Entry.{Entry}
 use Rattle.dd_front.specs.declared.entry.State.{State}
 use Rattle.dd_front.specs.declared.entry.State.TheVariants.{Open, Out, Done}
+use Rattle.dd_front.specs.Machine.{jobs_of}
 use Rattle.dd_front.specs.Numbers.{AreBelow}
 
 -- members of the catalogue, ascending
@@ -25,8 +28,15 @@ IsListed q (Done list) = AreInOrder q list
 abbrev pub AreListed : Request → List Entry → Type 0
 AreListed q es = AllByRecursion (λ e. IsListed q e.state) es
 
--- The request is valid, each number is below the next one, and lists are of members, ascending.
-pub record IsFront (q : Request) (next : ℕ) (es : List Entry) : Type 0 where
+-- jobs ascend and are apart
+pub record AreParts (jobs : List Job) : Type 0 where
+  pub ascending : AreAscendingJobs jobs
+  pub apart : AreApart jobs
+
+-- The request is valid, each number is below the next one, lists are of members, ascending, and jobs ascend and are apart.
+pub record IsFront (q : Request) (whole : List Job) (next : ℕ) (es : List Entry) : Type 0 where
   pub valid : IsValid q
+  pub opening : AreParts whole
   pub numbers : AreBelow next es
   pub lists : AreListed q es
+  pub jobs : AreParts (jobs_of es)

@@ -9,3 +9,5 @@ pub mod Taken
 pub mod Places
 pub mod Invariant
 pub mod Room
+pub mod Rounds
+pub mod Joining

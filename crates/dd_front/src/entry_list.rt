@@ -1,4 +1,4 @@
-ghost use Rattle.std.specs.Prelude.{◌≡◌, ◌+◌, ◌<◌, ◌^◌, length, IfOk, OnOk, OnErr, MatchOption};
+ghost use Rattle.std.specs.Prelude.{◌≡◌, ◌+◌, ◌<◌, ◌≤◌, ◌^◌, length, IfOk, OnOk, OnErr, MatchOption};
 
 use crate::entry::{Entry, State};
 use crate::listing::{listed, place_of};
@@ -36,6 +36,7 @@ impl EntryList {
     ghost use Rattle.std.specs.List.{splice};
     ghost use Rattle.dd_front.specs.Numbers.{HaveOwnNumbers, AreBelow};
     ghost use Rattle.dd_front.specs.Places.{with_state_at};
+    ghost use Rattle.dd_front.specs.Joining.{done_with};
     ghost use Rattle.dd_front.specs.Step.{with_state, split_entries};
     ghost use Rattle.dd_front.specs.Taken.{BeginsDone, BeginsNotDone};
 
@@ -75,6 +76,18 @@ impl EntryList {
         }
     }
 
+    /// The first entries are done with these lists.
+    pub fn put_lists(&mut self, lists: Vec<Members>)
+        requires { length lists.items ≤ length self.old }
+        ensures { self.new ≡ done_with lists.items self.old }
+    {
+        let mut place = 0;
+        for list in lists {
+            self.put_state(place, State::Done(list));
+            place += 1;
+        }
+    }
+
     /// Puts entries in the place of one.
     fn replace(&mut self, place: usize, entries: Vec<Entry>) -> Result<(), Memory>
         requires place { place < length self.old }
@@ -93,6 +106,7 @@ impl EntryList {
         requires below { AreBelow next self.old }
         requires room { next + length jobs.items < 2 ^ 64 }
         ensures entries { OnOk result (self.new ≡ split_entries number next jobs.items self.old) }
+        ensures numbers { HaveOwnNumbers self.old }
         ensures same { OnErr result (self.new ≡ self.old) }
     {
         match place_of(self.as_slice(), number) {

@@ -16,16 +16,16 @@ use std::marker::Model;
 /// emitted at the front.
 #[derive(Drop)]
 pub struct Front {
-    alloc: Global,
-    request: Request,
-    opening: Vec<Job>,
-    opened: u128,
-    from: Position,
-    entries: EntryList,
-    next: u64,
-    lines: u128,
-    saved_lines: u128,
-    saved_position: Position,
+    pub(crate) alloc: Global,
+    pub(crate) request: Request,
+    pub(crate) opening: Vec<Job>,
+    pub(crate) opened: u128,
+    pub(crate) from: Position,
+    pub(crate) entries: EntryList,
+    pub(crate) next: u64,
+    pub(crate) lines: u128,
+    pub(crate) saved_lines: u128,
+    pub(crate) saved_position: Position,
 }
 
 impl Model for Front {
@@ -46,7 +46,7 @@ impl Model for Front {
         saved = record { lines = a.saved_lines; position = a.saved_position };
     } };
 
-    ghost invariant = { λ a. IsFront a.request a.next a.entries };
+    ghost invariant = { λ a. IsFront a.request a.opening.items a.next a.entries };
 }
 
 impl Front {

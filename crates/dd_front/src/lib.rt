@@ -2,16 +2,21 @@
 //! members.
 #![tactic(auto)]
 
+mod emitting;
 mod entry;
 mod entry_list;
 mod event;
 mod finder;
 mod front;
 mod job_list;
+mod joining;
 mod laws;
 mod listing;
 mod looking;
 mod members;
+mod rounds;
+mod saving;
+mod steps;
 
 pub use entry::{Entry, State};
 pub use event::Event;

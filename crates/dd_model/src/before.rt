@@ -1,5 +1,5 @@
 ghost use Rattle.std.specs.Prelude.{◌≡◌, ◌↔◌, IfOk, IsTrue};
-ghost use Rattle.dd_model.specs.Lists.{IsSmallerWhereTheyDiffer};
+ghost use Rattle.dd_model.specs.Lists.{Begins, IsSmallerWhereTheyDiffer};
 ghost use Rattle.dd_model.specs.Position.{IsWhollyBefore, IsWithin};
 
 use crate::Memory;
@@ -48,15 +48,21 @@ impl Job {
         }
     }
 
+    /// Whether the job is of another's size, and its prefix begins with the other's.
+    pub fn extends(&self, other: &Job) -> bool
+        ensures { IsTrue result
+            ↔ ((self.now.size ≡ other.now.size) × Begins other.now.prefix self.now.prefix) }
+    {
+        let numbers = self.prefix.as_slice();
+        self.size == other.size && numbers.starts_with(other.prefix.as_slice())
+    }
+
     /// Whether a position is at the job or further on in it.
     pub fn has_within(&self, position: &Position) -> bool
         ensures { IsTrue result ↔ IsWithin self.now position.now }
     {
         match position {
-            Position::At(place) => {
-                let prefix = self.prefix.as_slice();
-                self.size == place.size && place.prefix.as_slice().starts_with(prefix)
-            }
+            Position::At(place) => place.extends(self),
             Position::End => false,
         }
     }

@@ -4,6 +4,10 @@ use Rattle.dd_model.specs.Position.{IsBefore}
 use Rattle.dd_front.specs.declared.entry.State.TheVariants.{Open}
 use Rattle.dd_front.specs.declared.event.Event.TheVariants.{Take, Look, Emit, Part}
 use Rattle.dd_front.specs.Allowed.{IsPermitted}
+use Rattle.std.specs.List.{AllByRecursion}
+use Rattle.dd_model.specs.Symbol.{IsSymbol}
+use Rattle.dd_front.specs.Taken.{BeginsDone}
+use Rattle.dd_front.proofs.Lasting.{first_in_order, symbols_in_order}
 use Rattle.dd_front.proofs.Telling.{state_told, look_told, emit_told, part_told, no_part}
 use Rattle.dd_front.proofs.front.Front.allowed.Goals as goal
 
@@ -45,3 +49,11 @@ returns-in-None c =
     let f = c.args.self.now in
     let es = c.as_slice-entries.ensures.entries ∙ ap (λ m. m.entries) c.self.view_is in
     ((λ wrong. absurd cc), (λ may. absurd (no_part f c.as_slice-entries.result.now c.in-Part.count es c.in-None.ensures (subst (IsPermitted f) c.in-Part.is may))))
+
+pub count_before-before-requires-clause-symbols : goal.count_before-before-requires-clause-symbols
+count_before-before-requires-clause-symbols c =
+    let list = c.in-Some.list.now in
+    let rest = c.in-Some.ensures.0 in
+    let begins : BeginsDone c.self.inside.entries list rest = subst (λ es. BeginsDone es list rest) c.as_slice-entries.ensures.entries c.in-Some.ensures.1 in
+    subst (AllByRecursion IsSymbol) (sym c.as_slice.ensures)
+        (symbols_in_order c.self.inside.request list (first_in_order c.self.inside.request c.self.inside.entries list rest c.self.invariant.lists begins).0)
