@@ -1,3 +1,4 @@
 pub mod Desks
 mod Firsts
 mod Numbers
+mod Seated
