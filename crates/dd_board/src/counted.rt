@@ -91,13 +91,11 @@ impl<N: Naming, K: Ledger, L: Ledger, S: Ledger, D: Ledger, B: Ledger> Counted<N
         ensures same { OnErr result (self.new ≡ self.old) }
         ensures ticket { IfErr result (λ back. back ≡ ticket) }
     {
-        match self.desk.back(seat.worker, ticket.entry()) {
-            Ok(()) => {
-                self.books.back.add(&mut seat.shares.back, 1);
-                Ok(())
-            }
-            Err(_) => Err(ticket),
+        if self.desk.back(seat.worker, ticket.entry()).is_err() {
+            return Err(ticket);
         }
+        self.books.back.add(&mut seat.shares.back, 1);
+        Ok(())
     }
 
     /// The desk, with all shares of its ledgers.

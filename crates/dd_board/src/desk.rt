@@ -4,7 +4,7 @@ ghost use Rattle.dd_model.specs.Position.{IsPosition};
 ghost use Rattle.dd_model.specs.Jobs.{AreAscendingJobs, AreApart, AreMembersUnder, AreChildren};
 ghost use Rattle.dd_front.specs.declared.event.Event.TheVariants.{Split, Finish, Resume};
 ghost use Rattle.dd_front.specs.declared.entry.State.TheVariants.{Out};
-ghost use Rattle.dd_front.specs.Allowed.{IsAllowed, HasState, MayFinish};
+ghost use Rattle.dd_front.specs.Allowed.{IsAllowed, HasState, MaySplit, MayFinish};
 ghost use Rattle.dd_front.specs.Step.{taken_numbers};
 ghost use Rattle.dd_front.specs.Room.{HasRoom};
 ghost use Rattle.dd_board.specs.Desk.{IsDesk, IsCall, first_place};
@@ -158,6 +158,20 @@ impl<N: Naming> Desk<N> {
         }
     }
 
+    // Books that an entry becomes open ones for these jobs.
+    fn book_split(&mut self, worker: u32, entry: u64, jobs: Vec<Job>) -> Result<(), Memory>
+        requires allowed { (entry ≡ 0) ⊎ MaySplit self.old.machine entry jobs.items }
+        requires room { self.old.machine.next + taken_numbers entry jobs.items < 2 ^ 64 }
+        ensures books { OnOk result (Books (Split worker entry jobs.items) self.old self.new) }
+        ensures same { OnErr result (self.new ≡ self.old) }
+    {
+        self.book(Event::Split {
+            worker,
+            entry,
+            jobs: JobList::from_vec(jobs),
+        })
+    }
+
     /// Puts the jobs in the place of the ticket's. Where the ticket's entry is not out with its job, or
     /// the numbers of entries would end, number 0 is booked. `Err` comes for want of memory alone:
     /// it has the ticket, and the desk is as before.
@@ -169,15 +183,7 @@ impl<N: Naming> Desk<N> {
         ensures ticket { IfErr result (λ back. back ≡ ticket) }
     {
         let entry = self.number_to_split(&ticket, jobs.as_slice());
-        let jobs = JobList::from_vec(jobs);
-        match self.book(Event::Split {
-            worker,
-            entry,
-            jobs,
-        }) {
-            Ok(()) => Ok(()),
-            Err(_) => Err(ticket),
-        }
+        self.book_split(worker, entry, jobs).map_err(|_| ticket)
     }
 
     // Books that an entry is done with a list.
@@ -210,10 +216,7 @@ impl<N: Naming> Desk<N> {
         ensures ticket { IfErr result (λ back. back ≡ ticket) }
     {
         let entry = self.number_of(&ticket);
-        match self.book_finish(worker, entry, list) {
-            Ok(()) => Ok(()),
-            Err(_) => Err(ticket),
-        }
+        self.book_finish(worker, entry, list).map_err(|_| ticket)
     }
 
     /// Gives an entry back where it is out, and else books number 0. After `Err` the desk is as before.
