@@ -1,0 +1,4 @@
+pub mod Desks
+mod Firsts
+mod Numbers
+mod Seated

@@ -1,0 +1,6 @@
+pub mod Names
+pub mod Desk
+pub mod Calls
+pub mod Shares
+pub mod Ledgers
+pub mod Seats

@@ -1,0 +1,135 @@
+ghost use Rattle.std.specs.Prelude.{◌≡◌, ◌≤◌, ◌<◌, length, map, IfOk, IfErr};
+ghost use Rattle.dd_model.specs.Code.{count_from};
+ghost use Rattle.dd_model.specs.Request.{IsValid};
+ghost use Rattle.dd_model.specs.Position.{IsPosition};
+ghost use Rattle.dd_model.specs.Jobs.{AreAscendingJobs, AreApart, AreMembersUnder, AreChildren};
+ghost use Rattle.dd_board.specs.Desk.{first_place};
+ghost use Rattle.dd_board.specs.Ledgers.{CountsTaken, CountsSplit, CountsFinish, CountsBack};
+ghost use Rattle.dd_board.specs.Ledgers.{takes_in, looks_in, splits_in, finishes_in, backs_in};
+ghost use Rattle.dd_board.specs.Seats.{HaveSums};
+
+use crate::books::{Blanks, Books};
+use crate::counted::Counted;
+use crate::desk::Desk;
+use crate::naming::Naming;
+use crate::seat::Seat;
+use crate::seats::{all_shares, seats_of};
+use crate::ticket::{Taken, Ticket};
+use dd_model::{Job, Memory, Request};
+use dd_symbol::Connected;
+use std::alloc::Global;
+use std::sync::ledger::Ledger;
+use std::sync::{Mutex, Wait};
+
+/// The desk of a round behind a lock, with a seat for each of its workers. The type parameters name the round and the
+/// five ledgers of its calls.
+#[derive(Drop)]
+pub struct Board<N: Naming, K: Ledger, L: Ledger, S: Ledger, D: Ledger, B: Ledger> {
+    counted: Mutex<Counted<N, K, L, S, D, B>>,
+}
+
+impl<N: Naming, K: Ledger, L: Ledger, S: Ledger, D: Ledger, B: Ledger> Board<N, K, L, S, D, B> {
+    /// A board whose jobs are all open, and its seats.
+    pub fn open(
+        alloc: Global,
+        q: &Request,
+        jobs: Vec<Job>,
+        seats: u32,
+        blanks: Blanks,
+    ) -> Result<(Board<N, K, L, S, D, B>, Vec<Seat<K, L, S, D, B>>), Memory>
+        requires request { q.now ≡ N.request }
+        requires jobs { jobs.items ≡ N.jobs }
+        requires valid { IsValid q.now }
+        requires ascending { AreAscendingJobs jobs.items }
+        requires apart { AreApart jobs.items }
+        requires place { IsPosition (first_place jobs.items) }
+        requires seats { (1 ≤ seats) × (seats ≤ 64) }
+        requires take { (blanks.take.name ≡ K.name) × (blanks.take.parts ≡ K.parts) × (K.parts ≡ seats) }
+        requires look { (blanks.look.name ≡ L.name) × (blanks.look.parts ≡ L.parts) × (L.parts ≡ seats) }
+        requires split { (blanks.split.name ≡ S.name) × (blanks.split.parts ≡ S.parts) × (S.parts ≡ seats) }
+        requires finish { (blanks.finish.name ≡ D.name) × (blanks.finish.parts ≡ D.parts)
+            × (D.parts ≡ seats) }
+        requires back { (blanks.back.name ≡ B.name) × (blanks.back.parts ≡ B.parts) × (B.parts ≡ seats) }
+        ensures count { IfOk result (λ made. length made.1.items ≡ seats) }
+        ensures workers { IfOk result (λ made. map (λ s. s.worker) made.1.items ≡ count_from 1 seats) }
+        ensures sums { IfOk result (λ made. HaveSums made.1.items 0 0 0 0 0) }
+    {
+        let (books, shares) = Books::open(blanks);
+        let desk = Desk::open(alloc, *q, jobs)?;
+        let seats = seats_of(alloc, shares, seats)?;
+        let board = Board {
+            counted: Mutex::new(Counted { desk, books }),
+        };
+        Ok((board, seats))
+    }
+
+    /// Gives out the first job that is open. Where none is, a look is booked.
+    pub fn take<R: Wait>(
+        &self,
+        rt: &R,
+        seat: &mut Seat<K, L, S, D, B>,
+    ) -> Result<Taken<N>, Memory>
+        ensures { CountsTaken seat.old seat.new result }
+    {
+        self.counted.lock(rt).take(seat)
+    }
+
+    /// Puts the jobs in the place of the ticket's. `Err` comes for want of memory alone, and has the
+    /// ticket.
+    pub fn split<R: Wait>(
+        &self,
+        rt: &R,
+        seat: &mut Seat<K, L, S, D, B>,
+        ticket: Ticket<N>,
+        jobs: Vec<Job>,
+    ) -> Result<(), Ticket<N>>
+        requires { AreChildren N.request ticket.job jobs.items }
+        ensures counts { CountsSplit seat.old seat.new result }
+        ensures ticket { IfErr result (λ back. back ≡ ticket) }
+    {
+        self.counted.lock(rt).split(seat, ticket, jobs)
+    }
+
+    /// Books what was found under the ticket's job. `Err` comes for want of memory alone, and has the
+    /// ticket.
+    pub fn finish<R: Wait>(
+        &self,
+        rt: &R,
+        seat: &mut Seat<K, L, S, D, B>,
+        ticket: Ticket<N>,
+        list: Vec<Connected>,
+    ) -> Result<(), Ticket<N>>
+        requires { AreMembersUnder N.request ticket.job list.items }
+        ensures counts { CountsFinish seat.old seat.new result }
+        ensures ticket { IfErr result (λ back. back ≡ ticket) }
+    {
+        self.counted.lock(rt).finish(seat, ticket, list)
+    }
+
+    /// Makes the ticket's entry open again. `Err` comes for want of memory alone, and has the ticket.
+    pub fn back<R: Wait>(
+        &self,
+        rt: &R,
+        seat: &mut Seat<K, L, S, D, B>,
+        ticket: Ticket<N>,
+    ) -> Result<(), Ticket<N>>
+        ensures counts { CountsBack seat.old seat.new result }
+        ensures ticket { IfErr result (λ back. back ≡ ticket) }
+    {
+        self.counted.lock(rt).back(seat, ticket)
+    }
+
+    /// The desk, for all seats. Its log has as many events of each kind as the seats have counted.
+    pub fn close(self, seats: Vec<Seat<K, L, S, D, B>>) -> Desk<N>
+        requires some { 0 < length seats.items }
+        requires all { (length seats.items ≡ K.parts) × (length seats.items ≡ L.parts)
+            × (length seats.items ≡ S.parts) × (length seats.items ≡ D.parts)
+            × (length seats.items ≡ B.parts) }
+        ensures { HaveSums seats.items (takes_in result.log) (looks_in result.log)
+            (splits_in result.log) (finishes_in result.log) (backs_in result.log) }
+    {
+        let Board { counted } = self;
+        let mut shares = all_shares(seats);
+        counted.into_inner().close(&mut shares)
+    }
+}

@@ -1,0 +1,38 @@
+ghost use Rattle.std.specs.Prelude.{◌≡◌};
+
+use crate::naming::Naming;
+use dd_model::Job;
+use std::marker::PhantomData;
+
+/// The right to do the job of an entry that is out. There is one for each time that the entry was taken.
+#[derive(Drop)]
+pub struct Ticket<N: Naming> {
+    pub(crate) entry: u64,
+    pub(crate) job: Job,
+    pub(crate) of: PhantomData<N>,
+}
+
+impl<N: Naming> Ticket<N> {
+    /// The number of the entry.
+    pub fn entry(&self) -> u64
+        ensures { result ≡ self.now.entry }
+    {
+        self.entry
+    }
+
+    /// The job of the entry.
+    pub fn job(&self) -> &Job
+        ensures { result.now ≡ self.now.job }
+    {
+        &self.job
+    }
+}
+
+/// What a worker is given that asks for a job.
+#[derive(Drop)]
+pub enum Taken<N: Naming> {
+    /// The first job that was open.
+    Job(Ticket<N>),
+    /// No job was open.
+    Idle,
+}
