@@ -9,7 +9,8 @@ use Rattle.dd_model.specs.declared.jobs.Job.{Job}
 use Rattle.dd_model.proofs.Lists.{Contains-none, Contains-head, Contains-later, Contains-cases, each_of, all_from_members}
 use Rattle.dd_model.proofs.Orders.{job_cmp_total, job_not_below_itself}
 use Rattle.dd_model.proofs.Pairs.{ArePairs}
-use Rattle.dd_model.proofs.Positions.{begins_or_not, one_begins, part_fronts}
+use Rattle.dd_model.proofs.Differing.{begins_or_not, one_begins}
+use Rattle.dd_model.proofs.Positions.{part_fronts}
 use Rattle.dd_front.specs.declared.entry.Entry.{Entry}
 use Rattle.dd_front.specs.Machine.{jobs_of}
 use Rattle.dd_front.specs.Absorbed.{Extends}

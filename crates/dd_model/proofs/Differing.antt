@@ -130,6 +130,14 @@ begins_or_not (x ∷ xs) (y ∷ ys) =
     (λ different. inr (λ h. different h.0))
     (cases_eq x y)
 
+-- of two lists with which a third begins one begins the other
+pub one_begins : (xs ys zs : List ℕ) → Begins xs zs → Begins ys zs → Begins xs ys ⊎ Begins ys xs
+one_begins [] ys zs a b = inl tt
+one_begins (x ∷ xs) [] zs a b = inr tt
+one_begins (x ∷ xs) (y ∷ ys) [] a b = absurd a
+one_begins (x ∷ xs) (y ∷ ys) (z ∷ zs) a b =
+    ⊎_elim (λ h. inl (a.0 ∙ sym b.0, h)) (λ h. inr (b.0 ∙ sym a.0, h)) (one_begins xs ys zs a.1 b.1)
+
 -- neither begins the other
 pub smaller_apart : (xs ys : List ℕ) → IsSmallerWhereTheyDiffer xs ys → (Begins xs ys → ⊥) × (Begins ys xs → ⊥)
 smaller_apart xs ys less = (
