@@ -1,4 +1,4 @@
-ghost use Rattle.std.specs.Prelude.{◌≡◌, ◌↔◌, ◌≤◌, List, length, drop, IsTrue, MatchOption};
+ghost use Rattle.std.specs.Prelude.{◌≡◌, ◌≢◌, ◌↔◌, ◌≤◌, List, length, drop, IsTrue, MatchOption};
 ghost use Rattle.std.specs.List.{Contains, AllByRecursion};
 ghost use Rattle.dd_model.specs.Symbol.{IsSymbol};
 ghost use Rattle.dd_model.specs.Lists.{IsWithout};
@@ -7,6 +7,7 @@ ghost use Rattle.dd_model.specs.Wanted.{IsAscending};
 ghost use Rattle.dd_model.specs.declared.jobs.Job.{Job as Part};
 ghost use Rattle.dd_front.specs.declared.entry.Entry.{Entry as Row};
 ghost use Rattle.dd_front.specs.Machine.{entry_of};
+ghost use Rattle.dd_front.specs.Rounds.{IsFirstOpen};
 ghost use Rattle.dd_front.specs.Taken.{BeginsDone, BeginsNotDone};
 
 use crate::entry::{Entry, State};
@@ -30,6 +31,19 @@ pub fn has_out(entries: &[Entry], number: u64) -> bool
     entries
         .iter()
         .any(|entry| entry.number == number && entry.state.is_out())
+}
+
+/// The first open entry.
+pub fn first_open(entries: &[Entry]) -> Option<&Entry>
+    ensures { MatchOption result (AllByRecursion (λ e. e.state ≢ State.Open) entries.now)
+        (λ entry. IsFirstOpen entries.now entry.now) }
+{
+    for entry in entries {
+        if entry.state.is_open() {
+            return Some(entry);
+        }
+    }
+    None
 }
 
 /// Whether some entry is open.
