@@ -7,7 +7,7 @@ use crate::entry::{Entry, State};
 use crate::entry_list::EntryList;
 use crate::event::Event;
 use crate::listing::{copies_of, position_of};
-use crate::looking::{count_before, first_list, first_open, has_open, has_out, has_some_open};
+use crate::looking::{count_before, first_list, has_open, has_out, has_some_open};
 use dd_model::{Job, Memory, Position, Request};
 use std::alloc::Global;
 use std::marker::Model;
@@ -129,7 +129,7 @@ impl Front {
             (AllByRecursion (λ e. e.state ≢ State.Open) self.now.entries)
             (λ entry. IsFirstOpen self.now.entries entry.now) }
     {
-        first_open(self.entries.as_slice())
+        self.entries.first_open()
     }
 
     /// The number of the next new entry.
