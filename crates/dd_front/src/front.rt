@@ -1,9 +1,9 @@
-ghost use Rattle.std.specs.Prelude.{◌≡◌, ◌↔◌, IfOk, IsTrue};
+ghost use Rattle.std.specs.Prelude.{◌≡◌, ◌≢◌, ◌↔◌, IfOk, IsTrue, MatchOption};
 ghost use Rattle.dd_model.specs.Request.{IsValid};
 ghost use Rattle.dd_model.specs.Position.{IsPosition};
 ghost use Rattle.dd_model.specs.Jobs.{AreAscendingJobs, AreApart};
 
-use crate::entry::Entry;
+use crate::entry::{Entry, State};
 use crate::entry_list::EntryList;
 use crate::event::Event;
 use crate::listing::{copies_of, position_of};
@@ -51,7 +51,9 @@ impl Model for Front {
 
 impl Front {
     ghost use Rattle.dd_front.specs.Machine.{IsOpened, StandsAt};
+    ghost use Rattle.std.specs.List.{AllByRecursion};
     ghost use Rattle.dd_front.specs.Allowed.{IsPermitted};
+    ghost use Rattle.dd_front.specs.Rounds.{IsFirstOpen};
 
     /// A front with these jobs, all open, that goes on from a position after so many lines.
     pub fn open(
@@ -119,6 +121,15 @@ impl Front {
         ensures { result.now ≡ self.now.entries }
     {
         self.entries.as_slice()
+    }
+
+    /// The first open entry.
+    pub fn first_open(&self) -> Option<&Entry>
+        ensures { MatchOption result
+            (AllByRecursion (λ e. e.state ≢ State.Open) self.now.entries)
+            (λ entry. IsFirstOpen self.now.entries entry.now) }
+    {
+        self.entries.first_open()
     }
 
     /// The number of the next new entry.

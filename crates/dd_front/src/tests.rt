@@ -1,10 +1,8 @@
-ghost use Rattle.std.specs.Prelude.{IfOk};
-ghost use Rattle.dd_model.specs.Request.{IsValid};
-ghost use Rattle.dd_model.specs.Jobs.{AreAscendingJobs, AreApart};
-ghost use Rattle.dd_front.specs.Machine.{IsOpened};
+ghost use Rattle.std.specs.Prelude.{◌≡◌, IfOk};
 
 use super::*;
-use dd_model::{Allowed, Job, Position, Prefix, Request};
+use dd_model::{Allowed, Job, Memory, Position, Prefix, Request};
+use dd_symbol::{Connected, build};
 use std::alloc::Global;
 use std::test::Fail;
 
@@ -66,5 +64,61 @@ fn entries_are_taken_and_given_back(rt: HostRuntime) -> Result<(), Fail> {
     assert!(&rt; front.allowed(&Event::Look { worker: 1 }));
     assert!(&rt; give_back(&mut front, 1)?);
     assert!(&rt; front.first(3)?.len() == 1);
+    Ok(())
+}
+
+#[test]
+fn what_was_kept_comes_back(rt: HostRuntime) -> Result<(), Fail> {
+    let Some(mut front) = opened(rt.alloc())? else {
+        return Ok(());
+    };
+    front.step(Event::Save)?;
+    front.step(Event::Resume)?;
+    // The one job is wholly before the end.
+    assert!(&rt; front.entries().is_empty());
+    assert_eq!(&rt; front.next_number(), 1);
+    assert!(&rt; front.lines() == 5);
+    assert!(&rt; matches!(front.position()?, Position::End));
+    Ok(())
+}
+
+#[test]
+fn nothing_is_emitted_of_an_open_entry(rt: HostRuntime) -> Result<(), Fail> {
+    let Some(mut front) = opened(rt.alloc())? else {
+        return Ok(());
+    };
+    let none = !front.allowed(&Event::Emit) && front.emit().is_none();
+    assert!(&rt; none);
+    Ok(())
+}
+
+fn list(alloc: Global, numbers: &[u32]) -> Result<Vec<u32>, Memory>
+    ensures { IfOk result (λ list. list.items ≡ numbers.now) }
+{
+    Ok(Vec::from_slice(alloc, numbers)?)
+}
+
+/// The symbol of one chamber with both degrees 4.
+fn square(alloc: Global) -> Result<Connected, Fail> {
+    let ops = [list(alloc, &[1])?, list(alloc, &[1])?, list(alloc, &[1])?];
+    Ok(build(alloc, ops, list(alloc, &[4])?, list(alloc, &[4])?, 1)?)
+}
+
+#[test]
+fn members_are_shared_and_parted(rt: HostRuntime) -> Result<(), Fail> {
+    let alloc = rt.alloc();
+    let mut symbols = Vec::new(alloc);
+    for _ in 0..3 {
+        symbols.push(square(alloc)?)?;
+    }
+    let members = Members::new(alloc, symbols)?;
+    let mut part = members.share()?;
+    if part.len() == 3 {
+        part.skip(1);
+        part.keep(1);
+    }
+    assert_eq!(&rt; part.len(), 1);
+    assert_eq!(&rt; part.into_vec(alloc)?.len(), 1);
+    assert_eq!(&rt; members.into_vec(alloc)?.len(), 3);
     Ok(())
 }
