@@ -1,13 +1,11 @@
 -- Entries that come from jobs which ascend and are apart stand in blocks, one for each job.
-use Rattle.std.proofs.Common.{◌≡◌, ◌≢◌, ◌⊎◌, ℕ, nat_eq, List, [], ◌∷◌, ◌++◌, length, refl, sym, ap, ◌∙◌, subst, inl, inr, ⊎_elim, arith}
+use Rattle.std.proofs.Common.{◌≡◌, ◌≢◌, ◌⊎◌, List, [], ◌∷◌, ◌++◌, refl, sym, ap, ◌∙◌, subst, inl, inr, ⊎_elim}
 use Rattle.std.proofs.lemmas.Bool.{cases_eq}
-use Rattle.std.proofs.lemmas.List.Elements.{Contains-append_right, Contains-append_left, Contains-append_cases}
+use Rattle.std.proofs.lemmas.List.Elements.{Contains-append_right, Contains-append_cases}
 use Rattle.std.specs.List.{AllByRecursion, Contains}
-use Rattle.dd_model.specs.Lists.{Begins}
-use Rattle.dd_model.specs.Jobs.{IsJobBelow, AreAscendingJobs, AreJobsApart}
+use Rattle.dd_model.specs.Jobs.{IsJobBelow, AreAscendingJobs}
 use Rattle.dd_model.specs.Joined.{IsPartBelow}
 use Rattle.dd_model.specs.declared.jobs.Job.{Job}
-use Rattle.dd_model.proofs.Ascending.{all-append}
 use Rattle.dd_model.proofs.Lists.{Contains-none, Contains-head, Contains-later, Contains-cases, each_of, all_from_members}
 use Rattle.dd_model.proofs.Orders.{job_cmp_total, job_not_below_itself}
 use Rattle.dd_model.proofs.Pairs.{ArePairs}
@@ -15,7 +13,7 @@ use Rattle.dd_model.proofs.Positions.{begins_or_not, one_begins, part_fronts}
 use Rattle.dd_front.specs.declared.entry.Entry.{Entry}
 use Rattle.dd_front.specs.Machine.{jobs_of}
 use Rattle.dd_front.specs.Absorbed.{Extends}
-use Rattle.dd_front.specs.Joining.{IsBlock, AreBlocks}
+use Rattle.dd_front.specs.Joining.{AreBlocks}
 
 extends_or_not : (child job : Job) → Extends child job ⊎ ¬ Extends child job
 extends_or_not child job = ⊎_elim
@@ -70,9 +68,11 @@ others_not job jobs [] pairs ascending extend stops = tt
 others_not job jobs (e ∷ rest) pairs ascending extend stops =
     let not : ¬ Extends e.job job = stops e rest refl in
     let j = extend e (Contains-head e rest) in
-    let later : Contains jobs j.0 = ⊎_elim (λ is. absurd (not (subst (Extends e.job) (sym is) j.2))) (λ there. there) (Contains-cases job j.0 jobs j.1) in
-    (not, all_from_members (λ d. ¬ Extends d.job job) rest (λ d there extends.
-      not_below_both e.job d.job (below_first e d rest ascending.0 there) (extensions_below job j.0 d.job e.job (each_of (IsPartBelow job) jobs j.0 pairs.0 later) extends j.2)))
+    let later : Contains jobs j.0 = ⊎_elim (λ is. absurd (not (subst (Extends e.job) (sym is) j.2))) (λ there. there) (Contains-cases job j.0 jobs j.1) in (
+      not,
+      all_from_members (λ d. ¬ Extends d.job job) rest (λ d there extends.
+          not_below_both e.job d.job (below_first e d rest ascending.0 there) (extensions_below job j.0 d.job e.job (each_of (IsPartBelow job) jobs j.0 pairs.0 later) extends j.2)),
+    )
 
 pub blocks_from : (jobs : List Job) (es : List Entry) → ArePairs IsPartBelow jobs → AreAscendingJobs (jobs_of es)
     → ((e : Entry) → Contains es e → (j : Job) × Contains jobs j × Extends e.job j) → ((j : Job) → Contains jobs j → (e : Entry) × Contains es e × Extends e.job j) → AreBlocks jobs es
@@ -84,20 +84,23 @@ blocks_from (job ∷ jobs) es pairs ascending extend each =
     let tail : AreAscendingJobs (jobs_of s.rest) = ascending_tail s.own s.rest (subst (λ ds. AreAscendingJobs (jobs_of ds)) s.parts ascending) in
     let others = others_not job jobs s.rest pairs tail (λ e in_rest. extend e (there e in_rest)) s.stops in
     let some : s.own ≢ [] = λ none.
-        let e = each job (Contains-head job jobs) in
-        let in_rest : Contains s.rest e.0 = subst (λ ds. Contains ds e.0) (s.parts ∙ ap (λ ds. ds ++ s.rest) none) e.1 in
-        each_of (λ d. ¬ Extends d.job job) s.rest e.0 others in_rest e.2 in
-    (s.own, s.rest, record { parts = s.parts; some = some; come = s.come; others = others },
-     blocks_from jobs s.rest pairs.1 tail
-       (λ e in_rest.
-         let j = extend e (there e in_rest) in
-         ⊎_elim
-         (λ is. absurd (each_of (λ d. ¬ Extends d.job job) s.rest e others in_rest (subst (Extends e.job) (sym is) j.2)))
-         (λ later. (j.0, later, j.2))
-         (Contains-cases job j.0 jobs j.1))
-       (λ j in_jobs.
-         let e = each j (Contains-later job j jobs in_jobs) in
-         ⊎_elim
-         (λ in_own. absurd (not_of_both job j e.0.job (each_of (IsPartBelow job) jobs j pairs.0 in_jobs) (each_of (λ d. Extends d.job job) s.own e.0 s.come in_own) e.2))
-         (λ in_rest. (e.0, in_rest, e.2))
-         (Contains-append_cases s.own s.rest e.0 (subst (λ ds. Contains ds e.0) s.parts e.1))))
+    let e = each job (Contains-head job jobs) in
+    let in_rest : Contains s.rest e.0 = subst (λ ds. Contains ds e.0) (s.parts ∙ ap (λ ds. ds ++ s.rest) none) e.1 in
+    each_of (λ d. ¬ Extends d.job job) s.rest e.0 others in_rest e.2 in (
+      s.own,
+      s.rest,
+      record { parts = s.parts; some = some; come = s.come; others = others },
+      blocks_from jobs s.rest pairs.1 tail
+          (λ e in_rest.
+          let j = extend e (there e in_rest) in
+          ⊎_elim
+          (λ is. absurd (each_of (λ d. ¬ Extends d.job job) s.rest e others in_rest (subst (Extends e.job) (sym is) j.2)))
+          (λ later. (j.0, later, j.2))
+          (Contains-cases job j.0 jobs j.1))
+          (λ j in_jobs.
+          let e = each j (Contains-later job j jobs in_jobs) in
+          ⊎_elim
+          (λ in_own. absurd (not_of_both job j e.0.job (each_of (IsPartBelow job) jobs j pairs.0 in_jobs) (each_of (λ d. Extends d.job job) s.own e.0 s.come in_own) e.2))
+          (λ in_rest. (e.0, in_rest, e.2))
+          (Contains-append_cases s.own s.rest e.0 (subst (λ ds. Contains ds e.0) s.parts e.1))),
+    )

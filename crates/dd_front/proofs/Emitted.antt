@@ -1,6 +1,6 @@
 -- What is emitted of the first entry.
-use Rattle.std.proofs.Common.{◌≡◌, ◌⊎◌, ℕ, ◌+◌, ◌<◌, ◌≤◌, ◌^◌, Option, Some, None, IfNone, IfSome, List, [], ◌∷◌, ◌++◌, length, get_or, take, drop, refl, sym, ap, ◌∙◌, subst, arith}
-use Rattle.std.proofs.lemmas.List.{length-drop, length-take, drop_more, take-append-drop}
+use Rattle.std.proofs.Common.{◌≡◌, ℕ, ◌+◌, ◌<◌, Option, Some, None, IfNone, IfSome, List, ◌∷◌, ◌++◌, length, get_or, take, drop, refl, sym, ap, ◌∙◌, subst, arith}
+use Rattle.std.proofs.lemmas.List.{length-take, drop_more, take-append-drop}
 use Rattle.dd_model.specs.Symbol.{Symbol}
 use Rattle.dd_model.specs.Lists.{IsWithout}
 use Rattle.dd_model.specs.Position.{IsBefore}
@@ -76,9 +76,9 @@ parts_from f g left part next count is low read taken after = record {
   rest = drop (count + 1) left;
   not_before =
       let parts : part ++ next ∷ drop (count + 1) left ≡ left =
-          ap (λ ss. ss ++ next ∷ drop (count + 1) left) taken
-          ∙ ap (λ s. take count left ++ s ∷ drop (count + 1) left) read
-          ∙ ap (λ ss. take count left ++ ss) (sym (drop_more left count next low)) ∙ take-append-drop count left in
+      ap (λ ss. ss ++ next ∷ drop (count + 1) left) taken
+      ∙ ap (λ s. take count left ++ s ∷ drop (count + 1) left) read
+      ∙ ap (λ ss. take count left ++ ss) (sym (drop_more left count next low)) ∙ take-append-drop count left in
       subst (IsWithout (IsBefore f.from) is.list) (sym parts) is.not_before;
   count = ap length taken ∙ simp length-take (omega arith);
   after = after;
@@ -100,7 +100,7 @@ pub parts_where : {m f g : Machine} (left part : List Symbol) (next : Symbol) (f
 parts_where {m} {f} {g} left part next from count lines same is may read taken place counted after =
     let P : Machine → Type 0 = λ n. IsLeft n left → MayPart n count → EmitsPart n count g part in
     let there : P m = λ left_is may_part.
-        let e : g ≡ record m { from = at_symbol next; lines = lines } = subst (λ p. g ≡ record m { from = p; lines = lines }) place after in
-        let e' : g ≡ record m { from = at_symbol next; lines = m.lines + count } = subst (λ n. g ≡ record m { from = at_symbol next; lines = n }) counted e in
-        parts_from m g left part next count left_is (part_room m left count left_is may_part) read taken e' in
+    let e : g ≡ record m { from = at_symbol next; lines = lines } = subst (λ p. g ≡ record m { from = p; lines = lines }) place after in
+    let e' : g ≡ record m { from = at_symbol next; lines = m.lines + count } = subst (λ n. g ≡ record m { from = at_symbol next; lines = n }) counted e in
+    parts_from m g left part next count left_is (part_room m left count left_is may_part) read taken e' in
     subst P same there is may

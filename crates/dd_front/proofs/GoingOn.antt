@@ -1,6 +1,5 @@
 -- Jobs go on where the symbols emitted end: at the opening, and after each way in which either changes.
-use Rattle.std.proofs.Common.{◌≡◌, ◌⊎◌, ℕ, ◌+◌, List, [], ◌∷◌, ◌++◌, length, get_or, refl, sym, ap, ◌∙◌, subst, inl, inr, ⊎_elim, arith}
-use Rattle.std.proofs.lemmas.List.{length_push}
+use Rattle.std.proofs.Common.{◌⊎◌, List, [], ◌∷◌, ◌++◌, length, get_or, refl, sym, ◌∙◌, subst, inl, inr, ⊎_elim, arith}
 use Rattle.std.proofs.lemmas.List.Elements.{Contains-append_right, Contains-append_left, Contains-append_cases}
 use Rattle.std.specs.List.{Contains}
 use Rattle.dd_model.specs.Symbol.{Symbol, IsTable}
@@ -8,18 +7,18 @@ use Rattle.dd_model.specs.Code.{code, IsBelow}
 use Rattle.dd_model.specs.Lists.{IsWithout}
 use Rattle.dd_model.specs.Position.{IsBefore, IsWhollyBefore}
 use Rattle.dd_model.specs.Wanted.{IsAscending}
-use Rattle.dd_model.specs.Jobs.{IsJobBelow, AreAscendingJobs, AreApart, AreJobsApart, IsMemberUnder, AreMembersUnder, AreChildren, extended}
+use Rattle.dd_model.specs.Jobs.{AreAscendingJobs, AreApart, IsMemberUnder, AreMembersUnder, AreChildren, extended}
 use Rattle.dd_model.specs.Joined.{IsUnderOne, IsPartBelow}
 use Rattle.dd_model.specs.declared.requests.Request.{Request}
 use Rattle.dd_model.specs.declared.jobs.Job.{Job}
 use Rattle.dd_model.specs.declared.jobs.Position.{Position}
 use Rattle.dd_model.proofs.Codes.{length-code}
-use Rattle.dd_model.proofs.Lists.{Contains-none, Contains-head, Contains-later, Contains-cases, each_of, all_from_members}
-use Rattle.dd_model.proofs.Orders.{not_below_itself, not_below_both, job_not_below_itself}
-use Rattle.dd_model.proofs.Ascending.{ascending-append, begins_itself, begins_append, begins_through, begins_more, same_when_whole}
-use Rattle.dd_model.proofs.Pairs.{ArePairs, pairs_append, pairs_front, pairs_back, pairs_across, ascending_pairs, pairs_ascending, part_pairs, pairs_ascending_jobs, pairs_apart}
+use Rattle.dd_model.proofs.Lists.{Contains-none, Contains-head, Contains-later, Contains-cases, each_of}
+use Rattle.dd_model.proofs.Orders.{not_below_itself, not_below_both}
+use Rattle.dd_model.proofs.Ascending.{ascending-append, begins_itself, begins_through, begins_more}
+use Rattle.dd_model.proofs.Pairs.{ArePairs, pairs_front, pairs_back, pairs_across, ascending_pairs, pairs_ascending, part_pairs, pairs_ascending_jobs, pairs_apart}
 use Rattle.dd_model.proofs.Without.{without_there, without_kept, without_pairs}
-use Rattle.dd_model.proofs.Positions.{below_over, before_or_not, before_symbol, below_symbol, before_under, before_longer, under_before_later, under_below, under_wholly_before, part_fronts}
+use Rattle.dd_model.proofs.Positions.{below_over, before_or_not, before_symbol, below_symbol, before_under, before_longer, under_before_later, under_below, under_wholly_before}
 use Rattle.dd_model.proofs.JoinedLists.{first_parts}
 use Rattle.dd_front.specs.Step.{at_symbol}
 use Rattle.dd_front.specs.Covered.{IsLater, IsBetween}

@@ -1,5 +1,5 @@
 -- How the entries of a round are joined: one after the other, each to its job.
-use Rattle.std.proofs.Common.{◌≡◌, ◌≢◌, ◌⊎◌, ℕ, zero, suc, ◌+◌, ◌<◌, ◌≤◌, List, [], ◌∷◌, ◌++◌, length, get_or, take, drop, map, refl, sym, ap, ◌∙◌, subst, inl, inr, ⊎_elim, append-nil, arith}
+use Rattle.std.proofs.Common.{◌≡◌, ◌≢◌, ℕ, suc, ◌+◌, ◌<◌, List, [], ◌∷◌, ◌++◌, length, get_or, take, refl, sym, ap, ◌∙◌, subst, append-nil, arith}
 use Rattle.std.proofs.lemmas.List.{append_assoc, length_push, length-append, length-take, length-map, get_or-map, get_or-take}
 use Rattle.std.specs.List.{AllByRecursion}
 use Rattle.dd_model.specs.Symbol.{Symbol}
@@ -7,12 +7,11 @@ use Rattle.dd_model.specs.Lists.{Begins}
 use Rattle.dd_model.specs.declared.jobs.Job.{Job}
 use Rattle.dd_model.proofs.Ascending.{all-append}
 use Rattle.dd_front.specs.declared.entry.Entry.{Entry}
-use Rattle.dd_front.specs.declared.entry.State.{State}
 use Rattle.dd_front.specs.declared.entry.State.TheVariants.{Done}
 use Rattle.dd_front.specs.Machine.{jobs_of, entry_of}
 use Rattle.dd_front.specs.Places.{with_state_at}
 use Rattle.dd_front.specs.Absorbed.{Extends, found_by, list_of}
-use Rattle.dd_front.specs.Joining.{IsBlock, AreBlocks, AreJoined, done_with}
+use Rattle.dd_front.specs.Joining.{AreBlocks, AreJoined, done_with}
 
 -- Some jobs have their lists, one is at hand, and the others are to come.
 pub record AreJoining (jobs : List Job) (whole rest : List Entry) (lists : List (List Symbol)) (joined : List Symbol) : Type 0 where
@@ -167,8 +166,8 @@ joining_last jobs whole lists all joined s is = go s.own s.rest_is
         let whole_is : whole ≡ s.done ++ s.part = s.whole_is ∙ ap (λ es. s.done ++ es) (append-nil s.part) in
         let joined_all = joined_push s.before s.job s.done s.part lists joined s.earlier s.part_comes s.joined_is in
         subst (AreJoined jobs whole) (sym is)
-            (subst (λ js. AreJoined js whole (lists ++ joined ∷ [])) (sym jobs_are)
-              (subst (λ es. AreJoined (s.before ++ s.job ∷ []) es (lists ++ joined ∷ [])) (sym whole_is) joined_all))
+        (subst (λ js. AreJoined js whole (lists ++ joined ∷ [])) (sym jobs_are)
+        (subst (λ es. AreJoined (s.before ++ s.job ∷ []) es (lists ++ joined ∷ [])) (sym whole_is) joined_all))
 
 -- the job at hand is that of the old entry whose place is the number of lists
 pub at_hand : (olds whole rest : List Entry) (k : ℕ) (lists : List (List Symbol)) (joined : List Symbol) → (s : AreJoining (jobs_of (take k olds)) whole rest lists joined) → (d : Entry)
@@ -193,7 +192,7 @@ pub joining_start : (jobs : List Job) (whole rest : List Entry) (lists : List (L
     → AreJoining jobs whole rest lists joined
 joining_start jobs whole rest lists joined some blocks all none nothing =
     subst (λ es. AreJoining jobs whole es lists joined) (sym all)
-        (subst (λ ls. AreJoining jobs whole whole ls joined) (sym none) (subst (AreJoining jobs whole whole []) (sym nothing) (joining_first jobs whole some blocks)))
+    (subst (λ ls. AreJoining jobs whole whole ls joined) (sym none) (subst (AreJoining jobs whole whole []) (sym nothing) (joining_first jobs whole some blocks)))
 
 -- what tells whether a job extends another
 abbrev pub Tells : Job → Job → Type 0
@@ -213,7 +212,7 @@ step_same olds whole rest tail k n e d lists lists' joined joined' now list s is
     let old : (get_or olds n d).job ≡ s.job = ap (λ i. (get_or olds i d).job) len ∙ (at_hand olds whole rest k lists joined s d).1 in
     let now_is : now ≡ joined ++ list_of e.state = longer ∙ ap (λ ss. ss ++ list) kept ∙ ap (λ st. joined ++ list_of st) (sym done) in
     subst (λ ls. AreJoining (jobs_of (take k olds)) whole tail ls now) (sym same)
-        (joining_same (jobs_of (take k olds)) whole rest tail e lists joined now s is (to_extends e.job (get_or olds n d).job s.job old tells) now_is)
+    (joining_same (jobs_of (take k olds)) whole rest tail e lists joined now s is (to_extends e.job (get_or olds n d).job s.job old tells) now_is)
 
 -- a turn whose entry comes from the next job
 pub step_next : (olds whole rest tail : List Entry) (k n : ℕ) (e d : Entry) (lists lists' : List (List Symbol)) (joined joined' now list : List Symbol)
@@ -223,7 +222,7 @@ step_next olds whole rest tail k n e d lists lists' joined joined' now list s is
     let old : (get_or olds n d).job ≡ s.job = ap (λ i. (get_or olds i d).job) len ∙ (at_hand olds whole rest k lists joined s d).1 in
     let now_is : now ≡ list_of e.state = longer ∙ ap (λ ss. ss ++ list) none ∙ ap list_of (sym done) in
     subst (λ ls. AreJoining (jobs_of (take k olds)) whole tail ls now) (sym more)
-        (joining_next (jobs_of (take k olds)) whole rest tail e lists joined now s is (λ extends. not (from_extends e.job (get_or olds n d).job s.job old extends)) now_is)
+    (joining_next (jobs_of (take k olds)) whole rest tail e lists joined now s is (λ extends. not (from_extends e.job (get_or olds n d).job s.job old extends)) now_is)
 
 pub none_left : {A : Type 0} (xs : List A) (n : ℕ) → n ≡ length xs → n ≡ 0 → xs ≡ []
 none_left [] n long zero' = refl

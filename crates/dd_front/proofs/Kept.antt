@@ -1,5 +1,5 @@
 -- Entries in a vector whose first ones have left.
-use Rattle.std.proofs.Common.{◌≡◌, ℕ, suc, ◌+◌, ◌<◌, ◌≤◌, Option, Some, None, MatchOption, ◌≢◌, zero, List, [], ◌∷◌, ◌++◌, length, get_or, set, take, drop, refl, sym, ap, ◌∙◌, subst, arith}
+use Rattle.std.proofs.Common.{◌≡◌, ℕ, suc, ◌+◌, ◌<◌, ◌≤◌, ◌≢◌, zero, List, [], ◌∷◌, ◌++◌, length, get_or, set, take, drop, refl, sym, ap, ◌∙◌, subst, arith}
 use Rattle.std.proofs.lemmas.List.{length-take-le, length-drop, length-set, length-append, get_or-drop, drop-set-add, drop-append-le, drop-take, drop-drop}
 use Rattle.std.specs.List.{AllByRecursion, splice}
 use Rattle.dd_model.specs.declared.jobs.Job.{Job}
@@ -8,9 +8,9 @@ use Rattle.dd_front.specs.declared.entry.State.{State}
 use Rattle.dd_front.specs.Machine.{entry_of, open_entries}
 use Rattle.dd_front.specs.Step.{with_state, split_entries}
 use Rattle.dd_front.specs.Numbers.{HaveOwnNumbers, AreBelow}
-use Rattle.dd_front.specs.Places.{IsPlaceOf, HasNoneOf, with_state_at}
+use Rattle.dd_front.specs.Places.{IsPlaceOf, with_state_at}
 use Rattle.dd_front.proofs.Placed.{within}
-use Rattle.dd_front.proofs.Replaced.{state_at, split_at, own_kept, own_split}
+use Rattle.dd_front.proofs.Replaced.{state_at, split_at, own_split}
 
 -- a place of the entries is one of the vector
 pub place_inside : (all : List Entry) (gone i : ℕ) (es : List Entry) → drop gone all ≡ es → gone ≤ length all → i < length es → gone + i < length all

@@ -1,5 +1,5 @@
 -- What holds of a front lasts.
-use Rattle.std.proofs.Common.{◌≡◌, ◌≢◌, ◌⊎◌, ℕ, zero, suc, ◌+◌, ◌<◌, ◌≤◌, true, false, cond, nat_eq, List, [], ◌∷◌, ◌++◌, length, get_or, take, drop, refl, sym, ap, ◌∙◌, subst, ⊎_elim, arith}
+use Rattle.std.proofs.Common.{◌≡◌, ◌≢◌, ◌⊎◌, ℕ, zero, suc, ◌+◌, ◌<◌, true, false, cond, nat_eq, List, [], ◌∷◌, ◌++◌, length, get_or, take, drop, refl, sym, ap, ◌∙◌, subst, ⊎_elim, arith}
 use Rattle.std.proofs.Math.Seq.{drop-cons}
 use Rattle.std.proofs.lemmas.List.{take-append-drop, map-append}
 use Rattle.std.specs.List.{AllByRecursion, Contains}
@@ -62,11 +62,11 @@ parts_split q k next jobs job state es own there children pairs =
     let e = entry_of k job state in
     let now : split_entries k next jobs es ≡ take i es ++ (open_entries next jobs ++ drop (suc i) es) = split_at k next jobs es i e own (place_there e es i own there.1 there.2) in
     let before : es ≡ take i es ++ e ∷ drop (suc i) es =
-        sym (take-append-drop i es) ∙ ap (λ ds. take i es ++ ds) (drop-cons es i e there.1 ∙ ap (λ x. x ∷ drop (suc i) es) there.2) in
+    sym (take-append-drop i es) ∙ ap (λ ds. take i es ++ ds) (drop-cons es i e there.1 ∙ ap (λ x. x ∷ drop (suc i) es) there.2) in
     let old : jobs_of es ≡ jobs_of (take i es) ++ job ∷ jobs_of (drop (suc i) es) = ap jobs_of before ∙ map-append (λ x. x.job) (take i es) (e ∷ drop (suc i) es) in
     let new : jobs_of (split_entries k next jobs es) ≡ jobs_of (take i es) ++ (jobs ++ jobs_of (drop (suc i) es)) =
-        ap jobs_of now ∙ map-append (λ x. x.job) (take i es) (open_entries next jobs ++ drop (suc i) es)
-        ∙ ap (λ js. jobs_of (take i es) ++ js) (map-append (λ x. x.job) (open_entries next jobs) (drop (suc i) es) ∙ ap (λ js. js ++ jobs_of (drop (suc i) es)) (jobs_opened next jobs)) in
+    ap jobs_of now ∙ map-append (λ x. x.job) (take i es) (open_entries next jobs ++ drop (suc i) es)
+    ∙ ap (λ js. jobs_of (take i es) ++ js) (map-append (λ x. x.job) (open_entries next jobs) (drop (suc i) es) ∙ ap (λ js. js ++ jobs_of (drop (suc i) es)) (jobs_opened next jobs)) in
     subst (ArePairs IsPartBelow) (sym new) (children_pairs q (jobs_of (take i es)) (jobs_of (drop (suc i) es)) jobs job (subst (ArePairs IsPartBelow) old pairs) children)
 
 -- ## Fronts

@@ -6,6 +6,7 @@ mod Blocks
 mod Joins
 mod Rounding
 mod Lasting
+mod Shutting
 mod SmallCodes
 mod Emitted
 mod Skipped

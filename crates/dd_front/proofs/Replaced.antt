@@ -1,7 +1,7 @@
 -- Entries with others in the place of one of them.
-use Rattle.std.proofs.Common.{◌≡◌, ◌≢◌, ◌⊎◌, ℕ, zero, suc, ◌+◌, ◌<◌, ◌≤◌, Bool, true, false, cond, nat_eq, List, [], ◌∷◌, ◌++◌, length, get_or, set, take, drop, refl, sym, ap, ◌∙◌, subst, inl, inr, ⊎_elim, add-zero, arith}
+use Rattle.std.proofs.Common.{◌≡◌, ◌≢◌, ℕ, zero, suc, ◌+◌, ◌<◌, ◌≤◌, true, false, cond, nat_eq, List, [], ◌∷◌, ◌++◌, length, get_or, set, take, drop, refl, sym, ap, ◌∙◌, subst, ⊎_elim, add-zero, arith}
 use Rattle.std.proofs.lemmas.Bool.Decides.{eqb_tells}
-use Rattle.std.proofs.lemmas.List.{append_assoc, set_split, drop-set-add}
+use Rattle.std.proofs.lemmas.List.{set_split}
 use Rattle.std.specs.List.{AllByRecursion}
 use Rattle.dd_model.proofs.Ascending.{all-append}
 use Rattle.dd_model.specs.declared.jobs.Job.{Job}
@@ -25,8 +25,8 @@ pub all_replaced : (P : Entry → Type 0) (k : ℕ) (new : Entry → List Entry)
 all_replaced P k new [] f h = tt
 all_replaced P k new (e ∷ es) f h =
     all-append P (cond (nat_eq e.number k) (new e) (e ∷ [])) (replaced k new es)
-        (elim (nat_eq e.number k) as (λ b. AllByRecursion P (cond b (new e) (e ∷ []))) [ true ↦ f e h.0 | false ↦ (h.0, tt) ])
-        (all_replaced P k new es f h.1)
+    (elim (nat_eq e.number k) as (λ b. AllByRecursion P (cond b (new e) (e ∷ []))) [ true ↦ f e h.0 | false ↦ (h.0, tt) ])
+    (all_replaced P k new es f h.1)
 
 -- ## What is replaced
 
@@ -78,10 +78,11 @@ opened_own next (job ∷ jobs) one = (
 own-append : (xs ys : List Entry) (next : ℕ) → HaveOwnNumbers xs → HaveOwnNumbers ys → AllByRecursion (λ e. next ≤ e.number) xs → AreBelow next ys → HaveOwnNumbers (xs ++ ys)
 own-append [] ys next hx hy from below = hy
 own-append (x ∷ xs) ys next hx hy from below =
-    let low = from.0 in
-    (hx.0,
-     all-append (λ d. d.number ≢ x.number) xs ys hx.1 (all-map (λ d. d.number < next) (λ d. d.number ≢ x.number) ys (λ d h same. absurd (omega arith)) below),
-     own-append xs ys next hx.2 hy from.1 below)
+    let low = from.0 in (
+      hx.0,
+      all-append (λ d. d.number ≢ x.number) xs ys hx.1 (all-map (λ d. d.number < next) (λ d. d.number ≢ x.number) ys (λ d h same. absurd (omega arith)) below),
+      own-append xs ys next hx.2 hy from.1 below,
+    )
 
 -- the entry in another state
 abbrev pub restated : State → Entry → List Entry
@@ -107,14 +108,14 @@ own_spread k next jobs (e ∷ es) one own below =
     let new : Entry → List Entry = λ d. open_entries next jobs in
     ⊎_elim
     (λ yes.
-      let rest : replaced k new es ≡ es = none_replaced k new es (subst (λ n. AllByRecursion (λ d. d.number ≢ n) es) yes.1 own.1) in
-      subst HaveOwnNumbers (sym (here k new e es yes.0 ∙ ap (λ ds. open_entries next jobs ++ ds) rest))
-          (own-append (open_entries next jobs) es next (opened_own next jobs one) own.2 (numbers_from next jobs) below.1))
+    let rest : replaced k new es ≡ es = none_replaced k new es (subst (λ n. AllByRecursion (λ d. d.number ≢ n) es) yes.1 own.1) in
+    subst HaveOwnNumbers (sym (here k new e es yes.0 ∙ ap (λ ds. open_entries next jobs ++ ds) rest))
+    (own-append (open_entries next jobs) es next (opened_own next jobs one) own.2 (numbers_from next jobs) below.1))
     (λ no.
-      let low = below.0 in
-      let later = all_replaced (λ d. d.number ≢ e.number) k new es
-          (λ d differs. all-map (λ d. next ≤ d.number) (λ d. d.number ≢ e.number) (open_entries next jobs) (λ d from same. absurd (omega arith)) (numbers_from next jobs)) own.1 in
-      subst HaveOwnNumbers (sym (not_here k new e es no.0)) (own.0, later, own_spread k next jobs es one own.2 below.1))
+    let low = below.0 in
+    let later = all_replaced (λ d. d.number ≢ e.number) k new es
+    (λ d differs. all-map (λ d. next ≤ d.number) (λ d. d.number ≢ e.number) (open_entries next jobs) (λ d from same. absurd (omega arith)) (numbers_from next jobs)) own.1 in
+    subst HaveOwnNumbers (sym (not_here k new e es no.0)) (own.0, later, own_spread k next jobs es one own.2 below.1))
     (eqb_tells e.number k)
 
 -- new entries take numbers that no other has

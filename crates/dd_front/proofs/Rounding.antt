@@ -1,22 +1,21 @@
 -- What a round brings back is absorbed.
-use Rattle.std.proofs.Common.{◌≡◌, ◌≢◌, ◌⊎◌, ℕ, zero, suc, ◌+◌, ◌<◌, ◌≤◌, List, [], ◌∷◌, ◌++◌, length, take, drop, map, refl, sym, ap, ◌∙◌, subst, inl, inr, ⊎_elim, append-nil, arith}
+use Rattle.std.proofs.Common.{◌≡◌, ℕ, zero, suc, ◌≤◌, List, [], ◌∷◌, ◌++◌, length, take, drop, refl, sym, ap, ◌∙◌, subst, arith}
 use Rattle.std.proofs.lemmas.List.{take-append-drop, take-map, length-take, length-map}
 use Rattle.std.specs.List.{AllByRecursion, Contains}
 use Rattle.dd_model.specs.Symbol.{Symbol}
 use Rattle.dd_model.specs.Code.{IsBelow}
-use Rattle.dd_model.specs.Wanted.{IsMember, IsAscending}
+use Rattle.dd_model.specs.Wanted.{IsMember}
 use Rattle.dd_model.specs.Joined.{IsPartBelow, AreUnderJobs}
 use Rattle.dd_model.specs.declared.jobs.Job.{Job}
 use Rattle.dd_model.specs.declared.requests.Request.{Request}
 use Rattle.dd_model.proofs.Lists.{all_from_members, Contains-head, Contains-none}
 use Rattle.dd_model.proofs.Pairs.{ArePairs, pairs_front, pairs_back, ascending_pairs, pairs_ascending}
 use Rattle.dd_front.specs.declared.entry.Entry.{Entry}
-use Rattle.dd_front.specs.declared.entry.State.TheVariants.{Open, Out, Done}
-use Rattle.dd_front.specs.declared.entry.State.{State}
+use Rattle.dd_front.specs.declared.entry.State.TheVariants.{Done}
 use Rattle.dd_front.specs.Machine.{Machine, entry_of, jobs_of}
-use Rattle.dd_front.specs.Absorbed.{Extends, IsFound, ComeFrom, MayAbsorb, AreAbsorbed, Absorbs, found_by}
+use Rattle.dd_front.specs.Absorbed.{Extends, IsFound, MayAbsorb, AreAbsorbed, Absorbs, found_by}
 use Rattle.dd_front.specs.Numbers.{AreBelow}
-use Rattle.dd_front.specs.Invariant.{IsFront, AreInOrder, AreListed, AreParts, IsListed}
+use Rattle.dd_front.specs.Invariant.{IsFront, AreInOrder, AreListed, AreParts}
 use Rattle.dd_front.specs.Joining.{IsDone, AreBlocks, AreJoined, done_with}
 use Rattle.dd_front.proofs.Blocks.{blocks_from}
 use Rattle.dd_front.proofs.Lasting.{pairs_of}
@@ -26,7 +25,7 @@ use Rattle.dd_front.proofs.Absorbing.{all_front, all_back}
 taken_pairs : (k : ℕ) (es : List Entry) → ArePairs IsPartBelow (jobs_of es) → ArePairs IsPartBelow (jobs_of (take k es))
 taken_pairs k es pairs =
     subst (ArePairs IsPartBelow) (take-map (λ e. e.job) k es)
-        (pairs_front IsPartBelow (take k (jobs_of es)) (drop k (jobs_of es)) (subst (ArePairs IsPartBelow) (sym (take-append-drop k (jobs_of es))) pairs))
+    (pairs_front IsPartBelow (take k (jobs_of es)) (drop k (jobs_of es)) (subst (ArePairs IsPartBelow) (sym (take-append-drop k (jobs_of es))) pairs))
 
 -- entries that may be absorbed stand in blocks
 pub blocks_absorbed : (f : Machine) (k : ℕ) (es : List Entry) → AreParts (jobs_of f.entries) → MayAbsorb f k es → AreBlocks (jobs_of (take k f.entries)) es
@@ -132,7 +131,7 @@ front_where {m} {f} k es olds now lists same joined may is held =
     let from = (may_where k es same may).come_from in
     let order = order_found m.request (jobs_of (take k m.entries)) (found_by es) from.all in
     subst (IsFront m.request m.opening m.next) (sym is)
-        (front_with m.request m.opening m.next lists m.entries (lists_in_order m.request (jobs_of (take k olds)) es lists joined order) held)
+    (front_with m.request m.opening m.next lists m.entries (lists_in_order m.request (jobs_of (take k olds)) es lists joined order) held)
 
 pub absorbs_where : {m f g : Machine} (k : ℕ) (es olds now : List Entry) (lists : List (List Symbol)) → m ≡ f → olds ≡ m.entries → AreJoined (jobs_of (take k olds)) es lists → now ≡ done_with lists m.entries
     → g ≡ record m { entries = now } → Absorbs f k es g

@@ -1,9 +1,9 @@
 -- The numbers of a member's code are small.
-use Rattle.std.proofs.Common.{◌≡◌, ◌⊎◌, ℕ, zero, suc, ◌+◌, ◌<◌, ◌≤◌, Bool, true, false, List, [], ◌∷◌, ◌++◌, length, get_or, sym, ◌∙◌, subst, ⊎_elim, arith}
+use Rattle.std.proofs.Common.{◌≡◌, ℕ, zero, suc, ◌+◌, ◌<◌, ◌≤◌, false, List, ◌++◌, length, get_or, subst, ⊎_elim, arith}
 use Rattle.std.proofs.lemmas.Bool.{cases_lt}
 use Rattle.std.proofs.lemmas.List.{get_or_past}
-use Rattle.std.specs.List.{AllByRecursion, Contains, flat_map}
-use Rattle.dd_model.specs.Symbol.{Symbol, AreInvolutions, IsChamber, op, item}
+use Rattle.std.specs.List.{AllByRecursion, flat_map}
+use Rattle.dd_model.specs.Symbol.{Symbol, AreInvolutions, IsChamber, item}
 use Rattle.dd_model.specs.Code.{code, images, count_from}
 use Rattle.dd_model.specs.Allowed.{IsIn}
 use Rattle.dd_model.specs.Request.{IsValid}
@@ -29,8 +29,8 @@ images_small s k (suc n) involutions few one within =
     let b = ((involutions One).within k chamber).1 in
     let c = ((involutions Two).within k chamber).1 in
     all-append (λ m. m < 256) (images s k) (flat_map (images s) (count_from (k + 1) n))
-        (omega arith, (omega arith, (omega arith, tt)))
-        (images_small s (k + 1) n involutions few (omega arith) (omega arith))
+    (omega arith, (omega arith, (omega arith, tt)))
+    (images_small s (k + 1) n involutions few (omega arith) (omega arith))
 
 degrees_small : (a : Allowed) (xs : List ℕ) (n : ℕ) → length xs ≡ n → ((d : ℕ) → (1 ≤ d) × (d ≤ n) → IsIn a (item xs d)) → AllByRecursion (λ m. m < 256) xs
 degrees_small a xs n long each = all_from_members (λ m. m < 256) xs (λ x there.
@@ -45,7 +45,7 @@ small_code q s valid member =
     let most = valid.chambers.1 in
     let table = wanted.symbol.table in
     all-append (λ m. m < 256) (flat_map (images s) (count_from 1 s.size) ++ s.m01) s.m12
-        (all-append (λ m. m < 256) (flat_map (images s) (count_from 1 s.size)) s.m01
-          (images_small s 1 s.size table.involutions (omega arith) (omega arith) (omega arith))
-          (degrees_small q.faces s.m01 s.size table.m01_length wanted.faces))
-        (degrees_small q.degrees s.m12 s.size table.m12_length wanted.degrees)
+    (all-append (λ m. m < 256) (flat_map (images s) (count_from 1 s.size)) s.m01
+    (images_small s 1 s.size table.involutions (omega arith) (omega arith) (omega arith))
+    (degrees_small q.faces s.m01 s.size table.m01_length wanted.faces))
+    (degrees_small q.degrees s.m12 s.size table.m12_length wanted.degrees)

@@ -1,31 +1,18 @@
 -- Children in the place of a job.
-use Rattle.std.proofs.Common.{◌≡◌, ◌⊎◌, ℕ, ◌+◌, List, [], ◌∷◌, ◌++◌, length, get_or, refl, sym, ap, ◌∙◌, subst, inl, inr, ⊎_elim, arith}
+use Rattle.std.proofs.Common.{◌≡◌, ℕ, ◌+◌, List, [], ◌∷◌, ◌++◌, length, refl, sym, ap, ◌∙◌, subst, ⊎_elim}
 use Rattle.std.proofs.lemmas.List.{length_push}
-use Rattle.std.proofs.lemmas.List.Elements.{Contains-append_right, Contains-append_left, Contains-append_cases}
+use Rattle.std.proofs.lemmas.List.Elements.{Contains-append_cases}
 use Rattle.std.specs.List.{Contains}
-use Rattle.dd_model.specs.Symbol.{Symbol, IsTable}
-use Rattle.dd_model.specs.Code.{code, IsBelow}
-use Rattle.dd_model.specs.Lists.{IsWithout}
-use Rattle.dd_model.specs.Position.{IsBefore, IsWhollyBefore}
-use Rattle.dd_model.specs.Wanted.{IsAscending}
-use Rattle.dd_model.specs.Jobs.{IsJobBelow, AreAscendingJobs, AreApart, AreJobsApart, IsMemberUnder, AreMembersUnder, AreChildren, extended}
-use Rattle.dd_model.specs.Joined.{IsUnderOne, IsPartBelow}
+use Rattle.dd_model.specs.Jobs.{IsJobBelow, AreAscendingJobs, AreJobsApart, AreChildren, extended}
+use Rattle.dd_model.specs.Joined.{IsPartBelow}
 use Rattle.dd_model.specs.declared.requests.Request.{Request}
 use Rattle.dd_model.specs.declared.jobs.Job.{Job}
-use Rattle.dd_model.specs.declared.jobs.Position.{Position}
-use Rattle.dd_model.proofs.Codes.{length-code}
-use Rattle.dd_model.proofs.Lists.{Contains-none, Contains-head, Contains-later, Contains-cases, each_of, all_from_members}
-use Rattle.dd_model.proofs.Orders.{not_below_itself, not_below_both, job_not_below_itself}
-use Rattle.dd_model.proofs.Ascending.{ascending-append, begins_itself, begins_append, begins_through, begins_more, same_when_whole}
-use Rattle.dd_model.proofs.Pairs.{ArePairs, pairs_append, pairs_front, pairs_back, pairs_across, ascending_pairs, pairs_ascending, part_pairs, pairs_ascending_jobs, pairs_apart}
-use Rattle.dd_model.proofs.Without.{without_there, without_kept, without_pairs}
-use Rattle.dd_model.proofs.Positions.{below_over, before_or_not, before_symbol, below_symbol, before_under, before_longer, under_before_later, under_below, under_wholly_before, part_fronts}
-use Rattle.dd_model.proofs.JoinedLists.{first_parts}
-use Rattle.dd_front.specs.Step.{at_symbol}
-use Rattle.dd_front.specs.Covered.{IsLater, IsBetween}
+use Rattle.dd_model.proofs.Lists.{Contains-head, Contains-later, each_of, all_from_members}
+use Rattle.dd_model.proofs.Orders.{job_not_below_itself}
+use Rattle.dd_model.proofs.Ascending.{begins_itself, begins_append, same_when_whole}
+use Rattle.dd_model.proofs.Pairs.{ArePairs, pairs_append, pairs_front, pairs_back, pairs_across}
+use Rattle.dd_model.proofs.Positions.{part_fronts}
 use Rattle.dd_front.specs.Absorbed.{Extends}
-use Rattle.dd_front.specs.Held.{IsPast, IsFurther, GoOn}
-use Rattle.dd_front.proofs.Standing.{inside}
 
 -- jobs that extend one job by a number each, and ascend, are apart
 pub child_pairs : (job : Job) (cs : List Job) → AreAscendingJobs cs → ((c : Job) → Contains cs c → (k : ℕ) × (c ≡ extended job k)) → ArePairs IsPartBelow cs
@@ -55,12 +42,12 @@ children_pairs q front back cs job pairs children =
     let behind : ArePairs IsPartBelow (job ∷ back) = pairs_back IsPartBelow front (job ∷ back) pairs in
     let child_of : (c : Job) → Contains cs c → Extends c job = λ c there. child_extends job c (children.extensions.extend c there) in
     pairs_append IsPartBelow front (cs ++ back)
-        (pairs_front IsPartBelow front (job ∷ back) pairs)
-        (pairs_append IsPartBelow cs back
-          (child_pairs job cs children.extensions.ascending children.extensions.extend)
-          behind.1
-          (λ c k hc hk. let e = child_of c hc in part_fronts job k c k (each_of (IsPartBelow job) back k behind.0 hk) e.size refl e.begins (begins_itself k.prefix)))
-        (λ j k hj hk. ⊎_elim
-          (λ hc. let e = child_of k hc in part_fronts j job j k (pairs_across IsPartBelow front (job ∷ back) pairs j job hj (Contains-head job back)) refl e.size (begins_itself j.prefix) e.begins)
-          (λ hb. pairs_across IsPartBelow front (job ∷ back) pairs j k hj (Contains-later job k back hb))
-          (Contains-append_cases cs back k hk))
+    (pairs_front IsPartBelow front (job ∷ back) pairs)
+    (pairs_append IsPartBelow cs back
+    (child_pairs job cs children.extensions.ascending children.extensions.extend)
+    behind.1
+    (λ c k hc hk. let e = child_of c hc in part_fronts job k c k (each_of (IsPartBelow job) back k behind.0 hk) e.size refl e.begins (begins_itself k.prefix)))
+    (λ j k hj hk. ⊎_elim
+    (λ hc. let e = child_of k hc in part_fronts j job j k (pairs_across IsPartBelow front (job ∷ back) pairs j job hj (Contains-head job back)) refl e.size (begins_itself j.prefix) e.begins)
+    (λ hb. pairs_across IsPartBelow front (job ∷ back) pairs j k hj (Contains-later job k back hb))
+    (Contains-append_cases cs back k hk))

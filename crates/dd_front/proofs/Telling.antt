@@ -1,5 +1,5 @@
 -- What tests of the entries tell of a machine.
-use Rattle.std.proofs.Common.{◌≡◌, ◌↔◌, ℕ, ◌-◌, ◌<◌, ◌≤◌, Bool, true, false, not, ◌≢◌, nat_lt, Option, Some, None, MatchOption, is_some, IsTrue, List, [], ◌∷◌, length, drop, refl, sym, ap, ◌∙◌, subst, arith}
+use Rattle.std.proofs.Common.{◌≡◌, ◌↔◌, ℕ, ◌-◌, ◌<◌, ◌≤◌, Bool, true, false, not, ◌≢◌, nat_lt, Option, Some, None, MatchOption, is_some, IsTrue, List, ◌∷◌, length, drop, refl, sym, ap, ◌∙◌, subst, arith}
 use Rattle.std.proofs.lemmas.Bool.Decides.{Decides-ltb}
 use Rattle.std.proofs.lemmas.List.{length-drop}
 use Rattle.std.specs.List.{Contains}
@@ -16,9 +16,10 @@ use Rattle.dd_front.specs.Allowed.{HasState, HasFirst, MayPart}
 use Rattle.dd_front.specs.Taken.{BeginsDone, BeginsNotDone}
 
 pub state_told : (f : Machine) (k : ℕ) (state : State) (es : List Entry) (r : Bool) → es ≡ f.entries → IsTrue r ↔ ((job : Job) × Contains es (entry_of k job state)) → IsTrue r ↔ HasState f k state
-state_told f k state es r e both =
-    ((λ yes. let there = both.0 yes in record { job = there.0; stands = subst (λ ds. Contains ds (entry_of k there.0 state)) e there.1 }),
-     (λ h. both.1 (h.job, subst (λ ds. Contains ds (entry_of k h.job state)) (sym e) h.stands)))
+state_told f k state es r e both = (
+  (λ yes. let there = both.0 yes in record { job = there.0; stands = subst (λ ds. Contains ds (entry_of k there.0 state)) e there.1 }),
+  (λ h. both.1 (h.job, subst (λ ds. Contains ds (entry_of k h.job state)) (sym e) h.stands)),
+)
 
 pub first_of : (f : Machine) (es : List Entry) (list : List Symbol) (rest : List Entry) → es ≡ f.entries → BeginsDone es list rest → HasFirst f list
 first_of f es list rest e begins = record { number = begins.number; job = begins.job; rest = rest; entries = sym e ∙ begins.entries }
@@ -40,22 +41,25 @@ pub part_told : (f : Machine) (es : List Entry) (list : List Symbol) (rest : Lis
     → before ≤ length list → IsWithout (IsBefore f.from) list (drop before list) → len ≡ length list → IsTrue (nat_lt count (len - before)) ↔ MayPart f count
 part_told f es list rest before len count e begins within without whole =
     let left : length (drop before list) ≡ len - before = simp length-drop (omega arith) in
-    let test = Decides-ltb count (len - before) in
-    ((λ yes. let less : count < len - before = test.0 yes in record { list = list; done = first_of f es list rest e begins; later = drop before list; not_before = without; more = omega arith }),
-     (λ h.
-       let same : h.list ≡ list = one_first f h.list list h.done (first_of f es list rest e begins) in
-       let later : h.later ≡ drop before list = without_unique (IsBefore f.from) list h.later (drop before list) (subst (λ ss. IsWithout (IsBefore f.from) ss h.later) same h.not_before) without in
-       let more = h.more in
-       test.1 (omega (arith, ap length later))))
+    let test = Decides-ltb count (len - before) in (
+      (λ yes. let less : count < len - before = test.0 yes in record { list = list; done = first_of f es list rest e begins; later = drop before list; not_before = without; more = omega arith }),
+      (λ h.
+          let same : h.list ≡ list = one_first f h.list list h.done (first_of f es list rest e begins) in
+          let later : h.later ≡ drop before list = without_unique (IsBefore f.from) list h.later (drop before list) (subst (λ ss. IsWithout (IsBefore f.from) ss h.later) same h.not_before) without in
+          let more = h.more in
+          test.1 (omega (arith, ap length later))),
+    )
 
 pub look_told : (f : Machine) (es : List Entry) (r : Bool) → es ≡ f.entries → IsTrue r ↔ ((e : Entry) × Contains es e × (e.state ≡ Open))
     → IsTrue (not r) ↔ ((e : Entry) → Contains f.entries e → e.state ≢ Open)
-look_told f es true e both =
-    ((λ wrong. absurd cc),
-     (λ none. let there = both.0 refl in absurd (none there.0 (subst (λ ds. Contains ds there.0) e there.1) there.2)))
-look_told f es false e both =
-    ((λ yes d there is. let wrong : false ≡ true = both.1 (d, subst (λ ds. Contains ds d) (sym e) there, is) in absurd cc),
-     (λ none. refl))
+look_told f es true e both = (
+  (λ wrong. absurd cc),
+  (λ none. let there = both.0 refl in absurd (none there.0 (subst (λ ds. Contains ds there.0) e there.1) there.2)),
+)
+look_told f es false e both = (
+  (λ yes d there is. let wrong : false ≡ true = both.1 (d, subst (λ ds. Contains ds d) (sym e) there, is) in absurd cc),
+  (λ none. refl),
+)
 
 pub emit_told : {A : Type 0} (view : A → List Symbol) (f : Machine) (es : List Entry) (found : Option A) → es ≡ f.entries
     → MatchOption found (BeginsNotDone es) (λ list. (rest : List Entry) × BeginsDone es (view list) rest) → IsTrue (is_some found) ↔ ((list : List Symbol) × HasFirst f list)

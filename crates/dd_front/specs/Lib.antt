@@ -11,3 +11,4 @@ pub mod Invariant
 pub mod Room
 pub mod Rounds
 pub mod Joining
+pub mod Shut

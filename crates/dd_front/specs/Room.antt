@@ -1,5 +1,5 @@
 -- Room for what an event adds.
-use Rattle.std.specs.Prelude.{ℕ, ◌+◌, ◌<◌, ◌^◌, List, length}
+use Rattle.std.specs.Prelude.{◌+◌, ◌<◌, ◌^◌, List, length}
 use Rattle.dd_model.specs.Symbol.{Symbol}
 use Rattle.dd_front.specs.declared.event.Event.{Event}
 use Rattle.dd_front.specs.declared.event.Event.TheVariants.{Split, Emit, Part}

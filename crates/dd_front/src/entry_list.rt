@@ -1,7 +1,8 @@
-ghost use Rattle.std.specs.Prelude.{◌≡◌, ◌+◌, ◌<◌, ◌≤◌, ◌^◌, length, IfOk, OnOk, OnErr, MatchOption};
+ghost use Rattle.std.specs.Prelude.{◌≡◌, ◌≢◌, ◌+◌, ◌<◌, ◌≤◌, ◌^◌, length, IfOk, OnOk, OnErr, MatchOption};
 
 use crate::entry::{Entry, State};
 use crate::listing::{listed, place_of};
+use crate::looking::{first_open, shut_with_state};
 use crate::members::Members;
 use dd_model::{Job, Memory};
 use std::alloc::Global;
@@ -15,25 +16,27 @@ pub struct EntryList {
     all: Vec<Entry>,
     /// How many have left.
     gone: usize,
+    /// Of those that are kept, none of the first so many is open.
+    shut: usize,
 }
 
 impl Model for EntryList {
-    ghost use Rattle.std.specs.Prelude.{◌≤◌, List, length, drop};
+    ghost use Rattle.std.specs.Prelude.{List, drop};
     ghost use Rattle.dd_front.specs.declared.entry.Entry.{Entry as Row};
 
     ghost Value = { List Row };
 
-    ghost use Rattle.dd_front.specs.Numbers.{HaveOwnNumbers};
+    ghost use Rattle.dd_front.specs.Shut.{IsEntryList};
 
     ghost view = { λ a. drop a.gone a.all.items };
 
-    ghost invariant = { λ a. (a.gone ≤ length a.all.items)
-        × HaveOwnNumbers (drop a.gone a.all.items) };
+    ghost invariant = { λ a. IsEntryList a.all.items a.gone a.shut };
 }
 
 impl EntryList {
     ghost use Rattle.dd_front.specs.Machine.{open_entries};
-    ghost use Rattle.std.specs.List.{splice};
+    ghost use Rattle.std.specs.List.{AllByRecursion, splice};
+    ghost use Rattle.dd_front.specs.Rounds.{IsFirstOpen};
     ghost use Rattle.dd_front.specs.Numbers.{HaveOwnNumbers, AreBelow};
     ghost use Rattle.dd_front.specs.Places.{with_state_at};
     ghost use Rattle.dd_front.specs.Joining.{done_with};
@@ -47,6 +50,7 @@ impl EntryList {
         Ok(EntryList {
             all: listed(alloc, 1, jobs)?,
             gone: 0,
+            shut: 0,
         })
     }
 
@@ -58,12 +62,21 @@ impl EntryList {
         &self.all[self.gone..]
     }
 
+    /// The first open entry.
+    pub fn first_open(&self) -> Option<&Entry>
+        ensures { MatchOption result (AllByRecursion (λ e. e.state ≢ State.Open) self.now)
+            (λ entry. IsFirstOpen self.now entry.now) }
+    {
+        first_open(&self.all[self.gone + self.shut..])
+    }
+
     /// Gives the entry at a place, counted from 0, another state.
     pub fn put_state(&mut self, place: usize, state: State)
         requires { place < length self.old }
         ensures { self.new ≡ with_state_at place state self.old }
     {
         let at = self.gone + place;
+        self.shut = shut_with_state(self.shut, place, &state);
         let _ = mem::replace(&mut self.all[at].state, state);
     }
 
@@ -97,12 +110,19 @@ impl EntryList {
     {
         let at = self.gone + place;
         let _ = self.all.splice(at..at + 1, entries)?;
+        self.shut = self.shut.min(place);
         Ok(())
     }
 
     /// Puts open entries for jobs, numbered from `next` on, in the place of the one of a number. The
     /// number 0 changes nothing.
-    pub fn split(&mut self, alloc: Global, number: u64, next: u64, jobs: Vec<Job>) -> Result<(), Memory>
+    pub fn split(
+        &mut self,
+        alloc: Global,
+        number: u64,
+        next: u64,
+        jobs: Vec<Job>,
+    ) -> Result<(), Memory>
         requires below { AreBelow next self.old }
         requires room { next + length jobs.items < 2 ^ 64 }
         ensures entries { OnOk result (self.new ≡ split_entries number next jobs.items self.old) }
@@ -125,6 +145,7 @@ impl EntryList {
         match mem::replace(&mut first.state, State::Out) {
             State::Done(list) => {
                 self.gone += 1;
+                self.shut = self.shut.saturating_sub(1);
                 Some(list)
             }
             other => {

@@ -1,9 +1,9 @@
-ghost use Rattle.std.specs.Prelude.{◌≡◌, ◌↔◌, IfOk, IsTrue};
+ghost use Rattle.std.specs.Prelude.{◌≡◌, ◌≢◌, ◌↔◌, IfOk, IsTrue, MatchOption};
 ghost use Rattle.dd_model.specs.Request.{IsValid};
 ghost use Rattle.dd_model.specs.Position.{IsPosition};
 ghost use Rattle.dd_model.specs.Jobs.{AreAscendingJobs, AreApart};
 
-use crate::entry::Entry;
+use crate::entry::{Entry, State};
 use crate::entry_list::EntryList;
 use crate::event::Event;
 use crate::listing::{copies_of, position_of};
@@ -36,14 +36,14 @@ impl Model for Front {
     ghost use Rattle.dd_front.specs.Invariant.{IsFront};
 
     ghost view = { λ a. record {
-        request = a.request;
-        opening = a.opening.items;
-        opened = a.opened;
-        from = a.from;
-        entries = a.entries;
-        next = a.next;
-        lines = a.lines;
-        saved = record { lines = a.saved_lines; position = a.saved_position };
+      request = a.request;
+      opening = a.opening.items;
+      opened = a.opened;
+      from = a.from;
+      entries = a.entries;
+      next = a.next;
+      lines = a.lines;
+      saved = record { lines = a.saved_lines; position = a.saved_position };
     } };
 
     ghost invariant = { λ a. IsFront a.request a.opening.items a.next a.entries };
@@ -51,7 +51,9 @@ impl Model for Front {
 
 impl Front {
     ghost use Rattle.dd_front.specs.Machine.{IsOpened, StandsAt};
+    ghost use Rattle.std.specs.List.{AllByRecursion};
     ghost use Rattle.dd_front.specs.Allowed.{IsPermitted};
+    ghost use Rattle.dd_front.specs.Rounds.{IsFirstOpen};
 
     /// A front with these jobs, all open, that goes on from a position after so many lines.
     pub fn open(
@@ -92,9 +94,8 @@ impl Front {
         match event {
             Event::Take { entry, .. } => has_open(entries, *entry),
             Event::Look { .. } => !has_some_open(entries),
-            Event::Split { entry, .. }
-            | Event::Finish { entry, .. }
-            | Event::Back { entry, .. } => *entry == 0 || has_out(entries, *entry),
+            Event::Split { entry, .. } | Event::Finish { entry, .. } | Event::Back { entry, .. } =>
+                *entry == 0 || has_out(entries, *entry),
             Event::Emit => first_list(entries).is_some(),
             Event::Part { count } => match first_list(entries) {
                 Some(list) => {
@@ -120,6 +121,15 @@ impl Front {
         ensures { result.now ≡ self.now.entries }
     {
         self.entries.as_slice()
+    }
+
+    /// The first open entry.
+    pub fn first_open(&self) -> Option<&Entry>
+        ensures { MatchOption result
+            (AllByRecursion (λ e. e.state ≢ State.Open) self.now.entries)
+            (λ entry. IsFirstOpen self.now.entries entry.now) }
+    {
+        self.entries.first_open()
     }
 
     /// The number of the next new entry.

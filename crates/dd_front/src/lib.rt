@@ -17,6 +17,8 @@ mod members;
 mod rounds;
 mod saving;
 mod steps;
+#[cfg(test)]
+mod tests;
 
 pub use entry::{Entry, State};
 pub use event::Event;

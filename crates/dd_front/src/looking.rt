@@ -1,4 +1,4 @@
-ghost use Rattle.std.specs.Prelude.{◌≡◌, ◌↔◌, ◌≤◌, List, length, drop, IsTrue, MatchOption};
+ghost use Rattle.std.specs.Prelude.{◌≡◌, ◌≢◌, ◌↔◌, ◌≤◌, ◌+◌, ◌<◌, ◌^◌, List, length, drop, IsTrue, MatchOption};
 ghost use Rattle.std.specs.List.{Contains, AllByRecursion};
 ghost use Rattle.dd_model.specs.Symbol.{IsSymbol};
 ghost use Rattle.dd_model.specs.Lists.{IsWithout};
@@ -7,6 +7,8 @@ ghost use Rattle.dd_model.specs.Wanted.{IsAscending};
 ghost use Rattle.dd_model.specs.declared.jobs.Job.{Job as Part};
 ghost use Rattle.dd_front.specs.declared.entry.Entry.{Entry as Row};
 ghost use Rattle.dd_front.specs.Machine.{entry_of};
+ghost use Rattle.dd_front.specs.Rounds.{IsFirstOpen};
+ghost use Rattle.dd_front.specs.Shut.{shut_with};
 ghost use Rattle.dd_front.specs.Taken.{BeginsDone, BeginsNotDone};
 
 use crate::entry::{Entry, State};
@@ -18,14 +20,31 @@ use dd_symbol::Connected;
 pub fn has_open(entries: &[Entry], number: u64) -> bool
     ensures { IsTrue result ↔ ((job : Part) × Contains entries.now (entry_of number job State.Open)) }
 {
-    entries.iter().any(|entry| entry.number == number && entry.state.is_open())
+    entries
+        .iter()
+        .any(|entry| entry.number == number && entry.state.is_open())
 }
 
 /// Whether the entry of a number is out.
 pub fn has_out(entries: &[Entry], number: u64) -> bool
     ensures { IsTrue result ↔ ((job : Part) × Contains entries.now (entry_of number job State.Out)) }
 {
-    entries.iter().any(|entry| entry.number == number && entry.state.is_out())
+    entries
+        .iter()
+        .any(|entry| entry.number == number && entry.state.is_out())
+}
+
+/// The first open entry.
+pub fn first_open(entries: &[Entry]) -> Option<&Entry>
+    ensures { MatchOption result (AllByRecursion (λ e. e.state ≢ State.Open) entries.now)
+        (λ entry. IsFirstOpen entries.now entry.now) }
+{
+    for entry in entries {
+        if entry.state.is_open() {
+            return Some(entry);
+        }
+    }
+    None
 }
 
 /// Whether some entry is open.
@@ -59,4 +78,15 @@ pub fn count_before(items: &[Connected], at: &Position) -> usize
         }
     }
     items.len()
+}
+
+/// How many of the first entries are surely not open, after the one at a place gets a state.
+pub fn shut_with_state(shut: usize, place: usize, state: &State) -> usize
+    requires { place + 1 < 2 ^ 64 }
+    ensures { result ≡ shut_with shut place state.now }
+{
+    match state {
+        State::Open => shut.min(place),
+        State::Out | State::Done(_) => if place == shut { place + 1 } else { shut }
+    }
 }

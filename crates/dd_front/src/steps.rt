@@ -54,8 +54,8 @@ impl Front {
         requires children { (number ≡ 0) ⊎ MaySplit self.old number jobs }
         requires room { self.old.next + taken_numbers number jobs < 2 ^ 64 }
         ensures entries { OnOk result (self.new ≡ record self.old {
-            entries = split_entries number self.old.next jobs self.old.entries;
-            next = self.old.next + taken_numbers number jobs;
+          entries = split_entries number self.old.next jobs self.old.entries;
+          next = self.old.next + taken_numbers number jobs;
         }) }
         ensures same { OnErr result (self.new ≡ self.old) }
     {

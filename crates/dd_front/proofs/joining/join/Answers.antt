@@ -1,19 +1,20 @@
-use Rattle.std.proofs.Common.{◌≡◌, ℕ, ◌+◌, ◌<◌, List, [], ◌∷◌, ◌++◌, length, take, sym, ap, ◌∙◌, subst, refl, arith}
+use Rattle.std.proofs.Common.{◌≡◌, [], ◌∷◌, ◌++◌, length, take, sym, ap, ◌∙◌, subst, refl, arith}
 use Rattle.std.specs.List.{AllByRecursion}
 use Rattle.std.specs.Vec.Iter.{into_iter_items}
 use Rattle.dd_front.specs.Machine.{jobs_of}
-use Rattle.dd_front.specs.Joining.{IsDone, AreBlocks, AreJoined}
+use Rattle.dd_front.specs.Joining.{IsDone}
 use Rattle.dd_front.proofs.Joins.{AreJoining, joining_start, joining_last, at_hand, step_same, step_next, none_left}
 use Rattle.dd_front.proofs.joining.join.Goals as goal
 use Rattle.dd_front.proofs.joining.join.Goals.{then-not-extends+in_ok-new+in_ok-push, else-not-extends}
 
 pub loop-entry-init : goal.loop-entry-init
 loop-entry-init c =
-    let gives = c.into_iter-entry-iterator.ensures.into_iter_gives in
-    (subst (AllByRecursion (λ e. IsDone e.state)) (sym gives.0) c.requires.done,
-     gives.1 ∙ omega (arith, ap length gives.0),
-     λ k blocks. joining_start (jobs_of (take k c.args.olds.now)) c.args.handed.items (into_iter_items c.into_iter-entry-iterator.result) c.new-lists.result.items c.new-joined.result.items
-         c.requires.some blocks gives.0 c.new-lists.ensures.items c.new-joined.ensures.items)
+    let gives = c.into_iter-entry-iterator.ensures.into_iter_gives in (
+      subst (AllByRecursion (λ e. IsDone e.state)) (sym gives.0) c.requires.done,
+      gives.1 ∙ omega (arith, ap length gives.0),
+      λ k blocks. joining_start (jobs_of (take k c.args.olds.now)) c.args.handed.items (into_iter_items c.into_iter-entry-iterator.result) c.new-lists.result.items c.new-joined.result.items
+          c.requires.some blocks gives.0 c.new-lists.ensures.items c.new-joined.ensures.items,
+    )
 
 pub bounds-olds-len : goal.bounds-olds-len
 bounds-olds-len c =
@@ -47,22 +48,23 @@ loop-entry-preserved c =
     let now = c.append.new.self.items in
     let list = c.list_of.result in
     let len : n ≡ length lists = c.len.ensures ∙ omega arith in
-    let longer : now ≡ c.if-not-extends.joined.items ++ list = c.in_ok-append.ensures.items ∙ ap (λ ss. c.if-not-extends.joined.items ++ ss) c.in_ok-into_vec.ensures in
-    ((subst (AllByRecursion (λ x. IsDone x.state)) steps.0 c.loop-entry.invariant.0).1,
-     omega (arith, c.loop-entry.invariant.1, ap length steps.0, steps.1),
-     λ k blocks.
-      let s = c.loop-entry.invariant.2 k blocks in
-      elim c.if-not-extends.branch [
-        | then-not-extends+in_ok-new+in_ok-push w ↦
-            let more : c.if-not-extends.lists.items ≡ lists ++ joined ∷ [] =
+    let longer : now ≡ c.if-not-extends.joined.items ++ list = c.in_ok-append.ensures.items ∙ ap (λ ss. c.if-not-extends.joined.items ++ ss) c.in_ok-into_vec.ensures in (
+      (subst (AllByRecursion (λ x. IsDone x.state)) steps.0 c.loop-entry.invariant.0).1,
+      omega (arith, c.loop-entry.invariant.1, ap length steps.0, steps.1),
+      λ k blocks.
+          let s = c.loop-entry.invariant.2 k blocks in
+          elim c.if-not-extends.branch [
+            | then-not-extends+in_ok-new+in_ok-push w ↦
+                let more : c.if-not-extends.lists.items ≡ lists ++ joined ∷ [] =
                 ap (λ v. v.items) w.lists-is ∙ w.in_ok-push.ensures.items ∙ ap (λ l. lists ++ l ∷ []) (w.in_ok-new.ensures ∙ ap (λ v. v.items) w.replace-whole.ensures.value) in
-            let none : c.if-not-extends.joined.items ≡ [] = ap (λ v. v.items) w.joined-is ∙ ap (λ v. v.items) w.replace-whole.ensures.after ∙ w.new.ensures.items in
-            step_next olds whole rest tail k n e d lists c.if-not-extends.lists.items joined c.if-not-extends.joined.items now list
+                let none : c.if-not-extends.joined.items ≡ [] = ap (λ v. v.items) w.joined-is ∙ ap (λ v. v.items) w.replace-whole.ensures.after ∙ w.new.ensures.items in
+                step_next olds whole rest tail k n e d lists c.if-not-extends.lists.items joined c.if-not-extends.joined.items now list
                 s steps.0 len (λ tells. let wrong = w.if-not-extends.ensures.1 tells in cc) c.list_of.ensures more none longer
-        | else-not-extends w ↦
-            step_same olds whole rest tail k n e d lists c.if-not-extends.lists.items joined c.if-not-extends.joined.items now list
+            | else-not-extends w ↦
+                step_same olds whole rest tail k n e d lists c.if-not-extends.lists.items joined c.if-not-extends.joined.items now list
                 s steps.0 len (w.if-not-extends.ensures.0 refl) c.list_of.ensures (ap (λ v. v.items) w.lists-is) (ap (λ v. v.items) w.joined-is) longer
-      ])
+          ],
+    )
 
 pub returns : goal.returns
 returns c = λ k blocks.
@@ -70,5 +72,5 @@ returns c = λ k blocks.
     let jobs = jobs_of (take k c.args.olds.now) in
     let rest : into_iter_items c.loop-entry.entry-iterator ≡ [] = none_left (into_iter_items c.loop-entry.entry-iterator) _ c.loop-entry.invariant.1 c.in-None.ensures.steps.0 in
     joining_last jobs c.args.handed.items c.loop-entry.lists.items c.push-2.new.self.items c.loop-entry.joined.items
-        (subst (λ es. AreJoining jobs c.args.handed.items es c.loop-entry.lists.items c.loop-entry.joined.items) rest s)
-        (c.in_ok-push-2.ensures.items ∙ ap (λ l. c.loop-entry.lists.items ++ l ∷ []) c.in_ok-new-2.ensures)
+    (subst (λ es. AreJoining jobs c.args.handed.items es c.loop-entry.lists.items c.loop-entry.joined.items) rest s)
+    (c.in_ok-push-2.ensures.items ∙ ap (λ l. c.loop-entry.lists.items ++ l ∷ []) c.in_ok-new-2.ensures)

@@ -4,4 +4,8 @@ use Rattle.dd_front.proofs.Replaced.{opened_own}
 use Rattle.dd_front.proofs.entry_list.EntryList.of_jobs.Goals as goal
 
 pub invariant_of-result : goal.invariant_of-result
-invariant_of-result c = (omega arith, subst HaveOwnNumbers (sym c.in_ok-listed.ensures) (opened_own 1 c.args.jobs.items (omega arith)))
+invariant_of-result c = record {
+  inside = omega arith;
+  numbers = subst HaveOwnNumbers (sym c.in_ok-listed.ensures) (opened_own 1 c.args.jobs.items (omega arith));
+  shut = record { within = omega arith; none = tt };
+}

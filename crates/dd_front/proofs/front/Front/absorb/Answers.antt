@@ -1,5 +1,5 @@
 use Rattle.std.proofs.lemmas.Bool.Decides.{Decides-eqb}
-use Rattle.std.proofs.Common.{◌≡◌, vec_len, ℕ, List, [], length, refl, sym, ap, ◌∙◌, subst, arith}
+use Rattle.std.proofs.Common.{vec_len, refl, sym, ◌∙◌, arith}
 use Rattle.dd_front.proofs.Joins.{none_left}
 use Rattle.dd_front.proofs.Rounding.{blocks_where, done_found, lists_fit, front_where, absorbs_where, absorbs_none}
 use Rattle.dd_front.proofs.front.Front.absorb.Goals as goal

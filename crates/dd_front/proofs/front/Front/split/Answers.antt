@@ -10,5 +10,5 @@ invariant_of-self-2 c =
     let next = c.self.inside.next in
     let jobs = c.into_vec-jobs.result.items in
     subst (λ n. IsFront q opening n c.split.new.self) (ap (λ n. next + n) (sym (c.len.ensures ∙ omega arith)))
-        (subst (IsFront q opening (next + length jobs)) (sym c.in_ok-split.ensures.entries)
-          (split_where c.args.number jobs c.args.jobs c.self.view_is c.into_vec-jobs.ensures c.in_ok-split.ensures.numbers c.self.invariant c.requires.children))
+    (subst (IsFront q opening (next + length jobs)) (sym c.in_ok-split.ensures.entries)
+    (split_where c.args.number jobs c.args.jobs c.self.view_is c.into_vec-jobs.ensures c.in_ok-split.ensures.numbers c.self.invariant c.requires.children))

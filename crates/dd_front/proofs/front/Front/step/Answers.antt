@@ -15,4 +15,4 @@ pub returns-in-Emit-clause-step : goal.returns-in-Emit-clause-step
 returns-in-Emit-clause-step c =
     let f = c.args.self.now in
     subst (λ e. (emitted : List Symbol) × IsStep f e c.emit.new.self emitted) (sym c.in-Emit.is)
-        (emitted_where f c.emit.new.self c.emit.result c.emit.ensures.none c.emit.ensures.members (subst (IsAllowed f) c.in-Emit.is c.requires.allowed))
+    (emitted_where f c.emit.new.self c.emit.result c.emit.ensures.none c.emit.ensures.members (subst (IsAllowed f) c.in-Emit.is c.requires.allowed))

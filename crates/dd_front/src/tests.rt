@@ -1,0 +1,124 @@
+ghost use Rattle.std.specs.Prelude.{◌≡◌, IfOk};
+
+use super::*;
+use dd_model::{Allowed, Job, Memory, Position, Prefix, Request};
+use dd_symbol::{Connected, build};
+use std::alloc::Global;
+use std::test::Fail;
+
+fn asked() -> Request {
+    Request {
+        chambers: 2,
+        tiles: 0,
+        vertices: 0,
+        faces: Allowed::least(3),
+        degrees: Allowed::least(3),
+        minimal: false,
+    }
+}
+
+fn job(alloc: Global, size: u32, numbers: &[u8]) -> Result<Job, Fail> {
+    let prefix = Prefix::from_slice(alloc, numbers)?;
+    Ok(Job { size, prefix })
+}
+
+/// A front with the one job (1; 1 1 1), after five lines.
+fn opened(alloc: Global) -> Result<Option<Front>, Fail> {
+    let request = asked();
+    if !request.is_valid() {
+        return Ok(None);
+    }
+    let mut jobs = Vec::new(alloc);
+    jobs.push(job(alloc, 1, &[1, 1, 1])?)?;
+    Ok(Some(Front::open(alloc, request, jobs, Position::End, 5)?))
+}
+
+/// Whether the event is allowed; then it is done.
+fn take(front: &mut Front, entry: u64) -> Result<bool, Fail> {
+    let event = Event::Take { worker: 1, entry };
+    if !front.allowed(&event) {
+        return Ok(false);
+    }
+    front.step(event)?;
+    Ok(true)
+}
+
+/// Whether the event is allowed; then it is done.
+fn give_back(front: &mut Front, entry: u64) -> Result<bool, Fail> {
+    let event = Event::Back { worker: 1, entry };
+    if !front.allowed(&event) {
+        return Ok(false);
+    }
+    front.step(event)?;
+    Ok(true)
+}
+
+#[test]
+fn entries_are_taken_and_given_back(rt: HostRuntime) -> Result<(), Fail> {
+    let Some(mut front) = opened(rt.alloc())? else {
+        return Ok(());
+    };
+    assert!(&rt; !front.allowed(&Event::Look { worker: 1 }));
+    assert!(&rt; take(&mut front, 1)?);
+    assert!(&rt; !take(&mut front, 1)?);
+    assert!(&rt; front.allowed(&Event::Look { worker: 1 }));
+    assert!(&rt; give_back(&mut front, 1)?);
+    assert!(&rt; front.first(3)?.len() == 1);
+    Ok(())
+}
+
+#[test]
+fn what_was_kept_comes_back(rt: HostRuntime) -> Result<(), Fail> {
+    let Some(mut front) = opened(rt.alloc())? else {
+        return Ok(());
+    };
+    front.step(Event::Save)?;
+    front.step(Event::Resume)?;
+    // The one job is wholly before the end.
+    assert!(&rt; front.entries().is_empty());
+    assert_eq!(&rt; front.next_number(), 1);
+    assert!(&rt; front.lines() == 5);
+    assert!(&rt; matches!(front.position()?, Position::End));
+    Ok(())
+}
+
+#[test]
+fn nothing_is_emitted_of_an_open_entry(rt: HostRuntime) -> Result<(), Fail> {
+    let Some(mut front) = opened(rt.alloc())? else {
+        return Ok(());
+    };
+    let none = !front.allowed(&Event::Emit) && front.emit().is_none();
+    assert!(&rt; none);
+    Ok(())
+}
+
+fn list(alloc: Global, numbers: &[u32]) -> Result<Vec<u32>, Memory>
+    ensures { IfOk result (λ list. list.items ≡ numbers.now) }
+{
+    Ok(Vec::from_slice(alloc, numbers)?)
+}
+
+/// The symbol of one chamber with both degrees 4.
+fn square(alloc: Global) -> Result<Connected, Fail> {
+    let ops = [list(alloc, &[1])?, list(alloc, &[1])?, list(alloc, &[1])?];
+    Ok(build(alloc, ops, list(alloc, &[4])?, list(alloc, &[4])?, 1)?)
+}
+
+#[test]
+fn members_are_shared_and_parted(rt: HostRuntime) -> Result<(), Fail> {
+    let alloc = rt.alloc();
+    let mut symbols = Vec::new(alloc);
+    for _ in 0..3 {
+        symbols.push(square(alloc)?)?;
+    }
+    let members = Members::new(alloc, symbols)?;
+    let mut part = members.share()?;
+    if part.len() == 3 {
+        part.skip(1);
+        part.keep(1);
+    }
+    assert_eq!(&rt; part.len(), 1);
+    assert_eq!(&rt; part.into_vec(alloc)?.len(), 1);
+    assert_eq!(&rt; members.into_vec(alloc)?.len(), 3);
+    Ok(())
+}
