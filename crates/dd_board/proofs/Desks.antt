@@ -12,7 +12,7 @@ use Rattle.dd_front.specs.Allowed.{IsAllowed}
 use Rattle.dd_front.specs.Step.{IsStep, IsNext, IsRun, out_after}
 use Rattle.dd_front.proofs.Holding.{held_first}
 use Rattle.dd_front.proofs.Runs.{run_held}
-use Rattle.dd_board.specs.Desk.{IsDesk, IsCall, first_place, DeskView}
+use Rattle.dd_board.specs.Desk.{IsDesk, IsCall, AreShort, first_place, DeskView}
 use Rattle.dd_board.specs.Calls.{Books}
 
 -- a run goes on by one event
@@ -56,6 +56,7 @@ all_more (d ∷ es) e all call = (all.0, all_more es e all.1 call)
 pub desk_more : (q : Request) (jobs : List Job) (f g : Machine) (log : List Event) (e : Event) → IsDesk q jobs f log → IsCall e → IsNext f e g []
     → IsDesk q jobs g (log ++ e ∷ [])
 desk_more q jobs f g log e desk call next = record {
+  short = desk.short;
   start = desk.start;
   opened = desk.opened;
   calls = desk.calls ++ e ∷ [];
@@ -65,11 +66,12 @@ desk_more q jobs f g log e desk call next = record {
 }
 
 -- a desk begins with a resumption
-pub desk_first : (q : Request) (jobs : List Job) (f g : Machine) → IsOpened q jobs (first_place jobs) 0 f → ((emitted : List Symbol) × IsStep f Resume g emitted)
+pub desk_first : (q : Request) (jobs : List Job) (f g : Machine) → AreShort jobs → IsOpened q jobs (first_place jobs) 0 f → ((emitted : List Symbol) × IsStep f Resume g emitted)
     → IsDesk q jobs g (Resume ∷ [])
-desk_first q jobs f g opened (emitted, step) =
+desk_first q jobs f g short opened (emitted, step) =
     let next : IsNext f Resume g emitted = record { allowed = tt; step = step } in
     record {
+      short = short;
       start = f;
       opened = opened;
       calls = [];

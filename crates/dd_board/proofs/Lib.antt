@@ -2,3 +2,4 @@ pub mod Desks
 mod Firsts
 mod Numbers
 mod Seated
+mod Shortness

@@ -22,9 +22,9 @@ none_more amount seats seat before is = let e = sum_by_push amount seats seat in
 pub sums_more : {K L S D B : Type 0} (seats : List (Seat K L S D B)) (seat : Seat K L S D B) → HaveSums seats 0 0 0 0 0 → HaveAmounts seat.shares 0 0 0 0 0
     → HaveSums (seats ++ seat ∷ []) 0 0 0 0 0
 sums_more {K} {L} {S} {D} {B} seats seat (a, b, c, d, e) (v, w, x, y, z) = (
-      none_more (λ (s : Seat K L S D B). s.shares.take.amount) seats seat a v,
-      none_more (λ (s : Seat K L S D B). s.shares.look.amount) seats seat b w,
-      none_more (λ (s : Seat K L S D B). s.shares.split.amount) seats seat c x,
-      none_more (λ (s : Seat K L S D B). s.shares.finish.amount) seats seat d y,
-      none_more (λ (s : Seat K L S D B). s.shares.back.amount) seats seat e z,
-    )
+  none_more (λ (s : Seat K L S D B). s.shares.take.amount) seats seat a v,
+  none_more (λ (s : Seat K L S D B). s.shares.look.amount) seats seat b w,
+  none_more (λ (s : Seat K L S D B). s.shares.split.amount) seats seat c x,
+  none_more (λ (s : Seat K L S D B). s.shares.finish.amount) seats seat d y,
+  none_more (λ (s : Seat K L S D B). s.shares.back.amount) seats seat e z,
+)

@@ -10,6 +10,7 @@ use Rattle.dd_front.specs.declared.event.Event.TheVariants.{Take, Look, Split, F
 use Rattle.dd_front.specs.Machine.{entry_of}
 use Rattle.dd_front.specs.Allowed.{HasState}
 use Rattle.dd_front.specs.Step.{IsNext}
+use Rattle.dd_board.specs.declared.naming.Naming.{Ghosts}
 use Rattle.dd_board.specs.declared.ticket.Taken.{Taken}
 use Rattle.dd_board.specs.declared.ticket.Taken.TheVariants.{Job as Given, Idle}
 use Rattle.dd_board.specs.Desk.{DeskView}
@@ -37,7 +38,7 @@ pub record TakesNone (worker : ℕ) (old new : DeskView) : Type 0 where
   pub none : HasNoneOpen old.machine.entries
   pub books : Books (Look worker) old new
 
-abbrev pub Takes : {N : Type 0} → ℕ → DeskView → DeskView → Taken N → Type 0
+abbrev pub Takes : {N : Type 0} {names : Ghosts N} → ℕ → DeskView → DeskView → Taken N names → Type 0
 Takes worker old new (Given ticket) = TakesFirst worker ticket.entry ticket.job old new
 Takes worker old new Idle = TakesNone worker old new
 

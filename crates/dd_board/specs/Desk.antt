@@ -1,10 +1,11 @@
 -- What a desk shows, and what holds of it at all times.
-use Rattle.std.specs.Prelude.{◌≡◌, ℕ, List, [], ◌∷◌}
+use Rattle.std.specs.Prelude.{◌≡◌, ℕ, ◌*◌, ◌≤◌, List, [], ◌∷◌, length}
 use Rattle.std.specs.List.{AllByRecursion}
 use Rattle.dd_model.specs.declared.requests.Request.{Request}
 use Rattle.dd_model.specs.declared.jobs.Job.{Job}
 use Rattle.dd_model.specs.declared.jobs.Position.{Position}
 use Rattle.dd_model.specs.declared.jobs.Position.TheVariants.{At, End}
+use Rattle.dd_front.specs.declared.entry.Entry.{Entry}
 use Rattle.dd_front.specs.declared.event.Event.{Event}
 use Rattle.dd_front.specs.declared.event.Event.TheVariants.{Take, Look, Split, Finish, Back, Emit, Part, Save, Resume}
 use Rattle.dd_front.specs.Machine.{Machine, IsOpened}
@@ -19,6 +20,18 @@ pub record DeskView : Type 0 where
 abbrev pub first_place : List Job → Position
 first_place [] = End
 first_place (job ∷ jobs) = At job
+
+-- the prefix has no more numbers than a code has images
+abbrev pub IsShort : Job → Type 0
+IsShort job = length job.prefix ≤ 3 * job.size
+
+-- each job is
+abbrev pub AreShort : List Job → Type 0
+AreShort jobs = AllByRecursion IsShort jobs
+
+-- the job of each entry is
+abbrev pub HaveShortJobs : List Entry → Type 0
+HaveShortJobs es = AllByRecursion (λ e. IsShort e.job) es
 
 -- what the calls of workers book
 abbrev pub IsCall : Event → Type 0
@@ -35,6 +48,7 @@ IsCall Resume = ⊥
 -- The log is one resumption and then calls, and it is a run of the machine from the opening of these jobs to this one. It
 -- emits nothing.
 pub record IsDesk (q : Request) (jobs : List Job) (f : Machine) (log : List Event) : Type 0 where
+  pub short : AreShort jobs
   pub start : Machine
   pub opened : IsOpened q jobs (first_place jobs) 0 start
   pub calls : List Event

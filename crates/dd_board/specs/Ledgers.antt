@@ -5,6 +5,7 @@ use Rattle.dd_front.specs.declared.event.Event.{Event}
 use Rattle.dd_front.specs.declared.event.Event.TheVariants.{Take, Look, Split, Finish, Back}
 use Rattle.dd_board.specs.declared.books.Books.{Books}
 use Rattle.dd_board.specs.declared.seat.Seat.{Seat}
+use Rattle.dd_board.specs.declared.naming.Naming.{Ghosts}
 use Rattle.dd_board.specs.declared.ticket.Taken.{Taken}
 use Rattle.dd_board.specs.declared.ticket.Taken.TheVariants.{Job as Given, Idle}
 
@@ -59,7 +60,7 @@ pub record Counts {K L S D B : Type 0} (old new : Seat K L S D B) (takes looks s
   pub more_backs : new.shares.back.amount ≡ old.shares.back.amount + backs
 
 -- a job counts as taken, and none as a look
-abbrev pub CountsTaken : {K L S D B N : Type 0} → Seat K L S D B → Seat K L S D B → Result (Taken N) Memory → Type 0
+abbrev pub CountsTaken : {K L S D B N : Type 0} {names : Ghosts N} → Seat K L S D B → Seat K L S D B → Result (Taken N names) Memory → Type 0
 CountsTaken old new (Ok (Given ticket)) = Counts old new 1 0 0 0 0
 CountsTaken old new (Ok Idle) = Counts old new 0 1 0 0 0
 CountsTaken old new (Err why) = Counts old new 0 0 0 0 0

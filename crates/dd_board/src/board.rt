@@ -1,9 +1,8 @@
 ghost use Rattle.std.specs.Prelude.{◌≡◌, ◌≤◌, ◌<◌, length, map, IfOk, IfErr};
 ghost use Rattle.dd_model.specs.Code.{count_from};
 ghost use Rattle.dd_model.specs.Request.{IsValid};
-ghost use Rattle.dd_model.specs.Position.{IsPosition};
 ghost use Rattle.dd_model.specs.Jobs.{AreAscendingJobs, AreApart, AreMembersUnder, AreChildren};
-ghost use Rattle.dd_board.specs.Desk.{first_place};
+ghost use Rattle.dd_board.specs.Desk.{AreShort};
 ghost use Rattle.dd_board.specs.Ledgers.{CountsTaken, CountsSplit, CountsFinish, CountsBack};
 ghost use Rattle.dd_board.specs.Ledgers.{takes_in, looks_in, splits_in, finishes_in, backs_in};
 ghost use Rattle.dd_board.specs.Seats.{HaveSums};
@@ -42,7 +41,7 @@ impl<N: Naming, K: Ledger, L: Ledger, S: Ledger, D: Ledger, B: Ledger> Board<N, 
         requires valid { IsValid q.now }
         requires ascending { AreAscendingJobs jobs.items }
         requires apart { AreApart jobs.items }
-        requires place { IsPosition (first_place jobs.items) }
+        requires short { AreShort jobs.items }
         requires seats { (1 ≤ seats) × (seats ≤ 64) }
         requires take { (blanks.take.name ≡ K.name) × (blanks.take.parts ≡ K.parts) × (K.parts ≡ seats) }
         requires look { (blanks.look.name ≡ L.name) × (blanks.look.parts ≡ L.parts) × (L.parts ≡ seats) }
@@ -64,11 +63,7 @@ impl<N: Naming, K: Ledger, L: Ledger, S: Ledger, D: Ledger, B: Ledger> Board<N, 
     }
 
     /// Gives out the first job that is open. Where none is, a look is booked.
-    pub fn take<R: Wait>(
-        &self,
-        rt: &R,
-        seat: &mut Seat<K, L, S, D, B>,
-    ) -> Result<Taken<N>, Memory>
+    pub fn take<R: Wait>(&self, rt: &R, seat: &mut Seat<K, L, S, D, B>) -> Result<Taken<N>, Memory>
         ensures { CountsTaken seat.old seat.new result }
     {
         self.counted.lock(rt).take(seat)

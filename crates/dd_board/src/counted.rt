@@ -23,8 +23,7 @@ pub struct Counted<N: Naming, K: Ledger, L: Ledger, S: Ledger, D: Ledger, B: Led
 }
 
 impl<N: Naming, K: Ledger, L: Ledger, S: Ledger, D: Ledger, B: Ledger> Model
-    for Counted<N, K, L, S, D, B>
-{
+    for Counted<N, K, L, S, D, B> {
     ghost use Rattle.dd_board.specs.Desk.{DeskView};
 
     ghost Value = { DeskView };
@@ -86,7 +85,11 @@ impl<N: Naming, K: Ledger, L: Ledger, S: Ledger, D: Ledger, B: Ledger> Counted<N
     }
 
     /// Gives the ticket's entry back.
-    pub fn back(&mut self, seat: &mut Seat<K, L, S, D, B>, ticket: Ticket<N>) -> Result<(), Ticket<N>>
+    pub fn back(
+        &mut self,
+        seat: &mut Seat<K, L, S, D, B>,
+        ticket: Ticket<N>,
+    ) -> Result<(), Ticket<N>>
         ensures counts { CountsBack seat.old seat.new result }
         ensures same { OnErr result (self.new ≡ self.old) }
         ensures ticket { IfErr result (λ back. back ≡ ticket) }

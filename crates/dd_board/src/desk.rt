@@ -1,13 +1,12 @@
 ghost use Rattle.std.specs.Prelude.{◌≡◌, ◌⊎◌, ◌+◌, ◌<◌, ◌^◌, [], ◌∷◌, IfOk, OnOk, OnErr, IfErr};
 ghost use Rattle.dd_model.specs.Request.{IsValid};
-ghost use Rattle.dd_model.specs.Position.{IsPosition};
 ghost use Rattle.dd_model.specs.Jobs.{AreAscendingJobs, AreApart, AreMembersUnder, AreChildren};
 ghost use Rattle.dd_front.specs.declared.event.Event.TheVariants.{Split, Finish, Resume};
 ghost use Rattle.dd_front.specs.declared.entry.State.TheVariants.{Out};
 ghost use Rattle.dd_front.specs.Allowed.{IsAllowed, HasState, MaySplit, MayFinish};
 ghost use Rattle.dd_front.specs.Step.{taken_numbers};
 ghost use Rattle.dd_front.specs.Room.{HasRoom};
-ghost use Rattle.dd_board.specs.Desk.{IsDesk, IsCall, first_place};
+ghost use Rattle.dd_board.specs.Desk.{IsDesk, IsCall, AreShort, HaveShortJobs};
 ghost use Rattle.dd_board.specs.Calls.{Books, Takes, BooksSplit, BooksFinish, BooksBack};
 ghost use Rattle.dd_board.specs.Calls.{IsNumberWhere, IsOutWith, MaySplitNow};
 
@@ -50,7 +49,7 @@ impl<N: Naming> Desk<N> {
         requires valid { IsValid request }
         requires ascending { AreAscendingJobs jobs.items }
         requires apart { AreApart jobs.items }
-        requires place { IsPosition (first_place jobs.items) }
+        requires short { AreShort jobs.items }
         ensures { IfOk result (λ desk. desk.log ≡ Resume ∷ []) }
     {
         let place = place_of_first(jobs.as_slice())?;
@@ -71,6 +70,7 @@ impl<N: Naming> Desk<N> {
         ensures same { result.now ≡ self.now.machine.entries }
         ensures desk { IsDesk N.request N.jobs self.now.machine self.now.log }
         ensures request { self.now.machine.request ≡ N.request }
+        ensures short { HaveShortJobs self.now.machine.entries }
     {
         self.front.entries()
     }

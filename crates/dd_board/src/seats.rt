@@ -40,7 +40,10 @@ pub fn all_shares<K: Ledger, L: Ledger, S: Ledger, D: Ledger, B: Ledger>(
     ensures sums { HaveSums seats.items result.take.amount result.look.amount
         result.split.amount result.finish.amount result.back.amount }
 {
-    let Seat { worker: _, mut shares } = seats.remove(0);
+    let Seat {
+        worker: _,
+        mut shares,
+    } = seats.remove(0);
     while !seats.is_empty() {
         let Seat {
             worker: _,

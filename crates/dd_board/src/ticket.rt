@@ -1,4 +1,5 @@
 ghost use Rattle.std.specs.Prelude.{◌≡◌};
+ghost use Rattle.dd_board.specs.Desk.{IsShort};
 
 use crate::naming::Naming;
 use dd_model::Job;
@@ -10,6 +11,7 @@ pub struct Ticket<N: Naming> {
     pub(crate) entry: u64,
     pub(crate) job: Job,
     pub(crate) of: PhantomData<N>,
+    ghost short: { IsShort job },
 }
 
 impl<N: Naming> Ticket<N> {
@@ -22,7 +24,8 @@ impl<N: Naming> Ticket<N> {
 
     /// The job of the entry.
     pub fn job(&self) -> &Job
-        ensures { result.now ≡ self.now.job }
+        ensures same { result.now ≡ self.now.job }
+        ensures short { IsShort self.now.job }
     {
         &self.job
     }

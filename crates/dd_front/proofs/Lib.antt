@@ -1,5 +1,5 @@
 mod Placed
-mod Replaced
+pub mod Replaced
 mod Kept
 mod Firsts
 mod Blocks

@@ -3,8 +3,10 @@ use Rattle.dd_model.specs.declared.jobs.Job.{Job}
 use Rattle.dd_model.specs.declared.requests.Request.{Request}
 use Rattle.dd_front.specs.declared.event.Event.TheVariants.{Resume}
 use Rattle.dd_front.specs.Machine.{IsOpened}
-use Rattle.dd_board.specs.Desk.{IsDesk, first_place}
+use Rattle.dd_board.specs.Desk.{IsDesk, AreShort, first_place}
+use Rattle.dd_model.specs.Position.{IsPosition}
 use Rattle.dd_board.proofs.Desks.{desk_first}
+use Rattle.dd_board.proofs.Shortness.{place_fits}
 use Rattle.dd_board.proofs.desk.Desk.open.Goals as goal
 
 pub invariant_of-result : goal.invariant_of-result
@@ -16,4 +18,8 @@ invariant_of-result g c =
     let by_place = subst (λ at. IsOpened c.args.request jobs at 0 c.in_ok-front.front) place by_jobs in
     let opened : IsOpened q jobs (first_place jobs) 0 c.in_ok-front.front = subst (λ r. IsOpened r jobs (first_place jobs) 0 c.in_ok-front.front) c.requires.request by_place in
     let log : c.push.new.self.items ≡ Resume ∷ [] = c.in_ok-push.ensures.items ∙ ap (λ es. es ++ Resume ∷ []) c.new-log.ensures.items in
-    subst (IsDesk q jobs c.step.new.self) (sym log) (desk_first q jobs c.in_ok-front.front c.step.new.self opened c.in_ok-step.ensures.step)
+    subst (IsDesk q jobs c.step.new.self) (sym log) (desk_first q jobs c.in_ok-front.front c.step.new.self (subst AreShort c.requires.jobs c.requires.short) opened c.in_ok-step.ensures.step)
+
+pub open-requires-clause-position : goal.open-requires-clause-position
+open-requires-clause-position g c =
+    subst IsPosition (sym c.in_ok-place.ensures) (place_fits c.as_slice.result.now (subst AreShort (sym c.as_slice.ensures.value) c.requires.short))

@@ -21,7 +21,7 @@ returns-clause-books g c =
     let v = c.args.self.now in
     let n = c.number_to_split-entry.result in
     let number : IsNumberWhere (MaySplitNow v c.args.ticket.entry c.args.ticket.job c.args.jobs.items) c.args.ticket.entry n =
-        subst (λ js. IsNumberWhere (MaySplitNow v c.args.ticket.entry c.args.ticket.job js) c.args.ticket.entry n) c.as_slice.ensures.value c.number_to_split-entry.ensures.number in
+    subst (λ js. IsNumberWhere (MaySplitNow v c.args.ticket.entry c.args.ticket.job js) c.args.ticket.entry n) c.as_slice.ensures.value c.number_to_split-entry.ensures.number in
     let whole : Books (Split c.args.worker n c.args.jobs.items) v c.book_split.new.self → BooksSplit c.args.worker c.args.ticket.entry c.args.ticket.job c.args.jobs.items v c.book_split.new.self =
-        λ books. record { number = n; is = number; books = books } in
+    λ books. record { number = n; is = number; books = books } in
     search rules
