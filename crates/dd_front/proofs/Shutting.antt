@@ -1,13 +1,12 @@
 -- Entries before which none is open.
-use Rattle.std.proofs.Common.{◌≡◌, ◌≢◌, ◌⊎◌, ℕ, zero, suc, ◌+◌, ◌-◌, ◌<◌, ◌≤◌, min, Bool, true, false, cond, nat_eq, Option, Some, None, MatchOption, List, [], ◌∷◌, ◌++◌, length, get_or, set, take, drop, refl, sym, ap, ◌∙◌, subst, ⊎_elim, arith}
+use Rattle.std.proofs.Common.{◌≡◌, ◌≢◌, ℕ, zero, suc, ◌+◌, ◌-◌, ◌<◌, ◌≤◌, min, cond, nat_eq, Option, Some, None, MatchOption, List, [], ◌∷◌, ◌++◌, length, get_or, set, take, drop, refl, sym, ap, ◌∙◌, subst, ⊎_elim, arith}
 use Rattle.std.proofs.lemmas.Bool.Decides.{eqb_tells}
-use Rattle.std.proofs.lemmas.List.{take-append-le, take-append-drop, append_assoc, length-append, length-take, length-take-le, length-drop, length-set, drop_more, drop-set-lt}
-use Rattle.std.specs.List.{AllByRecursion, splice}
+use Rattle.std.proofs.lemmas.List.{take-append-le, take-append-drop, append_assoc, length-append, length-take-le, length-set, drop_more, drop-set-lt}
+use Rattle.std.specs.List.{splice}
 use Rattle.dd_model.proofs.Ascending.{all-append}
 use Rattle.dd_front.specs.declared.entry.Entry.{Entry}
 use Rattle.dd_front.specs.declared.entry.State.{State}
 use Rattle.dd_front.specs.declared.entry.State.TheVariants.{Open, Out, Done}
-use Rattle.dd_front.specs.Machine.{entry_of}
 use Rattle.dd_front.specs.Places.{with_state_at}
 use Rattle.dd_front.specs.Rounds.{IsFirstOpen}
 use Rattle.dd_front.specs.Shut.{AreShut, IsShutTo, IsEntryList, shut_with}
@@ -47,17 +46,17 @@ shut_more (suc i) state (e ∷ es) not h = (h.0, shut_more i state es not h.1)
 shut_by : (shut i : ℕ) (state : State) (es : List Entry) → state ≢ Open → i < length es → IsShutTo shut es → IsShutTo (cond (nat_eq i shut) (i + 1) shut) (with_state_at i state es)
 shut_by shut i state es not low is = ⊎_elim
     (λ yes.
-      let here : i ≡ shut = yes.1 in
-      let one : suc i ≡ i + 1 = omega arith in
-      let length_is = length-with_state i state es in
-      subst (λ b. IsShutTo (cond b (i + 1) shut) (with_state_at i state es)) (sym yes.0) (record {
-        within = omega arith;
-        none = subst (λ n. AreShut (take n (with_state_at i state es))) one (shut_more i state es not (subst (λ n. AreShut (take n es)) (sym here) is.none));
-      }))
+    let here : i ≡ shut = yes.1 in
+    let one : suc i ≡ i + 1 = omega arith in
+    let length_is = length-with_state i state es in
+    subst (λ b. IsShutTo (cond b (i + 1) shut) (with_state_at i state es)) (sym yes.0) (record {
+      within = omega arith;
+      none = subst (λ n. AreShut (take n (with_state_at i state es))) one (shut_more i state es not (subst (λ n. AreShut (take n es)) (sym here) is.none));
+    }))
     (λ other.
-      let within = is.within in
-      let length_is = length-with_state i state es in
-      subst (λ b. IsShutTo (cond b (i + 1) shut) (with_state_at i state es)) (sym other.0) (record { within = omega arith; none = shut_kept shut i state es not is.none }))
+    let within = is.within in
+    let length_is = length-with_state i state es in
+    subst (λ b. IsShutTo (cond b (i + 1) shut) (with_state_at i state es)) (sym other.0) (record { within = omega arith; none = shut_kept shut i state es not is.none }))
     (eqb_tells i shut)
 
 pub shut_put : (shut i : ℕ) (state : State) (es : List Entry) → i < length es → IsShutTo shut es → IsShutTo (shut_with shut i state) (with_state_at i state es)

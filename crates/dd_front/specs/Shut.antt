@@ -1,5 +1,5 @@
 -- Entries before which none is open, so that the first open one is found at once.
-use Rattle.std.specs.Prelude.{◌≡◌, ◌≢◌, ℕ, ◌+◌, ◌≤◌, min, cond, nat_eq, List, length, take, drop}
+use Rattle.std.specs.Prelude.{◌≢◌, ℕ, ◌+◌, ◌≤◌, min, cond, nat_eq, List, length, take, drop}
 use Rattle.std.specs.List.{AllByRecursion}
 use Rattle.dd_front.specs.declared.entry.Entry.{Entry}
 use Rattle.dd_front.specs.declared.entry.State.{State}

@@ -47,13 +47,6 @@ pub fn first_open(entries: &[Entry]) -> Option<&Entry>
     None
 }
 
-/// Whether some entry is open.
-pub fn has_some_open(entries: &[Entry]) -> bool
-    ensures { IsTrue result ↔ ((e : Row) × Contains entries.now e × (e.state ≡ State.Open)) }
-{
-    entries.iter().any(|entry| entry.state.is_open())
-}
-
 /// The list of the first entry, where it is done.
 pub fn first_list(entries: &[Entry]) -> Option<&Members>
     ensures { MatchOption result (BeginsNotDone entries.now)

@@ -1,4 +1,4 @@
-use Rattle.std.proofs.Common.{◌≡◌, ◌+◌, sym, ◌∙◌, subst}
+use Rattle.std.proofs.Common.{sym, subst}
 use Rattle.dd_front.specs.Places.{with_state_at}
 use Rattle.dd_front.specs.Shut.{IsShutTo}
 use Rattle.dd_front.proofs.Kept.{written_in, written_kept}
@@ -13,7 +13,7 @@ invariant_of-self c =
     let es = c.args.self.now in
     let place = c.args.place in
     let both = written_kept all gone place es c.args.state c.replace.new.dest c.index_mut.result.now
-        c.index_mut.ensures.value c.replace.ensures.after c.self.view_is c.requires c.self.invariant.inside c.self.invariant.numbers in
+    c.index_mut.ensures.value c.replace.ensures.after c.self.view_is c.requires c.self.invariant.inside c.self.invariant.numbers in
     let now = written_in all gone place es c.args.state c.replace.new.dest c.index_mut.result.now c.index_mut.ensures.value c.replace.ensures.after c.self.view_is c.requires in
     record {
       inside = both.0;
@@ -26,4 +26,4 @@ pub returns : goal.returns
 returns c =
     let all = c.self.inside.all.items in
     written_in all c.self.inside.gone c.args.place c.args.self.now c.args.state c.replace.new.dest c.index_mut.result.now
-        c.index_mut.ensures.value c.replace.ensures.after c.self.view_is c.requires
+    c.index_mut.ensures.value c.replace.ensures.after c.self.view_is c.requires
