@@ -105,7 +105,8 @@ impl EntryList {
     fn replace(&mut self, place: usize, entries: Vec<Entry>) -> Result<(), Memory>
         requires place { place < length self.old }
         requires numbers { HaveOwnNumbers (splice self.old place (place + 1) entries.items) }
-        ensures entries { OnOk result (self.new ≡ splice self.old place (place + 1) entries.items) }
+        ensures entries { OnOk result
+            (self.new ≡ splice self.old place (place + 1) entries.items) }
         ensures same { OnErr result (self.new ≡ self.old) }
     {
         let at = self.gone + place;

@@ -18,7 +18,8 @@ use dd_symbol::Connected;
 
 /// Whether the entry of a number is open.
 pub fn has_open(entries: &[Entry], number: u64) -> bool
-    ensures { IsTrue result ↔ ((job : Part) × Contains entries.now (entry_of number job State.Open)) }
+    ensures { IsTrue result
+        ↔ ((job : Part) × Contains entries.now (entry_of number job State.Open)) }
 {
     entries
         .iter()
@@ -27,7 +28,8 @@ pub fn has_open(entries: &[Entry], number: u64) -> bool
 
 /// Whether the entry of a number is out.
 pub fn has_out(entries: &[Entry], number: u64) -> bool
-    ensures { IsTrue result ↔ ((job : Part) × Contains entries.now (entry_of number job State.Out)) }
+    ensures { IsTrue result
+        ↔ ((job : Part) × Contains entries.now (entry_of number job State.Out)) }
 {
     entries
         .iter()
