@@ -2,7 +2,6 @@ use Rattle.std.proofs.Common.{sym, subst}
 use Rattle.dd_front.specs.Places.{with_state_at}
 use Rattle.dd_front.specs.Shut.{IsShutTo}
 use Rattle.dd_front.proofs.Kept.{written_in, written_kept}
-use Rattle.dd_front.proofs.Shutting.{shut_put}
 use Rattle.dd_front.proofs.entry_list.EntryList.put_state.Goals as goal
 
 pub invariant_of-self : goal.invariant_of-self
@@ -18,8 +17,8 @@ invariant_of-self c =
     record {
       inside = both.0;
       numbers = both.1;
-      shut = subst (IsShutTo c.shut_with_state-self-inside.result) (sym now)
-          (subst (λ n. IsShutTo n (with_state_at place c.args.state es)) (sym c.shut_with_state-self-inside.ensures) (shut_put shut place c.args.state es c.requires (subst (IsShutTo shut) c.self.view_is c.self.invariant.shut)));
+      shut = subst (IsShutTo c.shut_after-self-inside.result) (sym now)
+          (subst (λ ds. IsShutTo c.shut_after-self-inside.result (with_state_at place c.args.state ds)) c.as_slice.ensures.entries c.shut_after-self-inside.ensures);
     }
 
 pub returns : goal.returns
