@@ -1,5 +1,5 @@
 pub mod Lists
-pub mod Differing
+pub mod SmallerPlaces
 pub mod CountFrom
 pub mod Numbers
 pub mod Fields
