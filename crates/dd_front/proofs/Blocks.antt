@@ -1,8 +1,9 @@
 -- Entries that come from jobs which ascend and are apart stand in blocks, one for each job.
-use Rattle.std.proofs.Common.{◌≡◌, ◌≢◌, ◌⊎◌, List, [], ◌∷◌, ◌++◌, refl, sym, ap, ◌∙◌, subst, inl, inr, ⊎_elim}
+use Rattle.std.proofs.Common.{ℕ, ◌≡◌, ◌≢◌, ◌⊎◌, List, [], ◌∷◌, ◌++◌, refl, sym, ap, ◌∙◌, subst, inl, inr, ⊎_elim}
 use Rattle.std.proofs.lemmas.Bool.{cases_eq}
 use Rattle.std.proofs.lemmas.List.Elements.{Contains-append_right, Contains-append_cases}
 use Rattle.std.specs.List.{AllByRecursion, Contains}
+
 use Rattle.dd_model.specs.Jobs.{IsJobBelow, AreAscendingJobs}
 use Rattle.dd_model.specs.Joined.{IsPartBelow}
 use Rattle.dd_model.specs.declared.jobs.Job.{Job}

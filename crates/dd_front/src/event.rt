@@ -5,9 +5,14 @@ use crate::members::Members;
 #[derive(Drop)]
 pub enum Event {
     /// A worker takes an open entry.
-    Take { worker: u32, entry: u64 },
+    Take {
+        worker: u32,
+        entry: u64,
+    },
     /// A worker finds no open entry.
-    Look { worker: u32 },
+    Look {
+        worker: u32,
+    },
     /// The entry becomes open ones for these jobs.
     Split {
         worker: u32,
@@ -21,11 +26,16 @@ pub enum Event {
         list: Members,
     },
     /// The entry is open again.
-    Back { worker: u32, entry: u64 },
+    Back {
+        worker: u32,
+        entry: u64,
+    },
     /// The first entry leaves, and its members are emitted.
     Emit,
     /// The first so many members of the first entry are emitted.
-    Part { count: u64 },
+    Part {
+        count: u64,
+    },
     /// The lines and the position are kept.
     Save,
     /// The front goes back to what was kept.

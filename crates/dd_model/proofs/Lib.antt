@@ -1,5 +1,5 @@
 pub mod Lists
-pub mod Differing
+pub mod SmallerPlaces
 pub mod CountFrom
 pub mod Numbers
 pub mod Fields
@@ -55,4 +55,3 @@ pub mod Positions
 pub mod Pairs
 pub mod Without
 pub mod JoinedLists
-pub mod FirstPlaces

@@ -1,7 +1,7 @@
 use Rattle.std.proofs.Common.{◌≡◌, ◌<◌, ◌≤◌, ◌⊎◌, length, get_or, sym, ◌∙◌, inl, inr, ⊎_elim, arith}
 use Rattle.std.proofs.lemmas.Bool.{cases_lt, ltb-true, lt-ltb}
 use Rattle.dd_model.specs.Code.{code}
-use Rattle.dd_model.proofs.FirstPlaces.{smaller_after, smaller_here, not_smaller_past}
+use Rattle.dd_model.proofs.SmallerPlaces.{smaller_after, smaller_here, not_smaller_past}
 use Rattle.dd_symbol.specs.Table.{symbol_of}
 use Rattle.dd_symbol.proofs.TableLemmas.{length-code_of}
 use Rattle.dd_symbol.proofs.table.Table.is_smaller_where_they_differ.Goals as goal

@@ -1,6 +1,6 @@
 use Rattle.std.proofs.Common.{◌↔◌}
 use Rattle.dd_model.specs.Code.{code}
-use Rattle.dd_model.proofs.FirstPlaces.{SmallerFrom}
+use Rattle.dd_model.proofs.SmallerPlaces.{SmallerFrom}
 use Rattle.dd_symbol.specs.Table.{symbol_of}
 use Rattle.dd_symbol.proofs.table.Table.is_smaller_where_they_differ.Given as goal
 
