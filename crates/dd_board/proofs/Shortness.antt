@@ -19,7 +19,6 @@ use Rattle.dd_front.specs.Allowed.{IsAllowed, MaySplit}
 use Rattle.dd_front.specs.Step.{IsNext, IsRun, with_state, split_entries, out_after}
 use Rattle.dd_front.proofs.Replaced.{all_replaced}
 use Rattle.dd_board.specs.Desk.{IsDesk, IsShort, AreShort, HaveShortJobs, first_place}
-use Rattle.dd_board.specs.Calls.{IsFirstOpen}
 
 pub place_fits : (jobs : List Job) → AreShort jobs → IsPosition (first_place jobs)
 place_fits [] all = tt
@@ -83,9 +82,3 @@ desk_short q jobs f log desk =
     let opening = subst AreShort (sym desk.opened.opening) desk.short in
     let entries = subst HaveShortJobs (sym desk.opened.entries) (opened_short 1 jobs desk.short) in
     (run_short desk.start f [] [] log desk.run (record { opening = opening; entries = entries })).entries
-
--- so has the first entry that is open
-pub first_short : (es : List Entry) (k : ℕ) (job : Job) → HaveShortJobs es → IsFirstOpen es k job → IsShort job
-first_short [] k job all first = absurd first
-first_short (e ∷ es) k job all (inl same) = subst IsShort (ap (λ (d : Entry). d.job) same) all.0
-first_short (e ∷ es) k job all (inr later) = first_short es k job all.1 later.1

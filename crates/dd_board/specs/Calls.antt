@@ -1,6 +1,6 @@
 -- What the calls of workers do to a desk.
 use Rattle.std.specs.Prelude.{◌≡◌, ◌≢◌, ◌⊎◌, ℕ, ◌+◌, ◌<◌, ◌^◌, List, [], ◌∷◌, ◌++◌, length}
-use Rattle.std.specs.List.{Contains}
+use Rattle.std.specs.List.{AllByRecursion, Contains}
 use Rattle.dd_model.specs.Symbol.{Symbol}
 use Rattle.dd_model.specs.declared.jobs.Job.{Job}
 use Rattle.dd_front.specs.declared.entry.Entry.{Entry}
@@ -9,6 +9,7 @@ use Rattle.dd_front.specs.declared.event.Event.{Event}
 use Rattle.dd_front.specs.declared.event.Event.TheVariants.{Take, Look, Split, Finish, Back}
 use Rattle.dd_front.specs.Machine.{entry_of}
 use Rattle.dd_front.specs.Allowed.{HasState}
+use Rattle.dd_front.specs.Rounds.{IsFirstOpen}
 use Rattle.dd_front.specs.Step.{IsNext}
 use Rattle.dd_board.specs.declared.naming.Naming.{Ghosts}
 use Rattle.dd_board.specs.declared.ticket.Taken.{Taken}
@@ -20,22 +21,14 @@ pub record Books (event : Event) (old new : DeskView) : Type 0 where
   pub log : new.log ≡ old.log ++ event ∷ []
   pub next : IsNext old.machine event new.machine []
 
--- the first entry that is open has this number and this job
-abbrev pub IsFirstOpen : List Entry → ℕ → Job → Type 0
-IsFirstOpen [] k job = ⊥
-IsFirstOpen (e ∷ es) k job = (e ≡ entry_of k job Open) ⊎ ((e.state ≢ Open) × IsFirstOpen es k job)
-
-abbrev pub HasNoneOpen : List Entry → Type 0
-HasNoneOpen es = (e : Entry) → Contains es e → e.state ≢ Open
-
--- the first entry that was open is given out
+-- the first entry that was open had this number and this job, and is given out
 pub record TakesFirst (worker k : ℕ) (job : Job) (old new : DeskView) : Type 0 where
-  pub first : IsFirstOpen old.machine.entries k job
+  pub first : IsFirstOpen old.machine.entries (entry_of k job Open)
   pub books : Books (Take worker k) old new
 
 -- none was open
 pub record TakesNone (worker : ℕ) (old new : DeskView) : Type 0 where
-  pub none : HasNoneOpen old.machine.entries
+  pub none : AllByRecursion (λ e. e.state ≢ Open) old.machine.entries
   pub books : Books (Look worker) old new
 
 abbrev pub Takes : {N : Type 0} {names : Ghosts N} → ℕ → DeskView → DeskView → Taken N names → Type 0

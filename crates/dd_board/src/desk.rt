@@ -1,20 +1,22 @@
-ghost use Rattle.std.specs.Prelude.{◌≡◌, ◌⊎◌, ◌+◌, ◌<◌, ◌^◌, [], ◌∷◌, IfOk, OnOk, OnErr, IfErr};
+ghost use Rattle.std.specs.Prelude.{◌≡◌, ◌≢◌, ◌⊎◌, ◌+◌, ◌<◌, ◌^◌, [], ◌∷◌, IfOk, OnOk, OnErr, IfErr, IfSome, MatchOption};
 ghost use Rattle.dd_model.specs.Request.{IsValid};
 ghost use Rattle.dd_model.specs.Jobs.{AreAscendingJobs, AreApart, AreMembersUnder, AreChildren};
 ghost use Rattle.dd_front.specs.declared.event.Event.TheVariants.{Split, Finish, Resume};
-ghost use Rattle.dd_front.specs.declared.entry.State.TheVariants.{Out};
+ghost use Rattle.dd_front.specs.declared.entry.State.TheVariants.{Open, Out};
 ghost use Rattle.dd_front.specs.Allowed.{IsAllowed, HasState, MaySplit, MayFinish};
 ghost use Rattle.dd_front.specs.Step.{taken_numbers};
 ghost use Rattle.dd_front.specs.Room.{HasRoom};
-ghost use Rattle.dd_board.specs.Desk.{IsDesk, IsCall, AreShort, HaveShortJobs};
+ghost use Rattle.dd_front.specs.Rounds.{IsFirstOpen};
+ghost use Rattle.std.specs.List.{AllByRecursion};
+ghost use Rattle.dd_board.specs.Desk.{IsDesk, IsCall, IsShort, AreShort, HaveShortJobs};
 ghost use Rattle.dd_board.specs.Calls.{Books, Takes, BooksSplit, BooksFinish, BooksBack};
 ghost use Rattle.dd_board.specs.Calls.{IsNumberWhere, IsOutWith, MaySplitNow};
 
 use crate::copies::copy_of;
-use crate::looking::{first_open, has_out, has_out_with, place_of_first};
+use crate::looking::{has_out_with, place_of_first};
 use crate::naming::Naming;
 use crate::ticket::{Taken, Ticket};
-use dd_front::{Entry, Event, Front, JobList, Members};
+use dd_front::{Entry, Event, Front, JobList, Members, has_out};
 use dd_model::{Job, Memory, Request};
 use dd_symbol::Connected;
 use std::alloc::Global;
@@ -82,6 +84,16 @@ impl<N: Naming> Desk<N> {
         self.log.as_slice()
     }
 
+    /// The first entry that is open.
+    fn first_open(&self) -> Option<&Entry>
+        ensures first { MatchOption result
+            (AllByRecursion (λ e. e.state ≢ Open) self.now.machine.entries)
+            (λ entry. IsFirstOpen self.now.machine.entries entry.now) }
+        ensures short { IfSome result (λ entry. IsShort entry.now.job) }
+    {
+        self.front.first_open()
+    }
+
     // Does an event of a worker and puts it into the log. After `Err` the desk is as before.
     fn book(&mut self, event: Event) -> Result<(), Memory>
         requires allowed { IsAllowed self.old.machine event }
@@ -103,7 +115,7 @@ impl<N: Naming> Desk<N> {
         ensures takes { IfOk result (Takes worker self.old self.new) }
         ensures same { OnErr result (self.new ≡ self.old) }
     {
-        let Some(first) = first_open(self.entries()) else {
+        let Some(first) = self.first_open() else {
             self.book(Event::Look { worker })?;
             return Ok(Taken::Idle);
         };

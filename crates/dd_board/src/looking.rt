@@ -1,10 +1,8 @@
-ghost use Rattle.std.specs.Prelude.{◌≡◌, ◌↔◌, IfOk, IsTrue, MatchOption};
+ghost use Rattle.std.specs.Prelude.{◌≡◌, ◌↔◌, IfOk, IsTrue};
 ghost use Rattle.std.specs.List.{Contains};
-ghost use Rattle.dd_model.specs.declared.jobs.Job.{Job as Part};
 ghost use Rattle.dd_model.specs.declared.jobs.Position.TheVariants.{At, End};
 ghost use Rattle.dd_front.specs.Machine.{entry_of};
 ghost use Rattle.dd_board.specs.Desk.{first_place};
-ghost use Rattle.dd_board.specs.Calls.{IsFirstOpen, HasNoneOpen};
 
 use dd_front::{Entry, State};
 use dd_model::{Job, Memory, Position};
@@ -14,29 +12,6 @@ fn is_same(job: &Job, other: &Job) -> bool
     ensures { IsTrue result ↔ (job.now ≡ other.now) }
 {
     job.size == other.size && job.prefix.as_slice() == other.prefix.as_slice()
-}
-
-/// The first entry that is open.
-pub fn first_open(entries: &[Entry]) -> Option<&Entry>
-    ensures { MatchOption result
-        (HasNoneOpen entries.now)
-        (λ e. IsFirstOpen entries.now e.now.number e.now.job) }
-{
-    for entry in entries {
-        if entry.state.is_open() {
-            return Some(entry);
-        }
-    }
-    None
-}
-
-/// Whether the entry of a number is out.
-pub fn has_out(entries: &[Entry], number: u64) -> bool
-    ensures { IsTrue result ↔ ((job : Part) × Contains entries.now (entry_of number job State.Out)) }
-{
-    entries
-        .iter()
-        .any(|entry| entry.number == number && entry.state.is_out())
 }
 
 /// Whether the entry of a number is out with this job.
