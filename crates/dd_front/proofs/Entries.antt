@@ -4,7 +4,7 @@ use Rattle.std.proofs.lemmas.Bool.{eq-eqb, ne_eqb, cond-true, cond-false}
 use Rattle.std.proofs.lemmas.List.{map-append}
 use Rattle.std.proofs.lemmas.List.Elements.{Contains-append_right, Contains-append_left, Contains-append_cases}
 use Rattle.std.specs.Prelude.{nat_eq}
-use Rattle.std.specs.List.{AllByRecursion, Contains}
+use Rattle.std.specs.List.{Contains}
 use Rattle.dd_model.specs.Symbol.{Symbol}
 use Rattle.dd_model.specs.declared.requests.Request.{Request}
 use Rattle.dd_model.specs.declared.jobs.Job.{Job}
@@ -14,6 +14,7 @@ use Rattle.dd_front.specs.declared.entry.Entry.{Entry}
 use Rattle.dd_front.specs.declared.entry.State.TheVariants.{Open, Out, Done}
 use Rattle.dd_front.specs.Machine.{entry_of, open_entries, jobs_of}
 use Rattle.dd_front.specs.Step.{replaced}
+use Rattle.dd_front.proofs.Replaced.{none_replaced}
 use Rattle.dd_front.specs.Held.{AreDistinct, AreNumbered, AreFound}
 
 abbrev pub Differ : Entry → Entry → Type 0
@@ -79,11 +80,6 @@ opened_found q k jobs e there list done = absurd (open_not_done list (sym (opene
 
 -- ## Entries in the place of one
 
-replaced_none : (k : ℕ) (new : Entry → List Entry) (es : List Entry) → AllByRecursion (λ e. e.number ≢ k) es → replaced k new es ≡ es
-replaced_none k new [] none = refl
-replaced_none k new (e ∷ es) none =
-    ap (λ front. front ++ replaced k new es) (cond-false (nat_eq e.number k) (new e) (e ∷ []) (ne_eqb e.number k none.0)) ∙ ap (λ rest. e ∷ rest) (replaced_none k new es none.1)
-
 -- where an entry stands, and what stands there instead
 pub record IsInPlace (k : ℕ) (new : Entry → List Entry) (es : List Entry) (e : Entry) : Type 0 where
   pub front : List Entry
@@ -103,7 +99,7 @@ in_place k new (x ∷ xs) e distinct there number =
       before = ap (λ y. y ∷ xs) first;
       after =
           ap (λ ys. ys ++ replaced k new xs) (cond-true (nat_eq x.number k) (new x) (x ∷ []) (eq-eqb x.number k same))
-          ∙ ap (λ ys. new x ++ ys) (replaced_none k new xs (all_from_members (λ y. y.number ≢ k) xs (λ y hy is. each_of (λ other. x.number ≢ other.number) xs y distinct.0 hy (same ∙ sym is))))
+          ∙ ap (λ ys. new x ++ ys) (none_replaced k new xs (all_from_members (λ y. y.number ≢ k) xs (λ y hy is. each_of (λ other. x.number ≢ other.number) xs y distinct.0 hy (same ∙ sym is))))
           ∙ ap (λ y. new y ++ xs) first;
     })
     (λ later.

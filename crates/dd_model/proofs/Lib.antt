@@ -55,3 +55,4 @@ pub mod Positions
 pub mod Pairs
 pub mod Without
 pub mod JoinedLists
+pub mod Differing

@@ -25,7 +25,7 @@ pub without_none : {A : Type 0} (P : A → Type 0) (xs : List A) → AllByRecurs
 without_none P [] h = tt
 without_none P (x ∷ xs) h = inr (h.0, refl, without_none P xs h.1)
 
-without_first : {A : Type 0} (P : A → Type 0) (x : A) (xs ys : List A) → P x → IsWithout P xs ys → IsWithout P (x ∷ xs) ys
+pub without_first : {A : Type 0} (P : A → Type 0) (x : A) (xs ys : List A) → P x → IsWithout P xs ys → IsWithout P (x ∷ xs) ys
 without_first P x xs [] holds is = (holds, is)
 without_first P x xs (y ∷ ys) holds is = inl (holds, is)
 
