@@ -20,7 +20,7 @@ use Rattle.dd_front.specs.Machine.{Machine, entry_of, jobs_of}
 use Rattle.dd_front.specs.Absorbed.{Extends, IsFound, list_of, found_by, ComeFrom, MayAbsorb, AreAbsorbed, Absorbs}
 use Rattle.dd_front.specs.Held.{AreNumbered, AreFound, GoOn, IsHeld}
 use Rattle.dd_front.proofs.Standing.{under_extended}
-use Rattle.dd_front.proofs.Entries.{Differ, distinct_pairs, pairs_distinct}
+use Rattle.dd_front.proofs.Entries.{Differ, done_once, distinct_pairs, pairs_distinct}
 use Rattle.dd_front.proofs.Events.{held_with}
 
 found_by-append : (xs ys : List Entry) → found_by (xs ++ ys) ≡ found_by xs ++ found_by ys
@@ -79,9 +79,6 @@ not_under_both : (q : Request) (job : Job) (jobs : List Job) (s : Symbol) → Ar
 not_under_both q job jobs s pairs under other =
     not_below_itself s (under_below q job other.job s s (each_of (IsPartBelow job) jobs other.job pairs.0 other.listed) under other.under)
 
-same_list : (a b : List Symbol) → Done a ≡ Done b → a ≡ b
-same_list a b e = cc
-
 -- each of the round's entries is done with what is under its job
 absorbed_found : (q : Request) (olds es done : List Entry) → AllByRecursion (IsFound q) es → ArePairs IsBelow (found_by es) → ArePairs IsPartBelow (jobs_of olds)
     → ((s : Symbol) → IsUnderOne q (jobs_of olds) s → Contains (found_by es) s) → AreAbsorbed olds es done → AreFound q done
@@ -111,7 +108,7 @@ absorbed_found q (a ∷ olds) es (b ∷ bs) found order parts complete are e the
     ⊎_elim
     (λ first.
     let entry : entry_of a.number a.job (Done (found_by own)) ≡ e = sym are.4 ∙ first in
-    let lists : found_by own ≡ list = same_list (found_by own) list (ap (λ (x : Entry). x.state) entry ∙ is) in
+    let lists : found_by own ≡ list = done_once (found_by own) list (ap (λ (x : Entry). x.state) entry ∙ is) in
     subst (λ (x : Entry). AreMembersUnder q x.job list) entry (subst (AreMembersUnder q a.job) lists mine))
     (λ later. absorbed_found q olds rest bs rest_found (pairs_back IsBelow (found_by own) (found_by rest) orders) parts.1
     (λ s under. ⊎_elim

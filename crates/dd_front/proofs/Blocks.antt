@@ -1,15 +1,17 @@
 -- Entries that come from jobs which ascend and are apart stand in blocks, one for each job.
-use Rattle.std.proofs.Common.{◌≡◌, ◌≢◌, ◌⊎◌, List, [], ◌∷◌, ◌++◌, refl, sym, ap, ◌∙◌, subst, inl, inr, ⊎_elim}
+use Rattle.std.proofs.Common.{ℕ, ◌≡◌, ◌≢◌, ◌⊎◌, List, [], ◌∷◌, ◌++◌, refl, sym, ap, ◌∙◌, subst, inl, inr, ⊎_elim}
 use Rattle.std.proofs.lemmas.Bool.{cases_eq}
 use Rattle.std.proofs.lemmas.List.Elements.{Contains-append_right, Contains-append_cases}
 use Rattle.std.specs.List.{AllByRecursion, Contains}
+use Rattle.dd_model.specs.Lists.{Begins}
 use Rattle.dd_model.specs.Jobs.{IsJobBelow, AreAscendingJobs}
 use Rattle.dd_model.specs.Joined.{IsPartBelow}
 use Rattle.dd_model.specs.declared.jobs.Job.{Job}
 use Rattle.dd_model.proofs.Lists.{Contains-none, Contains-head, Contains-later, Contains-cases, each_of, all_from_members}
 use Rattle.dd_model.proofs.Orders.{job_cmp_total, job_not_below_itself}
 use Rattle.dd_model.proofs.Pairs.{ArePairs}
-use Rattle.dd_model.proofs.Positions.{begins_or_not, one_begins, part_fronts}
+use Rattle.dd_model.proofs.Differing.{begins_or_not}
+use Rattle.dd_model.proofs.Positions.{part_fronts}
 use Rattle.dd_front.specs.declared.entry.Entry.{Entry}
 use Rattle.dd_front.specs.Machine.{jobs_of}
 use Rattle.dd_front.specs.Absorbed.{Extends}
@@ -20,6 +22,13 @@ extends_or_not child job = ⊎_elim
     (λ size. ⊎_elim (λ begins. inl (record { size = size; begins = begins })) (λ differs. inr (λ e. differs e.begins)) (begins_or_not job.prefix child.prefix))
     (λ differs. inr (λ e. differs e.size))
     (cases_eq child.size job.size)
+
+-- of two lists with which one begins, one begins the other
+one_begins : (xs ys zs : List ℕ) → Begins xs zs → Begins ys zs → Begins xs ys ⊎ Begins ys xs
+one_begins [] ys zs a b = inl tt
+one_begins (x ∷ xs) [] zs a b = inr tt
+one_begins (x ∷ xs) (y ∷ ys) [] a b = absurd a
+one_begins (x ∷ xs) (y ∷ ys) (z ∷ zs) a b = ⊎_elim (λ h. inl (a.0 ∙ sym b.0, h)) (λ h. inr (b.0 ∙ sym a.0, h)) (one_begins xs ys zs a.1 b.1)
 
 -- one job does not extend two that are apart
 not_of_both : (j k child : Job) → IsPartBelow j k → Extends child j → Extends child k → ⊥

@@ -11,7 +11,7 @@ use Rattle.dd_model.specs.declared.jobs.Job.{Job}
 use Rattle.dd_model.proofs.Lists.{Contains-none, Contains-head, Contains-later, Contains-cases, Contains-one, each_of, all_from_members}
 use Rattle.dd_model.proofs.Pairs.{ArePairs, pairs_append, pairs_front, pairs_back, pairs_across}
 use Rattle.dd_front.specs.declared.entry.Entry.{Entry}
-use Rattle.dd_front.specs.declared.entry.State.TheVariants.{Open, Done}
+use Rattle.dd_front.specs.declared.entry.State.TheVariants.{Open, Out, Done}
 use Rattle.dd_front.specs.Machine.{entry_of, open_entries, jobs_of}
 use Rattle.dd_front.specs.Step.{replaced}
 use Rattle.dd_front.specs.Held.{AreDistinct, AreNumbered, AreFound}
@@ -65,12 +65,17 @@ opened_numbered jobs = record {
   distinct = pairs_distinct (open_entries 1 jobs) (opened_differ 1 jobs);
 }
 
--- an open entry is not done
+pub open_not_done : (list : List Symbol) → Open ≡ Done list → ⊥
+open_not_done list e = cc
+
+pub out_not_done : (list : List Symbol) → Out ≡ Done list → ⊥
+out_not_done list e = cc
+
+pub done_once : (a b : List Symbol) → Done a ≡ Done b → a ≡ b
+done_once a b e = cc
+
 pub opened_found : (q : Request) (k : ℕ) (jobs : List Job) → AreFound q (open_entries k jobs)
-opened_found q k jobs e there list done = absurd (let e = (opened_entry k jobs e there).is_open in open_not_done list (sym e ∙ done))
-  where
-    open_not_done : (list : List Symbol) → Open ≡ Done list → ⊥
-    open_not_done list e = cc
+opened_found q k jobs e there list done = absurd (open_not_done list (sym (opened_entry k jobs e there).is_open ∙ done))
 
 -- ## Entries in the place of one
 

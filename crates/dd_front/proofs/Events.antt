@@ -23,7 +23,7 @@ use Rattle.dd_front.specs.Allowed.{HasState, HasFirst, MaySplit, MayFinish}
 use Rattle.dd_front.specs.Step.{with_state, split_entries, taken_numbers, at_symbol, Emits, EmitsPart, Saves, Resumes, IsNext, out_after}
 use Rattle.dd_front.specs.Held.{AreNumbered, AreFound, GoOn, IsSaved, IsHeld}
 use Rattle.dd_front.proofs.GoingOn.{go_on_split, go_on_emit, go_on_part, go_on_again}
-use Rattle.dd_front.proofs.Entries.{in_place, jobs_opened, opened_numbered, opened_found, opened_in_place, one_numbered, middle_found, jobs_middle}
+use Rattle.dd_front.proofs.Entries.{open_not_done, out_not_done, done_once, in_place, jobs_opened, opened_numbered, opened_found, opened_in_place, one_numbered, middle_found, jobs_middle}
 use Rattle.dd_front.proofs.Holding.{saved_where_it_stands, saved_stays}
 
 -- ## Events that emit nothing
@@ -65,25 +65,16 @@ held_in_state q jobs at f out k old new has held under =
     subst (λ es. IsHeld q jobs at (record f { entries = es }) out) (sym place.after)
     (held_with q jobs at f out after f.next held numbered found (subst (λ js. GoOn q jobs at js f.from out) same held.go_on))
 
-not_done_open : (list : List Symbol) → Open ≡ Done list → ⊥
-not_done_open list e = cc
-
-not_done_out : (list : List Symbol) → Out ≡ Done list → ⊥
-not_done_out list e = cc
-
-same_list : (a b : List Symbol) → Done a ≡ Done b → a ≡ b
-same_list a b e = cc
-
 held_taken : (q : Request) (jobs : List Job) (at : Position) (f : Machine) (out : List Symbol) (k : ℕ) → HasState f k Open → IsHeld q jobs at f out → IsHeld q jobs at (record f { entries = with_state k Out f.entries }) out
 held_taken q jobs at f out zero has held = held
-held_taken q jobs at f out (suc k) has held = held_in_state q jobs at f out k Open Out has held (λ list done. absurd (not_done_out list done))
+held_taken q jobs at f out (suc k) has held = held_in_state q jobs at f out k Open Out has held (λ list done. absurd (out_not_done list done))
 
 held_back : (q : Request) (jobs : List Job) (at : Position) (f : Machine) (out : List Symbol) (k : ℕ) → (k ≡ 0) ⊎ HasState f k Out → IsHeld q jobs at f out → IsHeld q jobs at (record f { entries = with_state k Open f.entries }) out
 held_back q jobs at f out zero may held = held
 held_back q jobs at f out (suc k) may held =
     ⊎_elim
     (λ none. absurd (omega arith))
-    (λ has. held_in_state q jobs at f out k Out Open has held (λ list done. absurd (not_done_open list done)))
+    (λ has. held_in_state q jobs at f out k Out Open has held (λ list done. absurd (open_not_done list done)))
     may
 
 held_finished : (q : Request) (jobs : List Job) (at : Position) (f : Machine) (out : List Symbol) (k : ℕ) (list : List Symbol) → (k ≡ 0) ⊎ MayFinish f k list → IsHeld q jobs at f out
@@ -93,7 +84,7 @@ held_finished q jobs at f out (suc k) list may held =
     ⊎_elim
     (λ none. absurd (omega arith))
     (λ finish. held_in_state q jobs at f out k Out (Done list) finish.out held (λ other done.
-    subst (AreMembersUnder q finish.out.job) (same_list list other done) (subst (λ r. AreMembersUnder r finish.out.job list) held.request finish.under)))
+    subst (AreMembersUnder q finish.out.job) (done_once list other done) (subst (λ r. AreMembersUnder r finish.out.job list) held.request finish.under)))
     may
 
 -- ## A split

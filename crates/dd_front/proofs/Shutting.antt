@@ -1,16 +1,14 @@
 -- Entries before which none is open.
-use Rattle.std.proofs.Common.{◌≡◌, ◌≢◌, ◌⊎◌, ℕ, zero, suc, ◌+◌, ◌-◌, ◌<◌, ◌≤◌, min, Bool, true, false, cond, nat_eq, Option, Some, None, MatchOption, List, [], ◌∷◌, ◌++◌, length, get_or, set, take, drop, refl, sym, ap, ◌∙◌, subst, ⊎_elim, arith}
-use Rattle.std.proofs.lemmas.Bool.Decides.{eqb_tells}
-use Rattle.std.proofs.lemmas.List.{take-append-le, take-append-drop, append_assoc, length-append, length-take, length-take-le, length-drop, length-set, drop_more, drop-set-lt}
-use Rattle.std.specs.List.{AllByRecursion, splice}
+use Rattle.std.proofs.Common.{◌≡◌, ◌≢◌, ℕ, zero, suc, ◌+◌, ◌-◌, ◌<◌, ◌≤◌, min, Bool, true, false, not, is_some, Option, Some, None, MatchOption, List, [], ◌∷◌, ◌++◌, length, get_or, set, take, drop, refl, sym, ap, ◌∙◌, subst, arith}
+use Rattle.std.proofs.lemmas.List.{take-append-le, take-append-drop, append_assoc, length-append, length-take-le, length-set, drop_more, drop-set-lt}
+use Rattle.std.specs.List.{splice}
 use Rattle.dd_model.proofs.Ascending.{all-append}
 use Rattle.dd_front.specs.declared.entry.Entry.{Entry}
 use Rattle.dd_front.specs.declared.entry.State.{State}
-use Rattle.dd_front.specs.declared.entry.State.TheVariants.{Open, Out, Done}
-use Rattle.dd_front.specs.Machine.{entry_of}
+use Rattle.dd_front.specs.declared.entry.State.TheVariants.{Open}
 use Rattle.dd_front.specs.Places.{with_state_at}
 use Rattle.dd_front.specs.Rounds.{IsFirstOpen}
-use Rattle.dd_front.specs.Shut.{AreShut, IsShutTo, IsEntryList, shut_with}
+use Rattle.dd_front.specs.Shut.{AreShut, IsShutTo, IsEntryList}
 use Rattle.dd_front.specs.Numbers.{HaveOwnNumbers}
 
 length-with_state : (i : ℕ) (state : State) (es : List Entry) → length (with_state_at i state es) ≡ length es
@@ -32,6 +30,11 @@ shut_before zero i state (e ∷ es) low h = tt
 shut_before (suc n) zero state (e ∷ es) low h = absurd (omega arith)
 shut_before (suc n) (suc i) state (e ∷ es) low h = (h.0, shut_before n i state es (omega arith) h.1)
 
+-- nothing was found
+pub none_found : {A : Type 0} (Found : A → Type 0) (found : Option A) (none : Bool) (es : List Entry) → MatchOption found (AreShut es) Found → is_some found ≡ not none → none ≡ true → AreShut es
+none_found Found None none es told is found_none = told
+none_found Found (Some a) none es told is found_none = absurd (let wrong : true ≡ false = is ∙ ap not found_none in cc)
+
 -- a state that is not open keeps what is shut, and shuts one more
 shut_kept : (n i : ℕ) (state : State) (es : List Entry) → state ≢ Open → AreShut (take n es) → AreShut (take n (with_state_at i state es))
 shut_kept n i state [] not h = h
@@ -44,29 +47,36 @@ shut_more i state [] not h = tt
 shut_more zero state (e ∷ es) not h = (not, tt)
 shut_more (suc i) state (e ∷ es) not h = (h.0, shut_more i state es not h.1)
 
-shut_by : (shut i : ℕ) (state : State) (es : List Entry) → state ≢ Open → i < length es → IsShutTo shut es → IsShutTo (cond (nat_eq i shut) (i + 1) shut) (with_state_at i state es)
-shut_by shut i state es not low is = ⊎_elim
-    (λ yes.
-      let here : i ≡ shut = yes.1 in
-      let one : suc i ≡ i + 1 = omega arith in
-      let length_is = length-with_state i state es in
-      subst (λ b. IsShutTo (cond b (i + 1) shut) (with_state_at i state es)) (sym yes.0) (record {
-        within = omega arith;
-        none = subst (λ n. AreShut (take n (with_state_at i state es))) one (shut_more i state es not (subst (λ n. AreShut (take n es)) (sym here) is.none));
-      }))
-    (λ other.
-      let within = is.within in
-      let length_is = length-with_state i state es in
-      subst (λ b. IsShutTo (cond b (i + 1) shut) (with_state_at i state es)) (sym other.0) (record { within = omega arith; none = shut_kept shut i state es not is.none }))
-    (eqb_tells i shut)
-
-pub shut_put : (shut i : ℕ) (state : State) (es : List Entry) → i < length es → IsShutTo shut es → IsShutTo (shut_with shut i state) (with_state_at i state es)
-shut_put shut i Open es low is =
+pub put_any : (shut i : ℕ) (state : State) (es : List Entry) → i < length es → IsShutTo shut es → IsShutTo (min shut i) (with_state_at i state es)
+put_any shut i state es low is =
     let within = is.within in
-    let length_is = length-with_state i Open es in
-    record { within = omega arith; none = shut_before (min shut i) i Open es (omega arith) (shut_fewer (min shut i) shut es (omega arith) is.none) }
-shut_put shut i Out es low is = shut_by shut i Out es (λ e. cc) low is
-shut_put shut i (Done list) es low is = shut_by shut i (Done list) es (λ e. cc) low is
+    let length_is = length-with_state i state es in
+    record { within = omega arith; none = shut_before (min shut i) i state es (omega arith) (shut_fewer (min shut i) shut es (omega arith) is.none) }
+
+pub put_shut : (shut i : ℕ) (state : State) (es : List Entry) → state ≢ Open → IsShutTo shut es → IsShutTo shut (with_state_at i state es)
+put_shut shut i state es not is =
+    let within = is.within in
+    let length_is = length-with_state i state es in
+    record { within = omega arith; none = shut_kept shut i state es not is.none }
+
+-- those up to a place and those from there to another
+through : (shut i : ℕ) (es : List Entry) → shut ≤ i → AreShut (take shut es) → AreShut (take (i - shut) (drop shut es)) → AreShut (take i es)
+through zero i es low first next = let same : i - 0 ≡ i = omega arith in subst (λ n. AreShut (take n es)) same next
+through (suc shut) zero es low first next = tt
+through (suc shut) (suc i) [] low first next = tt
+through (suc shut) (suc i) (e ∷ es) low first next =
+    let less : suc i - suc shut ≡ i - shut = omega arith in
+    (first.0, through shut i es (omega arith) first.1 (subst (λ n. AreShut (take n (drop shut es))) less next))
+
+pub put_next : (shut i : ℕ) (state : State) (es left : List Entry) → state ≢ Open → shut ≤ i → i < length es → IsShutTo shut es → left ≡ take (i - shut) (drop shut es) → AreShut left
+    → IsShutTo (i + 1) (with_state_at i state es)
+put_next shut i state es left not reach low is part none =
+    let length_is = length-with_state i state es in
+    let one : suc i ≡ i + 1 = omega arith in
+    record {
+      within = omega arith;
+      none = subst (λ n. AreShut (take n (with_state_at i state es))) one (shut_more i state es not (through shut i es reach is.none (subst AreShut part none)));
+    }
 
 pub shut_spliced : (shut i : ℕ) (es new : List Entry) → i < length es → IsShutTo shut es → IsShutTo (min shut i) (splice es i (i + 1) new)
 shut_spliced shut i es new low is =

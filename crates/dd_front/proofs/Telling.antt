@@ -7,7 +7,11 @@ use Rattle.dd_model.specs.Symbol.{Symbol}
 use Rattle.dd_model.specs.Lists.{IsWithout}
 use Rattle.dd_model.specs.Position.{IsBefore}
 use Rattle.dd_model.specs.declared.jobs.Job.{Job}
+use Rattle.std.proofs.lemmas.List.Elements.{Contains-append_right}
+use Rattle.dd_model.proofs.Lists.{Contains-head, each_of}
 use Rattle.dd_model.proofs.Without.{without_unique}
+use Rattle.dd_front.specs.Rounds.{IsFirstOpen}
+use Rattle.dd_front.specs.Shut.{AreShut}
 use Rattle.dd_front.specs.declared.entry.Entry.{Entry}
 use Rattle.dd_front.specs.declared.entry.State.{State}
 use Rattle.dd_front.specs.declared.entry.State.TheVariants.{Open, Done}
@@ -50,15 +54,17 @@ part_told f es list rest before len count e begins within without whole =
           test.1 (omega (arith, ap length later))),
     )
 
-pub look_told : (f : Machine) (es : List Entry) (r : Bool) → es ≡ f.entries → IsTrue r ↔ ((e : Entry) × Contains es e × (e.state ≡ Open))
-    → IsTrue (not r) ↔ ((e : Entry) → Contains f.entries e → e.state ≢ Open)
-look_told f es true e both = (
+pub look_told : {A : Type 0} (view : A → Entry) (f : Machine) (es : List Entry) (found : Option A) (r : Bool) → es ≡ f.entries → MatchOption found (AreShut es) (λ a. IsFirstOpen es (view a)) → is_some found ≡ not r
+    → IsTrue r ↔ ((e : Entry) → Contains f.entries e → e.state ≢ Open)
+look_told view f es None true e told is =
+    ((λ yes d there waits. each_of (λ x. x.state ≢ Open) es d told (subst (λ ds. Contains ds d) (sym e) there) waits), (λ none. refl))
+look_told view f es None false e told is = absurd cc
+look_told view f es (Some a) true e told is = absurd cc
+look_told view f es (Some a) false e told is = (
   (λ wrong. absurd cc),
-  (λ none. let there = both.0 refl in absurd (none there.0 (subst (λ ds. Contains ds there.0) e there.1) there.2)),
-)
-look_told f es false e both = (
-  (λ yes d there is. let wrong : false ≡ true = both.1 (d, subst (λ ds. Contains ds d) (sym e) there, is) in absurd cc),
-  (λ none. refl),
+  (λ none.
+      let there : Contains es (view a) = subst (λ ds. Contains ds (view a)) (sym told.parts) (Contains-append_right told.before (view a ∷ told.after) (view a) (Contains-head (view a) told.after)) in
+      absurd (none (view a) (subst (λ ds. Contains ds (view a)) e there) told.waits)),
 )
 
 pub emit_told : {A : Type 0} (view : A → List Symbol) (f : Machine) (es : List Entry) (found : Option A) → es ≡ f.entries

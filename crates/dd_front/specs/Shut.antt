@@ -1,9 +1,8 @@
 -- Entries before which none is open, so that the first open one is found at once.
-use Rattle.std.specs.Prelude.{◌≡◌, ◌≢◌, ℕ, ◌+◌, ◌≤◌, min, cond, nat_eq, List, length, take, drop}
+use Rattle.std.specs.Prelude.{◌≢◌, ℕ, ◌≤◌, List, length, take, drop}
 use Rattle.std.specs.List.{AllByRecursion}
 use Rattle.dd_front.specs.declared.entry.Entry.{Entry}
-use Rattle.dd_front.specs.declared.entry.State.{State}
-use Rattle.dd_front.specs.declared.entry.State.TheVariants.{Open, Out, Done}
+use Rattle.dd_front.specs.declared.entry.State.TheVariants.{Open}
 use Rattle.dd_front.specs.Numbers.{HaveOwnNumbers}
 
 -- none of them is open
@@ -14,12 +13,6 @@ AreShut es = AllByRecursion (λ e. e.state ≢ Open) es
 pub record IsShutTo (shut : ℕ) (es : List Entry) : Type 0 where
   pub within : shut ≤ length es
   pub none : AreShut (take shut es)
-
--- how many are shut after the one at a place gets a state
-abbrev pub shut_with : ℕ → ℕ → State → ℕ
-shut_with shut place Open = min shut place
-shut_with shut place Out = cond (nat_eq place shut) (place + 1) shut
-shut_with shut place (Done list) = cond (nat_eq place shut) (place + 1) shut
 
 -- what a list of entries keeps: so many of the vector have left, and so many that follow are shut
 pub record IsEntryList (all : List Entry) (gone closed : ℕ) : Type 0 where

@@ -2,7 +2,7 @@ ghost use Rattle.std.specs.Prelude.{◌≡◌, ◌≢◌, ◌+◌, ◌<◌, ◌�
 
 use crate::entry::{Entry, State};
 use crate::listing::{listed, place_of};
-use crate::looking::{first_open, shut_with_state};
+use crate::looking::{first_open, shut_after};
 use crate::members::Members;
 use dd_model::{Job, Memory};
 use std::alloc::Global;
@@ -76,7 +76,7 @@ impl EntryList {
         ensures { self.new ≡ with_state_at place state self.old }
     {
         let at = self.gone + place;
-        self.shut = shut_with_state(self.shut, place, &state);
+        self.shut = shut_after(self.as_slice(), self.shut, place, &state);
         let _ = mem::replace(&mut self.all[at].state, state);
     }
 
@@ -105,7 +105,8 @@ impl EntryList {
     fn replace(&mut self, place: usize, entries: Vec<Entry>) -> Result<(), Memory>
         requires place { place < length self.old }
         requires numbers { HaveOwnNumbers (splice self.old place (place + 1) entries.items) }
-        ensures entries { OnOk result (self.new ≡ splice self.old place (place + 1) entries.items) }
+        ensures entries { OnOk result
+            (self.new ≡ splice self.old place (place + 1) entries.items) }
         ensures same { OnErr result (self.new ≡ self.old) }
     {
         let at = self.gone + place;

@@ -7,7 +7,7 @@ use crate::entry::{Entry, State};
 use crate::entry_list::EntryList;
 use crate::event::Event;
 use crate::listing::{copies_of, position_of};
-use crate::looking::{count_before, first_list, has_open, has_out, has_some_open};
+use crate::looking::{count_before, first_list, has_open, has_out};
 use dd_model::{Job, Memory, Position, Request};
 use std::alloc::Global;
 use std::marker::Model;
@@ -93,7 +93,7 @@ impl Front {
         let entries = self.entries.as_slice();
         match event {
             Event::Take { entry, .. } => has_open(entries, *entry),
-            Event::Look { .. } => !has_some_open(entries),
+            Event::Look { .. } => self.entries.first_open().is_none(),
             Event::Split { entry, .. } | Event::Finish { entry, .. } | Event::Back { entry, .. } =>
                 *entry == 0 || has_out(entries, *entry),
             Event::Emit => first_list(entries).is_some(),

@@ -38,15 +38,15 @@ pub fn absorbing_keeps_what_is_held()
         → IsHeld q jobs at g out }
 {}
 
-/// Where a machine is held, what it has emitted and what its entries still have are together what its
-/// opening has.
+/// What a machine has emitted and what its entries still have are together what its opening has,
+/// where all this is held.
 pub fn what_is_held_is_covered()
     ensures { (q : Request) (jobs : List Job) (at : Position) (f : Machine) (out : List Symbol)
         → IsHeld q jobs at f out → IsCovered q jobs at f out }
 {}
 
-/// After each run from an opening, what was emitted and what the entries still have are together what
-/// the opening has.
+/// After each run from an opening, what was emitted and what the entries still have are together
+/// what the opening has.
 pub fn a_run_covers_its_opening()
     ensures { (q : Request) (jobs : List Job) (at : Position) (k : ℕ) (f g : Machine)
         (es : List Event) (out : List Symbol) → IsOpened q jobs at k f → IsRun f [] es g out

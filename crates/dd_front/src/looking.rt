@@ -8,7 +8,8 @@ ghost use Rattle.dd_model.specs.declared.jobs.Job.{Job as Part};
 ghost use Rattle.dd_front.specs.declared.entry.Entry.{Entry as Row};
 ghost use Rattle.dd_front.specs.Machine.{entry_of};
 ghost use Rattle.dd_front.specs.Rounds.{IsFirstOpen};
-ghost use Rattle.dd_front.specs.Shut.{shut_with};
+ghost use Rattle.dd_front.specs.Places.{with_state_at};
+ghost use Rattle.dd_front.specs.Shut.{IsShutTo};
 ghost use Rattle.dd_front.specs.Taken.{BeginsDone, BeginsNotDone};
 
 use crate::entry::{Entry, State};
@@ -18,7 +19,8 @@ use dd_symbol::Connected;
 
 /// Whether the entry of a number is open.
 pub fn has_open(entries: &[Entry], number: u64) -> bool
-    ensures { IsTrue result ↔ ((job : Part) × Contains entries.now (entry_of number job State.Open)) }
+    ensures { IsTrue result
+        ↔ ((job : Part) × Contains entries.now (entry_of number job State.Open)) }
 {
     entries
         .iter()
@@ -27,7 +29,8 @@ pub fn has_open(entries: &[Entry], number: u64) -> bool
 
 /// Whether the entry of a number is out.
 pub fn has_out(entries: &[Entry], number: u64) -> bool
-    ensures { IsTrue result ↔ ((job : Part) × Contains entries.now (entry_of number job State.Out)) }
+    ensures { IsTrue result
+        ↔ ((job : Part) × Contains entries.now (entry_of number job State.Out)) }
 {
     entries
         .iter()
@@ -45,13 +48,6 @@ pub fn first_open(entries: &[Entry]) -> Option<&Entry>
         }
     }
     None
-}
-
-/// Whether some entry is open.
-pub fn has_some_open(entries: &[Entry]) -> bool
-    ensures { IsTrue result ↔ ((e : Row) × Contains entries.now e × (e.state ≡ State.Open)) }
-{
-    entries.iter().any(|entry| entry.state.is_open())
 }
 
 /// The list of the first entry, where it is done.
@@ -80,13 +76,18 @@ pub fn count_before(items: &[Connected], at: &Position) -> usize
     items.len()
 }
 
-/// How many of the first entries are surely not open, after the one at a place gets a state.
-pub fn shut_with_state(shut: usize, place: usize, state: &State) -> usize
-    requires { place + 1 < 2 ^ 64 }
-    ensures { result ≡ shut_with shut place state.now }
+/// How many of the first entries are not open, after the one at a place gets a state, where so many
+/// were not before: perhaps not all that there are.
+pub fn shut_after(entries: &[Entry], shut: usize, place: usize, state: &State) -> usize
+    requires shut { IsShutTo shut entries.now }
+    requires place { place < length entries.now }
+    ensures { IsShutTo result (with_state_at place state.now entries.now) }
 {
-    match state {
-        State::Open => shut.min(place),
-        State::Out | State::Done(_) => if place == shut { place + 1 } else { shut }
+    if state.is_open() {
+        return shut.min(place);
     }
+    if place >= shut && first_open(&entries[shut..place]).is_none() {
+        return place + 1;
+    }
+    shut
 }

@@ -1,5 +1,5 @@
 pub mod Lists
-pub mod Differing
+pub mod SmallerPlaces
 pub mod CountFrom
 pub mod Numbers
 pub mod Fields
@@ -50,6 +50,7 @@ pub mod WrittenLines
 pub mod WrittenNumbers
 pub mod SameInvolutions
 pub mod Ascending
+pub mod Differing
 pub mod Positions
 pub mod Pairs
 pub mod Without

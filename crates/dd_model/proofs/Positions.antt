@@ -1,14 +1,15 @@
--- Positions, jobs and symbols in order: where two lists of numbers first differ, and what follows from it.
-use Rattle.std.proofs.Common.{◌≡◌, ◌⊎◌, ℕ, ◌*◌, ◌<◌, List, [], ◌∷◌, length, refl, sym, ap, ◌∙◌, subst, inl, inr, ⊎_elim, arith}
-use Rattle.std.proofs.lemmas.Bool.{cases_lt, cases_eq}
+-- Positions, jobs and symbols in order.
+use Rattle.std.proofs.Common.{◌≡◌, ◌⊎◌, ℕ, zero, suc, ◌*◌, ◌<◌, List, [], ◌∷◌, length, get_or, take, drop, sym, ap, ◌∙◌, subst, inl, inr, ⊎_elim, arith}
+use Rattle.std.proofs.lemmas.Bool.{cases_eq}
 use Rattle.std.specs.Ordering.{nat_cmp, ordering_then}
 use Rattle.std.specs.Cmp.Lexicographic.{slice_cmp}
 use Rattle.std.specs.FinMap.{nat_cmp-IsAntisymmetric}
-use Rattle.std.specs.declared.cmp.Ordering.{Ordering}
-use Rattle.std.specs.declared.cmp.Ordering.TheVariants.{Less, Equal, Greater}
+use Rattle.std.specs.List.{AllByRecursion}
+use Rattle.std.specs.declared.cmp.Ordering.TheVariants.{Equal}
 use Rattle.dd_model.specs.Symbol.{Symbol, IsTable}
-use Rattle.dd_model.specs.Lists.{Begins, IsSmallerWhereTheyDiffer}
+use Rattle.dd_model.specs.Lists.{Begins, IsWithout}
 use Rattle.dd_model.specs.Code.{code, IsBelow}
+use Rattle.dd_model.specs.Wanted.{IsAscending}
 use Rattle.dd_model.specs.Jobs.{IsJobBelow, IsMemberUnder}
 use Rattle.dd_model.specs.Joined.{IsPartBelow}
 use Rattle.dd_model.specs.Position.{IsBefore, IsWhollyBefore, IsWithin}
@@ -16,200 +17,12 @@ use Rattle.dd_model.specs.declared.requests.Request.{Request}
 use Rattle.dd_model.specs.declared.jobs.Job.{Job}
 use Rattle.dd_model.specs.declared.jobs.Position.{Position}
 use Rattle.dd_model.specs.declared.jobs.Position.TheVariants.{At, End}
+use Rattle.dd_model.proofs.Lists.{all_from_members, each_of}
 use Rattle.dd_model.proofs.Codes.{length-code}
-use Rattle.dd_model.proofs.Orders.{nat_cmp-less, nat_cmp-same, less_number, list_not_below_itself}
-use Rattle.dd_model.proofs.Ascending.{begins_itself, same_when_whole}
-
--- ## Lists of numbers
-
-less_or_same : (a b : Ordering) → ordering_then a b ≡ Less → (a ≡ Less) ⊎ ((a ≡ Equal) × (b ≡ Less))
-less_or_same Less b e = inl refl
-less_or_same Equal b e = inr (refl, e)
-less_or_same Greater b e = absurd (cc)
-
-pub smaller_not_itself : (xs : List ℕ) → IsSmallerWhereTheyDiffer xs xs → ⊥
-smaller_not_itself [] h = h
-smaller_not_itself (x ∷ xs) (inl h) = omega (arith, h)
-smaller_not_itself (x ∷ xs) (inr h) = smaller_not_itself xs h.1
-
-pub smaller_through : (xs ys zs : List ℕ) → IsSmallerWhereTheyDiffer xs ys → IsSmallerWhereTheyDiffer ys zs → IsSmallerWhereTheyDiffer xs zs
-smaller_through [] ys zs a b = absurd a
-smaller_through (x ∷ xs) [] zs a b = absurd a
-smaller_through (x ∷ xs) (y ∷ ys) [] a b = absurd b
-smaller_through (x ∷ xs) (y ∷ ys) (z ∷ zs) (inl a) (inl b) = inl (omega (arith, a, b))
-smaller_through (x ∷ xs) (y ∷ ys) (z ∷ zs) (inl a) (inr b) = inl (subst (λ n. x < n) b.0 a)
-smaller_through (x ∷ xs) (y ∷ ys) (z ∷ zs) (inr a) (inl b) = inl (subst (λ n. n < z) (sym a.0) b)
-smaller_through (x ∷ xs) (y ∷ ys) (z ∷ zs) (inr a) (inr b) = inr (a.0 ∙ b.0, smaller_through xs ys zs a.1 b.1)
-
--- the smaller list may go on, and so may the greater
-pub smaller_fronts : (xs ys cs ds : List ℕ) → IsSmallerWhereTheyDiffer xs ys → Begins xs cs → Begins ys ds → IsSmallerWhereTheyDiffer cs ds
-smaller_fronts [] ys cs ds less bc bd = absurd less
-smaller_fronts (x ∷ xs) [] cs ds less bc bd = absurd less
-smaller_fronts (x ∷ xs) (y ∷ ys) [] ds less bc bd = absurd bc
-smaller_fronts (x ∷ xs) (y ∷ ys) (c ∷ cs) [] less bc bd = absurd bd
-smaller_fronts (x ∷ xs) (y ∷ ys) (c ∷ cs) (d ∷ ds) (inl less) bc bd = inl (subst (λ n. n < d) bc.0 (subst (λ n. x < n) bd.0 less))
-smaller_fronts (x ∷ xs) (y ∷ ys) (c ∷ cs) (d ∷ ds) (inr less) bc bd = inr (sym bc.0 ∙ less.0 ∙ bd.0, smaller_fronts xs ys cs ds less.1 bc.1 bd.1)
-
--- a list that is smaller where they differ comes before the other in a dictionary
-pub smaller_less : (xs ys : List ℕ) → IsSmallerWhereTheyDiffer xs ys → slice_cmp nat_cmp xs ys ≡ Less
-smaller_less [] ys h = absurd h
-smaller_less (x ∷ xs) [] h = absurd h
-smaller_less (x ∷ xs) (y ∷ ys) (inl h) = ap (λ o. ordering_then o (slice_cmp nat_cmp xs ys)) (nat_cmp-less x y h)
-smaller_less (x ∷ xs) (y ∷ ys) (inr h) =
-    ap (λ o. ordering_then o (slice_cmp nat_cmp xs ys)) (subst (λ z. nat_cmp x z ≡ Equal) h.0 (nat_cmp-same x)) ∙ smaller_less xs ys h.1
-
--- a list before another in a dictionary begins it, or is smaller where they differ
-pub less_smaller : (xs ys : List ℕ) → slice_cmp nat_cmp xs ys ≡ Less → Begins xs ys ⊎ IsSmallerWhereTheyDiffer xs ys
-less_smaller [] ys h = inl tt
-less_smaller (x ∷ xs) [] h = absurd (cc)
-less_smaller (x ∷ xs) (y ∷ ys) h =
-    ⊎_elim
-    (λ first. inr (inl (less_number x y first)))
-    (λ both.
-    let heads : x ≡ y = nat_cmp-IsAntisymmetric x y both.0 in
-    ⊎_elim (λ begins. inl (heads, begins)) (λ smaller. inr (inr (heads, smaller))) (less_smaller xs ys both.1))
-    (less_or_same (nat_cmp x y) (slice_cmp nat_cmp xs ys) h)
-
--- of two lists of one length the one before the other is smaller where they differ
-less_of_one_length : (xs ys : List ℕ) → length xs ≡ length ys → slice_cmp nat_cmp xs ys ≡ Less → IsSmallerWhereTheyDiffer xs ys
-less_of_one_length xs ys size h =
-    ⊎_elim
-    (λ begins. absurd (list_not_below_itself xs (subst (λ zs. slice_cmp nat_cmp xs zs ≡ Less) (same_when_whole xs ys begins size) h)))
-    (λ smaller. smaller)
-    (less_smaller xs ys h)
-
--- Of two lists of one length the one that is smaller than a third is smaller than the other, if that one is not.
-smaller_of_two : (xs ys zs : List ℕ) → length xs ≡ length ys → IsSmallerWhereTheyDiffer xs zs → ¬ IsSmallerWhereTheyDiffer ys zs → IsSmallerWhereTheyDiffer xs ys
-smaller_of_two [] ys zs size less not_less = absurd less
-smaller_of_two (x ∷ xs) [] zs size less not_less = absurd (omega arith)
-smaller_of_two (x ∷ xs) (y ∷ ys) [] size less not_less = absurd less
-smaller_of_two (x ∷ xs) (y ∷ ys) (z ∷ zs) size less not_less =
-    ⊎_elim
-    (λ lower. absurd (not_less (inl lower)))
-    (λ not_lower. ⊎_elim
-    (λ first. inl (omega arith))
-    (λ both.
-    let here = both.0 in
-    ⊎_elim
-    (λ same. inr (here ∙ sym same, smaller_of_two xs ys zs (omega arith) both.1 (λ h. not_less (inr (same, h)))))
-    (λ different. inl (omega arith))
-    (cases_eq y z))
-    less)
-    (cases_lt y z)
-
--- what is smaller than a list is smaller than one that is neither smaller than it nor begins it
-smaller_than_later : (xs ys zs : List ℕ) → IsSmallerWhereTheyDiffer xs zs → ¬ IsSmallerWhereTheyDiffer ys zs → ¬ Begins ys zs → IsSmallerWhereTheyDiffer xs ys
-smaller_than_later [] ys zs less not_less not_begins = absurd less
-smaller_than_later (x ∷ xs) [] zs less not_less not_begins = absurd (not_begins tt)
-smaller_than_later (x ∷ xs) (y ∷ ys) [] less not_less not_begins = absurd less
-smaller_than_later (x ∷ xs) (y ∷ ys) (z ∷ zs) less not_less not_begins =
-    ⊎_elim
-    (λ lower. absurd (not_less (inl lower)))
-    (λ not_lower. ⊎_elim
-    (λ first. inl (omega arith))
-    (λ both.
-    let here = both.0 in
-    ⊎_elim
-    (λ same. inr (here ∙ sym same, smaller_than_later xs ys zs both.1 (λ h. not_less (inr (same, h))) (λ h. not_begins (same, h))))
-    (λ different. inl (omega arith))
-    (cases_eq y z))
-    less)
-    (cases_lt y z)
-
-smaller_or_not : (xs ys : List ℕ) → IsSmallerWhereTheyDiffer xs ys ⊎ ¬ IsSmallerWhereTheyDiffer xs ys
-smaller_or_not [] ys = inr (λ h. h)
-smaller_or_not (x ∷ xs) [] = inr (λ h. h)
-smaller_or_not (x ∷ xs) (y ∷ ys) =
-    ⊎_elim
-    (λ lower. inl (inl lower))
-    (λ not_lower. ⊎_elim
-    (λ same. ⊎_elim
-    (λ h. inl (inr (same, h)))
-    (λ n. inr (λ h. ⊎_elim (λ lower. omega arith) (λ both. n both.1) h))
-    (smaller_or_not xs ys))
-    (λ different. inr (λ h. ⊎_elim (λ lower. omega arith) (λ both. different both.0) h))
-    (cases_eq x y))
-    (cases_lt x y)
-
-pub begins_or_not : (xs ys : List ℕ) → Begins xs ys ⊎ ¬ Begins xs ys
-begins_or_not [] ys = inl tt
-begins_or_not (x ∷ xs) [] = inr (λ h. h)
-begins_or_not (x ∷ xs) (y ∷ ys) =
-    ⊎_elim
-    (λ same. ⊎_elim (λ h. inl (same, h)) (λ n. inr (λ h. n h.1)) (begins_or_not xs ys))
-    (λ different. inr (λ h. different h.0))
-    (cases_eq x y)
-
--- two lists that begin one list: one of them begins the other
-pub one_begins : (xs ys zs : List ℕ) → Begins xs zs → Begins ys zs → Begins xs ys ⊎ Begins ys xs
-one_begins [] ys zs a b = inl tt
-one_begins (x ∷ xs) [] zs a b = inr tt
-one_begins (x ∷ xs) (y ∷ ys) [] a b = absurd a
-one_begins (x ∷ xs) (y ∷ ys) (z ∷ zs) a b =
-    ⊎_elim (λ h. inl (a.0 ∙ sym b.0, h)) (λ h. inr (b.0 ∙ sym a.0, h)) (one_begins xs ys zs a.1 b.1)
-
--- ## Sizes with lists: symbols and jobs by their codes and prefixes
-
--- of a smaller size, or of this size and smaller where the lists differ
-abbrev Comes : ℕ → List ℕ → ℕ → List ℕ → Type 0
-Comes m xs n ys = (m < n) ⊎ ((m ≡ n) × IsSmallerWhereTheyDiffer xs ys)
-
-comes_through : (m n o : ℕ) (xs ys zs : List ℕ) → Comes m xs n ys → Comes n ys o zs → Comes m xs o zs
-comes_through m n o xs ys zs (inl a) (inl b) = inl (omega (arith, a, b))
-comes_through m n o xs ys zs (inl a) (inr b) = inl (subst (λ k. m < k) b.0 a)
-comes_through m n o xs ys zs (inr a) (inl b) = inl (subst (λ k. k < o) (sym a.0) b)
-comes_through m n o xs ys zs (inr a) (inr b) = inr (a.0 ∙ b.0, smaller_through xs ys zs a.1 b.1)
-
-comes_not_itself : (n : ℕ) (xs : List ℕ) → Comes n xs n xs → ⊥
-comes_not_itself n xs (inl h) = omega (arith, h)
-comes_not_itself n xs (inr h) = smaller_not_itself xs h.1
-
-comes_fronts : (m n : ℕ) (xs ys cs ds : List ℕ) → Comes m xs n ys → Begins xs cs → Begins ys ds → Comes m cs n ds
-comes_fronts m n xs ys cs ds (inl h) bc bd = inl h
-comes_fronts m n xs ys cs ds (inr h) bc bd = inr (h.0, smaller_fronts xs ys cs ds h.1 bc bd)
-
-comes_or_not : (m n : ℕ) (xs ys : List ℕ) → Comes m xs n ys ⊎ ¬ Comes m xs n ys
-comes_or_not m n xs ys =
-    ⊎_elim
-    (λ lower. inl (inl lower))
-    (λ not_lower. ⊎_elim
-    (λ same. ⊎_elim
-    (λ h. inl (inr (same, h)))
-    (λ not. inr (λ h. ⊎_elim (λ lower. omega arith) (λ both. not both.1) h))
-    (smaller_or_not xs ys))
-    (λ different. inr (λ h. ⊎_elim (λ lower. omega arith) (λ both. different both.0) h))
-    (cases_eq m n))
-    (cases_lt m n)
-
-comes_of_two : (m n o : ℕ) (xs ys zs : List ℕ) → (m ≡ n → length xs ≡ length ys) → Comes m xs o zs → ¬ Comes n ys o zs → Comes m xs n ys
-comes_of_two m n o xs ys zs sizes comes not_comes =
-    ⊎_elim
-    (λ lower. inl lower)
-    (λ not_lower. ⊎_elim
-    (λ first. absurd (not_comes (inl (omega arith))))
-    (λ both.
-    let here = both.0 in
-    ⊎_elim
-    (λ same. inr (same, smaller_of_two xs ys zs (sizes same) both.1 (λ h. not_comes (inr (sym same ∙ here, h)))))
-    (λ different. absurd (not_comes (inl (omega arith))))
-    (cases_eq m n))
-    comes)
-    (cases_lt m n)
-
-comes_before_later : (m n o : ℕ) (xs ys zs : List ℕ) → Comes m xs o zs → ¬ Comes n ys o zs → ¬ ((n ≡ o) × Begins ys zs) → Comes m xs n ys
-comes_before_later m n o xs ys zs comes not_comes not_begins =
-    ⊎_elim
-    (λ lower. inl lower)
-    (λ not_lower. ⊎_elim
-    (λ first. absurd (not_comes (inl (omega arith))))
-    (λ both.
-    let here = both.0 in
-    ⊎_elim
-    (λ same. inr (same, smaller_than_later xs ys zs both.1 (λ h. not_comes (inr (sym same ∙ here, h))) (λ h. not_begins (sym same ∙ here, h))))
-    (λ different. absurd (not_comes (inl (omega arith))))
-    (cases_eq m n))
-    comes)
-    (cases_lt m n)
+use Rattle.dd_model.proofs.Orders.{nat_cmp-less, nat_cmp-same, less_number}
+use Rattle.dd_model.proofs.Ascending.{begins_itself}
+use Rattle.dd_model.proofs.Without.{without_drop}
+use Rattle.dd_model.proofs.Differing.{less_or_same, less_smaller, smaller_less, less_of_one_length, smaller_apart, begins_or_not, Comes, comes_through, comes_not_itself, comes_fronts, comes_or_not, comes_of_two, comes_before_later}
 
 -- ## Symbols
 
@@ -253,6 +66,20 @@ before_symbol s t is it below = below_comes s t is it below
 pub below_symbol : (s t : Symbol) → IsBefore (At (record { size = t.size; prefix = code t })) s → IsBelow s t
 below_symbol s t before = comes_below s t before
 
+-- Where the first i of an ascending list are before a position and the next one is not, the others are what is not before it.
+pub later_drop : (at : Position) (ss : List Symbol) (i : ℕ) (d : Symbol) → IsAscending ss → AllByRecursion IsTable ss → AllByRecursion (IsBefore at) (take i ss) → (i < length ss → ¬ IsBefore at (get_or ss i d))
+    → IsWithout (IsBefore at) ss (drop i ss)
+later_drop at ss i d ascending tables before next = without_drop (IsBefore at) i ss before (rest ss i ascending tables next)
+  where
+    rest : (ts : List Symbol) (k : ℕ) → IsAscending ts → AllByRecursion IsTable ts → (k < length ts → ¬ IsBefore at (get_or ts k d)) → AllByRecursion (λ t. ¬ IsBefore at t) (drop k ts)
+    rest [] zero order are not = tt
+    rest [] (suc k) order are not = tt
+    rest (t ∷ ts) zero order are not = (
+      not (omega arith),
+      all_from_members (λ u. ¬ IsBefore at u) ts (λ u there is_before. not (omega arith) (before_below at t u are.0 (each_of IsTable ts u are.1 there) (each_of (IsBelow t) ts u order.0 there) is_before)),
+    )
+    rest (t ∷ ts) (suc k) order are not = rest ts k order.1 are.1 (λ low. not (omega arith))
+
 -- ## Jobs
 
 part_comes : (j k : Job) → IsPartBelow j k → Comes j.size j.prefix k.size k.prefix
@@ -269,12 +96,6 @@ job_comes_below j k (inl h) = ap (λ o. ordering_then o (slice_cmp nat_cmp j.pre
 job_comes_below j k (inr h) =
     ap (λ o. ordering_then o (slice_cmp nat_cmp j.prefix k.prefix)) (subst (λ z. nat_cmp j.size z ≡ Equal) h.0 (nat_cmp-same j.size))
     ∙ smaller_less j.prefix k.prefix h.1
-
-smaller_apart : (xs ys : List ℕ) → IsSmallerWhereTheyDiffer xs ys → (Begins xs ys → ⊥) × (Begins ys xs → ⊥)
-smaller_apart xs ys less = (
-  (λ begins. smaller_not_itself ys (smaller_fronts xs ys ys ys less begins (begins_itself ys))),
-  (λ begins. smaller_not_itself xs (smaller_fronts xs ys xs xs less (begins_itself xs) begins)),
-)
 
 comes_part : (j k : Job) → Comes j.size j.prefix k.size k.prefix → IsPartBelow j k
 comes_part j k comes = record {

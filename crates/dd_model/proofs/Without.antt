@@ -1,5 +1,5 @@
 -- Lists without some of their members.
-use Rattle.std.proofs.Common.{◌≡◌, List, [], ◌∷◌, refl, sym, ap, ◌∙◌, subst, inl, inr, ⊎_elim}
+use Rattle.std.proofs.Common.{◌≡◌, ℕ, zero, suc, List, [], ◌∷◌, take, drop, refl, sym, ap, ◌∙◌, subst, inl, inr, ⊎_elim}
 use Rattle.std.specs.List.{AllByRecursion, Contains}
 use Rattle.dd_model.specs.Lists.{IsWithout}
 use Rattle.dd_model.proofs.Lists.{Contains-none, Contains-head, Contains-later, Contains-cases}
@@ -24,6 +24,16 @@ without_unique P (x ∷ xs) (y ∷ ys) (z ∷ zs) (inr a) (inr b) = rw (← a.1)
 pub without_none : {A : Type 0} (P : A → Type 0) (xs : List A) → AllByRecursion (λ x. ¬ P x) xs → IsWithout P xs xs
 without_none P [] h = tt
 without_none P (x ∷ xs) h = inr (h.0, refl, without_none P xs h.1)
+
+without_first : {A : Type 0} (P : A → Type 0) (x : A) (xs ys : List A) → P x → IsWithout P xs ys → IsWithout P (x ∷ xs) ys
+without_first P x xs [] holds is = (holds, is)
+without_first P x xs (y ∷ ys) holds is = inl (holds, is)
+
+-- where P holds of the first i and of no other, the others are left
+pub without_drop : {A : Type 0} (P : A → Type 0) (i : ℕ) (xs : List A) → AllByRecursion P (take i xs) → AllByRecursion (λ x. ¬ P x) (drop i xs) → IsWithout P xs (drop i xs)
+without_drop P zero xs all none = without_none P xs none
+without_drop P (suc i) [] all none = tt
+without_drop P (suc i) (x ∷ xs) all none = without_first P x xs (drop i xs) all.0 (without_drop P i xs all.1 none)
 
 -- what is left is of the list, and P does not hold there
 pub without_there : {A : Type 0} (P : A → Type 0) (xs ys : List A) (y : A) → IsWithout P xs ys → Contains ys y → Contains xs y × (P y → ⊥)

@@ -44,7 +44,7 @@ pub use least_form_laws::{
 pub use maps::Map;
 pub use memory::Memory;
 pub use pair::Pair;
-pub use position_laws::not_being_before_a_position_is_closed_upward;
+pub use position_laws::{a_position_parts_jobs, not_being_before_a_position_is_closed_upward};
 pub use reading_laws::{
     a_file_of_one_symbol, a_file_spells_one_list, comments_spell_nothing, lines_read_back,
 };

@@ -1,6 +1,6 @@
 use Rattle.std.proofs.Common.{◌≤◌, ◌<◌, ◌⊎◌, length, arith, inl, inr, ⊎_elim}
 use Rattle.std.proofs.lemmas.Bool.{cases_lt}
-use Rattle.dd_model.proofs.Differing.{not_smaller_past}
+use Rattle.dd_model.proofs.SmallerPlaces.{not_smaller_past}
 use Rattle.dd_model.proofs.before.is_smaller_where_they_differ.Goals as goal
 
 pub returns : goal.returns

@@ -1,4 +1,4 @@
-use Rattle.std.proofs.Common.{◌≡◌, ◌+◌, ◌-◌, length, drop, take, sym, ap, ◌∙◌, subst}
+use Rattle.std.proofs.Common.{◌+◌, ◌-◌, length, drop, take, sym, ap, ◌∙◌, subst}
 use Rattle.std.proofs.lemmas.List.{take_rest, drop-drop}
 use Rattle.dd_front.specs.Shut.{IsShutTo}
 use Rattle.dd_front.proofs.Shutting.{open_where}

@@ -1,8 +1,7 @@
-use Rattle.std.proofs.Common.{◌≡◌, ◌+◌, sym, ◌∙◌, subst}
+use Rattle.std.proofs.Common.{sym, subst}
 use Rattle.dd_front.specs.Places.{with_state_at}
 use Rattle.dd_front.specs.Shut.{IsShutTo}
 use Rattle.dd_front.proofs.Kept.{written_in, written_kept}
-use Rattle.dd_front.proofs.Shutting.{shut_put}
 use Rattle.dd_front.proofs.entry_list.EntryList.put_state.Goals as goal
 
 pub invariant_of-self : goal.invariant_of-self
@@ -13,17 +12,17 @@ invariant_of-self c =
     let es = c.args.self.now in
     let place = c.args.place in
     let both = written_kept all gone place es c.args.state c.replace.new.dest c.index_mut.result.now
-        c.index_mut.ensures.value c.replace.ensures.after c.self.view_is c.requires c.self.invariant.inside c.self.invariant.numbers in
+    c.index_mut.ensures.value c.replace.ensures.after c.self.view_is c.requires c.self.invariant.inside c.self.invariant.numbers in
     let now = written_in all gone place es c.args.state c.replace.new.dest c.index_mut.result.now c.index_mut.ensures.value c.replace.ensures.after c.self.view_is c.requires in
     record {
       inside = both.0;
       numbers = both.1;
-      shut = subst (IsShutTo c.shut_with_state-self-inside.result) (sym now)
-          (subst (λ n. IsShutTo n (with_state_at place c.args.state es)) (sym c.shut_with_state-self-inside.ensures) (shut_put shut place c.args.state es c.requires (subst (IsShutTo shut) c.self.view_is c.self.invariant.shut)));
+      shut = subst (IsShutTo c.shut_after-self-inside.result) (sym now)
+          (subst (λ ds. IsShutTo c.shut_after-self-inside.result (with_state_at place c.args.state ds)) c.as_slice.ensures.entries c.shut_after-self-inside.ensures);
     }
 
 pub returns : goal.returns
 returns c =
     let all = c.self.inside.all.items in
     written_in all c.self.inside.gone c.args.place c.args.self.now c.args.state c.replace.new.dest c.index_mut.result.now
-        c.index_mut.ensures.value c.replace.ensures.after c.self.view_is c.requires
+    c.index_mut.ensures.value c.replace.ensures.after c.self.view_is c.requires

@@ -35,5 +35,5 @@ invariant_of-self-2 c =
       numbers = subst HaveOwnNumbers (sym (returns-clause-entries c)) c.requires.numbers;
       shut = subst (IsShutTo c.min-self-inside.result) (sym (returns-clause-entries c))
           (subst (λ n. IsShutTo n (splice es c.args.place (c.args.place + 1) c.args.entries.items)) (sym c.min-self-inside.ensures)
-            (shut_spliced shut c.args.place es c.args.entries.items c.requires.place (subst (IsShutTo shut) c.self.view_is c.self.invariant.shut)));
+          (shut_spliced shut c.args.place es c.args.entries.items c.requires.place (subst (IsShutTo shut) c.self.view_is c.self.invariant.shut)));
     }

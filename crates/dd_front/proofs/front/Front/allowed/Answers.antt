@@ -1,4 +1,4 @@
-use Rattle.std.proofs.Common.{◌↔◌, ◌-◌, ◌≤◌, IsTrue, nat_lt, length, drop, not, sym, ap, ◌∙◌, subst}
+use Rattle.std.proofs.Common.{◌↔◌, ◌-◌, ◌≤◌, IsTrue, nat_lt, length, drop, sym, ap, ◌∙◌, subst}
 use Rattle.dd_model.specs.Lists.{IsWithout}
 use Rattle.dd_model.specs.Position.{IsBefore}
 use Rattle.dd_front.specs.declared.entry.State.TheVariants.{Open}
@@ -20,8 +20,8 @@ returns-in-Take c =
 pub returns-in-Look : goal.returns-in-Look
 returns-in-Look c =
     let f = c.args.self.now in
-    let es = c.as_slice-entries.ensures.entries ∙ ap (λ m. m.entries) c.self.view_is in
-    subst (λ e. IsTrue (not c.has_some_open.result) ↔ IsPermitted f e) (sym c.in-Look.is) (look_told f c.as_slice-entries.result.now c.has_some_open.result es c.has_some_open.ensures)
+    let told = look_told (λ e. e.now) f c.self.inside.entries c.first_open.result c.is_none.result (ap (λ m. m.entries) c.self.view_is) c.first_open.ensures c.is_none.ensures in
+    subst (λ e. IsTrue c.is_none.result ↔ IsPermitted f e) (sym c.in-Look.is) told
 
 pub returns-in-Emit : goal.returns-in-Emit
 returns-in-Emit c =

@@ -2,7 +2,7 @@ use Rattle.std.proofs.Common.{◌↔◌, IsTrue, subst}
 use Rattle.std.proofs.lemmas.Slice.Eq.{starts_is}
 use Rattle.std.proofs.lemmas.Bool.Decides.{Decides-eqb}
 use Rattle.dd_model.specs.Lists.{Begins}
-use Rattle.dd_model.proofs.Differing.{begins_by_test}
+use Rattle.dd_model.proofs.SmallerPlaces.{begins_by_test}
 use Rattle.dd_model.proofs.jobs.Job.extends.Goals as goal
 
 pub returns-then-self-other : goal.returns-then-self-other
