@@ -1,5 +1,5 @@
 -- The log of a desk is a run that goes on with each event.
-use Rattle.std.proofs.Common.{◌≡◌, ◌⊎◌, ⊎_elim, ℕ, ◌-◌, List, [], ◌∷◌, ◌++◌, take, refl, sym, ◌∙◌, ap, subst}
+use Rattle.std.proofs.Common.{◌≡◌, ◌-◌, List, [], ◌∷◌, ◌++◌, refl, sym, ◌∙◌, ap, subst}
 use Rattle.std.proofs.Math.Seq.{take-nil}
 use Rattle.std.specs.List.{AllByRecursion}
 use Rattle.dd_model.specs.Symbol.{Symbol}
@@ -12,7 +12,7 @@ use Rattle.dd_front.specs.Allowed.{IsAllowed}
 use Rattle.dd_front.specs.Step.{IsStep, IsNext, IsRun, out_after}
 use Rattle.dd_front.proofs.Holding.{held_first}
 use Rattle.dd_front.proofs.Runs.{run_held}
-use Rattle.dd_board.specs.Desk.{IsDesk, IsCall, AreShort, first_place, DeskView}
+use Rattle.dd_board.specs.Desk.{IsDesk, IsCall, AreShort, first_place}
 use Rattle.dd_board.specs.Calls.{Books}
 
 -- a run goes on by one event

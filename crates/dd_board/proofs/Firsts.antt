@@ -1,5 +1,5 @@
 -- The first entry that is open.
-use Rattle.std.proofs.Common.{◌≡◌, ◌≢◌, ℕ, List, ◌∷◌, ◌++◌, Option, Some, None, MatchOption, IfSome, sym, ap, subst}
+use Rattle.std.proofs.Common.{◌≢◌, ℕ, List, ◌∷◌, Option, Some, None, MatchOption, IfSome, sym, ap, subst}
 use Rattle.std.proofs.lemmas.List.Elements.{Contains-append_right}
 use Rattle.std.specs.List.{AllByRecursion, Contains}
 use Rattle.dd_model.proofs.Lists.{each_of, Contains-head}

@@ -1,13 +1,12 @@
 -- The number under which something is booked.
-use Rattle.std.proofs.Common.{◌≡◌, ◌⊎◌, inl, inr, ℕ, ◌+◌, ◌<◌, ◌^◌, List, length, sym, ap, subst}
+use Rattle.std.proofs.Common.{◌≡◌, ◌⊎◌, inl, inr, ℕ, List, sym, subst}
 use Rattle.dd_model.specs.Symbol.{Symbol}
 use Rattle.dd_model.specs.Jobs.{AreMembersUnder, AreChildren}
 use Rattle.dd_model.specs.declared.requests.Request.{Request}
 use Rattle.dd_model.specs.declared.jobs.Job.{Job}
 use Rattle.dd_front.specs.declared.entry.State.TheVariants.{Out}
-use Rattle.dd_front.specs.declared.event.Event.TheVariants.{Split, Finish, Back}
-use Rattle.dd_front.specs.Machine.{Machine, entry_of}
-use Rattle.dd_front.specs.Allowed.{IsAllowed, HasState, MaySplit, MayFinish}
+use Rattle.dd_front.specs.Machine.{Machine}
+use Rattle.dd_front.specs.Allowed.{HasState, MaySplit, MayFinish}
 use Rattle.dd_board.specs.Desk.{DeskView}
 use Rattle.dd_board.specs.Calls.{IsNumberWhere, IsOutWith, MaySplitNow}
 

@@ -1,7 +1,6 @@
 -- The jobs of a desk have short prefixes.
-use Rattle.std.proofs.Common.{◌≡◌, ◌⊎◌, inl, inr, ⊎_elim, ℕ, zero, suc, ◌+◌, ◌*◌, ◌<◌, ◌≤◌, List, [], ◌∷◌, ◌++◌, length, refl, sym, ◌∙◌, ap, subst, arith}
+use Rattle.std.proofs.Common.{◌≡◌, ◌⊎◌, inl, inr, ℕ, zero, suc, ◌+◌, ◌*◌, ◌<◌, List, [], ◌∷◌, length, sym, subst, arith}
 use Rattle.std.proofs.lemmas.List.{length_push}
-use Rattle.std.specs.List.{AllByRecursion, Contains}
 use Rattle.dd_model.specs.Symbol.{Symbol}
 use Rattle.dd_model.specs.Position.{IsPosition, IsWhollyBefore}
 use Rattle.dd_model.specs.Jobs.{AreChildren, extended}
@@ -15,7 +14,7 @@ use Rattle.dd_front.specs.declared.entry.State.TheVariants.{Open, Out, Done}
 use Rattle.dd_front.specs.declared.event.Event.{Event}
 use Rattle.dd_front.specs.declared.event.Event.TheVariants.{Take, Look, Split, Finish, Back, Emit, Part, Save, Resume}
 use Rattle.dd_front.specs.Machine.{Machine, entry_of, open_entries}
-use Rattle.dd_front.specs.Allowed.{IsAllowed, MaySplit}
+use Rattle.dd_front.specs.Allowed.{MaySplit}
 use Rattle.dd_front.specs.Step.{IsNext, IsRun, with_state, split_entries, out_after}
 use Rattle.dd_front.proofs.Replaced.{all_replaced}
 use Rattle.dd_board.specs.Desk.{IsDesk, IsShort, AreShort, HaveShortJobs, first_place}

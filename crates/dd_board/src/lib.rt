@@ -12,6 +12,8 @@ mod naming;
 mod seat;
 mod seats;
 mod shares;
+#[cfg(test)]
+mod tests;
 mod ticket;
 
 pub use board::Board;

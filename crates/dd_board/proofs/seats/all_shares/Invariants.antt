@@ -1,4 +1,4 @@
-use Rattle.std.proofs.Common.{◌≡◌, ◌+◌, vec_len, length, sum_by}
+use Rattle.std.proofs.Common.{◌≡◌, ◌+◌, vec_len, sum_by}
 use Rattle.dd_board.proofs.seats.all_shares.Given as goal
 
 -- what was merged, with what is left, is all

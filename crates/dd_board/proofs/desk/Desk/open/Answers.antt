@@ -1,6 +1,4 @@
-use Rattle.std.proofs.Common.{◌≡◌, List, [], ◌∷◌, ◌++◌, subst, sym, ap, ◌∙◌, refl}
-use Rattle.dd_model.specs.declared.jobs.Job.{Job}
-use Rattle.dd_model.specs.declared.requests.Request.{Request}
+use Rattle.std.proofs.Common.{◌≡◌, [], ◌∷◌, ◌++◌, subst, sym, ap, ◌∙◌}
 use Rattle.dd_front.specs.declared.event.Event.TheVariants.{Resume}
 use Rattle.dd_front.specs.Machine.{IsOpened}
 use Rattle.dd_board.specs.Desk.{IsDesk, AreShort, first_place}

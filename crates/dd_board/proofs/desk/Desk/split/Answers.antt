@@ -1,4 +1,4 @@
-use Rattle.std.proofs.Common.{◌≡◌, ◌+◌, ◌<◌, ◌^◌, subst, rules}
+use Rattle.std.proofs.Common.{◌+◌, ◌<◌, ◌^◌, subst, rules}
 use Rattle.dd_front.specs.declared.event.Event.TheVariants.{Split}
 use Rattle.dd_front.specs.Step.{taken_numbers}
 use Rattle.dd_board.specs.Calls.{Books, BooksSplit, IsNumberWhere, MaySplitNow}

@@ -1,4 +1,4 @@
-use Rattle.std.proofs.Common.{◌≡◌, subst, sym}
+use Rattle.std.proofs.Common.{subst, sym}
 use Rattle.dd_board.specs.Desk.{IsShort}
 use Rattle.dd_board.proofs.Firsts.{may_take, may_look}
 use Rattle.dd_board.proofs.desk.Desk.take.Goals as goal
