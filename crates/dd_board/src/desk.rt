@@ -5,6 +5,7 @@ ghost use Rattle.dd_front.specs.declared.event.Event.TheVariants.{Split, Finish,
 ghost use Rattle.dd_front.specs.declared.entry.State.TheVariants.{Open, Out};
 ghost use Rattle.dd_front.specs.Allowed.{IsAllowed, HasState, MaySplit, MayFinish};
 ghost use Rattle.dd_front.specs.Step.{taken_numbers};
+ghost use Rattle.dd_front.specs.Machine.{open_entries};
 ghost use Rattle.dd_front.specs.Room.{HasRoom};
 ghost use Rattle.dd_front.specs.Rounds.{IsFirstOpen};
 ghost use Rattle.std.specs.List.{AllByRecursion};
@@ -52,7 +53,9 @@ impl<N: Naming> Desk<N> {
         requires ascending { AreAscendingJobs jobs.items }
         requires apart { AreApart jobs.items }
         requires short { AreShort jobs.items }
-        ensures { IfOk result (λ desk. desk.log ≡ Resume ∷ []) }
+        ensures log { IfOk result (λ desk. desk.log ≡ Resume ∷ []) }
+        ensures entries { IfOk result
+            (λ desk. desk.machine.entries ≡ open_entries 1 jobs.items) }
     {
         let place = place_of_first(jobs.as_slice())?;
         let mut front = Front::open(alloc, request, jobs, place, 0)?;
