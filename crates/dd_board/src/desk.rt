@@ -112,8 +112,8 @@ impl<N: Naming> Desk<N> {
         Ok(())
     }
 
-    /// Gives out the first job that is open, or books that there is none. After `Err` the desk is as
-    /// before.
+    /// Gives out the first job that is open, or books that there is none. After `Err` the desk is
+    /// as before.
     pub fn take(&mut self, worker: u32) -> Result<Taken<N>, Memory>
         ensures takes { IfOk result (Takes worker self.old self.new) }
         ensures same { OnErr result (self.new ≡ self.old) }
@@ -187,9 +187,9 @@ impl<N: Naming> Desk<N> {
         })
     }
 
-    /// Puts the jobs in the place of the ticket's. Where the ticket's entry is not out with its job, or
-    /// the numbers of entries would end, number 0 is booked. `Err` comes for want of memory alone:
-    /// it has the ticket, and the desk is as before.
+    /// Puts the jobs in the place of the ticket's. Where the ticket's entry is not out with its
+    /// job, or the numbers of entries would end, number 0 is booked. `Err` comes for want of
+    /// memory alone: it has the ticket, and the desk is as before.
     pub fn split(&mut self, worker: u32, ticket: Ticket<N>, jobs: Vec<Job>) -> Result<(), Ticket<N>>
         requires { AreChildren N.request ticket.job jobs.items }
         ensures books { OnOk result
@@ -215,9 +215,9 @@ impl<N: Naming> Desk<N> {
         })
     }
 
-    /// Books what was found under the ticket's job, with number 0 where the ticket's entry is not out
-    /// with its job. `Err` comes for want of memory alone: it has the ticket, and the desk is as
-    /// before.
+    /// Books what was found under the ticket's job, with number 0 where the ticket's entry is not
+    /// out with its job. `Err` comes for want of memory alone: it has the ticket, and the desk is
+    /// as before.
     pub fn finish(
         &mut self,
         worker: u32,
@@ -234,7 +234,8 @@ impl<N: Naming> Desk<N> {
         self.book_finish(worker, entry, list).map_err(|_| ticket)
     }
 
-    /// Gives an entry back where it is out, and else books number 0. After `Err` the desk is as before.
+    /// Gives an entry back where it is out, and else books number 0. After `Err` the desk is as
+    /// before.
     pub fn back(&mut self, worker: u32, entry: u64) -> Result<(), Memory>
         ensures books { OnOk result (BooksBack worker entry self.old self.new) }
         ensures same { OnErr result (self.new ≡ self.old) }
