@@ -3,3 +3,4 @@ mod Firsts
 mod Numbers
 mod Seated
 mod Shortness
+mod Openings

@@ -20,8 +20,8 @@ use std::alloc::Global;
 use std::sync::ledger::Ledger;
 use std::sync::{Mutex, Wait};
 
-/// The desk of a round behind a lock, with a seat for each of its workers. The type parameters name the round and the
-/// five ledgers of its calls.
+/// The desk of a round behind a lock, with a seat for each of its workers. The type parameters
+/// name the round and the five ledgers of its calls.
 #[derive(Drop)]
 pub struct Board<N: Naming, K: Ledger, L: Ledger, S: Ledger, D: Ledger, B: Ledger> {
     counted: Mutex<Counted<N, K, L, S, D, B>>,
@@ -43,14 +43,19 @@ impl<N: Naming, K: Ledger, L: Ledger, S: Ledger, D: Ledger, B: Ledger> Board<N, 
         requires apart { AreApart jobs.items }
         requires short { AreShort jobs.items }
         requires seats { (1 ≤ seats) × (seats ≤ 64) }
-        requires take { (blanks.take.name ≡ K.name) × (blanks.take.parts ≡ K.parts) × (K.parts ≡ seats) }
-        requires look { (blanks.look.name ≡ L.name) × (blanks.look.parts ≡ L.parts) × (L.parts ≡ seats) }
-        requires split { (blanks.split.name ≡ S.name) × (blanks.split.parts ≡ S.parts) × (S.parts ≡ seats) }
+        requires take { (blanks.take.name ≡ K.name) × (blanks.take.parts ≡ K.parts)
+            × (K.parts ≡ seats) }
+        requires look { (blanks.look.name ≡ L.name) × (blanks.look.parts ≡ L.parts)
+            × (L.parts ≡ seats) }
+        requires split { (blanks.split.name ≡ S.name) × (blanks.split.parts ≡ S.parts)
+            × (S.parts ≡ seats) }
         requires finish { (blanks.finish.name ≡ D.name) × (blanks.finish.parts ≡ D.parts)
             × (D.parts ≡ seats) }
-        requires back { (blanks.back.name ≡ B.name) × (blanks.back.parts ≡ B.parts) × (B.parts ≡ seats) }
+        requires back { (blanks.back.name ≡ B.name) × (blanks.back.parts ≡ B.parts)
+            × (B.parts ≡ seats) }
         ensures count { IfOk result (λ made. length made.1.items ≡ seats) }
-        ensures workers { IfOk result (λ made. map (λ s. s.worker) made.1.items ≡ count_from 1 seats) }
+        ensures workers { IfOk result
+            (λ made. map (λ s. s.worker) made.1.items ≡ count_from 1 seats) }
         ensures sums { IfOk result (λ made. HaveSums made.1.items 0 0 0 0 0) }
     {
         let (books, shares) = Books::open(blanks);
@@ -69,8 +74,8 @@ impl<N: Naming, K: Ledger, L: Ledger, S: Ledger, D: Ledger, B: Ledger> Board<N, 
         self.counted.lock(rt).take(seat)
     }
 
-    /// Puts the jobs in the place of the ticket's. `Err` comes for want of memory alone, and has the
-    /// ticket.
+    /// Puts the jobs in the place of the ticket's. `Err` comes for want of memory alone, and has
+    /// the ticket.
     pub fn split<R: Wait>(
         &self,
         rt: &R,
@@ -85,8 +90,8 @@ impl<N: Naming, K: Ledger, L: Ledger, S: Ledger, D: Ledger, B: Ledger> Board<N, 
         self.counted.lock(rt).split(seat, ticket, jobs)
     }
 
-    /// Books what was found under the ticket's job. `Err` comes for want of memory alone, and has the
-    /// ticket.
+    /// Books what was found under the ticket's job. `Err` comes for want of memory alone, and has
+    /// the ticket.
     pub fn finish<R: Wait>(
         &self,
         rt: &R,
@@ -101,7 +106,8 @@ impl<N: Naming, K: Ledger, L: Ledger, S: Ledger, D: Ledger, B: Ledger> Board<N, 
         self.counted.lock(rt).finish(seat, ticket, list)
     }
 
-    /// Makes the ticket's entry open again. `Err` comes for want of memory alone, and has the ticket.
+    /// Makes the ticket's entry open again. `Err` comes for want of memory alone, and has the
+    /// ticket.
     pub fn back<R: Wait>(
         &self,
         rt: &R,
@@ -114,7 +120,8 @@ impl<N: Naming, K: Ledger, L: Ledger, S: Ledger, D: Ledger, B: Ledger> Board<N, 
         self.counted.lock(rt).back(seat, ticket)
     }
 
-    /// The desk, for all seats. Its log has as many events of each kind as the seats have counted.
+    /// The desk, for all seats. Its log has as many events of each kind as the seats have
+    /// counted.
     pub fn close(self, seats: Vec<Seat<K, L, S, D, B>>) -> Desk<N>
         requires some { 0 < length seats.items }
         requires all { (length seats.items ≡ K.parts) × (length seats.items ≡ L.parts)

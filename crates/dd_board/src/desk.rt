@@ -5,6 +5,7 @@ ghost use Rattle.dd_front.specs.declared.event.Event.TheVariants.{Split, Finish,
 ghost use Rattle.dd_front.specs.declared.entry.State.TheVariants.{Open, Out};
 ghost use Rattle.dd_front.specs.Allowed.{IsAllowed, HasState, MaySplit, MayFinish};
 ghost use Rattle.dd_front.specs.Step.{taken_numbers};
+ghost use Rattle.dd_front.specs.Machine.{open_entries};
 ghost use Rattle.dd_front.specs.Room.{HasRoom};
 ghost use Rattle.dd_front.specs.Rounds.{IsFirstOpen};
 ghost use Rattle.std.specs.List.{AllByRecursion};
@@ -52,7 +53,9 @@ impl<N: Naming> Desk<N> {
         requires ascending { AreAscendingJobs jobs.items }
         requires apart { AreApart jobs.items }
         requires short { AreShort jobs.items }
-        ensures { IfOk result (λ desk. desk.log ≡ Resume ∷ []) }
+        ensures log { IfOk result (λ desk. desk.log ≡ Resume ∷ []) }
+        ensures entries { IfOk result
+            (λ desk. desk.machine.entries ≡ open_entries 1 jobs.items) }
     {
         let place = place_of_first(jobs.as_slice())?;
         let mut front = Front::open(alloc, request, jobs, place, 0)?;
@@ -109,8 +112,8 @@ impl<N: Naming> Desk<N> {
         Ok(())
     }
 
-    /// Gives out the first job that is open, or books that there is none. After `Err` the desk is as
-    /// before.
+    /// Gives out the first job that is open, or books that there is none. After `Err` the desk is
+    /// as before.
     pub fn take(&mut self, worker: u32) -> Result<Taken<N>, Memory>
         ensures takes { IfOk result (Takes worker self.old self.new) }
         ensures same { OnErr result (self.new ≡ self.old) }
@@ -184,9 +187,9 @@ impl<N: Naming> Desk<N> {
         })
     }
 
-    /// Puts the jobs in the place of the ticket's. Where the ticket's entry is not out with its job, or
-    /// the numbers of entries would end, number 0 is booked. `Err` comes for want of memory alone:
-    /// it has the ticket, and the desk is as before.
+    /// Puts the jobs in the place of the ticket's. Where the ticket's entry is not out with its
+    /// job, or the numbers of entries would end, number 0 is booked. `Err` comes for want of
+    /// memory alone: it has the ticket, and the desk is as before.
     pub fn split(&mut self, worker: u32, ticket: Ticket<N>, jobs: Vec<Job>) -> Result<(), Ticket<N>>
         requires { AreChildren N.request ticket.job jobs.items }
         ensures books { OnOk result
@@ -212,9 +215,9 @@ impl<N: Naming> Desk<N> {
         })
     }
 
-    /// Books what was found under the ticket's job, with number 0 where the ticket's entry is not out
-    /// with its job. `Err` comes for want of memory alone: it has the ticket, and the desk is as
-    /// before.
+    /// Books what was found under the ticket's job, with number 0 where the ticket's entry is not
+    /// out with its job. `Err` comes for want of memory alone: it has the ticket, and the desk is
+    /// as before.
     pub fn finish(
         &mut self,
         worker: u32,
@@ -231,7 +234,8 @@ impl<N: Naming> Desk<N> {
         self.book_finish(worker, entry, list).map_err(|_| ticket)
     }
 
-    /// Gives an entry back where it is out, and else books number 0. After `Err` the desk is as before.
+    /// Gives an entry back where it is out, and else books number 0. After `Err` the desk is as
+    /// before.
     pub fn back(&mut self, worker: u32, entry: u64) -> Result<(), Memory>
         ensures books { OnOk result (BooksBack worker entry self.old self.new) }
         ensures same { OnErr result (self.new ≡ self.old) }

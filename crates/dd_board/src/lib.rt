@@ -1,5 +1,5 @@
-//! The desk of a round, at which workers take, split, finish and give back jobs, and the board that locks
-//! it.
+//! The desk of a round, at which workers take, split, finish and give back jobs, and the board
+//! that locks it.
 #![tactic(auto)]
 
 mod board;

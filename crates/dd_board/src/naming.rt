@@ -1,7 +1,7 @@
 use std::marker::Brand;
 
-/// Which round a desk is of: what is asked for, and its jobs. A desk, its board and its tickets carry a name, so
-/// that those of two rounds cannot be mixed.
+/// Which round a desk is of: what is asked for, and its jobs. A desk, its board and its tickets
+/// carry a name, so that those of two rounds cannot be mixed.
 pub trait Naming {
     ghost use Rattle.std.specs.Prelude.{List};
     ghost use Rattle.dd_model.specs.declared.requests.Request.{Request};

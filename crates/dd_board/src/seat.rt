@@ -3,8 +3,8 @@ ghost use Rattle.std.specs.Prelude.{◌≡◌};
 use crate::shares::Shares;
 use std::sync::ledger::Ledger;
 
-/// A worker's place at a board: the worker's number, and one part of each of the board's ledgers, with what the
-/// worker's calls have counted there.
+/// A worker's place at a board: the worker's number, and one part of each of the board's ledgers,
+/// with what the worker's calls have counted there.
 #[derive(Drop)]
 pub struct Seat<K: Ledger, L: Ledger, S: Ledger, D: Ledger, B: Ledger> {
     pub(crate) worker: u32,

@@ -154,7 +154,8 @@ fn a_stale_ticket_changes_no_entry(rt: HostRuntime) -> Result<(), Fail> {
 }
 
 fn blanks(seats: u64) -> Blanks
-    ensures { (result.take.parts ≡ seats) × (result.look.parts ≡ seats) × (result.split.parts ≡ seats)
+    ensures { (result.take.parts ≡ seats) × (result.look.parts ≡ seats)
+        × (result.split.parts ≡ seats)
         × (result.finish.parts ≡ seats) × (result.back.parts ≡ seats) }
 {
     Blanks {
@@ -199,7 +200,8 @@ fn at_two_seats<N: Naming, K: Ledger, L: Ledger, S: Ledger, D: Ledger, B: Ledger
     requires take { (blanks.take.name ≡ K.name) × (blanks.take.parts ≡ K.parts) × (K.parts ≡ 2) }
     requires look { (blanks.look.name ≡ L.name) × (blanks.look.parts ≡ L.parts) × (L.parts ≡ 2) }
     requires split { (blanks.split.name ≡ S.name) × (blanks.split.parts ≡ S.parts) × (S.parts ≡ 2) }
-    requires finish { (blanks.finish.name ≡ D.name) × (blanks.finish.parts ≡ D.parts) × (D.parts ≡ 2) }
+    requires finish { (blanks.finish.name ≡ D.name) × (blanks.finish.parts ≡ D.parts)
+        × (D.parts ≡ 2) }
     requires back { (blanks.back.name ≡ B.name) × (blanks.back.parts ≡ B.parts) × (B.parts ≡ 2) }
 {
     let (board, mut seats) = Board::<N, K, L, S, D, B>::open(alloc, request, jobs, 2, blanks)?;
@@ -232,7 +234,8 @@ fn at_one_seat<N: Naming, K: Ledger, L: Ledger, S: Ledger, D: Ledger, B: Ledger,
     requires take { (blanks.take.name ≡ K.name) × (blanks.take.parts ≡ K.parts) × (K.parts ≡ 1) }
     requires look { (blanks.look.name ≡ L.name) × (blanks.look.parts ≡ L.parts) × (L.parts ≡ 1) }
     requires split { (blanks.split.name ≡ S.name) × (blanks.split.parts ≡ S.parts) × (S.parts ≡ 1) }
-    requires finish { (blanks.finish.name ≡ D.name) × (blanks.finish.parts ≡ D.parts) × (D.parts ≡ 1) }
+    requires finish { (blanks.finish.name ≡ D.name) × (blanks.finish.parts ≡ D.parts)
+        × (D.parts ≡ 1) }
     requires back { (blanks.back.name ≡ B.name) × (blanks.back.parts ≡ B.parts) × (B.parts ≡ 1) }
 {
     let (board, mut seats) = Board::<N, K, L, S, D, B>::open(alloc, request, jobs, 1, blanks)?;

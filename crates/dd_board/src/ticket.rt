@@ -5,7 +5,8 @@ use crate::naming::Naming;
 use dd_model::Job;
 use std::marker::PhantomData;
 
-/// The right to do the job of an entry that is out. There is one for each time that the entry was taken.
+/// The right to do the job of an entry that is out. There is one for each time that the entry was
+/// taken.
 #[derive(Drop)]
 pub struct Ticket<N: Naming> {
     pub(crate) entry: u64,

@@ -4,6 +4,7 @@ use Rattle.dd_front.specs.Machine.{IsOpened}
 use Rattle.dd_board.specs.Desk.{IsDesk, AreShort, first_place}
 use Rattle.dd_model.specs.Position.{IsPosition}
 use Rattle.dd_board.proofs.Desks.{desk_first}
+use Rattle.dd_board.proofs.Openings.{open_at_first}
 use Rattle.dd_board.proofs.Shortness.{place_fits}
 use Rattle.dd_board.proofs.desk.Desk.open.Goals as goal
 
@@ -21,3 +22,10 @@ invariant_of-result g c =
 pub open-requires-clause-position : goal.open-requires-clause-position
 open-requires-clause-position g c =
     subst IsPosition (sym c.in_ok-place.ensures) (place_fits c.as_slice.result.now (subst AreShort (sym c.as_slice.ensures.value) c.requires.short))
+
+pub returns-clause-entries : goal.returns-clause-entries
+returns-clause-entries g c =
+    let jobs = c.args.jobs.items in
+    let place = c.in_ok-place.ensures ∙ ap first_place c.as_slice.ensures.value in
+    let opened = subst (λ at. IsOpened c.args.request jobs at 0 c.in_ok-front.front) place c.in_ok-front.ensures in
+    open_at_first c.args.request jobs c.in_ok-front.front c.step.new.self opened c.in_ok-step.ensures.step
