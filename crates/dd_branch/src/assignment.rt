@@ -252,7 +252,7 @@ impl Assignment {
 impl PrefixSearch for Assignment {
     ghost use Rattle.dd_model.specs.Wanted.{IsMember};
     ghost use Rattle.dd_branch.specs.WholePrefix.{part, symbol_with};
-ghost use Rattle.dd_branch.specs.Assignment.{IsAssignment, prefix_of, shortened};
+    ghost use Rattle.dd_branch.specs.Assignment.{IsAssignment, prefix_of, shortened};
 
     ghost request = { λ a. a.request };
 

@@ -49,6 +49,7 @@ carried_involutions s t f g inv maps is i = record {
 } where
   old : (d : ℕ) → IsChamber t d → IsChamber s d
   old d h = let size = is.size in (h.0, omega (arith, h.1, size))
+
   inside : (d : ℕ) → IsChamber t d → IsChamber s (item g d)
   inside d h = maps.right.within d h.0 (old d h).1
 

@@ -102,7 +102,12 @@ impl Involutions {
     }
 
     /// The least chambers of the cells of a pair, ascending, from the list of `least_of_cells`.
-    pub fn least_chambers(&self, alloc: Global, pair: Pair, least: &[u32]) -> Result<Vec<u32>, Memory>
+    pub fn least_chambers(
+        &self,
+        alloc: Global,
+        pair: Pair,
+        least: &[u32],
+    ) -> Result<Vec<u32>, Memory>
         requires { AreLeast self.now pair least.now }
         ensures { IfOk result (λ chambers. AreCells self.now pair chambers.items) }
     {

@@ -64,7 +64,12 @@ impl Involutions {
     }
 
     /// The involutions with these lists of images; else the first cause why they are none.
-    pub fn from_lists(alloc: Global, s0: &[u32], s1: &[u32], s2: &[u32]) -> Result<Involutions, Refusal>
+    pub fn from_lists(
+        alloc: Global,
+        s0: &[u32],
+        s1: &[u32],
+        s2: &[u32],
+    ) -> Result<Involutions, Refusal>
         requires ones { length s1.now ≡ length s0.now }
         requires twos { length s2.now ≡ length s0.now }
         requires small { length s0.now ≤ 16384 }
@@ -75,7 +80,12 @@ impl Involutions {
     }
 
     /// The involutions with these lists of images, which are known to be those of some.
-    pub fn from_known(alloc: Global, s0: &[u32], s1: &[u32], s2: &[u32]) -> Result<Involutions, Memory>
+    pub fn from_known(
+        alloc: Global,
+        s0: &[u32],
+        s1: &[u32],
+        s2: &[u32],
+    ) -> Result<Involutions, Memory>
         requires ones { length s1.now ≡ length s0.now }
         requires twos { length s2.now ≡ length s0.now }
         requires small { length s0.now ≤ 16384 }

@@ -46,7 +46,10 @@ impl Involutions {
         let mut numbers = Vec::with_capacity(alloc, 3 * self.size() as usize)?;
         self.push_images(&mut numbers, map, back)?;
         Ok(Involutions {
-            rows: Rows { numbers, size: self.size() },
+            rows: Rows {
+                numbers,
+                size: self.size(),
+            },
         })
     }
 }
@@ -73,7 +76,12 @@ impl Table {
     }
 
     /// The same chambers under the numbers that a map gives.
-    pub(crate) fn renumbered(&self, alloc: Global, map: &[u32], back: &[u32]) -> Result<Table, Memory>
+    pub(crate) fn renumbered(
+        &self,
+        alloc: Global,
+        map: &[u32],
+        back: &[u32],
+    ) -> Result<Table, Memory>
         requires maps { AreInverse (symbol_of self.now).size map.now back.now }
         ensures { IfOk result (λ table.
             IsIsomorphism (symbol_of self.now) (symbol_of table) map.now) }

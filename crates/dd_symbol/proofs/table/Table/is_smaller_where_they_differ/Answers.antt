@@ -18,9 +18,10 @@ returns-then-own-other c =
     let long = length-code_of c.args.self.now in
     let own : c.number_at-own.result ≡ get_or xs k 0 = c.number_at-own.ensures in
     let other : c.from-other.result ≡ get_or ys k 0 = c.from-other.ensures in
-    let here = smaller_here k xs ys (omega arith) (omega arith) (λ e. c.if-own-other.true (own ∙ e ∙ sym other)) in
-    ((λ yes. let less = ltb-true c.number_at-own.result c.from-other.result yes in c.loop-k.invariant.1 (here.0 (omega arith))),
-     (λ h. let less = here.1 (c.loop-k.invariant.0 h) in lt-ltb c.number_at-own.result c.from-other.result (omega arith)))
+    let here = smaller_here k xs ys (omega arith) (omega arith) (λ e. c.if-own-other.true (own ∙ e ∙ sym other)) in (
+      (λ yes. let less = ltb-true c.number_at-own.result c.from-other.result yes in c.loop-k.invariant.1 (here.0 (omega arith))),
+      (λ h. let less = here.1 (c.loop-k.invariant.0 h) in lt-ltb c.number_at-own.result c.from-other.result (omega arith)),
+    )
 
 pub loop-k-preserved : goal.loop-k-preserved
 loop-k-preserved c =
