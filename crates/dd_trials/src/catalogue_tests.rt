@@ -32,7 +32,7 @@ const SYMBOLS: [&str; 18] = [
 ];
 
 /// The lines of the symbols at these places, counted from 0.
-fn lines_at(alloc: Global, places: &[usize]) -> Result<String, AllocError> {
+pub(crate) fn lines_at(alloc: Global, places: &[usize]) -> Result<String, AllocError> {
     let mut text = String::new(alloc);
     let mut number = 0u32;
     for place in places {

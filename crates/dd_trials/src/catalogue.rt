@@ -1,0 +1,70 @@
+use crate::plain_front::Span;
+use dd_model::{Code, Job, Request};
+use dd_plain::plain_catalogue;
+use dd_symbol::{Connected, cmp_code};
+use std::alloc::Global;
+use std::cmp::Ordering;
+use std::test::Fail;
+
+/// The members of a catalogue in order, found by a plain filter, and their codes.
+#[derive(Drop)]
+pub(crate) struct Catalogue {
+    pub(crate) members: Vec<Connected>,
+    codes: Vec<Code>,
+}
+
+fn begins(job: &Job, symbol: &Connected, code: &Code) -> bool {
+    let prefix = job.prefix.as_slice();
+    let numbers = code.as_slice();
+    symbol.symbol().size() == job.size
+        && prefix.len() <= numbers.len()
+        && prefix
+            .iter()
+            .zip(numbers.iter())
+            .all(|(part, number)| u32::from(*part) == *number)
+}
+
+impl Catalogue {
+    pub(crate) fn of(alloc: Global, request: &Request) -> Result<Catalogue, Fail> {
+        if !request.is_valid() || request.chambers > 3 {
+            return Err(Fail::new("a request that is too large"));
+        }
+        let members = plain_catalogue(alloc, request)?;
+        let mut codes = Vec::new(alloc);
+        for member in &members {
+            codes.push(member.symbol().code(alloc)?)?;
+        }
+        Ok(Catalogue { members, codes })
+    }
+
+    /// Where the members under a job stand.
+    fn span(&self, job: &Job) -> Span {
+        let mut span = (0, 0);
+        for (place, (member, code)) in self.members.iter().zip(self.codes.iter()).enumerate() {
+            if begins(job, member, code) {
+                let first = if span.1 == 0 { place } else { span.0 };
+                span = (first, place.saturating_add(1));
+            }
+        }
+        span
+    }
+
+    pub(crate) fn spans(&self, alloc: Global, jobs: &[Job]) -> Result<Vec<Span>, Fail> {
+        let mut spans = Vec::new(alloc);
+        for job in jobs {
+            spans.push(self.span(job))?;
+        }
+        Ok(spans)
+    }
+
+    /// Whether symbols are the members at these places.
+    pub(crate) fn has(&self, symbols: &[Connected], (first, end): Span) -> bool {
+        match self.members.as_slice().get(first..end) {
+            Some(members) => members.len() == symbols.len()
+                && members.iter().zip(symbols.iter()).all(|(member, symbol)| {
+                    cmp_code(member.symbol(), symbol.symbol()) == Ordering::Equal
+                }),
+            None => false,
+        }
+    }
+}
