@@ -13,7 +13,6 @@ use Rattle.dd_front.specs.Step.{IsStep, IsNext, IsRun, out_after}
 use Rattle.dd_front.proofs.Holding.{held_first}
 use Rattle.dd_front.proofs.Runs.{run_held}
 use Rattle.dd_board.specs.Desk.{IsDesk, IsCall, AreShort, first_place}
-use Rattle.dd_board.specs.Calls.{Books}
 
 -- a run goes on by one event
 pub run_more : (f g h : Machine) (out last emitted : List Symbol) (es : List Event) (e : Event) → IsRun f out es g last → IsNext g e h emitted
@@ -83,7 +82,3 @@ desk_first q jobs f g short opened (emitted, step) =
 -- the machine of a desk is one for its request
 pub desk_request : (q : Request) (jobs : List Job) (f : Machine) (log : List Event) → IsDesk q jobs f log → f.request ≡ q
 desk_request q jobs f log desk = (run_held q jobs (first_place jobs) desk.start f [] [] log (held_first q jobs (first_place jobs) 0 desk.start desk.opened) desk.run).request
-
-pub desk_booked : (q : Request) (jobs : List Job) (f g : Machine) (log : List Event) (e : Event) → IsCall e → IsAllowed f e → ((emitted : List Symbol) × IsStep f e g emitted)
-    → Books e (record { machine = f; log = log }) (record { machine = g; log = log ++ e ∷ [] })
-desk_booked q jobs f g log e call may step = record { log = refl; next = next_of_call f g e call may step }

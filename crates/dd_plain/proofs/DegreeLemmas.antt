@@ -4,7 +4,6 @@ use Rattle.std.specs.List.{Contains}
 use Rattle.dd_model.specs.declared.pair.Pair.{Pair}
 use Rattle.dd_model.specs.Symbol.{Symbol, IsSymbol, IsChamber, AreInvolutions, degree}
 use Rattle.dd_model.specs.Cell.{IsPeriod, IsBranching}
-use Rattle.dd_model.specs.Small.{IsSmallSymbol}
 use Rattle.dd_model.specs.Wanted.{IsCrystallographic}
 use Rattle.dd_model.proofs.Turns.{period_bound, period_exists, IsLeastTurns-from_period, least_turns_unique}
 use Rattle.dd_model.proofs.Branching.{branching_exists}
@@ -69,15 +68,6 @@ degree_in_table s is few p crystallographic d h =
     let product = degree_is_product s is few p d h in
     subst (Contains degree_table) product.product
     (product_in_table product.value product.turns (crystallographic d product.value h product.branching) product.some product.few)
-
-ninety : (v r : ℕ) → v ≤ 30 → r ≤ 3 → v * r ≤ 90
-ninety v r a b = grind arith
-
--- the degrees that the workbench keeps are at most 90
-pub degree_small : (s : Symbol) → IsSmallSymbol s → s.size ≤ 3 → (p : Pair) (d : ℕ) → IsChamber s d → degree s p d ≤ 90
-degree_small s is few p d h =
-    let product = degree_is_product s is.symbol few p d h in
-    subst (λ m. m ≤ 90) product.product (ninety product.value product.turns (is.branching p d product.value h product.branching) product.few)
 
 pub crystallographic_small : (v : ℕ) → IsCrystallographic v → v ≤ 30
 crystallographic_small v (zero, h, e) = omega arith

@@ -192,9 +192,6 @@ pub record HasImagesBelow (n lists k : ℕ) (s : Symbol) : Type 0 where
   pub below : number < k
   pub images : HasImages (with_images n lists number) s
 
-pub no_images_yet : (q : Request) (n lists : ℕ) (old : List Symbol) → IsAscending old → Adds q (HasImagesBelow n lists 0) old old
-no_images_yet q n lists old ascending = nothing_added q (HasImagesBelow n lists 0) old ascending (λ s h _. omega (arith, h.below))
-
 pub images-more : (q : Request) (n lists k : ℕ) (a b c : List Symbol) → Adds q (HasImagesBelow n lists k) a b → Adds q (HasImages (with_images n lists k)) b c
     → Adds q (HasImagesBelow n lists (k + 1)) a c
 images-more q n lists k a b c g h =
@@ -250,15 +247,6 @@ all_images q n lists k a c few count done =
       below = omega (arith, one.below);
       images = record { size = size; s0 = items Zero (one.number % lists) one.first; s1 = items One (one.number / lists % lists) one.second; s2 = items Two (one.number / lists / lists) one.third };
     })
-
--- sizes up to k, and then the next
-pub no_sizes : (q : Request) → Adds q (λ s. s.size ≤ 0) [] []
-no_sizes q = nothing_added q (λ s. s.size ≤ 0) [] tt (λ s few member. let some = member.wanted.symbol.table.chambers in omega arith)
-
-pub sizes-more : (q : Request) (k : ℕ) (a b c : List Symbol) → Adds q (λ s. s.size ≤ k) a b → Adds q (λ s. s.size ≡ k + 1) b c → Adds q (λ s. s.size ≤ k + 1) a c
-sizes-more q k a b c g h =
-    both_added q (λ s. s.size ≤ k) (λ s. s.size ≡ k + 1) (λ s. s.size ≤ k + 1) a b c (λ s most.
-    ⊎_elim (λ early. inl (omega arith)) (λ late. inr (omega arith)) (cases_lt s.size (k + 1))) g h
 
 -- what all sizes add to the empty list is the catalogue
 pub all_sizes : (q : Request) (k : ℕ) (list : List Symbol) → q.chambers ≤ k → Adds q (λ s. s.size ≤ k) [] list → IsCatalogue q list

@@ -1,6 +1,5 @@
 -- The writing of a catalogue, job by job.
-use Rattle.std.proofs.Common.{◌≡◌, ℕ, ◌+◌, ◌<◌, ◌≤◌, ◌⊎◌, List, [], ◌∷◌, ◌++◌, Option, Some, None, length, get_or, take, refl, sym, ap, ◌∙◌, subst, inl, inr, ⊎_elim, arith}
-use Rattle.std.proofs.lemmas.Bool.{cases_lt}
+use Rattle.std.proofs.Common.{◌≡◌, ℕ, ◌+◌, ◌<◌, List, [], ◌∷◌, ◌++◌, Option, Some, None, length, get_or, take, refl, sym, ap, ◌∙◌, subst, arith}
 use Rattle.std.specs.Io.KnownBytes.{Appends}
 use Rattle.dd_model.specs.Symbol.{Symbol, IsSymbol}
 use Rattle.dd_model.specs.Text.{AreLines, IsText, beginning}
@@ -9,7 +8,6 @@ use Rattle.dd_model.specs.declared.requests.Request.{Request}
 use Rattle.dd_model.specs.declared.jobs.Job.{Job}
 use Rattle.dd_model.proofs.Texts.{all_from_beginning}
 use Rattle.dd_model.proofs.Without.{without_unique}
-use Rattle.dd_ports.specs.Causes.{Rose}
 use Rattle.dd_ports.specs.Grows.{GrowsByPrefix}
 use Rattle.dd_invol.specs.Opening.{IsOpening}
 use Rattle.dd_model.specs.Joined.{AreUnderJobs}
@@ -134,11 +132,3 @@ found_whole q start now page jobs is empty found =
 pub found_flushed : (q : Request) (start before now : Option (List ℕ)) (old new : Page) (jobs : List Job) → ((ss : List Symbol) → HasLines start before old ss → HasLines start now new ss)
     → HasFound q start before old jobs → HasFound q start now new jobs
 found_flushed q start before now old new jobs keeps found = record { members = found.members; under = found.under; lines = keeps found.members found.lines }
-
--- a count that rose after it had not fallen
-pub rose_later : (a b c : ℕ) → a ≤ b → Rose b c → Rose a c
-rose_later a b c low (inl up) = inl (omega arith)
-rose_later a b c low (inr stands) = ⊎_elim (λ less. let at = stands.0 in let same = stands.1 in inl (omega arith)) (λ same. let at = stands.0 in let kept = stands.1 in inr (omega arith, omega arith)) (less_or_equal a b low)
-  where
-    less_or_equal : (m n : ℕ) → m ≤ n → (m < n) ⊎ (n ≤ m)
-    less_or_equal m n h = cases_lt m n

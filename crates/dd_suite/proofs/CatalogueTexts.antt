@@ -1,13 +1,11 @@
 -- The text of a catalogue from its beginning is the lines of all its members.
-use Rattle.std.proofs.Common.{◌≡◌, ℕ, zero, suc, List, [], ◌∷◌, Bool, Option, Result, Ok, Err, IfOk, ◌≤◌, length, inl, inr, refl, sym, subst, arith}
+use Rattle.std.proofs.Common.{◌≡◌, ℕ, zero, suc, List, [], ◌∷◌, Bool, Option, Result, Ok, Err, IfOk, ◌≤◌, length, inl, inr, refl, subst, arith}
 use Rattle.std.specs.List.{AllByRecursion, Contains}
-use Rattle.dd_model.specs.Symbol.{Symbol, IsSymbol}
+use Rattle.dd_model.specs.Symbol.{Symbol}
 use Rattle.dd_model.specs.Wanted.{IsCatalogue}
-use Rattle.dd_model.specs.Text.{IsText, AreLines, beginning}
+use Rattle.dd_model.specs.Text.{IsText, beginning}
 use Rattle.dd_model.specs.declared.requests.Request.{Request}
-use Rattle.dd_model.proofs.Texts.{all_from_beginning, text_unique}
 use Rattle.dd_ports.specs.Grows.{GrowsByPrefix}
-use Rattle.dd_text.specs.Writing.{AddsLines}
 use Rattle.dd_ports.specs.declared.sink.SinkFault.{SinkFault}
 use Rattle.dd_ports.specs.declared.sink.SinkFault.TheVariants.{Failed, Memory}
 use Rattle.dd_suite.specs.declared.ending.Ending.TheVariants.{Done, TooManyLines}
@@ -20,27 +18,13 @@ use Rattle.dd_ports.specs.Causes.{HasCause as SinkCause}
 use Rattle.dd_model.proofs.Catalogues.{catalogue_unique}
 use Rattle.dd_suite.specs.Endings.{written_ending}
 use Rattle.dd_suite.specs.Words.{AskFor}
-use Rattle.dd_suite.specs.Catalogue.{most_lines, AppendsText, AppendsFirstLines}
+use Rattle.dd_suite.specs.Catalogue.{most_lines, AppendsText}
 use Rattle.dd_suite.specs.Output.{IsKnownOutput, AppendsOutput}
 use Rattle.dd_suite.proofs.Requests.{same_request, taken, not_both}
 
 pub each_member : (P : Symbol → Type 0) (ss : List Symbol) → ((s : Symbol) → Contains ss s → P s) → AllByRecursion P ss
 each_member P [] all = tt
 each_member P (s ∷ ss) all = (all s (zero, omega arith, refl), each_member P ss (λ t h. all t (suc h.0, (let below = h.1 in omega arith), h.2)))
-
-pub text_from_beginning : (q : Request) (members : List Symbol) (text : List ℕ) → IsCatalogue q members → AddsLines 0 members [] text → IsText q beginning 0 text
-text_from_beginning q members text catalogue added = record {
-  members = members;
-  catalogue = catalogue;
-  later = members;
-  not_before = all_from_beginning members (each_member IsSymbol members (λ s h. ((catalogue.members s).0 h).wanted.symbol));
-  lines = subst (AreLines 0 members) (sym added.text) added.are_lines;
-}
-
--- What grew by a prefix of one text of a request grew by a prefix of each.
-pub prefix_of_each : (q : Request) (old new : Option (List ℕ)) (mine text : List ℕ) → IsText q beginning 0 mine → GrowsByPrefix old new mine → IsText q beginning 0 text
-    → GrowsByPrefix old new text
-prefix_of_each q old new mine text is grown other = subst (GrowsByPrefix old new) (text_unique q beginning 0 mine text is other) grown
 
 -- Words of a catalogue have no output but the texts of their request.
 pub prefix_of_output : (words : List (List ℕ)) (tells : Bool) (held : List ℕ → Option (List ℕ)) (q : Request) (old new : Option (List ℕ)) → AskFor words q
@@ -64,12 +48,6 @@ what_done_says (Ok Whole) q old new is p = p
 what_done_says (Ok CutShort) q old new is p = absurd (cc)
 what_done_says (Err Failed) q old new is p = absurd (cc)
 what_done_says (Err Memory) q old new is p = absurd (cc)
-
-pub what_cut_says : (written : Result Finish SinkFault) (q : Request) (old new : Option (List ℕ)) → written_ending written ≡ TooManyLines → IfOk written (λ finish. Finishes finish q old new) → AppendsFirstLines q old new
-what_cut_says (Ok Whole) q old new is p = absurd (cc)
-what_cut_says (Ok CutShort) q old new is p = p
-what_cut_says (Err Failed) q old new is p = absurd (cc)
-what_cut_says (Err Memory) q old new is p = absurd (cc)
 
 -- words of a catalogue name no file
 no_file : (words : List (List ℕ)) (q : Request) (before : Before) (after : After) → AskFor words q → WritesPartOfFile words before after

@@ -1,24 +1,19 @@
 -- The causes of endings, and what they mean for statuses.
-use Rattle.std.proofs.Common.{◌≡◌, ◌⊎◌, ℕ, List, [], Bool, Option, None, Some, append-nil, inl, inr, refl, sym, ◌∙◌, subst}
-use Rattle.std.specs.Io.KnownBytes.{Appends}
+use Rattle.std.proofs.Common.{◌≡◌, ◌⊎◌, ℕ, List, Bool, Option, inl, inr, refl, sym, ◌∙◌, subst}
 use Rattle.dd_model.specs.Reading.{Reads}
 use Rattle.dd_model.proofs.ReadingRows.{reads_once}
 use Rattle.dd_ports.specs.Causes.{Rose}
-use Rattle.dd_commands.specs.declared.command_fault.CommandFault.{CommandFault}
-use Rattle.dd_commands.specs.declared.command_fault.CommandFault.TheVariants.{File, Symbol, Memory as NoRoom}
 use Rattle.dd_commands.specs.declared.commands.FileCommand.{FileCommand}
 use Rattle.dd_commands.specs.Files.{IsRefusalOf}
-use Rattle.dd_commands.specs.Faults.{IsCommandFault}
 use Rattle.dd_suite.specs.declared.ending.Ending.{Ending}
 use Rattle.dd_suite.specs.declared.ending.Ending.TheVariants.{Done, Usage, Refused, RefusedSymbol, StoreFault, SinkFault, Memory, TooManyLines}
 use Rattle.dd_suite.specs.declared.status.Status.TheVariants as status
 use Rattle.dd_suite.specs.Outside.{Before, After}
 use Rattle.dd_suite.specs.Messages.{IsItsFault}
 use Rattle.dd_suite.specs.Words.{AreTaken, IsOnFile}
-use Rattle.dd_suite.specs.Held.{AreFetched}
 use Rattle.dd_suite.specs.Stops.{WritesNothing, WritesPart, WritesPartOfFile, HasFileCause, HasCause}
 use Rattle.dd_suite.specs.Output.{IsOutput, AppendsOutput, CutsShort, IsFileAccepted, IsFileOutput, NameFile}
-use Rattle.dd_suite.specs.Endings.{status_of, fault_ending}
+use Rattle.dd_suite.specs.Endings.{status_of}
 use Rattle.dd_suite.proofs.Requests.{not_both, same_command}
 use Rattle.dd_suite.proofs.HeldTexts.{some_injective}
 
@@ -90,18 +85,6 @@ nothing_written StoreFault words before after c whole named none = c.1
 nothing_written SinkFault words before after c whole named none = no_part words before after named none (c.1 named.0 named.1 named.2)
 nothing_written Memory words before after c whole named none = no_part words before after named none (c named.0 named.1 named.2)
 nothing_written TooManyLines words before after c whole named none = absurd (not_both words c.request named.0 named.1 c.asked named.2)
-
-pub nothing_appended : (old : Option (List ℕ)) → Appends old old []
-nothing_appended None = tt
-nothing_appended (Some xs) = sym (append-nil xs)
-
--- A file that stops a command before it writes.
-pub cause_of_stop : (command : FileCommand) (name : List ℕ) (fault : CommandFault) (bytes : List ℕ) (before : Before) (after : After)
-    → AreFetched before.tells (before.held name) bytes → IsCommandFault command fault bytes → WritesNothing before after
-    → HasFileCause command name (fault_ending fault) before after
-cause_of_stop command name (File fault) bytes before after fetched stop nothing = (record { bytes = bytes; fetched = fetched; faulty = stop }, nothing)
-cause_of_stop command name (Symbol refusal) bytes before after fetched stop nothing = (record { bytes = bytes; fetched = fetched; refused = stop }, nothing)
-cause_of_stop command name NoRoom bytes before after fetched stop nothing = inl nothing
 
 -- only Done has its status
 pub done_ending : (ending : Ending) → status_of ending ≡ status.Done → ending ≡ Done

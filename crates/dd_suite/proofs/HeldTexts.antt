@@ -5,8 +5,8 @@ use Rattle.dd_commands.specs.declared.commands.FileCommand.{FileCommand}
 use Rattle.dd_commands.specs.Files.{IsFileText}
 use Rattle.dd_commands.proofs.FileTexts.{file_text_unique}
 use Rattle.dd_suite.specs.Words.{IsOnFile}
-use Rattle.dd_suite.specs.Held.{IsTextOfHeld, AppendsFileText}
-use Rattle.dd_suite.specs.Output.{IsKnownOutput, AppendsOutput}
+use Rattle.dd_suite.specs.Held.{IsTextOfHeld}
+use Rattle.dd_suite.specs.Output.{IsKnownOutput}
 use Rattle.dd_suite.proofs.Requests.{not_both, same_command}
 
 pub some_injective : (a b : List ℕ) → Some a ≡ Some b → a ≡ b
@@ -32,11 +32,3 @@ prefix_of_file_output words tells held command name old new asked prefix bytes (
     let same = same_command words file.command command file.name name file.asked asked in
     prefix told bytes (subst (λ k. IsTextOfHeld k tells (held name) bytes) same.0 (subst (λ n. IsTextOfHeld file.command tells (held n) bytes) same.1 file.text))
 prefix_of_file_output words tells held command name old new asked prefix bytes (inr (inr none)) = absurd (none.0 (inr (command, name, asked)))
-
-pub whole_file_output : (words : List (List ℕ)) (tells : Bool) (held : List ℕ → Option (List ℕ)) (command : FileCommand) (name : List ℕ) (old new : Option (List ℕ))
-    → IsOnFile words command name → AppendsFileText command tells (held name) old new → AppendsOutput words tells held old new
-whole_file_output words tells held command name old new asked appended = record {
-  bytes = appended.text;
-  output = inr (inl (record { command = command; name = name; asked = asked; text = appended.is_text }));
-  appended = appended.appended;
-}
