@@ -1,5 +1,5 @@
 -- What a hand counts, and where it stands in a rack.
-use Rattle.std.specs.Prelude.{◌≡◌, ℕ, List, map, sum_by}
+use Rattle.std.specs.Prelude.{◌≡◌, ℕ, List, map, sum_by, slice_index_or}
 use Rattle.crossbeam_deque.specs.Handles.{worker_view}
 use Rattle.dd_board.specs.declared.naming.Naming.{Ghosts}
 use Rattle.dd_rack.specs.declared.way.Way.{Way}
@@ -41,3 +41,26 @@ module _ {N : Type 0} {names : Ghosts N} where
 
   abbrev pub hand_place : Hand N names → Place
   hand_place h = record { deck = hand_deck h; passes = hand_passes h; ends = hand_ends h }
+
+  abbrev pub hand_ways : Hand N names → List (Way N names)
+  hand_ways h = h.ways.items
+
+  -- a hand but for how many ways of others lead into its deque
+  abbrev pub hand_core : Hand N names → Deck × ℕ × ℕ × ℕ × List (Way N names)
+  hand_core h = (hand_deck h, hand_room h, hand_pushed h, hand_popped h, hand_ways h)
+
+  abbrev pub passes_at : List (Hand N names) → ℕ → ℕ
+  passes_at hands k = slice_index_or (map hand_passes hands) k 0
+
+  pub record IsNew (room : ℕ) (h : Hand N names) : Type 0 where
+    pub has_room : hand_room h ≡ room
+    pub pushed : hand_pushed h ≡ 0
+    pub popped : hand_popped h ≡ 0
+    pub stolen : hand_stolen h ≡ 0
+
+  -- no way of another leads into its deque
+  abbrev pub HasNoPasses : Hand N names → Type 0
+  HasNoPasses h = hand_passes h ≡ 0
+
+  abbrev pub HasPoppedAll : Hand N names → Type 0
+  HasPoppedAll h = hand_popped h ≡ hand_pushed h

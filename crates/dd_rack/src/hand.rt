@@ -1,10 +1,11 @@
-ghost use Rattle.std.specs.Prelude.{◌≡◌, ◌+◌, ◌-◌, ◌<◌, ◌≤◌, ◌↔◌, [], IfErr, OnOk, OnErr, IfNone, IfSome, IsErr, MatchOption, length};
-ghost use Rattle.dd_rack.specs.Hands.{hand_pushed, hand_popped, hand_stolen, hand_room, hand_passes, hand_place, hand_deck, hand_ends, HasAllOfHand};
+ghost use Rattle.std.specs.Prelude.{◌≡◌, ◌+◌, ◌-◌, ◌<◌, ◌↔◌, [], IfOk, IfErr, OnOk, OnErr, IfNone, IfSome, IsErr, MatchOption, length};
+ghost use Rattle.dd_rack.specs.Hands.{hand_pushed, hand_popped, hand_stolen, hand_room, hand_passes, hand_place, hand_deck, hand_core, HasAllOfHand};
 ghost use Rattle.dd_rack.specs.Ends.{way_deque, way_taken};
 
 use crate::owner::Owner;
 use crate::way::Way;
 use dd_board::{Naming, Ticket};
+use dd_model::Memory;
 use std::alloc::Global;
 use std::mem;
 use std::sync::Wait;
@@ -68,6 +69,25 @@ impl<N: Naming> Hand<N> {
     {
         let index = self.way_from(from)?;
         self.ways[index].steal(rt)
+    }
+
+    // A way into the hand's own deque, which has the number `from`.
+    pub(crate) fn way(&mut self, from: u32) -> Result<Way<N>, Memory>
+        ensures from { IfOk result (λ way. way.from ≡ from) }
+        ensures deck { IfOk result (λ way. way_deque way ≡ hand_deck self.old) }
+        ensures none { IfOk result (λ way. way_taken way ≡ 0) }
+        ensures passes { OnOk result (hand_passes self.new ≡ hand_passes self.old + 1) }
+        ensures same { hand_core self.new ≡ hand_core self.old }
+    {
+        self.owner.way(from)
+    }
+
+    // Ways into the deques of others, in place of those that the hand has.
+    pub(crate) fn give_ways(&mut self, ways: Vec<Way<N>>)
+        ensures ways { self.new.ways ≡ ways }
+        ensures owner { self.new.owner ≡ self.old.owner }
+    {
+        self.ways = ways;
     }
 
     // The ways, which the hand has no more.
