@@ -1,13 +1,12 @@
 -- Hands that have got their ways, and the rack of all of them.
-use Rattle.std.proofs.Common.{◌≡◌, ◌≢◌, ℕ, ◌+◌, ◌<◌, ◌≤◌, ◌⊎◌, inl, inr, List, [], ◌∷◌, length, map, sum_by, All, slice_set, slice_index_or, subst, refl, sym, ◌∙◌, ap, arith}
-use Rattle.std.proofs.lemmas.Bool.{cases_eq}
+use Rattle.std.proofs.Common.{◌≡◌, ℕ, ◌+◌, ◌<◌, List, [], length, map, sum_by, All, slice_index_or, subst, sym, ◌∙◌, ap, arith}
 use Rattle.std.proofs.lemmas.List.{get_or-map, length-map}
 use Rattle.dd_board.specs.declared.naming.Naming.{Ghosts}
 use Rattle.dd_rack.specs.declared.hand.Hand.{Hand}
 use Rattle.dd_rack.specs.Ends.{way_taken}
-use Rattle.dd_rack.specs.Hands.{hand_deck, hand_core, hand_passes, hand_ends, hand_place, passes_at, IsNew, way_end}
-use Rattle.dd_rack.specs.Places.{Deck, End, Place, LeadsInto, IsPlaceOf, IsRack, others}
-use Rattle.dd_rack.proofs.Changed.{map_at, map_map, map_through, same_length, item_at}
+use Rattle.dd_rack.specs.Hands.{hand_deck, hand_core, hand_passes, hand_ends, hand_place, passes_at, IsNew}
+use Rattle.dd_rack.specs.Places.{Deck, End, LeadsInto, IsPlaceOf, IsRack, others}
+use Rattle.dd_rack.proofs.Changed.{map_at, map_map, same_length, item_at}
 
 -- the ways of one hand
 pub record AreWays (decks : List Deck) (worker : ℕ) (ends : List End) : Type 0 where
@@ -57,5 +56,5 @@ module _ {N : Type 0} {names : Ghosts N} where
       let place : slice_index_or (map hand_place hands) k (hand_place h) ≡ hand_place h = map_at hand_place hands k h (hand_place h) lt at in
       let whole = rack k (hand_place h) (omega (arith, lt, length-map hands hand_place)) in
       let is : IsPlaceOf (map hand_deck hands) (k + 1) (hand_place h) =
-          subst (IsPlaceOf (map hand_deck hands) (k + 1)) place (subst (λ ds. IsPlaceOf ds (k + 1) (slice_index_or (map hand_place hands) k (hand_place h))) (decks_of_places hands) whole) in
+      subst (IsPlaceOf (map hand_deck hands) (k + 1)) place (subst (λ ds. IsPlaceOf ds (k + 1) (slice_index_or (map hand_place hands) k (hand_place h))) (decks_of_places hands) whole) in
       (record { others = is.others; into = is.into }, omega (arith, is.passes, length-map hands hand_deck))

@@ -1,12 +1,12 @@
 -- Each step on a deque keeps the rule.
-use Rattle.std.proofs.Common.{◌≡◌, ◌≢◌, ℕ, zero, suc, ◌+◌, ◌-◌, ◌<◌, ◌≤◌, Bool, true, false, true≢false, List, [], ◌∷◌, ◌++◌, map, length, length-append, set, refl, sym, ◌∙◌, ap, subst, arith, ⊎_elim, append_assoc}
+use Rattle.std.proofs.Common.{◌≡◌, ◌≢◌, ℕ, zero, suc, ◌+◌, ◌-◌, ◌≤◌, Bool, true, false, true≢false, List, [], ◌∷◌, ◌++◌, map, length, length-append, set, refl, sym, ◌∙◌, ap, subst, arith, ⊎_elim}
 use Rattle.std.proofs.lemmas.List.{map-append}
 use mathlib.Core.Option.{some, some-ne-none}
 use lib.ListN.{get_elem?}
 use Rattle.crossbeam_deque.specs.Tasks.{Pushes, Takes, Finds, Forks, Merges}
 use Rattle.crossbeam_deque.proofs.Lists.{at_set, at_snoc, set_else}
 use Rattle.dd_rack.specs.declared.known.Known.{Known}
-use Rattle.dd_rack.specs.Numbers.{known, times, counting, total, guest, took, Racked, Holds, TookAll, Pops, taking}
+use Rattle.dd_rack.specs.Numbers.{known, times, counting, total, guest, took, Racked, Holds, TookAll, Pops}
 use Rattle.dd_rack.proofs.Totals.{times-append, counting_snoc, total_set, total_zero, total_alone, total_snoc, total_part, length_le, length_counting}
 
 abbrev Each : (ℕ → Known → Type 0) → List Known → Type 0

@@ -1,5 +1,5 @@
 -- What is left in the deques of a rack.
-use Rattle.std.specs.Prelude.{◌≡◌, ℕ, All, sum_by}
+use Rattle.std.specs.Prelude.{ℕ, All, sum_by}
 use Rattle.dd_board.specs.declared.naming.Naming.{Ghosts}
 use Rattle.dd_rack.specs.declared.rest.Rest.{Rest}
 use Rattle.dd_rack.specs.Hands.{hand_pushed, hand_popped, HasPoppedAll}

@@ -36,7 +36,7 @@ pub fn ways_for<N: Naming>(
     ensures same { map hand_core hands.new.items ≡ map hand_core hands.old.items }
     ensures passes { OnOk result ((k : ℕ) → k < length hands.old.items →
         passes_at hands.new.items k ≡ passes_at hands.old.items k
-            + times (k + 1) (others (index + 1) (length hands.old.items))) }
+        + times (k + 1) (others (index + 1) (length hands.old.items))) }
     ensures froms { IfOk result (λ ways. map (λ e. e.from) (map way_end ways.items)
         ≡ others (index + 1) (length hands.old.items)) }
     ensures into { IfOk result (λ ways.

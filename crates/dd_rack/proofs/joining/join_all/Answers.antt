@@ -1,13 +1,12 @@
-use Rattle.std.proofs.Common.{◌≡◌, ◌≢◌, ◌+◌, ◌-◌, ◌<◌, ◌≤◌, ◌⊎◌, ℕ, [], length, map, drop, All, sum_by, slice_set, slice_index_or, subst, refl, sym, ◌∙◌, ap, arith, ⊎_elim}
+use Rattle.std.proofs.Common.{◌≡◌, ◌≢◌, ◌+◌, ◌<◌, ℕ, length, map, drop, All, slice_index_or, subst, refl, sym, ◌∙◌, ap, arith, ⊎_elim}
 use Rattle.std.proofs.lemmas.Bool.{cases_eq}
 use Rattle.std.proofs.lemmas.List.{get_or-map, length-map}
-use Rattle.std.proofs.Math.ListN.{drop_of_length-le}
-use Rattle.dd_rack.specs.Ends.{owner_deque, owner_passes, owner_taken, way_taken}
-use Rattle.dd_rack.specs.Hands.{hand_deck, hand_ways, hand_pushed, hand_popped, hand_passes, hand_stolen, passes_at, way_end}
+use Rattle.dd_rack.specs.Ends.{owner_deque, owner_passes, owner_taken}
+use Rattle.dd_rack.specs.Hands.{hand_deck, hand_ways, hand_pushed, hand_popped, hand_passes, way_end}
 use Rattle.dd_rack.specs.Numbers.{times}
 use Rattle.dd_rack.specs.Places.{LeadsInto, others}
-use Rattle.dd_rack.proofs.Changed.{map_set_same, same_length, same_sum, sum_map, map_at, item_at}
-use Rattle.dd_rack.proofs.Linked.{AreWays, ways_in_rack}
+use Rattle.dd_rack.proofs.Changed.{map_set_same, same_length, same_sum, map_at, item_at}
+use Rattle.dd_rack.proofs.Linked.{ways_in_rack}
 use Rattle.dd_rack.proofs.Joined.{same_next, drop_set, next_row, row_ways, row_sum}
 use Rattle.dd_rack.proofs.Others.{times_other}
 use Rattle.dd_rack.proofs.joining.join_all.Goals as goal
@@ -57,17 +56,16 @@ loop-index-preserved g c =
     let mine = (row_ways before i ws c.requires lt row).others in
     let kept = λ (k : ℕ). ap (λ ps. slice_index_or ps k 0) passes in
     let less = λ (k : ℕ) (below : k < n) (apart : k + 1 ≢ i + 1).
-        ap (times (k + 1)) mine ∙ ap (λ m. times (k + 1) (others (i + 1) m)) (length-map before hand_deck) ∙ times_other k (i + 1) n below apart in
-    (
+    ap (times (k + 1)) mine ∙ ap (λ m. times (k + 1) (others (i + 1) m)) (length-map before hand_deck) ∙ times_other k (i + 1) n below apart in (
       c.join_ways.ensures.decks ∙ decks,
       c.join_ways.ensures.pushed ∙ pushed,
       ap (drop (i + 1)) c.join_ways.ensures.ways ∙ drop_set hand_ways hands i c.take_ways-ways.new.self ∙ same_next (map hand_ways hands) (map hand_ways before) i inv.2,
       omega (arith, c.join_ways.ensures.popped, popped, row_sum before i ws lt row, inv.3),
       λ k below klt.
           ⊎_elim
-              (λ (here : k ≡ i). omega (arith, here, c.join_ways.ensures.passes k, kept k, inv.5 k (omega (arith, here)) klt))
-              (λ (apart : k ≡ i → ⊥). omega (arith, c.join_ways.ensures.passes k, kept k, less k klt (λ is. apart (omega (arith, is))), inv.4 k (omega (arith, below, apart)) klt, lt))
-              (cases_eq k i),
+          (λ (here : k ≡ i). omega (arith, here, c.join_ways.ensures.passes k, kept k, inv.5 k (omega (arith, here)) klt))
+          (λ (apart : k ≡ i → ⊥). omega (arith, c.join_ways.ensures.passes k, kept k, less k klt (λ is. apart (omega (arith, is))), inv.4 k (omega (arith, below, apart)) klt, lt))
+          (cases_eq k i),
       λ k from klt. omega (arith, c.join_ways.ensures.passes k, kept k, less k klt (λ is. absurd (omega (arith, is, from))), inv.5 k (omega (arith, from)) klt, from, klt),
     )
 

@@ -10,6 +10,6 @@ invariant-loop-index g l =
     × (map hand_pushed l.hands.items ≡ map hand_pushed l.fn.hands.items)
     × (drop l.index (map hand_ways l.hands.items) ≡ drop l.index (map hand_ways l.fn.hands.items))
     × (sum_by hand_popped l.hands.items + sum_by (sum_by way_taken) (drop l.index (map hand_ways l.fn.hands.items))
-        ≡ sum_by hand_popped l.fn.hands.items + sum_by (sum_by way_taken) (map hand_ways l.fn.hands.items))
+    ≡ sum_by hand_popped l.fn.hands.items + sum_by (sum_by way_taken) (map hand_ways l.fn.hands.items))
     × ((k : ℕ) → k < l.index → k < length l.fn.hands.items → passes_at l.hands.items k + l.index ≤ length l.fn.hands.items)
     × ((k : ℕ) → l.index ≤ k → k < length l.fn.hands.items → passes_at l.hands.items k + l.index + 1 ≤ length l.fn.hands.items)

@@ -1,7 +1,7 @@
-use Rattle.std.proofs.Common.{◌≡◌, ◌+◌, ◌-◌, ℕ, List, ◌∷◌, All, map, subst, sym, ◌∙◌, ap, arith, rules, sum_by}
+use Rattle.std.proofs.Common.{◌≡◌, ◌+◌, ℕ, List, ◌∷◌, All, map, subst, sym, ◌∙◌, ap, arith, sum_by}
 use Rattle.std.proofs.lemmas.List.{nil_from_length}
 use Rattle.std.proofs.lemmas.List.Sums.{sum_by-cons}
-use Rattle.dd_rack.specs.Hands.{hand_deck, way_end, passes_at}
+use Rattle.dd_rack.specs.Hands.{hand_deck, way_end}
 use Rattle.dd_rack.specs.Ends.{way_taken}
 use Rattle.dd_rack.specs.Numbers.{times}
 use Rattle.dd_board.specs.declared.naming.Naming.{Ghosts}
@@ -25,8 +25,7 @@ loop-way-preserved g c =
     let steps = c.in-Some.ensures.steps.0 in
     let rest = c.next.new.self.rest.items in
     let left = subst (λ ws. All (LeadsInto (map hand_deck c.args.hands.now.items)) (map way_end ws)) steps inv.5 in
-    let sum : sum_by way_taken c.loop-way.way-iterator.rest.items ≡ way_taken c.in-Some.way + sum_by way_taken rest = ap (sum_by way_taken) steps ∙ sum_by-cons way_taken c.in-Some.way rest in
-    (
+    let sum : sum_by way_taken c.loop-way.way-iterator.rest.items ≡ way_taken c.in-Some.way + sum_by way_taken rest = ap (sum_by way_taken) steps ∙ sum_by-cons way_taken c.in-Some.way rest in (
       c.join_way.ensures.decks ∙ inv.0,
       c.join_way.ensures.ways ∙ inv.1,
       c.join_way.ensures.pushed ∙ inv.2,

@@ -14,5 +14,5 @@ invariant-loop-way g l =
     × (map hand_pushed l.hands.items ≡ map hand_pushed l.fn.hands.items)
     × (sum_by hand_popped l.hands.items + sum_by way_taken (into_iter_items l.way-iterator) ≡ sum_by hand_popped l.fn.hands.items + sum_by way_taken l.fn.ways.items)
     × ((k : ℕ) → passes_at l.hands.items k - times (k + 1) (map (λ e. e.from) (map way_end (into_iter_items l.way-iterator)))
-        ≡ passes_at l.fn.hands.items k - times (k + 1) (map (λ e. e.from) (map way_end l.fn.ways.items)))
+    ≡ passes_at l.fn.hands.items k - times (k + 1) (map (λ e. e.from) (map way_end l.fn.ways.items)))
     × All (LeadsInto (map hand_deck l.fn.hands.items)) (map way_end (into_iter_items l.way-iterator))

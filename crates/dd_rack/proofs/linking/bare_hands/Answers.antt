@@ -1,4 +1,4 @@
-use Rattle.std.proofs.Common.{◌≡◌, All, subst, sym, ◌∙◌, ap, rules, sum_by}
+use Rattle.std.proofs.Common.{All, subst, sym, ap, rules, sum_by}
 use Rattle.dd_rack.specs.Ends.{way_taken}
 use Rattle.dd_rack.specs.Hands.{IsNew, HasNoPasses}
 use Rattle.dd_rack.proofs.Changed.{all_snoc}

@@ -1,4 +1,4 @@
-use Rattle.std.proofs.Common.{◌≡◌, ◌+◌, ◌-◌, ◌<◌, ◌++◌, ◌∷◌, [], All, length, map, subst, sym, ◌∙◌, ap, arith, rules, sum_by, Some, slice_get}
+use Rattle.std.proofs.Common.{◌≡◌, ◌+◌, ◌-◌, ◌<◌, ◌++◌, ◌∷◌, [], All, length, map, subst, sym, ◌∙◌, ap, arith, sum_by, Some, slice_get}
 use Rattle.std.proofs.lemmas.List.{map-append}
 use Rattle.std.proofs.lemmas.List.Sums.{sum_by_push}
 use Rattle.dd_rack.specs.Ends.{way_taken}
@@ -26,10 +26,9 @@ loop-other-preserved g c =
     let items = c.in_ok-push.ensures.items in
     let decks = map_through (λ core. core.0) hand_core hands c.args.hands.now.items inv.0 in
     let into : slice_get (map hand_deck c.args.hands.now.items) (way.from - 1) ≡ Some (way_end way).deck =
-        let place : way.from - 1 ≡ other = omega (arith, c.in_ok-way.ensures.from) in
-        ap (slice_get (map hand_deck c.args.hands.now.items)) place ∙ ap (λ ds. slice_get ds other) (sym decks) ∙ map_get hand_deck hands other _ lt value ∙ ap Some (sym c.in_ok-way.ensures.deck) in
-    let ends = ap (map way_end) items ∙ map-append way_end c.loop-other.ways.items (way ∷ []) in
-    (
+    let place : way.from - 1 ≡ other = omega (arith, c.in_ok-way.ensures.from) in
+    ap (slice_get (map hand_deck c.args.hands.now.items)) place ∙ ap (λ ds. slice_get ds other) (sym decks) ∙ map_get hand_deck hands other _ lt value ∙ ap Some (sym c.in_ok-way.ensures.deck) in
+    let ends = ap (map way_end) items ∙ map-append way_end c.loop-other.ways.items (way ∷ []) in (
       map_set_same hand_core _ _ _ _ value c.way.ensures.same ∙ inv.0,
       λ k within. omega (arith, more_at hand_passes hands other _ c.way.new.self lt value c.in_ok-way.ensures.passes k, inv.1 k within, times_more (k + 1) (c.args.index + 1) other apart),
       ap (map (λ e. e.from)) ends ∙ map-append (λ e. e.from) (map way_end c.loop-other.ways.items) (way_end way ∷ []) ∙ ap (λ ns. ns ++ way.from ∷ []) inv.2

@@ -1,7 +1,7 @@
-use Rattle.std.proofs.Common.{◌≡◌, ℕ, ◌+◌, ◌<◌, ◌∙◌, sym, ap, arith, rules, map, length, All, slice_index_or, slice_set, sum_by}
+use Rattle.std.proofs.Common.{◌<◌, ◌∙◌, ap, arith, length}
 use Rattle.std.proofs.lemmas.List.{length-set}
 use Rattle.std.proofs.lemmas.List.Elements.{All-set, All-get_or}
-use Rattle.dd_rack.specs.Hands.{hand_pushed, hand_popped, hand_passes, HasNoPasses, HasPoppedAll}
+use Rattle.dd_rack.specs.Hands.{hand_pushed, hand_popped, hand_passes, HasNoPasses}
 use Rattle.dd_rack.proofs.Changed.{map_set_same, same_sum, sum_set}
 use Rattle.dd_rack.proofs.Emptied.{not_empty, emptied_on, all_emptied, all_sums}
 use Rattle.dd_rack.proofs.rest.Rest.next.Goals as goal
@@ -28,8 +28,7 @@ loop-index-preserved g c =
     let hands = c.loop-index.self.hands.items in
     let lt : c.loop-index.index < length hands = omega (arith, c.loop-index-test.true, c.len-index-end.ensures, inv.0) in
     let value = c.index_mut.ensures.value in
-    let none : HasNoPasses c.index_mut.result.now = ap (λ h. hand_passes h) value ∙ All-get_or HasNoPasses hands c.loop-index.index _ lt inv.3 in
-    (
+    let none : HasNoPasses c.index_mut.result.now = ap (λ h. hand_passes h) value ∙ All-get_or HasNoPasses hands c.loop-index.index _ lt inv.3 in (
       length-set hands c.loop-index.index c.pop.new.self ∙ inv.0,
       map_set_same hand_pushed _ _ _ _ value c.pop.ensures.pushed ∙ inv.1,
       map_set_same hand_popped _ _ _ _ value c.in-None.ensures.popped ∙ inv.2,
