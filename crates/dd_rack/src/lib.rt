@@ -12,6 +12,8 @@ mod owning;
 mod rack;
 mod rest;
 mod slot;
+#[cfg(test)]
+mod tests;
 mod way;
 mod ways;
 
