@@ -1,0 +1,7 @@
+mod Totals
+mod Rules
+mod Changed
+mod Emptied
+mod Others
+mod Linked
+mod Joined

@@ -1,0 +1,5 @@
+pub mod Numbers
+pub mod Ends
+pub mod Places
+pub mod Hands
+pub mod Rests
