@@ -9,7 +9,7 @@ use Rattle.dd_model.specs.declared.index.Index.TheVariants.{Zero, One, Two}
 use Rattle.dd_symbol.specs.Walk.{IsMarked, IsWalk, IsClosed}
 use Rattle.dd_symbol.proofs.WalkLemmas.{found, grown}
 use Rattle.dd_cells.specs.Orientation.{color, AreWeakColors, HasWeakColors, IsOriented}
-use Rattle.dd_cells.specs.Coloring.{IsForced, AreForced, IsFreeOf}
+use Rattle.dd_cells.specs.Coloring.{IsForced, AreForced}
 
 -- a chamber that is met with a forced color joins those whose colors are forced
 pub forced_more : (s : Symbol) (seen colors : List Bool) (e : ℕ) (b : Bool) → length colors ≡ s.size
@@ -55,9 +55,6 @@ forced_is_exchanged s colors inv forced some i d h moved =
 -- a coloring that is exchanged everywhere is a weak one
 pub weak_of_oriented : (s : Symbol) → IsOriented s → HasWeakColors s
 weak_of_oriented s o = record { colors = o.colors; exchanged = λ i d h moved. o.exchanged i d h }
-
-pub oriented_of_weak : (s : Symbol) (colors : List Bool) → AreWeakColors s colors → ((i : Index) → IsFreeOf s i) → IsOriented s
-oriented_of_weak s colors weak free = record { free = λ i d h. free i d h; colors = colors; exchanged = λ i d h. weak i d h (free i d h) }
 
 -- what is met is reached
 pub reached_of_marked : (s : Symbol) (seen : List Bool) (queue : List ℕ) → IsWalk s seen queue → (d : ℕ) → IsChamber s d → IsMarked seen d → IsReached s d

@@ -1,5 +1,5 @@
 -- What a walk through a cell lists.
-use Rattle.std.proofs.Common.{◌≡◌, ◌↔◌, ℕ, zero, suc, ◌+◌, ◌*◌, ◌/◌, ◌<◌, ◌≤◌, List, [], ◌∷◌, ◌++◌, length, map, take, slice_index, sym, ap, ◌∙◌, subst, inl, inr, ⊎_elim, arith}
+use Rattle.std.proofs.Common.{◌≡◌, ◌↔◌, ℕ, zero, suc, ◌+◌, ◌*◌, ◌<◌, ◌≤◌, List, [], ◌∷◌, ◌++◌, length, map, take, slice_index, sym, ap, ◌∙◌, subst, inl, inr, ⊎_elim, arith}
 use Rattle.std.specs.List.{AllByRecursion, Contains}
 use Rattle.std.proofs.lemmas.List.{map-append, take_more}
 use Rattle.std.proofs.lemmas.List.Elements.{Contains-push, Contains-push_cases, Contains-append_left}
@@ -59,9 +59,6 @@ cell_from_met s inv p d r xs h turns are e = (
 )
 
 -- ## Turns and branching values
-
-quotient_of : (v r m : ℕ) → 1 ≤ v → v * r ≡ m → m / v ≡ r
-quotient_of v r m low e = grind arith
 
 some_value : (v r m : ℕ) → 1 ≤ m → v * r ≡ m → 1 ≤ v
 some_value zero r m low e = omega arith

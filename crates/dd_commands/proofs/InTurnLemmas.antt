@@ -38,12 +38,6 @@ pub in_turn_same : (ss : List Symbol) → AreInTurn (λ s t. s ≡ t) ss ss
 in_turn_same [] = tt
 in_turn_same (s ∷ ss) = (refl, in_turn_same ss)
 
-pub same_in_turn : (ss ts : List Symbol) → AreInTurn (λ s t. s ≡ t) ss ts → ss ≡ ts
-same_in_turn [] [] a = refl
-same_in_turn [] (t ∷ ts) a = absurd a
-same_in_turn (s ∷ ss) [] a = absurd a
-same_in_turn (s ∷ ss) (t ∷ ts) a = ap (λ x. x ∷ ss) a.0 ∙ ap (λ xs. t ∷ xs) (same_in_turn ss ts a.1)
-
 -- After symbols of which something is made comes the first with a fault.
 pub first_fault_after : (command : SymbolCommand) (k : ℕ) (ss made : List Symbol) (i : ℕ) (s : Symbol) (r : SymbolRefusal) → i < length ss
     → AreInTurn (IsMade command) (take i ss) made → r.symbol ≡ k + i → IsFaultOf command (get_or ss i s) r.why → IsFirstFault command k ss r

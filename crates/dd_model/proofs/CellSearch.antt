@@ -113,20 +113,3 @@ decide_least_of_cell s inv p d =
     (cases_eq l.least d))
     (λ outside. inr (λ least. outside least.0))
     (decide_chamber s d)
-
--- A chamber that lies in the cell of no smaller chamber is the least of its cell.
-pub least_from_unseen : (s : Symbol) → AreInvolutions s → (p : Pair) (d : ℕ) → IsChamber s d
-    → ((c : ℕ) → IsChamber s c → c < d → InCell s p c d → ⊥) → IsLeastOfCell s p d
-least_from_unseen s inv p d h unseen = (
-  h,
-  λ e there. ⊎_elim
-      (λ below. absurd (unseen e (in_cell_within s inv p d e h there) below (in_cell-sym s inv p d e h there)))
-      (λ above. above)
-      (cases_lt e d),
-)
-
--- The least of a cell lies in the cell of no smaller chamber.
-pub unseen_from_least : (s : Symbol) → AreInvolutions s → (p : Pair) (c d : ℕ) → IsChamber s c → c < d → InCell s p c d → IsLeastOfCell s p d → ⊥
-unseen_from_least s inv p c d h below there least =
-    let low = least.1 c (in_cell-sym s inv p c d h there) in
-    omega arith

@@ -181,9 +181,6 @@ met_from_in_cell s inv p d r e h period there =
 
 -- ## What the first turns meet
 
-pub met_none : (s : Symbol) (p : Pair) (d e : ℕ) → IsMet s p d 0 e → ⊥
-met_none s p d e met = let below = met.below in omega arith
-
 -- what k turns meet, k + 1 turns meet
 pub met_later : (s : Symbol) (p : Pair) (d k e : ℕ) → IsMet s p d k e → IsMet s p d (k + 1) e
 met_later s p d k e met = record { turns = met.turns; below = let below = met.below in omega arith; place = met.place }

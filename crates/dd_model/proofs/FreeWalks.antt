@@ -1,11 +1,11 @@
 -- The walk through a cell that looks for a fixed chamber.
-use Rattle.std.proofs.Common.{◌≡◌, ℕ, zero, suc, ◌+◌, ◌<◌, ◌≤◌, ◌⊎◌, sym, ap, ◌∙◌, subst, inl, inr, ⊎_elim, arith}
+use Rattle.std.proofs.Common.{◌≡◌, ℕ, zero, suc, ◌+◌, ◌<◌, ◌≤◌, sym, ap, ◌∙◌, subst, ⊎_elim, arith}
 use Rattle.std.proofs.lemmas.Bool.{cases_lt}
 use Rattle.dd_model.specs.declared.pair.Pair.{Pair}
 use Rattle.dd_model.specs.Symbol.{Symbol, AreInvolutions, IsChamber, first, second, op}
-use Rattle.dd_model.specs.Cell.{InCell, IsChain, turned}
-use Rattle.dd_model.proofs.Turns.{turned_within, turned-last, period_bound}
-use Rattle.dd_model.proofs.CellWalks.{next_place, met_from_in_cell, period_from_first_return, in_cell-turned, in_cell-first}
+use Rattle.dd_model.specs.Cell.{IsChain, turned}
+use Rattle.dd_model.proofs.Turns.{turned_within, turned-last}
+use Rattle.dd_model.proofs.CellWalks.{next_place, met_from_in_cell, period_from_first_return}
 
 -- After k turns from d the walk stands at a place, has met no fixed chamber, and has not come back to d.
 pub record IsFreeWalk (s : Symbol) (p : Pair) (d k place : ℕ) : Type 0 where
@@ -96,19 +96,3 @@ free_walk_comes_back s inv p d k place next h w is unfixed_first unfixed_second 
     (λ by_second. free.second_moves met.turns met.below (turned-last s p met.turns d ∙ ap (op s (second p)) beside ∙ by_second ∙ sym beside))
     chain.fixed)
     met.place
-
--- No walk is longer than there are chambers.
-pub free_walk_ends : (s : Symbol) → AreInvolutions s → (p : Pair) (d place : ℕ) → IsChamber s d → IsFreeWalk s p d s.size place → ⊥
-free_walk_ends s inv p d place h w =
-    let bound = period_bound s inv p d (s.size + 1) h w.unfixed in
-    omega arith
-
--- A walk that meets a fixed chamber is in a chain.
-pub chain_from_walk : (s : Symbol) (p : Pair) (d k place : ℕ) → IsFreeWalk s p d k place
-    → (op s (first p) place ≡ place) ⊎ (op s (second p) (op s (first p) place) ≡ op s (first p) place) → IsChain s p d
-chain_from_walk s p d k place w fixed =
-    let there : InCell s p d place = subst (InCell s p d) (sym w.at) (in_cell-turned s p d k) in
-    ⊎_elim
-    (λ by_first. record { chamber = place; in_cell = there; fixed = inl by_first })
-    (λ by_second. record { chamber = op s (first p) place; in_cell = in_cell-first s p d place there; fixed = inr by_second })
-    fixed

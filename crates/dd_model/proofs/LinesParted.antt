@@ -4,6 +4,7 @@ use Rattle.std.proofs.lemmas.List.{append_assoc, append_cancel_left}
 use Rattle.std.specs.Prelude.{codes}
 use Rattle.std.specs.Fmt.{decimal}
 use Rattle.dd_model.specs.Line.{spaced}
+use Rattle.dd_model.proofs.Lists.{cons_tail}
 use Rattle.dd_model.proofs.Digits.{AreShort, IsDigit, IsOfList, same_number, same_numbers, not_digit_below, not_digit_above}
 
 -- what a line tells: its number, a size, and five lists
@@ -53,13 +54,10 @@ pub line_grouped : (p : LineParts) (more : List ℕ) → line_of p ++ more ≡ c
 line_grouped p more =
     grouped (codes "<1.") (decimal p.number) (codes ":") (decimal p.size) (codes ":") (spaced p.first) (codes ",") (spaced p.second) (codes ",") (spaced p.third) (codes ":") (spaced p.fourth) (codes ",") (spaced p.fifth) (codes ">\n") more
 
-cons_injective_tail : {c : ℕ} {us vs : List ℕ} → c ∷ us ≡ c ∷ vs → us ≡ vs
-cons_injective_tail e = cc
-
 number_to_colon : (m n : ℕ) (us vs : List ℕ) → m < 10 ^ 64 → n < 10 ^ 64 → decimal m ++ 58 ∷ us ≡ decimal n ++ 58 ∷ vs → (m ≡ n) × (us ≡ vs)
 number_to_colon m n us vs hm hn e =
     let both = same_number m n (58 ∷ us) (58 ∷ vs) hm hn (not_digit_above 58 (omega arith)) (not_digit_above 58 (omega arith)) e in
-    (both.0, cons_injective_tail both.1)
+    (both.0, cons_tail _ _ _ _ both.1)
 
 -- no sign between lists is a digit or a space
 sign_ends : (c : ℕ) → (32 ≡ c → ⊥) → (IsDigit c → ⊥) → IsOfList c → ⊥
@@ -78,7 +76,7 @@ angle_ends = sign_ends 62 (λ e. omega (arith, e)) (not_digit_above 62 (omega ar
 numbers_to_sign : (c : ℕ) (xs ys us vs : List ℕ) → (IsOfList c → ⊥) → AreShort xs → AreShort ys → spaced xs ++ c ∷ us ≡ spaced ys ++ c ∷ vs → (xs ≡ ys) × (us ≡ vs)
 numbers_to_sign c xs ys us vs ends hx hy e =
     let both = same_numbers xs ys (c ∷ us) (c ∷ vs) hx hy ends ends e in
-    (both.0, cons_injective_tail both.1)
+    (both.0, cons_tail _ _ _ _ both.1)
 
 -- numbers whose digits are told
 pub record ArePartsShort (p : LineParts) : Type 0 where
@@ -109,4 +107,4 @@ same_parts p q us vs hp hq same =
     let e4 : p.third ≡ q.third = third.0 in
     let e5 : p.fourth ≡ q.fourth = fourth.0 in
     let e6 : p.fifth ≡ q.fifth = fifth.0 in
-    (λ x. record { number = e0 x; size = e1 x; first = e2 x; second = e3 x; third = e4 x; fourth = e5 x; fifth = e6 x }, cons_injective_tail fifth.1)
+    (λ x. record { number = e0 x; size = e1 x; first = e2 x; second = e3 x; third = e4 x; fourth = e5 x; fifth = e6 x }, cons_tail _ _ _ _ fifth.1)

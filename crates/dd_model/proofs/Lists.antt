@@ -41,14 +41,6 @@ Contains-map f (y ∷ xs) x there =
     (λ later. Contains-later (f y) (f x) (map f xs) (Contains-map f xs x later))
     (Contains-cases y x xs there)
 
-pub Contains-from_map : {A B : Type 0} (f : A → B) (xs : List A) (y : B) → Contains (map f xs) y → (x : A) × Contains xs x × (f x ≡ y)
-Contains-from_map f [] y there = absurd (Contains-none y there)
-Contains-from_map f (x ∷ xs) y there =
-    ⊎_elim
-    (λ first. (x, Contains-head x xs, first))
-    (λ later. let r = Contains-from_map f xs y later in (r.0, Contains-later x r.0 xs r.1, r.2))
-    (Contains-cases (f x) y (map f xs) there)
-
 -- ## Parts and values
 
 pub cons_head : {A : Type 0} (x y : A) (xs ys : List A) → x ∷ xs ≡ y ∷ ys → x ≡ y

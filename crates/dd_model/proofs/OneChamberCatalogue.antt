@@ -13,6 +13,7 @@ use Rattle.dd_model.specs.Cell.{IsBranching}
 use Rattle.dd_model.specs.Flat.{Flat}
 use Rattle.dd_model.specs.Allowed.{IsIn}
 use Rattle.dd_model.specs.Text.{IsText, beginning}
+use Rattle.dd_model.proofs.WantedDegrees.{by_value}
 use Rattle.dd_model.specs.Wanted.{IsCrystallographic, Wanted, IsMember, IsCatalogue}
 use Rattle.dd_model.specs.Worked.{single, single_chambers, AsksForOneChamber}
 use Rattle.dd_model.proofs.OneChamber.{stays, turns, at_one, symbol, connected as single_connected, least as single_least, minimal as single_minimal, line}
@@ -51,24 +52,16 @@ v_is a b p v h =
     let r : h.r ≡ 1 = omega (arith, x, y) in
     let e : v * 1 ≡ degree (single a b) p 1 = subst (λ r. v * r ≡ degree (single a b) p 1) r h.quotient in omega (arith, e)
 
-by_degree : (P : ℕ → Type 0) → P 1 → P 2 → P 3 → P 4 → P 6 → (v : ℕ) → IsCrystallographic v → P v
-by_degree P a b c d e v (zero, h, x) = subst P x a
-by_degree P a b c d e v (suc zero, h, x) = subst P x b
-by_degree P a b c d e v (suc (suc zero), h, x) = subst P x c
-by_degree P a b c d e v (suc (suc (suc zero)), h, x) = subst P x d
-by_degree P a b c d e v (suc (suc (suc (suc zero))), h, x) = subst P x e
-by_degree P a b c d e v (suc (suc (suc (suc (suc k)))), h, x) = absurd (omega (arith, h))
-
 abbrev IsListed : ℕ → ℕ → Type 0
 IsListed a b = Flat (single a b) → Contains single_chambers (single a b)
 
 of_degrees : (a b : ℕ) → IsCrystallographic a → IsCrystallographic b → IsListed a b
-of_degrees a b h k = by_degree (λ x. IsListed x b)
-    (by_degree (IsListed 1) (λ f. absurd (omega (arith, f))) (λ f. absurd (omega (arith, f))) (λ f. absurd (omega (arith, f))) (λ f. absurd (omega (arith, f))) (λ f. absurd (omega (arith, f))) b k)
-    (by_degree (IsListed 2) (λ f. absurd (omega (arith, f))) (λ f. absurd (omega (arith, f))) (λ f. absurd (omega (arith, f))) (λ f. absurd (omega (arith, f))) (λ f. absurd (omega (arith, f))) b k)
-    (by_degree (IsListed 3) (λ f. absurd (omega (arith, f))) (λ f. absurd (omega (arith, f))) (λ f. absurd (omega (arith, f))) (λ f. absurd (omega (arith, f))) (λ f. (0, omega arith, refl)) b k)
-    (by_degree (IsListed 4) (λ f. absurd (omega (arith, f))) (λ f. absurd (omega (arith, f))) (λ f. absurd (omega (arith, f))) (λ f. (1, omega arith, refl)) (λ f. absurd (omega (arith, f))) b k)
-    (by_degree (IsListed 6) (λ f. absurd (omega (arith, f))) (λ f. absurd (omega (arith, f))) (λ f. (2, omega arith, refl)) (λ f. absurd (omega (arith, f))) (λ f. absurd (omega (arith, f))) b k)
+of_degrees a b h k = by_value (λ x. IsListed x b)
+    (by_value (IsListed 1) (λ f. absurd (omega (arith, f))) (λ f. absurd (omega (arith, f))) (λ f. absurd (omega (arith, f))) (λ f. absurd (omega (arith, f))) (λ f. absurd (omega (arith, f))) b k)
+    (by_value (IsListed 2) (λ f. absurd (omega (arith, f))) (λ f. absurd (omega (arith, f))) (λ f. absurd (omega (arith, f))) (λ f. absurd (omega (arith, f))) (λ f. absurd (omega (arith, f))) b k)
+    (by_value (IsListed 3) (λ f. absurd (omega (arith, f))) (λ f. absurd (omega (arith, f))) (λ f. absurd (omega (arith, f))) (λ f. absurd (omega (arith, f))) (λ f. (0, omega arith, refl)) b k)
+    (by_value (IsListed 4) (λ f. absurd (omega (arith, f))) (λ f. absurd (omega (arith, f))) (λ f. absurd (omega (arith, f))) (λ f. (1, omega arith, refl)) (λ f. absurd (omega (arith, f))) b k)
+    (by_value (IsListed 6) (λ f. absurd (omega (arith, f))) (λ f. absurd (omega (arith, f))) (λ f. (2, omega arith, refl)) (λ f. absurd (omega (arith, f))) (λ f. absurd (omega (arith, f))) b k)
     a h
 
 -- a wanted symbol of one chamber is in the row

@@ -1,10 +1,10 @@
 -- The orders of numbers, of lists of numbers and of symbols: nothing is below itself.
-use Rattle.std.proofs.Common.{◌≡◌, ℕ, ◌<◌, List, sym, subst, ⊎_elim, arith}
+use Rattle.std.proofs.Common.{◌≡◌, ℕ, ◌<◌, List, [], ◌∷◌, ◌++◌, length, refl, sym, ap, ◌∙◌, subst, ⊎_elim, arith}
 use Rattle.std.proofs.lemmas.Bool.{cases_lt, cases_eq}
 use Rattle.std.proofs.lemmas.Cmp.{tied_itself}
 use Rattle.std.specs.Cmp.{IsTotalOrder, nat_cmp_is, nat_cmp_total, on_total, then_total}
 use Rattle.std.specs.Cmp.Lexicographic.{slice_cmp, nat_list_cmp_total}
-use Rattle.std.specs.Ordering.{nat_cmp}
+use Rattle.std.specs.Ordering.{nat_cmp, ordering_then}
 use Rattle.std.specs.declared.cmp.Ordering.{Ordering}
 use Rattle.std.specs.declared.cmp.Ordering.TheVariants.{Less, Equal, Greater}
 use Rattle.dd_model.specs.Symbol.{Symbol}
@@ -44,6 +44,22 @@ list_not_below_itself = not_less_than_itself (slice_cmp nat_cmp) nat_list_cmp_to
 
 pub list_not_below_both : (xs ys : List ℕ) → slice_cmp nat_cmp xs ys ≡ Less → slice_cmp nat_cmp ys xs ≡ Less → ⊥
 list_not_below_both = not_less_both (slice_cmp nat_cmp) nat_list_cmp_total
+
+-- an order of three parts, however they are grouped
+pub then_assoc : (a b c : Ordering) → ordering_then (ordering_then a b) c ≡ ordering_then a (ordering_then b c)
+then_assoc Less b c = refl
+then_assoc Equal b c = refl
+then_assoc Greater b c = refl
+
+-- lists with parts of one length in front are compared part by part
+pub compared_in_parts : (xs ys us vs : List ℕ) → length xs ≡ length ys
+    → slice_cmp nat_cmp (xs ++ us) (ys ++ vs) ≡ ordering_then (slice_cmp nat_cmp xs ys) (slice_cmp nat_cmp us vs)
+compared_in_parts [] [] us vs e = refl
+compared_in_parts [] (y ∷ ys) us vs e = absurd (omega arith)
+compared_in_parts (x ∷ xs) [] us vs e = absurd (omega arith)
+compared_in_parts (x ∷ xs) (y ∷ ys) us vs e =
+    ap (ordering_then (nat_cmp x y)) (compared_in_parts xs ys us vs (omega arith))
+    ∙ sym (then_assoc (nat_cmp x y) (slice_cmp nat_cmp xs ys) (slice_cmp nat_cmp us vs))
 
 -- symbols
 pub not_below_itself : (s : Symbol) → IsBelow s s → ⊥

@@ -36,7 +36,7 @@ smaller_here k xs ys hx hy differ =
       (λ h. ⊎_elim (λ less. less) (λ more. absurd (differ more.0)) (both.1 h)),
     )
 
-not_smaller_than_none : (xs : List ℕ) → IsSmallerWhereTheyDiffer xs [] → ⊥
+pub not_smaller_than_none : (xs : List ℕ) → IsSmallerWhereTheyDiffer xs [] → ⊥
 not_smaller_than_none [] h = h
 not_smaller_than_none (x ∷ xs) h = h
 

@@ -14,17 +14,14 @@ use Rattle.dd_model.specs.declared.jobs.Position.{Position}
 use Rattle.dd_model.specs.declared.pair.Pair.TheVariants.{Tile, Vertex}
 use Rattle.dd_model.proofs.CellLists.{cells_unique}
 use Rattle.dd_model.proofs.Catalogues.{catalogue_unique}
+use Rattle.dd_model.proofs.SmallerPlaces.{not_smaller_than_none}
 use Rattle.dd_model.proofs.Without.{without_unique, without_none}
-
-not_smaller_than_nothing : (xs : List ℕ) → IsSmallerWhereTheyDiffer xs [] → ⊥
-not_smaller_than_nothing [] h = h
-not_smaller_than_nothing (x ∷ xs) h = h
 
 not_smaller_than_ones : (x y z : ℕ) (rest : List ℕ) → 1 ≤ x → 1 ≤ y → 1 ≤ z → IsSmallerWhereTheyDiffer (x ∷ y ∷ z ∷ rest) (1 ∷ 1 ∷ 1 ∷ []) → ⊥
 not_smaller_than_ones x y z rest a b c (inl h) = omega (arith, a, h)
 not_smaller_than_ones x y z rest a b c (inr (_, inl h)) = omega (arith, b, h)
 not_smaller_than_ones x y z rest a b c (inr (_, inr (_, inl h))) = omega (arith, c, h)
-not_smaller_than_ones x y z rest a b c (inr (_, inr (_, inr (_, h)))) = not_smaller_than_nothing rest h
+not_smaller_than_ones x y z rest a b c (inr (_, inr (_, inr (_, h)))) = not_smaller_than_none rest h
 
 -- the code of a symbol of one chamber begins with three numbers of at least 1
 one_not_smaller : (s : Symbol) → IsSymbol s → s.size ≡ 1 → IsSmallerWhereTheyDiffer (code s) (1 ∷ 1 ∷ 1 ∷ []) → ⊥

@@ -14,6 +14,15 @@ use Rattle.dd_model.proofs.Branching.{branching_exists}
 use Rattle.dd_model.proofs.Turns.{IsLeastTurns-from_period, least_turns_unique}
 use Rattle.dd_model.proofs.CellWalks.{has_period}
 
+-- what holds of 1, 2, 3, 4 and 6 holds of each branching value
+pub by_value : (P : ℕ → Type 0) → P 1 → P 2 → P 3 → P 4 → P 6 → (v : ℕ) → IsCrystallographic v → P v
+by_value P a b c d e v (zero, h, x) = subst P x a
+by_value P a b c d e v (suc zero, h, x) = subst P x b
+by_value P a b c d e v (suc (suc zero), h, x) = subst P x c
+by_value P a b c d e v (suc (suc (suc zero)), h, x) = subst P x d
+by_value P a b c d e v (suc (suc (suc (suc zero))), h, x) = subst P x e
+by_value P a b c d e v (suc (suc (suc (suc (suc k)))), h, x) = absurd (omega (arith, h))
+
 one_of_five : (v k : ℕ) → k < 5 → slice_index_or (1 ∷ 2 ∷ 3 ∷ 4 ∷ 6 ∷ []) k v ≡ v → v ≤ 6
 one_of_five v zero h e = omega (arith, e)
 one_of_five v (suc zero) h e = omega (arith, e)

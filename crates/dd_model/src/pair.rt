@@ -18,9 +18,6 @@ pub enum Pair {
 impl Pair {
     ghost use Rattle.dd_model.specs.Symbol.{first, second};
 
-    /// All three.
-    pub const ALL: [Pair; 3] = [Pair::Tile, Pair::Vertex, Pair::Edge];
-
     /// The first involution of the pair.
     pub fn first(self) -> Index
         ensures { result ≡ first self }

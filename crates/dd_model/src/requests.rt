@@ -1,4 +1,4 @@
-ghost use Rattle.std.specs.Prelude.{◌≡◌, ◌≤◌, ◌↔◌, IsTrue};
+ghost use Rattle.std.specs.Prelude.{◌≡◌, ◌≤◌, ◌↔◌, IsTrue, false};
 
 use crate::Allowed;
 
@@ -21,6 +21,26 @@ pub struct Request {
 
 impl Request {
     ghost use Rattle.dd_model.specs.Request.{IsValid};
+    ghost use Rattle.dd_model.specs.Allowed.{IsFrom};
+
+    /// All symbols of at most so many chambers whose tiles and vertices have three edges or more.
+    pub fn up_to(chambers: u32) -> Request
+        requires { (1 ≤ chambers) × (chambers ≤ 36) }
+        ensures valid { IsValid result }
+        ensures chambers { result.chambers ≡ chambers }
+        ensures limits { (result.tiles ≡ 0) × (result.vertices ≡ 0) }
+        ensures sets { IsFrom 3 result.faces × IsFrom 3 result.degrees }
+        ensures minimal { result.minimal ≡ false }
+    {
+        Request {
+            chambers,
+            tiles: 0,
+            vertices: 0,
+            faces: Allowed::least(3),
+            degrees: Allowed::least(3),
+            minimal: false,
+        }
+    }
 
     /// Whether each field is in its range.
     pub fn is_valid(&self) -> bool

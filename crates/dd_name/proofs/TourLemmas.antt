@@ -11,7 +11,7 @@ use Rattle.dd_model.specs.declared.index.Index.TheVariants.{Zero, One, Two}
 use Rattle.dd_model.specs.declared.pair.Pair.{Pair}
 use Rattle.dd_model.specs.Symbol.{Symbol, AreInvolutions, IsChamber}
 use Rattle.dd_model.proofs.CellLists.{increasing-push}
-use Rattle.dd_model.proofs.Lists.{Contains-head, Contains-later, Contains-cases, Contains-none}
+use Rattle.dd_model.proofs.Lists.{Contains-head, Contains-later, Contains-cases, Contains-none, cons_head, cons_tail}
 use Rattle.dd_name.specs.declared.flags.Flag.{Flag}
 use Rattle.dd_name.specs.declared.joints.Joint.{Joint}
 use Rattle.dd_name.specs.Flags.{IsFlag, IsOfPair, index_number, place_of}
@@ -55,10 +55,7 @@ place_within s f h = let low = index_low f.index in let high = h.1 in omega arit
 pub linked-push : (s : Symbol) (a : Joint) (rest front : List Joint) (x y : Joint) → front ++ x ∷ [] ≡ a ∷ rest → AreLinked s a rest → IsLinked s x y → AreLinked s a (rest ++ y ∷ [])
 linked-push s a [] [] x y e linked link = let same : x ≡ a = (cc) in (subst (λ (j : Joint). IsLinked s j y) same link, tt)
 linked-push s a (r ∷ rest) [] x y e linked link = absurd (let w = ap length e in omega (arith, w))
-linked-push s a [] (b ∷ front) x y e linked link = absurd (none front x (tails e)) where
-  tails : {A : Type 0} {b a : A} {xs ys : List A} → b ∷ xs ≡ a ∷ ys → xs ≡ ys
-  tails h = (cc)
-
+linked-push s a [] (b ∷ front) x y e linked link = absurd (none front x (cons_tail _ _ _ _ e)) where
   none : {A : Type 0} (xs : List A) (y : A) → xs ++ y ∷ [] ≡ [] → ⊥
   none [] y h = (cc)
   none (z ∷ zs) y h = (cc)
@@ -251,22 +248,16 @@ tour_closes s start old marks joints current w fresh m =
           (w.near p f g joined before);
     }
 
-heads : {A : Type 0} {a b : A} {xs ys : List A} → a ∷ xs ≡ b ∷ ys → a ≡ b
-heads h = (cc)
-
-tails : {A : Type 0} {a b : A} {xs ys : List A} → a ∷ xs ≡ b ∷ ys → xs ≡ ys
-tails h = (cc)
-
 pub tour_is_round : (s : Symbol) (start : Flag) (old marks : List Bool) (joints : List Joint) (current : Joint) → IsTour s start old marks joints current
     → (IsMarked old start → ⊥) → IsMarked marks current.flag → IsNewRound s start old marks joints
 tour_is_round s start old marks [] current w fresh m = absurd (tour_is_long s start old marks [] current w fresh m refl)
 tour_is_round s start old marks (j ∷ joints) current w fresh m =
     let same = w.returned m in
-    let rest : w.rest ≡ joints ++ w.first ∷ [] = sym (tails w.begins) ∙ ap (λ (k : Joint). joints ++ k ∷ []) same in
+    let rest : w.rest ≡ joints ++ w.first ∷ [] = sym (cons_tail _ _ _ _ w.begins) ∙ ap (λ (k : Joint). joints ++ k ∷ []) same in
     record {
       first = w.first;
       rest = joints;
-      is = ap (λ (k : Joint). k ∷ joints) (heads w.begins);
+      is = ap (λ (k : Joint). k ∷ joints) (cons_head _ _ _ _ w.begins);
       flag = w.flag;
       by = w.by;
       closed = subst (AreLinked s w.first) rest w.linked;

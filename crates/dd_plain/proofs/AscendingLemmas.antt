@@ -30,10 +30,6 @@ ascending-insert (y ∷ xs) ys x h before after = (all-append (IsBelow y) xs x y
 pub above_all : (x y : Symbol) (ys : List Symbol) → IsAscending (y ∷ ys) → IsBelow x y → AllByRecursion (IsBelow x) (y ∷ ys)
 above_all x y ys h below = (below, all_above x y below ys h.0)
 
-pub ascending-drop : (xs ys : List Symbol) → IsAscending (xs ++ ys) → IsAscending ys
-ascending-drop [] ys h = h
-ascending-drop (x ∷ xs) ys h = ascending-drop xs ys h.1
-
 pub Contains-insert : (xs ys : List Symbol) (x : Symbol) (s : Symbol) → Contains (xs ++ x ∷ ys) s ↔ (Contains (xs ++ ys) s ⊎ (s ≡ x))
 Contains-insert xs ys x s = (
   (λ h.
@@ -58,13 +54,6 @@ Contains-insert xs ys x s = (
   where
     one_member : (x s : Symbol) → Contains (x ∷ []) s → s ≡ x
     one_member x s h = ⊎_elim (λ none. absurd (omega (arith, none.1))) (λ e. sym e) (Contains-push_cases [] x s h)
-
--- the step of a walk past what is below
-pub below-more : (x : Symbol) (xs : List Symbol) (k : ℕ) (d : Symbol) → k < length xs → AllByRecursion (λ y. IsBelow y x) (take k xs) → IsBelow (get_or xs k d) x
-    → AllByRecursion (λ y. IsBelow y x) (take (suc k) xs)
-below-more x [] k d h before here = absurd (omega arith)
-below-more x (y ∷ xs) zero d h before here = (here, tt)
-below-more x (y ∷ xs) (suc k) d h before here = (before.0, below-more x xs k d (omega arith) before.1 here)
 
 -- what is above a member is above all from there on
 pub above-from : (x : Symbol) (xs : List Symbol) (k : ℕ) (d : Symbol) → IsAscending xs → k < length xs → IsBelow x (get_or xs k d) → AllByRecursion (IsBelow x) (drop k xs)

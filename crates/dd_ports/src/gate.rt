@@ -9,8 +9,13 @@ pub trait Gate {
 pub struct OpenGate;
 
 impl OpenGate {
-    /// The open gate.
-    pub fn new() -> OpenGate {
+    ghost use Rattle.dd_ports.specs.declared.gate.OpenGate.{OpenGate};
+    ghost use Rattle.std.specs.Prelude.{◌≡◌};
+
+    /// The open gate. There is no other.
+    pub fn new() -> OpenGate
+        ensures { (gate : OpenGate) → gate ≡ result }
+    {
         OpenGate
     }
 }

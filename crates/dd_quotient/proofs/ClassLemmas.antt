@@ -1,5 +1,5 @@
 -- Classes of chambers that are refined until nothing more is told.
-use Rattle.std.proofs.Common.{◌≡◌, ℕ, zero, suc, ◌+◌, ◌-◌, ◌*◌, ◌<◌, ◌≤◌, List, [], ◌∷◌, length, replicate, get_or, refl, sym, ap, ◌∙◌, subst, arith}
+use Rattle.std.proofs.Common.{◌≡◌, ℕ, ◌+◌, ◌-◌, ◌*◌, ◌<◌, ◌≤◌, List, [], ◌∷◌, length, replicate, get_or, sym, ap, ◌∙◌, subst, arith}
 use Rattle.std.proofs.lemmas.List.{get_or-replicate}
 use Rattle.dd_model.specs.declared.index.Index.{Index}
 use Rattle.dd_model.specs.declared.index.Index.TheVariants.{Zero, One, Two}
@@ -18,20 +18,6 @@ pub record IsClasses (s : Symbol) (c : List ℕ) : Type 0 where
 
 one : (n d : ℕ) → 1 ≤ d → d ≤ n → item (replicate n 1) d ≡ 1
 one n d low high = get_or-replicate n (d - 1) 1 0 (omega arith)
-
-length-ones : (n : ℕ) → length {A = ℕ} (replicate n 1) ≡ n
-length-ones zero = refl
-length-ones (suc n) = ap suc (length-ones n)
-
--- at first all chambers are in one class
-pub first_classes : (s : Symbol) → 1 ≤ s.size → IsClasses s (replicate s.size 1)
-first_classes s some = record {
-  images = length-ones s.size;
-  within = λ d h. let e = one s.size d h.0 h.1 in rw e (omega arith, some);
-  own = λ d h. let e = one s.size d h.0 h.1 in ap (item (replicate s.size 1)) e ∙ one s.size 1 (omega arith) some ∙ sym e;
-  low = λ d h. let e = one s.size d h.0 h.1 in let l = h.0 in omega (arith, e, l);
-  alike = λ d e h k _. one s.size d h.0 h.1 ∙ sym (one s.size e k.0 k.1);
-}
 
 six : (a b c d e f a' b' c' d' e' f' : ℕ) → a ≡ a' → b ≡ b' → c ≡ c' → d ≡ d' → e ≡ e' → f ≡ f'
     → a ∷ b ∷ c ∷ d ∷ e ∷ f ∷ [] ≡ a' ∷ b' ∷ c' ∷ d' ∷ e' ∷ f' ∷ []

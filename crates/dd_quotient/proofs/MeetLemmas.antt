@@ -41,10 +41,6 @@ met_new m n own d updated none = record {
       updated q ∙ keep (is_eq (slice_cmp nat_cmp own q)) (first_of m q) d e (λ yes. ap (first_of m) (sym (same_key own q yes)) ∙ none) h;
 }
 
--- what is found is what was kept
-pub met_old : (m : BTreeMap (List ℕ) ℕ) (own : List ℕ) (d first : ℕ) → first_of m own ≡ Some first → IsMet m m own d first
-met_old m own d first h = record { here = h; found = λ q e there. inl there; kept = λ q e there. there }
-
 -- the first k chambers have the least chambers with their signatures
 pub record AreFirsts (s : Symbol) (c : List ℕ) (m : BTreeMap (List ℕ) ℕ) (f : List ℕ) (k : ℕ) : Type 0 where
   pub images : length f ≡ k

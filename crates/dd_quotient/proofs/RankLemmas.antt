@@ -3,18 +3,7 @@ use Rattle.std.proofs.Common.{◌≡◌, ℕ, ◌+◌, ◌-◌, ◌<◌, ◌≤�
 use Rattle.std.proofs.lemmas.Bool.{cases_lt}
 use Rattle.std.proofs.lemmas.List.{length-append, get_or_push, get_or_append_left}
 use Rattle.dd_model.specs.Symbol.{Symbol, IsChamber, item}
-use Rattle.dd_quotient.specs.Alike.{AreAlikeClasses}
 use Rattle.dd_quotient.specs.Ranks.{HaveLeaders, IsRank, AreRanks}
-
--- the class of each chamber is led by the least chamber that is alike with it
-pub leaders_from_classes : (s : Symbol) (c : List ℕ) → AreAlikeClasses s c → HaveLeaders c
-leaders_from_classes s c a =
-    let n = a.images in
-    record {
-      low = λ d low high. (a.within d (low, omega arith)).0;
-      high = λ d low high. let h : (1 ≤ d) × (d ≤ s.size) = (low, omega arith) in a.least d d h h (λ w. (refl, refl));
-      own = λ d low high. let h : (1 ≤ d) × (d ≤ s.size) = (low, omega arith) in (a.alike (item c d) d (a.within d h) h).1 (a.member d h);
-    }
 
 -- what holds below n and at n holds up to n
 or_last : (P : ℕ → Type 0) (n : ℕ) → ((e : ℕ) → 1 ≤ e → e < n → P e) → P n → (e : ℕ) → 1 ≤ e → e ≤ n → P e

@@ -6,7 +6,6 @@ use Rattle.std.proofs.lemmas.Nat.{mul-le}
 use Rattle.std.specs.List.{flat_map}
 use Rattle.dd_model.specs.declared.index.Index.TheVariants.{Zero, One, Two}
 use Rattle.dd_model.specs.declared.pair.Pair.{Pair}
-use Rattle.dd_model.specs.declared.pair.Pair.TheVariants.{Tile, Vertex, Edge}
 use Rattle.dd_model.specs.Symbol.{Symbol, IsChamber, degree}
 use Rattle.dd_model.specs.Connected.{Connected}
 use Rattle.dd_model.specs.Small.{IsSmallSymbol}
@@ -16,13 +15,9 @@ use Rattle.dd_model.proofs.CellWalks.{has_period}
 use Rattle.dd_model.proofs.Turns.{IsLeastTurns-from_period, least_turns_unique}
 use Rattle.dd_model.proofs.CountFrom.{count_from-more}
 use Rattle.dd_symbol.specs.Building.{listed, HaveOneLength, IsAccepted}
-use Rattle.dd_template.specs.declared.tables.Degree.{Degree}
-use Rattle.dd_template.specs.declared.tables.Degree.TheVariants.{OfTile, OfVertex, Fixed}
-use Rattle.dd_template.specs.Applying.{HasSmallFactor}
-use Rattle.dd_template.specs.Table.{Table, IsPart, entry}
+use Rattle.dd_template.specs.Table.{Table}
 use Rattle.dd_template.specs.Made.{made}
 use Rattle.dd_template.specs.Lawful.{IsLawful}
-use Rattle.dd_template.specs.Entries.{Fits, entries}
 use Rattle.dd_template.proofs.MadeSymbols.{made_table}
 use Rattle.dd_template.proofs.MadeConnected.{made_connected}
 use Rattle.dd_template.proofs.MadeBranching.{made_small}
@@ -47,19 +42,6 @@ degree_bound s small p d h =
 
 pub product_bound : (c m : ℕ) → c ≤ 64 → m ≤ 491520 → c * m ≤ 31457280
 product_bound c m a b = mul-le c m 64 491520 a b
-
-factor_of_fitting : (t : Table) → IsLawful t → (p : Pair) (x : ℕ) (e : Degree) → Fits t p x e → HasSmallFactor e
-factor_of_fitting t lawful p x (OfTile c) fits = let a = fits.1.within in let b = lawful.lists.few in omega arith
-factor_of_fitting t lawful p x (OfVertex c) fits = let a = fits.1.within in let b = lawful.lists.few in omega arith
-factor_of_fitting t lawful p x (Fixed m) fits = tt
-
-pub small_factor : (t : Table) → IsLawful t → (p : Pair) (x : ℕ) → IsPart t x → HasSmallFactor (entry (entries t p) x)
-small_factor t lawful Tile x inside = factor_of_fitting t lawful Tile x (entry t.face x) (lawful.entries.face x inside)
-small_factor t lawful Vertex x inside = factor_of_fitting t lawful Vertex x (entry t.degree x) (lawful.entries.degree x inside)
-small_factor t lawful Edge x inside = tt
-
-pub fewer_chambers : (d n k : ℕ) → d ≤ n → n * k ≤ 1024 → d * k ≤ 1024
-fewer_chambers d n k h l = let e = mul-le d k n k h (omega arith) in omega arith
 
 -- ## One more
 

@@ -1,25 +1,13 @@
 -- What the table of the dual makes, and how many parts the four tables have.
-use Rattle.std.proofs.Common.{◌≡◌, ℕ, ◌*◌, ◌≤◌, List, length, refl, sym, ap, ◌∙◌, arith}
+use Rattle.std.proofs.Common.{◌≡◌, ℕ, ◌*◌, ◌≤◌, List, length, sym, ap, ◌∙◌, arith}
 use Rattle.dd_model.specs.declared.index.Index.TheVariants.{Zero, One, Two}
 use Rattle.dd_model.specs.Symbol.{Symbol, IsTable, IsChamber, item, op}
 use Rattle.dd_model.proofs.Codes.{same_items}
 use Rattle.dd_template.specs.Table.{Table, table_of}
 use Rattle.dd_template.specs.Made.{chamber_of, image_of, degree_from, of_parts, made}
 use Rattle.dd_template.specs.Dual.{exchanged}
-use Rattle.dd_template.specs.declared.constants.TheConstants.{DUAL, AMBO, TRUNCATE, CHAMFER}
+use Rattle.dd_template.specs.declared.constants.TheConstants.{DUAL}
 use Rattle.dd_template.proofs.PlaceLemmas.{item-of_parts, length-of_parts}
-
-pub dual_parts : (table_of DUAL).parts ≡ 1
-dual_parts = refl
-
-pub ambo_parts : (table_of AMBO).parts ≡ 2
-ambo_parts = refl
-
-pub truncate_parts : (table_of TRUNCATE).parts ≡ 3
-truncate_parts = refl
-
-pub chamfer_parts : (table_of CHAMFER).parts ≡ 4
-chamfer_parts = refl
 
 abbrev table : Table
 table = table_of DUAL

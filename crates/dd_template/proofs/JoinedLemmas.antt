@@ -2,7 +2,7 @@
 use Rattle.std.proofs.Common.{◌≡◌, ℕ, zero, suc, ◌+◌, ◌<◌, Bool, true, false, List, [], ◌∷◌, ◌++◌, length, replicate, get_or, set, refl, sym, ap, ◌∙◌, subst, ⊎_elim, arith}
 use Rattle.std.proofs.lemmas.Bool.{cases_eq}
 use Rattle.std.proofs.lemmas.List.{get_or-set_same, get_or-set_other}
-use Rattle.std.proofs.lemmas.List.Sums.{sum_by-set, sum_by-cons, get_or-le-sum_by}
+use Rattle.std.proofs.lemmas.List.Sums.{sum_by-set, sum_by-cons}
 use Rattle.std.specs.List.{sum_by}
 use Rattle.dd_model.specs.Symbol.{Word}
 use Rattle.dd_template.specs.Table.{Table, IsPart, move, part_after}
@@ -76,10 +76,3 @@ none_left (b ∷ met) h =
     let rest = none_left met (λ x l. h (suc x) (omega arith)) in
     let e : unmet b ≡ 0 = ap unmet here in
     omega (arith, sum_by-cons unmet b met)
-
--- where none is left, all are met
-pub all_met : (met : List Bool) (x : ℕ) → sum_by unmet met ≡ 0 → x < length met → IsMet met x
-all_met met x e h = let l = get_or-le-sum_by unmet met x false h in met_of (get_or met x false) (omega arith) where
-  met_of : (b : Bool) → unmet b ≡ 0 → b ≡ true
-  met_of true e = refl
-  met_of false e = absurd (omega arith)

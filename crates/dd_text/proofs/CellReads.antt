@@ -1,11 +1,11 @@
 -- How a list of degrees is laid on the cells.
-use Rattle.std.proofs.Common.{◌≡◌, ℕ, zero, suc, ◌+◌, ◌-◌, ◌<◌, ◌≤◌, List, [], ◌∷◌, length, get_or, set, replicate, take, drop, refl, sym, ap, ◌∙◌, subst, ⊎_elim, arith}
+use Rattle.std.proofs.Common.{◌≡◌, ℕ, zero, suc, ◌+◌, ◌-◌, ◌<◌, ◌≤◌, List, [], ◌∷◌, length, get_or, set, take, drop, refl, sym, ap, ◌∙◌, subst, ⊎_elim, arith}
 use Rattle.std.specs.Prelude.{map, Result, Ok, Err, IfOk, Vec}
 use Rattle.std.specs.Global.{Global}
 use Rattle.dd_text.specs.declared.faults.Fault.{Fault}
 use Rattle.std.specs.List.Sorted.{IsStrictlyIncreasing}
 use Rattle.std.proofs.lemmas.Bool.{cases_lt}
-use Rattle.std.proofs.lemmas.List.{get_or-set_same, get_or-set_other, length-set, length-replicate, get_or-map, get_or_read, ext_get_or}
+use Rattle.std.proofs.lemmas.List.{get_or-set_same, get_or-set_other, length-set, get_or-map, get_or_read, ext_get_or}
 use Rattle.std.proofs.lemmas.List.Elements.{Contains-get_or}
 use Rattle.std.proofs.lemmas.List.Kept.{AllPairs-from_increasing}
 use Rattle.dd_model.specs.declared.pair.Pair.{Pair}
@@ -18,7 +18,7 @@ use Rattle.dd_model.proofs.Transport.{in_cell_within}
 use Rattle.dd_symbol.specs.Cells.{IsLeastFor, AreLeast}
 use Rattle.dd_symbol.proofs.CellMarks.{own_least, least_for_unique}
 use Rattle.dd_text.specs.ToldImages.{numbers_of}
-use Rattle.dd_text.specs.ListFaults.{IsShortOfCells, IsBeyondCells}
+use Rattle.dd_text.specs.ListFaults.{IsBeyondCells}
 use Rattle.dd_text.specs.Images.{AreDegrees, IsWithin}
 use Rattle.dd_text.proofs.ListSteps.{cut_at}
 
@@ -29,9 +29,6 @@ at_index xs i = get_or xs i (record { at = 0; value = 0 })
 pub record AreAtCells (n k : ℕ) (cells : List ℕ) (numbers : List Numeral) (told : List ℕ) : Type 0 where
   pub length_is : length told ≡ n
   pub told_is : (j : ℕ) → j < k → item told (get_or cells j 0) ≡ (at_index numbers j).value
-
-pub nothing_at_cells : (n : ℕ) (cells : List ℕ) (numbers : List Numeral) (told : List ℕ) → told ≡ replicate n 0 → AreAtCells n 0 cells numbers told
-nothing_at_cells n cells numbers told e = record { length_is = ap length e ∙ length-replicate n 0; told_is = λ j h. absurd (omega arith) }
 
 pub one_at_cells : (n k : ℕ) (cells : List ℕ) (numbers : List Numeral) (told : List ℕ) → IsStrictlyIncreasing cells
     → ((j : ℕ) → j < length cells → IsWithin n (get_or cells j 0)) → k < length cells → AreAtCells n k cells numbers told
@@ -121,9 +118,6 @@ beyond_cells s p l cells are long = record {
   enough = length-take l.numbers (length cells) (omega arith);
   place = refl;
 }
-
-pub short_of_cells : (s : Symbol) (p : Pair) (l : Told) (cells : List ℕ) → AreCells s p cells → length l.numbers < length cells → IsShortOfCells s p l l.end
-short_of_cells s p l cells are short = record { cells = cells; are_cells = are; short = short; place = refl }
 
 -- the least chambers of cells are chambers
 pub within_cells : (s : Symbol) (p : Pair) (cells : List ℕ) → AreCells s p cells → (k : ℕ) → k < length cells → IsWithin s.size (get_or cells k 0)

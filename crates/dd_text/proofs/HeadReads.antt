@@ -1,5 +1,5 @@
 -- The exits of the code that reads the head and the size.
-use Rattle.std.proofs.Common.{◌≡◌, ℕ, List, [], ◌∷◌, Some, None, refl, sym, ap, ◌∙◌, subst}
+use Rattle.std.proofs.Common.{◌≡◌, ℕ, List, [], ◌∷◌, Some, refl, sym, ap, ◌∙◌, subst}
 use Rattle.dd_model.specs.declared.tokens.Placed.{Placed}
 use Rattle.dd_model.specs.declared.tokens.Numeral.{Numeral}
 use Rattle.dd_model.specs.Parts.{Cursor, first_part, after_part, Spells}
@@ -95,17 +95,6 @@ no_size c c1 c2 c3 c4 c5 p1 p2 p3 p4 p5 x y k j f n1 e1 n2 e2 n3 e3 n4 e4 n5 bad
     let there = subst (λ z. IsNoNumber (first_part z) f) (sym to4) here in
     let spells : Spells c (head_3 x k y j) c4 = (front.spells.0, (front.spells.1.0, (third, (fourth, to4)))) in
     unsized_fault c f (form_by_number c c4 (head_3 x k y j) f spells here any (size_number x y any k j) (size_other x y k j (first_part c4) here.other)) (unsized_size c k front.dot there.other)
-
--- a size without a head
-pub plain_head : (c c1 c2 : Cursor) (p1 p2 : Placed) (x : Numeral) → IsNextPart c p1 c1 → p1 ≡ number_part x → IsNextPart c1 p2 c2 → (p2 ≡ sign_part 46 p2.at → ⊥) → IsHeadTo c x p2 c2
-plain_head c c1 c2 p1 p2 x n1 e1 n2 no_dot = record {
-  head = None;
-  mid = c1;
-  spells = (sym n1.part ∙ e1, sym n1.rest);
-  no_prefix = λ e m same. no_dot (same ∙ ap (λ a. sign_part 46 a) (sym (ap (λ (q : Placed). q.at) same)));
-  next_is = sym n2.part;
-  to = sym n2.rest;
-}
 
 -- a size with a head
 pub whole_head : (c c1 c2 c3 c4 c5 c6 : Cursor) (p1 p2 p3 p4 p5 p6 : Placed) (x y n : Numeral) (k j : ℕ) → IsNextPart c p1 c1 → p1 ≡ number_part x

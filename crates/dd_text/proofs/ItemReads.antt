@@ -73,9 +73,6 @@ reads_more bytes c d old new r i = record {
   readable = subst (AllByRecursion IsReadable) (sym i.symbols) (all-append old (symbols_of (i.item ∷ [])) r.readable i.readable);
 }
 
-pub reads_nothing : (bytes : List ℕ) (c : Cursor) → c ≡ start bytes → ReadsTo bytes [] c
-reads_nothing bytes c e = record { items = []; row = sym e; symbols = refl; readable = tt }
-
 pub reads_symbol : (c d : Cursor) (s : Symbol) (old new : List Symbol) → ReadsSymbol c s d → new ≡ old ++ s ∷ [] → ReadsItem c d old new
 reads_symbol c d s old new r e = record { item = Spelling r.shape s; stands = r.spelling; symbols = e; readable = (r.readable, tt) }
 

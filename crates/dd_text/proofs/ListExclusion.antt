@@ -6,6 +6,7 @@ use Rattle.dd_model.specs.Symbol.{item}
 use Rattle.dd_model.specs.Spelling.{Told, values}
 use Rattle.dd_model.proofs.ReadingImages.{told_from, told-yes, IsFold, told_same}
 use Rattle.dd_model.proofs.Codes.{same_items}
+use Rattle.dd_model.proofs.Lists.{cons_head, cons_tail}
 use Rattle.dd_text.specs.declared.faults.Why.{Why}
 use Rattle.dd_text.specs.declared.faults.Why.TheVariants as whys
 use Rattle.dd_text.specs.ToldImages.{IsFirstUnknown, IsFree, Says, Say, Nothing, numbers_of}
@@ -64,12 +65,6 @@ comes_next n F f k c left fold a first =
       free = record { some = there.0; within = let h = there.1 in omega arith; unknown = unknown };
       left_is = sym a.left_is ∙ ap (told_from F k) count ∙ told_skip F k (c - k) (suc (n - c)) skipped ∙ ap (λ z. told_from F z (suc (n - c))) place ∙ told-yes F c (n - c) large;
     }
-
-cons_head : (x y : ℕ) (xs ys : List ℕ) → x ∷ xs ≡ y ∷ ys → x ≡ y
-cons_head x y xs ys e = cc
-
-cons_tail : (x y : ℕ) (xs ys : List ℕ) → x ∷ xs ≡ y ∷ ys → xs ≡ ys
-cons_tail x y xs ys e = cc
 
 agrees_more : (n : ℕ) (F : ℕ → ℕ) (f mid : List ℕ) (k x : ℕ) (left : List ℕ) → IsFold n F → Agrees n F f k (x ∷ left) → (s : Says f x mid) → Agrees n F mid (s.chamber + 1) left
 agrees_more n F f mid k x left fold a s =

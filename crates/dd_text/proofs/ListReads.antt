@@ -8,9 +8,6 @@ use Rattle.dd_model.specs.Parts.{Cursor, Spells}
 use Rattle.dd_model.specs.Spelling.{number_part, sign_part, with_list}
 use Rattle.dd_model.proofs.ReadingParts.{spells-append}
 use Rattle.dd_text.specs.Reader.{IsNextPart}
-use Rattle.dd_text.specs.declared.faults.Fault.{Fault}
-use Rattle.dd_text.specs.Texts.{IsNoNumber, IsListCut}
-use Rattle.dd_text.proofs.SizeReads.{not_sign}
 
 pub list_ends : (c d e : Cursor) (xs : List Numeral) (p : Placed) (s : ℕ) → Spells c (map number_part xs) d → IsNextPart d p e → p ≡ sign_part s p.at
     → Spells c (with_list (record { numbers = xs; end = p.at }) s []) e
@@ -21,13 +18,3 @@ pub one_more : (c d e : Cursor) (xs : List Numeral) (p : Placed) (x : Numeral) �
 one_more c d e xs p x a n number ys pushed =
     subst (λ zs. Spells c zs e) (sym (ap (map number_part) pushed ∙ map_push number_part xs x))
     (spells-append c d e (map number_part xs) (number_part x ∷ []) a (sym n.part ∙ number, sym n.rest))
-
-pub list_cut : (c d e : Cursor) (xs : List Numeral) (p : Placed) (s : ℕ) (f : Fault) → Spells c (map number_part xs) d → IsNextPart d p e
-    → (p ≡ sign_part s p.at → ⊥) → IsNoNumber p f → IsListCut c s f
-list_cut c d e xs p s f a n sign bad = record {
-  numbers = xs;
-  here = d;
-  spells = a;
-  no_number = subst (λ q. IsNoNumber q f) n.part bad;
-  no_end = λ m same. not_sign p s sign m (n.part ∙ same);
-}

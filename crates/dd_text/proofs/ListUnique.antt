@@ -7,6 +7,7 @@ use Rattle.dd_model.specs.declared.tokens.Numeral.{Numeral}
 use Rattle.dd_model.specs.Symbol.{Symbol}
 use Rattle.dd_model.specs.Spelling.{Told}
 use Rattle.dd_model.proofs.CellLists.{cells_unique}
+use Rattle.dd_model.proofs.Lists.{cons_head, cons_tail}
 use Rattle.dd_text.specs.declared.faults.Why.{Why}
 use Rattle.dd_text.specs.declared.faults.Why.TheVariants as whys
 use Rattle.dd_text.specs.ToldImages.{IsFirstUnknown, Says, Say, Nothing, numbers_of}
@@ -81,12 +82,6 @@ data Cut (a : List Numeral) (x : Numeral) (b : List Numeral) (y : Numeral) : Typ
   same : a ≡ b → x ≡ y → Cut a x b y
   earlier : (more : List Numeral) → b ≡ a ++ x ∷ more → Cut a x b y
   later : (more : List Numeral) → a ≡ b ++ y ∷ more → Cut a x b y
-
-cons_head : (x y : Numeral) (xs ys : List Numeral) → x ∷ xs ≡ y ∷ ys → x ≡ y
-cons_head x y xs ys e = cc
-
-cons_tail : (x y : Numeral) (xs ys : List Numeral) → x ∷ xs ≡ y ∷ ys → xs ≡ ys
-cons_tail x y xs ys e = cc
 
 cut_more : (u v : Numeral) (a b : List Numeral) (x y : Numeral) → u ≡ v → Cut a x b y → Cut (u ∷ a) x (v ∷ b) y
 cut_more u v a b x y e (same f g) = same (ap (λ z. z ∷ a) e ∙ ap (λ zs. v ∷ zs) f) g

@@ -20,12 +20,6 @@ use Rattle.dd_text.proofs.SymbolExclusion.{shape_excluded}
 nothing_there : (b : ℕ) (bs rest : List ℕ) → rest ≡ b ∷ bs → rest ≡ [] → ⊥
 nothing_there b bs rest e f = let g = sym e ∙ f in cc
 
--- an item that begins with < is a symbol
-no_other_item : (c d : Cursor) (after : List ℕ) (i : Item) → c.rest ≡ 60 ∷ after → IsItem c i d → (i ≡ Blank) ⊎ (i ≡ Comment) → ⊥
-no_other_item c d after Blank e a k = no_blank a.byte 60 a.after after c.rest a.begins e a.blank refl
-no_other_item c d after Comment e a k = let f = no_byte 35 60 a.after after c.rest a.begins e in omega arith
-no_other_item c d after (Spelling x s) e a k = ⊎_elim (λ f. cc) (λ f. cc) k
-
 -- a fault of the text, where a symbol stands
 after_excluded : (c d : Cursor) (x : Shape) (s : Symbol) (w : Why) (at : ℕ) → IsFaultAfter c w at → w ≢ whys.Memory → IsSpellingTo c x s d → ⊥
 after_excluded c d x s w at f some a =

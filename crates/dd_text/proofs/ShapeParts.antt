@@ -5,14 +5,9 @@ use Rattle.dd_model.specs.declared.tokens.Part.TheVariants.{Number}
 use Rattle.dd_model.specs.declared.tokens.Placed.{Placed}
 use Rattle.dd_model.specs.declared.tokens.Numeral.{Numeral}
 use Rattle.dd_model.specs.Spelling.{Told, Head, Shape, number_part, sign_part, with_head, with_dimension, with_list, parts_of}
+use Rattle.dd_model.proofs.Lists.{cons_head, cons_tail}
 use Rattle.dd_model.proofs.ReadingParts.{sign_is_no_number, signs_differ}
 use Rattle.dd_text.specs.TextFaults.{MayStand}
-
-pub heads : (p q : Placed) (ps qs : List Placed) → p ∷ ps ≡ q ∷ qs → p ≡ q
-heads p q ps qs e = cc
-
-pub tails : (p q : Placed) (ps qs : List Placed) → p ∷ ps ≡ q ∷ qs → ps ≡ qs
-tails p q ps qs e = cc
 
 pub nothing_left : (p : Placed) (ps : List Placed) → p ∷ ps ≡ [] → ⊥
 nothing_left p ps e = cc
@@ -35,21 +30,21 @@ opened-append (Some h) n None m ps qs = refl
 opened-append (Some h) n (Some d) m ps qs = refl
 
 peel_dimension : (d e : Option Numeral) (m n : ℕ) (ps qs : List Placed) → with_dimension d (sign_part 58 m ∷ ps) ≡ with_dimension e (sign_part 58 n ∷ qs) → ps ≡ qs
-peel_dimension None None m n ps qs e = tails _ _ _ _ e
-peel_dimension None (Some y) m n ps qs e = absurd (unlike 58 m y (heads _ _ _ _ e))
-peel_dimension (Some x) None m n ps qs e = absurd (unlike 58 n x (sym (heads _ _ _ _ e)))
-peel_dimension (Some x) (Some y) m n ps qs e = tails _ _ _ _ (tails _ _ _ _ e)
+peel_dimension None None m n ps qs e = cons_tail _ _ _ _ e
+peel_dimension None (Some y) m n ps qs e = absurd (unlike 58 m y (cons_head _ _ _ _ e))
+peel_dimension (Some x) None m n ps qs e = absurd (unlike 58 n x (sym (cons_head _ _ _ _ e)))
+peel_dimension (Some x) (Some y) m n ps qs e = cons_tail _ _ _ _ (cons_tail _ _ _ _ e)
 
 -- no dot follows on a size
 pub no_dot : (d : Option Numeral) (m n : ℕ) (ps qs : List Placed) → with_dimension d (sign_part 58 m ∷ ps) ≡ sign_part 46 n ∷ qs → ⊥
-no_dot None m n ps qs e = let f = same_sign 58 m 46 n (heads _ _ _ _ e) in omega arith
-no_dot (Some x) m n ps qs e = unlike 46 n x (sym (heads _ _ _ _ e))
+no_dot None m n ps qs e = let f = same_sign 58 m 46 n (cons_head _ _ _ _ e) in omega arith
+no_dot (Some x) m n ps qs e = unlike 46 n x (sym (cons_head _ _ _ _ e))
 
 pub peel_opened : (h g : Option Head) (x y : Numeral) (d e : Option Numeral) (m n : ℕ) (ps qs : List Placed) → opened h x d m ps ≡ opened g y e n qs → ps ≡ qs
-peel_opened None None x y d e m n ps qs same = peel_dimension d e m n ps qs (tails _ _ _ _ same)
-peel_opened None (Some g) x y d e m n ps qs same = absurd (no_dot d m g.dot ps _ (tails _ _ _ _ same))
-peel_opened (Some h) None x y d e m n ps qs same = absurd (no_dot e n h.dot qs _ (sym (tails _ _ _ _ same)))
-peel_opened (Some h) (Some g) x y d e m n ps qs same = peel_dimension d e m n ps qs (tails _ _ _ _ (tails _ _ _ _ (tails _ _ _ _ (tails _ _ _ _ (tails _ _ _ _ same)))))
+peel_opened None None x y d e m n ps qs same = peel_dimension d e m n ps qs (cons_tail _ _ _ _ same)
+peel_opened None (Some g) x y d e m n ps qs same = absurd (no_dot d m g.dot ps _ (cons_tail _ _ _ _ same))
+peel_opened (Some h) None x y d e m n ps qs same = absurd (no_dot e n h.dot qs _ (sym (cons_tail _ _ _ _ same)))
+peel_opened (Some h) (Some g) x y d e m n ps qs same = peel_dimension d e m n ps qs (cons_tail _ _ _ _ (cons_tail _ _ _ _ (cons_tail _ _ _ _ (cons_tail _ _ _ _ (cons_tail _ _ _ _ same)))))
 
 -- lists, each with the sign that ends it, and the parts after them
 abbrev pub front : List ℕ → List Told → List Placed → List Placed
@@ -78,10 +73,10 @@ front-append (s ∷ ss) (l ∷ ls) tail qs =
     ∙ ap (λ z. map number_part l.numbers ++ sign_part s l.end ∷ z) (front-append ss ls tail qs)
 
 pub peel_list : (xs ys : List Numeral) (s m n : ℕ) (ps qs : List Placed) → map number_part xs ++ sign_part s m ∷ ps ≡ map number_part ys ++ sign_part s n ∷ qs → ps ≡ qs
-peel_list [] [] s m n ps qs e = tails _ _ _ _ e
-peel_list [] (y ∷ ys) s m n ps qs e = absurd (unlike s m y (heads _ _ _ _ e))
-peel_list (x ∷ xs) [] s m n ps qs e = absurd (unlike s n x (sym (heads _ _ _ _ e)))
-peel_list (x ∷ xs) (y ∷ ys) s m n ps qs e = peel_list xs ys s m n ps qs (tails _ _ _ _ e)
+peel_list [] [] s m n ps qs e = cons_tail _ _ _ _ e
+peel_list [] (y ∷ ys) s m n ps qs e = absurd (unlike s m y (cons_head _ _ _ _ e))
+peel_list (x ∷ xs) [] s m n ps qs e = absurd (unlike s n x (sym (cons_head _ _ _ _ e)))
+peel_list (x ∷ xs) (y ∷ ys) s m n ps qs e = peel_list xs ys s m n ps qs (cons_tail _ _ _ _ e)
 
 -- p is neither a number nor this sign
 pub record IsOther (p : Placed) (s : ℕ) : Type 0 where
@@ -95,10 +90,10 @@ pub other_sign : (p : Placed) (s m : ℕ) → ((k : ℕ) → p ≢ sign_part s k
 other_sign p s m o e = o m e
 
 no_list : (xs ys : List Numeral) (s n : ℕ) (p : Placed) (r qs : List Placed) → map number_part xs ++ p ∷ r ≡ map number_part ys ++ sign_part s n ∷ qs → IsOther p s → ⊥
-no_list [] [] s n p r qs e o = other_sign p s n o.sign (heads _ _ _ _ e)
-no_list [] (y ∷ ys) s n p r qs e o = other_number p s y o (heads _ _ _ _ e)
-no_list (x ∷ xs) [] s n p r qs e o = unlike s n x (sym (heads _ _ _ _ e))
-no_list (x ∷ xs) (y ∷ ys) s n p r qs e o = no_list xs ys s n p r qs (tails _ _ _ _ e) o
+no_list [] [] s n p r qs e o = other_sign p s n o.sign (cons_head _ _ _ _ e)
+no_list [] (y ∷ ys) s n p r qs e o = other_number p s y o (cons_head _ _ _ _ e)
+no_list (x ∷ xs) [] s n p r qs e o = unlike s n x (sym (cons_head _ _ _ _ e))
+no_list (x ∷ xs) (y ∷ ys) s n p r qs e o = no_list xs ys s n p r qs (cons_tail _ _ _ _ e) o
 
 no_end : (xs : List Numeral) (p : Placed) (r : List Placed) → map number_part xs ++ p ∷ r ≡ [] → ⊥
 no_end [] p r e = nothing_left p r e

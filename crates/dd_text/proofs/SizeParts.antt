@@ -5,10 +5,11 @@ use Rattle.dd_model.specs.declared.tokens.Placed.{Placed}
 use Rattle.dd_model.specs.declared.tokens.Numeral.{Numeral}
 use Rattle.dd_model.specs.Parts.{Cursor, first_part, after_part, Spells}
 use Rattle.dd_model.specs.Spelling.{Told, Head, Shape, number_part, sign_part, with_head, with_list}
+use Rattle.dd_model.proofs.Lists.{cons_head, cons_tail}
 use Rattle.dd_model.proofs.ReadingParts.{same_number}
 use Rattle.dd_text.specs.TextFaults.{MayStand, IsSizeFault, IsDimensionFault}
 use Rattle.dd_text.specs.Texts.{IsHeadTo}
-use Rattle.dd_text.proofs.ShapeParts.{heads, tails, unlike, no_dot, opened, IsOther, other_number, other_sign}
+use Rattle.dd_text.proofs.ShapeParts.{unlike, no_dot, opened, IsOther, other_number, other_sign}
 
 abbrev no_numbers : Told
 no_numbers = record { numbers = []; end = 0 }
@@ -32,8 +33,8 @@ pub first_number : (x : Numeral) → MayStand [] (number_part x)
 first_number x = record { shape = bare None x None; after = sign_part 58 0 ∷ no_lists; parts = refl }
 
 first_other' : (h : Option Head) (n : Numeral) (d : Option Numeral) (m : ℕ) (ps : List Placed) (p : Placed) (r : List Placed) → opened h n d m ps ≡ p ∷ r → IsNumberless p → ⊥
-first_other' None n d m ps p r e o = is_number p n o (sym (heads _ _ _ _ e))
-first_other' (Some h) n d m ps p r e o = is_number p h.first o (sym (heads _ _ _ _ e))
+first_other' None n d m ps p r e o = is_number p n o (sym (cons_head _ _ _ _ e))
+first_other' (Some h) n d m ps p r e o = is_number p h.first o (sym (cons_head _ _ _ _ e))
 
 pub first_other : (p : Placed) → IsNumberless p → MayStand [] p → ⊥
 first_other p o may = let x = may.shape in first_other' x.head x.size x.dimension x.colon _ p may.after may.parts o
@@ -48,8 +49,8 @@ second_number x y k = record { shape = bare (Some (record { first = x; dot = k; 
 
 second_other' : (h : Option Head) (n : Numeral) (d : Option Numeral) (m : ℕ) (ps : List Placed) (x : Numeral) (k : ℕ) (p : Placed) (r : List Placed)
     → opened h n d m ps ≡ number_part x ∷ sign_part 46 k ∷ p ∷ r → IsNumberless p → ⊥
-second_other' None n d m ps x k p r e o = no_dot d m k ps (p ∷ r) (tails _ _ _ _ e)
-second_other' (Some h) n d m ps x k p r e o = is_number p h.second o (sym (heads _ _ _ _ (tails _ _ _ _ (tails _ _ _ _ e))))
+second_other' None n d m ps x k p r e o = no_dot d m k ps (p ∷ r) (cons_tail _ _ _ _ e)
+second_other' (Some h) n d m ps x k p r e o = is_number p h.second o (sym (cons_head _ _ _ _ (cons_tail _ _ _ _ (cons_tail _ _ _ _ e))))
 
 pub second_other : (x : Numeral) (k : ℕ) (p : Placed) → IsNumberless p → MayStand (head_1 x k) p → ⊥
 second_other x k p o may = let s = may.shape in second_other' s.head s.size s.dimension s.colon _ x k p may.after may.parts o
@@ -64,8 +65,8 @@ head_colon x y k = record { shape = bare (Some (record { first = x; dot = k; sec
 
 head_other' : (h : Option Head) (n : Numeral) (d : Option Numeral) (m : ℕ) (ps : List Placed) (x y : Numeral) (k : ℕ) (p : Placed) (r : List Placed)
     → opened h n d m ps ≡ number_part x ∷ sign_part 46 k ∷ number_part y ∷ p ∷ r → ((j : ℕ) → p ≢ sign_part 58 j) → ⊥
-head_other' None n d m ps x y k p r e o = no_dot d m k ps (number_part y ∷ p ∷ r) (tails _ _ _ _ e)
-head_other' (Some h) n d m ps x y k p r e o = other_sign p 58 h.colon o (sym (heads _ _ _ _ (tails _ _ _ _ (tails _ _ _ _ (tails _ _ _ _ e)))))
+head_other' None n d m ps x y k p r e o = no_dot d m k ps (number_part y ∷ p ∷ r) (cons_tail _ _ _ _ e)
+head_other' (Some h) n d m ps x y k p r e o = other_sign p 58 h.colon o (sym (cons_head _ _ _ _ (cons_tail _ _ _ _ (cons_tail _ _ _ _ (cons_tail _ _ _ _ e)))))
 
 pub head_other : (x y : Numeral) (k : ℕ) (p : Placed) → ((j : ℕ) → p ≢ sign_part 58 j) → MayStand (head_2 x k y) p → ⊥
 head_other x y k p o may = let s = may.shape in head_other' s.head s.size s.dimension s.colon _ x y k p may.after may.parts o
@@ -80,8 +81,8 @@ size_number x y n k j = record { shape = bare (Some (record { first = x; dot = k
 
 size_other' : (h : Option Head) (n : Numeral) (d : Option Numeral) (m : ℕ) (ps : List Placed) (x y : Numeral) (k j : ℕ) (p : Placed) (r : List Placed)
     → opened h n d m ps ≡ number_part x ∷ sign_part 46 k ∷ number_part y ∷ sign_part 58 j ∷ p ∷ r → IsNumberless p → ⊥
-size_other' None n d m ps x y k j p r e o = no_dot d m k ps (number_part y ∷ sign_part 58 j ∷ p ∷ r) (tails _ _ _ _ e)
-size_other' (Some h) n d m ps x y k j p r e o = is_number p n o (sym (heads _ _ _ _ (tails _ _ _ _ (tails _ _ _ _ (tails _ _ _ _ (tails _ _ _ _ e))))))
+size_other' None n d m ps x y k j p r e o = no_dot d m k ps (number_part y ∷ sign_part 58 j ∷ p ∷ r) (cons_tail _ _ _ _ e)
+size_other' (Some h) n d m ps x y k j p r e o = is_number p n o (sym (cons_head _ _ _ _ (cons_tail _ _ _ _ (cons_tail _ _ _ _ (cons_tail _ _ _ _ (cons_tail _ _ _ _ e))))))
 
 pub size_other : (x y : Numeral) (k j : ℕ) (p : Placed) → IsNumberless p → MayStand (head_3 x k y j) p → ⊥
 size_other x y k j p o may = let s = may.shape in size_other' s.head s.size s.dimension s.colon _ x y k j p may.after may.parts o
@@ -97,12 +98,12 @@ dimension_number (Some h) n x = record { shape = bare (Some h) n (Some x); after
 
 dimension_other' : (h g : Option Head) (n : Numeral) (d : Option Numeral) (m : ℕ) (ps : List Placed) (x : Numeral) (p : Placed) (r : List Placed)
     → opened h n d m ps ≡ sized g x ++ p ∷ r → IsOther p 58 → (g ≡ None → (j : ℕ) → p ≢ sign_part 46 j) → ⊥
-dimension_other' None None n None m ps x p r e o no_prefix = other_sign p 58 m o.sign (sym (heads _ _ _ _ (tails _ _ _ _ e)))
-dimension_other' None None n (Some d) m ps x p r e o no_prefix = other_number p 58 d o (sym (heads _ _ _ _ (tails _ _ _ _ e)))
-dimension_other' None (Some g) n d m ps x p r e o no_prefix = no_dot d m g.dot ps _ (tails _ _ _ _ e)
-dimension_other' (Some h) None n d m ps x p r e o no_prefix = other_sign p 46 h.dot (no_prefix refl) (sym (heads _ _ _ _ (tails _ _ _ _ e)))
-dimension_other' (Some h) (Some g) n None m ps x p r e o no_prefix = other_sign p 58 m o.sign (sym (heads _ _ _ _ (tails _ _ _ _ (tails _ _ _ _ (tails _ _ _ _ (tails _ _ _ _ (tails _ _ _ _ e)))))))
-dimension_other' (Some h) (Some g) n (Some d) m ps x p r e o no_prefix = other_number p 58 d o (sym (heads _ _ _ _ (tails _ _ _ _ (tails _ _ _ _ (tails _ _ _ _ (tails _ _ _ _ (tails _ _ _ _ e)))))))
+dimension_other' None None n None m ps x p r e o no_prefix = other_sign p 58 m o.sign (sym (cons_head _ _ _ _ (cons_tail _ _ _ _ e)))
+dimension_other' None None n (Some d) m ps x p r e o no_prefix = other_number p 58 d o (sym (cons_head _ _ _ _ (cons_tail _ _ _ _ e)))
+dimension_other' None (Some g) n d m ps x p r e o no_prefix = no_dot d m g.dot ps _ (cons_tail _ _ _ _ e)
+dimension_other' (Some h) None n d m ps x p r e o no_prefix = other_sign p 46 h.dot (no_prefix refl) (sym (cons_head _ _ _ _ (cons_tail _ _ _ _ e)))
+dimension_other' (Some h) (Some g) n None m ps x p r e o no_prefix = other_sign p 58 m o.sign (sym (cons_head _ _ _ _ (cons_tail _ _ _ _ (cons_tail _ _ _ _ (cons_tail _ _ _ _ (cons_tail _ _ _ _ (cons_tail _ _ _ _ e)))))))
+dimension_other' (Some h) (Some g) n (Some d) m ps x p r e o no_prefix = other_number p 58 d o (sym (cons_head _ _ _ _ (cons_tail _ _ _ _ (cons_tail _ _ _ _ (cons_tail _ _ _ _ (cons_tail _ _ _ _ (cons_tail _ _ _ _ e)))))))
 
 pub dimension_other : (g : Option Head) (x : Numeral) (p : Placed) → IsOther p 58 → (g ≡ None → (j : ℕ) → p ≢ sign_part 46 j) → MayStand (sized g x) p → ⊥
 dimension_other g x p o no_prefix may = let s = may.shape in dimension_other' s.head g s.size s.dimension s.colon _ x p may.after may.parts o no_prefix
@@ -118,12 +119,12 @@ colon_sign (Some h) n d = record { shape = bare (Some h) n (Some d); after = no_
 
 colon_other' : (h g : Option Head) (n : Numeral) (d : Option Numeral) (m : ℕ) (ps : List Placed) (x y : Numeral) (p : Placed) (r : List Placed)
     → opened h n d m ps ≡ measured g x y ++ p ∷ r → ((j : ℕ) → p ≢ sign_part 58 j) → ⊥
-colon_other' None None n None m ps x y p r e o = unlike 58 m y (heads _ _ _ _ (tails _ _ _ _ e))
-colon_other' None None n (Some d) m ps x y p r e o = other_sign p 58 m o (sym (heads _ _ _ _ (tails _ _ _ _ (tails _ _ _ _ e))))
-colon_other' None (Some g) n d m ps x y p r e o = no_dot d m g.dot ps _ (tails _ _ _ _ e)
-colon_other' (Some h) None n d m ps x y p r e o = unlike 46 h.dot y (heads _ _ _ _ (tails _ _ _ _ e))
-colon_other' (Some h) (Some g) n None m ps x y p r e o = unlike 58 m y (heads _ _ _ _ (tails _ _ _ _ (tails _ _ _ _ (tails _ _ _ _ (tails _ _ _ _ (tails _ _ _ _ e))))))
-colon_other' (Some h) (Some g) n (Some d) m ps x y p r e o = other_sign p 58 m o (sym (heads _ _ _ _ (tails _ _ _ _ (tails _ _ _ _ (tails _ _ _ _ (tails _ _ _ _ (tails _ _ _ _ (tails _ _ _ _ e))))))))
+colon_other' None None n None m ps x y p r e o = unlike 58 m y (cons_head _ _ _ _ (cons_tail _ _ _ _ e))
+colon_other' None None n (Some d) m ps x y p r e o = other_sign p 58 m o (sym (cons_head _ _ _ _ (cons_tail _ _ _ _ (cons_tail _ _ _ _ e))))
+colon_other' None (Some g) n d m ps x y p r e o = no_dot d m g.dot ps _ (cons_tail _ _ _ _ e)
+colon_other' (Some h) None n d m ps x y p r e o = unlike 46 h.dot y (cons_head _ _ _ _ (cons_tail _ _ _ _ e))
+colon_other' (Some h) (Some g) n None m ps x y p r e o = unlike 58 m y (cons_head _ _ _ _ (cons_tail _ _ _ _ (cons_tail _ _ _ _ (cons_tail _ _ _ _ (cons_tail _ _ _ _ (cons_tail _ _ _ _ e))))))
+colon_other' (Some h) (Some g) n (Some d) m ps x y p r e o = other_sign p 58 m o (sym (cons_head _ _ _ _ (cons_tail _ _ _ _ (cons_tail _ _ _ _ (cons_tail _ _ _ _ (cons_tail _ _ _ _ (cons_tail _ _ _ _ (cons_tail _ _ _ _ e))))))))
 
 pub colon_other : (g : Option Head) (x y : Numeral) (p : Placed) → ((j : ℕ) → p ≢ sign_part 58 j) → MayStand (measured g x y) p → ⊥
 colon_other g x y p o may = let s = may.shape in colon_other' s.head g s.size s.dimension s.colon _ x y p may.after may.parts o

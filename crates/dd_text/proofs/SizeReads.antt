@@ -6,7 +6,7 @@ use Rattle.dd_model.specs.Parts.{Cursor, first_part, after_part, Spells}
 use Rattle.dd_model.specs.Spelling.{number_part, sign_part}
 use Rattle.dd_text.specs.declared.faults.Fault.{Fault}
 use Rattle.dd_text.specs.Reader.{IsNextPart}
-use Rattle.dd_text.specs.TextFaults.{IsSizeFault, IsDimensionFault, IsTextFault}
+use Rattle.dd_text.specs.TextFaults.{IsSizeFault, IsTextFault}
 use Rattle.dd_text.specs.Texts.{IsNoNumber, IsNoSign, IsHeadTo, IsSizeTo}
 use Rattle.dd_text.proofs.ShapeParts.{unlike, IsOther}
 use Rattle.dd_text.proofs.SizeParts.{sized, measured, dimension_number, dimension_other, colon_sign, colon_other, undotted, no_size_fault, no_dimension_fault, head_then}
@@ -45,20 +45,6 @@ no_dimension c d n next f a some few colon bad =
     (form_by_number c a.mid (sized a.head n) f a.spells here any (dimension_number a.head n any) (dimension_other a.head n (first_part a.mid) other (undotted c n next d a)))
     (no_size_fault c n next d a some few)
     (no_dimension_fault c n next d a (λ x e. absurd (bad.other x.value (ap (λ (q : Placed). q.part) e))))
-
-pub dimension_fault : (c d : Cursor) (n : Numeral) (next : Placed) (x : Numeral) → IsHeadTo c n next d → 1 ≤ n.value → n.value ≤ 1024
-    → next ≡ number_part x → x.value ≢ 2 → IsDimensionFault c x.at
-dimension_fault c d n next x a some few e bad = record {
-  head = a.head;
-  size = n;
-  dimension = x;
-  here = d;
-  spells = head_then c a.mid d a.head n (number_part x ∷ []) a.spells (a.next_is ∙ e, a.to);
-  some = some;
-  few = few;
-  bad = bad;
-  place = refl;
-}
 
 measured_to : (c d : Cursor) (n : Numeral) (next : Placed) (x : Numeral) (a : IsHeadTo c n next d) → next ≡ number_part x → Spells c (measured a.head n x) d
 measured_to c d n next x a e = head_then c a.mid d a.head n (number_part x ∷ []) a.spells (a.next_is ∙ e, a.to)

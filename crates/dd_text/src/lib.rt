@@ -16,8 +16,3 @@ pub use fault_laws::{a_faulty_file_spells_nothing, a_file_has_one_fault};
 pub use faults::{FileFault, Why};
 pub use reading::read_file;
 pub use writing::{put_bytes, put_line, put_lines};
-
-#[cfg(test)]
-mod reading_tests;
-#[cfg(test)]
-mod tests;

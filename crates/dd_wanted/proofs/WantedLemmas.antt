@@ -1,16 +1,14 @@
 -- What the tests of a symbol say of it.
-use Rattle.std.proofs.Common.{◌≡◌, ℕ, ◌+◌, ◌≤◌, IsTrue, List, [], ◌∷◌, ◌++◌, map, sym, ap, ◌∙◌, subst, ⊎_elim, arith}
+use Rattle.std.proofs.Common.{◌≡◌, ℕ, ◌+◌, ◌≤◌, IsTrue, subst, ⊎_elim, arith}
 use Rattle.std.proofs.lemmas.Bool.{cases_lt}
 use Rattle.dd_model.specs.declared.pair.Pair.{Pair}
 use Rattle.dd_model.specs.Symbol.{Symbol}
-use Rattle.dd_model.specs.Code.{count_from}
 use Rattle.dd_model.specs.Cell.{IsBranching}
 use Rattle.dd_model.specs.declared.requests.Request.{Request}
 use Rattle.dd_model.specs.Minimal.{Minimal}
 use Rattle.dd_model.specs.Wanted.{Wanted, IsCrystallographic}
 use Rattle.dd_wanted.specs.Passes.{Passes}
 use Rattle.dd_model.proofs.Branching.{branching_unique}
-use Rattle.dd_model.proofs.CountFrom.{map-count_from-more}
 
 -- one chamber more
 pub crystallographic-more : (s : Symbol) (p : Pair) (k v : ℕ) → ((d w : ℕ) → 1 ≤ d → d ≤ k → IsBranching s p d w → IsCrystallographic w)
@@ -21,11 +19,6 @@ crystallographic-more s p k v before b here d w low high there =
     (λ late. let last : d ≡ k + 1 = omega arith in
     subst IsCrystallographic (branching_unique s p (k + 1) v w b (subst (λ e. IsBranching s p e w) last there)) here)
     (cases_lt d (k + 1))
-
--- a list of the values of one chamber more
-pub map-pushed : (f : ℕ → ℕ) (k x : ℕ) (xs ys : List ℕ) → ys ≡ xs ++ x ∷ [] → xs ≡ map f (count_from 1 k) → x ≡ f (k + 1) → ys ≡ map f (count_from 1 (k + 1))
-map-pushed f k x xs ys pushed before here =
-    pushed ∙ ap (λ zs. zs ++ x ∷ []) before ∙ ap (λ z. map f (count_from 1 k) ++ z ∷ []) here ∙ sym (map-count_from-more f k)
 
 -- a symbol that passes the tests is wanted where it is minimal or that is not asked for
 pub passes-wanted : (q : Request) (s : Symbol) → Passes q s → (IsTrue q.minimal → Minimal s) → Wanted q s
@@ -41,18 +34,4 @@ passes-wanted q s p minimal = record {
   vertex_branching = p.vertex_branching;
   flat = p.flat;
   minimal = minimal;
-}
-
-pub wanted-passes : (q : Request) (s : Symbol) → Wanted q s → Passes q s
-wanted-passes q s w = record {
-  symbol = w.symbol;
-  connected = w.connected;
-  chambers = w.chambers;
-  flat = w.flat;
-  faces = w.faces;
-  degrees = w.degrees;
-  face_branching = w.face_branching;
-  vertex_branching = w.vertex_branching;
-  tiles = w.tiles;
-  vertices = w.vertices;
 }
