@@ -5,3 +5,4 @@ mod OrderLemmas
 mod VisitLemmas
 mod StandingLemmas
 mod FormLemmas
+mod TieLemmas

@@ -1,21 +1,10 @@
 -- Comparing lists piece by piece.
-use Rattle.std.proofs.Common.{◌≡◌, ◌≢◌, ℕ, suc, true, false, ◌+◌, ◌-◌, ◌<◌, ◌≤◌, List, [], ◌∷◌, ◌++◌, length, get_or, drop, drop-cons, refl, sym, ap, ◌∙◌, subst, arith}
+use Rattle.std.proofs.Common.{◌≡◌, ◌≢◌, ℕ, suc, true, false, ◌+◌, ◌-◌, ◌<◌, ◌≤◌, List, ◌∷◌, length, get_or, drop, drop-cons, refl, sym, ap, ◌∙◌, subst, arith}
 use Rattle.std.specs.Ordering.{nat_cmp, ordering_then, is_lt, is_gt, is_eq, is_ne}
 use Rattle.std.specs.Cmp.Lexicographic.{slice_cmp}
 use Rattle.std.specs.declared.cmp.Ordering.{Ordering}
 use Rattle.std.specs.declared.cmp.Ordering.TheVariants.{Less, Equal, Greater}
 use Rattle.dd_model.specs.Symbol.{item}
-use Rattle.dd_canon.proofs.Traversals.{then_assoc}
-
--- lists of one length are compared before what follows them
-pub slice_cmp-append : (xs ys us vs : List ℕ) → length xs ≡ length ys
-    → slice_cmp nat_cmp (xs ++ us) (ys ++ vs) ≡ ordering_then (slice_cmp nat_cmp xs ys) (slice_cmp nat_cmp us vs)
-slice_cmp-append [] [] us vs e = refl
-slice_cmp-append [] (y ∷ ys) us vs e = absurd (omega arith)
-slice_cmp-append (x ∷ xs) [] us vs e = absurd (omega arith)
-slice_cmp-append (x ∷ xs) (y ∷ ys) us vs e =
-    ap (ordering_then (nat_cmp x y)) (slice_cmp-append xs ys us vs (omega arith))
-    ∙ sym (then_assoc (nat_cmp x y) (slice_cmp nat_cmp xs ys) (slice_cmp nat_cmp us vs))
 
 -- one item more of two lists, of which the first's is x and the second's is y
 pub drop_step : (xs ys : List ℕ) (k x y : ℕ) → k < length xs → k < length ys → item xs (k + 1) ≡ x → item ys (k + 1) ≡ y

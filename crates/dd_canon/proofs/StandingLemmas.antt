@@ -17,7 +17,8 @@ use Rattle.dd_model.proofs.Exchanges.{length-table, item-table}
 use Rattle.dd_model.proofs.Transport.{degree-along}
 use Rattle.dd_canon.proofs.Traversals.{numbers_undone, extends_itself}
 use Rattle.dd_canon.specs.Standing.{IsStanding, IsOngoing, IsWhole, degree_list}
-use Rattle.dd_canon.proofs.OrderLemmas.{slice_cmp-append, drop_step, then_first}
+use Rattle.dd_model.proofs.Orders.{compared_in_parts}
+use Rattle.dd_canon.proofs.OrderLemmas.{drop_step, then_first}
 
 pub length-degree_list : (s : Symbol) (p : Pair) → length (degree_list s p) ≡ s.size
 length-degree_list s p = length-table (degree s p) s.size
@@ -91,7 +92,7 @@ degrees_decide s b start order number o ib size equal tr first t a =
       ext,
       tr.verdict t a.map ext
           ∙ ap (λ z. ordering_then z (slice_cmp nat_cmp (t.m01 ++ t.m12) (b.m01 ++ b.m12))) equal
-          ∙ slice_cmp-append t.m01 b.m01 t.m12 b.m12 lengths
+          ∙ compared_in_parts t.m01 b.m01 t.m12 b.m12 lengths
           ∙ ap (λ xs. ordering_then (slice_cmp nat_cmp xs b.m01) (slice_cmp nat_cmp t.m12 b.m12)) (sym (m01_list t it))
           ∙ ap (λ xs. ordering_then (slice_cmp nat_cmp (degree_list t Tile) xs) (slice_cmp nat_cmp t.m12 b.m12)) (sym (m01_list b ib))
           ∙ ap (λ xs. ordering_then (slice_cmp nat_cmp (degree_list t Tile) (degree_list b Tile)) (slice_cmp nat_cmp xs b.m12)) (sym (m12_list t it))

@@ -19,11 +19,7 @@ use Rattle.dd_model.specs.FirstVisit.{Grows, IsFirstVisit, rows}
 use Rattle.dd_canon.specs.Traversal.{unnumbered, IsVisit, IsMeeting, IsExtension, IsTraversal}
 use Rattle.dd_model.proofs.Words.{backwards, act-backwards}
 use Rattle.dd_model.proofs.FirstVisits.{injective}
-
-pub then_assoc : (a b c : Ordering) → ordering_then (ordering_then a b) c ≡ ordering_then a (ordering_then b c)
-then_assoc Less b c = refl
-then_assoc Equal b c = refl
-then_assoc Greater b c = refl
+use Rattle.dd_model.proofs.Orders.{then_assoc}
 
 narrower : (s : Symbol) (order order' number' : List ℕ) (d x : ℕ) (t : Symbol) (f : List ℕ) → IsMeeting order order' number' d x → IsExtension s order' t f → IsExtension s order t f
 narrower s order order' number' d x t f meets ext = record {

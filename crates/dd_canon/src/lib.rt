@@ -6,10 +6,14 @@ mod isomorphisms;
 mod steps;
 #[cfg(test)]
 mod tests;
+#[cfg(test)]
+mod tie_tests;
+mod ties;
 mod traversal_laws;
 mod visits;
 
 pub use forms::{is_least, least, least_form};
 pub use isomorphisms::isomorphic;
 pub use steps::Steps;
+pub use ties::{is_least_from_ties, tied_starts};
 pub use traversal_laws::{beaten_tables_have_no_least_completion, partial_tables_are_traversed};

@@ -11,9 +11,9 @@ use Rattle.dd_model.specs.declared.pair.Pair.{Pair}
 use Rattle.dd_model.specs.declared.pair.Pair.TheVariants.{Tile, Vertex}
 use Rattle.dd_model.specs.Symbol.{Symbol, IsTable, IsSymbol, IsChamber, item, operation}
 use Rattle.dd_model.specs.Connected.{Connected}
-use Rattle.dd_model.specs.Cell.{IsPeriod, AreCells}
+use Rattle.dd_model.specs.Cell.{IsPeriod}
 use Rattle.dd_model.specs.Lists.{Begins}
-use Rattle.dd_model.specs.Isomorphic.{IsIsomorphism, Isomorphic, IsBijection}
+use Rattle.dd_model.specs.Isomorphic.{IsIsomorphism, IsBijection}
 use Rattle.dd_model.specs.Code.{code, all_images}
 use Rattle.dd_model.specs.FirstVisit.{LeastTable}
 use Rattle.dd_model.specs.Wanted.{AtMost}
@@ -32,7 +32,8 @@ use Rattle.dd_invol.specs.Walk.{IsListed, HasTable}
 use Rattle.dd_model.proofs.Ascending.{begins_at, begins_from}
 use Rattle.dd_model.proofs.Codes.{length-code}
 use Rattle.dd_invol.proofs.Follows.{member_orderly}
-use Rattle.dd_model.proofs.SameInvolutions.{op-same, same-sym, chamber-same, involutions-same, connected-same, in_cell-same, period-same}
+use Rattle.dd_model.proofs.SameInvolutions.{op-same, same-sym, chamber-same, involutions-same, connected-same, period-same}
+use Rattle.dd_symbol.proofs.SameCells.{are_cells-same}
 use Rattle.dd_invol.proofs.TableFronts.{agreeing_from_same, front_same}
 use Rattle.dd_invol.proofs.TableLemmas.{commuting-same}
 use Rattle.dd_invol.proofs.Unbranched.{HasPeriods, symbol_of_periods, unbranched_of_periods, unbranched_unique}
@@ -113,7 +114,7 @@ bare_exists s is =
 
 -- ## It is least where the table is
 
-images_alike : (s t : Symbol) → HaveSameInvolutions s t → all_images t ≡ all_images s
+pub images_alike : (s t : Symbol) → HaveSameInvolutions s t → all_images t ≡ all_images s
 images_alike s t same =
     let size = same.size in
     let ls = length-front s in
@@ -126,12 +127,12 @@ length-after : (g f : List ℕ) → length (after g f) ≡ length f
 length-after g f = length-map f (item g)
 
 -- A renumbering of one of two tables with the same involutions renumbers the other.
-record IsCarried (s u other : Symbol) : Type 0 where
-  table : IsTable other
-  renumbering : Isomorphic s other
-  same : HaveSameInvolutions u other
+pub record IsCarried (s u : Symbol) (f : List ℕ) (other : Symbol) : Type 0 where
+  pub table : IsTable other
+  pub renumbering : IsIsomorphism s other f
+  pub same : HaveSameInvolutions u other
 
-carried : (s t u : Symbol) (f : List ℕ) → IsTable s → HaveSameInvolutions s t → IsTable u → IsIsomorphism t u f → (other : Symbol) × IsCarried s u other
+pub carried : (s t u : Symbol) (f : List ℕ) → IsTable s → HaveSameInvolutions s t → IsTable u → IsIsomorphism t u f → (other : Symbol) × IsCarried s u f other
 carried s t u f is same iu iso =
     let b = iso.bijection in
     let g = b.inverse in
@@ -145,26 +146,23 @@ carried s t u f is same iu iso =
       other,
       record {
         table = table_with u (after s.m01 g) (after s.m12 g) iu (length-after s.m01 g ∙ count) (length-after s.m12 g ∙ count) alike;
-        renumbering = (
-          f,
-          record {
-            size = size;
-            bijection = subst (λ n. IsBijection n f) same.size b;
-            morphism = record {
-              images = iso.morphism.images ∙ same.size;
-              within = inside;
-              op = λ i d h. ap (item f) (sym (op-same s t same i d)) ∙ iso.morphism.op i d (back d h) ∙ sym (op-same u other alike i (item f d));
-              m01 = λ d h. item-after s.m01 g u.size (item f d) count (inside d h).0 (inside d h).1 ∙ ap (item s.m01) (undone d h);
-              m12 = λ d h. item-after s.m12 g u.size (item f d) count (inside d h).0 (inside d h).1 ∙ ap (item s.m12) (undone d h);
-            };
-          },
-        );
+        renumbering = record {
+          size = size;
+          bijection = subst (λ n. IsBijection n f) same.size b;
+          morphism = record {
+            images = iso.morphism.images ∙ same.size;
+            within = inside;
+            op = λ i d h. ap (item f) (sym (op-same s t same i d)) ∙ iso.morphism.op i d (back d h) ∙ sym (op-same u other alike i (item f d));
+            m01 = λ d h. item-after s.m01 g u.size (item f d) count (inside d h).0 (inside d h).1 ∙ ap (item s.m01) (undone d h);
+            m12 = λ d h. item-after s.m12 g u.size (item f d) count (inside d h).0 (inside d h).1 ∙ ap (item s.m12) (undone d h);
+          };
+        };
         same = alike;
       },
     )
 
 -- a renumbering of a table of branching values 1 has them too
-unbranched_along : (t u : Symbol) (f : List ℕ) → IsTable t → IsTable u → IsUnbranched t → IsIsomorphism t u f → IsUnbranched u
+pub unbranched_along : (t u : Symbol) (f : List ℕ) → IsTable t → IsTable u → IsUnbranched t → IsIsomorphism t u f → IsUnbranched u
 unbranched_along t u f it iu ones iso =
     let b = iso.bijection in
     let back = inverse_isomorphism t u f it iso in
@@ -191,26 +189,15 @@ bare_least s t is bare u iu (f, iso) =
     ∙ ap (slice_cmp nat_cmp (all_images u)) (sym (images_alike s t bare.same))
     ∙ turned_round (all_images t) (all_images u) more in
     let below = below_by_images other.0 s (other.1.same.size ∙ iso.size ∙ bare.same.size) lower in
-    absurd (is.least other.0 other.1.table other.1.renumbering (below_back other.0 s below)))
+    absurd (is.least other.0 other.1.table (f, other.1.renumbering) (below_back other.0 s below)))
     others)
     (three (slice_cmp nat_cmp (all_images t) (all_images u)))
 
 -- ## Members and tables
 
-cells_alike : (s t : Symbol) → HaveSameInvolutions s t → (p : Pair) (ds : List ℕ) → AreCells s p ds → AreCells t p ds
-cells_alike s t same p ds are = record {
-  ascending = are.ascending;
-  members = λ d. (
-    (λ there.
-        let least = (are.members d).0 there in
-        (chamber-same t s (same-sym s t same) d least.0, λ e near. least.1 e (in_cell-same t s (same-sym s t same) p d e near))),
-    (λ least. (are.members d).1 (chamber-same s t same d least.0, λ e near. least.1 e (in_cell-same s t same p d e near))),
-  );
-}
-
-at_most_alike : (s t : Symbol) → HaveSameInvolutions s t → (p : Pair) (limit : ℕ) → AtMost s p limit → AtMost t p limit
+pub at_most_alike : (s t : Symbol) → HaveSameInvolutions s t → (p : Pair) (limit : ℕ) → AtMost s p limit → AtMost t p limit
 at_most_alike s t same p limit at_most =
-    ⊎_elim (λ none. inl none) (λ some. inr (some.0, cells_alike s t same p some.0 some.1, some.2)) at_most
+    ⊎_elim (λ none. inl none) (λ some. inr (some.0, are_cells-same s t same p some.0 some.1, some.2)) at_most
 
 pub member_table : (q : Request) (job : Job) (s : Symbol) → length job.prefix ≤ 3 * job.size → IsMemberUnder q job s → HasTable q job s
 member_table q job s short under =

@@ -35,16 +35,6 @@ take_whole [] (suc t) e = absurd (omega arith)
 take_whole (x ∷ xs) zero e = absurd (omega arith)
 take_whole (x ∷ xs) (suc t) e = ap (λ ys. x ∷ ys) (take_whole xs t (omega arith))
 
-pub first_none : (n : ℕ) → 1 ≤ n → IsFirstVisitPrefix n []
-first_none n pos = record {
-  within = λ t low. absurd (omega arith);
-  short = omega arith;
-  involutive = λ i d told again. absurd (let low = told.1 in omega arith);
-  distinct = λ i d e told other apart same. absurd (let low = told.1 in omega arith);
-  next = λ t low. absurd (omega arith);
-  reached = λ k pos low short. absurd (omega arith);
-}
-
 -- a number that may come after makes a longer one
 pub first_more : (n : ℕ) (xs : List ℕ) (k : ℕ) → IsFirstVisitPrefix n xs → CanFollow n xs k → IsFirstVisitPrefix n (xs ++ k ∷ [])
 first_more n xs k old can =

@@ -13,7 +13,7 @@ use Rattle.dd_model.specs.declared.jobs.Job.{Job}
 use Rattle.dd_model.specs.declared.requests.Request.{Request}
 use Rattle.dd_invol.specs.FirstVisit.{IsFirstVisitPrefix, CanFollow}
 use Rattle.dd_model.specs.Jobs.{IsJobBelow, AreAscendingJobs}
-use Rattle.dd_model.proofs.Lists.{Contains-none, Contains-one, all_from_members}
+use Rattle.dd_model.proofs.Lists.{Contains-one, all_from_members}
 use Rattle.dd_model.proofs.Orders.{nat_cmp-same}
 use Rattle.dd_invol.specs.Opening.{IsOpening, IsJobUnder, AreJobsUnder}
 use Rattle.dd_invol.specs.Under.{Appends}
@@ -47,12 +47,6 @@ pub record AreJobsBefore (n end : ℕ) (prefix : List ℕ) (k : ℕ) (jobs : Lis
 
 number_inside : (n end : ℕ) (prefix : List ℕ) (job : Job) → length prefix < end → IsJobUnder n end prefix job → (1 ≤ get_or job.prefix (length prefix) 0) × (get_or job.prefix (length prefix) 0 ≤ n)
 number_inside n end prefix job low under = let numbers = under.numbers in under.first_visit.within (length prefix) (omega arith)
-
-jobs_first : (n end : ℕ) (prefix : List ℕ) → length prefix < end → AreJobsBefore n end prefix 1 []
-jobs_first n end prefix low = record {
-  ascending = tt;
-  members = λ job. ((λ there. absurd (Contains-none job there)), (λ under. let inside = number_inside n end prefix job low under.0 in let one = inside.0 in let less = under.1 in absurd (omega arith)));
-}
 
 longer_under : (n end : ℕ) (prefix : List ℕ) (k : ℕ) (job : Job) → length prefix < end → IsJobUnder n end prefix job → get_or job.prefix (length prefix) 0 ≡ k → IsJobUnder n end (prefix ++ k ∷ []) job
 longer_under n end prefix k job low under next = record {
@@ -144,10 +138,6 @@ none_more : {A : Type 0} (xs : List A) → xs ≡ xs ++ []
 none_more [] = refl
 none_more (x ∷ xs) = ap (λ ys. x ∷ ys) (none_more xs)
 
--- the same for lists that are added to
-pub adds_first : (n end : ℕ) (prefix : List ℕ) (old : List Job) → length prefix < end → Appends (AreJobsBefore n end prefix 1) old old
-adds_first n end prefix old low = record { list = []; grown = none_more old; holds = jobs_first n end prefix low }
-
 pub adds_more : (n end : ℕ) (prefix : List ℕ) (k : ℕ) (old mid new : List Job) → length prefix < end → Appends (AreJobsBefore n end prefix k) old mid → Appends (AreJobsUnder n end (prefix ++ k ∷ [])) mid new
     → Appends (AreJobsBefore n end prefix (k + 1)) old new
 adds_more n end prefix k old mid new low a b = record {
@@ -169,12 +159,6 @@ adds_whole n end prefix job old whole first size is = record { list = job ∷ []
 pub record AreOpeningBelow (k : ℕ) (jobs : List Job) : Type 0 where
   pub ascending : AreAscendingJobs jobs
   pub members : (job : Job) → Contains jobs job ↔ ((1 ≤ job.size) × (job.size < k) × (length job.prefix ≡ min (3 * job.size) 9) × IsFirstVisitPrefix job.size job.prefix)
-
-pub opening_first : AreOpeningBelow 1 []
-opening_first = record {
-  ascending = tt;
-  members = λ job. ((λ there. absurd (Contains-none job there)), (λ is. let a = is.0 in let b = is.1 in absurd (omega arith)));
-}
 
 pub opening_more : (k : ℕ) (old new : List Job) → 1 ≤ k → AreOpeningBelow k old → Appends (AreJobsUnder k (min (3 * k) 9) []) old new → AreOpeningBelow (k + 1) new
 opening_more k old new pos part more = subst (AreOpeningBelow (k + 1)) (sym more.grown) (record {

@@ -21,3 +21,4 @@ pub mod TableLemmas
 pub mod WalkLemmas
 pub mod WalkOrder
 pub mod BareTables
+pub mod TiedTables

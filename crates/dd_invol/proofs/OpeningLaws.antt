@@ -1,15 +1,15 @@
 -- The code of each least connected symbol begins with one prefix of the opening, and the jobs of an opening are apart.
 use Rattle.std.proofs.Common.{◌≡◌, ◌*◌, ◌≤◌, min, List, [], ◌∷◌, length, length-take-le, take, refl, sym, ap, ◌∙◌, arith}
 use Rattle.std.proofs.lemmas.List.{get_or-take}
-use Rattle.std.specs.List.{Contains}
+use Rattle.std.specs.List.{AllByRecursion, Contains}
 use Rattle.dd_model.specs.declared.pair.Pair.TheVariants.{Edge}
 use Rattle.dd_model.specs.Symbol.{Symbol, IsSymbol}
 use Rattle.dd_model.specs.Connected.{Connected}
 use Rattle.dd_model.specs.Lists.{Begins}
 use Rattle.dd_model.specs.Code.{code, Least}
-use Rattle.dd_model.specs.Wanted.{IsCatalogue}
-use Rattle.dd_model.specs.Jobs.{IsJobBelow, AreAscendingJobs, AreJobsApart, AreApart}
-use Rattle.dd_model.specs.Joined.{AreUnderJobs}
+use Rattle.dd_model.specs.Wanted.{IsCatalogue, IsMember}
+use Rattle.dd_model.specs.Jobs.{IsJobBelow, IsJobOf, AreAscendingJobs, AreJobsApart, AreApart}
+use Rattle.dd_model.specs.Joined.{AreUnderJobs, IsUnderOne}
 use Rattle.dd_model.specs.declared.jobs.Job.{Job}
 use Rattle.dd_model.specs.declared.requests.Request.{Request}
 use Rattle.dd_model.proofs.LeastForms.{least_as_table}
@@ -68,14 +68,25 @@ pub opening_apart : (q : Request) (jobs : List Job) → IsOpening q jobs → Are
 opening_apart q jobs is = apart_from_lengths jobs is.ascending (λ j k hj hk size.
     ((is.members j).0 hj).numbers ∙ ap (λ n. min (3 * n) 9) size ∙ sym ((is.members k).0 hk).numbers)
 
+-- they are jobs of a search
+pub opening_jobs : (q : Request) (jobs : List Job) → IsOpening q jobs → AllByRecursion (IsJobOf q) jobs
+opening_jobs q jobs is = all_from_members (IsJobOf q) jobs (λ job there.
+    let o = (is.members job).0 there in
+    let numbers = o.numbers in
+    record { positive = o.size.0; small = o.size.1; short = omega arith })
+
+-- each member is under one of them
+pub opening_covers : (q : Request) (jobs : List Job) (s : Symbol) → IsOpening q jobs → IsMember q s → IsUnderOne q jobs s
+opening_covers q jobs s is member =
+    let c = covered q s member.wanted.symbol member.wanted.connected member.least member.wanted.chambers in
+    record { job = c.job; listed = (is.members c.job).1 c.opening; under = record { member = member; size = c.size; begins = c.begins } }
+
 -- what is under all jobs of an opening is the catalogue
 pub under_opening : (q : Request) (jobs : List Job) (ss : List Symbol) → IsOpening q jobs → AreUnderJobs q jobs ss → IsCatalogue q ss
 under_opening q jobs ss is are = record {
   ascending = are.ascending;
   members = λ s. (
     (λ there. ((are.members s).0 there).under.member),
-    (λ member.
-        let c = covered q s member.wanted.symbol member.wanted.connected member.least member.wanted.chambers in
-        (are.members s).1 (record { job = c.job; listed = (is.members c.job).1 c.opening; under = record { member = member; size = c.size; begins = c.begins } })),
+    (λ member. (are.members s).1 (opening_covers q jobs s is member)),
   );
 }

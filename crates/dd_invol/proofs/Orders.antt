@@ -208,15 +208,3 @@ unfolding arrangement_is_bijection
 numbering n xs dist within =
     let a = arranged n xs dist within in
     record { given = numbers n a.0; bijection = arrangement_is_bijection n a.0 a.1; extends = a.2 }
-
--- a number that stands at no place of the list
-pub distinct-push_new : (xs : List ℕ) (y : ℕ) → AreDistinct xs → ((k : ℕ) → k < length xs → eqb (get_or xs k 0) y ≡ false) → AreDistinct (xs ++ y ∷ [])
-distinct-push_new xs y d none =
-    distinct-push xs y d
-    (⊎_elim
-    (λ low. let e = place_there y xs low in let f = none (place y xs) low in absurd (clash (get_or xs (place y xs) 0) y e f))
-    (λ high. high)
-    (cases_lt (place y xs) (length xs)))
-  where
-    clash : (x y : ℕ) → x ≡ y → eqb x y ≡ false → ⊥
-    clash x y e f = grind arith

@@ -1,7 +1,7 @@
 -- What is put into a table and taken out again.
 use Rattle.std.proofs.Common.{◌≡◌, ◌≢◌, ℕ, zero, suc, ◌+◌, ◌-◌, ◌*◌, ◌/◌, ◌%◌, ◌<◌, ◌≤◌, List, [], ◌∷◌, ◌++◌, length, get_or, set, take, map, replicate, length-take-le, refl, sym, ap, ◌∙◌, subst, ⊎_elim, arith}
 use Rattle.std.proofs.lemmas.Bool.{cases_lt, cases_eq}
-use Rattle.std.proofs.lemmas.List.{get_or_past, length-map, get_or-set_same, get_or-set_other, set-set, set-get_or, length-set, length_push, take_at, get_or-take, get_or_push, get_or_append_left}
+use Rattle.std.proofs.lemmas.List.{get_or_past, length-map, get_or-set_same, get_or-set_other, set-set, set-get_or, length-set, length_push, take_at, get_or-take, get_or_push}
 use Rattle.std.proofs.lemmas.List.Folds.{sum_by-replicate}
 use Rattle.std.proofs.lemmas.List.Sums.{sum_by-set}
 use Rattle.std.specs.List.{sum_by}
@@ -13,7 +13,6 @@ use Rattle.dd_model.specs.Partial.{Completes}
 use Rattle.dd_canon.specs.Traversal.{unnumbered}
 use Rattle.dd_model.proofs.Lists.{zero_at}
 use Rattle.dd_model.proofs.CountFrom.{length-count_from, get_or-map-count_from}
-use Rattle.dd_canon.proofs.Meetings.{numbered_counts_not}
 use Rattle.dd_invol.specs.Places.{index_at, place}
 use Rattle.dd_invol.specs.Rows.{images_in, partial_from, partial_of, depth_of, popped, unwind, unwound, IsReady, Learns, Excludes}
 use Rattle.dd_invol.specs.declared.rows.Rows.{Rows}
@@ -100,10 +99,6 @@ unwind_add (suc a) b r = let e : suc a + b ≡ suc (a + b) = omega arith in ap (
 pub unwound_none : (r : Rows) (mark : ℕ) → depth_of r ≤ mark → unwound r mark ≡ r
 unwound_none r mark low = let e : depth_of r - mark ≡ 0 = omega arith in ap (λ k. unwind k r) e
 
--- nothing more is known
-pub learns_none : (P : Symbol → Type 0) (r : Rows) → Learns P r r
-learns_none P r = record { completes = λ s full _. full; keeps = λ i d some. refl; size = refl; deeper = omega arith; undone = unwound_none r (depth_of r) (omega arith) }
-
 -- one thing after another
 pub learns_both : (P Q R : Symbol → Type 0) (a b c : Rows) → ((s : Symbol) → Completes (partial_of a) s → R s → P s × Q s) → Learns P a b → Learns Q b c → Learns R a c
 learns_both P Q R a b c parts one two =
@@ -124,61 +119,11 @@ learns_both P Q R a b c parts one two =
 pub undone_after : (P : Symbol → Type 0) (a b c : Rows) (mark : ℕ) → Learns P a b → mark ≡ depth_of a → c ≡ unwound b mark → c ≡ a
 undone_after P a b c mark one e u = u ∙ ap (unwound b) e ∙ one.undone
 
-unknown_counts : unnumbered 0 ≡ 1
-unknown_counts = refl
-
 -- rows with one image more at a place where none was known
 pub record IsPut (r r' : Rows) (t e : ℕ) : Type 0 where
   pub size : r'.size ≡ r.size
   pub numbers : r'.numbers ≡ set r.numbers t e
   pub trail : r'.trail.items ≡ r.trail.items ++ t ∷ []
-
-pub put_ready : (r r' : Rows) (t e : ℕ) → IsReady r → IsPut r r' t e → t < 108 → 1 ≤ e → e ≤ r.size → get_or r.numbers t 0 ≡ 0 → IsReady r'
-put_ready r r' t e ready is low pos high none =
-    let size = is.size in
-    let whole = ready.whole in
-    let positive = ready.positive in
-    let small = ready.small in
-    let longer : length r'.trail.items ≡ length r.trail.items + 1 = ap length is.trail ∙ length_push r.trail.items t in
-    record {
-      positive = omega arith;
-      small = omega arith;
-      whole = ap length is.numbers ∙ length-set r.numbers t e ∙ whole;
-      within = λ u. ⊎_elim
-          (λ here. let v : get_or r'.numbers u 0 ≡ e = ap (λ xs. get_or xs u 0) is.numbers ∙ ap (λ j. get_or (set r.numbers t e) j 0) here ∙ get_or-set_same r.numbers t e 0 (omega arith) in omega arith)
-          (λ other.
-          let v : get_or r'.numbers u 0 ≡ get_or r.numbers u 0 = ap (λ xs. get_or xs u 0) is.numbers ∙ get_or-set_other r.numbers t u e 0 other in
-          let old = ready.within u in
-          omega arith)
-          (cases_eq u t);
-      inside = λ k below. ⊎_elim
-          (λ early.
-          let v : get_or r'.trail.items k 0 ≡ get_or r.trail.items k 0 = ap (λ xs. get_or xs k 0) is.trail ∙ get_or_append_left r.trail.items (t ∷ []) 0 k early in
-          let old = ready.inside k early in
-          omega arith)
-          (λ late.
-          let last : k ≡ length r.trail.items = omega arith in
-          let v : get_or r'.trail.items k 0 ≡ t = ap (λ xs. get_or xs k 0) is.trail ∙ get_or_push r.trail.items t 0 k (sym last) in
-          omega arith)
-          (cases_lt k (length r.trail.items));
-      room =
-          let sums = sum_by-set unnumbered r.numbers t e 0 (omega arith) in
-          let was : unnumbered (get_or r.numbers t 0) ≡ 1 = ap unnumbered none in
-          let now : unnumbered e ≡ 0 = numbered_counts_not e pos in
-          let there : sum_by unnumbered r'.numbers ≡ sum_by unnumbered (set r.numbers t e) = ap (sum_by unnumbered) is.numbers in
-          let room = ready.room in
-          omega arith;
-    }
-
--- There is room on the trail where an image is not known.
-pub room_left : (r : Rows) (t : ℕ) → IsReady r → t < 108 → get_or r.numbers t 0 ≡ 0 → length r.trail.items < 108
-room_left r t ready low none =
-    let whole = ready.whole in
-    let sums = sum_by-set unnumbered r.numbers t 1 0 (omega arith) in
-    let was : unnumbered (get_or r.numbers t 0) ≡ 1 = ap unnumbered none in
-    let now : unnumbered 1 ≡ 0 = refl in
-    let room = ready.room in
-    omega arith
 
 popped_put : (r r' : Rows) (t e : ℕ) → IsPut r r' t e → get_or r.numbers t 0 ≡ 0 → popped r' ≡ r
 popped_put r r' t e is none =

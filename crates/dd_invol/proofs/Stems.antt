@@ -7,16 +7,14 @@ use Rattle.dd_model.specs.Symbol.{Symbol, op}
 use Rattle.dd_invol.specs.Places.{index_at}
 use Rattle.dd_invol.specs.FirstVisit.{greatest}
 use Rattle.dd_invol.specs.Rows.{partial_of, depth_of, IsReady, Learns}
-use Rattle.dd_invol.specs.Under.{IsUnder, HasNothingUnder, HasNoNumberFrom, SkipsTo, Follows, next_number}
+use Rattle.dd_invol.specs.Under.{IsUnder, HasNoNumberFrom, SkipsTo, Follows, next_number}
 use Rattle.dd_invol.specs.Stem.{Any, prefix_of, size_of, shortened, IsStem}
 use Rattle.dd_invol.specs.declared.stem.Stem.{Stem}
-use Rattle.dd_invol.specs.Beaten.{IsBeaten}
 use Rattle.dd_invol.proofs.Places.{code_at, chamber_at}
 use Rattle.dd_invol.proofs.Follows.{Puts, follows_put, follows_none}
 use Rattle.dd_model.specs.Code.{code}
 use Rattle.dd_invol.proofs.CodeFronts.{leads_out}
 use Rattle.dd_invol.proofs.Growth.{next_small, begins_take, one_le_greatest}
-use Rattle.dd_invol.proofs.Leastness.{none_under_beaten}
 
 -- what is looked for is orderly
 pub any_under : (W : Symbol → Type 0) (n : ℕ) (prefix : List ℕ) (s : Symbol) → IsUnder W n prefix s → IsUnder Any n prefix s
@@ -49,15 +47,6 @@ grown_shortened old new k grown =
     ap (λ j. take j (prefix_of new)) last ∙ ap (take (length (prefix_of old))) grown.longer ∙ take_at (prefix_of old) (k ∷ []) (length (prefix_of old)) refl in
     let rows = grown.learns.undone in
     λ x. record { rows = rows x; prefix = record { items = items x } }
-
--- nothing is under the longer prefix where it is beaten
-pub grown_beaten : (old new : Stem) (k : ℕ) → IsStem old → length (prefix_of old) < 3 * size_of old → IsGrown old new k → IsBeaten (partial_of new.rows) (prefix_of new)
-    → HasNothingUnder Any (size_of old) (prefix_of old ++ k ∷ [])
-grown_beaten old new k is low grown beaten =
-    let stem = grown_stem old new k is low grown in
-    let none = none_under_beaten Any (size_of new) (prefix_of new) (partial_of new.rows) stem.follows stem.short beaten in
-    let one = subst (λ n. HasNothingUnder Any n (prefix_of new)) grown.learns.size none in
-    subst (HasNothingUnder Any (size_of old)) grown.longer one
 
 -- the image that is known at the next place comes next
 pub known_next : (stem : Stem) (e : ℕ) → IsStem stem → length (prefix_of stem) < 3 * size_of stem → e ≡ op (partial_of stem.rows) (index_at (length (prefix_of stem) % 3)) (1 + length (prefix_of stem) / 3) → e ≢ 0

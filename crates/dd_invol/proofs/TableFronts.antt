@@ -1,5 +1,5 @@
 -- Tables of one size have the same involutions exactly where their codes begin with the same images.
-use Rattle.std.proofs.Common.{◌≡◌, ◌↔◌, ℕ, zero, suc, ◌+◌, ◌-◌, ◌*◌, ◌/◌, ◌%◌, ◌<◌, ◌≤◌, List, ◌++◌, length, length-take-le, length-append, get_or, take, refl, sym, ap, ◌∙◌, arith}
+use Rattle.std.proofs.Common.{◌≡◌, ℕ, zero, suc, ◌+◌, ◌-◌, ◌*◌, ◌/◌, ◌%◌, ◌<◌, ◌≤◌, List, ◌++◌, length, length-take-le, length-append, get_or, take, refl, sym, ap, ◌∙◌, arith}
 use Rattle.std.proofs.lemmas.List.{ext_get_or, get_or-take}
 use Rattle.dd_model.specs.declared.index.Index.{Index}
 use Rattle.dd_model.specs.declared.index.Index.TheVariants.{Zero, One, Two}
@@ -64,21 +64,10 @@ front_begins s t numbers is whole bt same =
     let agree = agreeing_from_same s t same in
     begins_from numbers (code s) (omega arith) (λ u low. sym (agree.same u (omega arith)) ∙ begins_at numbers (code t) u bt low)
 
--- A code begins with the numbers of a table exactly where it has the involutions of that table.
-pub front_decides : (s t : Symbol) (numbers : List ℕ) → IsTable s → IsTable t → s.size ≡ t.size → length numbers ≡ 3 * t.size → Begins numbers (code t) → Begins numbers (code s) ↔ HaveSameInvolutions t s
-front_decides s t numbers is it size whole bt = (λ bs. front_same s t numbers is it size whole bt bs, λ same. front_begins s t numbers is whole bt same)
-
 pub begins_with_take : (n : ℕ) (xs : List ℕ) → n ≤ length xs → Begins (take n xs) xs
 begins_with_take n xs low =
     let size : length (take n xs) ≡ n = length-take-le n xs low in
     begins_from (take n xs) xs (omega arith) (λ u h. sym (get_or-take n xs u 0 (omega arith)))
-
--- the same of the beginning of the table's own code
-pub own_front_decides : (s t : Symbol) → IsTable s → IsTable t → s.size ≡ t.size → Begins (take (3 * t.size) (code t)) (code s) ↔ HaveSameInvolutions t s
-own_front_decides s t is it size =
-    let long = length-code t it in
-    let front : length (take (3 * t.size) (code t)) ≡ 3 * t.size = length-take-le (3 * t.size) (code t) (omega arith) in
-    front_decides s t (take (3 * t.size) (code t)) is it size front (begins_with_take (3 * t.size) (code t) (omega arith))
 
 -- ## Images that stand in a list
 

@@ -1,5 +1,5 @@
 -- A traversal of a partial table from some chamber, beside a prefix.
-use Rattle.std.proofs.Common.{◌≡◌, ◌≢◌, ℕ, ◌+◌, ◌-◌, ◌/◌, ◌%◌, ◌<◌, ◌≤◌, List, [], ◌∷◌, length, get_or, replicate, sym, ap, ◌∙◌, subst, inl, ⊎_elim, arith}
+use Rattle.std.proofs.Common.{◌≡◌, ◌≢◌, ℕ, ◌+◌, ◌-◌, ◌/◌, ◌%◌, ◌<◌, ◌≤◌, List, [], length, get_or, replicate, sym, ap, ◌∙◌, subst, inl, ⊎_elim, arith}
 use Rattle.std.proofs.lemmas.Bool.{cases_lt}
 use Rattle.std.proofs.lemmas.List.Folds.{sum_by-replicate}
 use Rattle.std.specs.List.{sum_by}
@@ -31,15 +31,6 @@ visit_none n order number none blank =
 -- the chambers of an order are within 1 to n
 pub record AreInside (n : ℕ) (order : List ℕ) : Type 0 where
   pub inside : (k : ℕ) → k < length order → (1 ≤ get_or order k 0) × (get_or order k 0 ≤ n)
-
-pub inside_start : (n start : ℕ) (order : List ℕ) → order ≡ start ∷ [] → (1 ≤ start) × (start ≤ n) → AreInside n order
-inside_start n start order is h = record {
-  inside = λ k low.
-      let count : length order ≡ 1 = ap length is in
-      let first : k ≡ 0 = omega arith in
-      let e : get_or order k 0 ≡ start = ap (λ j. get_or order j 0) first ∙ ap (λ xs. get_or xs 0 0) is in
-      subst (λ d. (1 ≤ d) × (d ≤ n)) (sym e) h;
-}
 
 extends_met : (xs ys number : List ℕ) (d x : ℕ) → IsMeeting xs ys number d x → Extends xs ys
 extends_met xs ys number d x m = record {
@@ -116,9 +107,6 @@ reads_now partial xs ys number u image k at =
       reads = record { chamber = omega arith; positive = m.positive; image = omega arith; is = e ∙ sym m.at };
       known = λ z. at.known (sym e ∙ z);
     }
-
-pub reads_none : (partial : Symbol) (prefix order : List ℕ) → ReadsSo partial prefix order 0
-reads_none partial prefix order = record { same = λ v low. absurd (omega arith) }
 
 pub reads_more : (partial : Symbol) (prefix xs ys number : List ℕ) (u image k : ℕ) → IsMetAt partial xs ys number u image k → ReadsSo partial prefix xs u → k ≡ get_or prefix u 0 → ReadsSo partial prefix ys (u + 1)
 reads_more partial prefix xs ys number u image k at before same = record {

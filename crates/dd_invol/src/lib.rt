@@ -11,8 +11,6 @@ mod splits;
 mod stem;
 mod table;
 mod tables;
-#[cfg(test)]
-mod tests;
 mod traversal;
 mod walk;
 

@@ -149,7 +149,9 @@ pub struct Starts {
 
 impl Starts {
     /// All chambers.
-    pub fn all() -> Starts {
+    pub fn all() -> Starts
+        ensures { result.left_out ≡ 0 }
+    {
         Starts { left_out: 0 }
     }
 

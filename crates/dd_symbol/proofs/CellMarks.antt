@@ -1,7 +1,7 @@
 -- How the least chamber of each cell is written at all of its chambers, and the least ones are listed.
-use Rattle.std.proofs.Common.{◌≡◌, ℕ, ◌+◌, ◌-◌, ◌<◌, ◌≤◌, ◌⊎◌, List, [], ◌∷◌, ◌++◌, length, get_or, set, replicate, refl, sym, ap, ◌∙◌, subst, inl, inr, ⊎_elim, arith}
+use Rattle.std.proofs.Common.{◌≡◌, ℕ, ◌+◌, ◌-◌, ◌<◌, ◌≤◌, ◌⊎◌, List, [], ◌∷◌, ◌++◌, length, get_or, set, refl, sym, ap, ◌∙◌, subst, inr, ⊎_elim, arith}
 use Rattle.std.proofs.lemmas.Bool.{cases_eq, cases_lt}
-use Rattle.std.proofs.lemmas.List.{get_or-set_same, get_or-set_other, length-set, length-replicate, get_or-replicate, get_or_append_left, get_or_push, length_push}
+use Rattle.std.proofs.lemmas.List.{get_or-set_same, get_or-set_other, length-set, get_or_append_left, get_or_push, length_push}
 use Rattle.std.proofs.lemmas.List.Elements.{Contains-push, Contains-push_cases, Contains-get_or, Contains-append_left}
 use Rattle.std.specs.List.{Contains}
 use Rattle.std.specs.List.Sorted.{IsStrictlyIncreasing}
@@ -80,16 +80,6 @@ pub record IsFilled (s : Symbol) (p : Pair) (k : ℕ) (least : List ℕ) : Type 
   pub each : (e : ℕ) → IsChamber s e → (item least e ≡ 0) ⊎ IsLeastFor s p e (item least e)
   pub done : (e : ℕ) → IsChamber s e → e ≤ k → IsLeastFor s p e (item least e)
 
-pub nothing_filled : (s : Symbol) → AreInvolutions s → (p : Pair) → IsFilled s p 0 (replicate s.size 0)
-nothing_filled s inv p = record {
-  whole = length-replicate s.size 0;
-  same = λ d e h there. none d h ∙ sym (none e (in_cell_within s inv p d e h there));
-  each = λ e h. inl (none e h);
-  done = λ e h high. let low = h.0 in absurd (omega arith);
-} where
-  none : (d : ℕ) → IsChamber s d → item (replicate s.size 0) d ≡ 0
-  none d h = get_or-replicate s.size (d - 1) 0 0 (let low = h.0 in let high = h.1 in omega arith)
-
 -- no cell has chamber 0 for its least
 no_zero : (s : Symbol) (p : Pair) (e l : ℕ) → IsLeastFor s p e l → l ≡ 0 → ⊥
 no_zero s p e l is zero = let low = is.is_least.0.0 in omega arith
@@ -163,13 +153,6 @@ pub record AreCellsTo (s : Symbol) (p : Pair) (k : ℕ) (ds : List ℕ) : Type 0
   pub ascending : IsStrictlyIncreasing ds
   pub least : (d : ℕ) → Contains ds d → IsLeastOfCell s p d × (d ≤ k)
   pub all : (d : ℕ) → IsLeastOfCell s p d → d ≤ k → Contains ds d
-
-pub no_cells : (s : Symbol) (p : Pair) → AreCellsTo s p 0 []
-no_cells s p = record {
-  ascending = λ k h. absurd (omega arith);
-  least = λ d here. let below = here.1 in absurd (omega arith);
-  all = λ d is high. let low = is.0.0 in absurd (omega arith);
-}
 
 -- the least chamber of a cell is its own least
 pub own_least : (s : Symbol) → AreInvolutions s → (p : Pair) (d l : ℕ) → IsLeastFor s p d l → IsLeastOfCell s p d → l ≡ d

@@ -6,7 +6,7 @@ use Rattle.dd_model.specs.Symbol.{Symbol, AreInvolutions, IsChamber, first, seco
 use Rattle.dd_model.specs.Cell.{InCell, IsChain, IsPeriod, turned}
 use Rattle.dd_model.proofs.Turns.{period_bound, IsLeastTurns-from_period}
 use Rattle.dd_model.proofs.Words.{act_within}
-use Rattle.dd_model.proofs.CellWalks.{IsMet, met_none, met_cases, met_from_in_cell, next_place, period_from_first_return, in_cell-refl, in_cell-trans, in_cell-turned, in_cell-first}
+use Rattle.dd_model.proofs.CellWalks.{IsMet, met_cases, met_from_in_cell, next_place, period_from_first_return, in_cell-trans, in_cell-turned, in_cell-first}
 use Rattle.dd_model.proofs.FreeWalks.{IsFreeWalk, free_walk_goes_on, free_walk_comes_back}
 use Rattle.dd_symbol.specs.Cells.{IsLeastFor, IsKindOf, IsShapeOf}
 use Rattle.dd_symbol.specs.declared.kind.Kind.{Kind}
@@ -25,9 +25,6 @@ least_of_two a b m e = ⊎_elim
 pub record IsRootTo (s : Symbol) (p : Pair) (d k e : ℕ) : Type 0 where
   pub in_cell : InCell s p d e
   pub least : (x : ℕ) → IsMet s p d k x → e ≤ x
-
-pub root_first : (s : Symbol) (p : Pair) (d : ℕ) → IsRootTo s p d 0 d
-root_first s p d = record { in_cell = in_cell-refl s p d; least = λ x met. absurd (met_none s p d x met) }
 
 pub root_more : (s : Symbol) (p : Pair) (d k e x y : ℕ) → IsRootTo s p d k e → x ≡ turned s p k d → y ≡ op s (first p) x
     → (m : ℕ) → (m ≡ e) ⊎ ((m ≡ x) ⊎ (m ≡ y)) → m ≤ e → m ≤ x → m ≤ y → IsRootTo s p d (k + 1) m
@@ -72,21 +69,6 @@ pub record IsShaping (s : Symbol) (p : Pair) (d k place least : ℕ) (found : Ki
   pub unfixed : (j : ℕ) → 1 ≤ j → j < k + 1 → turned s p j d ≡ d → ⊥
   pub root : IsRootTo s p d k least
   pub kind : IsKindTo s p d k place found
-
-pub shaping_first : (s : Symbol) (p : Pair) (d : ℕ) → IsChamber s d → IsShaping s p d 0 d d Cycle
-shaping_first s p d h = record {
-  at = refl;
-  chamber = h;
-  unfixed = λ j low high fixed. absurd (omega arith);
-  root = root_first s p d;
-  kind = record {
-    at = refl;
-    chamber = h;
-    first_moves = λ j below fixed. absurd (omega arith);
-    second_moves = λ j below fixed. absurd (omega arith);
-    unfixed = λ j low high fixed. absurd (omega arith);
-  };
-}
 
 -- whether one turn more meets a fixed chamber, and what the kind is then
 pub data IsKindStep (s : Symbol) (p : Pair) (place next : ℕ) (kind kind' : Kind) : Type 0 where

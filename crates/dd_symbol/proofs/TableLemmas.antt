@@ -14,6 +14,7 @@ use Rattle.dd_model.specs.Symbol.{Symbol, AreInvolutions, IsChamber, item, op, o
 use Rattle.dd_model.specs.Code.{count_from, images, all_images, code, code_cmp}
 use Rattle.dd_model.proofs.CountFrom.{length-count_from, get_or-count_from}
 use Rattle.dd_model.proofs.Codes.{same_items, length-flat_images}
+use Rattle.dd_model.proofs.Orders.{compared_in_parts}
 use Rattle.dd_symbol.specs.Images.{column, of_rows, with_degrees, AreThreeInvolutions}
 use Rattle.dd_symbol.specs.Table.{symbol_of}
 use Rattle.dd_symbol.specs.declared.table.Table.{Table}
@@ -149,19 +150,6 @@ listed-from_rows s0 s1 s2 xs l1 l2 rows =
 
 -- ## Codes in parts
 
-then_assoc : (a b c : Ordering) → ordering_then (ordering_then a b) c ≡ ordering_then a (ordering_then b c)
-then_assoc Less b c = refl
-then_assoc Equal b c = refl
-then_assoc Greater b c = refl
-
--- Lists with parts of one length in front are compared part by part.
-pub compared_in_parts : (xs ys us vs : List ℕ) → length xs ≡ length ys → slice_cmp nat_cmp (xs ++ us) (ys ++ vs) ≡ ordering_then (slice_cmp nat_cmp xs ys) (slice_cmp nat_cmp us vs)
-compared_in_parts [] [] us vs e = refl
-compared_in_parts [] (y ∷ ys) us vs e = absurd (omega arith)
-compared_in_parts (x ∷ xs) [] us vs e = absurd (omega arith)
-compared_in_parts (x ∷ xs) (y ∷ ys) us vs e =
-    ap (ordering_then (nat_cmp x y)) (compared_in_parts xs ys us vs (omega arith)) ∙ sym (then_assoc (nat_cmp x y) (slice_cmp nat_cmp xs ys) (slice_cmp nat_cmp us vs))
-
 pub same_size : (a b : ℕ) → nat_cmp a b ≡ Equal → a ≡ b
 same_size a b e = nat_cmp-IsAntisymmetric a b e
 
@@ -189,9 +177,6 @@ compared_by_parts s t a b = by_size (nat_cmp s.size t.size) refl where
   by_size Equal e = rw e (codes_compared s t a b (same_size s.size t.size e))
 
 -- ## One row more
-
-pub no_rows : (h : Index → ℕ → ℕ) → HasRows h 0 []
-no_rows h = record { rows = refl; zero = λ e low high. absurd (omega arith); one = λ e low high. absurd (omega arith); two = λ e low high. absurd (omega arith) }
 
 pub more_rows : (h : Index → ℕ → ℕ) (k : ℕ) (xs : List ℕ) (a b c : ℕ) → HasRows h k xs → a ≡ h Zero (k + 1) → b ≡ h One (k + 1) → c ≡ h Two (k + 1)
     → HasRows h (k + 1) (((xs ++ a ∷ []) ++ b ∷ []) ++ c ∷ [])

@@ -1,5 +1,6 @@
 ghost use Rattle.std.specs.Prelude.{◌≡◌, IfOk};
 ghost use Rattle.dd_model.specs.Isomorphic.{IsBijection, IsIsomorphism};
+ghost use Rattle.dd_symbol.specs.Images.{with_degrees};
 
 use crate::symbol::Symbol;
 use dd_model::Memory;
@@ -52,6 +53,22 @@ impl Connected {
     {
         Ok(Connected {
             symbol: self.symbol.renumber(alloc, map)?,
+        })
+    }
+
+    /// The symbol with these involutions and other degrees, which are known to be those of a symbol
+    /// with branching values of at most 30. Nothing is tested.
+    pub fn with_known_degrees(
+        &self,
+        alloc: Global,
+        m01: Vec<u32>,
+        m12: Vec<u32>,
+    ) -> Result<Connected, Memory>
+        requires { IsSmallSymbol (with_degrees self.now m01.items m12.items) }
+        ensures { IfOk result (λ it. it ≡ with_degrees self.now m01.items m12.items) }
+    {
+        Ok(Connected {
+            symbol: self.symbol.with_known_degrees(alloc, m01, m12)?,
         })
     }
 

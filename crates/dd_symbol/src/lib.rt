@@ -16,8 +16,6 @@ mod rows;
 mod shapes;
 mod symbol;
 mod table;
-#[cfg(test)]
-mod tests;
 mod walk;
 
 pub use building::{build, build_if, build_on};

@@ -35,6 +35,7 @@ impl Symbol {
     ghost use Rattle.dd_model.specs.Code.{code};
     ghost use Rattle.dd_model.specs.Position.{IsBefore};
     ghost use Rattle.dd_symbol.specs.Table.{symbol_of};
+    ghost use Rattle.dd_symbol.specs.Images.{with_degrees};
     ghost use Rattle.dd_symbol.specs.Cells.{IsShapeOf};
     ghost use Rattle.dd_model.specs.Small.{IsSmallSymbol};
 
@@ -125,6 +126,26 @@ impl Symbol {
         ensures { IsTrue result ↔ IsBefore position.now self.now }
     {
         self.table.is_before(position)
+    }
+
+    /// The symbol with these involutions and other degrees, which are known to be those of a symbol.
+    pub(crate) fn with_known_degrees(
+        &self,
+        alloc: Global,
+        m01: Vec<u32>,
+        m12: Vec<u32>,
+    ) -> Result<Symbol, Memory>
+        requires { IsSmallSymbol (with_degrees self.now m01.items m12.items) }
+        ensures { IfOk result (λ it. it ≡ with_degrees self.now m01.items m12.items) }
+    {
+        let involutions = self.table.involutions.try_copy(alloc)?;
+        Ok(Symbol {
+            table: Table {
+                involutions,
+                m01,
+                m12,
+            },
+        })
     }
 
     /// An equal symbol.

@@ -2,7 +2,7 @@ use Rattle.std.proofs.Common.{◌≡◌, ap, sym, ◌∙◌, subst, inl, inr, ar
 use Rattle.dd_model.specs.Symbol.{op, first, second}
 use Rattle.dd_symbol.proofs.CellShapes.{shaped, IsKindStep, meets_fixed, meets_none, IsShaping, shaping_more, shape_found, shaping_ends}
 use Rattle.dd_symbol.proofs.involutions.Involutions.cell.Goals as goal
-use Rattle.dd_symbol.proofs.involutions.Involutions.cell.Goals.{Else-next-chamber, Then-next-chamber, then-neighbor-place, then-neighbor-place-via-then-neighbor-place, then-neighbor-place-via-else-neighbor-place+then-next-neighbor, else-neighbor-place+else-next-neighbor}
+use Rattle.dd_symbol.proofs.involutions.Involutions.cell.Goals.{then-neighbor-place, then-neighbor-place-via-then-neighbor-place, then-neighbor-place-via-else-neighbor-place+then-next-neighbor, else-neighbor-place+else-next-neighbor}
 
 pub returns-then-next-chamber : goal.returns-then-next-chamber
 returns-then-next-chamber c =

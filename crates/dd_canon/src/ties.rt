@@ -1,0 +1,97 @@
+ghost use Rattle.std.specs.Prelude.{◌≡◌, ◌⊎◌, ◌↔◌, ℕ, ◌++◌, ◌∷◌, [], ◌<◌, IsTrue, IfOk, OnOk, MatchOption};
+ghost use Rattle.std.specs.List.{Contains};
+ghost use Rattle.std.specs.declared.cmp.Ordering.TheVariants.{Greater};
+ghost use Rattle.dd_model.specs.Symbol.{IsChamber};
+ghost use Rattle.dd_model.specs.Code.{Least};
+ghost use Rattle.dd_canon.specs.Ties.{AreTies, IsLeastFrom};
+
+use crate::steps::Steps;
+use crate::visits::Visit;
+use dd_model::Memory;
+use dd_symbol::Connected;
+use std::alloc::Global;
+use std::cmp::Ordering;
+use std::marker::Brand;
+use std::sync::ledger::{Blank, Ledger};
+
+/// A start from which the numbering is not larger is kept, but for chamber 1.
+fn keep(ties: &mut Vec<u32>, order: Ordering, start: u32) -> Result<(), Memory>
+    ensures { OnOk result ((ties.new.items ≡ ties.old.items ++ start ∷ [])
+        ⊎ (((order ≡ Greater) ⊎ (start ≡ 1)) × (ties.new.items ≡ ties.old.items))) }
+{
+    if order.is_gt() || start == 1 {
+        return Ok(());
+    }
+    ties.push(start)?;
+    Ok(())
+}
+
+/// The same, where the comparisons are counted from a blank on.
+fn ties_by<L: Ledger>(
+    alloc: Global,
+    s: &Connected,
+    blank: Blank,
+) -> Result<Option<Vec<u32>>, Memory>
+    requires name { blank.name ≡ L.name }
+    requires parts { blank.parts ≡ L.parts }
+    requires some { 0 < blank.parts }
+    ensures { IfOk result (λ found.
+        MatchOption found (Least s.now → ⊥) (λ ties. AreTies s.now ties.items)) }
+{
+    let mut steps = Steps::<L>::begin(blank);
+    let mut visit = Visit::new(alloc, s)?;
+    let mut ties = Vec::new(alloc);
+    for k in 0..s.symbol().size() {
+        let order = visit.stand(s, k + 1, s, &mut steps);
+        if order.is_lt() {
+            return Ok(None);
+        }
+        keep(&mut ties, order, k + 1)?;
+    }
+    Ok(Some(ties))
+}
+
+/// The chambers but 1 from which the numbering by first visits may have the same code; None where
+/// the numbering from some chamber has a smaller one.
+pub fn tied_starts(alloc: Global, s: &Connected) -> Result<Option<Vec<u32>>, Memory>
+    ensures { IfOk result (λ found.
+        MatchOption found (Least s.now → ⊥) (λ ties. AreTies s.now ties.items)) }
+{
+    ties_by::<Brand>(alloc, s, Blank::new(1))
+}
+
+/// Whether no numbering from some starts is smaller, with comparisons counted from a blank.
+fn is_least_by<L: Ledger>(
+    alloc: Global,
+    s: &Connected,
+    starts: &[u32],
+    blank: Blank,
+) -> Result<bool, Memory>
+    requires name { blank.name ≡ L.name }
+    requires parts { blank.parts ≡ L.parts }
+    requires some { 0 < blank.parts }
+    requires starts { (d : ℕ) → Contains starts.now d → IsChamber s.now d }
+    ensures { IfOk result (λ least. IsTrue least ↔ IsLeastFrom s.now starts.now) }
+{
+    let mut steps = Steps::<L>::begin(blank);
+    let mut visit = Visit::new(alloc, s)?;
+    for k in 0..starts.len() {
+        let order = visit.stand(s, starts[k], s, &mut steps);
+        if order.is_lt() {
+            return Ok(false);
+        }
+    }
+    Ok(true)
+}
+
+/// Whether no numbering by first visits from one of some starts has a smaller code. Where there are
+/// no starts it takes no memory.
+pub fn is_least_from_ties(alloc: Global, s: &Connected, starts: &[u32]) -> Result<bool, Memory>
+    requires { (d : ℕ) → Contains starts.now d → IsChamber s.now d }
+    ensures { IfOk result (λ least. IsTrue least ↔ IsLeastFrom s.now starts.now) }
+{
+    if starts.is_empty() {
+        return Ok(true);
+    }
+    is_least_by::<Brand>(alloc, s, starts, Blank::new(1))
+}
