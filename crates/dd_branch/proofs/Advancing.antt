@@ -1,201 +1,500 @@
--- How an assignment goes on by a number.
-use Rattle.std.proofs.Common.{◌≡◌, ℕ, ◌+◌, ◌-◌, ◌*◌, ◌<◌, ◌≤◌, Option, None, Some, MatchOption, List, [], ◌∷◌, ◌++◌, length, get_or, take, refl, sym, ap, ◌∙◌, subst, inr, ⊎_elim, arith}
+-- How an assignment goes on by a degree.
+use Rattle.std.proofs.Common.{◌≡◌, ◌≢◌, ℕ, zero, suc, ◌+◌, ◌-◌, ◌*◌, ◌/◌, ◌<◌, ◌≤◌, List, [], ◌∷◌, ◌++◌, length, get_or, take, refl, sym, ap, ◌∙◌, subst, inl, inr, ⊎_elim, arith}
 use Rattle.std.proofs.Math.Nat.{mul-le-mul_right}
-use Rattle.std.proofs.Math.Seq.{take-append_seam}
+use Rattle.std.proofs.Math.Seq.{take-append_seam, take-length}
 use Rattle.std.proofs.lemmas.Bool.{cases_lt}
-use Rattle.std.proofs.lemmas.List.{length_push, get_or_push, get_or_append_left}
-use Rattle.std.specs.List.{Contains}
+use Rattle.std.proofs.lemmas.List.{append_assoc, length_push, get_or_default, get_or_push, get_or_append_left, take-append-le, take-take}
 use Rattle.dd_model.specs.declared.allowed.Allowed.{Allowed}
-use Rattle.dd_model.specs.declared.requests.Request.{Request}
+use Rattle.dd_model.specs.Allowed.{IsIn}
+use Rattle.dd_model.specs.declared.pair.Pair.TheVariants.{Tile, Vertex}
 use Rattle.dd_model.specs.Symbol.{Symbol}
 use Rattle.dd_model.specs.Code.{code}
 use Rattle.dd_model.specs.Wanted.{IsMember}
-use Rattle.dd_model.proofs.Lists.{Contains-one}
-use Rattle.dd_invol.specs.Under.{IsUnder, AreUnder, HasNoNumberFrom, SkipsTo, Appends, next_number}
-use Rattle.dd_invol.proofs.Prefixes.{shortened}
-use Rattle.dd_branch.specs.Choice.{IsChoice, HasNoChoiceFrom, IsLeastChoice}
-use Rattle.dd_branch.specs.Reciprocals.{AreReciprocals}
-use Rattle.dd_branch.specs.Rests.{AreRests}
-use Rattle.dd_branch.specs.Assignment.{IsAssignment, AreSums, IsSound, Fits, degree_at, prefix_of, told}
+use Rattle.dd_invol.specs.Under.{Appends, AreUnder, AreUnderBefore, SkipsTo, next_number}
+use Rattle.dd_invol.proofs.Prefixes.{appends_all, appends_first, appends_next, extended, shortened as prefix_shortened}
+use Rattle.dd_cells.proofs.ReciprocalSums.{quotient_is}
+use Rattle.dd_branch.specs.Budget.{no_place, spent, twelfths}
+use Rattle.dd_branch.specs.Choice.{IsChoice}
+use Rattle.dd_branch.specs.Assignment.{IsAssignment, IsAtRoot, IsMemberUnder, IsTold, degree_at, next_place, prefix_of, shortened, spent_by, told}
+use Rattle.dd_branch.specs.Entered.{HasBudget, HasEntered, HasForced}
 use Rattle.dd_branch.specs.declared.assignment.Assignment.{Assignment}
 use Rattle.dd_branch.specs.declared.places.Place.{Place}
-use Rattle.dd_branch.proofs.Assigned.{code_degree, told_degree}
-use Rattle.dd_branch.proofs.Choices.{value_of}
-use Rattle.dd_branch.proofs.WholePrefixes.{symbol_of_prefix}
+use Rattle.dd_branch.proofs.Assigned.{length-prefix, next_degree, same_of_under, told_degree}
+use Rattle.dd_branch.proofs.Budgets.{AllAreChosen, flat_if_spent, spent_at_least, spent_at_most, spent_next, spent_same}
+use Rattle.dd_branch.proofs.Chosen.{IsSound, all_bounded, constant_at, sound_places, wanted_chosen}
+use Rattle.dd_branch.proofs.Choices.{IsValue, is_crystallographic, part_at_most, value_of}
 
--- the sum of the parts goes on by the part of the number
-grown_sums : (a b : Assignment) (number : ℕ) → IsAssignment a → b.size ≡ a.size → b.reciprocals ≡ a.reciprocals → prefix_of b ≡ prefix_of a ++ number ∷ []
-    → b.sums.items ≡ a.sums.items ++ (get_or a.sums.items (told a) 0 + get_or a.reciprocals number 0) ∷ [] → AreSums b
-grown_sums a b number is size parts longer sums =
-    let sum = get_or a.sums.items (told a) 0 + get_or a.reciprocals number 0 in
-    let long : length (prefix_of b) ≡ length (prefix_of a) + 1 = ap length longer ∙ length_push (prefix_of a) number in
-    let count : length b.sums.items ≡ length a.sums.items + 1 = ap length sums ∙ length_push a.sums.items sum in
-    let before = is.sums.count in
-    let images = is.images in
-    let kept : (j : ℕ) → j ≤ told a → get_or b.sums.items j 0 ≡ get_or a.sums.items j 0 = λ j low.
-    ap (λ xs. get_or xs j 0) sums ∙ get_or_append_left a.sums.items (sum ∷ []) 0 j (omega (arith, low, before)) in
-    let own : (j : ℕ) → get_or b.reciprocals (get_or (prefix_of b) (3 * b.size + j) 0) 0 ≡ get_or a.reciprocals (get_or (prefix_of a ++ number ∷ []) (3 * a.size + j) 0) 0 = λ j.
-    ap (λ xs. get_or xs (get_or (prefix_of b) (3 * b.size + j) 0) 0) parts
-    ∙ ap (λ xs. get_or a.reciprocals (get_or xs (3 * b.size + j) 0) 0) longer
-    ∙ ap (λ n. get_or a.reciprocals (get_or (prefix_of a ++ number ∷ []) (3 * n + j) 0) 0) size in
+-- the assignment with other degrees
+abbrev pub with_list : Assignment → List ℕ → Assignment
+with_list a xs = record { alloc = a.alloc; request = a.request; table = a.table; ties = a.ties; places = a.places; rests = a.rests; degrees = record { items = xs } }
+
+-- the assignment with one more
+abbrev pub with_degree : Assignment → ℕ → Assignment
+with_degree a m = with_list a (a.degrees.items ++ m ∷ [])
+
+pub sound_next : (a : Assignment) → IsAssignment a → (j : ℕ) (x : Place) → j < 2 * a.table.size → IsSound j (get_or a.places.items j x)
+sound_next a is = sound_places a.request a.table a.places.items is.table.symbol.table.involutions is.places
+
+below : (k n : ℕ) → k ≤ n → k ≢ n → k < n
+below k n low other = ⊎_elim (λ less. less) (λ more. absurd (other (omega (arith, low, more)))) (cases_lt k n)
+
+-- what is left is small
+rest_small : (a : Assignment) → IsAssignment a → (d j : ℕ) → j + d ≡ 2 * a.table.size → (get_or a.rests.most j 0 ≤ d * 24) × (get_or a.rests.least j 0 ≤ d * 24)
+rest_small a is zero j end =
+    let count = is.places.count in
+    let at : length a.places.items ≡ j = omega (arith, end, count) in
+    let most : get_or a.rests.most j 0 ≡ 0 = ap (λ i. get_or a.rests.most i 0) (sym at) ∙ is.rests.no_most in
+    let least : get_or a.rests.least j 0 ≡ 0 = ap (λ i. get_or a.rests.least i 0) (sym at) ∙ is.rests.no_least in
+    (omega (arith, most), omega (arith, least))
+rest_small a is (suc d) j end =
+    let count = is.places.count in
+    let before = rest_small a is d (j + 1) (omega (arith, end)) in
+    let sound = sound_next a is j no_place (omega (arith, end)) in
+    let few = sound.sides in
+    let up = sound.most in
+    let down = sound.least in
+    let most = is.rests.each_most j no_place (omega (arith, end, count)) in
+    let least = is.rests.each_least j no_place (omega (arith, end, count)) in
+    let b_most = before.0 in
+    let b_least = before.1 in
+    (omega (arith, most, up, few, b_most), omega (arith, least, down, few, b_least))
+
+pub rests_small : (a : Assignment) → IsAssignment a → (j : ℕ) → j ≤ 2 * a.table.size → (get_or a.rests.most j 0 ≤ 1728) × (get_or a.rests.least j 0 ≤ 1728)
+rests_small a is j low =
+    let small = rest_small a is (2 * a.table.size - j) j (omega (arith, low)) in
+    let few = is.table.small in
+    let most = small.0 in
+    let least = small.1 in
+    (omega (arith, most, few, low), omega (arith, least, few, low))
+
+-- what is told stays told
+pub more_told : (a : Assignment) (m : ℕ) → IsAssignment a → told a < 2 * a.table.size → ((x : Place) → IsTold a.request a.table.size (a.degrees.items ++ m ∷ []) (told a) (get_or a.places.items (told a) x)) → IsAssignment (with_degree a m)
+more_told a m is room last =
+    let ds = a.degrees.items in
+    let long : length (ds ++ m ∷ []) ≡ told a + 1 = length_push ds m in
     record {
-      count = omega (arith, count, before, long, size, images);
-      none = kept 0 (omega arith) ∙ is.sums.none;
-      each = λ j low. ⊎_elim
+      table = is.table;
+      limits = is.limits;
+      ties = is.ties;
+      places = is.places;
+      rests = is.rests;
+      short = omega (arith, room, long);
+      each = λ j x low. ⊎_elim
           (λ early.
-          let part = ap (λ m. get_or a.reciprocals m 0) (get_or_append_left (prefix_of a) (number ∷ []) 0 (3 * a.size + j) (omega (arith, early))) in
-          let step = is.sums.each j early in
-          let next = kept (j + 1) (omega (arith, early)) in
-          let here = kept j (omega (arith, early)) in
-          let same = own j in
-          omega (arith, next, here, step, same, part))
+          let x' = get_or a.places.items j x in
+          let old = is.each j x early in
+          let earlier = (sound_next a is j x (omega (arith, early, room))).earlier in
+          let here : get_or (ds ++ m ∷ []) j 0 ≡ get_or ds j 0 = get_or_append_left ds (m ∷ []) 0 j early in
+          let root : get_or (ds ++ m ∷ []) x'.root 0 ≡ get_or ds x'.root 0 = get_or_append_left ds (m ∷ []) 0 x'.root (omega (arith, earlier, early)) in
+          record {
+            same = here ∙ old.same ∙ sym root;
+            tile = λ own low. subst (IsChoice a.request.faces x'.turns) (sym here) (old.tile own low);
+            vertex = λ own high. subst (IsChoice a.request.degrees x'.turns) (sym here) (old.vertex own high);
+          })
           (λ late.
-          let at : j ≡ told a = omega (arith, late, low, long, size, images) in
-          let end : length a.sums.items ≡ j + 1 = omega (arith, at, before) in
-          let next : get_or b.sums.items (j + 1) 0 ≡ sum = ap (λ xs. get_or xs (j + 1) 0) sums ∙ get_or_push a.sums.items sum 0 (j + 1) end in
-          let here = kept j (omega (arith, at)) ∙ ap (λ k. get_or a.sums.items k 0) at in
-          let part = ap (λ m. get_or a.reciprocals m 0) (get_or_push (prefix_of a) number 0 (3 * a.size + j) (omega (arith, at, images))) in
-          let same = own j in
-          omega (arith, next, here, same, part))
+          let at : told a ≡ j = omega (arith, late, low, long) in
+          subst (λ i. IsTold a.request a.table.size (ds ++ m ∷ []) i (get_or a.places.items i x)) at (last x))
           (cases_lt j (told a));
     }
 
--- a number more
-pub grown : (a b : Assignment) (number : ℕ) → IsAssignment a → length (prefix_of a) < 5 * a.size → number ≤ 216
-    → b.request ≡ a.request → b.size ≡ a.size → b.reciprocals ≡ a.reciprocals → b.places ≡ a.places → b.rests ≡ a.rests → prefix_of b ≡ prefix_of a ++ number ∷ []
-    → b.sums.items ≡ a.sums.items ++ (get_or a.sums.items (told a) 0 + get_or a.reciprocals number 0) ∷ [] → IsAssignment b
-grown a b number is room small request size parts places rests longer sums =
-    let long : length (prefix_of b) ≡ length (prefix_of a) + 1 = ap length longer ∙ length_push (prefix_of a) number in
-    let items = ap (λ p. p.items) places in
-    let images = is.images in
-    let positive = is.positive in
-    let few = is.small in
+-- a degree that follows from an earlier one
+pub forced_told : (a : Assignment) (m : ℕ) → IsAssignment a → told a < 2 * a.table.size → (next_place a).root ≢ told a → m ≡ get_or a.degrees.items (next_place a).root 0 → IsAssignment (with_degree a m)
+forced_told a m is room other copied =
+    let ds = a.degrees.items in
+    more_told a m is room (λ x.
+    let x' = get_or a.places.items (told a) x in
+    let count = is.places.count in
+    let same : x' ≡ next_place a = get_or_default a.places.items (told a) x no_place (omega (arith, count, room)) in
+    let root : x'.root ≡ (next_place a).root = ap (λ (p : Place). p.root) same in
+    let earlier = (sound_next a is (told a) x room).earlier in
+    let strict : x'.root < told a = below x'.root (told a) earlier (λ e. other (sym root ∙ e)) in
     record {
-      positive = omega (arith, positive, size);
-      small = omega (arith, few, size);
-      images = omega (arith, images, long, size);
-      short = omega (arith, room, long, size);
-      numbers = λ t low. subst (λ xs. get_or xs t 0 ≤ 216) (sym longer) (⊎_elim
-          (λ early. subst (λ x. x ≤ 216) (sym (get_or_append_left (prefix_of a) (number ∷ []) 0 t early)) (is.numbers t early))
-          (λ late. subst (λ x. x ≤ 216) (sym (get_or_push (prefix_of a) number 0 t (omega (arith, late, low, long)))) small)
-          (cases_lt t (length (prefix_of a))));
-      reciprocals = subst AreReciprocals (sym parts) is.reciprocals;
-      places = ap length items ∙ is.places ∙ ap (λ n. 2 * n) (sym size);
-      rests = subst (λ xs. AreRests xs b.rests) (sym items) (subst (AreRests a.places.items) (sym rests) is.rests);
-      sums = grown_sums a b number is size parts longer sums;
-      sound = λ j low x. subst (λ xs. IsSound j (get_or xs j x)) (sym items) (is.sound j (omega (arith, low, size)) x);
-      fits = λ s under j low x.
-          let here : IsUnder (IsMember a.request) a.size (prefix_of a ++ number ∷ []) s =
-          subst (λ q. IsUnder (IsMember q) a.size (prefix_of a ++ number ∷ []) s) request
-          (subst (λ n. IsUnder (IsMember b.request) n (prefix_of a ++ number ∷ []) s) size
-          (subst (λ xs. IsUnder (IsMember b.request) b.size xs s) longer under)) in
-          subst (λ q. Fits q s j (get_or b.places.items j x)) (sym request)
-          (subst (λ xs. Fits a.request s j (get_or xs j x)) (sym items)
-          (is.fits s (shortened (IsMember a.request) a.size (prefix_of a) number s here).0 j (omega (arith, low, size)) x));
-    }
-
--- the assignment with other numbers and sums
-abbrev pub with_lists : Assignment → List ℕ → List ℕ → Assignment
-with_lists a prefix sums = record { alloc = a.alloc; request = a.request; size = a.size; reciprocals = a.reciprocals; places = a.places; rests = a.rests; prefix = record { items = prefix }; sums = record { items = sums } }
-
--- what was put in last is taken away
-pub ungrown : (a : Assignment) (prefix sums : List ℕ) (number sum : ℕ) → IsAssignment a → prefix ≡ prefix_of a ++ number ∷ [] → sums ≡ a.sums.items ++ sum ∷ []
-    → with_lists a (take (length (prefix_of a)) prefix) (take (length (prefix_of a) - 3 * a.size + 1) sums) ≡ a
-ungrown a prefix sums number sum is longer more =
-    let mark = length (prefix_of a) in
-    let count : told a + 1 ≡ length a.sums.items = sym is.sums.count in
-    let numbers : take mark prefix ≡ prefix_of a = ap (take mark) longer ∙ take-append_seam (prefix_of a) (number ∷ []) in
-    let kept : take (mark - 3 * a.size + 1) sums ≡ a.sums.items =
-    ap (take (mark - 3 * a.size + 1)) more ∙ ap (λ k. take k (a.sums.items ++ sum ∷ [])) count ∙ take-append_seam a.sums.items (sum ∷ []) in
-    let first : with_lists a (take mark prefix) (take (mark - 3 * a.size + 1) sums) ≡ with_lists a (prefix_of a) (take (mark - 3 * a.size + 1) sums) =
-    ap (λ xs. with_lists a xs (take (mark - 3 * a.size + 1) sums)) numbers in
-    let second : with_lists a (prefix_of a) (take (mark - 3 * a.size + 1) sums) ≡ a = ap (λ xs. with_lists a (prefix_of a) xs) kept in
-    first ∙ second
-
--- ## The next number
-
-pub next_degree : (a : Assignment) → IsAssignment a → (s : Symbol) → IsUnder (IsMember a.request) a.size (prefix_of a) s → next_number (prefix_of a) s ≡ degree_at s (told a)
-next_degree a is s under =
-    let images = is.images in
-    let at : length (prefix_of a) ≡ 3 * a.size + told a = omega (arith, images) in
-    ap (λ k. get_or (code s) k 0) at ∙ code_degree s a.size (told a) under.size
-
--- the degree that is told at an earlier place of the cell
-pub forced_next : (a : Assignment) → IsAssignment a → (j : ℕ) (x : Place) (k : ℕ) (found : Option ℕ) → j ≡ told a → length (prefix_of a) < 5 * a.size → x ≡ get_or a.places.items j x → x.root < j
-    → MatchOption found (get_or (prefix_of a) (3 * a.size + x.root) 0 < k) (λ m. (m ≡ get_or (prefix_of a) (3 * a.size + x.root) 0) × (k ≤ m))
-    → MatchOption found (HasNoNumberFrom (IsMember a.request) a.size (prefix_of a) k) (SkipsTo (IsMember a.request) a.size (prefix_of a) k)
-forced_next a is j x k found at room item earlier =
-    let images = is.images in
-    let place : 3 * a.size + x.root < length (prefix_of a) = omega (arith, images, at, earlier) in
-    let low : j < 2 * a.size = omega (arith, images, at, room) in
-    let number = get_or (prefix_of a) (3 * a.size + x.root) 0 in
-    let next : (s : Symbol) → IsUnder (IsMember a.request) a.size (prefix_of a) s → next_number (prefix_of a) s ≡ number =
-    λ s under.
-    let fits : Fits a.request s j x = subst (Fits a.request s j) (sym item) (is.fits s under j low x) in
-    next_degree a is s under ∙ ap (degree_at s) (sym at) ∙ fits.same ∙ told_degree (IsMember a.request) a.size (prefix_of a) s x.root under place in
-    by_case found number (is.numbers (3 * a.size + x.root) place) next
-  where
-    by_case : (found : Option ℕ) (number : ℕ) → number ≤ 216 → ((s : Symbol) → IsUnder (IsMember a.request) a.size (prefix_of a) s → next_number (prefix_of a) s ≡ number)
-        → MatchOption found (number < k) (λ m. (m ≡ number) × (k ≤ m))
-        → MatchOption found (HasNoNumberFrom (IsMember a.request) a.size (prefix_of a) k) (SkipsTo (IsMember a.request) a.size (prefix_of a) k)
-    by_case None number small next below = λ s under. let e = next s under in omega (arith, e, below)
-    by_case (Some m) number small next found =
-        let same = found.0 in
-        record { later = found.1; small = omega (arith, same, small); none_between = λ s under. inr (let e = next s under in omega (arith, e, same)) }
+      same = get_or_push ds m 0 (told a) refl ∙ copied ∙ ap (λ j. get_or ds j 0) (sym root) ∙ sym (get_or_append_left ds (m ∷ []) 0 x'.root strict);
+      tile = λ own low. absurd (other (sym root ∙ own));
+      vertex = λ own high. absurd (other (sym root ∙ own));
+    })
 
 -- a choice at the least chamber of a cell
-pub chosen_next : (a : Assignment) (set : Allowed) (r k : ℕ) (found : Option ℕ) → r ≤ 36 → ((s : Symbol) → IsUnder (IsMember a.request) a.size (prefix_of a) s → IsChoice set r (next_number (prefix_of a) s))
-    → MatchOption found (HasNoChoiceFrom set r k) (IsLeastChoice set r k)
-    → MatchOption found (HasNoNumberFrom (IsMember a.request) a.size (prefix_of a) k) (SkipsTo (IsMember a.request) a.size (prefix_of a) k)
-chosen_next a set r k None few each none = λ s under. none (next_number (prefix_of a) s) (each s under)
-chosen_next a set r k (Some m) few each least = record {
-  later = least.from;
-  small =
-      let c = least.choice in
-      let high = (value_of c.value c.crystallographic).high in
-      let up : c.value * r ≤ 6 * r = mul-le-mul_right r high in
-      let is = c.product in
-      omega (arith, up, is, few);
-  none_between = λ s under. least.least (next_number (prefix_of a) s) (each s under);
+pub chosen_told : (a : Assignment) (m : ℕ) → IsAssignment a → told a < 2 * a.table.size → IsAtRoot a → (told a < a.table.size → IsChoice a.request.faces (next_place a).turns m) → (a.table.size ≤ told a → IsChoice a.request.degrees (next_place a).turns m) → IsAssignment (with_degree a m)
+chosen_told a m is room at_root tile vertex =
+    let ds = a.degrees.items in
+    more_told a m is room (λ x.
+    let x' = get_or a.places.items (told a) x in
+    let count = is.places.count in
+    let same : x' ≡ next_place a = get_or_default a.places.items (told a) x no_place (omega (arith, count, room)) in
+    let root : x'.root ≡ told a = ap (λ (p : Place). p.root) same ∙ at_root room in
+    let turns : (next_place a).turns ≡ x'.turns = ap (λ (p : Place). p.turns) (sym same) in
+    let here : get_or (ds ++ m ∷ []) (told a) 0 ≡ m = get_or_push ds m 0 (told a) refl in
+    record {
+      same = ap (λ j. get_or (ds ++ m ∷ []) j 0) (sym root);
+      tile = λ own low. subst (IsChoice a.request.faces x'.turns) (sym here) (subst (λ r. IsChoice a.request.faces r m) turns (tile low));
+      vertex = λ own high. subst (IsChoice a.request.degrees x'.turns) (sym here) (subst (λ r. IsChoice a.request.degrees r m) turns (vertex high));
+    })
+
+-- ## What changes by a degree
+
+pub prefix_more : (a : Assignment) (m : ℕ) → prefix_of (with_degree a m) ≡ prefix_of a ++ m ∷ []
+prefix_more a m = sym (append_assoc (take (3 * a.table.size) (code a.table)) a.degrees.items (m ∷ []))
+
+pub spent_more : (a : Assignment) (m : ℕ) → spent_by (with_degree a m) ≡ spent_by a + twelfths (next_place a) m
+spent_more a m =
+    let ds = a.degrees.items in
+    let places = a.places.items in
+    let f : ℕ → ℕ = λ j. get_or (ds ++ m ∷ []) j 0 in
+    let long : length (ds ++ m ∷ []) ≡ suc (told a) = let e = length_push ds m in omega (arith, e) in
+    let whole : spent places f 0 (length (ds ++ m ∷ [])) ≡ spent places f 0 (told a) + twelfths (next_place a) (f (told a)) = ap (spent places f 0) long ∙ spent_next places f (told a) in
+    let before : spent places f 0 (told a) ≡ spent_by a = spent_same places f (λ j. get_or ds j 0) (told a) (λ j low. get_or_append_left ds (m ∷ []) 0 j low) in
+    let last : twelfths (next_place a) (f (told a)) ≡ twelfths (next_place a) m = ap (twelfths (next_place a)) (get_or_push ds m 0 (told a) refl) in
+    omega (arith, whole, before, last)
+
+pub back_again : (a : Assignment) → shortened a (told a) ≡ a
+back_again a = ap (with_list a) (take-length a.degrees.items)
+
+pub back_by_one : (a : Assignment) (m : ℕ) → shortened (with_degree a m) (told a) ≡ a
+back_by_one a m = ap (with_list a) (take-append_seam a.degrees.items (m ∷ []))
+
+-- ## Degrees that follow
+
+pub forced_none : (a : Assignment) → HasForced a a
+forced_none a = record {
+  back = back_again a;
+  longer = omega arith;
+  under = λ s. ((λ u. u), (λ u. u));
+  spent = refl;
+  most = refl;
+  least = refl;
 }
 
-pub tile_choice : (a : Assignment) → IsAssignment a → (j : ℕ) (x : Place) → j ≡ told a → length (prefix_of a) < 5 * a.size → x ≡ get_or a.places.items j x → j < a.size
-    → (s : Symbol) → IsUnder (IsMember a.request) a.size (prefix_of a) s → IsChoice a.request.faces x.turns (next_number (prefix_of a) s)
-tile_choice a is j x at room item low s under =
-    let images = is.images in
+-- a place that is no least chamber's adds nothing
+adds_nothing : (a : Assignment) (m : ℕ) → IsAssignment a → told a < 2 * a.table.size → (next_place a).root ≢ told a
+    → (twelfths (next_place a) m ≡ 0) × ((next_place a).most ≡ 0) × ((next_place a).least ≡ 0)
+adds_nothing a m is room other =
+    let sound = sound_next a is (told a) no_place room in
+    let none = sound.follows other in
+    let most = sound.most in
+    let least = sound.least in
+    (ap (λ n. n * (12 / (m / (next_place a).turns))) none ∙ omega arith, omega (arith, none, most), omega (arith, none, least))
+
+-- the next degree of each member is that of the least chamber of the cell
+forced_number : (a : Assignment) → IsAssignment a → told a < 2 * a.table.size → (next_place a).root ≢ told a → (s : Symbol) → IsMemberUnder a (prefix_of a) s → next_number (prefix_of a) s ≡ get_or a.degrees.items (next_place a).root 0
+forced_number a is room other s under =
+    let same = same_of_under a is s under in
+    let wanted = under.wanted.wanted in
+    let all = wanted_chosen a.request a.table s a.places.items is.places wanted same in
     let size = under.size in
-    let fits : Fits a.request s j x = subst (Fits a.request s j) (sym item) (is.fits s under j (omega (arith, low)) x) in
-    subst (IsChoice a.request.faces x.turns) (ap (degree_at s) at ∙ sym (next_degree a is s under)) (fits.tile (omega (arith, low, size)))
+    let earlier = (sound_next a is (told a) no_place room).earlier in
+    let strict : (next_place a).root < told a = below (next_place a).root (told a) earlier other in
+    let constant : degree_at s (told a) ≡ degree_at s (next_place a).root =
+    ⊎_elim
+    (λ early. constant_at a.table s wanted.symbol same Tile a.request.faces 0 a.places.items all.tiles (told a) (told a) (omega arith) early)
+    (λ late. constant_at a.table s wanted.symbol same Vertex a.request.degrees s.size a.places.items all.vertices (told a - s.size) (told a) (omega (arith, late)) (omega (arith, late, room, size)))
+    (cases_lt (told a) s.size) in
+    next_degree a is s under ∙ constant ∙ told_degree a is s under (next_place a).root strict
 
-pub vertex_choice : (a : Assignment) → IsAssignment a → (j : ℕ) (x : Place) → j ≡ told a → length (prefix_of a) < 5 * a.size → x ≡ get_or a.places.items j x → a.size ≤ j
-    → (s : Symbol) → IsUnder (IsMember a.request) a.size (prefix_of a) s → IsChoice a.request.degrees x.turns (next_number (prefix_of a) s)
-vertex_choice a is j x at room item high s under =
-    let images = is.images in
+pub forced_more : (a b : Assignment) (m : ℕ) → IsAssignment b → HasForced a b → told b < 2 * b.table.size → (next_place b).root ≢ told b → m ≡ get_or b.degrees.items (next_place b).root 0 → HasForced a (with_degree b m)
+forced_more a b m is old room other copied =
+    let none = adds_nothing b m is room other in
+    let long : length (b.degrees.items ++ m ∷ []) ≡ told b + 1 = length_push b.degrees.items m in
+    let longer = old.longer in
+    let count = is.places.count in
+    let most = is.rests.each_most (told b) no_place (omega (arith, count, room)) in
+    let least = is.rests.each_least (told b) no_place (omega (arith, count, room)) in
+    let spends = spent_more b m in
+    let whole = length-prefix b is in
+    let at_most : get_or b.rests.most (length (b.degrees.items ++ m ∷ [])) 0 ≡ get_or b.rests.most (told b + 1) 0 = ap (λ j. get_or b.rests.most j 0) long in
+    let at_least : get_or b.rests.least (length (b.degrees.items ++ m ∷ [])) 0 ≡ get_or b.rests.least (told b + 1) 0 = ap (λ j. get_or b.rests.least j 0) long in
+    let none_spent = none.0 in
+    let none_most = none.1 in
+    let none_least = none.2 in
+    let old_spent = old.spent in
+    let old_most = old.most in
+    let old_least = old.least in
+    record {
+      back = ap (with_list b) (take-append-le (told a) b.degrees.items (m ∷ []) longer) ∙ old.back;
+      longer = omega (arith, long, longer);
+      under = λ s. (
+        (λ u.
+            let v = (old.under s).0 u in
+            subst (λ xs. IsMemberUnder b xs s) (sym (prefix_more b m))
+            (extended (IsMember b.request) b.table.size (prefix_of b) m s (omega (arith, whole, room)) v (forced_number b is room other s v ∙ sym copied))),
+        (λ u. (old.under s).1 (prefix_shortened (IsMember b.request) b.table.size (prefix_of b) m s (subst (λ xs. IsMemberUnder b xs s) (prefix_more b m) u)).0),
+      );
+      spent = omega (arith, spends, none_spent, old_spent);
+      most = omega (arith, at_most, most, none_most, old_most);
+      least = omega (arith, at_least, least, none_least, old_least);
+    }
+
+pub at_root_at_end : (a : Assignment) → 2 * a.table.size ≤ told a → IsAtRoot a
+at_root_at_end a end room = absurd (omega (arith, end, room))
+
+-- ## A choice
+
+pub entered : (a b : Assignment) (m : ℕ) → IsAssignment a → told a < 2 * a.table.size → HasForced (with_degree a m) b → HasEntered a m b
+entered a b m is room forced =
+    let long : length (a.degrees.items ++ m ∷ []) ≡ told a + 1 = length_push a.degrees.items m in
+    let longer = forced.longer in
+    let spends = spent_more a m in
+    let more = forced.spent in
+    let most = ap (λ j. get_or a.rests.most j 0) long in
+    let least = ap (λ j. get_or a.rests.least j 0) long in
+    record {
+      back =
+          let once : take (told a) b.degrees.items ≡ take (told a) (a.degrees.items ++ m ∷ []) =
+          sym (take-take (told a) (length (a.degrees.items ++ m ∷ [])) b.degrees.items (omega (arith, long))) ∙ ap (λ (x : Assignment). take (told a) x.degrees.items) forced.back in
+          ap (with_list b) once ∙ ap (λ (x : Assignment). with_list x (take (told a) (a.degrees.items ++ m ∷ []))) forced.back ∙ back_by_one a m;
+      longer = omega (arith, long, longer);
+      under = λ s. (
+        (λ u. (forced.under s).0 (subst (λ xs. IsMemberUnder a xs s) (sym (prefix_more a m)) u)),
+        (λ u. subst (λ xs. IsMemberUnder a xs s) (prefix_more a m) ((forced.under s).1 u)),
+      );
+      spent = omega (arith, spends, more);
+      most = forced.most ∙ most;
+      least = forced.least ∙ least;
+    }
+
+-- the part of a branching value
+pub part_of_value : (a : Assignment) (v : ℕ) → IsAssignment a → told a < 2 * a.table.size → twelfths (next_place a) (v * (next_place a).turns) ≡ (next_place a).sides * (12 / v)
+part_of_value a v is room =
+    let some = (sound_next a is (told a) no_place room).some in
+    ap (λ w. (next_place a).sides * (12 / w)) (quotient_is v (next_place a).turns (v * (next_place a).turns) some refl)
+
+-- the budget that is left
+pub budget_more : (a b : Assignment) (v sum : ℕ) → IsAssignment a → told a < 2 * a.table.size → HasBudget a sum → HasEntered a (v * (next_place a).turns) b
+    → 6 * a.table.size ≤ sum + (next_place a).sides * (12 / v) + get_or a.rests.most (told a + 1) 0 → sum + (next_place a).sides * (12 / v) + get_or a.rests.least (told a + 1) 0 ≤ 6 * a.table.size
+    → HasBudget b (sum + (next_place a).sides * (12 / v))
+budget_more a b v sum is room budget entered enough fits =
+    let part = part_of_value a v is room in
+    let size = ap (λ (x : Assignment). x.table.size) entered.back in
+    let had = budget.spent in
+    let spends = entered.spent in
+    let most = entered.most in
+    let least = entered.least in
+    record {
+      spent = omega (arith, part, had, spends);
+      enough = omega (arith, size, most, enough);
+      room = omega (arith, size, least, fits);
+    }
+
+-- ## What no member has
+
+-- a member under an assignment spends the budget
+pub record Spends (a : Assignment) (s : Symbol) : Type 0 where
+  pub chosen : AllAreChosen a.request a.table s a.places.items
+  pub upto : spent a.places.items (degree_at s) 0 (told a) ≡ spent_by a
+  pub most : (k : ℕ) → k ≤ 2 * a.table.size → 6 * a.table.size ≤ spent a.places.items (degree_at s) 0 k + get_or a.rests.most k 0
+  pub least : (k : ℕ) → k ≤ 2 * a.table.size → spent a.places.items (degree_at s) 0 k + get_or a.rests.least k 0 ≤ 6 * a.table.size
+
+pub spends : (a : Assignment) → IsAssignment a → (s : Symbol) → IsMemberUnder a (prefix_of a) s → Spends a s
+spends a is s under =
+    let places = a.places.items in
+    let same = same_of_under a is s under in
+    let wanted = under.wanted.wanted in
+    let all = wanted_chosen a.request a.table s places is.places wanted same in
+    let bounded = all_bounded a.request a.table s places is.places same all in
+    let flat = (flat_if_spent a.request a.table s places wanted.symbol same all).1 wanted.flat in
+    let count = is.places.count in
+    let whole : spent places (degree_at s) 0 (length places) ≡ 6 * a.table.size = ap (spent places (degree_at s) 0) count ∙ flat in
+    record {
+      chosen = all;
+      upto = spent_same places (degree_at s) (λ j. get_or a.degrees.items j 0) (told a) (λ j low. told_degree a is s under j low);
+      most = λ k low. let up = spent_at_most places a.rests (degree_at s) is.rests bounded (length places - k) k (omega (arith, low, count)) in omega (arith, up, whole);
+      least = λ k low. let down = spent_at_least places a.rests (degree_at s) is.rests bounded (length places - k) k (omega (arith, low, count)) in omega (arith, down, whole);
+    }
+
+-- the next degree of a member is a choice
+pub next_choice : (a : Assignment) → IsAssignment a → told a < 2 * a.table.size → (s : Symbol) → IsMemberUnder a (prefix_of a) s → (P : Type 0)
+    → (told a < a.table.size → IsChoice a.request.faces (next_place a).turns (next_number (prefix_of a) s) → P)
+    → (a.table.size ≤ told a → IsChoice a.request.degrees (next_place a).turns (next_number (prefix_of a) s) → P) → P
+next_choice a is room s under P tile vertex =
+    let all = (spends a is s under).chosen in
     let size = under.size in
-    let fits : Fits a.request s j x = subst (Fits a.request s j) (sym item) (is.fits s under j (omega (arith, images, at, room)) x) in
-    subst (IsChoice a.request.degrees x.turns) (ap (degree_at s) at ∙ sym (next_degree a is s under)) (fits.vertex (omega (arith, high, size)))
+    let next = sym (next_degree a is s under) in
+    ⊎_elim
+    (λ early. tile early (subst (IsChoice a.request.faces (next_place a).turns) next (all.tiles.choice (told a) (told a) (omega arith) (omega (arith, early, size)))))
+    (λ late. vertex late (subst (IsChoice a.request.degrees (next_place a).turns) next (all.vertices.choice (told a - s.size) (told a) (omega (arith, late, size)) (omega (arith, late, room, size)))))
+    (cases_lt (told a) a.table.size)
 
--- the number of turns is small
-pub few_turns : (a : Assignment) → IsAssignment a → (j : ℕ) (x : Place) → j ≡ told a → length (prefix_of a) < 5 * a.size → x ≡ get_or a.places.items j x → x.turns ≤ 36
-few_turns a is j x at room item =
-    let images = is.images in
-    subst (λ y. y.turns ≤ 36) (sym item) (is.sound j (omega (arith, images, at, room)) x).few
+-- with a branching value the budget is met
+pub budget_of_member : (a : Assignment) (v sum : ℕ) → IsAssignment a → told a < 2 * a.table.size → HasBudget a sum → (s : Symbol) → IsMemberUnder a (prefix_of a) s → next_number (prefix_of a) s ≡ v * (next_place a).turns
+    → (6 * a.table.size ≤ sum + (next_place a).sides * (12 / v) + get_or a.rests.most (told a + 1) 0) × (sum + (next_place a).sides * (12 / v) + get_or a.rests.least (told a + 1) 0 ≤ 6 * a.table.size)
+budget_of_member a v sum is room budget s under next =
+    let has = spends a is s under in
+    let part = part_of_value a v is room in
+    let degree : degree_at s (told a) ≡ v * (next_place a).turns = sym (next_degree a is s under) ∙ next in
+    let here = ap (twelfths (next_place a)) degree in
+    let upto = has.upto in
+    let had = budget.spent in
+    let e : suc (told a) ≡ told a + 1 = omega arith in
+    let most = has.most (suc (told a)) (omega (arith, room)) in
+    let least = has.least (suc (told a)) (omega (arith, room)) in
+    let step = spent_next a.places.items (degree_at s) (told a) in
+    let at_most = ap (λ j. get_or a.rests.most j 0) e in
+    let at_least = ap (λ j. get_or a.rests.least j 0) e in
+    (omega (arith, part, here, upto, had, step, most, at_most), omega (arith, part, here, upto, had, step, least, at_least))
 
--- ## Leaves
+-- two branching values of one degree
+pub same_value : (set : Allowed) (r v m : ℕ) → 1 ≤ r → (c : IsChoice set r m) → m ≡ v * r → c.value ≡ v
+same_value set r v m some c is = cancel c.value v r some (sym c.product ∙ is)
+  where
+    cancel : (a b k : ℕ) → 1 ≤ k → a * k ≡ b * k → a ≡ b
+    cancel a b k pos e = grind arith
 
--- the member under a whole prefix is the Contains-one one
-pub appends_member : (q : Request) (n : ℕ) (prefix : List ℕ) (old new : List Symbol) (c : Symbol) → length prefix ≡ 5 * n → IsUnder (IsMember q) n prefix c → new ≡ old ++ c ∷ []
-    → Appends (AreUnder (IsMember q) n prefix) old new
-appends_member q n prefix old new c whole under longer = record {
-  list = c ∷ [];
-  grown = longer;
+-- ## Values that may not stand
+
+pub degree_small : (a : Assignment) (v : ℕ) → IsAssignment a → told a < 2 * a.table.size → v ≤ 6 → v * (next_place a).turns ≤ 216
+degree_small a v is room high =
+    let few = (sound_next a is (told a) no_place room).few in
+    let up : v * (next_place a).turns ≤ 6 * (next_place a).turns = mul-le-mul_right (next_place a).turns high in
+    omega (arith, up, few)
+
+pub part_small : (a : Assignment) (v : ℕ) → IsAssignment a → told a < 2 * a.table.size → (next_place a).sides * (12 / v) ≤ 24
+part_small a v is room =
+    let few = (sound_next a is (told a) no_place room).sides in
+    let up = part_at_most (next_place a).sides v in
+    omega (arith, up, few)
+
+pub spent_small : (a : Assignment) (sum : ℕ) → IsAssignment a → HasBudget a sum → sum ≤ 216
+spent_small a sum is budget = let room = budget.room in let few = is.table.small in omega (arith, room, few)
+
+pub none_if_five : (a : Assignment) (v : ℕ) → IsAssignment a → told a < 2 * a.table.size → v ≡ 5 → (s : Symbol) → IsMemberUnder a (prefix_of a) s → next_number (prefix_of a) s ≡ v * (next_place a).turns → ⊥
+none_if_five a v is room five s under next =
+    let some = (sound_next a is (told a) no_place room).some in
+    next_choice a is room s under ⊥
+    (λ low c. (value_of c.value c.crystallographic).other (same_value a.request.faces (next_place a).turns v (next_number (prefix_of a) s) some c next ∙ five))
+    (λ high c. (value_of c.value c.crystallographic).other (same_value a.request.degrees (next_place a).turns v (next_number (prefix_of a) s) some c next ∙ five))
+
+pub none_if_refused : (a : Assignment) (v : ℕ) → IsAssignment a → told a < 2 * a.table.size → (told a < a.table.size → IsIn a.request.faces (v * (next_place a).turns) → ⊥) → (a.table.size ≤ told a → IsIn a.request.degrees (v * (next_place a).turns) → ⊥)
+    → (s : Symbol) → IsMemberUnder a (prefix_of a) s → next_number (prefix_of a) s ≡ v * (next_place a).turns → ⊥
+none_if_refused a v is room tile vertex s under next =
+    next_choice a is room s under ⊥
+    (λ low c. tile low (subst (IsIn a.request.faces) next c.allowed))
+    (λ high c. vertex high (subst (IsIn a.request.degrees) next c.allowed))
+
+-- a branching value that is allowed
+pub choice_of_value : (set : Allowed) (r v m : ℕ) → 1 ≤ v → v ≤ 6 → v ≢ 5 → m ≡ v * r → IsIn set m → IsChoice set r (v * r)
+choice_of_value set r v m low high other is allowed = record { value = v; crystallographic = is_crystallographic v low high other; product = refl; allowed = subst (IsIn set) is allowed }
+
+-- ## One value after another
+
+-- what the next degree of a member is
+record IsNext (a : Assignment) (m : ℕ) : Type 0 where
+  value : ℕ
+  is_value : IsValue value
+  product : m ≡ value * (next_place a).turns
+
+next_value : (a : Assignment) → IsAssignment a → told a < 2 * a.table.size → (s : Symbol) → IsMemberUnder a (prefix_of a) s → IsNext a (next_number (prefix_of a) s)
+next_value a is room s under =
+    next_choice a is room s under (IsNext a (next_number (prefix_of a) s))
+    (λ low c. record { value = c.value; is_value = value_of c.value c.crystallographic; product = c.product })
+    (λ high c. record { value = c.value; is_value = value_of c.value c.crystallographic; product = c.product })
+
+raised : (a : Assignment) (k m : ℕ) (old new : List Symbol) → k ≤ m → ((s : Symbol) → IsMemberUnder a (prefix_of a) s → next_number (prefix_of a) s < m → next_number (prefix_of a) s < k)
+    → Appends (AreUnderBefore (IsMember a.request) a.table.size (prefix_of a) k) old new → Appends (AreUnderBefore (IsMember a.request) a.table.size (prefix_of a) m) old new
+raised a k m old new up none more = record {
+  list = more.list;
+  grown = more.grown;
   holds = record {
-    ascending = (tt, tt);
+    ascending = more.holds.ascending;
     members = λ s. (
-      (λ there. subst (IsUnder (IsMember q) n prefix) (Contains-one c s there) under),
-      (λ other.
-          let same : c ≡ s = symbol_of_prefix (IsMember q) n prefix c under whole ∙ sym (symbol_of_prefix (IsMember q) n prefix s other whole) in
-          subst (Contains (c ∷ [])) same (0, omega arith, refl)),
+      (λ there. let u = (more.holds.members s).0 there in (u.0, let low = u.1 in omega (arith, low, up))),
+      (λ u. (more.holds.members s).1 (u.0, none s u.0 u.1)),
     );
   };
 }
+
+-- products with one factor are ordered as the others
+factor_below : (w v r : ℕ) → w * r < v * r → w < v
+factor_below w v r less = ⊎_elim (λ low. low) (λ high. absurd (let up : v * r ≤ w * r = mul-le-mul_right r high in omega (arith, up, less))) (cases_lt w v)
+
+pub first_value : (a : Assignment) → IsAssignment a → told a < 2 * a.table.size → (old : List Symbol) → Appends (AreUnderBefore (IsMember a.request) a.table.size (prefix_of a) (1 * (next_place a).turns)) old old
+first_value a is room old =
+    raised a 0 (1 * (next_place a).turns) old old (omega arith)
+    (λ s under low.
+    let next = next_value a is room s under in
+    let pos = next.is_value.low in
+    let up : 1 * (next_place a).turns ≤ next.value * (next_place a).turns = mul-le-mul_right (next_place a).turns pos in
+    let e = next.product in
+    absurd (omega (arith, low, up, e)))
+    (appends_first (IsMember a.request) a.table.size (prefix_of a) old)
+
+above : (w v : ℕ) → w < v → w + 1 ≤ v
+above w v less = omega arith
+
+next_up : (v r : ℕ) → (v + 1) * r ≡ v * r + r
+next_up v r = omega arith
+
+pub value_refused : (a : Assignment) (v : ℕ) → IsAssignment a → told a < 2 * a.table.size → ((s : Symbol) → IsMemberUnder a (prefix_of a) s → next_number (prefix_of a) s ≡ v * (next_place a).turns → ⊥) → (old new : List Symbol)
+    → Appends (AreUnderBefore (IsMember a.request) a.table.size (prefix_of a) (v * (next_place a).turns)) old new → Appends (AreUnderBefore (IsMember a.request) a.table.size (prefix_of a) ((v + 1) * (next_place a).turns)) old new
+value_refused a v is room dead old new more =
+    let r = (next_place a).turns in
+    let some = (sound_next a is (told a) no_place room).some in
+    let step = next_up v r in
+    raised a (v * r) ((v + 1) * r) old new (omega (arith, step))
+    (λ s under low.
+    let next = next_value a is room s under in
+    let e = next.product in
+    let below = factor_below next.value (v + 1) r (omega (arith, low, e)) in
+    ⊎_elim
+    (λ less.
+    let up : (next.value + 1) * r ≤ v * r = mul-le-mul_right r (above next.value v less) in
+    let up_one = next_up next.value r in
+    omega (arith, up, up_one, e, some))
+    (λ high.
+    let same : next.value ≡ v = omega (arith, below, high) in
+    absurd (dead s under (e ∙ ap (λ w. w * r) same)))
+    (cases_lt next.value v))
+    more
+
+pub value_found : (a : Assignment) (v m : ℕ) → IsAssignment a → told a < 2 * a.table.size → v ≤ 6 → m ≡ v * (next_place a).turns → (old mid new : List Symbol)
+    → Appends (AreUnderBefore (IsMember a.request) a.table.size (prefix_of a) (v * (next_place a).turns)) old mid → Appends (AreUnder (IsMember a.request) a.table.size (prefix_of a ++ m ∷ [])) mid new
+    → Appends (AreUnderBefore (IsMember a.request) a.table.size (prefix_of a) ((v + 1) * (next_place a).turns)) old new
+value_found a v m is room high at old mid new more found =
+    let r = (next_place a).turns in
+    let some = (sound_next a is (told a) no_place room).some in
+    let small = degree_small a v is room high in
+    let whole = length-prefix a is in
+    let step = next_up v r in
+    let skips : SkipsTo (IsMember a.request) a.table.size (prefix_of a) (v * r) m =
+    record { later = omega (arith, at); small = omega (arith, at, small); none_between = λ s under. ⊎_elim (λ low. inl low) (λ up. inr (omega (arith, at, up))) (cases_lt (next_number (prefix_of a) s) (v * r)) } in
+    raised a (m + 1) ((v + 1) * r) old new (omega (arith, step, at, some))
+    (λ s under low.
+    let next = next_value a is room s under in
+    let e = next.product in
+    let below = factor_below next.value (v + 1) r (omega (arith, low, e)) in
+    let up : (next.value + 1) * r ≤ (v + 1) * r = mul-le-mul_right r (above next.value (v + 1) below) in
+    let up_one = next_up next.value r in
+    omega (arith, up, up_one, step, e, at))
+    (appends_next (IsMember a.request) a.table.size (prefix_of a) (v * r) m old mid new (omega (arith, whole, room)) skips more found)
+
+pub all_values : (a : Assignment) (v : ℕ) → IsAssignment a → told a < 2 * a.table.size → 7 ≤ v → (old new : List Symbol)
+    → Appends (AreUnderBefore (IsMember a.request) a.table.size (prefix_of a) (v * (next_place a).turns)) old new → Appends (AreUnder (IsMember a.request) a.table.size (prefix_of a)) old new
+all_values a v is room end old new more =
+    let r = (next_place a).turns in
+    let some = (sound_next a is (told a) no_place room).some in
+    appends_all (IsMember a.request) a.table.size (prefix_of a) (v * r) old new
+    (λ s under.
+    let next = next_value a is room s under in
+    let e = next.product in
+    let high = next.is_value.high in
+    let up : (next.value + 1) * r ≤ v * r = mul-le-mul_right r (omega (arith, high, end)) in
+    let up_one = next_up next.value r in
+    omega (arith, up, up_one, e, some))
+    more
+
+-- what was found after a degree was told
+pub found_entered : (a b : Assignment) (m : ℕ) → HasEntered a m b → (old new : List Symbol) → Appends (AreUnder (IsMember b.request) b.table.size (prefix_of b)) old new → Appends (AreUnder (IsMember a.request) a.table.size (prefix_of a ++ m ∷ [])) old new
+found_entered a b m entered old new more = record {
+  list = more.list;
+  grown = more.grown;
+  holds = record {
+    ascending = more.holds.ascending;
+    members = λ s. (
+      (λ there. (entered.under s).1 ((more.holds.members s).0 there)),
+      (λ u. (more.holds.members s).1 ((entered.under s).0 u)),
+    );
+  };
+}
+
+-- what is not whole has room for a degree
+pub room_here : (a : Assignment) (next whole : ℕ) → IsAssignment a → next ≢ whole → next ≡ told a → whole ≡ length a.places.items → told a < 2 * a.table.size
+room_here a next whole is other own all = let short = is.short in let count = is.places.count in omega (arith, short, count, other, own, all)

@@ -14,10 +14,9 @@ use Rattle.dd_model.specs.declared.requests.Request.{Request}
 use Rattle.dd_model.specs.declared.jobs.Job.{Job}
 use Rattle.dd_invol.specs.Under.{HasNothingUnder, AreUnder, Appends}
 use Rattle.dd_invol.specs.Table.{HasNoTable, IsTableOf}
-use Rattle.dd_invol.specs.Stem.{Any, prefix_of, size_of, shortened}
+use Rattle.dd_invol.specs.Stem.{prefix_of, size_of, shortened}
 use Rattle.dd_invol.proofs.Prefixes.{none_under}
 use Rattle.dd_invol.specs.declared.stem.Stem.{Stem}
-use Rattle.dd_invol.proofs.Stems.{any_under}
 use Rattle.dd_invol.proofs.Follows.{member_orderly}
 use Rattle.dd_invol.proofs.TableFronts.{front_same, front_begins}
 use Rattle.dd_branch.specs.Members.{AreMembersWith}
@@ -55,10 +54,6 @@ pushed_shorter old mid stem shares level levels same pushed stem_back shares_bac
     (sym same)
     (λ p. grown_shorter old stem shares level levels p stem_back shares_back)
     pushed
-
--- a member is orderly, and nothing orderly is under the prefix
-pub no_member_under : (W : Symbol → Type 0) (n : ℕ) (prefix : List ℕ) → HasNothingUnder Any n prefix → HasNothingUnder W n prefix
-no_member_under W n prefix none s under = none s (any_under W n prefix s under)
 
 begins_front : (xs ys : List ℕ) (k : ℕ) → Begins xs ys → Begins (take k xs) ys
 begins_front xs ys zero b = tt

@@ -1,9 +1,7 @@
 -- What a front emits from the opening of a request are the first members of the catalogue.
 use Rattle.std.proofs.Common.{List, inl, inr, ⊎_elim}
-use Rattle.std.specs.List.{AllByRecursion, Contains}
 use Rattle.dd_model.specs.Symbol.{Symbol}
 use Rattle.dd_model.specs.Code.{IsBelow}
-use Rattle.dd_model.specs.Position.{IsBefore}
 use Rattle.dd_model.specs.Text.{beginning}
 use Rattle.dd_model.specs.Wanted.{IsMember}
 use Rattle.dd_model.specs.Joined.{AreFirstMembers, IsUnderOne}
@@ -15,7 +13,7 @@ use Rattle.dd_model.proofs.Texts.{nothing_before}
 use Rattle.dd_invol.specs.Opening.{IsOpening}
 use Rattle.dd_invol.proofs.OpeningLaws.{covered}
 use Rattle.dd_front.specs.Machine.{Machine}
-use Rattle.dd_front.specs.Covered.{IsLater, IsBetween, IsCovered}
+use Rattle.dd_front.specs.Covered.{IsLater, IsCovered}
 
 -- a member is under a job of the opening
 under_the_opening : (q : Request) (jobs : List Job) → IsOpening q jobs → (s : Symbol) → IsMember q s → IsUnderOne q jobs s

@@ -71,10 +71,6 @@ pub catalogue_begins : (q : Request) (ss ts : List Symbol) → AreFirstMembers q
 catalogue_begins q ss ts first is =
     begins_with ss ts first.ascending is.ascending (λ s there. (is.members s).1 (first.members s there)) (λ t there. first.first t ((is.members t).0 there))
 
--- the whole catalogue is a list of its first members
-pub catalogue_first : (q : Request) (ss : List Symbol) → IsCatalogue q ss → AreFirstMembers q ss
-catalogue_first q ss is = record { ascending = is.ascending; members = λ s there. (is.members s).0 there; first = λ s member. inl ((is.members s).1 member) }
-
 -- a job of a list of jobs that ascend and are apart is among the first k, or after all of them
 where_listed : (js : List Job) (k : ℕ) (job : Job) → AreAscendingJobs js → AreApart js → Contains js job → Contains (take k js) job ⊎ ((j : Job) → Contains (take k js) j → IsPartBelow j job)
 where_listed js zero job ascending apart there = inr (λ j none. absurd (nothing js j none))

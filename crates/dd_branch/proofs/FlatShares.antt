@@ -1,8 +1,6 @@
 -- The curvature bound from both sides: shares of the degrees of a flat symbol, place by place.
-use Rattle.std.proofs.Common.{◌≡◌, ℕ, suc, ◌+◌, ◌-◌, ◌*◌, ◌/◌, ◌<◌, ◌≤◌, List, [], ◌∷◌, ◌++◌, length, length-append, get_or, take, sym, ap, ◌∙◌, subst, ⊎_elim, arith}
-use Rattle.std.proofs.lemmas.Bool.{cases_lt}
-use Rattle.std.proofs.lemmas.List.{take_more, take_all, get_or_append_left, get_or-append_right}
-use Rattle.std.proofs.lemmas.List.Sums.{sum_by-cons, sum_by-append, sum_by_push}
+use Rattle.std.proofs.Common.{◌≡◌, ℕ, suc, ◌+◌, ◌-◌, ◌*◌, ◌/◌, ◌<◌, ◌≤◌, List, [], ◌∷◌, length, get_or, sym, ap, subst, arith}
+use Rattle.std.proofs.lemmas.List.Sums.{sum_by-cons}
 use Rattle.std.proofs.Math.Nat.{mul-le-mul_left}
 use Rattle.std.specs.List.{sum_by}
 use Rattle.dd_model.specs.Symbol.{Symbol, IsSymbol, IsChamber, item}
@@ -14,7 +12,6 @@ use Rattle.dd_cells.specs.Fraction.{Divides}
 use Rattle.dd_cells.proofs.CurvatureLemmas.{tile_divides, vertex_divides}
 use Rattle.dd_cells.proofs.ReciprocalSums.{quotient_is}
 use Rattle.dd_cells.proofs.CellSums.{chamber_listed}
-use Rattle.dd_shares.proofs.FlatBound.{part, add_parts}
 
 -- one degree
 pub part_below : (D L a m : ℕ) → 1 ≤ m → Divides m D → a * m ≤ L → D * a ≤ D / m * L
@@ -59,18 +56,6 @@ cancel_product n D L x a pos flat bound =
     cancel_factor : (D x y : ℕ) → 1 ≤ D → D * x ≤ D * y → x ≤ y
     cancel_factor D x y pos h = grind arith
 
-cancel_above : (n D L x a : ℕ) → 1 ≤ D → 2 * x ≡ n * D → x * L ≤ D * a → n * L ≤ 2 * a
-cancel_above n D L x a pos flat bound =
-    let e : D * (n * L) ≡ n * D * L = grind arith in
-    let f : n * D * L ≡ 2 * x * L = ap (λ y. y * L) (sym flat) in
-    let g : 2 * x * L ≡ 2 * (x * L) = grind arith in
-    let k : D * (2 * a) ≡ 2 * (D * a) = grind arith in
-    let both : D * (n * L) ≤ D * (2 * a) = omega (arith, e, f, g, k, bound) in
-    cancel_factor D (n * L) (2 * a) pos both
-  where
-    cancel_factor : (D x y : ℕ) → 1 ≤ D → D * x ≤ D * y → x ≤ y
-    cancel_factor D x y pos h = grind arith
-
 -- the degree of each chamber at its place of a list
 at_place : (s : Symbol) (ms : List ℕ) (Q : ℕ → ℕ → Type 0) → length ms ≡ s.size → ((d : ℕ) → IsChamber s d → Q d (item ms d)) → (j : ℕ) → j < length ms → Q (1 + j) (get_or ms j 0)
 at_place s ms Q len each j low =
@@ -97,74 +82,3 @@ small_shares s is flat L a b ha hb =
     (below_parts D L b 1 s.m12 (at_place s s.m12 (λ d m. D * b d ≤ D / m * L) is.table.m12_length (λ d h. vertex_part s is L (b d) d h (hb d h)))) in
     cancel_product s.size D L (reciprocals s) (sum_by a (chambers s) + sum_by b (chambers s)) (all_degrees_positive s is) flat
     (add_below D L (sum_by (λ m. D / m) s.m01) (sum_by (λ m. D / m) s.m12) (sum_by a (chambers s)) (sum_by b (chambers s)) tiles vertices)
-
--- ## Sums over the places, one after another
-
--- the places before k
-abbrev pub parts_before : Symbol → ℕ → ℕ
-parts_before s k = sum_by (λ m. all_degrees s / m) (take k (s.m01 ++ s.m12))
-
-pub length-degrees : (s : Symbol) → IsSymbol s → length (s.m01 ++ s.m12) ≡ 2 * s.size
-length-degrees s is = let l = length-append s.m01 s.m12 in let a = is.table.m01_length in let b = is.table.m12_length in omega (arith, l, a, b)
-
-parts_more : (s : Symbol) → IsSymbol s → (k : ℕ) → k < 2 * s.size → parts_before s (k + 1) ≡ parts_before s k + all_degrees s / get_or (s.m01 ++ s.m12) k 0
-parts_more s is k low =
-    let l = length-degrees s is in
-    ap (sum_by (λ m. all_degrees s / m)) (take_more (s.m01 ++ s.m12) k 0 (omega (arith, low, l)))
-    ∙ sum_by_push (λ m. all_degrees s / m) (take k (s.m01 ++ s.m12)) (get_or (s.m01 ++ s.m12) k 0)
-
-parts_all : (s : Symbol) → IsSymbol s → parts_before s (2 * s.size) ≡ reciprocals s
-parts_all s is =
-    let l = length-degrees s is in
-    ap (sum_by (λ m. all_degrees s / m)) (take_all (2 * s.size) (s.m01 ++ s.m12) (omega (arith, l)))
-    ∙ sum_by-append (λ m. all_degrees s / m) s.m01 s.m12
-
--- what holds of the degree of each chamber holds of the degree at each place
-pub at_degrees : (s : Symbol) → IsSymbol s → (Q : ℕ → Type 0) → ((d : ℕ) → IsChamber s d → Q (item s.m01 d)) → ((d : ℕ) → IsChamber s d → Q (item s.m12 d))
-    → (k : ℕ) → k < 2 * s.size → Q (get_or (s.m01 ++ s.m12) k 0)
-at_degrees s is Q tiles vertices k low =
-    let a = is.table.m01_length in
-    let b = is.table.m12_length in
-    ⊎_elim
-    (λ early.
-    subst Q (sym (get_or_append_left s.m01 s.m12 0 k (omega (arith, early, a)))) (at_place s s.m01 (λ d m. Q m) a tiles k (omega (arith, early, a))))
-    (λ late.
-    subst Q (sym (get_or-append_right s.m01 s.m12 s.size k 0 a late)) (at_place s s.m12 (λ d m. Q m) b vertices (k - s.size) (omega (arith, late, low, b))))
-    (cases_lt k s.size)
-
-pub degree_divides : (s : Symbol) → IsSymbol s → (k : ℕ) → k < 2 * s.size → Divides (get_or (s.m01 ++ s.m12) k 0) (all_degrees s)
-degree_divides s is = at_degrees s is (λ m. Divides m (all_degrees s)) (λ d h. tile_divides s is.table d (chamber_listed s d h)) (λ d h. vertex_divides s is.table d (chamber_listed s d h))
-
-pub degree_positive : (s : Symbol) → IsSymbol s → (k : ℕ) → k < 2 * s.size → 1 ≤ get_or (s.m01 ++ s.m12) k 0
-degree_positive s is = at_degrees s is (λ m. 1 ≤ m) (λ d h. (is.degrees Tile d h).positive) (λ d h. (is.degrees Vertex d h).positive)
-
-pub none_above : (s : Symbol) (L : ℕ) → parts_before s 0 * L ≤ all_degrees s * 0
-none_above s L = let e : 0 * L ≡ 0 = omega arith in omega (arith, e)
-
-pub above_more : (s : Symbol) → IsSymbol s → (L k sum a : ℕ) → k < 2 * s.size → L ≤ a * get_or (s.m01 ++ s.m12) k 0
-    → parts_before s k * L ≤ all_degrees s * sum → parts_before s (k + 1) * L ≤ all_degrees s * (sum + a)
-above_more s is L k sum a low share before =
-    let D = all_degrees s in
-    let m = get_or (s.m01 ++ s.m12) k 0 in
-    subst (λ x. x * L ≤ D * (sum + a)) (sym (parts_more s is k low)) (add_parts D L (parts_before s k) (D / m) sum a before (part D L a m share))
-
-pub flat_above : (s : Symbol) → IsSymbol s → Flat s → (L k sum : ℕ) → k ≡ 2 * s.size → parts_before s k * L ≤ all_degrees s * sum → s.size * L ≤ 2 * sum
-flat_above s is flat L k sum end bound =
-    cancel_above s.size (all_degrees s) L (reciprocals s) sum (all_degrees_positive s is) flat
-    (subst (λ x. x * L ≤ all_degrees s * sum) (ap (parts_before s) end ∙ parts_all s is) bound)
-
-pub none_below : (s : Symbol) (L : ℕ) → all_degrees s * 0 ≤ parts_before s 0 * L
-none_below s L = let e : all_degrees s * 0 ≡ 0 = omega arith in omega (arith, e)
-
-pub below_more : (s : Symbol) → IsSymbol s → (L k sum a : ℕ) → k < 2 * s.size → a * get_or (s.m01 ++ s.m12) k 0 ≤ L
-    → all_degrees s * sum ≤ parts_before s k * L → all_degrees s * (sum + a) ≤ parts_before s (k + 1) * L
-below_more s is L k sum a low share before =
-    let D = all_degrees s in
-    let m = get_or (s.m01 ++ s.m12) k 0 in
-    subst (λ x. D * (sum + a) ≤ x * L) (sym (parts_more s is k low))
-    (add_below D L (parts_before s k) (D / m) sum a before (part_below D L a m (degree_positive s is k low) (degree_divides s is k low) share))
-
-pub flat_below : (s : Symbol) → IsSymbol s → Flat s → (L k sum : ℕ) → k ≡ 2 * s.size → all_degrees s * sum ≤ parts_before s k * L → 2 * sum ≤ s.size * L
-flat_below s is flat L k sum end bound =
-    cancel_product s.size (all_degrees s) L (reciprocals s) sum (all_degrees_positive s is) flat
-    (subst (λ x. all_degrees s * sum ≤ x * L) (ap (parts_before s) end ∙ parts_all s is) bound)

@@ -1,11 +1,10 @@
 pub mod FlatShares
 pub mod Choices
-pub mod Roots
+pub mod Budgets
+pub mod Chosen
 pub mod Assigned
-pub mod WholePrefixes
-pub mod Placed
+pub mod Leaves
 pub mod RestSums
-pub mod KeptSums
 pub mod Advancing
 pub mod Beginnings
 pub mod Descents

@@ -1,8 +1,7 @@
 -- Sums over the places from each one on, made from the last place to the first.
-use Rattle.std.proofs.Common.{◌≡◌, ℕ, ◌+◌, ◌-◌, ◌*◌, ◌<◌, ◌≤◌, List, length, get_or, set, replicate, ap, ◌∙◌, ⊎_elim, arith}
+use Rattle.std.proofs.Common.{◌≡◌, ℕ, ◌+◌, ◌-◌, ◌*◌, ◌<◌, ◌≤◌, List, length, get_or, set, replicate, sym, ap, ◌∙◌, ⊎_elim, arith}
 use Rattle.std.proofs.lemmas.Bool.{cases_lt}
 use Rattle.std.proofs.lemmas.List.{get_or-set_same, get_or-set_other, get_or_default, get_or-replicate}
-use Rattle.dd_branch.specs.Reciprocals.{degree_unit}
 use Rattle.dd_branch.specs.declared.places.Place.{Place}
 
 pub none_yet : (n : ℕ) → n ≤ 72 → get_or {A = ℕ} (replicate 73 0) n 0 ≡ 0
@@ -13,20 +12,20 @@ abbrev pub AddFrom : (Place → ℕ) → List Place → List ℕ → ℕ → Typ
 AddFrom f places sums k = (j : ℕ) (x : Place) → k ≤ j → j < length places → get_or sums j 0 ≡ get_or sums (j + 1) 0 + f (get_or places j x)
 
 -- the sums with one more place in front
-abbrev pub with_place : (Place → ℕ) → List Place → Place → List ℕ → ℕ → List ℕ
-with_place f places d sums k = set sums (k - 1) (get_or sums (k - 1 + 1) 0 + f (get_or places (k - 1) d))
+abbrev pub with_place : List ℕ → ℕ → ℕ → List ℕ
+with_place sums k y = set sums (k - 1) (get_or sums (k - 1 + 1) 0 + y)
 
-pub one_more : (f : Place → ℕ) (places : List Place) (d : Place) (sums : List ℕ) (k : ℕ) → 0 < k → k ≤ length places → length places < length sums
-    → AddFrom f places sums k → AddFrom f places (with_place f places d sums k) (k - 1)
-one_more f places d sums k some inside room before j x low high =
-    let sum = get_or sums (k - 1 + 1) 0 + f (get_or places (k - 1) d) in
+pub one_more : (f : Place → ℕ) (places : List Place) (d : Place) (sums : List ℕ) (k y : ℕ) → y ≡ f (get_or places (k - 1) d) → 0 < k → k ≤ length places → length places < length sums
+    → AddFrom f places sums k → AddFrom f places (with_place sums k y) (k - 1)
+one_more f places d sums k y is some inside room before j x low high =
+    let sum = get_or sums (k - 1 + 1) 0 + y in
     let next : get_or (set sums (k - 1) sum) (j + 1) 0 ≡ get_or sums (j + 1) 0 = get_or-set_other sums (k - 1) (j + 1) sum 0 (λ e. omega (arith, e, low)) in
     ⊎_elim
     (λ early.
     let at : j ≡ k - 1 = omega (arith, early, low) in
     let here : get_or (set sums (k - 1) sum) j 0 ≡ sum = ap (λ i. get_or (set sums (k - 1) sum) i 0) at ∙ get_or-set_same sums (k - 1) sum 0 (omega (arith, some, inside, room)) in
     let step : get_or sums (j + 1) 0 ≡ get_or sums (k - 1 + 1) 0 = ap (λ i. get_or sums (i + 1) 0) at in
-    let share : f (get_or places j x) ≡ f (get_or places (k - 1) d) = ap f (get_or_default places j x d high ∙ ap (λ i. get_or places i d) at) in
+    let share : f (get_or places j x) ≡ y = ap f (get_or_default places j x d high ∙ ap (λ i. get_or places i d) at) ∙ sym is in
     omega (arith, here, next, step, share))
     (λ late.
     let here : get_or (set sums (k - 1) sum) j 0 ≡ get_or sums j 0 = get_or-set_other sums (k - 1) j sum 0 (λ e. omega (arith, e, late, some)) in
@@ -34,18 +33,18 @@ one_more f places d sums k some inside room before j x low high =
     omega (arith, here, next, old))
     (cases_lt j k)
 
-pub end_kept : (f : Place → ℕ) (places : List Place) (d : Place) (sums : List ℕ) (k : ℕ) → 0 < k → k ≤ length places → get_or sums (length places) 0 ≡ 0
-    → get_or (with_place f places d sums k) (length places) 0 ≡ 0
-end_kept f places d sums k some inside before =
-    get_or-set_other sums (k - 1) (length places) (get_or sums (k - 1 + 1) 0 + f (get_or places (k - 1) d)) 0 (λ e. omega (arith, e, some, inside)) ∙ before
+pub end_kept : (f : Place → ℕ) (places : List Place) (d : Place) (sums : List ℕ) (k y : ℕ) → y ≡ f (get_or places (k - 1) d) → 0 < k → k ≤ length places → get_or sums (length places) 0 ≡ 0
+    → get_or (with_place sums k y) (length places) 0 ≡ 0
+end_kept f places d sums k y is some inside before =
+    get_or-set_other sums (k - 1) (length places) (get_or sums (k - 1 + 1) 0 + y) 0 (λ e. omega (arith, e, some, inside)) ∙ before
 
-pub still_small : (f : Place → ℕ) (places : List Place) (d : Place) (sums : List ℕ) (k : ℕ) → 0 < k → k ≤ length places → length places < length sums
-    → ((j : ℕ) (x : Place) → j < length places → f (get_or places j x) ≤ degree_unit) → get_or sums k 0 ≤ (length places - k) * degree_unit
-    → get_or (with_place f places d sums k) (k - 1) 0 ≤ (length places - (k - 1)) * degree_unit
-still_small f places d sums k some inside room each before =
-    let sum = get_or sums (k - 1 + 1) 0 + f (get_or places (k - 1) d) in
+pub still_small : (f : Place → ℕ) (places : List Place) (d : Place) (sums : List ℕ) (k y : ℕ) → y ≡ f (get_or places (k - 1) d) → 0 < k → k ≤ length places → length places < length sums
+    → ((j : ℕ) (x : Place) → j < length places → f (get_or places j x) ≤ 24) → get_or sums k 0 ≤ (length places - k) * 24
+    → get_or (with_place sums k y) (k - 1) 0 ≤ (length places - (k - 1)) * 24
+still_small f places d sums k y is some inside room each before =
+    let sum = get_or sums (k - 1 + 1) 0 + y in
     let here : get_or (set sums (k - 1) sum) (k - 1) 0 ≡ sum = get_or-set_same sums (k - 1) sum 0 (omega (arith, some, inside, room)) in
     let back : k - 1 + 1 ≡ k = omega (arith, some) in
     let same : get_or sums (k - 1 + 1) 0 ≡ get_or sums k 0 = ap (λ i. get_or sums i 0) back in
     let one = each (k - 1) d (omega (arith, some, inside)) in
-    omega (arith, here, same, one, before, some, inside)
+    omega (arith, here, same, one, is, before, some, inside)

@@ -16,9 +16,6 @@ pub record AreAlive (q : Request) (taken alive : List Job) : Type 0 where
   pub taken_from : (child : Job) → Contains alive child → Contains taken child
   pub complete : (child : Job) → Contains taken child → Contains alive child ⊎ ((s : Symbol) → IsMemberUnder q child s → ⊥)
 
-pub alive_first : (q : Request) → AreAlive q [] []
-alive_first q = record { ascending = tt; taken_from = λ child there. there; complete = λ child there. inl there }
-
 -- each member of the front is below the next one
 below_next : (js : List Job) (k : ℕ) (d j : Job) → AreAscendingJobs js → k < length js → Contains (take k js) j → IsJobBelow j (get_or js k d)
 below_next [] k d j ascending low there = absurd (omega arith)

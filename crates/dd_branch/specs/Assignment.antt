@@ -1,13 +1,16 @@
 -- How far a search for the degrees of a table has come.
-use Rattle.std.specs.Prelude.{◌≡◌, ℕ, ◌+◌, ◌-◌, ◌*◌, ◌<◌, ◌≤◌, List, ◌++◌, length, take, slice_index, slice_index_or}
+use Rattle.std.specs.Prelude.{◌≡◌, ℕ, ◌*◌, ◌<◌, ◌≤◌, List, ◌++◌, length, take, slice_index, slice_index_or}
 use Rattle.dd_model.specs.declared.requests.Request.{Request}
+use Rattle.dd_model.specs.declared.pair.Pair.TheVariants.{Tile, Vertex}
 use Rattle.dd_model.specs.Symbol.{Symbol}
-use Rattle.dd_model.specs.Lists.{Begins}
 use Rattle.dd_model.specs.Code.{code}
-use Rattle.dd_model.specs.Wanted.{IsMember}
+use Rattle.dd_model.specs.Wanted.{AtMost, IsMember}
+use Rattle.dd_canon.specs.Ties.{AreTies}
+use Rattle.dd_invol.specs.Table.{IsBareTable}
 use Rattle.dd_invol.specs.Under.{IsUnder}
+use Rattle.dd_branch.specs.Budget.{no_place, spent}
 use Rattle.dd_branch.specs.Choice.{IsChoice}
-use Rattle.dd_branch.specs.Reciprocals.{degree_unit, AreReciprocals}
+use Rattle.dd_branch.specs.Place.{ArePlaces}
 use Rattle.dd_branch.specs.Rests.{AreRests}
 use Rattle.dd_branch.specs.declared.places.Place.{Place}
 use Rattle.dd_branch.specs.declared.assignment.Assignment.{Assignment}
@@ -16,66 +19,60 @@ use Rattle.dd_branch.specs.declared.assignment.Assignment.{Assignment}
 abbrev pub degree_at : Symbol → ℕ → ℕ
 degree_at s j = slice_index (s.m01 ++ s.m12) j
 
--- the numbers of the prefix
-abbrev pub prefix_of : Assignment → List ℕ
-prefix_of a = a.prefix.items
-
 -- how many degrees are told
 abbrev pub told : Assignment → ℕ
-told a = length (prefix_of a) - 3 * a.size
+told a = length a.degrees.items
 
--- the assignment with no more than so many numbers
+-- the images of the table, and the degrees that are told
+abbrev pub prefix_of : Assignment → List ℕ
+prefix_of a = take (3 * a.table.size) (code a.table) ++ a.degrees.items
+
+-- a member that begins with a prefix
+abbrev pub IsMemberUnder : Assignment → List ℕ → Symbol → Type 0
+IsMemberUnder a prefix s = IsUnder (IsMember a.request) a.table.size prefix s
+
+-- the assignment with no more than so many degrees
 abbrev pub shortened : Assignment → ℕ → Assignment
 shortened a mark = record {
   alloc = a.alloc;
   request = a.request;
-  size = a.size;
-  reciprocals = a.reciprocals;
+  table = a.table;
+  ties = a.ties;
   places = a.places;
   rests = a.rests;
-  prefix = record { items = take mark a.prefix.items };
-  sums = record { items = take (mark - 3 * a.size + 1) a.sums.items };
+  degrees = record { items = take mark a.degrees.items };
 }
 
--- What is said of a place holds of the degree that a symbol has there.
-pub record Fits (q : Request) (s : Symbol) (j : ℕ) (x : Place) : Type 0 where
-  pub same : degree_at s j ≡ degree_at s x.root
-  pub tile : j < s.size → IsChoice q.faces x.turns (degree_at s j)
-  pub vertex : s.size ≤ j → IsChoice q.degrees x.turns (degree_at s j)
-  pub most : degree_unit ≤ x.most * degree_at s j
-  pub least : x.least * degree_at s j ≤ degree_unit
+-- what the degrees that are told have of the budget
+abbrev pub spent_by : Assignment → ℕ
+spent_by a = spent a.places.items (λ j. slice_index a.degrees.items j) 0 (told a)
 
--- the place of a least chamber is no later, and the numbers are small
-pub record IsSound (j : ℕ) (x : Place) : Type 0 where
-  pub earlier : x.root ≤ j
-  pub few : x.turns ≤ 36
-  pub most : x.most ≤ degree_unit
-  pub least : x.least ≤ degree_unit
+-- the place of the next degree
+abbrev pub next_place : Assignment → Place
+next_place a = slice_index_or a.places.items (told a) no_place
 
--- At each place, the sum of the parts of the degrees that are told before it.
-pub record AreSums (a : Assignment) : Type 0 where
-  pub count : length a.sums.items ≡ told a + 1
-  pub none : slice_index a.sums.items 0 ≡ 0
-  pub each : (j : ℕ) → j < told a → slice_index a.sums.items (j + 1) ≡ slice_index a.sums.items j + slice_index a.reciprocals (slice_index (prefix_of a) (3 * a.size + j))
+-- a table of which no symbol has more chambers or classes than are asked for
+pub record HasLimits (q : Request) (t : Symbol) : Type 0 where
+  pub chambers : t.size ≤ q.chambers
+  pub tiles : AtMost t Tile q.tiles
+  pub vertices : AtMost t Vertex q.vertices
 
--- The prefix tells all images, and maybe some degrees. What is said of the places holds of each member under it.
+-- The degree at a place is that of the least chamber of the cell, and there it is a choice.
+pub record IsTold (q : Request) (n : ℕ) (degrees : List ℕ) (j : ℕ) (x : Place) : Type 0 where
+  pub same : slice_index degrees j ≡ slice_index degrees x.root
+  pub tile : x.root ≡ j → j < n → IsChoice q.faces x.turns (slice_index degrees j)
+  pub vertex : x.root ≡ j → n ≤ j → IsChoice q.degrees x.turns (slice_index degrees j)
+
+-- Each degree that is told may stand at its place.
 pub record IsAssignment (a : Assignment) : Type 0 where
-  pub positive : 1 ≤ a.size
-  pub small : a.size ≤ 36
-  pub images : 3 * a.size ≤ length (prefix_of a)
-  pub short : length (prefix_of a) ≤ 5 * a.size
-  pub numbers : (t : ℕ) → t < length (prefix_of a) → slice_index (prefix_of a) t ≤ 216
-  pub reciprocals : AreReciprocals a.reciprocals
-  pub places : length a.places.items ≡ 2 * a.size
+  pub table : IsBareTable a.table
+  pub limits : HasLimits a.request a.table
+  pub ties : AreTies a.table a.ties.items
+  pub places : ArePlaces a.request a.table a.places.items
   pub rests : AreRests a.places.items a.rests
-  pub sums : AreSums a
-  pub sound : (j : ℕ) → j < 2 * a.size → (x : Place) → IsSound j (slice_index_or a.places.items j x)
-  pub fits : (s : Symbol) → IsUnder (IsMember a.request) a.size (prefix_of a) s → (j : ℕ) → j < 2 * a.size → (x : Place) → Fits a.request s j (slice_index_or a.places.items j x)
+  pub short : told a ≤ 2 * a.table.size
+  pub each : (j : ℕ) (x : Place) → j < told a → IsTold a.request a.table.size a.degrees.items j (slice_index_or a.places.items j x)
 
--- an assignment for a request and a table, of which the images alone are told
-pub record IsBeginning (q : Request) (t : Symbol) (a : Assignment) : Type 0 where
-  pub is : IsAssignment a
-  pub request : a.request ≡ q
-  pub size : a.size ≡ t.size
-  pub images : length (prefix_of a) ≡ 3 * t.size
-  pub begins : Begins (prefix_of a) (code t)
+-- The next degree is that of the least chamber of a cell.
+abbrev pub IsAtRoot : Assignment → Type 0
+IsAtRoot a = told a < 2 * a.table.size → (next_place a).root ≡ told a

@@ -1,5 +1,5 @@
 -- The degrees that a cell may have.
-use Rattle.std.specs.Prelude.{◌≡◌, ◌⊎◌, ℕ, ◌*◌, ◌<◌, ◌≤◌}
+use Rattle.std.specs.Prelude.{◌≡◌, ℕ, ◌*◌, ◌≤◌}
 use Rattle.dd_model.specs.Allowed.{IsIn}
 use Rattle.dd_model.specs.Wanted.{IsCrystallographic}
 use Rattle.dd_model.specs.declared.allowed.Allowed.{Allowed}
@@ -11,12 +11,6 @@ pub record IsChoice (set : Allowed) (r m : ℕ) : Type 0 where
   pub product : m ≡ value * r
   pub allowed : IsIn set m
 
--- there is none from k on
-abbrev pub HasNoChoiceFrom : Allowed → ℕ → ℕ → Type 0
-HasNoChoiceFrom set r k = (m : ℕ) → IsChoice set r m → m < k
-
--- m is the least one from k on
-pub record IsLeastChoice (set : Allowed) (r k m : ℕ) : Type 0 where
-  pub choice : IsChoice set r m
-  pub from : k ≤ m
-  pub least : (x : ℕ) → IsChoice set r x → (x < k) ⊎ (m ≤ x)
+-- no choice has a smaller branching value
+abbrev pub HasNoneBelow : Allowed → ℕ → ℕ → Type 0
+HasNoneBelow set r v = (m : ℕ) (c : IsChoice set r m) → v ≤ c.value

@@ -1,8 +1,9 @@
-pub mod Reciprocals
 pub mod Choice
 pub mod Place
+pub mod Budget
 pub mod Rests
 pub mod Assignment
+pub mod Entered
 pub mod Members
 pub mod Descent
-pub mod WholePrefix
+pub mod Parts

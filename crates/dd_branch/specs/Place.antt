@@ -1,37 +1,52 @@
 -- What a table tells of one degree.
-use Rattle.std.specs.Prelude.{◌≡◌, ℕ, ◌+◌, ◌*◌, ◌<◌, ◌≤◌, List, length, slice_index_or}
+use Rattle.std.specs.Prelude.{◌≡◌, ◌≢◌, ◌⊎◌, ℕ, ◌+◌, ◌*◌, ◌/◌, ◌<◌, ◌≤◌, List, length, slice_index_or}
 use Rattle.dd_model.specs.declared.allowed.Allowed.{Allowed}
 use Rattle.dd_model.specs.declared.pair.Pair.{Pair}
-use Rattle.dd_model.specs.Symbol.{Symbol, IsChamber}
-use Rattle.dd_model.specs.Cell.{InCell, IsLeastTurns}
+use Rattle.dd_model.specs.declared.pair.Pair.TheVariants.{Tile, Vertex}
+use Rattle.dd_model.specs.declared.requests.Request.{Request}
+use Rattle.dd_model.specs.Symbol.{Symbol}
+use Rattle.dd_symbol.specs.Cells.{IsShapeOf}
+use Rattle.dd_symbol.specs.declared.kind.Kind.{Kind}
+use Rattle.dd_symbol.specs.declared.kind.Kind.TheVariants.{Cycle, Chain}
+use Rattle.dd_symbol.specs.declared.shapes.CellShape.{CellShape}
 use Rattle.dd_branch.specs.Choice.{IsChoice}
-use Rattle.dd_branch.specs.Reciprocals.{degree_unit}
 use Rattle.dd_branch.specs.declared.places.Place.{Place}
 
--- e is the least chamber of the cell of d
-pub record IsRoot (t : Symbol) (p : Pair) (d e : ℕ) : Type 0 where
-  pub chamber : IsChamber t e
-  pub in_cell : InCell t p d e
-  pub least : (x : ℕ) → InCell t p d x → e ≤ x
+-- how many chambers a cell has for each turn
+abbrev pub sides_of : Kind → ℕ
+sides_of Cycle = 2
+sides_of Chain = 1
 
--- shares of all degrees that a cell of so many turns may have, and no greater than the degree_unit
-pub record AreSharesOf (set : Allowed) (r most least : ℕ) : Type 0 where
-  pub upper : (m : ℕ) → IsChoice set r m → degree_unit ≤ most * m
-  pub lower : (m : ℕ) → IsChoice set r m → least * m ≤ degree_unit
-  pub most_small : most ≤ degree_unit
-  pub least_small : least ≤ degree_unit
+-- so many sides at the least chamber of a cell, and none at the others
+abbrev pub HasSides : CellShape → ℕ → ℕ → Type 0
+HasSides shape d sides = ((shape.least ≡ d) × (sides ≡ sides_of shape.kind)) ⊎ ((shape.least ≢ d) × (sides ≡ 0))
+
+-- bounds of the parts of all degrees that may stand at a place
+pub record AreBounds (set : Allowed) (x : Place) : Type 0 where
+  pub most : (m : ℕ) (c : IsChoice set x.turns m) → x.sides * (12 / c.value) ≤ x.most
+  pub least : (m : ℕ) (c : IsChoice set x.turns m) → x.least ≤ x.sides * (12 / c.value)
+  pub sides : x.sides ≤ 2
+  pub most_small : x.most ≤ x.sides * 12
+  pub least_small : x.least ≤ x.sides * 12
 
 -- What is said of the degree of a pair at a chamber d. Chamber 1 has the place that is handed in.
 pub record IsPlaceOf (t : Symbol) (set : Allowed) (p : Pair) (first d : ℕ) (x : Place) : Type 0 where
-  pub chamber : ℕ
-  pub least : IsRoot t p d chamber
-  pub root : x.root + 1 ≡ first + chamber
-  pub turns : IsLeastTurns t p d x.turns
+  pub shape : CellShape
+  pub is_shape : IsShapeOf t p d shape
+  pub root : x.root + 1 ≡ first + shape.least
+  pub turns : x.turns ≡ shape.r
   pub few : x.turns ≤ 36
-  pub shares : AreSharesOf set x.turns x.most x.least
+  pub sides : HasSides shape d x.sides
+  pub bounds : AreBounds set x
 
--- A pair's places were added to a list, one for each chamber.
-pub record HasPlaces (t : Symbol) (set : Allowed) (p : Pair) (old new : List Place) : Type 0 where
-  pub longer : length new ≡ length old + t.size
+-- A pair's places were added to a list, those of the first m chambers.
+pub record HasPlaces (t : Symbol) (set : Allowed) (p : Pair) (old : List Place) (m : ℕ) (new : List Place) : Type 0 where
+  pub longer : length new ≡ length old + m
   pub kept : (j : ℕ) (x : Place) → j < length old → slice_index_or new j x ≡ slice_index_or old j x
-  pub each : (k : ℕ) (x : Place) → k < t.size → IsPlaceOf t set p (length old) (k + 1) (slice_index_or new (length old + k) x)
+  pub each : (k : ℕ) (x : Place) → k < m → IsPlaceOf t set p (length old) (k + 1) (slice_index_or new (length old + k) x)
+
+-- the places of all tiles, and then those of all vertices
+pub record ArePlaces (q : Request) (t : Symbol) (places : List Place) : Type 0 where
+  pub count : length places ≡ 2 * t.size
+  pub tiles : (k : ℕ) (x : Place) → k < t.size → IsPlaceOf t q.faces Tile 0 (k + 1) (slice_index_or places k x)
+  pub vertices : (k : ℕ) (x : Place) → k < t.size → IsPlaceOf t q.degrees Vertex t.size (k + 1) (slice_index_or places (t.size + k) x)

@@ -1,316 +1,285 @@
-ghost use Rattle.std.specs.Prelude.{◌≡◌, ℕ, ◌+◌, ◌-◌, [], ◌∷◌, ◌++◌, ◌*◌, ◌≤◌, ◌<◌, ◌↔◌, IsTrue, IfOk, MatchOption, Some, length, take, slice_index};
-ghost use Rattle.std.specs.Bool.{OnTrue};
-ghost use Rattle.std.specs.List.{slice_get};
-ghost use Rattle.dd_model.specs.Symbol.{Symbol as Tiling};
-ghost use Rattle.dd_model.specs.Code.{code};
+ghost use Rattle.std.specs.Prelude.{◌≡◌, ℕ, ◌*◌, ◌/◌, ◌+◌, ◌≤◌, ◌<◌, [], ◌∷◌, ◌++◌, ◌↔◌, IsTrue, IfOk, OnOk, MatchOption, length, slice_index};
+ghost use Rattle.std.specs.Bool.{OnTrue, OnFalse};
+ghost use Rattle.dd_model.specs.Symbol.{Symbol as Tiling, IsChamber};
+ghost use Rattle.dd_model.specs.Allowed.{IsIn};
+ghost use Rattle.std.specs.List.{Contains};
+ghost use Rattle.dd_canon.specs.Ties.{AreTies, IsLeastFrom};
+ghost use Rattle.dd_model.specs.Minimal.{Minimal};
 ghost use Rattle.dd_model.specs.Wanted.{IsMember};
-ghost use Rattle.dd_invol.specs.Under.{HasNothingUnder, IsUnder};
-ghost use Rattle.dd_branch.specs.WholePrefix.{part, symbol_with};
-ghost use Rattle.dd_branch.specs.Assignment.{IsAssignment, IsBeginning, prefix_of, shortened, told};
+ghost use Rattle.dd_invol.specs.Table.{IsBareTable};
+ghost use Rattle.dd_invol.specs.Under.{next_number, AreUnder, Appends};
+ghost use Rattle.dd_branch.specs.Parts.{part};
+ghost use Rattle.dd_branch.specs.Choice.{IsChoice};
+ghost use Rattle.dd_branch.specs.Assignment.{HasLimits, IsAssignment, IsAtRoot, IsMemberUnder, next_place, prefix_of, spent_by, told};
+ghost use Rattle.dd_branch.specs.Entered.{HasBudget, HasEntered, HasForced};
 
-use crate::places::{Place, add_places, least_choice};
-use crate::reciprocals::{DEGREE_UNIT, reciprocals};
+use crate::places::{Place, add_places};
 use crate::rests::Rests;
 use arrayvec::ArrayVec;
-use dd_canon::is_least;
-use dd_invol::{CollectingSearch, PrefixSearch};
+use dd_canon::is_least_from_ties;
 use dd_model::{Memory, Pair, Request};
-use dd_symbol::{Connected, Involutions, Symbol, build_if};
-use dd_wanted::is_wanted;
+use dd_quotient::is_minimal;
+use dd_symbol::Connected;
 use std::alloc::Global;
 
-/// A search for the degrees of a table: a prefix of codes with all images and maybe some degrees.
-/// A degree is put at its end and taken away again in place, and no such step allocates.
+/// A search for the degrees of a table: those of the first places are told. A degree is told at the
+/// least chamber of a cell, and at once at the others that follow, and all are taken away again in
+/// place. No such step allocates.
 #[derive(Drop)]
 pub(crate) struct Assignment {
     alloc: Global,
     request: Request,
-    /// The number of chambers.
-    size: u8,
-    /// DEGREE_UNIT divided by each degree.
-    reciprocals: [u64; 217],
+    /// The involutions, with any degrees.
+    table: Connected,
+    /// The starts from which the table is numbered as it stands: leastness is decided under these.
+    ties: Vec<u32>,
     /// What the table tells of each degree.
-    places: ArrayVec<Place, 72>,
-    /// The sums of the shares from each place on.
+    pub(crate) places: ArrayVec<Place, 72>,
+    /// What the degrees from each place on will have of the budget.
     rests: Rests,
-    /// The numbers of the code.
-    prefix: ArrayVec<u8, 180>,
-    /// The sums of the parts of the first degrees, from that of none to that of all that are told.
-    sums: ArrayVec<u64, 73>,
+    /// The degrees that are told.
+    pub(crate) degrees: ArrayVec<u8, 72>,
 }
 
-/// Whether a symbol is a member of the catalogue of a request.
-fn is_member(alloc: Global, request: &Request, symbol: &Connected) -> Result<bool, Memory>
-    ensures { IfOk result (λ yes. IsTrue yes ↔ IsMember request.now symbol.now) }
+/// Whether a symbol of which all else is known is a member of the catalogue of a request.
+fn is_asked(
+    alloc: Global,
+    request: &Request,
+    ties: &[u32],
+    symbol: &Connected,
+) -> Result<bool, Memory>
+    requires { (d : ℕ) → Contains ties.now d → IsChamber symbol.now d }
+    ensures { IfOk result (λ yes. IsTrue yes
+        ↔ (IsLeastFrom symbol.now ties.now × (IsTrue request.now.minimal → Minimal symbol.now))) }
 {
-    if !is_wanted(alloc, request, symbol)? {
-        return Ok(false);
-    }
-    is_least(alloc, symbol)
+    Ok(is_least_from_ties(alloc, symbol, ties)? && (!request.minimal || is_minimal(alloc, symbol)?))
 }
 
 impl Assignment {
-    /// What is known of a place.
-    fn place(&self, place: usize) -> Place
-        requires { place < length self.now.places.items }
-        ensures { slice_get self.now.places.items place ≡ Some result }
+    /// The search from a table of which no degree is told.
+    pub(crate) fn new(
+        alloc: Global,
+        table: &Connected,
+        ties: Vec<u32>,
+        q: &Request,
+    ) -> Result<Assignment, Memory>
+        requires table { IsBareTable table.now }
+        requires limits { HasLimits q.now table.now }
+        requires ties { AreTies table.now ties.items }
+        ensures ready { IfOk result (λ a. IsAssignment a) }
+        ensures root { IfOk result (λ a. IsAtRoot a) }
+        ensures request { IfOk result (λ a. a.request ≡ q.now) }
+        ensures table { IfOk result (λ a. a.table ≡ table.now) }
+        ensures none { IfOk result (λ a. a.degrees.items ≡ []) }
     {
-        self.places.as_slice()[place]
-    }
-
-    /// How many degrees are told.
-    fn told(&self) -> usize
-        requires { IsAssignment self.now }
-        ensures { result ≡ told self.now }
-    {
-        self.prefix.len() - 3 * self.size as usize
-    }
-
-    /// The sum of the parts of all degrees that are told.
-    fn sum(&self) -> u64
-        requires { IsAssignment self.now }
-        ensures is { result ≡ slice_index self.now.sums.items (told self.now) }
-        ensures small { result ≤ 72 * DEGREE_UNIT }
-    {
-        self.sums.as_slice()[self.told()]
-    }
-
-    /// At least the sum of DEGREE_UNIT divided by the degree over all places, and so at least half
-    /// of DEGREE_UNIT for each chamber where the curvature is 0. A part is rounded down, so 1 more
-    /// is enough.
-    fn upper_sum(&self) -> u64
-        requires { IsAssignment self.now }
-        ensures flat { (s : Tiling)
-            → IsUnder (IsMember self.now.request) self.now.size (prefix_of self.now) s
-            → self.now.size * DEGREE_UNIT ≤ 2 * result }
-        ensures small { result ≤ 145 * DEGREE_UNIT }
-    {
-        let told = self.told();
-        self.sum() + told as u64 + self.rests.most[told]
-    }
-
-    /// At most the sum of DEGREE_UNIT divided by the degree over all places, and so at most half of
-    /// DEGREE_UNIT for each chamber where the curvature is 0.
-    fn lower_sum(&self) -> u64
-        requires { IsAssignment self.now }
-        ensures flat { (s : Tiling)
-            → IsUnder (IsMember self.now.request) self.now.size (prefix_of self.now) s
-            → 2 * result ≤ self.now.size * DEGREE_UNIT }
-        ensures small { result ≤ 144 * DEGREE_UNIT }
-    {
-        self.sum() + self.rests.least[self.told()]
-    }
-
-    /// Tells one more degree.
-    fn push(&mut self, number: u8)
-        requires ready { IsAssignment self.old }
-        requires room { length (prefix_of self.old) < 5 * self.old.size }
-        requires small { number ≤ 216 }
-        ensures is { IsAssignment self.new }
-        ensures longer { prefix_of self.new ≡ prefix_of self.old ++ number ∷ [] }
-        ensures request { self.new.request ≡ self.old.request }
-        ensures size { self.new.size ≡ self.old.size }
-        ensures undone { shortened self.new (length (prefix_of self.old)) ≡ self.old }
-    {
-        let sum = self.sum() + self.reciprocals[number as usize];
-        self.prefix.push(number);
-        self.sums.push(sum);
-    }
-
-    /// Takes numbers away until there are so many.
-    fn shorten(&mut self, mark: usize)
-        requires ready { IsAssignment self.old }
-        requires images { 3 * self.old.size ≤ mark }
-        ensures { self.new ≡ shortened self.old mark }
-    {
-        self.prefix.truncate(mark);
-        self.sums.truncate(mark - 3 * self.size as usize + 1);
-    }
-
-    /// The degree that is told at an earlier place of the cell, if it is k or more.
-    fn forced(&self, root: u8, k: u8) -> Option<u8>
-        requires ready { IsAssignment self.now }
-        requires earlier { root < told self.now }
-        ensures { MatchOption result
-            (slice_index (prefix_of self.now) (3 * self.now.size + root) < k)
-            (λ m. (m ≡ slice_index (prefix_of self.now) (3 * self.now.size + root)) × (k ≤ m)) }
-    {
-        let number = self.prefix.as_slice()[3 * self.size as usize + root as usize];
-        if number < k {
-            return None;
-        }
-        Some(number)
-    }
-
-    /// Whether it is sure that no flat symbol is under the prefix: the shares add up to too little
-    /// or to too much. This is looked at where the last degree is that of a least chamber, since
-    /// the others follow from those.
-    fn is_dead(&self) -> bool
-        requires ready { IsAssignment self.now }
-        requires some { 3 * self.now.size < length (prefix_of self.now) }
-        ensures { OnTrue result
-            (HasNothingUnder (IsMember self.now.request) self.now.size (prefix_of self.now)) }
-    {
-        let last = self.told() - 1;
-        if (self.place(last).root as usize) < last {
-            return false;
-        }
-        let flat = u64::from(self.size) * DEGREE_UNIT;
-        if 2 * self.upper_sum() < flat {
-            return true;
-        }
-        2 * self.lower_sum() > flat
-    }
-
-    /// Some numbers of the prefix, from a place on.
-    fn numbers(&self, from: usize, count: usize) -> Result<Vec<u32>, Memory>
-        requires { from + count ≤ length (prefix_of self.now) }
-        ensures { IfOk result
-            (λ numbers. numbers.items ≡ part (prefix_of self.now) from count) }
-    {
-        let mut numbers = Vec::with_capacity(self.alloc, count)?;
-        for k in 0..count {
-            numbers.push(u32::from(self.prefix.as_slice()[from + k]))?;
-        }
-        Ok(numbers)
-    }
-
-    /// The symbol whose code is the prefix, if there is one.
-    fn symbol(&self) -> Result<Option<Connected>, Memory>
-        requires ready { IsAssignment self.now }
-        requires whole { length (prefix_of self.now) ≡ 5 * self.now.size }
-        ensures { IfOk result (λ found. MatchOption found
-            (HasNothingUnder (IsMember self.now.request) self.now.size (prefix_of self.now))
-            (λ c. c ≡ symbol_with self.now.size (prefix_of self.now))) }
-    {
-        let n = self.size as usize;
-        let rows = self.numbers(0, 3 * n)?;
-        let Ok(involutions) = Involutions::from_rows(rows, u32::from(self.size)) else {
-            return Ok(None);
-        };
-        let m01 = self.numbers(3 * n, n)?;
-        let m12 = self.numbers(4 * n, n)?;
-        build_if(self.alloc, involutions, m01, m12)
-    }
-
-    /// The member whose code is the prefix, if there is one.
-    fn member(&self) -> Result<Option<Connected>, Memory>
-        requires ready { IsAssignment self.now }
-        requires whole { length (prefix_of self.now) ≡ 5 * self.now.size }
-        ensures { IfOk result (λ found. MatchOption found
-            (HasNothingUnder (IsMember self.now.request) self.now.size (prefix_of self.now))
-            (λ c. IsUnder (IsMember self.now.request) self.now.size (prefix_of self.now) c)) }
-    {
-        let Some(symbol) = self.symbol()? else {
-            return Ok(None);
-        };
-        if !is_member(self.alloc, &self.request, &symbol)? {
-            return Ok(None);
-        }
-        Ok(Some(symbol))
-    }
-
-    /// The images of a table, in the order of codes.
-    fn images_of(alloc: Global, symbol: &Symbol) -> Result<ArrayVec<u8, 180>, Memory>
-        requires { symbol.now.size ≤ 36 }
-        ensures { IfOk result
-            (λ prefix. prefix.items ≡ take (3 * symbol.now.size) (code symbol.now)) }
-    {
-        let numbers = symbol.code(alloc)?;
-        let mut prefix = ArrayVec::new();
-        for k in 0..3 * symbol.size() as usize {
-            prefix.push(numbers.as_slice()[k] as u8);
-        }
-        Ok(prefix)
-    }
-
-    /// The images of a table, without degrees.
-    pub(crate) fn new(alloc: Global, table: &Connected, q: &Request) -> Result<Assignment, Memory>
-        requires { table.now.size ≤ 36 }
-        ensures { IfOk result (λ a. IsBeginning q.now table.now a) }
-    {
-        let symbol = table.symbol();
-        let prefix = Assignment::images_of(alloc, symbol)?;
         let mut places = ArrayVec::new();
         add_places(&mut places, table, &q.faces, Pair::Tile);
         add_places(&mut places, table, &q.degrees, Pair::Vertex);
-        let mut sums = ArrayVec::new();
-        sums.push(0);
         Ok(Assignment {
             alloc,
             request: *q,
-            size: symbol.size() as u8,
-            reciprocals: reciprocals(),
+            table: table.try_copy(alloc)?,
+            ties,
             rests: Rests::of(places.as_slice()),
             places,
-            prefix,
-            sums,
+            degrees: ArrayVec::new(),
         })
     }
-}
 
-impl PrefixSearch for Assignment {
-    ghost use Rattle.dd_model.specs.Wanted.{IsMember};
-    ghost use Rattle.dd_branch.specs.WholePrefix.{part, symbol_with};
-    ghost use Rattle.dd_branch.specs.Assignment.{IsAssignment, prefix_of, shortened};
-
-    ghost request = { λ a. a.request };
-
-    ghost wanted = { λ q s. IsMember q s };
-
-    ghost size = { λ a. a.size };
-
-    ghost prefix = { λ a. prefix_of a };
-
-    ghost end = { λ n. 5 * n };
-
-    ghost depth = { λ a. length (prefix_of a) };
-
-    ghost undone = { λ a mark. shortened a mark };
-
-    ghost valid = { λ a. IsAssignment a };
-
-    fn is_whole(&self) -> bool {
-        self.prefix.len() == 5 * self.size as usize
+    /// The number of chambers.
+    fn size(&self) -> usize
+        requires { IsAssignment self.now }
+        ensures { result ≡ self.now.table.size }
+    {
+        self.table.symbol().size() as usize
     }
 
-    fn mark(&self) -> usize {
-        self.prefix.len()
+    /// What is known of the next degree.
+    pub(crate) fn next_place(&self) -> Place
+        requires ready { IsAssignment self.now }
+        requires room { told self.now < 2 * self.now.table.size }
+        ensures { result ≡ next_place self.now }
+    {
+        self.places.as_slice()[self.degrees.len()]
     }
 
-    fn next_from(&self, k: u8) -> Option<u8> {
-        let next = self.told();
-        let place = self.place(next);
-        if (place.root as usize) < next {
-            return self.forced(place.root, k);
+    /// Whether the set of its pair has a degree.
+    fn allows(&self, degree: u8) -> bool
+        requires { IsAssignment self.now }
+        ensures tile { told self.now < self.now.table.size
+            → (IsTrue result ↔ IsIn self.now.request.faces degree) }
+        ensures vertex { self.now.table.size ≤ told self.now
+            → (IsTrue result ↔ IsIn self.now.request.degrees degree) }
+    {
+        if self.degrees.len() < self.size() {
+            return self.request.faces.has(u32::from(degree));
         }
-        if next < self.size as usize {
-            return least_choice(&self.request.faces, place.turns, k);
-        }
-        least_choice(&self.request.degrees, place.turns, k)
+        self.request.degrees.has(u32::from(degree))
     }
 
-    fn enter(&mut self, number: u8) -> bool {
-        let mark = self.prefix.len();
-        self.push(number);
-        if self.is_dead() {
-            self.shorten(mark);
+    /// Whether the budget can be spent where so much of it is spent before a place.
+    pub(crate) fn has_budget(&self, sum: u16, place: usize) -> bool
+        requires ready { IsAssignment self.now }
+        requires small { sum ≤ 4096 }
+        requires place { place ≤ 2 * self.now.table.size }
+        ensures { IsTrue result ↔ (
+            (6 * self.now.table.size ≤ sum + slice_index self.now.rests.most place)
+            × (sum + slice_index self.now.rests.least place ≤ 6 * self.now.table.size)) }
+    {
+        let whole = 6 * self.size() as u16;
+        sum + self.rests.most[place] >= whole && sum + self.rests.least[place] <= whole
+    }
+
+    /// Whether a degree of so many turns times a branching value may come next.
+    pub(crate) fn may_stand(&self, sum: u16, value: u8) -> bool
+        requires ready { IsAssignment self.now }
+        requires room { told self.now < 2 * self.now.table.size }
+        requires root { IsAtRoot self.now }
+        requires budget { HasBudget self.now sum }
+        requires value { (1 ≤ value) × (value ≤ 6) }
+        ensures dead { OnFalse result ((s : Tiling) → IsMemberUnder self.now (prefix_of self.now) s
+            → next_number (prefix_of self.now) s ≡ value * (next_place self.now).turns → ⊥) }
+        ensures tile { OnTrue result (told self.now < self.now.table.size
+            → IsChoice self.now.request.faces (next_place self.now).turns
+            (value * (next_place self.now).turns)) }
+        ensures vertex { OnTrue result (self.now.table.size ≤ told self.now
+            → IsChoice self.now.request.degrees (next_place self.now).turns
+            (value * (next_place self.now).turns)) }
+        ensures enough { OnTrue result (6 * self.now.table.size
+            ≤ sum + (next_place self.now).sides * (12 / value)
+            + slice_index self.now.rests.most (told self.now + 1)) }
+        ensures room { OnTrue result (sum + (next_place self.now).sides * (12 / value)
+            + slice_index self.now.rests.least (told self.now + 1) ≤ 6 * self.now.table.size) }
+    {
+        let place = self.next_place();
+        if value == 5 || !self.allows(value * place.turns) {
+            return false;
+        }
+        let sum = sum + u16::from(place.sides * (12 / value));
+        if !self.has_budget(sum, self.degrees.len() + 1) {
             return false;
         }
         true
     }
 
-    fn leave(&mut self, mark: usize) {
-        self.shorten(mark);
+    /// Tells the degrees that follow from those told, up to the least chamber of another cell.
+    fn force(&mut self)
+        requires { IsAssignment self.old }
+        ensures ready { IsAssignment self.new }
+        ensures root { IsAtRoot self.new }
+        ensures forced { HasForced self.old self.new }
+    {
+        while self.degrees.len() < self.places.len() {
+            let root = self.next_place().root as usize;
+            if root == self.degrees.len() {
+                return;
+            }
+            let degree = self.degrees.as_slice()[root];
+            self.degrees.push(degree);
+        }
     }
-}
 
-impl CollectingSearch for Assignment {
-    fn add(&mut self, list: &mut Vec<Connected>) -> Result<(), Memory> {
-        let Some(member) = self.member()? else {
-            return Ok(());
-        };
-        list.push(member)?;
+    /// Tells the degree of the least chamber of a cell, and the degrees that follow.
+    pub(crate) fn enter(&mut self, degree: u8)
+        requires ready { IsAssignment self.old }
+        requires room { told self.old < 2 * self.old.table.size }
+        requires root { IsAtRoot self.old }
+        requires tile { told self.old < self.old.table.size
+            → IsChoice self.old.request.faces (next_place self.old).turns degree }
+        requires vertex { self.old.table.size ≤ told self.old
+            → IsChoice self.old.request.degrees (next_place self.old).turns degree }
+        ensures ready { IsAssignment self.new }
+        ensures root { IsAtRoot self.new }
+        ensures entered { HasEntered self.old degree self.new }
+    {
+        self.degrees.push(degree);
+        self.force();
+    }
+
+    /// Some of the degrees that are told, from a place on.
+    fn part(&self, from: usize, count: usize) -> Result<Vec<u32>, Memory>
+        requires { from + count ≤ told self.now }
+        ensures { IfOk result
+            (λ numbers. numbers.items ≡ part self.now.degrees.items from count) }
+    {
+        let mut numbers = Vec::with_capacity(self.alloc, count)?;
+        for k in 0..count {
+            numbers.push(u32::from(self.degrees.as_slice()[from + k]))?;
+        }
+        Ok(numbers)
+    }
+
+    /// The member with the degrees that are told, if there is one. Only its leastness, and what is
+    /// asked of minimality, is open.
+    fn member(&self) -> Result<Option<Connected>, Memory>
+        requires ready { IsAssignment self.now }
+        requires whole { told self.now ≡ 2 * self.now.table.size }
+        requires flat { spent_by self.now ≡ 6 * self.now.table.size }
+        ensures { IfOk result (λ found. MatchOption found
+            ((s : Tiling) → IsMemberUnder self.now (prefix_of self.now) s → ⊥)
+            (λ c. IsMemberUnder self.now (prefix_of self.now) c)) }
+    {
+        let size = self.size();
+        let m01 = self.part(0, size)?;
+        let m12 = self.part(size, size)?;
+        let symbol = self.table.with_known_degrees(self.alloc, m01, m12)?;
+        if is_asked(self.alloc, &self.request, &self.ties, &symbol)? {
+            return Ok(Some(symbol));
+        }
+        Ok(None)
+    }
+
+    /// Adds the member with the degrees that are told, if there is one.
+    fn add_member(&self, list: &mut Vec<Connected>) -> Result<(), Memory>
+        requires ready { IsAssignment self.now }
+        requires whole { told self.now ≡ 2 * self.now.table.size }
+        requires flat { spent_by self.now ≡ 6 * self.now.table.size }
+        ensures { OnOk result (Appends (AreUnder (IsMember self.now.request) self.now.table.size
+            (prefix_of self.now)) list.old.items list.new.items) }
+    {
+        if let Some(member) = self.member()? {
+            list.push(member)?;
+        }
         Ok(())
+    }
+
+    /// Adds the members with the degrees that are told, of which the parts have a sum. It goes down
+    /// the cells by their branching values.
+    pub(crate) fn add_members(&mut self, sum: u16, list: &mut Vec<Connected>) -> Result<(), Memory>
+        requires ready { IsAssignment self.old }
+        requires root { IsAtRoot self.old }
+        requires budget { HasBudget self.old sum }
+        ensures same { OnOk result (self.new ≡ self.old) }
+        ensures list { OnOk result (Appends
+            (AreUnder (IsMember self.old.request) self.old.table.size (prefix_of self.old))
+            list.old.items list.new.items) }
+    {
+        let next = self.degrees.len();
+        if next == self.places.len() {
+            return self.add_member(list);
+        }
+        let place = self.next_place();
+        for value in 1..7u8 {
+            if self.may_stand(sum, value) {
+                self.enter(value * place.turns);
+                self.add_members(sum + u16::from(place.sides * (12 / value)), list)?;
+                self.degrees.truncate(next);
+            }
+        }
+        Ok(())
+    }
+
+    /// Adds all members with the involutions of the table, of which no degree is told.
+    pub(crate) fn add_all(&mut self, list: &mut Vec<Connected>) -> Result<(), Memory>
+        requires ready { IsAssignment self.old }
+        requires root { IsAtRoot self.old }
+        requires none { self.old.degrees.items ≡ [] }
+        ensures { OnOk result (Appends (AreUnder (IsMember self.old.request) self.old.table.size
+            (prefix_of self.old)) list.old.items list.new.items) }
+    {
+        if !self.has_budget(0, 0) {
+            return Ok(());
+        }
+        self.add_members(0, list)
     }
 }

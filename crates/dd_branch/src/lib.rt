@@ -7,7 +7,6 @@ mod laws;
 mod levels;
 mod members;
 mod places;
-mod reciprocals;
 mod rests;
 mod search;
 
@@ -16,6 +15,8 @@ pub use laws::{flat_symbols_have_small_shares, lists_under_an_opening_are_the_ca
 pub use members::{add_degrees, degrees};
 pub use search::Search;
 
+#[cfg(test)]
+mod end_tests;
 #[cfg(test)]
 mod search_tests;
 #[cfg(test)]

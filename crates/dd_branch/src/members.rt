@@ -1,12 +1,25 @@
-ghost use Rattle.std.specs.Prelude.{◌≤◌, IfOk, OnOk};
+ghost use Rattle.std.specs.Prelude.{◌↔◌, IsTrue, IfOk, OnOk};
 ghost use Rattle.dd_invol.specs.Under.{Appends};
+ghost use Rattle.dd_branch.specs.Assignment.{HasLimits};
 ghost use Rattle.dd_branch.specs.Members.{AreMembersWith};
 
 use crate::assignment::Assignment;
-use dd_invol::{Table, find};
-use dd_model::{Memory, Request};
+use dd_canon::tied_starts;
+use dd_cells::has_at_most;
+use dd_invol::Table;
+use dd_model::{Memory, Pair, Request};
 use dd_symbol::Connected;
 use std::alloc::Global;
+
+/// Whether a table has no more chambers and classes than a request asks for. Each symbol with its
+/// involutions has as many.
+pub(crate) fn has_limits(t: &Connected, q: &Request) -> bool
+    ensures { IsTrue result ↔ HasLimits q.now t.now }
+{
+    t.symbol().size() <= q.chambers
+        && has_at_most(t, Pair::Tile, q.tiles)
+        && has_at_most(t, Pair::Vertex, q.vertices)
+}
 
 /// Adds all members of a request's catalogue that have the involutions of a table, ascending.
 pub fn add_degrees(
@@ -17,8 +30,14 @@ pub fn add_degrees(
 ) -> Result<(), Memory>
     ensures { OnOk result (Appends (AreMembersWith q.now t.now) list.old.items list.new.items) }
 {
-    let mut search = Assignment::new(alloc, t.symbol(), q)?;
-    find(&mut search, list)
+    if !has_limits(t.symbol(), q) {
+        return Ok(());
+    }
+    let Some(ties) = tied_starts(alloc, t.symbol())? else {
+        return Ok(());
+    };
+    let mut search = Assignment::new(alloc, t.symbol(), ties, q)?;
+    search.add_all(list)
 }
 
 /// All members of a request's catalogue that have the involutions of a table, ascending.

@@ -1,17 +1,16 @@
 ghost use Rattle.std.specs.Prelude.{ℕ, ◌≤◌, ◌<◌, length, slice_index_or};
 ghost use Rattle.dd_branch.specs.Rests.{AreRests};
 ghost use Rattle.dd_branch.specs.declared.places.Place.{Place as Known};
-ghost use Rattle.dd_branch.specs.Reciprocals.{degree_unit};
 
 use crate::places::Place;
 
-/// What the degrees from each place on have of DEGREE_UNIT together, whatever they will be.
+/// What the degrees from each place on have of the budget together, whatever they will be.
 #[derive(Drop)]
 pub(crate) struct Rests {
     /// At each place, the sum of `most` of it and of the later places.
-    pub(crate) most: [u64; 73],
+    pub(crate) most: [u16; 73],
     /// At each place, the sum of `least` of it and of the later places.
-    pub(crate) least: [u64; 73],
+    pub(crate) least: [u16; 73],
 }
 
 impl Rests {
@@ -19,9 +18,9 @@ impl Rests {
     pub(crate) fn of(places: &[Place]) -> Rests
         requires few { length places.now ≤ 72 }
         requires most { (j : ℕ) (x : Known) → j < length places.now
-            → (slice_index_or places.now j x).most ≤ degree_unit }
+            → (slice_index_or places.now j x).most ≤ 24 }
         requires least { (j : ℕ) (x : Known) → j < length places.now
-            → (slice_index_or places.now j x).least ≤ degree_unit }
+            → (slice_index_or places.now j x).least ≤ 24 }
         ensures { AreRests places.now result }
     {
         let mut most = [0; 73];
@@ -29,8 +28,8 @@ impl Rests {
         let mut place = places.len();
         while place > 0 {
             place -= 1;
-            most[place] = most[place + 1] + places[place].most;
-            least[place] = least[place + 1] + places[place].least;
+            most[place] = most[place + 1] + u16::from(places[place].most);
+            least[place] = least[place + 1] + u16::from(places[place].least);
         }
         Rests { most, least }
     }

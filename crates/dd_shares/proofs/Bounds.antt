@@ -2,7 +2,7 @@
 use Rattle.std.proofs.Common.{◌≡◌, ℕ, zero, suc, ◌+◌, ◌-◌, ◌*◌, ◌/◌, ◌<◌, ◌≤◌, ◌⊎◌, Bool, IsTrue, List, [], ◌∷◌, length, length-set, get_or, set, refl, sym, ap, ◌∙◌, subst, inl, inr, ⊎_elim, arith}
 use Rattle.std.proofs.lemmas.Bool.{cases_eq, cases_lt}
 use Rattle.std.proofs.lemmas.List.{get_or-set_same, get_or-set_other}
-use Rattle.std.proofs.lemmas.List.Sums.{sum_by-cons, sum_by-set}
+use Rattle.std.proofs.lemmas.List.Sums.{sum_by-cons}
 use Rattle.std.proofs.Math.Nat.{mul-le-mul_left}
 use Rattle.std.specs.List.{sum, sum_by}
 use Rattle.dd_model.specs.declared.pair.Pair.{Pair}
@@ -150,10 +150,6 @@ shares_set q P p L shares d a are low share = record {
       (λ new. subst (λ y. L ≤ y * degree s p x) (sym new.1) (subst (λ y. L ≤ a * degree s p y) (sym new.0) (share s sought)))
       (item-set shares d x a low lo);
 }
-
--- and the sum of all
-pub sum_set : (shares : List ℕ) (d a : ℕ) → d - 1 < length shares → sum (set shares (d - 1) a) + item shares d ≡ sum shares + a
-sum_set shares d a low = sum_by-set (λ x. x) shares (d - 1) a 0 low
 
 -- ## Totals of cells
 

@@ -113,18 +113,6 @@ fixed_more q P p k fixed a b before one two s sought =
 
 -- ## Some whole cells
 
-pub whole_none : (q : Request) (P : Symbol) (p : Pair) (L : ℕ) → AreWhole q P p L 0 0 0 0 0
-whole_none q P p L = record {
-  least = [];
-  ascending = λ i low. absurd (omega arith);
-  below = λ d none. let no = none.1 in absurd (omega arith);
-  count = refl;
-  are = λ s sought d none. let no = none.1 in absurd (omega arith);
-  size = λ s sought members are. omega arith;
-  fixed = λ s sought members are. omega arith;
-  total = λ s sought members are. let e : 0 * L ≡ 0 = omega arith in omega (arith, e);
-}
-
 pub whole_skip : (q : Request) (P : Symbol) (p : Pair) (L k cells chains count most : ℕ) → AreWhole q P p L k cells chains count most → AreWhole q P p L (k + 1) cells chains count most
 whole_skip q P p L k cells chains count most w = record {
   least = w.least;

@@ -173,16 +173,6 @@ exchanged_both a b c one two =
     let e = two.deeper in
     record { deeper = omega (arith, d, e); undone = λ mark low. two.undone mark (omega (arith, low, d)) ∙ one.undone mark low }
 
-pub have_exchanged_none : (a : Shares) → HaveExchanged a a
-have_exchanged_none a = record { request = refl; tiles = exchanged_none a.tiles; vertices = exchanged_none a.vertices }
-
-pub have_exchanged_both : (a b c : Shares) → HaveExchanged a b → HaveExchanged b c → HaveExchanged a c
-have_exchanged_both a b c one two = record {
-  request = two.request ∙ one.request;
-  tiles = exchanged_both a.tiles b.tiles c.tiles one.tiles two.tiles;
-  vertices = exchanged_both a.vertices b.vertices c.vertices one.vertices two.vertices;
-}
-
 pub back_again : (old new : Shares) → HaveExchanged old new → rolled_back new (mark_of old) ≡ old
 back_again old new have =
     let tiles : unwound new.tiles (depth_of old.tiles) ≡ old.tiles = have.tiles.undone (depth_of old.tiles) (omega arith) ∙ unwound_none old.tiles (depth_of old.tiles) (omega arith) in

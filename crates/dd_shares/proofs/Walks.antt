@@ -1,13 +1,13 @@
 -- A walk along the path of a chamber.
-use Rattle.std.proofs.Common.{◌≡◌, ◌≢◌, ℕ, ◌+◌, ◌<◌, ◌≤◌, ◌⊎◌, Bool, true, false, List, [], ◌∷◌, ◌++◌, length, get_or, set, refl, sym, ap, ◌∙◌, subst, inl, inr, ⊎_elim, arith}
+use Rattle.std.proofs.Common.{◌≡◌, ◌≢◌, ℕ, ◌+◌, ◌<◌, ◌⊎◌, Bool, true, false, List, [], ◌∷◌, ◌++◌, length, get_or, set, sym, ap, ◌∙◌, subst, ⊎_elim, arith}
 use Rattle.std.proofs.lemmas.Bool.{cases_eq}
-use Rattle.std.proofs.lemmas.List.{get_or-set_same, get_or-set_other, get_or_default}
-use Rattle.std.specs.List.{AllByRecursion, Contains}
+use Rattle.std.proofs.lemmas.List.{get_or-set_same, get_or-set_other}
+use Rattle.std.specs.List.{AllByRecursion}
 use Rattle.dd_model.specs.declared.index.Index.{Index}
 use Rattle.dd_model.specs.declared.pair.Pair.{Pair}
 use Rattle.dd_model.specs.Symbol.{Symbol, Word, first, second, op}
 use Rattle.dd_model.specs.Cell.{IsWordOf}
-use Rattle.dd_shares.specs.Paths.{Leads, InPath, IsCapped, ArePath}
+use Rattle.dd_shares.specs.Paths.{Leads, InPath, ArePath}
 use Rattle.dd_invol.specs.Distinct.{AreDistinct}
 use Rattle.dd_invol.proofs.Distinct.{all_map}
 use Rattle.dd_invol.proofs.Orders.{all-push, all_at}
@@ -26,24 +26,6 @@ path_more P p i d x path letter some = record {
   word = path.word ++ i ∷ [];
   letters = letters_more p path.word i path.letters letter;
   leads = leads_more P path.word i d x path.leads some;
-}
-
-pub path_start : (P : Symbol) (p : Pair) (d : ℕ) → ArePath P p d (d ∷ [])
-path_start P p d = record { distinct = (tt, tt); in_path = (record { word = []; letters = tt; leads = refl }, tt) }
-
-pub capped_at : (P : Symbol) (p : Pair) (i : Index) (d x : ℕ) → InPath P p d x → (i ≡ first p) ⊎ (i ≡ second p) → op P i x ≡ x → IsCapped P p d
-capped_at P p i d x path letter same = record {
-  chamber = x;
-  in_path = path;
-  fixed = ⊎_elim (λ e. inl (subst (λ j. op P j x ≡ x) e same)) (λ e. inr (subst (λ j. op P j x ≡ x) e same)) letter;
-}
-
--- the path with one more chamber
-pub path_grown : (P : Symbol) (p : Pair) (d e : ℕ) (es fs : List ℕ) → ArePath P p d es → InPath P p d e → AreDistinct fs → (fs ≡ es) ⊎ (fs ≡ es ++ e ∷ []) → ArePath P p d fs
-path_grown P p d e es fs path there distinct grown = record {
-  distinct = distinct;
-  in_path = ⊎_elim (λ same. subst (AllByRecursion (InPath P p d)) (sym same) path.in_path)
-      (λ more. subst (AllByRecursion (InPath P p d)) (sym more) (all-push (InPath P p d) es e path.in_path there)) grown;
 }
 
 pub path_at : (P : Symbol) (p : Pair) (d : ℕ) (es : List ℕ) (k : ℕ) → ArePath P p d es → k < length es → InPath P p d (get_or es k 0)
@@ -68,7 +50,3 @@ distinct-push P (x ∷ xs) y d h out =
 -- what holds to k, and of k
 pub up_to : (Q : ℕ → Type 0) (k : ℕ) → ((j : ℕ) → j < k → Q j) → Q k → (j : ℕ) → j < k + 1 → Q j
 up_to Q k before here j low = ⊎_elim (λ same. subst Q (sym same) here) (λ other. before j (omega (arith, low, other))) (cases_eq j k)
-
--- what holds at each place holds of each member
-pub of_members : (Q : ℕ → Type 0) (xs : List ℕ) (k : ℕ) → length xs ≤ k → ((j : ℕ) → j < k → Q (get_or xs j 0)) → (e : ℕ) → Contains xs e → Q e
-of_members Q xs k all each e (j, below, is) = subst Q (sym (get_or_default xs j e 0 below) ∙ is) (each j (omega arith))

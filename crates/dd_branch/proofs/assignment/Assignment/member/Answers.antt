@@ -1,24 +1,42 @@
-use Rattle.std.proofs.Common.{◌≡◌, MatchOption, sym, ◌∙◌, subst}
-use Rattle.dd_model.specs.Wanted.{IsMember}
-use Rattle.dd_branch.specs.WholePrefix.{symbol_with}
-use Rattle.dd_invol.specs.Under.{HasNothingUnder}
-use Rattle.dd_branch.specs.Assignment.{prefix_of}
-use Rattle.dd_branch.proofs.WholePrefixes.{symbol_of_prefix, member_under}
+use Rattle.std.proofs.Common.{IsTrue, sym, ap, ◌∙◌, subst, arith}
+use Rattle.dd_canon.specs.Ties.{IsLeastFrom}
+use Rattle.dd_invol.proofs.TiedTables.{ties_of_least}
+use Rattle.std.specs.List.{Contains}
+use Rattle.dd_model.specs.Symbol.{Symbol}
+use Rattle.dd_model.specs.Minimal.{Minimal}
+use Rattle.dd_model.specs.Small.{IsSmallSymbol}
+use Rattle.dd_branch.specs.Assignment.{IsMemberUnder, prefix_of}
+use Rattle.dd_branch.proofs.Leaves.{leaf_is, leaf_is_member, leaf_least, leaf_small, under_leaf}
 use Rattle.dd_branch.proofs.assignment.Assignment.member.Goals as goal
 
-pub returns-then-not-branch : goal.returns-then-not-branch
-returns-then-not-branch c s under =
+pub with_known_degrees-requires : goal.with_known_degrees-requires
+with_known_degrees-requires c =
     let a = c.args.self.now in
-    let n = a.size in
-    let is = subst (λ f. MatchOption f (HasNothingUnder (IsMember a.request) n (prefix_of a)) (λ x. x ≡ symbol_with n (prefix_of a))) c.in-Some.is c.in_ok-symbol.ensures in
-    let same = symbol_of_prefix (IsMember a.request) n (prefix_of a) s under c.requires.whole ∙ sym is in
-    let yes' = c.in_ok-is_member.ensures.1 (subst (IsMember a.request) same under.wanted) in
-    let no' = c.if-not-branch.true in cc
+    subst IsSmallSymbol (sym (leaf_is a c.in_ok-m01.m01.items c.in_ok-m12.m12.items c.size-size.result c.size-size.ensures c.in_ok-m01.ensures c.in_ok-m12.ensures)) (leaf_small a c.requires.ready c.requires.whole)
+
+pub is_asked-requires : goal.is_asked-requires
+is_asked-requires c d there =
+    let h = c.requires.ready.ties.chambers d (subst (λ xs. Contains xs d) c.deref.ensures.value there) in
+    let high = h.1 in
+    let size = ap (λ (s : Symbol). s.size) c.in_ok-symbol.ensures in
+    (h.0, omega (arith, high, size))
+
+pub returns-then-branch : goal.returns-then-branch
+returns-then-branch c =
+    let a = c.args.self.now in
+    let same = c.in_ok-symbol.ensures ∙ leaf_is a c.in_ok-m01.m01.items c.in_ok-m12.m12.items c.size-size.result c.size-size.ensures c.in_ok-m01.ensures c.in_ok-m12.ensures in
+    let asked = c.in_ok-is_asked.ensures.0 c.if-branch.true in
+    let ties = c.args.self.now.ties.items in
+    let least = subst (IsLeastFrom c.in_ok-symbol.symbol) c.deref.ensures.value asked.0 in
+    subst (IsMemberUnder a (prefix_of a)) (sym same)
+    (leaf_is_member a c.requires.ready c.requires.whole c.requires.flat (subst (λ s. IsTrue a.request.minimal → Minimal s) same asked.1) (leaf_least a c.requires.ready c.requires.whole (subst (λ s. IsLeastFrom s ties) same least)))
 
 pub returns : goal.returns
-returns c =
+returns c s under =
     let a = c.args.self.now in
-    let n = a.size in
-    let is = subst (λ f. MatchOption f (HasNothingUnder (IsMember a.request) n (prefix_of a)) (λ x. x ≡ symbol_with n (prefix_of a))) c.in-Some.is c.in_ok-symbol.ensures in
-    let member = c.in_ok-is_member.ensures.0 c.if-not-branch.false in
-    member_under a.request n (prefix_of a) _ c.requires.whole is member
+    let same = under_leaf a c.requires.ready c.requires.whole s under
+    ∙ sym (c.in_ok-symbol.ensures ∙ leaf_is a c.in_ok-m01.m01.items c.in_ok-m12.m12.items c.size-size.result c.size-size.ensures c.in_ok-m01.ensures c.in_ok-m12.ensures) in
+    let member = under.wanted in
+    let own = ties_of_least s a.ties.items member.wanted.symbol (λ d there. let h = c.requires.ready.ties.chambers d there in let size = under.size in (h.0, let high = h.1 in omega (arith, high, size))) member.least in
+    let yes' = c.in_ok-is_asked.ensures.1 (subst (IsLeastFrom c.in_ok-symbol.symbol) (sym c.deref.ensures.value) (subst (λ u. IsLeastFrom u a.ties.items) same own), subst (λ u. IsTrue a.request.minimal → Minimal u) same member.wanted.minimal) in
+    let no' = c.if-branch.false in cc

@@ -1,46 +1,44 @@
-use Rattle.std.proofs.Common.{◌≡◌, ℕ, ◌*◌, ◌<◌, [], ◌∷◌, ◌++◌, length, get_or, take, refl, sym, ap, ◌∙◌, subst, arith}
-use Rattle.dd_model.specs.declared.pair.Pair.TheVariants.{Tile}
-use Rattle.dd_model.specs.Code.{code}
-use Rattle.dd_branch.specs.Place.{HasPlaces}
+use Rattle.std.proofs.Common.{ℕ, ◌<◌, length, get_or, sym, ap, subst, arith}
+use Rattle.dd_branch.specs.Assignment.{HasLimits, IsAssignment}
+use Rattle.dd_canon.specs.Ties.{AreTies}
+use Rattle.dd_branch.specs.Place.{ArePlaces}
 use Rattle.dd_branch.specs.Rests.{AreRests}
-use Rattle.dd_branch.specs.Assignment.{IsSound, prefix_of}
 use Rattle.dd_branch.specs.declared.assignment.Assignment.{Assignment}
 use Rattle.dd_branch.specs.declared.places.Place.{Place}
-use Rattle.dd_branch.proofs.Beginnings.{beginning, sound_places, both_lengths}
+use Rattle.dd_invol.specs.Table.{IsBareTable}
+use Rattle.dd_branch.proofs.Beginnings.{at_root_first, begun, both_places}
+use Rattle.dd_branch.proofs.Chosen.{IsSound, sound_places}
 use Rattle.dd_branch.proofs.assignment.Assignment.new.Goals as goal
-use Rattle.dd_branch.proofs.assignment.Assignment.new.Goals.{After-as_slice}
+use Rattle.dd_branch.proofs.assignment.Assignment.new.Goals.{After-as_slice, After-new}
 
--- the places of the tiles
-tiles : (c : After-as_slice) → HasPlaces c.args.table.now c.args.q.now.faces Tile [] c.add_places.new.places.items
-tiles c = subst (λ old. HasPlaces c.args.table.now c.args.q.now.faces Tile old c.add_places.new.places.items) c.new-places.ensures c.add_places.ensures
-
-long : (c : After-as_slice) → length c.as_slice.result.now ≡ 2 * c.args.table.now.size
-long c = ap length c.as_slice.ensures.value ∙ both_lengths c.args.q.now c.args.table.now c.add_places.new.places.items c.add_places-2.new.places.items (tiles c) c.add_places-2.ensures
+places_of : (c : After-as_slice) → ArePlaces c.args.q.now c.args.table.now c.add_places-2.new.places.items
+places_of c = both_places c.args.q.now c.args.table.now c.new-places.result.items c.add_places.new.places.items c.add_places-2.new.places.items c.new-places.ensures c.add_places.ensures c.add_places-2.ensures
 
 sound : (c : After-as_slice) (j : ℕ) (x : Place) → j < length c.as_slice.result.now → IsSound j (get_or c.as_slice.result.now j x)
 sound c j x low =
-    let all = long c in
+    let are = places_of c in
+    let count = are.count in
+    let all = ap length c.as_slice.ensures.value in
     subst (λ xs. IsSound j (get_or xs j x)) (sym c.as_slice.ensures.value)
-    (sound_places c.args.q.now c.args.table.now c.add_places.new.places.items c.add_places-2.new.places.items (tiles c) c.add_places-2.ensures j (omega (arith, low, all)) x)
-
-pub of-requires-clause-few : goal.of-requires-clause-few
-of-requires-clause-few c = let all = long c in let small = c.requires in omega (arith, all, small)
+    (sound_places c.args.q.now c.args.table.now c.add_places-2.new.places.items c.requires.table.symbol.table.involutions are j x (omega (arith, low, count, all)))
 
 pub of-requires-clause-most : goal.of-requires-clause-most
-of-requires-clause-most c j x low = (sound c j x low).most
+of-requires-clause-most c j x low = let s = sound c j x low in let few = s.sides in let up = s.most in omega (arith, few, up)
 
 pub of-requires-clause-least : goal.of-requires-clause-least
-of-requires-clause-least c j x low = (sound c j x low).least
+of-requires-clause-least c j x low = let s = sound c j x low in let few = s.sides in let up = s.least in omega (arith, few, up)
 
-pub returns : goal.returns
-returns c =
-    let t = c.args.table.now in
-    let q = c.args.q.now in
-    let same = c.symbol-symbol.ensures.same in
-    let tiles : HasPlaces t q.faces Tile [] c.add_places.new.places.items = subst (λ old. HasPlaces t q.faces Tile old c.add_places.new.places.items) c.new-places.ensures c.add_places.ensures in
-    let a : Assignment = record { alloc = c.args.alloc; request = q; size = c.size.result; reciprocals = c.reciprocals.result; places = c.add_places-2.new.places; rests = c.of.result; prefix = c.in_ok-prefix.prefix; sums = c.push.new.self } in
-    let rests : AreRests a.places.items a.rests = subst (λ xs. AreRests xs a.rests) c.as_slice.ensures.value c.of.ensures in
-    let sums : a.sums.items ≡ 0 ∷ [] = c.push.ensures.items ∙ ap (λ xs. xs ++ 0 ∷ []) c.new-sums.ensures in
-    let front : prefix_of a ≡ take (3 * t.size) (code t) = c.in_ok-prefix.ensures ∙ ap (λ s. take (3 * s.size) (code s)) same in
-    beginning q t c.symbol-symbol.ensures.symbol.symbol c.requires a refl (c.size.ensures.size ∙ ap (λ s. s.size) same)
-    front c.reciprocals.ensures rests sums c.add_places.new.places.items tiles c.add_places-2.ensures
+ready : (c : After-new) → IsAssignment (record { alloc = c.args.alloc; request = c.args.q.now; table = c.in_ok-try_copy.field-0; ties = c.args.ties; places = c.add_places-2.new.places; rests = c.of.result; degrees = c.new.result })
+ready c =
+    let a : Assignment = record { alloc = c.args.alloc; request = c.args.q.now; table = c.in_ok-try_copy.field-0; ties = c.args.ties; places = c.add_places-2.new.places; rests = c.of.result; degrees = c.new.result } in
+    let same = sym c.in_ok-try_copy.ensures in
+    begun a (subst IsBareTable same c.requires.table) (subst (HasLimits c.args.q.now) same c.requires.limits) (subst (λ t. AreTies t c.args.ties.items) same c.requires.ties)
+    (subst (λ t. ArePlaces c.args.q.now t c.add_places-2.new.places.items) same (both_places c.args.q.now c.args.table.now c.new-places.result.items c.add_places.new.places.items c.add_places-2.new.places.items c.new-places.ensures c.add_places.ensures c.add_places-2.ensures)) (subst (λ xs. AreRests xs c.of.result) c.as_slice.ensures.value c.of.ensures) c.new.ensures
+
+pub returns-clause-ready : goal.returns-clause-ready
+returns-clause-ready c = ready c
+
+pub returns-clause-root : goal.returns-clause-root
+returns-clause-root c =
+    let a : Assignment = record { alloc = c.args.alloc; request = c.args.q.now; table = c.in_ok-try_copy.field-0; ties = c.args.ties; places = c.add_places-2.new.places; rests = c.of.result; degrees = c.new.result } in
+    at_root_first a (ready c) c.new.ensures

@@ -32,10 +32,10 @@ loop-place-preserved c =
       most_numbers = length-set most _ _ ∙ most_numbers;
       least_numbers = length-set least _ _ ∙ least_numbers;
       inside = omega (arith, inside);
-      no_most = end_kept (λ p. p.most) places _ most k some inside old.no_most;
-      no_least = end_kept (λ p. p.least) places _ least k some inside old.no_least;
-      most_small = still_small (λ p. p.most) places _ most k some inside (omega (arith, few, most_numbers)) c.requires.most old.most_small;
-      least_small = still_small (λ p. p.least) places _ least k some inside (omega (arith, few, least_numbers)) c.requires.least old.least_small;
-      each_most = one_more (λ p. p.most) places _ most k some inside (omega (arith, few, most_numbers)) old.each_most;
-      each_least = one_more (λ p. p.least) places _ least k some inside (omega (arith, few, least_numbers)) old.each_least;
+      no_most = end_kept (λ p. p.most) places _ most k _ c.from.ensures some inside old.no_most;
+      no_least = end_kept (λ p. p.least) places _ least k _ c.from-in-loop-place.ensures some inside old.no_least;
+      most_small = still_small (λ p. p.most) places _ most k _ c.from.ensures some inside (omega (arith, few, most_numbers)) c.requires.most old.most_small;
+      least_small = still_small (λ p. p.least) places _ least k _ c.from-in-loop-place.ensures some inside (omega (arith, few, least_numbers)) c.requires.least old.least_small;
+      each_most = one_more (λ p. p.most) places _ most k _ c.from.ensures some inside (omega (arith, few, most_numbers)) old.each_most;
+      each_least = one_more (λ p. p.least) places _ least k _ c.from-in-loop-place.ensures some inside (omega (arith, few, least_numbers)) old.each_least;
     }

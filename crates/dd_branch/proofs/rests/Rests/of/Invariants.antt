@@ -1,6 +1,5 @@
 use Rattle.std.proofs.Common.{◌≡◌, ℕ, ◌+◌, ◌-◌, ◌*◌, ◌<◌, ◌≤◌, length, get_or}
 use Rattle.dd_branch.specs.declared.places.Place.{Place}
-use Rattle.dd_branch.specs.Reciprocals.{degree_unit}
 use Rattle.dd_branch.proofs.rests.Rests.of.Given as goal
 
 abbrev pub invariant-loop-place : goal.invariant-loop-place
@@ -10,8 +9,8 @@ invariant-loop-place l = record {
   inside : l.place ≤ length l.places;
   no_most : get_or l.most (length l.places) 0 ≡ 0;
   no_least : get_or l.least (length l.places) 0 ≡ 0;
-  most_small : get_or l.most l.place 0 ≤ (length l.places - l.place) * degree_unit;
-  least_small : get_or l.least l.place 0 ≤ (length l.places - l.place) * degree_unit;
+  most_small : get_or l.most l.place 0 ≤ (length l.places - l.place) * 24;
+  least_small : get_or l.least l.place 0 ≤ (length l.places - l.place) * 24;
   each_most : (j : ℕ) (x : Place) → l.place ≤ j → j < length l.places → get_or l.most j 0 ≡ get_or l.most (j + 1) 0 + (get_or l.places j x).most;
   each_least : (j : ℕ) (x : Place) → l.place ≤ j → j < length l.places → get_or l.least j 0 ≡ get_or l.least (j + 1) 0 + (get_or l.places j x).least;
 }

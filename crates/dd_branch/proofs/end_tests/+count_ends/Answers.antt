@@ -1,0 +1,103 @@
+use Rattle.std.proofs.Common.{◌≡◌, ◌+◌, ◌*◌, ◌/◌, ◌<◌, refl, sym, ap, ◌∙◌, subst, arith}
+use Rattle.dd_branch.specs.Assignment.{IsAssignment, IsAtRoot, next_place, shortened, told}
+use Rattle.dd_branch.specs.Entered.{HasBudget, HasEntered}
+use Rattle.dd_branch.specs.Choice.{IsChoice}
+use Rattle.dd_branch.specs.declared.assignment.Assignment.{Assignment}
+use Rattle.dd_branch.specs.declared.places.Place.{Place}
+use Rattle.dd_branch.proofs.Advancing.{budget_more, degree_small, part_small, room_here, with_list}
+use Rattle.dd_branch.proofs.end_tests.+count_ends.Goals as goal
+use Rattle.dd_branch.proofs.end_tests.+count_ends.Goals.{then-may_stand, else-may_stand}
+
+pub loop-value-init : goal.loop-value-init
+loop-value-init t c =
+    let a = c.args.search.now in
+    let room = room_here a c.len-next.result c.len.result c.requires.ready c.if-next-len.false c.len-next.ensures.value c.len.ensures.value in
+    record { same = refl }
+
+pub may_stand-requires-clause-ready : goal.may_stand-requires-clause-ready
+may_stand-requires-clause-ready t c = subst IsAssignment (sym c.loop-value.invariant.same) c.requires.ready
+
+pub may_stand-requires-clause-room : goal.may_stand-requires-clause-room
+may_stand-requires-clause-room t c =
+    subst (λ (x : Assignment). told x < 2 * x.table.size) (sym c.loop-value.invariant.same)
+    (room_here c.args.search.now c.len-next.result c.len.result c.requires.ready c.if-next-len.false c.len-next.ensures.value c.len.ensures.value)
+
+pub may_stand-requires-clause-root : goal.may_stand-requires-clause-root
+may_stand-requires-clause-root t c = subst IsAtRoot (sym c.loop-value.invariant.same) c.requires.root
+
+pub may_stand-requires-clause-budget : goal.may_stand-requires-clause-budget
+may_stand-requires-clause-budget t c = subst (λ x. HasBudget x c.args.sum) (sym c.loop-value.invariant.same) c.requires.budget
+
+pub overflow_mul-value : goal.overflow_mul-value
+overflow_mul-value t c =
+    let a = c.args.search.now in
+    let room = room_here a c.len-next.result c.len.result c.requires.ready c.if-next-len.false c.len-next.ensures.value c.len.ensures.value in
+    let test = c.loop-value-test.true in
+    let small = degree_small a c.loop-value.value c.requires.ready room (omega (arith, test)) in
+    let same = ap (λ (x : Place). c.loop-value.value * x.turns) c.next_place-place.ensures in
+    omega (arith, small, same)
+
+pub enter-requires-clause-ready : goal.enter-requires-clause-ready
+enter-requires-clause-ready t c = subst IsAssignment (sym c.loop-value.invariant.same) c.requires.ready
+
+pub enter-requires-clause-room : goal.enter-requires-clause-room
+enter-requires-clause-room t c =
+    subst (λ (x : Assignment). told x < 2 * x.table.size) (sym c.loop-value.invariant.same)
+    (room_here c.args.search.now c.len-next.result c.len.result c.requires.ready c.if-next-len.false c.len-next.ensures.value c.len.ensures.value)
+
+pub enter-requires-clause-root : goal.enter-requires-clause-root
+enter-requires-clause-root t c = subst IsAtRoot (sym c.loop-value.invariant.same) c.requires.root
+
+pub enter-requires-clause-tile : goal.enter-requires-clause-tile
+enter-requires-clause-tile t c low =
+    let place : c.next_place-place.result ≡ next_place c.loop-value.search = c.next_place-place.ensures ∙ ap next_place (sym c.loop-value.invariant.same) in
+    subst (λ (x : Place). IsChoice c.loop-value.search.request.faces (next_place c.loop-value.search).turns (c.loop-value.value * x.turns)) (sym place) (c.if-may_stand.ensures.tile low)
+
+pub enter-requires-clause-vertex : goal.enter-requires-clause-vertex
+enter-requires-clause-vertex t c high =
+    let place : c.next_place-place.result ≡ next_place c.loop-value.search = c.next_place-place.ensures ∙ ap next_place (sym c.loop-value.invariant.same) in
+    subst (λ (x : Place). IsChoice c.loop-value.search.request.degrees (next_place c.loop-value.search).turns (c.loop-value.value * x.turns)) (sym place) (c.if-may_stand.ensures.vertex high)
+
+pub overflow_mul-place : goal.overflow_mul-place
+overflow_mul-place t c =
+    let a = c.args.search.now in
+    let room = room_here a c.len-next.result c.len.result c.requires.ready c.if-next-len.false c.len-next.ensures.value c.len.ensures.value in
+    let small = part_small a c.loop-value.value c.requires.ready room in
+    let same = ap (λ (x : Place). x.sides * (12 / c.loop-value.value)) c.next_place-place.ensures in
+    omega (arith, small, same)
+
+pub count_ends-requires : goal.count_ends-requires
+count_ends-requires t c =
+    let a = c.args.search.now in
+    let b = c.enter.new.self in
+    let v = c.loop-value.value in
+    let same = c.loop-value.invariant.same in
+    let place : c.next_place-place.result ≡ next_place c.loop-value.search = c.next_place-place.ensures ∙ ap next_place (sym same) in
+    let room = room_here a c.len-next.result c.len.result c.requires.ready c.if-next-len.false c.len-next.ensures.value c.len.ensures.value in
+    let is = subst IsAssignment (sym same) c.requires.ready in
+    let room' = subst (λ (x : Assignment). told x < 2 * x.table.size) (sym same) room in
+    let budget = subst (λ x. HasBudget x c.args.sum) (sym same) c.requires.budget in
+    let entered = subst (λ (x : Place). HasEntered c.loop-value.search (v * x.turns) b) place c.enter.ensures.entered in
+    let part : c.from-part.result ≡ (next_place c.loop-value.search).sides * (12 / v) = c.from-part.ensures ∙ ap (λ (x : Place). x.sides * (12 / v)) place in
+    let more = budget_more c.loop-value.search b v c.args.sum is room' budget entered c.if-may_stand.ensures.enough c.if-may_stand.ensures.room in
+    let longer = entered.longer in
+    let size = ap (λ (x : Assignment). x.table.size) (entered.back ∙ same) in
+    let start = ap told same in
+    (omega (arith, longer, size, start, room), (c.enter.ensures.ready, (c.enter.ensures.root, subst (λ p. HasBudget b (c.args.sum + p)) (sym part) more)))
+
+pub loop-value-preserved : goal.loop-value-preserved
+loop-value-preserved t c =
+    let a = c.args.search.now in
+    let v = c.loop-value.value in
+    let i = c.loop-value.invariant in
+    elim c.if-may_stand.branch [
+      | then-may_stand w ↦
+          let m = v * c.next_place-place.result.turns in
+          let entered = subst (λ x. HasEntered x m w.enter.new.self) i.same w.enter.ensures.entered in
+          let back : shortened w.enter.new.self c.len-next.result ≡ a = ap (shortened w.enter.new.self) c.len-next.ensures.value ∙ entered.back in
+          record { same = w.search-is ∙ ap (λ xs. with_list w.count_ends.new.search xs) w.truncate.ensures.items ∙ ap (λ x. shortened x c.len-next.result) w.count_ends.ensures ∙ back }
+      | else-may_stand w ↦ record { same = w.search-is ∙ i.same }
+    ]
+
+pub returns : goal.returns
+returns t c = c.loop-value.invariant.same

@@ -1,0 +1,30 @@
+-- How a search for the degrees of a table goes on.
+use Rattle.std.specs.Prelude.{◌≡◌, ◌↔◌, ℕ, ◌+◌, ◌*◌, ◌<◌, ◌≤◌, [], ◌∷◌, ◌++◌, slice_index}
+use Rattle.dd_model.specs.Symbol.{Symbol}
+use Rattle.dd_branch.specs.Assignment.{IsMemberUnder, next_place, prefix_of, shortened, spent_by, told}
+use Rattle.dd_branch.specs.Budget.{twelfths}
+use Rattle.dd_branch.specs.declared.assignment.Assignment.{Assignment}
+
+-- the budget that is left can be spent by the degrees that are left
+pub record HasBudget (a : Assignment) (sum : ℕ) : Type 0 where
+  pub spent : sum ≡ spent_by a
+  pub enough : 6 * a.table.size ≤ sum + slice_index a.rests.most (told a)
+  pub room : sum + slice_index a.rests.least (told a) ≤ 6 * a.table.size
+
+-- The degrees that follow from those that are told were told too, and nothing else changed.
+pub record HasForced (old new : Assignment) : Type 0 where
+  pub back : shortened new (told old) ≡ old
+  pub longer : told old ≤ told new
+  pub under : (s : Symbol) → IsMemberUnder old (prefix_of old) s ↔ IsMemberUnder new (prefix_of new) s
+  pub spent : spent_by new ≡ spent_by old
+  pub most : slice_index new.rests.most (told new) ≡ slice_index old.rests.most (told old)
+  pub least : slice_index new.rests.least (told new) ≡ slice_index old.rests.least (told old)
+
+-- A degree was told, with those that follow.
+pub record HasEntered (old : Assignment) (degree : ℕ) (new : Assignment) : Type 0 where
+  pub back : shortened new (told old) ≡ old
+  pub longer : told old < told new
+  pub under : (s : Symbol) → IsMemberUnder old (prefix_of old ++ degree ∷ []) s ↔ IsMemberUnder new (prefix_of new) s
+  pub spent : spent_by new ≡ spent_by old + twelfths (next_place old) degree
+  pub most : slice_index new.rests.most (told new) ≡ slice_index old.rests.most (told old + 1)
+  pub least : slice_index new.rests.least (told new) ≡ slice_index old.rests.least (told old + 1)
