@@ -3,16 +3,18 @@ use Rattle.std.proofs.Common.{◌≡◌, ◌-◌, List, [], ◌∷◌, ◌++◌,
 use Rattle.std.proofs.Math.Seq.{take-nil}
 use Rattle.std.specs.List.{AllByRecursion}
 use Rattle.dd_model.specs.Symbol.{Symbol}
+use Rattle.dd_model.specs.Request.{IsValid}
 use Rattle.dd_model.specs.declared.requests.Request.{Request}
 use Rattle.dd_model.specs.declared.jobs.Job.{Job}
 use Rattle.dd_front.specs.declared.event.Event.{Event}
 use Rattle.dd_front.specs.declared.event.Event.TheVariants.{Take, Look, Split, Finish, Back, Emit, Part, Save, Resume}
 use Rattle.dd_front.specs.Machine.{Machine, IsOpened}
 use Rattle.dd_front.specs.Allowed.{IsAllowed}
+use Rattle.dd_front.specs.Held.{IsHeld}
 use Rattle.dd_front.specs.Step.{IsStep, IsNext, IsRun, out_after}
 use Rattle.dd_front.proofs.Holding.{held_first}
 use Rattle.dd_front.proofs.Runs.{run_held}
-use Rattle.dd_board.specs.Desk.{IsDesk, IsCall, AreShort, first_place}
+use Rattle.dd_board.specs.Desk.{IsDesk, IsCall, AreJobsOf, first_place}
 
 -- a run goes on by one event
 pub run_more : (f g h : Machine) (out last emitted : List Symbol) (es : List Event) (e : Event) → IsRun f out es g last → IsNext g e h emitted
@@ -55,7 +57,8 @@ all_more (d ∷ es) e all call = (all.0, all_more es e all.1 call)
 pub desk_more : (q : Request) (jobs : List Job) (f g : Machine) (log : List Event) (e : Event) → IsDesk q jobs f log → IsCall e → IsNext f e g []
     → IsDesk q jobs g (log ++ e ∷ [])
 desk_more q jobs f g log e desk call next = record {
-  short = desk.short;
+  valid = desk.valid;
+  jobs_of = desk.jobs_of;
   start = desk.start;
   opened = desk.opened;
   calls = desk.calls ++ e ∷ [];
@@ -65,12 +68,13 @@ desk_more q jobs f g log e desk call next = record {
 }
 
 -- a desk begins with a resumption
-pub desk_first : (q : Request) (jobs : List Job) (f g : Machine) → AreShort jobs → IsOpened q jobs (first_place jobs) 0 f → ((emitted : List Symbol) × IsStep f Resume g emitted)
+pub desk_first : (q : Request) (jobs : List Job) (f g : Machine) → IsValid q → AreJobsOf q jobs → IsOpened q jobs (first_place jobs) 0 f → ((emitted : List Symbol) × IsStep f Resume g emitted)
     → IsDesk q jobs g (Resume ∷ [])
-desk_first q jobs f g short opened (emitted, step) =
+desk_first q jobs f g valid of opened (emitted, step) =
     let next : IsNext f Resume g emitted = record { allowed = tt; step = step } in
     record {
-      short = short;
+      valid = valid;
+      jobs_of = of;
       start = f;
       opened = opened;
       calls = [];
@@ -79,6 +83,10 @@ desk_first q jobs f g short opened (emitted, step) =
       run = (g, emitted, next, (refl, sym (take-nil (f.saved.lines - f.opened))));
     }
 
+-- what a machine holds at all times
+pub desk_held : (q : Request) (jobs : List Job) (f : Machine) (log : List Event) → IsDesk q jobs f log → IsHeld q jobs (first_place jobs) f []
+desk_held q jobs f log desk = run_held q jobs (first_place jobs) desk.start f [] [] log (held_first q jobs (first_place jobs) 0 desk.start desk.opened) desk.run
+
 -- the machine of a desk is one for its request
 pub desk_request : (q : Request) (jobs : List Job) (f : Machine) (log : List Event) → IsDesk q jobs f log → f.request ≡ q
-desk_request q jobs f log desk = (run_held q jobs (first_place jobs) desk.start f [] [] log (held_first q jobs (first_place jobs) 0 desk.start desk.opened) desk.run).request
+desk_request q jobs f log desk = (desk_held q jobs f log desk).request

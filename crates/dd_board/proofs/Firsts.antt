@@ -1,7 +1,9 @@
 -- The first entry that is open.
-use Rattle.std.proofs.Common.{◌≢◌, ℕ, List, ◌∷◌, Option, Some, None, MatchOption, IfSome, sym, ap, subst}
+use Rattle.std.proofs.Common.{◌≢◌, ◌≤◌, ℕ, List, ◌∷◌, Option, Some, None, MatchOption, IfSome, sym, ap, subst}
 use Rattle.std.proofs.lemmas.List.Elements.{Contains-append_right}
 use Rattle.std.specs.List.{AllByRecursion, Contains}
+use Rattle.dd_model.specs.Jobs.{IsJobOf}
+use Rattle.dd_model.specs.declared.requests.Request.{Request}
 use Rattle.dd_model.proofs.Lists.{each_of, Contains-head}
 use Rattle.dd_front.specs.declared.entry.Entry.{Entry}
 use Rattle.dd_front.specs.declared.entry.State.TheVariants.{Open}
@@ -9,7 +11,9 @@ use Rattle.dd_front.specs.declared.event.Event.TheVariants.{Take, Look}
 use Rattle.dd_front.specs.Machine.{Machine, entry_of}
 use Rattle.dd_front.specs.Allowed.{IsAllowed}
 use Rattle.dd_front.specs.Rounds.{IsFirstOpen}
-use Rattle.dd_board.specs.Desk.{IsShort, HaveShortJobs}
+use Rattle.dd_front.specs.Numbers.{AreNumbered}
+use Rattle.dd_front.proofs.Entries.{range_of}
+use Rattle.dd_board.specs.Desk.{HaveJobsOf}
 
 first_stands : (es : List Entry) (e : Entry) → IsFirstOpen es e → Contains es e
 first_stands es e first = subst (λ ds. Contains ds e) (sym first.parts) (Contains-append_right first.before (e ∷ first.after) e (Contains-head e first.after))
@@ -26,11 +30,17 @@ may_take f worker e first = record { job = e.job; stands = first_stands f.entrie
 pub may_look : (f : Machine) (worker : ℕ) → AllByRecursion (λ e. e.state ≢ Open) f.entries → IsAllowed f (Look worker)
 may_look f worker none e there = each_of (λ (d : Entry). d.state ≢ Open) f.entries e none there
 
-first_short : (es : List Entry) (e : Entry) → HaveShortJobs es → IsFirstOpen es e → IsShort e.job
-first_short es e all first = each_of (λ (d : Entry). IsShort d.job) es e all (first_stands es e first)
+first_of : (q : Request) (es : List Entry) (e : Entry) → HaveJobsOf q es → IsFirstOpen es e → IsJobOf q e.job
+first_of q es e all first = each_of (λ (d : Entry). IsJobOf q d.job) es e all (first_stands es e first)
 
--- its job has a short prefix
-pub found_short : {A : Type 0} (entry : A → Entry) (es : List Entry) (found : Option A) → HaveShortJobs es
-    → MatchOption found (AllByRecursion (λ e. e.state ≢ Open) es) (λ a. IsFirstOpen es (entry a)) → IfSome found (λ a. IsShort (entry a).job)
-found_short entry es None all none = tt
-found_short entry es (Some a) all first = first_short es (entry a) all first
+-- its job is one of the request
+pub found_of : {A : Type 0} (q : Request) (entry : A → Entry) (es : List Entry) (found : Option A) → HaveJobsOf q es
+    → MatchOption found (AllByRecursion (λ e. e.state ≢ Open) es) (λ a. IsFirstOpen es (entry a)) → IfSome found (λ a. IsJobOf q (entry a).job)
+found_of q entry es None all none = tt
+found_of q entry es (Some a) all first = first_of q es (entry a) all first
+
+-- its number is positive
+pub found_numbered : {A : Type 0} (next : ℕ) (entry : A → Entry) (es : List Entry) (found : Option A) → AreNumbered next es
+    → MatchOption found (AllByRecursion (λ e. e.state ≢ Open) es) (λ a. IsFirstOpen es (entry a)) → IfSome found (λ a. 1 ≤ (entry a).number)
+found_numbered next entry es None numbered none = tt
+found_numbered next entry es (Some a) numbered first = (range_of next es numbered (entry a) (first_stands es (entry a) first)).0

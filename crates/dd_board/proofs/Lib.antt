@@ -2,5 +2,6 @@ pub mod Desks
 mod Firsts
 mod Numbers
 mod Seated
-mod Shortness
-mod Openings
+mod ValidRequests
+mod JobsOf
+pub mod Openings

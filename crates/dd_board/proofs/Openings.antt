@@ -1,5 +1,5 @@
 -- At first all jobs of a round are open.
-use Rattle.std.proofs.Common.{◌≡◌, ◌⊎◌, inl, inr, ⊎_elim, ℕ, ◌+◌, List, [], ◌∷◌, length, refl, sym, ◌∙◌, ap, subst}
+use Rattle.std.proofs.Common.{◌≡◌, inl, inr, List, [], ◌∷◌, refl, ◌∙◌, ap, subst}
 use Rattle.std.specs.List.{AllByRecursion}
 use Rattle.dd_model.specs.Symbol.{Symbol}
 use Rattle.dd_model.specs.Lists.{IsWithout}
@@ -8,7 +8,7 @@ use Rattle.dd_model.specs.Jobs.{IsJobBelow, AreAscendingJobs}
 use Rattle.dd_model.specs.declared.requests.Request.{Request}
 use Rattle.dd_model.specs.declared.jobs.Job.{Job}
 use Rattle.dd_model.specs.declared.jobs.Position.{Position}
-use Rattle.dd_model.specs.declared.jobs.Position.TheVariants.{At, End}
+use Rattle.dd_model.specs.declared.jobs.Position.TheVariants.{At}
 use Rattle.dd_model.proofs.Differing.{smaller_less}
 use Rattle.dd_model.proofs.Orders.{nat_cmp-less, nat_cmp-same, job_cmp_total, job_not_below_itself}
 use Rattle.dd_model.proofs.Without.{without_none, without_unique}

@@ -1,5 +1,5 @@
 -- What the calls of workers do to a desk.
-use Rattle.std.specs.Prelude.{◌≡◌, ◌≢◌, ◌⊎◌, ℕ, ◌+◌, ◌<◌, ◌^◌, List, [], ◌∷◌, ◌++◌, length}
+use Rattle.std.specs.Prelude.{◌≡◌, ◌≢◌, ◌⊎◌, ℕ, ◌+◌, ◌<◌, ◌≤◌, ◌^◌, List, [], ◌∷◌, ◌++◌, length}
 use Rattle.std.specs.List.{AllByRecursion, Contains}
 use Rattle.dd_model.specs.Symbol.{Symbol}
 use Rattle.dd_model.specs.declared.jobs.Job.{Job}
@@ -23,6 +23,7 @@ pub record Books (event : Event) (old new : DeskView) : Type 0 where
 
 -- the first entry that was open had this number and this job, and is given out
 pub record TakesFirst (worker k : ℕ) (job : Job) (old new : DeskView) : Type 0 where
+  pub positive : 1 ≤ k
   pub first : IsFirstOpen old.machine.entries (entry_of k job Open)
   pub books : Books (Take worker k) old new
 

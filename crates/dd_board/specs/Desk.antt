@@ -1,6 +1,8 @@
 -- What a desk shows, and what holds of it at all times.
-use Rattle.std.specs.Prelude.{◌≡◌, ◌*◌, ◌≤◌, List, [], ◌∷◌, length}
+use Rattle.std.specs.Prelude.{◌≡◌, List, [], ◌∷◌}
 use Rattle.std.specs.List.{AllByRecursion}
+use Rattle.dd_model.specs.Request.{IsValid}
+use Rattle.dd_model.specs.Jobs.{IsJobOf}
 use Rattle.dd_model.specs.declared.requests.Request.{Request}
 use Rattle.dd_model.specs.declared.jobs.Job.{Job}
 use Rattle.dd_model.specs.declared.jobs.Position.{Position}
@@ -21,17 +23,13 @@ abbrev pub first_place : List Job → Position
 first_place [] = End
 first_place (job ∷ jobs) = At job
 
--- the prefix has no more numbers than a code has images
-abbrev pub IsShort : Job → Type 0
-IsShort job = length job.prefix ≤ 3 * job.size
-
--- each job is
-abbrev pub AreShort : List Job → Type 0
-AreShort jobs = AllByRecursion IsShort jobs
+-- each job is one of a search for the request
+abbrev pub AreJobsOf : Request → List Job → Type 0
+AreJobsOf q jobs = AllByRecursion (IsJobOf q) jobs
 
 -- the job of each entry is
-abbrev pub HaveShortJobs : List Entry → Type 0
-HaveShortJobs es = AllByRecursion (λ e. IsShort e.job) es
+abbrev pub HaveJobsOf : Request → List Entry → Type 0
+HaveJobsOf q es = AllByRecursion (λ e. IsJobOf q e.job) es
 
 -- what the calls of workers book
 abbrev pub IsCall : Event → Type 0
@@ -45,10 +43,11 @@ IsCall (Part count) = ⊥
 IsCall Save = ⊥
 IsCall Resume = ⊥
 
--- The log is one resumption and then calls, and it is a run of the machine from the opening of these jobs to this one. It
--- emits nothing.
+-- The request is valid and the jobs are its own. The log is one resumption and then calls, and it is a run of the machine
+-- from the opening of these jobs to this one. It emits nothing.
 pub record IsDesk (q : Request) (jobs : List Job) (f : Machine) (log : List Event) : Type 0 where
-  pub short : AreShort jobs
+  pub valid : IsValid q
+  pub jobs_of : AreJobsOf q jobs
   pub start : Machine
   pub opened : IsOpened q jobs (first_place jobs) 0 start
   pub calls : List Event

@@ -2,7 +2,7 @@ ghost use Rattle.std.specs.Prelude.{◌≡◌, ◌≤◌, ◌<◌, length, map, 
 ghost use Rattle.dd_model.specs.Code.{count_from};
 ghost use Rattle.dd_model.specs.Request.{IsValid};
 ghost use Rattle.dd_model.specs.Jobs.{AreAscendingJobs, AreApart, AreMembersUnder, AreChildren};
-ghost use Rattle.dd_board.specs.Desk.{AreShort};
+ghost use Rattle.dd_board.specs.Desk.{AreJobsOf};
 ghost use Rattle.dd_board.specs.Ledgers.{CountsTaken, CountsSplit, CountsFinish, CountsBack};
 ghost use Rattle.dd_board.specs.Ledgers.{takes_in, looks_in, splits_in, finishes_in, backs_in};
 ghost use Rattle.dd_board.specs.Seats.{HaveSums};
@@ -17,14 +17,17 @@ use crate::ticket::{Taken, Ticket};
 use dd_model::{Job, Memory, Request};
 use dd_symbol::Connected;
 use std::alloc::Global;
+use std::sync::atomic::{AtomicU64, Ordering};
 use std::sync::ledger::Ledger;
 use std::sync::{Mutex, Wait};
 
 /// The desk of a round behind a lock, with a seat for each of its workers. The type parameters
-/// name the round and the five ledgers of its calls.
+/// name the round and the five ledgers of its calls. How many jobs wait is also counted beside the
+/// lock, as a hint that no clause reads.
 #[derive(Drop)]
 pub struct Board<N: Naming, K: Ledger, L: Ledger, S: Ledger, D: Ledger, B: Ledger> {
     counted: Mutex<Counted<N, K, L, S, D, B>>,
+    waiting: AtomicU64,
 }
 
 impl<N: Naming, K: Ledger, L: Ledger, S: Ledger, D: Ledger, B: Ledger> Board<N, K, L, S, D, B> {
@@ -41,7 +44,7 @@ impl<N: Naming, K: Ledger, L: Ledger, S: Ledger, D: Ledger, B: Ledger> Board<N, 
         requires valid { IsValid q.now }
         requires ascending { AreAscendingJobs jobs.items }
         requires apart { AreApart jobs.items }
-        requires short { AreShort jobs.items }
+        requires all { AreJobsOf q.now jobs.items }
         requires seats { (1 ≤ seats) × (seats ≤ 64) }
         requires take { (blanks.take.name ≡ K.name) × (blanks.take.parts ≡ K.parts)
             × (K.parts ≡ seats) }
@@ -59,10 +62,12 @@ impl<N: Naming, K: Ledger, L: Ledger, S: Ledger, D: Ledger, B: Ledger> Board<N, 
         ensures sums { IfOk result (λ made. HaveSums made.1.items 0 0 0 0 0) }
     {
         let (books, shares) = Books::open(blanks);
+        let waiting = AtomicU64::new(jobs.len() as u64);
         let desk = Desk::open(alloc, *q, jobs)?;
         let seats = seats_of(alloc, shares, seats)?;
         let board = Board {
             counted: Mutex::new(Counted { desk, books }),
+            waiting,
         };
         Ok((board, seats))
     }
@@ -71,7 +76,16 @@ impl<N: Naming, K: Ledger, L: Ledger, S: Ledger, D: Ledger, B: Ledger> Board<N, 
     pub fn take<R: Wait>(&self, rt: &R, seat: &mut Seat<K, L, S, D, B>) -> Result<Taken<N>, Memory>
         ensures { CountsTaken seat.old seat.new result }
     {
-        self.counted.lock(rt).take(seat)
+        let taken = self.counted.lock(rt).take(seat)?;
+        if matches!(&taken, Taken::Job(_)) {
+            self.waiting.fetch_sub(1, Ordering::SeqCst);
+        }
+        Ok(taken)
+    }
+
+    /// About how many jobs are open. Nothing rests on it: others may take and split meanwhile.
+    pub fn waiting(&self) -> u64 {
+        self.waiting.load(Ordering::SeqCst)
     }
 
     /// Puts the jobs in the place of the ticket's. `Err` comes for want of memory alone, and has
@@ -87,7 +101,10 @@ impl<N: Naming, K: Ledger, L: Ledger, S: Ledger, D: Ledger, B: Ledger> Board<N, 
         ensures counts { CountsSplit seat.old seat.new result }
         ensures ticket { IfErr result (λ back. back ≡ ticket) }
     {
-        self.counted.lock(rt).split(seat, ticket, jobs)
+        let count = jobs.len() as u64;
+        self.counted.lock(rt).split(seat, ticket, jobs)?;
+        self.waiting.fetch_add(count, Ordering::SeqCst);
+        Ok(())
     }
 
     /// Books what was found under the ticket's job. `Err` comes for want of memory alone, and has
@@ -117,7 +134,9 @@ impl<N: Naming, K: Ledger, L: Ledger, S: Ledger, D: Ledger, B: Ledger> Board<N, 
         ensures counts { CountsBack seat.old seat.new result }
         ensures ticket { IfErr result (λ back. back ≡ ticket) }
     {
-        self.counted.lock(rt).back(seat, ticket)
+        self.counted.lock(rt).back(seat, ticket)?;
+        self.waiting.fetch_add(1, Ordering::SeqCst);
+        Ok(())
     }
 
     /// The desk, for all seats. Its log has as many events of each kind as the seats have
@@ -130,7 +149,7 @@ impl<N: Naming, K: Ledger, L: Ledger, S: Ledger, D: Ledger, B: Ledger> Board<N, 
         ensures { HaveSums seats.items (takes_in result.log) (looks_in result.log)
             (splits_in result.log) (finishes_in result.log) (backs_in result.log) }
     {
-        let Board { counted } = self;
+        let Board { counted, .. } = self;
         let mut shares = all_shares(seats);
         counted.into_inner().close(&mut shares)
     }

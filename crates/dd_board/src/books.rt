@@ -13,6 +13,23 @@ pub struct Blanks {
     pub back: Blank,
 }
 
+impl Blanks {
+    /// New ledgers of so many parts each.
+    pub fn new(parts: u64) -> Blanks
+        ensures { (result.take.parts ≡ parts) × (result.look.parts ≡ parts)
+            × (result.split.parts ≡ parts) × (result.finish.parts ≡ parts)
+            × (result.back.parts ≡ parts) }
+    {
+        Blanks {
+            take: Blank::new(parts),
+            look: Blank::new(parts),
+            split: Blank::new(parts),
+            finish: Blank::new(parts),
+            back: Blank::new(parts),
+        }
+    }
+}
+
 /// The sums of all shares of the five ledgers.
 #[derive(Drop)]
 pub struct Books<K: Ledger, L: Ledger, S: Ledger, D: Ledger, B: Ledger> {

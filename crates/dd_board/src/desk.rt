@@ -1,6 +1,6 @@
-ghost use Rattle.std.specs.Prelude.{◌≡◌, ◌≢◌, ◌⊎◌, ◌+◌, ◌<◌, ◌^◌, [], ◌∷◌, IfOk, OnOk, OnErr, IfErr, IfSome, MatchOption};
+ghost use Rattle.std.specs.Prelude.{◌≡◌, ◌≢◌, ◌⊎◌, ◌+◌, ◌<◌, ◌≤◌, ◌^◌, [], ◌∷◌, IfOk, OnOk, OnErr, IfErr, IfSome, MatchOption};
 ghost use Rattle.dd_model.specs.Request.{IsValid};
-ghost use Rattle.dd_model.specs.Jobs.{AreAscendingJobs, AreApart, AreMembersUnder, AreChildren};
+ghost use Rattle.dd_model.specs.Jobs.{AreAscendingJobs, AreApart, AreMembersUnder, AreChildren, IsJobOf};
 ghost use Rattle.dd_front.specs.declared.event.Event.TheVariants.{Split, Finish, Resume};
 ghost use Rattle.dd_front.specs.declared.entry.State.TheVariants.{Open, Out};
 ghost use Rattle.dd_front.specs.Allowed.{IsAllowed, HasState, MaySplit, MayFinish};
@@ -9,7 +9,7 @@ ghost use Rattle.dd_front.specs.Machine.{open_entries};
 ghost use Rattle.dd_front.specs.Room.{HasRoom};
 ghost use Rattle.dd_front.specs.Rounds.{IsFirstOpen};
 ghost use Rattle.std.specs.List.{AllByRecursion};
-ghost use Rattle.dd_board.specs.Desk.{IsDesk, IsCall, IsShort, AreShort, HaveShortJobs};
+ghost use Rattle.dd_board.specs.Desk.{IsDesk, IsCall, AreJobsOf, HaveJobsOf};
 ghost use Rattle.dd_board.specs.Calls.{Books, Takes, BooksSplit, BooksFinish, BooksBack};
 ghost use Rattle.dd_board.specs.Calls.{IsNumberWhere, IsOutWith, MaySplitNow};
 
@@ -52,7 +52,7 @@ impl<N: Naming> Desk<N> {
         requires valid { IsValid request }
         requires ascending { AreAscendingJobs jobs.items }
         requires apart { AreApart jobs.items }
-        requires short { AreShort jobs.items }
+        requires all { AreJobsOf request jobs.items }
         ensures log { IfOk result (λ desk. desk.log ≡ Resume ∷ []) }
         ensures entries { IfOk result
             (λ desk. desk.machine.entries ≡ open_entries 1 jobs.items) }
@@ -75,9 +75,17 @@ impl<N: Naming> Desk<N> {
         ensures same { result.now ≡ self.now.machine.entries }
         ensures desk { IsDesk N.request N.jobs self.now.machine self.now.log }
         ensures request { self.now.machine.request ≡ N.request }
-        ensures short { HaveShortJobs self.now.machine.entries }
+        ensures jobs { HaveJobsOf N.request self.now.machine.entries }
     {
         self.front.entries()
+    }
+
+    /// The entries in order, without the log.
+    pub fn into_entries(self) -> Vec<Entry>
+        ensures same { result.items ≡ self.machine.entries }
+        ensures desk { IsDesk N.request N.jobs self.machine self.log }
+    {
+        self.front.into_entries()
     }
 
     /// The events in order.
@@ -92,7 +100,9 @@ impl<N: Naming> Desk<N> {
         ensures first { MatchOption result
             (AllByRecursion (λ e. e.state ≢ Open) self.now.machine.entries)
             (λ entry. IsFirstOpen self.now.machine.entries entry.now) }
-        ensures short { IfSome result (λ entry. IsShort entry.now.job) }
+        ensures valid { IsValid N.request }
+        ensures number { IfSome result (λ entry. 1 ≤ entry.now.number) }
+        ensures job { IfSome result (λ entry. IsJobOf N.request entry.now.job) }
     {
         self.front.first_open()
     }

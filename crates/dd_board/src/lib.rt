@@ -12,8 +12,6 @@ mod naming;
 mod seat;
 mod seats;
 mod shares;
-#[cfg(test)]
-mod tests;
 mod ticket;
 
 pub use board::Board;

@@ -1,5 +1,6 @@
 ghost use Rattle.std.specs.Prelude.{◌≡◌};
-ghost use Rattle.dd_board.specs.Desk.{IsShort};
+ghost use Rattle.dd_model.specs.Request.{IsValid};
+ghost use Rattle.dd_model.specs.Jobs.{IsJobOf};
 
 use crate::naming::Naming;
 use dd_model::Job;
@@ -12,7 +13,8 @@ pub struct Ticket<N: Naming> {
     pub(crate) entry: u64,
     pub(crate) job: Job,
     pub(crate) of: PhantomData<N>,
-    ghost short: { IsShort job },
+    ghost valid: { ∥ IsValid N.request ∥₁ },
+    ghost job_of: { IsJobOf N.request job },
 }
 
 impl<N: Naming> Ticket<N> {
@@ -26,7 +28,8 @@ impl<N: Naming> Ticket<N> {
     /// The job of the entry.
     pub fn job(&self) -> &Job
         ensures same { result.now ≡ self.now.job }
-        ensures short { IsShort self.now.job }
+        ensures valid { IsValid N.request }
+        ensures job_of { IsJobOf N.request self.now.job }
     {
         &self.job
     }

@@ -1,6 +1,6 @@
 -- Entries that come back from a round: each of the round's entries is done with what is under its job.
 use Rattle.std.proofs.Common.{◌≡◌, ℕ, ◌<◌, ◌≤◌, List, [], ◌∷◌, ◌++◌, take, drop, refl, sym, ap, ◌∙◌, subst, ⊎_elim, take-append-drop}
-use Rattle.std.proofs.lemmas.List.{append_assoc, map-append}
+use Rattle.std.proofs.lemmas.List.{map-append}
 use Rattle.std.proofs.lemmas.List.Elements.{Contains-append_right, Contains-append_left, Contains-append_cases}
 use Rattle.std.specs.List.{AllByRecursion, Contains}
 use Rattle.dd_model.specs.Symbol.{Symbol}
@@ -18,14 +18,11 @@ use Rattle.dd_front.specs.declared.entry.Entry.{Entry}
 use Rattle.dd_front.specs.declared.entry.State.TheVariants.{Done}
 use Rattle.dd_front.specs.Machine.{Machine, entry_of, jobs_of}
 use Rattle.dd_front.specs.Absorbed.{Extends, IsFound, list_of, found_by, ComeFrom, MayAbsorb, AreAbsorbed, Absorbs}
-use Rattle.dd_front.specs.Held.{AreNumbered, AreFound, GoOn, IsHeld}
+use Rattle.dd_front.specs.Numbers.{AreNumbered}
+use Rattle.dd_front.specs.Held.{AreFound, GoOn, IsHeld}
 use Rattle.dd_front.proofs.Standing.{under_extended}
-use Rattle.dd_front.proofs.Entries.{Differ, done_once, distinct_pairs, pairs_distinct}
+use Rattle.dd_front.proofs.Entries.{Differ, done_once, own_pairs, numbered_from, range_of, found_by-append}
 use Rattle.dd_front.proofs.Events.{held_with}
-
-found_by-append : (xs ys : List Entry) → found_by (xs ++ ys) ≡ found_by xs ++ found_by ys
-found_by-append [] ys = refl
-found_by-append (x ∷ xs) ys = ap (λ ss. list_of x.state ++ ss) (found_by-append xs ys) ∙ sym (append_assoc (list_of x.state) (found_by xs) (found_by ys))
 
 -- the entry in whose list a symbol stands
 pub record IsFoundIn (es : List Entry) (s : Symbol) : Type 0 where
@@ -118,7 +115,7 @@ absorbed_found q (a ∷ olds) es (b ∷ bs) found order parts complete are e the
     are.5 e later list is)
     (Contains-cases b e bs there)
 
-absorbed_jobs : (olds es done : List Entry) → AreAbsorbed olds es done → jobs_of done ≡ jobs_of olds
+pub absorbed_jobs : (olds es done : List Entry) → AreAbsorbed olds es done → jobs_of done ≡ jobs_of olds
 absorbed_jobs [] es [] are = refl
 absorbed_jobs [] es (b ∷ bs) are = absurd are
 absorbed_jobs (a ∷ olds) es [] are = absurd are
@@ -148,21 +145,21 @@ absorbed_differ (a ∷ olds) es (b ∷ bs) are pairs = (
 
 absorbed_numbered : (next : ℕ) (olds es done back : List Entry) → AreAbsorbed olds es done → AreNumbered next (olds ++ back) → AreNumbered next (done ++ back)
 absorbed_numbered next olds es done back are numbered =
-    let pairs = distinct_pairs (olds ++ back) numbered.distinct in
-    record {
-      range = λ e there. ⊎_elim
-          (λ early.
-          let r = absorbed_numbers olds es done are e early in
-          subst (λ n. (1 ≤ n) × (n < next)) (sym r.2) (numbered.range r.0 (Contains-append_left olds back r.0 r.1)))
-          (λ late. numbered.range e (Contains-append_right olds back e late))
-          (Contains-append_cases done back e there);
-      distinct = pairs_distinct (done ++ back) (pairs_append Differ done back
-          (absorbed_differ olds es done are (pairs_front Differ olds back pairs))
-          (pairs_back Differ olds back pairs)
-          (λ b c hb hc same.
-          let r = absorbed_numbers olds es done are b hb in
-          pairs_across Differ olds back pairs r.0 c r.1 hc (sym r.2 ∙ same)));
-    }
+    let pairs = own_pairs (olds ++ back) numbered.own in
+    let range = range_of next (olds ++ back) numbered in
+    numbered_from next (done ++ back)
+    (λ e there. ⊎_elim
+    (λ early.
+    let r = absorbed_numbers olds es done are e early in
+    subst (λ n. (1 ≤ n) × (n < next)) (sym r.2) (range r.0 (Contains-append_left olds back r.0 r.1)))
+    (λ late. range e (Contains-append_right olds back e late))
+    (Contains-append_cases done back e there))
+    (pairs_append Differ done back
+    (absorbed_differ olds es done are (pairs_front Differ olds back pairs))
+    (pairs_back Differ olds back pairs)
+    (λ b c hb hc same.
+    let r = absorbed_numbers olds es done are b hb in
+    pairs_across Differ olds back pairs r.0 c r.1 hc (sym r.2 ∙ same)))
 
 pub held_absorbed : (q : Request) (jobs : List Job) (at : Position) (f g : Machine) (out : List Symbol) (k : ℕ) (es : List Entry) → IsHeld q jobs at f out → MayAbsorb f k es → Absorbs f k es g → IsHeld q jobs at g out
 held_absorbed q jobs at f g out k es held may absorbs =

@@ -6,7 +6,7 @@ use Rattle.std.specs.List.{AllByRecursion, Contains}
 use Rattle.dd_model.specs.Jobs.{IsJobBelow, AreAscendingJobs}
 use Rattle.dd_model.specs.Joined.{IsPartBelow}
 use Rattle.dd_model.specs.declared.jobs.Job.{Job}
-use Rattle.dd_model.proofs.Lists.{Contains-none, Contains-head, Contains-later, Contains-cases, each_of, all_from_members}
+use Rattle.dd_model.proofs.Lists.{cons_head, Contains-none, Contains-head, Contains-later, Contains-cases, each_of, all_from_members}
 use Rattle.dd_model.proofs.Orders.{job_cmp_total, job_not_below_itself}
 use Rattle.dd_model.proofs.Pairs.{ArePairs}
 use Rattle.dd_model.proofs.Differing.{begins_or_not, one_begins}
@@ -47,11 +47,8 @@ span : (job : Job) (es : List Entry) → Span job es
 span job [] = record { own = []; rest = []; parts = refl; come = tt; stops = λ e tail is. absurd cc }
 span job (e ∷ es) = ⊎_elim
     (λ yes. let s = span job es in record { own = e ∷ s.own; rest = s.rest; parts = ap (λ ds. e ∷ ds) s.parts; come = (yes, s.come); stops = s.stops })
-    (λ differs. record { own = []; rest = e ∷ es; parts = refl; come = tt; stops = λ d tail is. subst (λ x. ¬ Extends x.job job) (same e d es tail is) differs })
+    (λ differs. record { own = []; rest = e ∷ es; parts = refl; come = tt; stops = λ d tail is. subst (λ x. ¬ Extends x.job job) (cons_head e d es tail is) differs })
     (extends_or_not e.job job)
-  where
-    same : (x y : Entry) (xs ys : List Entry) → x ∷ xs ≡ y ∷ ys → x ≡ y
-    same x y xs ys is = cc
 
 ascending_tail : (own rest : List Entry) → AreAscendingJobs (jobs_of (own ++ rest)) → AreAscendingJobs (jobs_of rest)
 ascending_tail [] rest h = h

@@ -1,10 +1,10 @@
 -- Entries: their jobs, their numbers, and entries put in the place of one.
 use Rattle.std.proofs.Common.{◌≡◌, ◌≢◌, ◌⊎◌, ℕ, ◌+◌, ◌<◌, ◌≤◌, List, [], ◌∷◌, ◌++◌, length, refl, sym, ap, ◌∙◌, subst, inl, inr, ⊎_elim, arith}
 use Rattle.std.proofs.lemmas.Bool.{eq-eqb, ne_eqb, cond-true, cond-false}
-use Rattle.std.proofs.lemmas.List.{map-append}
+use Rattle.std.proofs.lemmas.List.{append_assoc, map-append}
 use Rattle.std.proofs.lemmas.List.Elements.{Contains-append_right, Contains-append_left, Contains-append_cases}
 use Rattle.std.specs.Prelude.{nat_eq}
-use Rattle.std.specs.List.{Contains}
+use Rattle.std.specs.List.{AllByRecursion, Contains}
 use Rattle.dd_model.specs.Symbol.{Symbol}
 use Rattle.dd_model.specs.declared.requests.Request.{Request}
 use Rattle.dd_model.specs.declared.jobs.Job.{Job}
@@ -14,19 +14,44 @@ use Rattle.dd_front.specs.declared.entry.Entry.{Entry}
 use Rattle.dd_front.specs.declared.entry.State.TheVariants.{Open, Out, Done}
 use Rattle.dd_front.specs.Machine.{entry_of, open_entries, jobs_of}
 use Rattle.dd_front.specs.Step.{replaced}
+use Rattle.dd_front.specs.Absorbed.{list_of, found_by}
 use Rattle.dd_front.proofs.Replaced.{none_replaced}
-use Rattle.dd_front.specs.Held.{AreDistinct, AreNumbered, AreFound}
+use Rattle.dd_front.specs.Numbers.{HaveOwnNumbers, AreNumbered}
+use Rattle.dd_front.specs.Held.{AreFound}
 
 abbrev pub Differ : Entry → Entry → Type 0
 Differ a b = a.number ≢ b.number
 
-pub distinct_pairs : (es : List Entry) → AreDistinct es → ArePairs Differ es
-distinct_pairs [] h = tt
-distinct_pairs (e ∷ es) h = (h.0, distinct_pairs es h.1)
+pub own_pairs : (es : List Entry) → HaveOwnNumbers es → ArePairs Differ es
+own_pairs [] own = tt
+own_pairs (e ∷ es) own = (all_from_members (Differ e) es (λ d there same. each_of (λ d. d.number ≢ e.number) es d own.1 there (sym same)), own_pairs es own.2)
 
-pub pairs_distinct : (es : List Entry) → ArePairs Differ es → AreDistinct es
-pairs_distinct [] h = tt
-pairs_distinct (e ∷ es) h = (h.0, pairs_distinct es h.1)
+pairs_own : (es : List Entry) → ((e : Entry) → Contains es e → 1 ≤ e.number) → ArePairs Differ es → HaveOwnNumbers es
+pairs_own [] low pairs = tt
+pairs_own (e ∷ es) low pairs = (
+  low e (Contains-head e es),
+  all_from_members (λ d. d.number ≢ e.number) es (λ d there same. each_of (Differ e) es d pairs.0 there (sym same)),
+  pairs_own es (λ d there. low d (Contains-later e d es there)) pairs.1,
+)
+
+pub numbered_from : (next : ℕ) (es : List Entry) → ((e : Entry) → Contains es e → (1 ≤ e.number) × (e.number < next)) → ArePairs Differ es → AreNumbered next es
+numbered_from next es range pairs = record {
+  own = pairs_own es (λ e there. (range e there).0) pairs;
+  below = all_from_members (λ e. e.number < next) es (λ e there. (range e there).1);
+}
+
+lowest : (es : List Entry) → HaveOwnNumbers es → AllByRecursion (λ e. 1 ≤ e.number) es
+lowest [] own = tt
+lowest (e ∷ es) own = (own.0, lowest es own.2)
+
+pub range_of : (next : ℕ) (es : List Entry) → AreNumbered next es → (e : Entry) → Contains es e → (1 ≤ e.number) × (e.number < next)
+range_of next es are e there = (each_of (λ d. 1 ≤ d.number) es e (lowest es are.own) there, each_of (λ d. d.number < next) es e are.below there)
+
+-- ## What entries have found
+
+pub found_by-append : (xs ys : List Entry) → found_by (xs ++ ys) ≡ found_by xs ++ found_by ys
+found_by-append [] ys = refl
+found_by-append (x ∷ xs) ys = ap (λ ss. list_of x.state ++ ss) (found_by-append xs ys) ∙ sym (append_assoc (list_of x.state) (found_by xs) (found_by ys))
 
 -- ## Open entries
 
@@ -61,10 +86,10 @@ opened_differ k (job ∷ jobs) = (
 )
 
 pub opened_numbered : (jobs : List Job) → AreNumbered (length jobs + 1) (open_entries 1 jobs)
-opened_numbered jobs = record {
-  range = λ e there. let o = opened_entry 1 jobs e there in let from = o.from in let below = o.below in (omega arith, omega arith);
-  distinct = pairs_distinct (open_entries 1 jobs) (opened_differ 1 jobs);
-}
+opened_numbered jobs =
+    numbered_from (length jobs + 1) (open_entries 1 jobs)
+    (λ e there. let o = opened_entry 1 jobs e there in let from = o.from in let below = o.below in (omega arith, omega arith))
+    (opened_differ 1 jobs)
 
 pub open_not_done : (list : List Symbol) → Open ≡ Done list → ⊥
 open_not_done list e = cc
@@ -87,7 +112,7 @@ pub record IsInPlace (k : ℕ) (new : Entry → List Entry) (es : List Entry) (e
   pub before : es ≡ front ++ e ∷ back
   pub after : replaced k new es ≡ front ++ (new e ++ back)
 
-pub in_place : (k : ℕ) (new : Entry → List Entry) (es : List Entry) (e : Entry) → AreDistinct es → Contains es e → e.number ≡ k → IsInPlace k new es e
+pub in_place : (k : ℕ) (new : Entry → List Entry) (es : List Entry) (e : Entry) → ArePairs Differ es → Contains es e → e.number ≡ k → IsInPlace k new es e
 in_place k new [] e distinct there number = absurd (Contains-none e there)
 in_place k new (x ∷ xs) e distinct there number =
     ⊎_elim
@@ -99,11 +124,11 @@ in_place k new (x ∷ xs) e distinct there number =
       before = ap (λ y. y ∷ xs) first;
       after =
           ap (λ ys. ys ++ replaced k new xs) (cond-true (nat_eq x.number k) (new x) (x ∷ []) (eq-eqb x.number k same))
-          ∙ ap (λ ys. new x ++ ys) (none_replaced k new xs (all_from_members (λ y. y.number ≢ k) xs (λ y hy is. each_of (λ other. x.number ≢ other.number) xs y distinct.0 hy (same ∙ sym is))))
+          ∙ ap (λ ys. new x ++ ys) (none_replaced k new xs (all_from_members (λ y. y.number ≢ k) xs (λ y hy is. each_of (Differ x) xs y distinct.0 hy (same ∙ sym is))))
           ∙ ap (λ y. new y ++ xs) first;
     })
     (λ later.
-    let differs : x.number ≢ k = λ is. each_of (λ other. x.number ≢ other.number) xs e distinct.0 later (is ∙ sym number) in
+    let differs : x.number ≢ k = λ is. each_of (Differ x) xs e distinct.0 later (is ∙ sym number) in
     let rest = in_place k new xs e distinct.1 later number in
     record {
       front = x ∷ rest.front;
@@ -136,28 +161,27 @@ middle_found q front back news old found fresh e there =
 middle_numbered : (next more : ℕ) (front back news : List Entry) (old : Entry) → next ≤ more → AreNumbered next (front ++ old ∷ back) → ArePairs Differ news → ((e : Entry) → Contains news e → (1 ≤ e.number) × (e.number < more))
     → ((e other : Entry) → Contains news e → Contains front other ⊎ Contains back other → e.number ≢ other.number) → AreNumbered more (front ++ (news ++ back))
 middle_numbered next more front back news old least are pairs range differ =
-    let olds = distinct_pairs (front ++ old ∷ back) are.distinct in
+    let olds = own_pairs (front ++ old ∷ back) are.own in
     let behind : ArePairs Differ (old ∷ back) = pairs_back Differ front (old ∷ back) olds in
-    record {
-      range = λ e there. ⊎_elim
-          (λ kept. let r = are.range e kept in let low = r.0 in let high = r.1 in (low, omega arith))
-          (λ new. range e new)
-          (middle_cases front back news e old there);
-      distinct = pairs_distinct (front ++ (news ++ back)) (pairs_append Differ front (news ++ back)
-          (pairs_front Differ front (old ∷ back) olds)
-          (pairs_append Differ news back pairs behind.1 (λ e other he ho. differ e other he (inr ho)))
-          (λ e other he ho. ⊎_elim
-          (λ new same. differ other e new (inl he) (sym same))
-          (λ later. pairs_across Differ front (old ∷ back) olds e other he (Contains-later old other back later))
-          (Contains-append_cases news back other ho)));
-    }
+    numbered_from more (front ++ (news ++ back))
+    (λ e there. ⊎_elim
+    (λ kept. let r = range_of next (front ++ old ∷ back) are e kept in let low = r.0 in let high = r.1 in (low, omega arith))
+    (λ new. range e new)
+    (middle_cases front back news e old there))
+    (pairs_append Differ front (news ++ back)
+    (pairs_front Differ front (old ∷ back) olds)
+    (pairs_append Differ news back pairs behind.1 (λ e other he ho. differ e other he (inr ho)))
+    (λ e other he ho. ⊎_elim
+    (λ new same. differ other e new (inl he) (sym same))
+    (λ later. pairs_across Differ front (old ∷ back) olds e other he (Contains-later old other back later))
+    (Contains-append_cases news back other ho)))
 
 pub one_numbered : (next : ℕ) (front back : List Entry) (old new : Entry) → new.number ≡ old.number → AreNumbered next (front ++ old ∷ back) → AreNumbered next (front ++ (new ∷ [] ++ back))
 one_numbered next front back old new same are =
-    let olds = distinct_pairs (front ++ old ∷ back) are.distinct in
+    let olds = own_pairs (front ++ old ∷ back) are.own in
     let behind : ArePairs Differ (old ∷ back) = pairs_back Differ front (old ∷ back) olds in
     middle_numbered next next front back (new ∷ []) old (omega arith) are (tt, tt)
-    (λ e there. subst (λ n. (1 ≤ n) × (n < next)) (sym same ∙ is e there) (are.range old (Contains-append_right front (old ∷ back) old (Contains-head old back))))
+    (λ e there. subst (λ n. (1 ≤ n) × (n < next)) (sym same ∙ is e there) (range_of next (front ++ old ∷ back) are old (Contains-append_right front (old ∷ back) old (Contains-head old back))))
     (λ e other there where_other. ⊎_elim
     (λ early equal. pairs_across Differ front (old ∷ back) olds other old early (Contains-head old back) (sym equal ∙ sym (is e there) ∙ same))
     (λ late equal. each_of (Differ old) back other behind.0 late (sym same ∙ is e there ∙ equal))
@@ -169,14 +193,14 @@ one_numbered next front back old new same are =
 -- and where open entries with the next numbers come
 pub opened_in_place : (next : ℕ) (front back : List Entry) (old : Entry) (jobs : List Job) → AreNumbered next (front ++ old ∷ back) → AreNumbered (next + length jobs) (front ++ (open_entries next jobs ++ back))
 opened_in_place next front back old jobs are =
-    let place = are.range old (Contains-append_right front (old ∷ back) old (Contains-head old back)) in
+    let place = range_of next (front ++ old ∷ back) are old (Contains-append_right front (old ∷ back) old (Contains-head old back)) in
     let low = place.0 in
     let high = place.1 in
     middle_numbered next (next + length jobs) front back (open_entries next jobs) old (omega arith) are (opened_differ next jobs)
     (λ e there. let o = opened_entry next jobs e there in let from = o.from in let below = o.below in (omega arith, omega arith))
     (λ e other there where_other equal.
     let from = (opened_entry next jobs e there).from in
-    let below = (are.range other (⊎_elim
+    let below = (range_of next (front ++ old ∷ back) are other (⊎_elim
     (λ early. Contains-append_left front (old ∷ back) other early)
     (λ late. Contains-append_right front (old ∷ back) other (Contains-later old other back late))
     where_other)).1 in

@@ -21,9 +21,10 @@ use Rattle.dd_front.specs.declared.event.Event.TheVariants.{Take, Look, Split, F
 use Rattle.dd_front.specs.Machine.{Machine, entry_of, open_entries, jobs_of}
 use Rattle.dd_front.specs.Allowed.{HasState, HasFirst, MaySplit, MayFinish}
 use Rattle.dd_front.specs.Step.{with_state, split_entries, taken_numbers, at_symbol, Emits, EmitsPart, Saves, Resumes, IsNext, out_after}
-use Rattle.dd_front.specs.Held.{AreNumbered, AreFound, GoOn, IsSaved, IsHeld}
+use Rattle.dd_front.specs.Numbers.{AreNumbered}
+use Rattle.dd_front.specs.Held.{AreFound, GoOn, IsSaved, IsHeld}
 use Rattle.dd_front.proofs.GoingOn.{go_on_split, go_on_emit, go_on_part, go_on_again}
-use Rattle.dd_front.proofs.Entries.{open_not_done, out_not_done, done_once, in_place, jobs_opened, opened_numbered, opened_found, opened_in_place, one_numbered, middle_found, jobs_middle}
+use Rattle.dd_front.proofs.Entries.{own_pairs, open_not_done, out_not_done, done_once, in_place, jobs_opened, opened_numbered, opened_found, opened_in_place, one_numbered, middle_found, jobs_middle}
 use Rattle.dd_front.proofs.Holding.{saved_where_it_stands, saved_stays}
 
 -- ## Events that emit nothing
@@ -54,7 +55,7 @@ held_in_state : (q : Request) (jobs : List Job) (at : Position) (f : Machine) (o
 held_in_state q jobs at f out k old new has held under =
     let entry = entry_of (suc k) has.job old in
     let changed = entry_of (suc k) has.job new in
-    let place = in_place (suc k) (λ e. entry_of e.number e.job new ∷ []) f.entries entry held.numbered.distinct has.stands refl in
+    let place = in_place (suc k) (λ e. entry_of e.number e.job new ∷ []) f.entries entry (own_pairs f.entries held.numbered.own) has.stands refl in
     let after : List Entry = place.front ++ (changed ∷ [] ++ place.back) in
     let same : jobs_of f.entries ≡ jobs_of after = ap jobs_of place.before ∙ jobs_middle place.front place.back (entry ∷ []) ∙ sym (jobs_middle place.front place.back (changed ∷ [])) in
     let numbered : AreNumbered f.next after = one_numbered f.next place.front place.back entry changed refl (subst (AreNumbered f.next) place.before held.numbered) in
@@ -99,7 +100,7 @@ held_split q jobs at f out (suc k) cs (inr split) held =
     let job = split.out.job in
     let entry = entry_of (suc k) job Out in
     let news = open_entries f.next cs in
-    let place = in_place (suc k) (λ e. open_entries f.next cs) f.entries entry held.numbered.distinct split.out.stands refl in
+    let place = in_place (suc k) (λ e. open_entries f.next cs) f.entries entry (own_pairs f.entries held.numbered.own) split.out.stands refl in
     let after : List Entry = place.front ++ (news ++ place.back) in
     let children : AreChildren q job cs = subst (λ r. AreChildren r job cs) held.request split.children in
     let before : jobs_of f.entries ≡ jobs_of place.front ++ job ∷ jobs_of place.back = ap jobs_of place.before ∙ jobs_middle place.front place.back (entry ∷ []) in
@@ -137,7 +138,7 @@ held_emitted q jobs at f g out emitted emits held =
       opening = held.opening;
       ascending = held.ascending;
       apart = held.apart;
-      numbered = record { range = λ e there. numbered.range e (Contains-later entry e first.rest there); distinct = numbered.distinct.1 };
+      numbered = record { own = numbered.own.2; below = numbered.below.1 };
       found = λ e there. found e (Contains-later entry e first.rest there);
       go_on = go_on_emit q jobs at f.from out first.job (jobs_of first.rest) (first_goes_on q jobs at f out emits.list first held) emits.list emitted (first_under q jobs at f out emits.list first held) emits.not_before;
       lines = omega arith;

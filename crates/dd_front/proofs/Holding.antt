@@ -9,7 +9,8 @@ use Rattle.dd_model.specs.declared.jobs.Job.{Job}
 use Rattle.dd_model.specs.declared.jobs.Position.{Position}
 use Rattle.dd_front.specs.Machine.{Machine, Saved, IsOpened, StandsAt, jobs_of}
 use Rattle.dd_front.specs.Covered.{IsBetween, IsCovered}
-use Rattle.dd_front.specs.Held.{AreNumbered, AreFound, GoOn, IsSaved, IsHeld}
+use Rattle.dd_front.specs.Numbers.{AreNumbered}
+use Rattle.dd_front.specs.Held.{AreFound, GoOn, IsSaved, IsHeld}
 use Rattle.dd_front.proofs.Standing.{stands_somewhere, jobs_stand, before_stands, emitted_between, left_from}
 use Rattle.dd_front.proofs.GoingOn.{go_on_first}
 use Rattle.dd_front.proofs.Entries.{jobs_opened, opened_numbered, opened_found}

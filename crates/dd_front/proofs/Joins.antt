@@ -6,12 +6,14 @@ use Rattle.dd_model.specs.Symbol.{Symbol}
 use Rattle.dd_model.specs.Lists.{Begins}
 use Rattle.dd_model.specs.declared.jobs.Job.{Job}
 use Rattle.dd_model.proofs.Ascending.{all-append}
+use Rattle.dd_model.proofs.Lists.{cons_head, cons_tail}
 use Rattle.dd_front.specs.declared.entry.Entry.{Entry}
 use Rattle.dd_front.specs.declared.entry.State.TheVariants.{Done}
 use Rattle.dd_front.specs.Machine.{jobs_of, entry_of}
 use Rattle.dd_front.specs.Places.{with_state_at}
 use Rattle.dd_front.specs.Absorbed.{Extends, found_by, list_of}
 use Rattle.dd_front.specs.Joining.{AreBlocks, AreJoined, done_with}
+use Rattle.dd_front.proofs.Entries.{found_by-append}
 
 -- Some jobs have their lists, one is at hand, and the others are to come.
 pub record AreJoining (jobs : List Job) (whole rest : List Entry) (lists : List (List Symbol)) (joined : List Symbol) : Type 0 where
@@ -36,12 +38,6 @@ pub record AreJoining (jobs : List Job) (whole rest : List Entry) (lists : List 
 not_empty : {A : Type 0} (x : A) (xs : List A) → x ∷ xs ≡ [] → ⊥
 not_empty x xs e = cc
 
-heads : {A : Type 0} (x y : A) (xs ys : List A) → x ∷ xs ≡ y ∷ ys → x ≡ y
-heads x y xs ys e = cc
-
-tails : {A : Type 0} (x y : A) (xs ys : List A) → x ∷ xs ≡ y ∷ ys → xs ≡ ys
-tails x y xs ys e = cc
-
 -- before the first
 pub joining_first : (jobs : List Job) (whole : List Entry) → whole ≢ [] → AreBlocks jobs whole → AreJoining jobs whole whole [] []
 joining_first [] whole some blocks = absurd (some blocks)
@@ -65,12 +61,8 @@ joining_first (job ∷ jobs) whole some blocks = record {
   blocks = blocks.3;
 }
 
-pub found-append : (xs ys : List Entry) → found_by (xs ++ ys) ≡ found_by xs ++ found_by ys
-found-append [] ys = refl
-found-append (x ∷ xs) ys = ap (λ ss. list_of x.state ++ ss) (found-append xs ys) ∙ sym (append_assoc (list_of x.state) (found_by xs) (found_by ys))
-
 found_one : (xs : List Entry) (e : Entry) → found_by (xs ++ e ∷ []) ≡ found_by xs ++ list_of e.state
-found_one xs e = found-append xs (e ∷ []) ∙ ap (λ ss. found_by xs ++ ss) (append-nil (list_of e.state))
+found_one xs e = found_by-append xs (e ∷ []) ∙ ap (λ ss. found_by xs ++ ss) (append-nil (list_of e.state))
 
 -- the next entry comes from the job at hand
 pub joining_same : (jobs : List Job) (whole rest tail : List Entry) (e : Entry) (lists : List (List Symbol)) (joined now : List Symbol) (s : AreJoining jobs whole rest lists joined) → rest ≡ e ∷ tail
@@ -93,7 +85,7 @@ joining_same jobs whole rest tail e lists joined now s is comes longer = go s.ow
       earlier = s.earlier;
       part_comes = all-append (λ x. Extends x.job s.job) s.part (e ∷ []) s.part_comes (comes, tt);
       joined_is = longer ∙ ap (λ ss. ss ++ list_of e.state) s.joined_is ∙ sym (found_one s.part e);
-      rest_is = tails e d tail (own ++ s.later) (sym is ∙ parts);
+      rest_is = cons_tail e d tail (own ++ s.later) (sym is ∙ parts);
       own_comes = own_comes.1;
       others = s.others;
       blocks = s.blocks;
@@ -134,16 +126,16 @@ joining_next jobs whole rest tail e lists joined now s is not only = go s.own s.
               later = blocks.1;
               whole_is = s.whole_is ∙ ap (λ es. s.done ++ (s.part ++ es)) is ∙ sym (append_assoc s.done s.part (e ∷ tail));
               earlier = joined_push s.before s.job s.done s.part lists joined s.earlier s.part_comes s.joined_is;
-              part_comes = (subst (λ x. Extends x.job job) (sym (heads e d tail (own ++ blocks.1) parts)) come.0, tt);
+              part_comes = (subst (λ x. Extends x.job job) (sym (cons_head e d tail (own ++ blocks.1) parts)) come.0, tt);
               joined_is = only ∙ sym (append-nil (list_of e.state));
-              rest_is = tails e d tail (own ++ blocks.1) parts;
+              rest_is = cons_tail e d tail (own ++ blocks.1) parts;
               own_comes = come.1;
               others = blocks.2.others;
               blocks = blocks.3;
             }
 
     go : (own : List Entry) → rest ≡ own ++ s.later → AllByRecursion (λ d. Extends d.job s.job) own → AreJoining jobs whole tail (lists ++ joined ∷ []) now
-    go (d ∷ own) parts own_comes = absurd (not (subst (λ x. Extends x.job s.job) (sym (heads e d tail (own ++ s.later) (sym is ∙ parts))) own_comes.0))
+    go (d ∷ own) parts own_comes = absurd (not (subst (λ x. Extends x.job s.job) (sym (cons_head e d tail (own ++ s.later) (sym is ∙ parts))) own_comes.0))
     go [] parts own_comes = next (sym parts ∙ is) s.after refl s.blocks
 
 none_after : (jobs : List Job) → AreBlocks jobs [] → jobs ≡ []

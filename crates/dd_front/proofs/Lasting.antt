@@ -128,17 +128,6 @@ symbols_in_order q list order = all-map (IsMember q) IsSymbol list (λ s m. m.wa
 pub first_in_order : (q : Request) (es : List Entry) (list : List Symbol) (rest : List Entry) → AreListed q es → BeginsDone es list rest → AreInOrder q list × AreListed q rest
 first_in_order q es list rest lists begins = subst (AreListed q) begins.entries lists
 
-pub front_rest : (q : Request) (opening : List Job) (next : ℕ) (es : List Entry) (list : List Symbol) (rest : List Entry) → IsFront q opening next es → BeginsDone es list rest → IsFront q opening next rest
-front_rest q opening next es list rest held begins =
-    let parts = subst (λ ds. AreParts (jobs_of ds)) begins.entries held.jobs in
-    record {
-      valid = held.valid;
-      opening = held.opening;
-      numbers = (subst (AreBelow next) begins.entries held.numbers).1;
-      lists = (first_in_order q es list rest held.lists begins).1;
-      jobs = record { ascending = parts.ascending.1; apart = parts.apart.1 };
-    }
-
 -- the same, told of a machine and jobs that are equal
 pub split_where : {m f : Machine} (k : ℕ) (given jobs : List Job) → m ≡ f → given ≡ jobs → HaveOwnNumbers m.entries → IsFront m.request m.opening m.next m.entries → (k ≡ 0) ⊎ MaySplit f k jobs
     → IsFront m.request m.opening (m.next + length given) (split_entries k m.next given m.entries)

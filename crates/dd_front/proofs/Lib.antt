@@ -10,7 +10,7 @@ mod Shutting
 mod SmallCodes
 mod Emitted
 mod Skipped
-mod Telling
+pub mod Telling
 pub mod Standing
 pub mod Splitting
 pub mod GoingOn

@@ -88,20 +88,6 @@ own-append (x ∷ xs) ys next hx hy from below =
 abbrev pub restated : State → Entry → List Entry
 restated state e = entry_of e.number e.job state ∷ []
 
-own_restated : (k : ℕ) (state : State) (es : List Entry) → HaveOwnNumbers es → HaveOwnNumbers (replaced k (restated state) es)
-own_restated k state [] own = tt
-own_restated k state (e ∷ es) own =
-    let later = all_replaced (λ d. d.number ≢ e.number) k (restated state) es (λ d differs. (differs, tt)) own.1 in
-    ⊎_elim
-    (λ yes. subst HaveOwnNumbers (sym (here k (restated state) e es yes.0)) (own.0, later, own_restated k state es own.2))
-    (λ no. subst HaveOwnNumbers (sym (not_here k (restated state) e es no.0)) (own.0, later, own_restated k state es own.2))
-    (eqb_tells e.number k)
-
--- a new state leaves the numbers as they are
-pub own_kept : (k : ℕ) (state : State) (es : List Entry) → HaveOwnNumbers es → HaveOwnNumbers (with_state k state es)
-own_kept zero state es own = own
-own_kept (suc k) state es own = own_restated (suc k) state es own
-
 own_spread : (k next : ℕ) (jobs : List Job) (es : List Entry) → 1 ≤ next → HaveOwnNumbers es → AreBelow next es → HaveOwnNumbers (replaced k (λ e. open_entries next jobs) es)
 own_spread k next jobs [] one own below = tt
 own_spread k next jobs (e ∷ es) one own below =

@@ -19,7 +19,7 @@ use Rattle.dd_front.specs.Invariant.{IsFront, AreInOrder, AreListed, AreParts}
 use Rattle.dd_front.specs.Joining.{IsDone, AreBlocks, AreJoined, done_with}
 use Rattle.dd_front.proofs.Blocks.{blocks_from}
 use Rattle.dd_front.proofs.Lasting.{pairs_of}
-use Rattle.dd_front.proofs.Joins.{found-append}
+use Rattle.dd_front.proofs.Entries.{found_by-append}
 use Rattle.dd_front.proofs.Absorbing.{all_front, all_back}
 
 taken_pairs : (k : ℕ) (es : List Entry) → ArePairs IsPartBelow (jobs_of es) → ArePairs IsPartBelow (jobs_of (take k es))
@@ -81,7 +81,7 @@ lists_in_order q [] es [] h order = tt
 lists_in_order q [] es (l ∷ lists) h order = absurd h
 lists_in_order q (j ∷ jobs) es [] h order = absurd h
 lists_in_order q (j ∷ jobs) es (l ∷ lists) h order =
-    let both = order_front q (found_by h.0) (found_by h.1) (subst (AreInOrder q) (ap found_by h.2 ∙ found-append h.0 h.1) order) in
+    let both = order_front q (found_by h.0) (found_by h.1) (subst (AreInOrder q) (ap found_by h.2 ∙ found_by-append h.0 h.1) order) in
     (subst (AreInOrder q) (sym h.4) both.0, lists_in_order q jobs h.1 lists h.5 both.1)
 
 pub order_found : (q : Request) (jobs : List Job) (ss : List Symbol) → AreUnderJobs q jobs ss → AreInOrder q ss

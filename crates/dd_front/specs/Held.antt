@@ -1,6 +1,6 @@
 -- What holds of a machine, and of what it has emitted, all through a run from an opening.
-use Rattle.std.specs.Prelude.{◌≡◌, ◌≢◌, ◌⊎◌, ℕ, ◌+◌, ◌<◌, ◌≤◌, List, [], ◌∷◌, length, take}
-use Rattle.std.specs.List.{AllByRecursion, Contains}
+use Rattle.std.specs.Prelude.{◌≡◌, ◌⊎◌, ℕ, ◌+◌, ◌≤◌, List, length, take}
+use Rattle.std.specs.List.{Contains}
 use Rattle.dd_model.specs.Symbol.{Symbol}
 use Rattle.dd_model.specs.Position.{IsBefore}
 use Rattle.dd_model.specs.Jobs.{AreAscendingJobs, AreApart, AreMembersUnder}
@@ -12,18 +12,9 @@ use Rattle.dd_model.specs.declared.jobs.Position.TheVariants.{At}
 use Rattle.dd_front.specs.declared.entry.Entry.{Entry}
 use Rattle.dd_front.specs.declared.entry.State.TheVariants.{Done}
 use Rattle.dd_front.specs.Machine.{Machine, jobs_of}
+use Rattle.dd_front.specs.Numbers.{AreNumbered}
 use Rattle.dd_front.specs.Covered.{IsLater, IsBetween}
 use Rattle.dd_front.specs.Absorbed.{Extends}
-
--- each number differs from all that follow it
-abbrev pub AreDistinct : List Entry → Type 0
-AreDistinct [] = Unit {0}
-AreDistinct (e ∷ es) = AllByRecursion (λ other. e.number ≢ other.number) es × AreDistinct es
-
--- numbers from 1 on, below the next free one, no two of them equal
-pub record AreNumbered (next : ℕ) (es : List Entry) : Type 0 where
-  pub range : (e : Entry) → Contains es e → (1 ≤ e.number) × (e.number < next)
-  pub distinct : AreDistinct es
 
 -- each entry that is done has what is under its job
 abbrev pub AreFound : Request → List Entry → Type 0

@@ -11,3 +11,8 @@ HaveOwnNumbers (e ∷ es) = (1 ≤ e.number) × AllByRecursion (λ d. d.number �
 -- all numbers are below this one
 abbrev pub AreBelow : ℕ → List Entry → Type 0
 AreBelow next es = AllByRecursion (λ e. e.number < next) es
+
+-- numbers from 1 on, below the next free one, no two of them equal
+pub record AreNumbered (next : ℕ) (es : List Entry) : Type 0 where
+  pub own : HaveOwnNumbers es
+  pub below : AreBelow next es

@@ -62,6 +62,19 @@ impl EntryList {
         &self.all[self.gone..]
     }
 
+    /// The entries in order, which the list has no more.
+    pub fn into_vec(self) -> Vec<Entry>
+        ensures { result.items ≡ self }
+    {
+        let EntryList {
+            mut all,
+            gone,
+            shut: _,
+        } = self;
+        let _ = all.drain(..gone);
+        all
+    }
+
     /// The first open entry.
     pub fn first_open(&self) -> Option<&Entry>
         ensures { MatchOption result (AllByRecursion (λ e. e.state ≢ State.Open) self.now)

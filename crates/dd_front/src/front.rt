@@ -123,6 +123,13 @@ impl Front {
         self.entries.as_slice()
     }
 
+    /// The entries in order, without the front.
+    pub fn into_entries(self) -> Vec<Entry>
+        ensures { result.items ≡ self.entries }
+    {
+        self.entries.into_vec()
+    }
+
     /// The first open entry.
     pub fn first_open(&self) -> Option<&Entry>
         ensures { MatchOption result

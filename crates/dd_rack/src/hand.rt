@@ -41,13 +41,20 @@ impl<N: Naming> Hand<N> {
         ensures within { MatchOption result
             (hand_passes self.old ≡ 0 → hand_popped self.old ≡ hand_pushed self.old)
             (λ _. hand_popped self.old < hand_pushed self.old) }
-        ensures all { IfNone result (hand_passes self.old ≡ 0 → HasAllOfHand self.old) }
+        ensures all { IfNone result (hand_passes self.old ≡ 0 → HasAllOfHand self.new) }
         ensures pushed { hand_pushed self.new ≡ hand_pushed self.old }
         ensures stolen { hand_stolen self.new ≡ hand_stolen self.old }
         ensures room { hand_room self.new ≡ hand_room self.old }
         ensures place { hand_place self.new ≡ hand_place self.old }
     {
         self.owner.pop()
+    }
+
+    /// How many other workers the rack has.
+    pub fn others(&self) -> usize
+        ensures { result ≡ length self.now.ways.items }
+    {
+        self.ways.len()
     }
 
     // Where the way into that worker's deque stands among the ways.

@@ -60,7 +60,7 @@ impl<N: Naming> Owner<N> {
         ensures within { MatchOption result
             (owner_passes self.old ≡ 0 → owner_taken self.old ≡ self.old.pushed)
             (λ _. owner_taken self.old < self.old.pushed) }
-        ensures all { IfNone result (TookAll (worker_view self.old.own)) }
+        ensures all { IfNone result (TookAll (worker_view self.new.own)) }
         ensures same { SameOwner self.old self.new }
     {
         let slot = self.own.pop_as::<Popped>()?;

@@ -1,13 +1,13 @@
 ghost use Rattle.std.specs.Prelude.{◌≡◌, ◌<◌, ◌∷◌, [], length, map, IfOk};
 ghost use Rattle.dd_model.specs.Request.{IsValid};
 ghost use Rattle.dd_model.specs.Jobs.{AreAscendingJobs, AreApart};
-ghost use Rattle.dd_board.specs.Desk.{AreShort};
+ghost use Rattle.dd_board.specs.Desk.{AreJobsOf};
 ghost use Rattle.dd_rack.specs.Hands.{hand_place};
 ghost use Rattle.dd_rack.specs.Places.{IsRack};
 
 use super::*;
 use dd_board::{Desk, Naming, Taken, Ticket};
-use dd_model::{Allowed, Job, Prefix, Request};
+use dd_model::{Job, Prefix, Request};
 use std::alloc::Global;
 use std::marker::Brand;
 use std::process::Abort;
@@ -151,7 +151,7 @@ fn rows<N: Naming, R: Abort + Wait>(
     requires valid { IsValid request }
     requires ascending { AreAscendingJobs jobs.items }
     requires apart { AreApart jobs.items }
-    requires short { AreShort jobs.items }
+    requires all { AreJobsOf request jobs.items }
 {
     left_by_two_hands(rt, Desk::<N>::open(alloc, request, jobs)?, alloc)?;
     full_hand(rt, Desk::<N>::open(alloc, request, again)?, alloc)
@@ -159,17 +159,7 @@ fn rows<N: Naming, R: Abort + Wait>(
 
 #[test]
 fn two_hands_share_a_rack(rt: HostRuntime) -> Result<(), Fail> {
-    let request = Request {
-        chambers: 3,
-        tiles: 0,
-        vertices: 0,
-        faces: Allowed::least(3),
-        degrees: Allowed::least(3),
-        minimal: false,
-    };
-    if !request.is_valid() {
-        return Ok(());
-    }
+    let request = Request::up_to(3);
     let jobs = three_jobs(rt.alloc())?;
     let again = three_jobs(rt.alloc())?;
     rows::<Brand, HostRuntime>(&rt, rt.alloc(), request, jobs, again)

@@ -1,5 +1,5 @@
 use Rattle.std.proofs.Common.{subst, sym}
-use Rattle.dd_board.specs.Desk.{IsShort}
+use Rattle.dd_model.specs.Jobs.{IsJobOf}
 use Rattle.dd_board.proofs.Firsts.{may_take, may_look}
 use Rattle.dd_board.proofs.desk.Desk.take.Goals as goal
 
@@ -10,4 +10,4 @@ pub book-requires-2-clause-allowed : goal.book-requires-2-clause-allowed
 book-requires-2-clause-allowed g c = may_take c.args.self.now.machine c.args.worker c.in-Some.first.now c.in-Some.ensures.first
 
 pub invariant_of-result : goal.invariant_of-result
-invariant_of-result g c = record { short = subst IsShort (sym c.in_ok-job.ensures) c.in-Some.ensures.short }
+invariant_of-result g c = record { valid = ∣ c.first_open.ensures.valid ∣₁; job_of = subst (IsJobOf g.N.Naming.request) (sym c.in_ok-job.ensures) c.in-Some.ensures.job }
