@@ -1,0 +1,4 @@
+mod Parts
+mod Whole
+mod Settled
+mod Steps

@@ -1,0 +1,19 @@
+ghost use Rattle.std.specs.Prelude.{◌*◌, ◌<◌, IsTrue, length};
+
+use dd_model::Job;
+
+/// So many jobs for each worker are to wait.
+const AHEAD: u64 = 16;
+
+/// Whether a job is to be split: few jobs wait for as many workers, and the job's prefix is short, so that much may be
+/// under it. A worker that is alone splits none.
+pub fn is_to_split(job: &Job, waiting: u64, others: usize) -> bool
+    ensures { IsTrue result → length job.now.prefix < 3 * job.now.size }
+{
+    let numbers = job.prefix.as_slice().len() as u64;
+    let depth = if others < 8 { 18 } else { 24 };
+    others > 0
+        && numbers < depth
+        && numbers < 3 * job.size as u64
+        && waiting / AHEAD <= others as u64
+}

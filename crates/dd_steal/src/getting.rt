@@ -1,0 +1,80 @@
+ghost use Rattle.std.specs.Prelude.{◌≡◌, ◌<◌, ◌≤◌, ◌+◌, Option, IfOk, IsNone, true};
+ghost use Rattle.dd_rack.specs.Hands.{hand_pushed, hand_popped, hand_stolen, hand_passes, hand_place, HasAllOfHand};
+ghost use Rattle.dd_steal.specs.Worker.{IsLeftWith, held_by, held_after};
+
+use dd_board::{Board, Naming, Seat, Taken, Ticket};
+use dd_model::Memory;
+use dd_rack::Hand;
+use std::sync::Wait;
+use std::sync::ledger::Ledger;
+
+// A ticket of another worker's deque: the others are asked in turn.
+fn steal_one<N: Naming, R: Wait>(rt: &R, hand: &mut Hand<N>) -> Option<Ticket<N>>
+    ensures stolen { hand_stolen hand.new ≡ hand_stolen hand.old + held_by result }
+    ensures popped { hand_popped hand.new ≡ hand_popped hand.old }
+    ensures pushed { hand_pushed hand.new ≡ hand_pushed hand.old }
+    ensures place { hand_place hand.new ≡ hand_place hand.old }
+{
+    // A rack has at most 64 workers.
+    let others = hand.others().min(63) as u32;
+    for worker in 1..=others + 1 {
+        let stolen = hand.steal(rt, worker);
+        if stolen.is_some() {
+            return stolen;
+        }
+    }
+    None
+}
+
+// Takes a job and puts it into the deque. Where the deque has no more room the worker has the ticket in hand.
+fn take_ahead<N: Naming, K: Ledger, L: Ledger, S: Ledger, D: Ledger, B: Ledger, R: Wait>(
+    rt: &R,
+    board: &Board<N, K, L, S, D, B>,
+    seat: &mut Seat<K, L, S, D, B>,
+    hand: &mut Hand<N>,
+) -> Result<Option<Ticket<N>>, Memory>
+    ensures tickets { IsLeftWith (held_after result) seat.old hand.old seat.new hand.new }
+    ensures looks { seat.old.shares.look.amount ≤ seat.new.shares.look.amount }
+    ensures worker { seat.new.worker ≡ seat.old.worker }
+    ensures place { hand_place hand.new ≡ hand_place hand.old }
+{
+    match board.take(rt, seat)? {
+        Taken::Job(ticket) => Ok(hand.push(ticket).err()),
+        Taken::Idle => Ok(None),
+    }
+}
+
+/// The next ticket: the first of the worker's own deque, else that of the first job that is open, else one of another
+/// worker. A worker that has done a job and finds its deque empty takes another job ahead.
+pub fn next_ticket<N: Naming, K: Ledger, L: Ledger, S: Ledger, D: Ledger, B: Ledger, R: Wait>(
+    rt: &R,
+    board: &Board<N, K, L, S, D, B>,
+    seat: &mut Seat<K, L, S, D, B>,
+    hand: &mut Hand<N>,
+    ahead: bool,
+) -> Result<Option<Ticket<N>>, Memory>
+    ensures tickets { IsLeftWith (held_after result) seat.old hand.old seat.new hand.new }
+    ensures looks { seat.old.shares.look.amount ≤ seat.new.shares.look.amount }
+    ensures looked { IfOk result (λ found. IsNone found
+        → seat.old.shares.look.amount < seat.new.shares.look.amount) }
+    ensures all { IfOk result (λ found. IsNone found
+        → hand_passes hand.old ≡ 0 → HasAllOfHand hand.new) }
+    ensures worker { seat.new.worker ≡ seat.old.worker }
+    ensures place { hand_place hand.new ≡ hand_place hand.old }
+{
+    if let Some(ticket) = hand.pop() {
+        return Ok(Some(ticket));
+    }
+    if ahead && board.waiting() > hand.others() as u64 {
+        if let Some(ticket) = take_ahead(rt, board, seat, hand)? {
+            return Ok(Some(ticket));
+        }
+    }
+    if let Taken::Job(ticket) = board.take(rt, seat)? {
+        return Ok(Some(ticket));
+    }
+    if let Some(ticket) = steal_one(rt, hand) {
+        return Ok(Some(ticket));
+    }
+    Ok(hand.pop())
+}

@@ -1,0 +1,119 @@
+ghost use Rattle.std.specs.Prelude.{◌≡◌, ◌≤◌, IfOk};
+ghost use Rattle.dd_model.specs.Request.{IsValid};
+ghost use Rattle.dd_model.specs.Jobs.{AreAscendingJobs, AreApart};
+ghost use Rattle.dd_front.specs.Absorbed.{ComeFrom};
+ghost use Rattle.dd_board.specs.Desk.{AreJobsOf};
+
+use crate::crew::{Member, crew_of, seats_of};
+use crate::sweeping::sweep;
+use crate::worker::work;
+use dd_board::{Blanks, Board, Naming};
+use dd_front::{Entry, Finder};
+use dd_model::{Job, Memory};
+use dd_ports::Gate;
+use dd_rack::Rack;
+use std::alloc::Global;
+use std::marker::Brand;
+use std::sync::Wait;
+use std::sync::ledger::Ledger;
+use std::thread;
+use std::thread::Threads;
+
+/// How many tickets a worker may put into its deque.
+const ROOM: u32 = 4096;
+
+/// Does the jobs of a round by so many workers. Each entry that comes back is done with what is under its job. The jobs
+/// of the entries are parts of the round's jobs, of each at least one, and in order they have all that is under these.
+/// `Err` comes for want of memory alone.
+pub fn run_round<R: Threads + Wait + Sync, F: Finder + Sync, G: Gate + Sync>(
+    rt: &R,
+    alloc: Global,
+    finder: &F,
+    gate: &G,
+    jobs: Vec<Job>,
+    workers: u32,
+) -> Result<Vec<Entry>, Memory>
+    requires workers { (1 ≤ workers) × (workers ≤ 64) }
+    requires valid { IsValid (F.request finder.now) }
+    requires ascending { AreAscendingJobs jobs.items }
+    requires apart { AreApart jobs.items }
+    requires all { AreJobsOf (F.request finder.now) jobs.items }
+    ensures { IfOk result (λ entries. ComeFrom (F.request finder.now) jobs.items entries.items) }
+{
+    run_named::<Brand, Brand, Brand, Brand, Brand, Brand, R, F, G>(
+        rt,
+        alloc,
+        finder,
+        gate,
+        jobs,
+        workers,
+        Blanks::new(u64::from(workers)),
+    )
+}
+
+// The same for a round and ledgers that have names.
+fn run_named<
+    N: Naming + Send + Sync,
+    K: Ledger + Send + Sync,
+    L: Ledger + Send + Sync,
+    S: Ledger + Send + Sync,
+    D: Ledger + Send + Sync,
+    B: Ledger + Send + Sync,
+    R: Threads + Wait + Sync,
+    F: Finder + Sync,
+    G: Gate + Sync,
+>(
+    rt: &R,
+    alloc: Global,
+    finder: &F,
+    gate: &G,
+    jobs: Vec<Job>,
+    workers: u32,
+    blanks: Blanks,
+) -> Result<Vec<Entry>, Memory>
+    requires workers { (1 ≤ workers) × (workers ≤ 64) }
+    requires request { F.request finder.now ≡ N.request }
+    requires jobs { jobs.items ≡ N.jobs }
+    requires valid { IsValid N.request }
+    requires ascending { AreAscendingJobs jobs.items }
+    requires apart { AreApart jobs.items }
+    requires all { AreJobsOf N.request jobs.items }
+    requires take { (blanks.take.name ≡ K.name) × (blanks.take.parts ≡ K.parts)
+        × (K.parts ≡ workers) }
+    requires look { (blanks.look.name ≡ L.name) × (blanks.look.parts ≡ L.parts)
+        × (L.parts ≡ workers) }
+    requires split { (blanks.split.name ≡ S.name) × (blanks.split.parts ≡ S.parts)
+        × (S.parts ≡ workers) }
+    requires finish { (blanks.finish.name ≡ D.name) × (blanks.finish.parts ≡ D.parts)
+        × (D.parts ≡ workers) }
+    requires back { (blanks.back.name ≡ B.name) × (blanks.back.parts ≡ B.parts)
+        × (B.parts ≡ workers) }
+    ensures { IfOk result (λ entries. ComeFrom N.request N.jobs entries.items) }
+{
+    let request = finder.request();
+    let (board, seats) = Board::<N, K, L, S, D, B>::open(alloc, &request, jobs, workers, blanks)?;
+    let (_, hands) = Rack::<N>::open(alloc, workers, ROOM)?;
+    let mut crew = crew_of(alloc, seats, hands)?;
+    let shared = &board;
+    thread::for_each_mut(
+        rt,
+        crew.as_mut_slice(),
+        workers as usize,
+        &|_, member: &mut Member<N, K, L, S, D, B>|
+            requires { F.request finder.now ≡ N.request }
+        {
+            let _ended = work(
+                rt,
+                alloc,
+                finder,
+                gate,
+                shared,
+                &mut member.seat,
+                &mut member.hand,
+            );
+        },
+    );
+    let mut desk = board.close(seats_of(alloc, crew)?);
+    sweep(alloc, finder, &mut desk)?;
+    Ok(desk.into_entries())
+}

@@ -1,0 +1,87 @@
+ghost use Rattle.std.specs.Prelude.{◌≡◌, ◌⊎◌, ◌<◌, MatchResult};
+ghost use Rattle.dd_rack.specs.Hands.{hand_passes, hand_place, HasAllOfHand};
+ghost use Rattle.dd_board.specs.Ledgers.{Counts};
+ghost use Rattle.dd_steal.specs.Worker.{IsLeftWith, IsIdle, held_at_end};
+
+use crate::choice::is_to_split;
+use crate::ended::Ended;
+use crate::getting::next_ticket;
+use dd_board::{Board, Naming, Seat, Ticket};
+use dd_front::Finder;
+use dd_ports::Gate;
+use dd_rack::Hand;
+use std::alloc::Global;
+use std::sync::Wait;
+use std::sync::ledger::Ledger;
+
+// Does a job: finds what is under it, or splits it. `Err` comes for want of memory alone, and has the ticket.
+fn do_job<N: Naming, K: Ledger, L: Ledger, S: Ledger, D: Ledger, B: Ledger, R: Wait, F: Finder>(
+    rt: &R,
+    alloc: Global,
+    finder: &F,
+    board: &Board<N, K, L, S, D, B>,
+    seat: &mut Seat<K, L, S, D, B>,
+    others: usize,
+    ticket: Ticket<N>,
+) -> Result<(), Ticket<N>>
+    requires { F.request finder.now ≡ N.request }
+    ensures counts { MatchResult result
+        (λ _. Counts seat.old seat.new 0 0 1 0 0 ⊎ Counts seat.old seat.new 0 0 0 1 0)
+        (λ back. (back ≡ ticket) × Counts seat.old seat.new 0 0 0 0 0) }
+{
+    if is_to_split(ticket.job(), board.waiting(), others) {
+        match finder.split(alloc, ticket.job()) {
+            Ok(jobs) => board.split(rt, seat, ticket, jobs),
+            Err(_) => Err(ticket),
+        }
+    } else {
+        match finder.find(alloc, ticket.job()) {
+            Ok(list) => board.finish(rt, seat, ticket, list),
+            Err(_) => Err(ticket),
+        }
+    }
+}
+
+/// What a worker does in a round, until no job is open or memory runs out. It passes the gate before each job, and has
+/// at most one ticket outside its deque.
+pub fn work<
+    N: Naming,
+    K: Ledger,
+    L: Ledger,
+    S: Ledger,
+    D: Ledger,
+    B: Ledger,
+    R: Wait,
+    F: Finder,
+    G: Gate,
+>(
+    rt: &R,
+    alloc: Global,
+    finder: &F,
+    gate: &G,
+    board: &Board<N, K, L, S, D, B>,
+    seat: &mut Seat<K, L, S, D, B>,
+    hand: &mut Hand<N>,
+) -> Ended<N>
+    requires { F.request finder.now ≡ N.request }
+    ensures tickets { IsLeftWith (held_at_end result) seat.old hand.old seat.new hand.new }
+    ensures looks { IsIdle result → seat.old.shares.look.amount < seat.new.shares.look.amount }
+    ensures all { IsIdle result → hand_passes hand.old ≡ 0 → HasAllOfHand hand.new }
+    ensures worker { seat.new.worker ≡ seat.old.worker }
+    ensures place { hand_place hand.new ≡ hand_place hand.old }
+{
+    let mut ahead = false;
+    for _ in rt.forever() {
+        let ticket = match next_ticket(rt, board, seat, hand, ahead) {
+            Ok(Some(ticket)) => ticket,
+            Ok(None) => return Ended::Idle,
+            Err(_) => return Ended::Memory(None),
+        };
+        gate.enter(seat.worker(), ticket.entry());
+        if let Err(ticket) = do_job(rt, alloc, finder, board, seat, hand.others(), ticket) {
+            return Ended::Memory(Some(ticket));
+        }
+        ahead = true;
+    }
+    unreachable!()
+}
