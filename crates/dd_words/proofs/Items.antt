@@ -107,9 +107,6 @@ pub record IsSoFar (w rest : Text) (a : Allowed) : Type 0 where
   pub read : (m : ℕ) → IsIn a m → IsCovered (items_of w) m
   pub later : (m : ℕ) → IsCovered (items_of rest) m → IsCovered (items_of w) m
 
-pub so_far_none : (w : Text) (a : Allowed) → ((m : ℕ) → ¬ IsIn a m) → IsSoFar w w a
-so_far_none w a none = record { all = λ h. h; none = λ h. h; covered = λ m c. inr c; read = λ m h. absurd (none m h); later = λ m c. c }
-
 step_covered : (item : Text) (more : List Text) (a b : Allowed) (m : ℕ) → IsAdded item a b → IsIn a m ⊎ IsCovered (item ∷ more) m → IsIn b m ⊎ IsCovered more m
 step_covered item more a b m added (inl h) = inl ((added.members m).1 (inl h))
 step_covered item more a b m added (inr c) = elim ((covered_front item more m).0 c) [ inl d ↦ inl ((added.members m).1 (inr d)) | inr d ↦ inr d ]

@@ -2,6 +2,7 @@
 use Rattle.std.proofs.Common.{◌≡◌, ◌≤◌, ◌<◌, ℕ, List, [], ◌∷◌, length, get_or, Option, Some, None, Bool, true, not, Bor, rules, refl, sym, ◌∙◌, subst, arith}
 use Rattle.std.specs.Prelude.{IsSome, is_some}
 use Rattle.dd_model.specs.declared.requests.Request.{Request}
+use Rattle.dd_model.proofs.Lists.{cons_head, cons_tail}
 use Rattle.dd_words.specs.declared.commands.Command.{Command}
 use Rattle.dd_words.specs.declared.commands.Command.TheVariants as command
 use Rattle.dd_words.specs.declared.commands.Frame.{Frame}
@@ -81,16 +82,10 @@ pub record AreParts (v : Verb) (ws : List Text) (c : Command) : Type 0 where
   pub single : AreSingle settings
   pub read : IsReadAs v arguments settings c
 
-same_head : (w x : Text) (ws xs : List Text) → w ∷ ws ≡ x ∷ xs → w ≡ x
-same_head w x ws xs e = cc
-
-same_tail : (w x : Text) (ws xs : List Text) → w ∷ ws ≡ x ∷ xs → xs ≡ ws
-same_tail w x ws xs e = cc
-
 pub parts : (v : Verb) (w : Text) (ws : List Text) (c : Command) → w ≡ first_word v → IsCommand (w ∷ ws) c → AreParts v ws c
 parts v w ws c e h =
-    let verb_is : verb_of c ≡ v = same_verb (verb_of c) v (sym (same_head w (first_word (verb_of c)) ws h.rest h.first) ∙ e) in
-    let rest_is : h.rest ≡ ws = same_tail w (first_word (verb_of c)) ws h.rest h.first in
+    let verb_is : verb_of c ≡ v = same_verb (verb_of c) v (sym (cons_head w (first_word (verb_of c)) ws h.rest h.first) ∙ e) in
+    let rest_is : h.rest ≡ ws = sym (cons_tail w (first_word (verb_of c)) ws h.rest h.first) in
     record {
       arguments = h.arguments;
       settings = h.settings;
@@ -98,9 +93,6 @@ parts v w ws c e h =
       single = h.single;
       read = record { verb_is = verb_is; said = h.said };
     }
-
-pub no_words : (c : Command) → IsCommand [] c → ⊥
-no_words c h = let e = h.first in absurd (cc)
 
 -- at most one command
 one_request : (w : Text) (ss : List Given) (p q : Request) → AreSingle ss → IsRequested w ss p → IsRequested w ss q → p ≡ q

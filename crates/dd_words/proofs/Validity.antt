@@ -39,6 +39,10 @@ has_number ss set least a (inr h) =
     let high = range.1 in
     (h.first, (h.is_set h.first).1 (omega arith, omega arith))
 
+in_range : (ss : List Given) (s : Setting) (low high default n : ℕ) → low ≤ default → default ≤ high → IsNumberOr ss s low high default n → (low ≤ n) × (n ≤ high)
+in_range ss s low high default n from to (inl h) = let e = h.1 in (omega arith, omega arith)
+in_range ss s low high default n from to (inr h) = (h.number.from, h.number.to)
+
 at_most : (ss : List Given) (s : Setting) (n : ℕ) → IsNumberOr ss s 1 36 0 n → n ≤ 36
 at_most ss s n (inl h) = let e = h.1 in omega arith
 at_most ss s n (inr h) = h.number.to
@@ -58,3 +62,21 @@ valid_request (x ∷ y ∷ xs) ss q workers round pause checkpoint h = absurd h
 pub valid : (words : List Text) (q : Request) (workers round : ℕ) (pause : Option ℕ) (checkpoint : Option Text)
     → IsCommand words (Catalogue q workers round pause checkpoint) → IsValid q
 valid words q workers round pause checkpoint h = valid_request h.arguments h.settings q workers round pause checkpoint h.said
+
+-- how many workers there are, and jobs in a round
+pub record IsPace (workers round : ℕ) : Type 0 where
+  pub workers_are : (1 ≤ workers) × (workers ≤ 64)
+  pub round_is : (1 ≤ round) × (round ≤ 4096)
+
+pace_said : (xs : List Text) (ss : List Given) (q : Request) (workers round : ℕ) (pause : Option ℕ) (checkpoint : Option Text)
+    → IsSaid (Catalogue q workers round pause checkpoint) xs ss → IsPace workers round
+pace_said (x ∷ []) ss q workers round pause checkpoint h = record {
+  workers_are = in_range ss _ 1 64 1 workers (omega arith) (omega arith) h.run.workers_are;
+  round_is = in_range ss _ 1 4096 64 round (omega arith) (omega arith) h.run.round_is;
+}
+pace_said [] ss q workers round pause checkpoint h = absurd h
+pace_said (x ∷ y ∷ xs) ss q workers round pause checkpoint h = absurd h
+
+pub pace : (words : List Text) (q : Request) (workers round : ℕ) (pause : Option ℕ) (checkpoint : Option Text)
+    → IsCommand words (Catalogue q workers round pause checkpoint) → IsPace workers round
+pace words q workers round pause checkpoint h = pace_said h.arguments h.settings q workers round pause checkpoint h.said

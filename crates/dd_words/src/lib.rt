@@ -20,6 +20,3 @@ pub use fault::WordsFault;
 pub use laws::{taken_requests_are_valid, words_ask_for_one_command};
 pub use names::Name;
 pub use reading::read_words;
-
-#[cfg(test)]
-mod tests;

@@ -11,7 +11,7 @@ use crate::commands::{Command, FileKind};
 use crate::fault::WordsFault;
 use crate::given::{frame_of, name_if_given, read_name};
 use crate::layouts::lay_out;
-use crate::requests::{Run, read_request, read_run};
+use crate::requests::{read_request, read_run};
 use crate::settings::{Given, Setting};
 use crate::values::read_number_in;
 use crate::verbs::Verb;
@@ -96,19 +96,14 @@ fn read_catalogue(
         return Err(WordsFault::NotTaken);
     };
     let checkpoint = name_if_given(alloc, settings, Setting::Checkpoint)?;
-    let Run {
-        workers,
-        round,
-        pause,
-    } = run;
-    if pause.is_some() && checkpoint.is_none() {
+    if run.pause.is_some() && checkpoint.is_none() {
         return Err(WordsFault::NotTaken);
     }
     Ok(Command::Catalogue {
         request,
-        workers,
-        round,
-        pause,
+        workers: run.workers,
+        round: run.round,
+        pause: run.pause,
         checkpoint,
     })
 }
@@ -131,17 +126,11 @@ fn read_resume(
     let Some(run) = read_run(settings) else {
         return Err(WordsFault::NotTaken);
     };
-    let name = read_name(alloc, name)?;
-    let Run {
-        workers,
-        round,
-        pause,
-    } = run;
     Ok(Command::Resume {
-        name,
-        workers,
-        round,
-        pause,
+        name: read_name(alloc, name)?,
+        workers: run.workers,
+        round: run.round,
+        pause: run.pause,
     })
 }
 
