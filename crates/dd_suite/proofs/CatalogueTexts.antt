@@ -8,7 +8,7 @@ use Rattle.dd_model.specs.declared.requests.Request.{Request}
 use Rattle.dd_ports.specs.Grows.{GrowsByPrefix}
 use Rattle.dd_ports.specs.declared.sink.SinkFault.{SinkFault}
 use Rattle.dd_ports.specs.declared.sink.SinkFault.TheVariants.{Failed, Memory}
-use Rattle.dd_suite.specs.declared.ending.Ending.TheVariants.{Done, TooManyLines}
+use Rattle.dd_suite.specs.declared.ending.Ending.TheVariants.{Done}
 use Rattle.dd_suite.specs.declared.catalogue.Finish.{Finish}
 use Rattle.dd_suite.specs.declared.catalogue.Finish.TheVariants.{Whole, CutShort}
 use Rattle.dd_suite.specs.Finishes.{Finishes}

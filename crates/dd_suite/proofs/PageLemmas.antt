@@ -5,15 +5,12 @@ use Rattle.dd_model.specs.Symbol.{Symbol}
 use Rattle.dd_model.specs.Text.{AreLines}
 use Rattle.dd_model.proofs.Texts.{joined_lines, split_lines, lines_unique}
 use Rattle.dd_ports.specs.Grows.{GrowsByPrefix}
+use Rattle.std.proofs.lemmas.List.{append-nil}
 use Rattle.dd_ports.proofs.Growth.{Appends_trans, prefix_after}
 use Rattle.dd_text.specs.Writing.{AddsLines}
 use Rattle.dd_suite.specs.Catalogue.{most_lines}
 use Rattle.dd_suite.specs.Pages.{HasLines, IsCut}
 use Rattle.dd_suite.specs.declared.pages.Page.{Page}
-
-append_nil : {A : Type 0} (xs : List A) → xs ++ [] ≡ xs
-append_nil [] = refl
-append_nil (x ∷ xs) = ap (λ ys. x ∷ ys) (append_nil xs)
 
 -- a text that begins with lines that are partly written and partly collected
 front_of : (start now : Option (List ℕ)) (page : Page) (ss rest : List Symbol) (text : List ℕ) (has : HasLines start now page ss) → AreLines 0 (ss ++ rest) text
@@ -39,7 +36,7 @@ pub lines_written : (start before now : Option (List ℕ)) (old new : Page) (ss 
 lines_written start before now old new ss appended empty count has = record {
   written = has.written ++ old.buffer.items;
   appended = Appends_trans start before now has.written old.buffer.items (has.written ++ old.buffer.items) has.appended appended refl;
-  lines = subst (AreLines 0 ss) (sym (ap (λ xs. (has.written ++ old.buffer.items) ++ xs) empty ∙ append_nil (has.written ++ old.buffer.items))) has.lines;
+  lines = subst (AreLines 0 ss) (sym (ap (λ xs. (has.written ++ old.buffer.items) ++ xs) empty ∙ append-nil (has.written ++ old.buffer.items))) has.lines;
   count = count ∙ has.count;
   few = has.few;
 }
@@ -77,7 +74,7 @@ cut_written start now old new ss more room has empty is count few many =
       more = omega arith;
       lines = has.written;
       are_lines = subst (λ xs. AreLines 0 xs has.written) (sym first)
-          (subst (AreLines 0 (ss ++ take room more)) (ap (λ xs. has.written ++ xs) empty ∙ append_nil has.written) has.lines);
+          (subst (AreLines 0 (ss ++ take room more)) (ap (λ xs. has.written ++ xs) empty ∙ append-nil has.written) has.lines);
       appended = has.appended;
     }
 

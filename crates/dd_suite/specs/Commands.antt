@@ -4,14 +4,15 @@ use Rattle.dd_words.specs.declared.commands.Command.{Command}
 use Rattle.dd_words.specs.declared.commands.Command.TheVariants as command
 use Rattle.dd_suite.specs.declared.task.Task.{Task}
 use Rattle.dd_suite.specs.declared.task.Task.TheVariants.{Catalogue, OnFile}
-use Rattle.dd_suite.specs.Words.{AskFor, IsOnFile, kind_of}
+use Rattle.dd_words.specs.Grammar.{IsCommand}
+use Rattle.dd_suite.specs.Words.{IsOnFile, kind_of}
 
 -- the command is that of a task
 abbrev pub IsTaskOf : Command → Task → Type 0
-IsTaskOf c (Catalogue q) = c ≡ command.Catalogue q 1 64 None None
+IsTaskOf c (Catalogue q pace) = c ≡ command.Catalogue q pace.workers pace.round None None
 IsTaskOf c (OnFile kind name) = c ≡ command.File (kind_of kind) name
 
 -- the words ask for this task
 abbrev pub AskForTask : List (List ℕ) → Task → Type 0
-AskForTask words (Catalogue q) = AskFor words q
+AskForTask words (Catalogue q pace) = IsCommand words (command.Catalogue q pace.workers pace.round None None)
 AskForTask words (OnFile kind name) = IsOnFile words kind name

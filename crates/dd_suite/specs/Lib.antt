@@ -9,4 +9,5 @@ pub mod Endings
 pub mod Stops
 pub mod Messages
 pub mod Pages
+pub mod Rounds
 pub mod Finishes

@@ -9,9 +9,11 @@ use Rattle.dd_commands.specs.declared.commands.FileCommand.{FileCommand}
 use Rattle.dd_commands.specs.declared.commands.FileCommand.TheVariants.{Symbols, Info}
 use Rattle.dd_commands.specs.declared.commands.SymbolCommand.TheVariants.{Lines, Canon, Minimal, Dual, Derived}
 
--- the words of a catalogue with the default number of workers and length of a round, and no checkpoint
+-- the words of a catalogue with any number of workers and any length of a round, and no checkpoint
 pub record AskFor (words : List (List ℕ)) (q : Request) : Type 0 where
-  pub command : IsCommand words (Catalogue q 1 64 None None)
+  pub workers : ℕ
+  pub round : ℕ
+  pub command : IsCommand words (Catalogue q workers round None None)
 
 -- the words of the commands on files that the program has
 abbrev pub kind_of : FileCommand → FileKind

@@ -6,11 +6,15 @@ ghost use Rattle.dd_ports.specs.Causes.{HasCause, StaysSure};
 ghost use Rattle.dd_ports.specs.Grows.{GrowsByPrefix};
 ghost use Rattle.dd_suite.specs.Finishes.{Finishes};
 
+use crate::emission::write_done;
+use crate::pace::Pace;
 use crate::pages::Page;
+use crate::rounds::{do_round, front_of};
 use dd_front::Finder;
-use dd_invol::opening;
-use dd_ports::{Sink, SinkFault};
+use dd_ports::{Gate, Sink, SinkFault};
 use std::alloc::Global;
+use std::sync::Wait;
+use std::thread::Threads;
 
 /// How the writing of a catalogue came to its end.
 #[derive(Clone, Copy, Debug, PartialEq, Eq)]
@@ -21,14 +25,19 @@ pub enum Finish {
     CutShort,
 }
 
-/// Writes the lines of the catalogue of a request: finds the members under each job of the opening,
-/// and writes their lines page by page.
-pub fn write_catalogue<F: Finder, O: Sink>(
+/// Writes the lines of the catalogue of a request: does the jobs of the opening round by round, and writes the lines of
+/// what was found page by page. Neither the workers nor what they choose changes what is written.
+pub fn write_catalogue<R: Threads + Wait + Sync, F: Finder + Sync, G: Gate + Sync, O: Sink>(
+    rt: &R,
     alloc: Global,
     finder: &F,
+    gate: &G,
+    pace: Pace,
     out: &mut O,
 ) -> Result<Finish, SinkFault>
     requires valid { IsValid (F.request finder.now) }
+    requires workers { (1 ≤ pace.workers) × (pace.workers ≤ 64) }
+    requires round { 1 ≤ pace.round }
     ensures prefix { (text : List ℕ) → IsText (F.request finder.now) beginning 0 text
         → GrowsByPrefix (O.held out.old) (O.held out.new) text }
     ensures whole { IfOk result (λ finish.
@@ -37,18 +46,18 @@ pub fn write_catalogue<F: Finder, O: Sink>(
     ensures sure { O.sure out.old ≡ true
         → StaysSure Failed (O.faults out.old) (O.faults out.new) (O.sure out.new) result }
 {
-    let Ok(jobs) = opening(alloc, &finder.request()) else {
+    let Ok(mut front) = front_of(alloc, &finder.request()) else {
         return Err(SinkFault::Memory);
     };
     let mut page = Page::new(alloc);
-    for job in &jobs {
-        let Ok(members) = finder.find(alloc, job) else {
-            return Err(SinkFault::Memory);
-        };
-        if !page.add(&members, out)? {
+    while let Ok(more) = do_round(rt, alloc, finder, gate, pace, &mut front) {
+        if !more {
+            page.flush(out)?;
+            return Ok(Finish::Whole);
+        }
+        if !write_done(&mut front, &mut page, out)? {
             return Ok(Finish::CutShort);
         }
     }
-    page.flush(out)?;
-    Ok(Finish::Whole)
+    Err(SinkFault::Memory)
 }

@@ -2,9 +2,12 @@
 #![tactic(auto)]
 
 mod catalogue;
+mod emission;
 mod ending;
 mod file;
+mod pace;
 mod pages;
+mod rounds;
 mod status;
 mod task;
 mod telling;

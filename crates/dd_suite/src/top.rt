@@ -32,13 +32,13 @@ use std::thread::Threads;
 /// All that the program does: takes the words after its name, writes on `out`, and tells of the
 /// status on `err`. A fault of `err` changes no status.
 pub fn run<R: Threads + Wait + Sync, S: Store, O: Sink, E: Sink, G: Gate + Sync>(
-    _rt: &R,
+    rt: &R,
     alloc: Global,
     words: &[RcStr],
     store: &mut S,
     out: &mut O,
     err: &mut E,
-    _gate: &G,
+    gate: &G,
 ) -> Status
     // Whatever the status, a prefix of the output went out, and after Done the whole.
     ensures prefix { (bytes : List ℕ)
@@ -97,13 +97,20 @@ pub fn run<R: Threads + Wait + Sync, S: Store, O: Sink, E: Sink, G: Gate + Sync>
         (E.held err.old) (E.held err.new) }
     ensures err_count { E.faults err.old ≤ E.faults err.new }
 {
-    let ending = perform(alloc, words, store, out);
+    let ending = perform(rt, alloc, words, store, out, gate);
     let _ = tell(alloc, ending, err);
     ending.status()
 }
 
 /// Does what the words ask for.
-fn perform<S: Store, O: Sink>(alloc: Global, words: &[RcStr], store: &mut S, out: &mut O) -> Ending
+fn perform<R: Threads + Wait + Sync, S: Store, O: Sink, G: Gate + Sync>(
+    rt: &R,
+    alloc: Global,
+    words: &[RcStr],
+    store: &mut S,
+    out: &mut O,
+    gate: &G,
+) -> Ending
     ensures prefix { (bytes : List ℕ)
         → IsKnownOutput (map rc_str_bytes words.now) (S.tells store.old) (S.held store.old) bytes
         → GrowsByPrefix (O.held out.old) (O.held out.new) bytes }
@@ -145,9 +152,9 @@ fn perform<S: Store, O: Sink>(alloc: Global, words: &[RcStr], store: &mut S, out
         Err(Memory) => return Ending::Memory,
     };
     match task {
-        Task::Catalogue(request) => {
+        Task::Catalogue(request, pace) => {
             let search = Search::new(&request);
-            Ending::of_catalogue(write_catalogue(alloc, &search, out))
+            Ending::of_catalogue(write_catalogue(rt, alloc, &search, gate, pace, out))
         }
         Task::OnFile(command, name) => write_file(alloc, command, name.as_str(), store, out),
     }

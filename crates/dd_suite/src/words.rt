@@ -6,18 +6,13 @@ ghost use Rattle.dd_suite.specs.Commands.{IsTaskOf, AskForTask};
 ghost use Rattle.dd_suite.specs.declared.task.Task.{Task as Asked};
 ghost use Rattle.dd_commands.specs.declared.commands.FileCommand.{FileCommand as OfFile};
 
+use crate::pace::Pace;
 use crate::task::Task;
 use dd_commands::{FileCommand, SymbolCommand};
 use dd_model::Memory;
 use dd_words::{Command, FileKind, WordsFault, read_words};
 use std::alloc::Global;
 use std::rc::RcStr;
-
-/// The number of workers where the words ask for no other.
-const WORKERS: u32 = 1;
-
-/// The length of a round where the words ask for no other.
-const ROUND: u32 = 64;
 
 /// What the words ask the program to do, and None exactly where they are not taken.
 pub fn read_task(alloc: Global, words: &[RcStr]) -> Result<Option<Task>, Memory>
@@ -38,11 +33,11 @@ fn task_of(command: Command) -> Option<Task>
     match command {
         Command::Catalogue {
             request,
-            workers: WORKERS,
-            round: ROUND,
+            workers,
+            round,
             pause: None,
             checkpoint: None,
-        } => Some(Task::Catalogue(request)),
+        } => Some(Task::Catalogue(request, Pace { workers, round })),
         Command::File { kind, file } => match command_of(kind) {
             Some(command) => Some(Task::OnFile(command, file)),
             None => None,

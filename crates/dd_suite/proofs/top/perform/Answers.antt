@@ -8,22 +8,35 @@ use Rattle.dd_suite.specs.Stops.{HasFileCause, HasCause}
 use Rattle.dd_suite.proofs.Causes.{cause_of_file}
 use Rattle.std.specs.Rc.{rc_str_bytes}
 use Rattle.dd_suite.specs.declared.task.Task.TheVariants.{Catalogue, OnFile}
-use Rattle.dd_suite.specs.Words.{AskFor, IsOnFile}
+use Rattle.dd_suite.specs.Words.{IsOnFile}
 use Rattle.dd_suite.specs.Held.{IsTextOfHeld}
 use Rattle.dd_suite.specs.Catalogue.{AppendsText}
-use Rattle.dd_suite.proofs.Requests.{valid_request, taken, asked_of, same_request, not_both}
+use Rattle.dd_suite.proofs.Requests.{valid_request, request_asked, pace_asked, taken, asked_of, same_request, not_both}
 use Rattle.dd_suite.proofs.CatalogueTexts.{prefix_of_output, whole_output, what_done_says, cause_of_catalogue, few_members}
 use Rattle.dd_suite.proofs.HeldTexts.{prefix_of_file_output}
 use Rattle.dd_suite.proofs.top.perform.Goals as goal
 
-pub write_catalogue-requires : goal.write_catalogue-requires
-write_catalogue-requires g c =
-    let asked : AskFor (map rc_str_bytes c.args.words.now) c.in-Catalogue.request = asked_of (map rc_str_bytes c.args.words.now) c.in-Ok-Some.field-0 c.in-Ok-Some.task (Catalogue c.in-Catalogue.request) c.in-Ok-Some.ensures c.in-Ok-Some.field-0-is c.in-Catalogue.is in
-    record { valid = subst IsValid (sym c.new-search.ensures) (valid_request (map rc_str_bytes c.args.words.now) c.in-Catalogue.request asked) }
+pub write_catalogue-requires-clause-valid : goal.write_catalogue-requires-clause-valid
+write_catalogue-requires-clause-valid g c κs within =
+    let words = map rc_str_bytes c.args.words.now in
+    let task = asked_of words c.in-Ok-Some.field-0 c.in-Ok-Some.task (Catalogue c.in-Catalogue.request c.in-Catalogue.pace) c.in-Ok-Some.ensures c.in-Ok-Some.field-0-is c.in-Catalogue.is in
+    subst IsValid (sym c.new-search.ensures) (valid_request words c.in-Catalogue.request (request_asked words c.in-Catalogue.request c.in-Catalogue.pace task))
+
+pub write_catalogue-requires-clause-workers : goal.write_catalogue-requires-clause-workers
+write_catalogue-requires-clause-workers g c κs within =
+    let words = map rc_str_bytes c.args.words.now in
+    let task = asked_of words c.in-Ok-Some.field-0 c.in-Ok-Some.task (Catalogue c.in-Catalogue.request c.in-Catalogue.pace) c.in-Ok-Some.ensures c.in-Ok-Some.field-0-is c.in-Catalogue.is in
+    (pace_asked words c.in-Catalogue.request c.in-Catalogue.pace task).workers_are
+
+pub write_catalogue-requires-clause-round : goal.write_catalogue-requires-clause-round
+write_catalogue-requires-clause-round g c κs within =
+    let words = map rc_str_bytes c.args.words.now in
+    let task = asked_of words c.in-Ok-Some.field-0 c.in-Ok-Some.task (Catalogue c.in-Catalogue.request c.in-Catalogue.pace) c.in-Ok-Some.ensures c.in-Ok-Some.field-0-is c.in-Catalogue.is in
+    (pace_asked words c.in-Catalogue.request c.in-Catalogue.pace task).round_is.0
 
 pub returns-in-Catalogue-clause-prefix : goal.returns-in-Catalogue-clause-prefix
 returns-in-Catalogue-clause-prefix g c =
-    let asked : AskFor (map rc_str_bytes c.args.words.now) c.in-Catalogue.request = asked_of (map rc_str_bytes c.args.words.now) c.in-Ok-Some.field-0 c.in-Ok-Some.task (Catalogue c.in-Catalogue.request) c.in-Ok-Some.ensures c.in-Ok-Some.field-0-is c.in-Catalogue.is in
+    let asked = request_asked (map rc_str_bytes c.args.words.now) c.in-Catalogue.request c.in-Catalogue.pace (asked_of (map rc_str_bytes c.args.words.now) c.in-Ok-Some.field-0 c.in-Ok-Some.task (Catalogue c.in-Catalogue.request c.in-Catalogue.pace) c.in-Ok-Some.ensures c.in-Ok-Some.field-0-is c.in-Catalogue.is) in
     let old = g.O.Sink.held c.args.out.now in
     let new = g.O.Sink.held c.write_catalogue.new.out in
     prefix_of_output (map rc_str_bytes c.args.words.now) (g.S.Store.tells c.args.store.now) (g.S.Store.held c.args.store.now) c.in-Catalogue.request old new asked
@@ -33,7 +46,7 @@ pub returns-in-Catalogue-clause-whole : goal.returns-in-Catalogue-clause-whole
 returns-in-Catalogue-clause-whole g c done =
     let old = g.O.Sink.held c.args.out.now in
     let new = g.O.Sink.held c.write_catalogue.new.out in
-    let asked : AskFor (map rc_str_bytes c.args.words.now) c.in-Catalogue.request = asked_of (map rc_str_bytes c.args.words.now) c.in-Ok-Some.field-0 c.in-Ok-Some.task (Catalogue c.in-Catalogue.request) c.in-Ok-Some.ensures c.in-Ok-Some.field-0-is c.in-Catalogue.is in
+    let asked = request_asked (map rc_str_bytes c.args.words.now) c.in-Catalogue.request c.in-Catalogue.pace (asked_of (map rc_str_bytes c.args.words.now) c.in-Ok-Some.field-0 c.in-Ok-Some.task (Catalogue c.in-Catalogue.request c.in-Catalogue.pace) c.in-Ok-Some.ensures c.in-Ok-Some.field-0-is c.in-Catalogue.is) in
     let written = subst (λ q. AppendsText q old new) c.new-search.ensures (what_done_says c.write_catalogue.result c.new-search.result.request old new (sym c.of_catalogue.ensures ∙ done) c.write_catalogue.ensures.whole) in
     whole_output (map rc_str_bytes c.args.words.now) (g.S.Store.tells c.args.store.now) (g.S.Store.held c.args.store.now) c.in-Catalogue.request old new asked written
 
@@ -52,7 +65,7 @@ returns-in-Catalogue-clause-cause g c =
       written = g.O.Sink.held c.write_catalogue.new.out;
       sink_faults = g.O.Sink.faults c.write_catalogue.new.out;
     } in
-    let asked : AskFor words c.in-Catalogue.request = asked_of words c.in-Ok-Some.field-0 c.in-Ok-Some.task (Catalogue c.in-Catalogue.request) c.in-Ok-Some.ensures c.in-Ok-Some.field-0-is c.in-Catalogue.is in
+    let asked = request_asked words c.in-Catalogue.request c.in-Catalogue.pace (asked_of words c.in-Ok-Some.field-0 c.in-Ok-Some.task (Catalogue c.in-Catalogue.request c.in-Catalogue.pace) c.in-Ok-Some.ensures c.in-Ok-Some.field-0-is c.in-Catalogue.is) in
     let finish = subst (λ q. IfOk c.write_catalogue.result (λ finish. Finishes finish q before.written after.written)) c.new-search.ensures c.write_catalogue.ensures.whole in
     subst (λ e. HasCause e words before after) (sym c.of_catalogue.ensures)
     (cause_of_catalogue words c.in-Catalogue.request before after c.write_catalogue.result asked finish c.write_catalogue.ensures.cause)
@@ -62,7 +75,7 @@ returns-in-Catalogue-clause-not_cut g c done q members other is =
     let words = map rc_str_bytes c.args.words.now in
     let old = g.O.Sink.held c.args.out.now in
     let new = g.O.Sink.held c.write_catalogue.new.out in
-    let asked : AskFor words c.in-Catalogue.request = asked_of words c.in-Ok-Some.field-0 c.in-Ok-Some.task (Catalogue c.in-Catalogue.request) c.in-Ok-Some.ensures c.in-Ok-Some.field-0-is c.in-Catalogue.is in
+    let asked = request_asked words c.in-Catalogue.request c.in-Catalogue.pace (asked_of words c.in-Ok-Some.field-0 c.in-Ok-Some.task (Catalogue c.in-Catalogue.request c.in-Catalogue.pace) c.in-Ok-Some.ensures c.in-Ok-Some.field-0-is c.in-Catalogue.is) in
     let written = subst (λ r. AppendsText r old new) c.new-search.ensures (what_done_says c.write_catalogue.result c.new-search.result.request old new (sym c.of_catalogue.ensures ∙ done) c.write_catalogue.ensures.whole) in
     few_members q old new members (subst (λ r. AppendsText r old new) (same_request words c.in-Catalogue.request q asked other) written) is
 
@@ -74,7 +87,7 @@ returns-in-OnFile-clause-not_cut g c done q members other is =
 
 pub returns-in-Catalogue-clause-not_taken : goal.returns-in-Catalogue-clause-not_taken
 returns-in-Catalogue-clause-not_taken g c none =
-    let asked : AskFor (map rc_str_bytes c.args.words.now) c.in-Catalogue.request = asked_of (map rc_str_bytes c.args.words.now) c.in-Ok-Some.field-0 c.in-Ok-Some.task (Catalogue c.in-Catalogue.request) c.in-Ok-Some.ensures c.in-Ok-Some.field-0-is c.in-Catalogue.is in
+    let asked = request_asked (map rc_str_bytes c.args.words.now) c.in-Catalogue.request c.in-Catalogue.pace (asked_of (map rc_str_bytes c.args.words.now) c.in-Ok-Some.field-0 c.in-Ok-Some.task (Catalogue c.in-Catalogue.request c.in-Catalogue.pace) c.in-Ok-Some.ensures c.in-Ok-Some.field-0-is c.in-Catalogue.is) in
     absurd (none (taken (map rc_str_bytes c.args.words.now) c.in-Catalogue.request asked))
 
 pub returns-in-OnFile-clause-prefix : goal.returns-in-OnFile-clause-prefix
