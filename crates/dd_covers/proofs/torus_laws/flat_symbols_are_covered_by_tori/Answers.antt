@@ -1,0 +1,11 @@
+use Rattle.dd_covers.proofs.TorusCovers.{torus_above, morphism_above, sheets_above}
+use Rattle.dd_covers.proofs.torus_laws.flat_symbols_are_covered_by_tori.Goals as goal
+
+pub returns-clause-torus : goal.returns-clause-torus
+returns-clause-torus c = torus_above
+
+pub returns-clause-morphism : goal.returns-clause-morphism
+returns-clause-morphism c = morphism_above
+
+pub returns-clause-sheets : goal.returns-clause-sheets
+returns-clause-sheets c = sheets_above

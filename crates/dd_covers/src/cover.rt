@@ -1,0 +1,11 @@
+use dd_model::Map;
+use dd_symbol::Connected;
+
+/// A symbol above another, each of whose chambers lies above one of the other's.
+#[derive(Drop)]
+pub struct Cover {
+    /// The symbol above.
+    pub symbol: Connected,
+    /// The chamber below each of its chambers, which is a morphism.
+    pub below: Map,
+}

@@ -1,0 +1,68 @@
+ghost use Rattle.std.specs.Prelude.{◌≡◌, ◌≤◌, ◌↔◌, IfOk, IsTrue};
+ghost use Rattle.dd_model.specs.Connected.{Connected as AllReached};
+ghost use Rattle.dd_model.specs.Isomorphic.{IsMorphism};
+ghost use Rattle.dd_cells.specs.Orientation.{IsOriented};
+ghost use Rattle.dd_covers.specs.OrientedCover.{two_sheets, IsOrientedCover};
+ghost use Rattle.dd_covers.specs.Shifts.{AreOnes};
+
+use crate::cover::Cover;
+use crate::sheets::{below, sheets};
+use crate::shifts::Shifts;
+use dd_cells::{Orientation, orientation};
+use dd_model::Memory;
+use dd_symbol::{Connected, Symbol};
+use std::alloc::Global;
+
+/// Whether a symbol is oriented.
+pub(crate) fn is_oriented(alloc: Global, s: &Connected) -> Result<bool, Memory>
+    ensures { IfOk result (λ yes. IsTrue yes ↔ IsOriented s.now) }
+{
+    match orientation(alloc, s)? {
+        Orientation::Oriented => Ok(true),
+        Orientation::Weak | Orientation::None => Ok(false),
+    }
+}
+
+/// Shifts of one sheet everywhere.
+fn ones(alloc: Global, symbol: &Symbol) -> Result<Shifts, Memory>
+    ensures { IfOk result (λ shifts. AreOnes symbol.now shifts) }
+{
+    let size = symbol.size() as usize;
+    Ok(Shifts {
+        x0: vec![in alloc; 1u32; size]?,
+        x1: vec![in alloc; 1u32; size]?,
+        x2: vec![in alloc; 1u32; size]?,
+    })
+}
+
+/// The two sheets of a symbol that is not oriented, each of which every involution leads to the
+/// other.
+fn both_sheets(alloc: Global, s: &Connected) -> Result<Connected, Memory>
+    requires few { s.now.size ≤ 8192 }
+    requires not_oriented { ¬ IsOriented s.now }
+    ensures { IfOk result (λ cover. cover ≡ two_sheets s.now) }
+{
+    let ones = ones(alloc, s.symbol())?;
+    Ok(sheets(alloc, s, 2, &ones)?)
+}
+
+/// The oriented cover of a symbol of at most 8,192 chambers: the symbol itself if it is oriented, and
+/// else its two sheets. Memory alone can be wanting. After Dress and Huson.
+pub fn oriented(alloc: Global, s: &Connected) -> Result<Cover, Memory>
+    requires { s.now.size ≤ 8192 }
+    ensures cover { IfOk result (λ cover. IsOrientedCover s.now cover.symbol cover.below) }
+    ensures morphism { IfOk result (λ cover. IsMorphism cover.symbol s.now cover.below) }
+    ensures oriented { IfOk result (λ cover. IsOriented cover.symbol) }
+    ensures connected { IfOk result (λ cover. AllReached cover.symbol) }
+{
+    if is_oriented(alloc, s)? {
+        return Ok(Cover {
+            symbol: s.try_copy(alloc)?,
+            below: below(alloc, s.symbol(), 1)?,
+        });
+    }
+    Ok(Cover {
+        symbol: both_sheets(alloc, s)?,
+        below: below(alloc, s.symbol(), 2)?,
+    })
+}

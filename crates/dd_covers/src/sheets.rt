@@ -1,0 +1,144 @@
+ghost use Rattle.std.specs.Prelude.{◌≡◌, ◌*◌, ◌<◌, ◌≤◌, ◌++◌, IfOk, OnOk};
+ghost use Rattle.dd_model.specs.Symbol.{IsChamber};
+ghost use Rattle.dd_model.specs.Code.{chambers};
+ghost use Rattle.dd_covers.specs.Sheets.{all_sheets, all_images_in, alike, sheet_images, sheets_of, below_sheets, degrees_of};
+ghost use Rattle.dd_covers.specs.Shifts.{AreBelow, shifts_by, shift};
+ghost use Rattle.dd_symbol.specs.Building.{IsConnectedSymbol};
+
+use crate::shifts::Shifts;
+use dd_model::{Index, Map, Memory, Pair};
+use dd_symbol::{Connected, Refusal, Symbol, build, item};
+use std::alloc::Global;
+
+/// The most chambers of a cover.
+const MOST_CHAMBERS: u32 = 16384;
+
+impl Shifts {
+    /// The shifts of an involution.
+    fn by(&self, i: Index) -> &[u32]
+        ensures { result.now ≡ shifts_by self.now i }
+    {
+        match i {
+            Index::Zero => self.x0.as_slice(),
+            Index::One => self.x1.as_slice(),
+            Index::Two => self.x2.as_slice(),
+        }
+    }
+}
+
+/// Appends the images of the chambers of a sheet.
+fn push_images(
+    images: &mut Vec<u32>,
+    symbol: &Symbol,
+    i: Index,
+    k: u32,
+    shifts: &Shifts,
+    sheet: u32,
+) -> Result<(), Memory>
+    requires shifts { AreBelow symbol.now k shifts.now }
+    requires small { k * symbol.now.size ≤ 16384 }
+    requires sheet { sheet < k }
+    ensures { OnOk result (images.new.items ≡ images.old.items
+        ++ sheet_images symbol.now k (shift shifts.now i) i sheet) }
+{
+    let by = shifts.by(i);
+    for j in 0..symbol.size() {
+        let chamber = j + 1;
+        let there = (sheet + item(by, chamber)) % k;
+        images.push(symbol.op(i, chamber) + there * symbol.size())?;
+    }
+    Ok(())
+}
+
+/// The images of the chambers of k sheets.
+fn images(
+    alloc: Global,
+    symbol: &Symbol,
+    i: Index,
+    k: u32,
+    shifts: &Shifts,
+) -> Result<Vec<u32>, Memory>
+    requires shifts { AreBelow symbol.now k shifts.now }
+    requires small { k * symbol.now.size ≤ 16384 }
+    ensures { IfOk result (λ images. images.items
+        ≡ all_images_in symbol.now k (shift shifts.now i) i) }
+{
+    let mut images = Vec::new(alloc);
+    for sheet in 0..k {
+        push_images(&mut images, symbol, i, k, shifts, sheet)?;
+    }
+    Ok(images)
+}
+
+/// Appends the degrees of all chambers.
+fn push_degrees(degrees: &mut Vec<u32>, symbol: &Symbol, pair: Pair) -> Result<(), Memory>
+    ensures { OnOk result (degrees.new.items ≡ degrees.old.items ++ degrees_of symbol.now pair) }
+{
+    for j in 0..symbol.size() {
+        degrees.push(symbol.degree(pair, j + 1))?;
+    }
+    Ok(())
+}
+
+/// The degrees of the chambers of k sheets.
+fn degrees(alloc: Global, symbol: &Symbol, pair: Pair, k: u32) -> Result<Vec<u32>, Memory>
+    ensures { IfOk result (λ degrees. degrees.items
+        ≡ all_sheets k (alike (degrees_of symbol.now pair))) }
+{
+    let mut degrees = Vec::new(alloc);
+    for _sheet in 0..k {
+        push_degrees(&mut degrees, symbol, pair)?;
+    }
+    Ok(degrees)
+}
+
+/// Appends all chambers.
+fn push_chambers(below: &mut Vec<u32>, symbol: &Symbol) -> Result<(), Memory>
+    ensures { OnOk result (below.new.items ≡ below.old.items ++ chambers symbol.now) }
+{
+    for j in 0..symbol.size() {
+        below.push(j + 1)?;
+    }
+    Ok(())
+}
+
+/// The chamber below each chamber of k sheets.
+pub(crate) fn below(alloc: Global, symbol: &Symbol, k: u32) -> Result<Map, Memory>
+    ensures { IfOk result (λ map. map ≡ below_sheets symbol.now k) }
+{
+    let mut below = Vec::new(alloc);
+    for _sheet in 0..k {
+        push_chambers(&mut below, symbol)?;
+    }
+    Ok(Map::from_vec(below))
+}
+
+/// The symbol of k sheets, which is known to be one.
+pub(crate) fn sheets(
+    alloc: Global,
+    s: &Connected,
+    k: u32,
+    shifts: &Shifts,
+) -> Result<Connected, Memory>
+    requires shifts { AreBelow s.now k shifts.now }
+    requires small { k * s.now.size ≤ 16384 }
+    requires symbol { IsConnectedSymbol (sheets_of s.now k (shift shifts.now)) }
+    ensures { IfOk result (λ cover. cover ≡ sheets_of s.now k (shift shifts.now)) }
+{
+    let symbol = s.symbol();
+    let ops = [
+        images(alloc, symbol, Index::Zero, k, shifts)?,
+        images(alloc, symbol, Index::One, k, shifts)?,
+        images(alloc, symbol, Index::Two, k, shifts)?,
+    ];
+    let m01 = degrees(alloc, symbol, Pair::Tile, k)?;
+    let m12 = degrees(alloc, symbol, Pair::Vertex, k)?;
+    match build(alloc, ops, m01, m12, MOST_CHAMBERS) {
+        Ok(cover) => Ok(cover),
+        Err(why) => match why {
+            Refusal::Memory => Err(Memory),
+            // The sheets are a connected symbol, so that only memory can be wanting.
+            _ => unreachable!(),
+        },
+    }
+}
