@@ -48,10 +48,14 @@ pub(crate) fn lines_at(alloc: Global, places: &[usize]) -> Result<String, AllocE
 #[test]
 fn catalogues(rt: HostRuntime) -> Result<(), Fail> {
     let alloc = rt.alloc();
-    let rows: [(&[&str], &[usize]); 12] = [
+    let rows: [(&[&str], &[usize]); 13] = [
         (&["catalogue", "1"], &[0, 1, 2]),
         (
             &["catalogue", "0000000002"],
+            &[0, 1, 2, 3, 4, 5, 6, 7, 8, 9, 10, 11, 12, 13, 14, 15, 16, 17],
+        ),
+        (
+            &["catalogue", "2", "--workers", "64", "--round", "1"],
             &[0, 1, 2, 3, 4, 5, 6, 7, 8, 9, 10, 11, 12, 13, 14, 15, 16, 17],
         ),
         (
@@ -97,6 +101,22 @@ fn catalogues(rt: HostRuntime) -> Result<(), Fail> {
         let out = written(&rt, alloc, words, "")?;
         assert_eq!(rt; out.held(), lines_at(alloc, places)?.as_bytes());
     }
+    Ok(())
+}
+
+// Neither the number of workers nor the length of a round changes a byte.
+#[test]
+fn workers_and_rounds(rt: HostRuntime) -> Result<(), Fail> {
+    let alloc = rt.alloc();
+    let many = written(&rt, alloc, &["catalogue", "8", "--workers", "4"], "")?;
+    let one = written(
+        &rt,
+        alloc,
+        &["catalogue", "8", "--workers", "1", "--round", "4096"],
+        "",
+    )?;
+    assert!(rt; many.held().len() > 10_000);
+    assert!(rt; many.held() == one.held());
     Ok(())
 }
 

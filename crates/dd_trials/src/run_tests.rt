@@ -40,7 +40,7 @@ fn words_that_are_not_taken(rt: HostRuntime) -> Result<(), Fail> {
         &["catalogue", "37"],
         &["catalogue", "2", "2"],
         &["catalogue", "2", "--min"],
-        &["catalogue", "2", "--workers", "2"],
+        &["catalogue", "2", "--workers", "65"],
         &["catalogue", "2", "--checkpoint", "c"],
         &["catalogue", "2", "--help"],
         &["--version"],

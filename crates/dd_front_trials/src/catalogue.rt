@@ -1,3 +1,6 @@
+ghost use Rattle.std.specs.Prelude.{◌≤◌};
+ghost use Rattle.dd_model.specs.Request.{IsValid};
+
 use crate::plain_front::Span;
 use dd_model::{Code, Job, Request};
 use dd_plain::plain_catalogue;
@@ -25,10 +28,10 @@ fn begins(job: &Job, symbol: &Connected, code: &Code) -> bool {
 }
 
 impl Catalogue {
-    pub(crate) fn of(alloc: Global, request: &Request) -> Result<Catalogue, Fail> {
-        if !request.is_valid() || request.chambers > 3 {
-            return Err(Fail::new("a request that is too large"));
-        }
+    pub(crate) fn of(alloc: Global, request: &Request) -> Result<Catalogue, Fail>
+        requires valid { IsValid request.now }
+        requires few { request.now.chambers ≤ 3 }
+    {
         let members = plain_catalogue(alloc, request)?;
         let mut codes = Vec::new(alloc);
         for member in &members {

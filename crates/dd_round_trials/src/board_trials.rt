@@ -1,38 +1,27 @@
-ghost use Rattle.std.specs.Prelude.{◌≡◌, IfOk};
+ghost use Rattle.std.specs.Prelude.{◌≡◌, ◌≤◌, IfOk};
 ghost use Rattle.dd_model.specs.Request.{IsValid};
 ghost use Rattle.dd_model.specs.Jobs.{AreAscendingJobs, AreApart, AreMembersUnder, AreChildren};
-ghost use Rattle.dd_board.specs.Desk.{AreShort};
+ghost use Rattle.dd_model.specs.declared.requests.Request.{Request};
+ghost use Rattle.dd_board.specs.Desk.{AreJobsOf};
 
-use crate::catalogue_tests::lines_at;
 use dd_board::{Blanks, Board, Desk, Naming, Seat, Taken, Ticket};
 use dd_branch::Search;
 use dd_front::{Event, Finder, State};
-use dd_model::{Allowed, Job, Memory, Prefix, Request};
+use dd_model::{Job, Memory, Prefix, Request};
+use dd_steal::sweep;
 use dd_symbol::Connected;
 use dd_text::put_lines;
 use std::alloc::Global;
 use std::marker::Brand;
 use std::sync::Wait;
-use std::sync::ledger::{Blank, Ledger};
+use std::sync::ledger::Ledger;
 use std::test::Fail;
 
-/// The request for all flat symbols of at most two chambers.
-pub(crate) fn asked() -> Request {
-    Request {
-        chambers: 2,
-        tiles: 0,
-        vertices: 0,
-        faces: Allowed::least(3),
-        degrees: Allowed::least(3),
-        minimal: false,
-    }
-}
-
 /// The jobs (1; 1 1 1) and (2; 1 1 2 2 2 1).
-fn two_jobs(alloc: Global) -> Result<Vec<Job>, Memory>
+pub(crate) fn two_jobs(alloc: Global) -> Result<Vec<Job>, Memory>
     ensures ascending { IfOk result (λ jobs. AreAscendingJobs jobs.items) }
     ensures apart { IfOk result (λ jobs. AreApart jobs.items) }
-    ensures short { IfOk result (λ jobs. AreShort jobs.items) }
+    ensures all { IfOk result (λ jobs. (q : Request) → 2 ≤ q.chambers → AreJobsOf q jobs.items) }
 {
     let first = Job {
         size: 1,
@@ -52,7 +41,7 @@ fn two_jobs(alloc: Global) -> Result<Vec<Job>, Memory>
 fn one_job(alloc: Global) -> Result<Vec<Job>, Memory>
     ensures ascending { IfOk result (λ jobs. AreAscendingJobs jobs.items) }
     ensures apart { IfOk result (λ jobs. AreApart jobs.items) }
-    ensures short { IfOk result (λ jobs. AreShort jobs.items) }
+    ensures all { IfOk result (λ jobs. (q : Request) → 2 ≤ q.chambers → AreJobsOf q jobs.items) }
 {
     let job = Job {
         size: 2,
@@ -73,11 +62,7 @@ fn found<N: Naming>(
     requires valid { IsValid request.now }
     ensures { IfOk result (λ list. AreMembersUnder N.request ticket.now.job list.items) }
 {
-    let job = ticket.job();
-    if job.size < 1 || job.size > request.chambers {
-        return Err(Fail::new("a job of another request"));
-    }
-    Ok(Search::new(request).find(alloc, job)?)
+    Ok(Search::new(request).find(alloc, ticket.job())?)
 }
 
 /// The jobs into which the search splits the ticket's job.
@@ -87,16 +72,13 @@ fn parts<N: Naming>(alloc: Global, request: &Request, ticket: &Ticket<N>) -> Res
     ensures { IfOk result (λ jobs. AreChildren N.request ticket.now.job jobs.items) }
 {
     let job = ticket.job();
-    if job.size < 1 || job.size > request.chambers {
-        return Err(Fail::new("a job of another request"));
-    }
     if job.prefix.as_slice().len() as u64 >= 3 * job.size as u64 {
         return Err(Fail::new("a job of one table"));
     }
     Ok(Search::new(request).split(alloc, job)?)
 }
 
-fn ticket_of<N: Naming>(taken: Taken<N>) -> Result<Ticket<N>, Fail> {
+pub(crate) fn ticket_of<N: Naming>(taken: Taken<N>) -> Result<Ticket<N>, Fail> {
     match taken {
         Taken::Job(ticket) => Ok(ticket),
         Taken::Idle => Err(Fail::new("no job is open")),
@@ -119,7 +101,7 @@ fn name_of(event: &Event) -> &'static str {
 
 /// The names of a desk's events, the numbers of its open entries, and a line for each member of those that
 /// are done.
-fn shown<N: Naming>(alloc: Global, desk: &Desk<N>) -> Result<Vec<u8>, Fail> {
+pub(crate) fn shown<N: Naming>(alloc: Global, desk: &Desk<N>) -> Result<Vec<u8>, Fail> {
     let mut shown = Vec::new(alloc);
     for event in desk.log() {
         shown.extend_from_slice(name_of(event).as_bytes())?;
@@ -135,19 +117,6 @@ fn shown<N: Naming>(alloc: Global, desk: &Desk<N>) -> Result<Vec<u8>, Fail> {
         }
     }
     Ok(shown)
-}
-
-fn blanks(seats: u64) -> Blanks
-    ensures { (result.take.parts ≡ seats) × (result.look.parts ≡ seats) × (result.split.parts ≡ seats)
-        × (result.finish.parts ≡ seats) × (result.back.parts ≡ seats) }
-{
-    Blanks {
-        take: Blank::new(seats),
-        look: Blank::new(seats),
-        split: Blank::new(seats),
-        finish: Blank::new(seats),
-        back: Blank::new(seats),
-    }
 }
 
 /// Takes a job and books what is under it.
@@ -184,7 +153,7 @@ fn take_and_split<N: Naming, K: Ledger, L: Ledger, S: Ledger, D: Ledger, B: Ledg
     Ok(())
 }
 
-/// One seat finishes its job and finds no other one, and one gives its job back.
+/// One seat finishes its job and finds no other one, and one gives its job back, which a sweep then does.
 fn at_two_seats<N: Naming, K: Ledger, L: Ledger, S: Ledger, D: Ledger, B: Ledger, R: Wait>(
     rt: &R,
     alloc: Global,
@@ -197,7 +166,7 @@ fn at_two_seats<N: Naming, K: Ledger, L: Ledger, S: Ledger, D: Ledger, B: Ledger
     requires valid { IsValid request.now }
     requires ascending { AreAscendingJobs jobs.items }
     requires apart { AreApart jobs.items }
-    requires short { AreShort jobs.items }
+    requires all { AreJobsOf request.now jobs.items }
     requires take { (blanks.take.name ≡ K.name) × (blanks.take.parts ≡ K.parts) × (K.parts ≡ 2) }
     requires look { (blanks.look.name ≡ L.name) × (blanks.look.parts ≡ L.parts) × (L.parts ≡ 2) }
     requires split { (blanks.split.name ≡ S.name) × (blanks.split.parts ≡ S.parts) × (S.parts ≡ 2) }
@@ -213,7 +182,11 @@ fn at_two_seats<N: Naming, K: Ledger, L: Ledger, S: Ledger, D: Ledger, B: Ledger
         .map_err(|_| Memory)?;
     let _idle = board.take(rt, &mut seats[0])?;
     board.back(rt, &mut seats[1], two).map_err(|_| Memory)?;
-    Ok(shown(alloc, &board.close(seats))?)
+    let mut desk = board.close(seats);
+    let mut text = shown(alloc, &desk)?;
+    sweep(alloc, &Search::new(request), &mut desk)?;
+    text.append(&mut shown(alloc, &desk)?)?;
+    Ok(text)
 }
 
 /// One seat splits its job, finishes both parts and finds no other job.
@@ -229,7 +202,7 @@ fn at_one_seat<N: Naming, K: Ledger, L: Ledger, S: Ledger, D: Ledger, B: Ledger,
     requires valid { IsValid request.now }
     requires ascending { AreAscendingJobs jobs.items }
     requires apart { AreApart jobs.items }
-    requires short { AreShort jobs.items }
+    requires all { AreJobsOf request.now jobs.items }
     requires take { (blanks.take.name ≡ K.name) × (blanks.take.parts ≡ K.parts) × (K.parts ≡ 1) }
     requires look { (blanks.look.name ≡ L.name) × (blanks.look.parts ≡ L.parts) × (L.parts ≡ 1) }
     requires split { (blanks.split.name ≡ S.name) × (blanks.split.parts ≡ S.parts) × (S.parts ≡ 1) }
@@ -246,44 +219,89 @@ fn at_one_seat<N: Naming, K: Ledger, L: Ledger, S: Ledger, D: Ledger, B: Ledger,
 
 /// What a board of two seats shows.
 fn shown_of_two<R: Wait>(rt: &R, alloc: Global) -> Result<Vec<u8>, Fail> {
-    let request = asked();
-    if !request.is_valid() {
-        return Err(Fail::new("a request that is not valid"));
-    }
+    let request = Request::up_to(2);
     let jobs = two_jobs(alloc)?;
     at_two_seats::<Brand, Brand, Brand, Brand, Brand, Brand, R>(
         rt,
         alloc,
         &request,
         jobs,
-        blanks(2),
+        Blanks::new(2),
     )
 }
 
 /// What a board of one seat shows.
 fn shown_of_one<R: Wait>(rt: &R, alloc: Global) -> Result<Vec<u8>, Fail> {
-    let request = asked();
-    if !request.is_valid() {
-        return Err(Fail::new("a request that is not valid"));
-    }
+    let request = Request::up_to(2);
     let jobs = one_job(alloc)?;
-    at_one_seat::<Brand, Brand, Brand, Brand, Brand, Brand, R>(rt, alloc, &request, jobs, blanks(1))
+    at_one_seat::<Brand, Brand, Brand, Brand, Brand, Brand, R>(
+        rt,
+        alloc,
+        &request,
+        jobs,
+        Blanks::new(1),
+    )
 }
 
-// Of each board, what it shows: its events, and for each entry its state and its members.
+/// One entry is given back and taken again, and its first ticket still fits. A split makes it stale.
+fn at_a_desk<N: Naming>(alloc: Global, request: &Request, jobs: Vec<Job>) -> Result<Vec<u8>, Fail>
+    requires request { request.now ≡ N.request }
+    requires jobs { jobs.items ≡ N.jobs }
+    requires valid { IsValid request.now }
+    requires ascending { AreAscendingJobs jobs.items }
+    requires apart { AreApart jobs.items }
+    requires all { AreJobsOf request.now jobs.items }
+{
+    let mut desk = Desk::<N>::open(alloc, *request, jobs)?;
+    let first = ticket_of(desk.take(1)?)?;
+    desk.back(1, first.entry())?;
+    let again = ticket_of(desk.take(2)?)?;
+    let children = parts(alloc, request, &again)?;
+    desk.split(2, again, children).map_err(|_| Memory)?;
+    let list = found(alloc, request, &first)?;
+    desk.finish(1, first, list).map_err(|_| Memory)?;
+    Ok(shown(alloc, &desk)?)
+}
+
+/// What a desk shows at which a stale ticket is finished.
+fn shown_of_stale(alloc: Global) -> Result<Vec<u8>, Fail> {
+    let request = Request::up_to(2);
+    let jobs = one_job(alloc)?;
+    at_a_desk::<Brand>(alloc, &request, jobs)
+}
+
+// What each shows: its events, and for each entry its state and its members.
 #[test]
-fn boards_of_the_search(rt: HostRuntime) -> Result<(), Fail> {
-    let alloc = rt.alloc();
-    let one = lines_at(alloc, &[0, 1, 2])?;
-    let two = shown_of_two(&rt, alloc)?;
-    let expected = format!(in alloc; "resume take take finish look back \ndone\n{one}\nopen\n")?;
-    assert_eq!(rt; two.as_slice(), expected.as_bytes());
-    let first = lines_at(alloc, &[3, 4, 5])?;
-    let second = lines_at(alloc, &[6, 7, 8])?;
-    let split = shown_of_one(&rt, alloc)?;
-    let expected = format!(in alloc;
-        "resume take split take finish take finish look \ndone\n{first}\ndone\n{second}"
-    )?;
-    assert_eq!(rt; split.as_slice(), expected.as_bytes());
+fn a_board_of_two_seats(rt: HostRuntime) -> Result<(), Fail> {
+    assert_eq!(rt;
+        shown_of_two(&rt, rt.alloc())?.as_slice(),
+        b"resume take take finish look back \
+\ndone\n<1.1:1:1,1,1:3,6>\n<1.2:1:1,1,1:4,4>\n<1.3:1:1,1,1:6,3>\n\nopen\n\
+resume take take finish look back take finish look \
+\ndone\n<1.1:1:1,1,1:3,6>\n<1.2:1:1,1,1:4,4>\n<1.3:1:1,1,1:6,3>\n\
+\ndone\n<1.1:2:1 2,1 2,2:3 3,6>\n<1.2:2:1 2,1 2,2:3 6,4>\n<1.3:2:1 2,1 2,2:4 4,4>\n"
+            .as_slice()
+    );
+    Ok(())
+}
+
+#[test]
+fn a_board_of_one_seat(rt: HostRuntime) -> Result<(), Fail> {
+    assert_eq!(rt;
+        shown_of_one(&rt, rt.alloc())?.as_slice(),
+        b"resume take split take finish take finish look \
+\ndone\n<1.1:2:1 2,1 2,2:3 3,6>\n<1.2:2:1 2,1 2,2:3 6,4>\n<1.3:2:1 2,1 2,2:4 4,4>\n\
+\ndone\n<1.1:2:1 2,2,1 2:4,4>\n<1.2:2:1 2,2,2:4,4>\n<1.3:2:1 2,2,2:6,3>\n"
+            .as_slice()
+    );
+    Ok(())
+}
+
+#[test]
+fn a_stale_ticket_changes_no_entry(rt: HostRuntime) -> Result<(), Fail> {
+    assert_eq!(rt;
+        shown_of_stale(rt.alloc())?.as_slice(),
+        b"resume take back take split finish \nopen\n\nopen\n".as_slice()
+    );
     Ok(())
 }

@@ -2,7 +2,6 @@ ghost use Rattle.std.specs.Prelude.{IfOk};
 ghost use Rattle.dd_model.specs.Request.{IsValid};
 ghost use Rattle.dd_model.specs.Jobs.{AreAscendingJobs, AreApart};
 
-use crate::board_trials::asked;
 use crate::catalogue::Catalogue;
 use crate::front_events::deed_of;
 use crate::plain_front::{Action, PlainFront, Stage};
@@ -158,10 +157,7 @@ fn opening_jobs(alloc: Global, request: &Request) -> Result<Vec<Job>, Memory>
 
 /// A front and a plain list of the same jobs: those of the opening, or shorter ones.
 fn both_of(alloc: Global, catalogue: &Catalogue, short: bool) -> Result<(Front, PlainFront), Fail> {
-    let request = asked();
-    if !request.is_valid() {
-        return Err(Fail::new("a request that is not valid"));
-    }
+    let request = Request::up_to(2);
     let jobs = if short {
         short_jobs(alloc)?
     } else {
@@ -199,7 +195,7 @@ fn run_list<R: Abort>(
 #[test]
 fn fronts_are_plain_lists(rt: HostRuntime) -> Result<(), Fail> {
     let alloc = rt.alloc();
-    let catalogue = Catalogue::of(alloc, &asked())?;
+    let catalogue = Catalogue::of(alloc, &Request::up_to(2))?;
     assert_eq!(rt; catalogue.members.len(), 18);
     let mut counts = [0u32; 9];
     for seed in 0..LISTS {

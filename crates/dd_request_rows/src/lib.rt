@@ -1,0 +1,8 @@
+//! Worked rows of command words, and of the openings, prefixes and tables of requests. The crate holds tests alone, and
+//! none stands on it.
+#![tactic(auto)]
+
+#[cfg(test)]
+mod invol_tests;
+#[cfg(test)]
+mod words_tests;
