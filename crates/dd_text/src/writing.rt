@@ -68,9 +68,9 @@ fn put_head(out: &mut Vec<u8>, k: u128, size: u32) -> Result<(), Memory>
     ensures longer { IsLonger out.old.items out.new.items }
 {
     put_bytes(out, b"<1.")?;
-    put_number(out, k)?;
+    put_ordinal(out, k)?;
     put_bytes(out, b":")?;
-    put_number(out, u128::from(size))?;
+    put_number(out, size)?;
     put_bytes(out, b":")
 }
 
@@ -156,14 +156,26 @@ fn put_next(out: &mut Vec<u8>, begun: bool, number: u32) -> Result<(), Memory>
     if begun {
         put_bytes(out, b" ")?;
     }
-    put_number(out, u128::from(number))
+    put_number(out, number)
 }
 
-/// Appends a number in decimal.
-fn put_number(out: &mut Vec<u8>, number: u128) -> Result<(), Memory>
+/// Appends the number of a line in decimal.
+fn put_ordinal(out: &mut Vec<u8>, k: u128) -> Result<(), Memory>
+    ensures number { OnOk result (out.new.items ≡ out.old.items ++ decimal k) }
+    ensures longer { IsLonger out.old.items out.new.items }
+{
+    let mut digits = Buffer::new();
+    put_bytes(out, digits.format(k).as_bytes())
+}
+
+/// Appends a number in decimal. Most are of one digit.
+fn put_number(out: &mut Vec<u8>, number: u32) -> Result<(), Memory>
     ensures number { OnOk result (out.new.items ≡ out.old.items ++ decimal number) }
     ensures longer { IsLonger out.old.items out.new.items }
 {
+    if number < 10 {
+        return Ok(out.push(b'0' + number as u8)?);
+    }
     let mut digits = Buffer::new();
     put_bytes(out, digits.format(number).as_bytes())
 }
