@@ -29,16 +29,17 @@ use Rattle.dd_cells.proofs.CellSums.{AreRoots, has_roots, members_at, members_at
 use Rattle.dd_covers.specs.Ends.{Holds, one_end, other_end}
 use Rattle.dd_covers.specs.PlaneValues.{IsGreatestValue}
 use Rattle.dd_covers.specs.TorusCover.{sum_along, round, AreColors, AreTorusShifts, HasTorusShifts}
-use Rattle.dd_covers.specs.Visits.{IsVisitOrder, IsFirstStep, IsFree, AreEndsJoined}
+use Rattle.dd_covers.specs.Visits.{rank, IsVisitOrder, IsFirstStep, IsFree, AreEndsJoined}
 use Rattle.dd_covers.proofs.CellEquations.{outward, inward, rule_from_equation}
 use Rattle.dd_covers.proofs.CellFlows.{least_side, flow, IsSide, cell_flow}
-use Rattle.dd_covers.proofs.Congruences.{AreCongruent, remainders, remainder_none, mod_congruent}
+use Rattle.dd_covers.proofs.Congruences.{AreCongruent, both_ways, remainders, remainder_none, mod_congruent}
 use Rattle.dd_covers.proofs.Demands.{demand, demand_is, demands_none}
 use Rattle.dd_covers.proofs.EulerLemmas.{all_cells, all_ascending}
 use Rattle.dd_covers.proofs.FreeSides.{place_below}
 use Rattle.dd_covers.proofs.Labels.{Link, labels}
 use Rattle.dd_covers.proofs.Levels.{one_value, one_holds, other_holds}
-use Rattle.dd_covers.proofs.Nodes.{numbered, decoded, decoded_at}
+use Rattle.dd_covers.proofs.Nodes.{decoded, decoded_at}
+use Rattle.dd_covers.specs.CellNumbers.{numbered}
 use Rattle.dd_covers.proofs.OrderedSides.{value_for, no_value_for, sides_to, link, listed, label, label_of_cells, label_level, joined_none}
 use Rattle.dd_covers.proofs.OrientedLemmas.{color_of}
 use Rattle.dd_covers.proofs.SheetLemmas.{mod_same}
@@ -48,7 +49,7 @@ use Rattle.dd_covers.proofs.Solving.{coming, going, AreMet, AreWithin, AddToNone
 use Rattle.dd_covers.proofs.Spanning.{level_everywhere}
 use Rattle.dd_covers.proofs.ToldCells.{all_told}
 use Rattle.dd_covers.proofs.Trees.{Step}
-use Rattle.dd_covers.proofs.Uniqueness.{rank, sums_congruent}
+use Rattle.dd_covers.proofs.Uniqueness.{sums_congruent}
 
 -- ## Colors with chamber 1 white
 
@@ -64,11 +65,11 @@ first_white : (a : Bool) → from_first a a ≡ true
 first_white true = refl
 first_white false = refl
 
-record HasColors (s : Symbol) : Type 0 where
+pub record HasColors (s : Symbol) : Type 0 where
   pub colors : List Bool
   pub are : AreColors s colors
 
-has_colors : (s : Symbol) → AreInvolutions s → 1 ≤ s.size → IsOriented s → HasColors s
+pub has_colors : (s : Symbol) → AreInvolutions s → 1 ≤ s.size → IsOriented s → HasColors s
 has_colors s inv some o =
     let a = color o.colors 1 in
     let c : ℕ → Bool = λ d. from_first (color o.colors 1) (color o.colors d) in
@@ -85,22 +86,22 @@ has_colors s inv some o =
 
 -- ## Ends
 
-one_outward : (p : Pair) → one_end (outward p) ≡ p
+pub one_outward : (p : Pair) → one_end (outward p) ≡ p
 one_outward Tile = refl
 one_outward Vertex = refl
 one_outward Edge = refl
 
-other_inward : (p : Pair) → other_end (inward p) ≡ p
+pub other_inward : (p : Pair) → other_end (inward p) ≡ p
 other_inward Tile = refl
 other_inward Vertex = refl
 other_inward Edge = refl
 
-outward_one : (j : Index) → outward (one_end j) ≡ j
+pub outward_one : (j : Index) → outward (one_end j) ≡ j
 outward_one Zero = refl
 outward_one One = refl
 outward_one Two = refl
 
-inward_other : (j : Index) → inward (other_end j) ≡ j
+pub inward_other : (j : Index) → inward (other_end j) ≡ j
 inward_other Zero = refl
 inward_other One = refl
 inward_other Two = refl
@@ -117,7 +118,7 @@ module _ (s : Symbol) (inv : AreInvolutions s) (f : List ℕ) (root : Pair → �
   coming_is (e ∷ es) (z ∷ zs) v = ap (λ n. cond (eqb (numbered s (other_end e.index) (root (other_end e.index) e.chamber)) v) z 0 + n) (coming_is es zs v)
 
 -- a number of a cell, among those of all cells
-number_listed : (s : Symbol) (ds : Pair → List ℕ) (p : Pair) (l : ℕ) → Contains (ds p) l → Contains (all_cells s ds) (numbered s p l)
+pub number_listed : (s : Symbol) (ds : Pair → List ℕ) (p : Pair) (l : ℕ) → Contains (ds p) l → Contains (all_cells s ds) (numbered s p l)
 number_listed s ds Tile l here =
     Contains-append_left (map (numbered s Tile) (ds Tile) ++ map (numbered s Vertex) (ds Vertex)) (map (numbered s Edge) (ds Edge)) (numbered s Tile l)
     (Contains-append_left (map (numbered s Tile) (ds Tile)) (map (numbered s Vertex) (ds Vertex)) (numbered s Tile l) (Contains-map (numbered s Tile) (ds Tile) l here))
@@ -129,7 +130,7 @@ number_listed s ds Edge l here =
     (Contains-map (numbered s Edge) (ds Edge) l here)
 
 -- what stands among the numbers of all cells is one of a cell
-record IsNumberOf (s : Symbol) (ds : Pair → List ℕ) (v : ℕ) : Type 0 where
+pub record IsNumberOf (s : Symbol) (ds : Pair → List ℕ) (v : ℕ) : Type 0 where
   pub pair : Pair
   pub least : ℕ
   pub listed : Contains (ds pair) least
@@ -138,14 +139,14 @@ record IsNumberOf (s : Symbol) (ds : Pair → List ℕ) (v : ℕ) : Type 0 where
 number_of_pair : (s : Symbol) (ds : Pair → List ℕ) (p : Pair) (v : ℕ) → Contains (map (numbered s p) (ds p)) v → IsNumberOf s ds v
 number_of_pair s ds p v here = let from = Contains-from_map (numbered s p) (ds p) v here in record { pair = p; least = from.0; listed = from.1; number = from.2 }
 
-number_of : (s : Symbol) (ds : Pair → List ℕ) (v : ℕ) → Contains (all_cells s ds) v → IsNumberOf s ds v
+pub number_of : (s : Symbol) (ds : Pair → List ℕ) (v : ℕ) → Contains (all_cells s ds) v → IsNumberOf s ds v
 number_of s ds v here =
     ⊎_elim
     (λ front. ⊎_elim (number_of_pair s ds Tile v) (number_of_pair s ds Vertex v) (Contains-append_cases (map (numbered s Tile) (ds Tile)) (map (numbered s Vertex) (ds Vertex)) v front))
     (number_of_pair s ds Edge v)
     (Contains-append_cases (map (numbered s Tile) (ds Tile) ++ map (numbered s Vertex) (ds Vertex)) (map (numbered s Edge) (ds Edge)) v here)
 
-least_side_turned : (s : Symbol) → AreInvolutions s → (i : Index) (d : ℕ) → IsChamber s d → least_side s i (op s i d) ≡ least_side s i d
+pub least_side_turned : (s : Symbol) → AreInvolutions s → (i : Index) (d : ℕ) → IsChamber s d → least_side s i (op s i d) ≡ least_side s i d
 least_side_turned s inv i d h =
     let c = op s i d in
     let back = (inv i).involutive d h in
@@ -264,12 +265,6 @@ module _ (s : Symbol) (small : IsSmallSymbol s) (connected : Connected s) (orien
     shift_below : (i : Index) (d : ℕ) → shift i d < k
     shift_below i d = elim (white d) as (λ t. cond t (worth i d % k) ((k - worth i d % k) % k) < k) [ true ↦ mod_below (worth i d) k some | false ↦ mod_below (k - worth i d % k) k some ]
 
-    both_ways : (n : ℕ) → n < k → (n + (k - n) % k) % k ≡ 0
-    both_ways n low =
-        let c = mod_congruent k (k - n) in
-        let e = c.equal in
-        remainder_none k (n + (k - n) % k) (record { up = c.up; down = c.down + 1; equal = omega arith })
-
     shift_opposite : (i : Index) (d : ℕ) → IsChamber s d → (shift i d + shift i (op s i d)) % k ≡ 0
     shift_opposite i d h =
         let low = mod_below (worth i d) k some in
@@ -280,8 +275,8 @@ module _ (s : Symbol) (small : IsSmallSymbol s) (connected : Connected s) (orien
         ap (λ t. cond t (worth i (op s i d) % k) ((k - worth i (op s i d) % k) % k)) far ∙ ap (λ y. cond (not (white d)) (y % k) ((k - y % k) % k)) same in
         ap (λ y. (shift i d + y) % k) there ∙ sum_of (white d) n low where
           sum_of : (t : Bool) (n : ℕ) → n < k → (cond t n ((k - n) % k) + cond (not t) n ((k - n) % k)) % k ≡ 0
-          sum_of true n low = both_ways n low
-          sum_of false n low = let e : (k - n) % k + n ≡ n + (k - n) % k = omega arith in ap (λ y. y % k) e ∙ both_ways n low
+          sum_of true n low = both_ways k n low
+          sum_of false n low = let e : (k - n) % k + n ≡ n + (k - n) % k = omega arith in ap (λ y. y % k) e ∙ both_ways k n low
 
     no_shift : (i : Index) (d : ℕ) → worth i d ≡ 0 → shift i d ≡ 0
     no_shift i d none =

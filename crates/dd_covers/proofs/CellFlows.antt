@@ -15,12 +15,12 @@ use Rattle.dd_model.proofs.Transport.{in_cell_within}
 use Rattle.dd_cells.specs.Cells.{AreMembers}
 use Rattle.dd_cells.proofs.CellSums.{AreRoots, sum_by_listed, sum_by_both, sum_by_none, Contains-filter, Contains-from_filter}
 use Rattle.dd_covers.specs.Ends.{Holds}
-use Rattle.dd_covers.proofs.Nodes.{numbered, root_beside}
+use Rattle.dd_covers.specs.CellNumbers.{numbered}
 use Rattle.dd_covers.proofs.OrderedSides.{is_step, value_for}
 use Rattle.dd_covers.proofs.Sides.{same_index, index_same, same_index-refl}
 use Rattle.dd_covers.proofs.Solving.{one_hit}
 use Rattle.dd_covers.proofs.Trees.{Step}
-use Rattle.dd_covers.proofs.WhiteSums.{whites}
+use Rattle.dd_covers.proofs.WhiteSums.{whites, white_end, white_end_is}
 
 -- the least chamber of a side
 abbrev pub least_side : Symbol → Index → ℕ → ℕ
@@ -57,18 +57,10 @@ module _ (s : Symbol) (inv : AreInvolutions s) (root : Pair → ℕ → ℕ) (ro
 
   -- the white chamber of a side
   abbrev white_of : ℕ → ℕ
-  white_of c = cond (white c) c (op s i c)
+  white_of c = white_end s white i c
 
   white_is : (c : ℕ) → IsChamber s c → IsChamber s (white_of c) × (white (white_of c) ≡ true) × (root p (white_of c) ≡ root p c)
-  white_is c h =
-      ⊎_elim
-      (λ yes.
-      let e : white_of c ≡ c = ap (λ t. cond t c (op s i c)) yes in
-      (subst (IsChamber s) (sym e) h, ap white e ∙ yes, ap (root p) e))
-      (λ b.
-      let e : white_of c ≡ op s i c = ap (λ t. cond t c (op s i c)) b in
-      (subst (IsChamber s) (sym e) ((inv i).within c h), ap white e ∙ exchanged i c h ∙ ap not b, ap (root p) e ∙ root_beside s inv p (root p) (roots p) i c h holds))
-      (cases_Bool (white c))
+  white_is c h = white_end_is s inv white exchanged p (root p) (roots p) i holds c h
 
   least_cases : (d : ℕ) → ((d ≤ op s i d) × (least_side s i d ≡ d)) ⊎ ((op s i d < d) × (least_side s i d ≡ op s i d))
   least_cases d =
@@ -104,7 +96,7 @@ module _ (s : Symbol) (inv : AreInvolutions s) (root : Pair → ℕ → ℕ) (ro
       (cases_Bool (white c))
 
   -- at the white chambers of the cell, a value counts once or not at all
-  one_value : (e : Step) → IsSide s e → (z : ℕ)
+  pub one_value : (e : Step) → IsSide s e → (z : ℕ)
       → sum_by (λ d. cond (is_step e i (least_side s i d)) z 0) ws ≡ cond (eqb (numbered s (pick e.index) (root (pick e.index) e.chamber)) (numbered s p l)) z 0
   one_value e side z =
       ⊎_elim

@@ -1,5 +1,5 @@
 -- Numbers that are equal modulo k.
-use Rattle.std.proofs.Common.{◌≡◌, ℕ, zero, suc, ◌+◌, ◌*◌, ◌/◌, ◌%◌, refl, sym, ap, ◌∙◌, arith}
+use Rattle.std.proofs.Common.{◌≡◌, ℕ, zero, suc, ◌+◌, ◌-◌, ◌*◌, ◌/◌, ◌%◌, ◌<◌, refl, sym, ap, ◌∙◌, arith}
 use Rattle.std.proofs.Math.Nat.{add-mul-mod_self_right, mod-add-div'}
 
 -- some multiples of k make the two equal
@@ -41,3 +41,10 @@ remainder_none k a x = remainders k a 0 x ∙ zero_mod k
 
 pub mod_congruent : (k a : ℕ) → AreCongruent k (a % k) a
 mod_congruent k a = let p = mod-add-div' a k in record { up = a / k; down = 0; equal = omega arith }
+
+-- a number and its opposite
+pub both_ways : (k n : ℕ) → n < k → (n + (k - n) % k) % k ≡ 0
+both_ways k n low =
+    let c = mod_congruent k (k - n) in
+    let e = c.equal in
+    remainder_none k (n + (k - n) % k) (record { up = c.up; down = c.down + 1; equal = omega arith })

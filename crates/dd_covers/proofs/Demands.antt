@@ -24,7 +24,8 @@ use Rattle.dd_cells.proofs.ReciprocalSums.{quotient_is, product_of_quotient, div
 use Rattle.dd_covers.specs.PlaneValues.{AreTheCells, value_of, all_values}
 use Rattle.dd_covers.proofs.Congruences.{AreCongruent}
 use Rattle.dd_covers.proofs.EulerLemmas.{all_cells}
-use Rattle.dd_covers.proofs.Nodes.{numbered, decoded, decoded_at}
+use Rattle.dd_covers.proofs.Nodes.{decoded, decoded_at}
+use Rattle.dd_covers.specs.CellNumbers.{numbered}
 use Rattle.dd_covers.proofs.PlaneLemmas.{sum_balance, told_value}
 use Rattle.dd_covers.proofs.PlaneLists.{want}
 

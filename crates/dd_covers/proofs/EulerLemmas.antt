@@ -17,7 +17,8 @@ use Rattle.dd_covers.proofs.Mapped.{Contains-from_map}
 use Rattle.dd_model.proofs.CellSearch.{least_of_cell_unique}
 use Rattle.dd_cells.specs.Euler.{orbits, IsEuler}
 use Rattle.dd_cells.proofs.CellSums.{AreRoots, has_roots}
-use Rattle.dd_covers.proofs.Nodes.{base, numbered, root_beside}
+use Rattle.dd_covers.proofs.Nodes.{root_beside}
+use Rattle.dd_covers.specs.CellNumbers.{base, numbered}
 use Rattle.dd_covers.proofs.Trees.{Step, IsWhole, whole_tree, many_met}
 use Rattle.dd_covers.proofs.Sides.{off_sides, length-all_sides, few_off}
 use Rattle.dd_covers.specs.Ends.{one_end, other_end, IsOfCells, IsLevel}
@@ -143,14 +144,18 @@ cells_and_chambers s table all ds cells =
     let tree = whole_tree s inv table.chambers in
     few_cells s inv ds cells (λ p. (has_roots s inv p).root) (λ p. (has_roots s inv p).are) all table.chambers tree.steps tree.whole
 
-abbrev cells_of : (s : Symbol) (number : ℤ) → IsEuler s number → Pair → List ℕ
+abbrev pub cells_of : (s : Symbol) (number : ℤ) → IsEuler s number → Pair → List ℕ
 cells_of s number e Tile = e.tiles
 cells_of s number e Vertex = e.vertices
 cells_of s number e Edge = e.edges
 
+pub are_cells_of : (s : Symbol) (number : ℤ) (e : IsEuler s number) (p : Pair) → AreCells s p (cells_of s number e p)
+are_cells_of s number e Tile = e.are_tiles
+are_cells_of s number e Vertex = e.are_vertices
+are_cells_of s number e Edge = e.are_edges
+
 pub euler_bound : (s : Symbol) (number : ℤ) → IsTable s → Connected s → IsEuler s number → number ≤ℤ pos 2
 euler_bound s number table all e =
-    let bound = cells_and_chambers s table all (cells_of s number e)
-    (λ p. elim p as (λ q. AreCells s q (cells_of s number e q)) [ Tile ↦ e.are_tiles | Vertex ↦ e.are_vertices | Edge ↦ e.are_edges ]) in
+    let bound = cells_and_chambers s table all (cells_of s number e) (are_cells_of s number e) in
     let sum = e.sum in
     omega (arith, ints)

@@ -1,5 +1,5 @@
 -- Free sides are told, and so is whether earlier ones join the ends of a side: either they do, or a function of cells shows that they do not.
-use Rattle.std.proofs.Common.{◌≡◌, ◌≢◌, ℕ, ◌<◌, ◌⊎◌, cond, eqb, List, [], ◌∷◌, map, refl, sym, ap, ◌∙◌, subst, inl, inr, ⊎_elim, arith}
+use Rattle.std.proofs.Common.{◌≡◌, ◌≢◌, ℕ, ◌+◌, ◌<◌, ◌⊎◌, cond, eqb, List, [], ◌∷◌, map, refl, sym, ap, ◌∙◌, subst, inl, inr, ⊎_elim, arith}
 use Rattle.std.proofs.lemmas.Bool.{cases_lt, cases_eq, eq-eqb, ne_eqb}
 use Rattle.std.specs.List.{Contains}
 use Rattle.dd_model.specs.declared.index.Index.{Index}
@@ -17,8 +17,9 @@ use Rattle.dd_model.proofs.Transport.{act-along}
 use Rattle.dd_cells.proofs.CellSums.{AreRoots}
 use Rattle.dd_cells.proofs.ColoringLemmas.{by_index}
 use Rattle.dd_covers.specs.Ends.{one_end, other_end, IsOfCells, IsLevel}
-use Rattle.dd_covers.specs.Visits.{place_of, IsBefore, IsFirstStep, IsFree, AreEndsJoined, IsVisitOrder}
-use Rattle.dd_covers.proofs.Nodes.{numbered, root_beside, decoded, decoded_at}
+use Rattle.dd_covers.specs.Visits.{place_of, rank, IsBefore, IsFirstStep, IsFree, AreEndsJoined, IsVisitOrder}
+use Rattle.dd_covers.proofs.Nodes.{root_beside, decoded, decoded_at}
+use Rattle.dd_covers.specs.CellNumbers.{numbered}
 use Rattle.dd_covers.proofs.Labels.{Link, labels, linked, label_value}
 use Rattle.dd_covers.proofs.Sides.{all_sides, side_listed}
 use Rattle.dd_covers.proofs.Trees.{Step}
@@ -58,6 +59,21 @@ place_same Two Zero e = absurd (omega arith)
 place_same Two One e = absurd (omega arith)
 place_same Two Two e = refl
 
+pub before_from_rank : (i j : Index) (d e : ℕ) → rank j e < rank i d → IsBefore e j d i
+before_from_rank i j d e less =
+    let pi = place_below i in
+    let pj = place_below j in
+    ⊎_elim (λ low. inl low) (λ high. inr (omega arith, omega arith)) (cases_lt e d)
+
+pub rank_from_before : (i j : Index) (d e : ℕ) → IsBefore e j d i → rank j e < rank i d
+rank_from_before i j d e b = let p = place_below j in let q = place_below i in ⊎_elim (λ less. omega arith) (λ both. let e1 = both.0 in let e2 = both.1 in omega arith) b
+
+pub rank_cases : (i j : Index) (k c : ℕ) → rank j c < rank i k + 1 → (rank j c < rank i k) ⊎ ((j ≡ i) × (c ≡ k))
+rank_cases i j k c low =
+    let p = place_below i in
+    let q = place_below j in
+    ⊎_elim (λ less. inl less) (λ more. let e : place_of j ≡ place_of i = omega arith in inr (place_same j i e, omega arith)) (cases_lt (rank j c) (rank i k))
+
 -- ## What is free is decided
 
 decide_before : (m : ℕ) (i : Index) (n : ℕ) (j : Index) → Decided (IsBefore m i n j)
@@ -83,14 +99,14 @@ decide_both (inl p) (inr fails) = inr (λ both. fails both.1)
 decide_both (inr fails) q = inr (λ both. fails both.0)
 
 module _ (s : Symbol) (inv : AreInvolutions s) (f : List ℕ) where
-  first_from : (i : Index) (d : ℕ) → IsChamber s d → op s i d ≢ 1
+  pub first_from : (i : Index) (d : ℕ) → IsChamber s d → op s i d ≢ 1
       → ((j : Index) → IsBefore (item f (op s j (op s i d))) j (item f d) i → ⊥) → IsFirstStep s f i d
   first_from i d h new none = record {
     new = new;
     first = λ j e he same before. none j (subst (λ z. IsBefore (item f z) j (item f d) i) (sym ((inv j).involutive e he) ∙ ap (op s j) same) before);
   }
 
-  none_from : (i : Index) (d : ℕ) → IsChamber s d → IsFirstStep s f i d → (j : Index) → IsBefore (item f (op s j (op s i d))) j (item f d) i → ⊥
+  pub none_from : (i : Index) (d : ℕ) → IsChamber s d → IsFirstStep s f i d → (j : Index) → IsBefore (item f (op s j (op s i d))) j (item f d) i → ⊥
   none_from i d h first j before =
       let there = (inv i).within d h in
       first.first j (op s j (op s i d)) ((inv j).within (op s i d) there) ((inv j).involutive (op s i d) there) before

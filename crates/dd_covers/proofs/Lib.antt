@@ -30,3 +30,12 @@ pub mod OrderedSides
 pub mod CellFlows
 pub mod Assembled
 pub mod TorusCovers
+pub mod VisitingLemmas
+pub mod SideListLemmas
+pub mod JoinLemmas
+pub mod SettleLemmas
+pub mod WantLemmas
+pub mod SettledFirst
+pub mod Crossings
+pub mod CellRanks
+pub mod EvenLemmas

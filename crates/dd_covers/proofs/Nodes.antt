@@ -9,15 +9,7 @@ use Rattle.dd_model.proofs.CellWalks.{in_cell-refl, in_cell-sym, in_cell-trans, 
 use Rattle.dd_model.proofs.CellSearch.{least_of_cell_unique}
 use Rattle.dd_cells.proofs.CellSums.{AreRoots}
 use Rattle.dd_covers.specs.Ends.{Holds}
-
--- the numbers of vertices come after those of tiles, and those of edges after both
-abbrev pub base : Symbol → Pair → ℕ
-base s Tile = 0
-base s Vertex = s.size + 1
-base s Edge = 2 * (s.size + 1)
-
-abbrev pub numbered : Symbol → Pair → ℕ → ℕ
-numbered s p l = base s p + l
+use Rattle.dd_covers.specs.CellNumbers.{numbered}
 
 -- neighbors in a cell have one root
 pub root_beside : (s : Symbol) → AreInvolutions s → (p : Pair) (root : ℕ → ℕ) → AreRoots s p root → (i : Index) (d : ℕ) → IsChamber s d → Holds p i → root (op s i d) ≡ root d

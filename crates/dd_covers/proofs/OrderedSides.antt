@@ -11,14 +11,14 @@ use Rattle.dd_model.proofs.CellSearch.{Decided}
 use Rattle.dd_model.proofs.Lists.{Contains-none, Contains-head, Contains-later, Contains-cases, Contains-map}
 use Rattle.dd_cells.proofs.CellSums.{AreRoots}
 use Rattle.dd_covers.specs.Ends.{one_end, other_end, IsOfCells, IsLevel}
-use Rattle.dd_covers.specs.Visits.{place_of, IsBefore, IsFree, AreEndsJoined}
-use Rattle.dd_covers.proofs.FreeSides.{keep_if, decide_free, place_below}
+use Rattle.dd_covers.specs.Visits.{place_of, rank, IsFree, AreEndsJoined}
+use Rattle.dd_covers.proofs.FreeSides.{keep_if, decide_free, place_below, rank_from_before}
 use Rattle.dd_covers.proofs.Labels.{Link, labels, linked}
-use Rattle.dd_covers.proofs.Nodes.{numbered, root_beside}
+use Rattle.dd_covers.proofs.Nodes.{root_beside}
+use Rattle.dd_covers.specs.CellNumbers.{numbered}
 use Rattle.dd_covers.proofs.Sides.{same_index, index_same}
 use Rattle.dd_covers.proofs.Solving.{AreValues}
 use Rattle.dd_covers.proofs.Trees.{Step}
-use Rattle.dd_covers.proofs.Uniqueness.{rank}
 
 -- ## Sides by rank
 
@@ -149,9 +149,6 @@ module _ (s : Symbol) (inv : AreInvolutions s) (f : List ℕ) (root : Pair → �
   label_level n j e free low =
       let x : Step = record { chamber = e; index = j } in
       linked (map link (sides_to n)) (link x) (Contains-map link (sides_to n) x (lists n j e free low))
-
-  rank_from_before : (i j : Index) (d e : ℕ) → IsBefore e j d i → rank j e < rank i d
-  rank_from_before i j d e b = let p = place_below j in let q = place_below i in ⊎_elim (λ less. omega arith) (λ both. let e1 = both.0 in let e2 = both.1 in omega arith) b
 
   -- ends that are joined have one label before their side
   joined_label : (i : Index) (d : ℕ) → AreEndsJoined s f i d → IsLevel (label (rank i d)) i d

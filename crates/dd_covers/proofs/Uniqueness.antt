@@ -1,5 +1,5 @@
 -- The four rules have one solution at most: from the last free side back, two solutions are equal at each side.
-use Rattle.std.proofs.Common.{◌≡◌, ℕ, zero, suc, ◌+◌, ◌*◌, ◌<◌, ◌≤◌, ◌⊎◌, Bool, true, false, not, cond, List, [], ◌∷◌, refl, sym, ap, ◌∙◌, subst, inl, inr, ⊎_elim, arith}
+use Rattle.std.proofs.Common.{◌≡◌, ℕ, zero, suc, ◌+◌, ◌*◌, ◌≤◌, ◌⊎◌, Bool, true, false, not, cond, List, [], ◌∷◌, refl, sym, ap, ◌∙◌, subst, inl, inr, ⊎_elim, arith}
 use Rattle.std.proofs.lemmas.Bool.{cases_Bool, cases_lt, cases_order}
 use Rattle.std.proofs.lemmas.List.Sums.{sum_by-cons}
 use Rattle.std.specs.List.{Contains, filter, sum_by}
@@ -23,10 +23,10 @@ use Rattle.dd_covers.specs.Ends.{one_end, other_end, IsOfCells, IsLevel}
 use Rattle.dd_covers.specs.PlaneValues.{IsGreatestValue}
 use Rattle.dd_covers.specs.Sheets.{sheets_of, below_sheets}
 use Rattle.dd_covers.specs.TorusCover.{AreTorusShifts, IsTorusCoverOf}
-use Rattle.dd_covers.specs.Visits.{place_of, IsBefore, IsFirstStep, IsFree, AreEndsJoined}
+use Rattle.dd_covers.specs.Visits.{place_of, rank, IsFirstStep, IsFree, AreEndsJoined}
 use Rattle.dd_covers.proofs.CellEquations.{outward, inward, cell_equation}
 use Rattle.dd_covers.proofs.Congruences.{AreCongruent, congruent_same, congruent_times, remainders, no_remainder}
-use Rattle.dd_covers.proofs.FreeSides.{AreParted, joined_or_parted, decide_free, decide_first, order_unique, place_below, place_same}
+use Rattle.dd_covers.proofs.FreeSides.{before_from_rank, AreParted, joined_or_parted, decide_free, decide_first, order_unique, place_below, place_same}
 use Rattle.dd_covers.proofs.Levels.{level_beside, one_holds, other_holds}
 use Rattle.dd_covers.proofs.SheetLemmas.{mod_same, shifts_same}
 use Rattle.dd_covers.proofs.WhiteSums.{whites}
@@ -100,15 +100,6 @@ filter_same p q (x ∷ xs) same =
 term : (a b u v : ℕ) → (a ≡ b) ⊎ (u ≡ v) → a * v + b * u ≡ a * u + b * v
 term a b u v (inl e) = let p = ap (λ z. z * v) e in let q = ap (λ z. z * u) e in omega arith
 term a b u v (inr e) = let p = ap (λ z. a * z) e in let q = ap (λ z. b * z) e in omega arith
-
-abbrev pub rank : Index → ℕ → ℕ
-rank i d = 3 * d + place_of i
-
-before_from_rank : (i j : Index) (d e : ℕ) → rank j e < rank i d → IsBefore e j d i
-before_from_rank i j d e less =
-    let pi = place_below i in
-    let pj = place_below j in
-    ⊎_elim (λ low. inl low) (λ high. inr (omega arith, omega arith)) (cases_lt e d)
 
 module _ (s : Symbol) (is : IsSymbol s) (all : Connected s) (k : ℕ) (x y : Index → ℕ → ℕ) (sx : AreTorusShifts s k x) (sy : AreTorusShifts s k y) where
   abbrev white : ℕ → Bool

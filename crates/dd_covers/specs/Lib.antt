@@ -6,3 +6,11 @@ pub mod PlaneValues
 pub mod Ends
 pub mod Visits
 pub mod TorusCover
+pub mod Visiting
+pub mod CellNumbers
+pub mod SideLists
+pub mod Joins
+pub mod Settling
+pub mod Wanting
+pub mod TorusFaults
+pub mod Parity

@@ -15,6 +15,10 @@ shifts_by x Two = x.x2.items
 abbrev pub shift : Shifts → Index → ℕ → ℕ
 shift x i d = item (shifts_by x i) d
 
+-- a number for each involution and chamber
+abbrev pub HaveSize : Symbol → Shifts → Type 0
+HaveSize s x = (i : Index) → length (shifts_by x i) ≡ s.size
+
 -- a number below k for each involution and chamber
 pub record AreBelow (s : Symbol) (k : ℕ) (x : Shifts) : Type 0 where
   pub lengths : (i : Index) → length (shifts_by x i) ≡ s.size
@@ -24,3 +28,8 @@ pub record AreBelow (s : Symbol) (k : ℕ) (x : Shifts) : Type 0 where
 pub record AreOnes (s : Symbol) (x : Shifts) : Type 0 where
   pub lengths : (i : Index) → length (shifts_by x i) ≡ s.size
   pub each : (i : Index) (d : ℕ) → IsChamber s d → shift x i d ≡ 1
+
+-- no sheet further on
+pub record AreZeros (s : Symbol) (x : Shifts) : Type 0 where
+  pub lengths : HaveSize s x
+  pub each : (i : Index) (d : ℕ) → shift x i d ≡ 0

@@ -1,5 +1,5 @@
 -- The order in which the chambers are first visited from chamber 1, and the sides by which none is.
-use Rattle.std.specs.Prelude.{◌≡◌, ◌≢◌, ◌⊎◌, ℕ, ◌<◌, ◌≤◌, List}
+use Rattle.std.specs.Prelude.{◌≡◌, ◌≢◌, ◌⊎◌, ℕ, ◌+◌, ◌*◌, ◌<◌, ◌≤◌, List}
 use Rattle.dd_model.specs.Symbol.{Symbol, IsChamber, item, op}
 use Rattle.dd_model.specs.FirstVisit.{IsNumberedFrom}
 use Rattle.dd_model.specs.declared.index.Index.{Index}
@@ -17,6 +17,10 @@ abbrev pub place_of : Index → ℕ
 place_of Zero = 0
 place_of One = 1
 place_of Two = 2
+
+-- steps, or sides, by a number and then by the involution, as numbers
+abbrev pub rank : Index → ℕ → ℕ
+rank i d = 3 * d + place_of i
 
 -- by a number, and then by the involution
 abbrev pub IsBefore : ℕ → Index → ℕ → Index → Type 0

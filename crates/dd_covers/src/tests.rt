@@ -1,6 +1,6 @@
 ghost use Rattle.std.specs.Prelude.{◌≡◌, IfOk};
 
-use crate::{Cover, euler_law, is_torus, oriented};
+use crate::{Cover, TorusFault, euler_law, is_torus, oriented, torus};
 use dd_model::Memory;
 use dd_symbol::{Connected, Refusal, build, cmp_code};
 use std::alloc::Global;
@@ -79,8 +79,30 @@ fn turned_octagons() -> Told<'static> {
     }
 }
 
+/// The tiling by triangles and hexagons.
+fn trihexagons() -> Told<'static> {
+    Told {
+        ops: [&[1, 2], &[1, 2], &[2, 1]],
+        m01: &[3, 6],
+        m12: &[4, 4],
+    }
+}
+
+/// The tiling by squares, hexagons and dodecagons.
+fn great_rhombs() -> Told<'static> {
+    Told {
+        ops: [
+            &[1, 2, 3, 4, 5, 6],
+            &[2, 1, 5, 6, 3, 4],
+            &[3, 4, 1, 2, 6, 5],
+        ],
+        m01: &[4, 4, 6, 12, 6, 12],
+        m12: &[3, 3, 3, 3, 3, 3],
+    }
+}
+
 /// The squares on a torus of one square.
-fn torus() -> Told<'static> {
+fn one_square() -> Told<'static> {
     Told {
         ops: [
             &[2, 1, 4, 3, 6, 5, 8, 7],
@@ -116,7 +138,7 @@ fn covers_oriented(rt: HostRuntime) -> Result<(), Fail> {
         (single(&[4], &[4]), squares, [1, 1].as_slice()),
         (squares, squares, &[1, 2]),
         (octagons(), turned_octagons(), &[1, 2, 3, 1, 2, 3]),
-        (torus(), torus(), &[1, 2, 3, 4, 5, 6, 7, 8]),
+        (one_square(), one_square(), &[1, 2, 3, 4, 5, 6, 7, 8]),
         (single(&[3], &[7]), pair(&[3, 3], &[7, 7]), &[1, 1]),
     ];
     for (told, want, below) in rows {
@@ -135,7 +157,7 @@ fn shape(alloc: Global, told: &Told) -> Result<(bool, i64), Fail> {
 fn tells_tori(rt: HostRuntime) -> Result<(), Fail> {
     let alloc = rt.alloc();
     let rows = [
-        (torus(), (true, 0)),
+        (one_square(), (true, 0)),
         (single(&[4], &[4]), (false, 1)),
         (pair(&[4, 4], &[4, 4]), (false, 2)),
         (turned_octagons(), (false, 2)),
@@ -144,5 +166,90 @@ fn tells_tori(rt: HostRuntime) -> Result<(), Fail> {
     for (told, want) in rows {
         assert_eq!(rt; shape(alloc, &told)?, want);
     }
+    Ok(())
+}
+
+/// The torus cover, or why there is none.
+fn torus_of(alloc: Global, told: &Told) -> Result<Result<Cover, TorusFault>, Fail> {
+    let symbol = told.build(alloc)?;
+    if symbol.symbol().size() > 1024 {
+        return Err(Memory.into());
+    }
+    Ok(torus(alloc, &symbol))
+}
+
+/// The size of the torus cover, and whether it is a torus.
+fn sheets_of(alloc: Global, told: &Told) -> Result<(u32, bool), Fail> {
+    match torus_of(alloc, told)? {
+        Ok(cover) => Ok((
+            cover.symbol.symbol().size(),
+            is_torus(alloc, &cover.symbol)?,
+        )),
+        Err(_) => Ok((0, false)),
+    }
+}
+
+#[test]
+fn covers_by_tori(rt: HostRuntime) -> Result<(), Fail> {
+    let alloc = rt.alloc();
+    let rows = [
+        (single(&[4], &[4]), 8),
+        (single(&[6], &[3]), 12),
+        (single(&[3], &[6]), 12),
+        (pair(&[4, 4], &[4, 4]), 8),
+        (trihexagons(), 24),
+        (octagons(), 24),
+        (turned_octagons(), 24),
+        (great_rhombs(), 72),
+        (one_square(), 8),
+    ];
+    for (told, size) in rows {
+        assert_eq!(rt; sheets_of(alloc, &told)?, (size, true));
+    }
+    Ok(())
+}
+
+/// The curvature of a symbol that is not flat, or 0 / 0.
+fn bend(alloc: Global, told: &Told) -> Result<(i128, i128), Fail> {
+    match torus_of(alloc, told)? {
+        Ok(_) => Ok((0, 0)),
+        Err(fault) => match fault {
+            TorusFault::NotFlat { curvature } => Ok((curvature.num, curvature.den)),
+            TorusFault::Memory => Err(Memory.into()),
+        },
+    }
+}
+
+#[test]
+fn covers_flat_symbols_alone(rt: HostRuntime) -> Result<(), Fail> {
+    let alloc = rt.alloc();
+    let rows = [
+        (single(&[3], &[3]), (1, 6)),
+        (single(&[3], &[7]), (-1, 42)),
+        (single(&[3], &[6]), (0, 0)),
+    ];
+    for (told, want) in rows {
+        assert_eq!(rt; bend(alloc, &told)?, want);
+    }
+    Ok(())
+}
+
+/// Whether the torus cover is this symbol, and leads down to these chambers.
+fn is_torus_of(alloc: Global, told: &Told, want: &Told, below: &[u32]) -> Result<bool, Fail> {
+    let want = want.build(alloc)?;
+    match torus_of(alloc, told)? {
+        Ok(cover) => {
+            let same = cmp_code(cover.symbol.symbol(), want.symbol()) == Ordering::Equal;
+            Ok(same && cover.below.as_slice() == below)
+        }
+        Err(_) => Ok(false),
+    }
+}
+
+#[test]
+fn covers_a_torus_by_itself(rt: HostRuntime) -> Result<(), Fail> {
+    let alloc = rt.alloc();
+    let below = [1, 2, 3, 4, 5, 6, 7, 8];
+    assert!(rt; is_torus_of(alloc, &one_square(), &one_square(), &below)?);
     Ok(())
 }

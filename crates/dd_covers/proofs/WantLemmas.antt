@@ -1,0 +1,139 @@
+-- What is wanting at the cells, and the greatest branching value.
+use Rattle.std.proofs.Common.{◌≡◌, ℕ, ◌+◌, ◌-◌, ◌*◌, ◌/◌, ◌%◌, ◌<◌, ◌≤◌, List, length, max, set, slice_index, refl, sym, ap, ◌∙◌, subst, ⊎_elim, arith}
+use Rattle.std.proofs.lemmas.Bool.{cases_lt, cases_eq}
+use Rattle.std.proofs.lemmas.List.{get_or-set_same, get_or-set_other}
+use Rattle.dd_model.specs.declared.pair.Pair.{Pair}
+use Rattle.dd_model.specs.declared.pair.Pair.TheVariants.{Tile, Vertex, Edge}
+use Rattle.dd_model.specs.Symbol.{Symbol, IsChamber, IsSymbol}
+use Rattle.dd_model.specs.Cell.{IsBranching}
+use Rattle.dd_model.proofs.Branching.{branching_same, branching_unique}
+use Rattle.dd_model.proofs.CellSearch.{least_of_cell_unique}
+use Rattle.dd_model.proofs.CellWalks.{in_cell-sym, in_cell-trans}
+use Rattle.dd_covers.specs.CellNumbers.{numbered, IsCellNumber}
+use Rattle.dd_covers.specs.PlaneValues.{IsGreatestValue}
+use Rattle.dd_covers.specs.Wanting.{IsGreatestTo, IsWantedAt}
+use Rattle.dd_covers.proofs.JoinLemmas.{number_low}
+
+-- ## One number, one cell
+
+pair_of_number : (s : Symbol) (p q : Pair) (l m : ℕ) → IsChamber s l → IsChamber s m → numbered s p l ≡ numbered s q m → p ≡ q
+pair_of_number s Tile Tile l m hl hm e = refl
+pair_of_number s Tile Vertex l m hl hm e = absurd (omega (arith, hl.0, hl.1, hm.0, hm.1, e))
+pair_of_number s Tile Edge l m hl hm e = absurd (omega (arith, hl.0, hl.1, hm.0, hm.1, e))
+pair_of_number s Vertex Tile l m hl hm e = absurd (omega (arith, hl.0, hl.1, hm.0, hm.1, e))
+pair_of_number s Vertex Vertex l m hl hm e = refl
+pair_of_number s Vertex Edge l m hl hm e = absurd (omega (arith, hl.0, hl.1, hm.0, hm.1, e))
+pair_of_number s Edge Tile l m hl hm e = absurd (omega (arith, hl.0, hl.1, hm.0, hm.1, e))
+pair_of_number s Edge Vertex l m hl hm e = absurd (omega (arith, hl.0, hl.1, hm.0, hm.1, e))
+pair_of_number s Edge Edge l m hl hm e = refl
+
+value_of_number : (s : Symbol) → IsSymbol s → (p q : Pair) (d e n v w : ℕ) → IsChamber s d → IsChamber s e → IsCellNumber s p d n → IsCellNumber s q e n → IsBranching s p d v → IsBranching s q e w → v ≡ w
+value_of_number s is p q d e n v w hd he cd ce bd be =
+    let hl = cd.is_least.is_least.0 in
+    let hm = ce.is_least.is_least.0 in
+    let same : numbered s p cd.least ≡ numbered s q ce.least = sym cd.number ∙ ce.number in
+    let pair = pair_of_number s p q cd.least ce.least hl hm same in
+    let own : numbered s q cd.least ≡ numbered s q ce.least = subst (λ r. numbered s r cd.least ≡ numbered s q ce.least) pair same in
+    let least : cd.least ≡ ce.least = omega arith in
+    let bl = branching_same s is p d cd.least v hd cd.is_least.in_cell bd in
+    let bm = branching_same s is q e ce.least w he ce.is_least.in_cell be in
+    branching_unique s q ce.least v w (subst (λ l. IsBranching s q l v) least (subst (λ r. IsBranching s r cd.least v) pair bl)) bm
+
+module _ (s : Symbol) (is : IsSymbol s) (k : ℕ) (wants : List ℕ) (size : length wants ≡ 3 * (s.size + 1)) (p : Pair) (d n v : ℕ) (h : IsChamber s d) (c : IsCellNumber s p d n) (b : IsBranching s p d v) where
+  abbrev after : List ℕ
+  after = set wants n (k / v % k)
+
+  inside : n < length wants
+  inside = let l = number_low s p d n c in omega arith
+
+  at_number : (q : Pair) (e m w : ℕ) → IsChamber s e → IsCellNumber s q e m → IsBranching s q e w → m ≡ n → slice_index after m ≡ k / w % k
+  at_number q e m w he ce be same =
+      ap (slice_index after) same ∙ get_or-set_same wants n (k / v % k) 0 inside
+      ∙ ap (λ z. k / z % k) (value_of_number s is p q d e n v w h he c (subst (IsCellNumber s q e) same ce) b be)
+
+  pub want_own : IsWantedAt s k after p d
+  want_own = record {
+    value = λ m w cm bw. ⊎_elim
+        (λ same. at_number p d m w h cm bw same)
+        (λ other. absurd (other (one_number m cm)))
+        (cases_eq m n);
+  } where
+    one_number : (m : ℕ) → IsCellNumber s p d m → m ≡ n
+    one_number m cm =
+        let e = least_of_cell_unique s is.table.involutions p cm.least c.least cm.is_least.is_least c.is_least.is_least
+        (in_cell-trans s p cm.least d c.least (in_cell-sym s is.table.involutions p d cm.least h cm.is_least.in_cell) c.is_least.in_cell) in
+        cm.number ∙ ap (numbered s p) e ∙ sym c.number
+
+  pub want_kept : (q : Pair) (e : ℕ) → IsChamber s e → IsWantedAt s k wants q e → IsWantedAt s k after q e
+  want_kept q e he old = record {
+    value = λ m w cm bw. ⊎_elim
+        (λ same. at_number q e m w he cm bw same)
+        (λ other. get_or-set_other wants n m (k / v % k) 0 other ∙ old.value m w cm bw)
+        (cases_eq m n);
+  }
+
+-- ## The greatest value
+
+raised : (s : Symbol) (n k : ℕ) → IsGreatestTo s n k → (p : Pair) (d v : ℕ) → IsChamber s d → IsBranching s p d v → IsGreatestTo s n (max k v)
+raised s n k old p d v h b =
+    let low : (q : Pair) (e w : ℕ) → IsChamber s e → e ≤ n → IsBranching s q e w → w ≤ max k v = λ q e w he ne be. let l = old.greatest q e w he ne be in omega arith in
+    ⊎_elim
+    (λ less.
+    let e : v ≡ max k v = omega arith in
+    record { pair = p; chamber = d; is_chamber = h; branching = subst (IsBranching s p d) e b; greatest = low })
+    (λ more.
+    let e : k ≡ max k v = omega arith in
+    record { pair = old.pair; chamber = old.chamber; is_chamber = old.is_chamber; branching = subst (IsBranching s old.pair old.chamber) e old.branching; greatest = low })
+    (cases_lt k v)
+
+pub greatest_more : (s : Symbol) (d k a b c : ℕ) → IsChamber s d → IsGreatestTo s (d - 1) k → IsBranching s Tile d a → IsBranching s Vertex d b → IsBranching s Edge d c
+    → IsGreatestTo s d (max (max (max k a) b) c)
+greatest_more s d k a b c h old ba bb bc =
+    let one = raised s (d - 1) k old Tile d a h ba in
+    let two = raised s (d - 1) (max k a) one Vertex d b h bb in
+    let three = raised s (d - 1) (max (max k a) b) two Edge d c h bc in
+    record {
+      pair = three.pair;
+      chamber = three.chamber;
+      is_chamber = three.is_chamber;
+      branching = three.branching;
+      greatest = λ p e v he le be. ⊎_elim
+          (λ less. three.greatest p e v he (omega arith) be)
+          (λ more.
+          let same : e ≡ d = omega arith in
+          own p v (subst (λ z. IsBranching s p z v) same be))
+          (cases_lt e d);
+    } where
+      own : (p : Pair) (v : ℕ) → IsBranching s p d v → v ≤ max (max (max k a) b) c
+      own Tile v bv = let e = branching_unique s Tile d v a bv ba in omega arith
+      own Vertex v bv = let e = branching_unique s Vertex d v b bv bb in omega arith
+      own Edge v bv = let e = branching_unique s Edge d v c bv bc in omega arith
+
+pub greatest_first : (s : Symbol) (k : ℕ) → IsChamber s 1 → IsBranching s Tile 1 k → IsGreatestTo s 0 k
+greatest_first s k h b = record { pair = Tile; chamber = 1; is_chamber = h; branching = b; greatest = λ p d v hd low _. absurd (omega (arith, hd.0)) }
+
+pub greatest_last : (s : Symbol) (n k : ℕ) → n ≡ s.size → IsGreatestTo s n k → IsGreatestValue s k
+greatest_last s n k same g = record {
+  pair = g.pair;
+  chamber = g.chamber;
+  is_chamber = g.is_chamber;
+  branching = g.branching;
+  greatest = λ p d v h b. g.greatest p d v h (omega (arith, h.1)) b;
+}
+
+-- ## One chamber more
+
+pub wanted_more : (s : Symbol) (k j : ℕ) (old one two three : List ℕ) → ((p : Pair) (d : ℕ) → IsChamber s d → d ≤ j → IsWantedAt s k old p d)
+    → IsWantedAt s k one Tile (j + 1) → ((p : Pair) (d : ℕ) → IsChamber s d → IsWantedAt s k old p d → IsWantedAt s k one p d)
+    → IsWantedAt s k two Vertex (j + 1) → ((p : Pair) (d : ℕ) → IsChamber s d → IsWantedAt s k one p d → IsWantedAt s k two p d)
+    → IsWantedAt s k three Edge (j + 1) → ((p : Pair) (d : ℕ) → IsChamber s d → IsWantedAt s k two p d → IsWantedAt s k three p d)
+    → (p : Pair) (d : ℕ) → IsChamber s d → d ≤ j + 1 → IsWantedAt s k three p d
+wanted_more s k j old one two three before a ka b kb c kc p d h low =
+    ⊎_elim
+    (λ less. kc p d h (kb p d h (ka p d h (before p d h (omega arith)))))
+    (λ more. let same : j + 1 ≡ d = omega arith in own p d h same)
+    (cases_lt d (j + 1)) where
+      own : (p : Pair) (d : ℕ) → IsChamber s d → j + 1 ≡ d → IsWantedAt s k three p d
+      own Tile d h same = kc Tile d h (kb Tile d h (subst (IsWantedAt s k one Tile) same a))
+      own Vertex d h same = kc Vertex d h (subst (IsWantedAt s k two Vertex) same b)
+      own Edge d h same = subst (IsWantedAt s k three Edge) same c

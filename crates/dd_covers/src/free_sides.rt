@@ -1,0 +1,169 @@
+ghost use Rattle.std.specs.Prelude.{◌≡◌, ◌↔◌, ◌+◌, ◌≤◌, ◌<◌, IsTrue, IfOk, OnOk};
+ghost use Rattle.dd_model.specs.Symbol.{IsChamber, item, op};
+ghost use Rattle.dd_model.specs.declared.index.Index.{Index};
+ghost use Rattle.dd_covers.specs.CellNumbers.{IsCellNumber};
+ghost use Rattle.dd_covers.specs.Ends.{one_end as one_end_of, other_end as other_end_of};
+ghost use Rattle.dd_covers.specs.Visits.{rank as rank_of, IsFirstStep, IsFree};
+ghost use Rattle.dd_covers.specs.Visiting.{AreVisitNumbers};
+ghost use Rattle.dd_covers.specs.SideLists.{AreFreeSidesTo, AreFreeSides};
+
+use crate::side::Side;
+use dd_model::{Index, Memory, Pair};
+use dd_symbol::{Symbol, item};
+use std::alloc::Global;
+
+/// Steps, and sides, by a chamber and then by the involution.
+fn rank(i: Index, chamber: u32) -> u32
+    requires { chamber ≤ 16384 }
+    ensures { result ≡ rank_of i chamber }
+{
+    match i {
+        Index::Zero => 3 * chamber,
+        Index::One => 3 * chamber + 1,
+        Index::Two => 3 * chamber + 2,
+    }
+}
+
+/// Whether by a step from a chamber, to the chamber from which it is told, one is reached sooner.
+fn is_sooner(symbol: &Symbol, numbers: &[u32], j: Index, there: u32, own: u32) -> bool
+    requires visits { AreVisitNumbers symbol.now numbers.now }
+    requires chamber { IsChamber symbol.now there }
+    ensures { IsTrue result ↔ (rank_of j (item numbers.now (op symbol.now j there)) < own) }
+{
+    rank(j, item(numbers, symbol.op(j, there))) < own
+}
+
+/// Whether a chamber is first reached by a step.
+fn is_first(symbol: &Symbol, numbers: &[u32], i: Index, chamber: u32) -> bool
+    requires visits { AreVisitNumbers symbol.now numbers.now }
+    requires chamber { IsChamber symbol.now chamber }
+    ensures { IsTrue result ↔ IsFirstStep symbol.now numbers.now i chamber }
+{
+    let there = symbol.op(i, chamber);
+    let own = rank(i, item(numbers, chamber));
+    if there == 1 {
+        return false;
+    }
+    if is_sooner(symbol, numbers, Index::Zero, there, own) {
+        return false;
+    }
+    if is_sooner(symbol, numbers, Index::One, there, own) {
+        return false;
+    }
+    !is_sooner(symbol, numbers, Index::Two, there, own)
+}
+
+/// Whether a side is free, and the chamber is its least.
+fn is_free(symbol: &Symbol, numbers: &[u32], i: Index, chamber: u32) -> bool
+    requires visits { AreVisitNumbers symbol.now numbers.now }
+    requires chamber { IsChamber symbol.now chamber }
+    ensures { IsTrue result ↔ IsFree symbol.now numbers.now i chamber }
+{
+    let there = symbol.op(i, chamber);
+    if there < chamber {
+        return false;
+    }
+    if is_first(symbol, numbers, i, chamber) {
+        return false;
+    }
+    !is_first(symbol, numbers, i, there)
+}
+
+/// The pair of one end of the sides of an involution.
+fn one_end(i: Index) -> Pair
+    ensures { result ≡ one_end_of i }
+{
+    match i {
+        Index::Zero => Pair::Tile,
+        Index::One => Pair::Vertex,
+        Index::Two => Pair::Edge,
+    }
+}
+
+/// The pair of the other end.
+fn other_end(i: Index) -> Pair
+    ensures { result ≡ other_end_of i }
+{
+    match i {
+        Index::Zero => Pair::Edge,
+        Index::One => Pair::Tile,
+        Index::Two => Pair::Vertex,
+    }
+}
+
+/// The number of the cell of a chamber. Those of vertices come after those of tiles, and those of
+/// edges after both.
+pub(crate) fn cell_number(symbol: &Symbol, pair: Pair, chamber: u32) -> u32
+    requires { IsChamber symbol.now chamber }
+    ensures { IsCellNumber symbol.now pair chamber result }
+{
+    let least = symbol.cell(pair, chamber).least;
+    match pair {
+        Pair::Tile => least,
+        Pair::Vertex => symbol.size() + 1 + least,
+        Pair::Edge => 2 * (symbol.size() + 1) + least,
+    }
+}
+
+/// Appends the side of a chamber if it is free and the chamber is its least.
+fn push_if_free(
+    sides: &mut Vec<Side>,
+    symbol: &Symbol,
+    numbers: &[u32],
+    i: Index,
+    chamber: u32,
+) -> Result<(), Memory>
+    requires visits { AreVisitNumbers symbol.now numbers.now }
+    requires chamber { IsChamber symbol.now chamber }
+    requires sides { AreFreeSidesTo symbol.now numbers.now (rank_of i chamber) sides.old.items }
+    ensures { OnOk result (AreFreeSidesTo symbol.now numbers.now (rank_of i chamber + 1)
+        sides.new.items) }
+{
+    if is_free(symbol, numbers, i, chamber) {
+        let from = cell_number(symbol, one_end(i), chamber);
+        let to = cell_number(symbol, other_end(i), chamber);
+        sides.push(Side {
+            chamber,
+            index: i,
+            from,
+            to,
+        })?;
+    }
+    Ok(())
+}
+
+/// Appends the free sides of which a chamber is the least.
+fn push_free(
+    sides: &mut Vec<Side>,
+    symbol: &Symbol,
+    numbers: &[u32],
+    chamber: u32,
+) -> Result<(), Memory>
+    requires visits { AreVisitNumbers symbol.now numbers.now }
+    requires chamber { IsChamber symbol.now chamber }
+    requires sides { AreFreeSidesTo symbol.now numbers.now (rank_of Index.Zero chamber)
+        sides.old.items }
+    ensures { OnOk result (AreFreeSidesTo symbol.now numbers.now
+        (rank_of Index.Zero (chamber + 1)) sides.new.items) }
+{
+    push_if_free(sides, symbol, numbers, Index::Zero, chamber)?;
+    push_if_free(sides, symbol, numbers, Index::One, chamber)?;
+    push_if_free(sides, symbol, numbers, Index::Two, chamber)?;
+    Ok(())
+}
+
+/// The free sides, by least chamber and then by involution.
+pub(crate) fn free_sides(
+    alloc: Global,
+    symbol: &Symbol,
+    numbers: &[u32],
+) -> Result<Vec<Side>, Memory>
+    requires { AreVisitNumbers symbol.now numbers.now }
+    ensures { IfOk result (λ sides. AreFreeSides symbol.now numbers.now sides.items) }
+{
+    let mut sides = Vec::new(alloc);
+    for k in 0..symbol.size() {
+        push_free(&mut sides, symbol, numbers, k + 1)?;
+    }
+    Ok(sides)
+}

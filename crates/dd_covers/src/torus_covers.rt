@@ -1,0 +1,86 @@
+ghost use Rattle.std.specs.Prelude.{◌≡◌, ◌*◌, ◌≤◌, ℕ, List, length, map, IfOk, IfErr};
+ghost use Rattle.dd_model.specs.Symbol.{item};
+ghost use Rattle.dd_model.specs.Flat.{Flat};
+ghost use Rattle.dd_model.specs.Isomorphic.{IsMorphism};
+ghost use Rattle.dd_cells.specs.Orientation.{IsOriented};
+ghost use Rattle.dd_covers.specs.PlaneValues.{IsGreatestValue};
+ghost use Rattle.dd_covers.specs.Torus.{IsTorus};
+ghost use Rattle.dd_covers.specs.TorusCover.{IsTorusCoverOf, IsTorusCover};
+ghost use Rattle.dd_covers.specs.TorusFaults.{IsTorusFault};
+
+use crate::cover::Cover;
+use crate::orienting::oriented;
+use crate::sheets::{below, sheets};
+use crate::torus_faults::TorusFault;
+use crate::torus_shifts::torus_shifts;
+use crate::wanting::greatest_value;
+use dd_cells::{curvature, is_flat};
+use dd_model::{Map, Memory};
+use dd_symbol::Connected;
+use std::alloc::Global;
+
+/// The torus cover of an oriented flat symbol, of as many sheets as the greatest branching value.
+fn torus_over(alloc: Global, s: &Connected, k: u32) -> Result<Cover, Memory>
+    requires few { s.now.size ≤ 2048 }
+    requires oriented { IsOriented s.now }
+    requires flat { Flat s.now }
+    requires greatest { IsGreatestValue s.now k }
+    ensures { IfOk result (λ cover. IsTorusCoverOf s.now k cover.symbol cover.below) }
+{
+    let symbol = s.symbol();
+    let shifts = torus_shifts(alloc, s, k)?;
+    Ok(Cover {
+        symbol: sheets(alloc, s, k, &shifts)?,
+        below: below(alloc, symbol, k)?,
+    })
+}
+
+/// First one map, then another.
+fn composed(alloc: Global, first: &Map, then: &Map) -> Result<Map, Memory>
+    requires within { (d : ℕ) → 1 ≤ d → d ≤ length first.now
+        → (1 ≤ item first.now d) × (item first.now d ≤ length then.now) }
+    ensures { IfOk result (λ whole. whole ≡ map (item then.now) first.now) }
+{
+    let mut images = Vec::new(alloc);
+    for chamber in first.as_slice() {
+        images.push(then.image(*chamber))?;
+    }
+    Ok(Map::from_vec(images))
+}
+
+/// The torus cover of a flat symbol.
+fn flat_torus(alloc: Global, s: &Connected) -> Result<Cover, Memory>
+    requires few { s.now.size ≤ 1024 }
+    requires flat { Flat s.now }
+    ensures cover { IfOk result (λ cover. IsTorusCover s.now cover.symbol cover.below) }
+    ensures torus { IfOk result (λ cover. IsTorus cover.symbol) }
+    ensures morphism { IfOk result (λ cover. IsMorphism cover.symbol s.now cover.below) }
+{
+    let _symbol = s.symbol();
+    let middle = oriented(alloc, s)?;
+    let k = greatest_value(&middle.symbol);
+    let upper = torus_over(alloc, &middle.symbol, k)?;
+    let below = composed(alloc, &upper.below, &middle.below)?;
+    Ok(Cover {
+        symbol: upper.symbol,
+        below,
+    })
+}
+
+/// The torus cover of a flat symbol of at most 1,024 chambers, which is that of its oriented cover.
+/// It has as many sheets above the oriented cover as the greatest branching value there.
+pub fn torus(alloc: Global, s: &Connected) -> Result<Cover, TorusFault>
+    requires { s.now.size ≤ 1024 }
+    ensures cover { IfOk result (λ cover. IsTorusCover s.now cover.symbol cover.below) }
+    ensures torus { IfOk result (λ cover. IsTorus cover.symbol) }
+    ensures morphism { IfOk result (λ cover. IsMorphism cover.symbol s.now cover.below) }
+    ensures flat { IfOk result (λ _. Flat s.now) }
+    ensures why { IfErr result (λ fault. IsTorusFault s.now fault) }
+{
+    if !is_flat(s) {
+        return Err(TorusFault::NotFlat {
+            curvature: curvature(s),
+        });
+    }
+    Ok(flat_torus(alloc, s)?)
+}

@@ -1,0 +1,69 @@
+ghost use Rattle.std.specs.Prelude.{◌≡◌, ℕ, ◌+◌, ◌-◌, ◌*◌, ◌<◌, ◌≤◌, length, slice_index, IfOk};
+ghost use Rattle.dd_model.specs.declared.pair.Pair.{Pair};
+ghost use Rattle.dd_model.specs.Cell.{IsBranching};
+ghost use Rattle.dd_model.specs.Symbol.{IsChamber};
+ghost use Rattle.dd_model.specs.Small.{IsSmallSymbol};
+ghost use Rattle.dd_covers.specs.PlaneValues.{IsGreatestValue};
+ghost use Rattle.dd_covers.specs.Wanting.{IsGreatestTo, IsWantedAt, AreWanted};
+
+use crate::free_sides::cell_number;
+use dd_model::{Memory, Pair};
+use dd_symbol::{Connected, Symbol};
+use std::alloc::Global;
+
+/// The greatest branching value of the cells of all three pairs.
+pub(crate) fn greatest_value(s: &Connected) -> u32
+    ensures { IsGreatestValue s.now result }
+{
+    let symbol = s.symbol();
+    let mut greatest = symbol.branching(Pair::Tile, 1);
+    for j in 0..symbol.size() {
+        greatest = greater_value(symbol, j + 1, greatest);
+    }
+    greatest
+}
+
+/// The greatest of a value and of the branching values at a chamber.
+fn greater_value(symbol: &Symbol, chamber: u32, so_far: u32) -> u32
+    requires chamber { IsChamber symbol.now chamber }
+    requires so_far { IsGreatestTo symbol.now (chamber - 1) so_far }
+    ensures { IsGreatestTo symbol.now chamber result }
+{
+    so_far
+        .max(symbol.branching(Pair::Tile, chamber))
+        .max(symbol.branching(Pair::Vertex, chamber))
+        .max(symbol.branching(Pair::Edge, chamber))
+}
+
+/// Writes down what is wanting at the cell of a chamber while no side has a shift.
+fn want(wants: &mut Vec<u32>, symbol: &Symbol, k: u32, pair: Pair, chamber: u32)
+    requires some { 1 ≤ k }
+    requires symbol { IsSmallSymbol symbol.now }
+    requires chamber { IsChamber symbol.now chamber }
+    requires size { length wants.old.items ≡ 3 * (symbol.now.size + 1) }
+    requires few { (n : ℕ) → slice_index wants.old.items n < k }
+    ensures size { length wants.new.items ≡ 3 * (symbol.now.size + 1) }
+    ensures few { (n : ℕ) → slice_index wants.new.items n < k }
+    ensures own { IsWantedAt symbol.now k wants.new.items pair chamber }
+    ensures kept { (p : Pair) (d : ℕ) → IsChamber symbol.now d
+        → IsWantedAt symbol.now k wants.old.items p d
+        → IsWantedAt symbol.now k wants.new.items p d }
+{
+    let number = cell_number(symbol, pair, chamber) as usize;
+    wants[number] = k / symbol.branching(pair, chamber) % k;
+}
+
+/// What is wanting at each cell while no side has a shift.
+pub(crate) fn first_wants(alloc: Global, s: &Connected, k: u32) -> Result<Vec<u32>, Memory>
+    requires { 1 ≤ k }
+    ensures { IfOk result (λ wants. AreWanted s.now k wants.items) }
+{
+    let symbol = s.symbol();
+    let mut wants = vec![in alloc; 0u32; 3 * (symbol.size() as usize + 1)]?;
+    for j in 0..symbol.size() {
+        want(&mut wants, symbol, k, Pair::Tile, j + 1);
+        want(&mut wants, symbol, k, Pair::Vertex, j + 1);
+        want(&mut wants, symbol, k, Pair::Edge, j + 1);
+    }
+    Ok(wants)
+}
