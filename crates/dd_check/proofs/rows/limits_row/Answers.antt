@@ -1,0 +1,19 @@
+use Rattle.std.proofs.Common.{◌∙◌, arith}
+use Rattle.dd_check.specs.Rows.{limits_row}
+use Rattle.dd_check.proofs.WordReads.{given_none, nth_word, same_word, five_words}
+use Rattle.dd_check.proofs.rows.limits_row.Goals as goal
+
+pub returns-in_err-read_filter-clause-none : goal.returns-in_err-read_filter-clause-none
+returns-in_err-read_filter-clause-none c =
+    given_none c.from_residual-in_err-read_filter.result c.from_residual-in_err-read_filter.ensures
+    (λ limits row. c.in_err-read_filter.ensures.none limits.minimal (nth_word c.args.words.now 4 _ (limits_row limits) (omega (arith, c.in-len5.len_at_least)) row.words_are))
+
+pub returns-clause-some : goal.returns-clause-some
+returns-clause-some c = record {
+  words_are = five_words c.args.words.now _ _ _ _ _ _ _ _ _ _ c.in-len5.len_at_least c.in-len5.len_below
+      (same_word _ _ c.if-ne.ensures ∙ c.as_slice.ensures)
+      c.in_ok-read_number.ensures.some.digits c.in_ok-read_number-2.ensures.some.digits c.in_ok-read_number-3.ensures.some.digits c.in_ok-read_filter.ensures.some;
+  chambers = c.in_ok-read_number.ensures.some.short;
+  tiles = c.in_ok-read_number-2.ensures.some.short;
+  vertices = c.in_ok-read_number-3.ensures.some.short;
+}

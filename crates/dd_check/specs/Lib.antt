@@ -1,0 +1,14 @@
+pub mod Texts
+pub mod Numerals
+pub mod Sets
+pub mod Rows
+pub mod Ranges
+pub mod Checks
+pub mod Writing
+pub mod Faults
+pub mod Lines
+pub mod Readings
+pub mod Told
+pub mod Places
+pub mod Accepted
+pub mod Refusals

@@ -1,0 +1,51 @@
+ghost use Rattle.std.specs.Prelude.{◌≡◌};
+
+use dd_model::Memory;
+use std::alloc::{AllocError, AllocFailed};
+
+/// Why a text is no checkpoint text.
+#[derive(Debug, Clone, Copy, PartialEq, Eq)]
+pub enum CheckFault {
+    /// The first line is that of no version.
+    Version,
+    /// This line is missing or not of its form. Lines are counted from 1.
+    Shape { line: u32 },
+    /// This line has a number out of range.
+    Range { line: u32 },
+    /// The position is none at which a catalogue may stop.
+    Position,
+    /// There are over 4,096 bytes.
+    Long,
+    /// Want of memory.
+    Memory,
+}
+
+impl From<Memory> for CheckFault {
+    ghost use Rattle.dd_check.specs.declared.faults.CheckFault.TheVariants as faults;
+
+    ghost from_gives = { λ _ fault. fault ≡ faults.Memory };
+
+    fn from(_: Memory) -> Self {
+        CheckFault::Memory
+    }
+}
+
+impl From<AllocError> for CheckFault {
+    ghost use Rattle.dd_check.specs.declared.faults.CheckFault.TheVariants as faults;
+
+    ghost from_gives = { λ _ fault. fault ≡ faults.Memory };
+
+    fn from(_: AllocError) -> Self {
+        CheckFault::Memory
+    }
+}
+
+impl<T: Drop> From<AllocFailed<T>> for CheckFault {
+    ghost use Rattle.dd_check.specs.declared.faults.CheckFault.TheVariants as faults;
+
+    ghost from_gives = { λ _ fault. fault ≡ faults.Memory };
+
+    fn from(_: AllocFailed<T>) -> Self {
+        CheckFault::Memory
+    }
+}

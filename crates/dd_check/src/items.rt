@@ -1,0 +1,6 @@
+/// An item of a set as it is told: one number, or the two ends of a row of numbers.
+#[derive(Clone, Copy)]
+pub(crate) enum Item {
+    One(u64),
+    Span(u64, u64),
+}

@@ -1,0 +1,151 @@
+ghost use Rattle.std.specs.Prelude.{◌≡◌, ◌≤◌, ◌↔◌, ◌^◌, IfOk, IfErr};
+ghost use Rattle.dd_check.specs.Texts.{texts};
+ghost use Rattle.dd_check.specs.Rows.{IsNumberRow, IsLimitsRow, IsOldLimitsRow, IsSetRow, IsPlaceRow};
+ghost use Rattle.dd_check.specs.Ranges.{IsFromTo, AreLimits, AreOldLimits, IsInRange, IsInOldRange};
+ghost use Rattle.dd_check.specs.Sets.{AreItems};
+ghost use Rattle.dd_check.specs.Lines.{IsToldFault, IsToldInRange, IsToldSet, IsFaultHere};
+
+use crate::faults::CheckFault;
+use crate::limits::{Limits, OldLimits};
+use crate::lines::words_at;
+use crate::place_rows::place_row;
+use crate::positions::position;
+use crate::ranges::{are_limits, are_old_limits, is_from_to, is_in_old_range, is_in_range};
+use crate::rows::{limits_row, number_row, old_limits_row};
+use crate::sets::{are_items, set_of, set_row};
+use dd_model::{Allowed, Position};
+use std::alloc::Global;
+
+/// The number of a line after a word, from low to high.
+pub(crate) fn number_at(
+    alloc: Global,
+    lines: &[&[u8]],
+    line: u32,
+    key: &[u8],
+    low: u64,
+    high: u64,
+) -> Result<u64, CheckFault>
+    requires { 1 ≤ line }
+    ensures told { IfOk result
+        (IsToldInRange (texts lines.now) line (IsNumberRow key.now) (IsFromTo low high)) }
+    ensures fault { IfErr result (IsToldFault
+        (IsFaultHere (texts lines.now) line (IsNumberRow key.now) (IsFromTo low high))) }
+{
+    let words = words_at(alloc, lines, line)?;
+    let Some(number) = number_row(&words, key) else {
+        return Err(CheckFault::Shape { line });
+    };
+    if !is_from_to(low, high, number) {
+        return Err(CheckFault::Range { line });
+    }
+    Ok(number)
+}
+
+/// What is asked for beside the sets.
+pub(crate) fn limits_at(alloc: Global, lines: &[&[u8]], line: u32) -> Result<Limits, CheckFault>
+    requires { 1 ≤ line }
+    ensures told { IfOk result (IsToldInRange (texts lines.now) line IsLimitsRow AreLimits) }
+    ensures fault { IfErr result
+        (IsToldFault (IsFaultHere (texts lines.now) line IsLimitsRow AreLimits)) }
+{
+    let words = words_at(alloc, lines, line)?;
+    let Some(limits) = limits_row(&words) else {
+        return Err(CheckFault::Shape { line });
+    };
+    if !are_limits(&limits) {
+        return Err(CheckFault::Range { line });
+    }
+    Ok(limits)
+}
+
+/// The same in version 1, with the least numbers of the sets.
+pub(crate) fn old_limits_at(
+    alloc: Global,
+    lines: &[&[u8]],
+    line: u32,
+) -> Result<OldLimits, CheckFault>
+    requires { 1 ≤ line }
+    ensures told { IfOk result (IsToldInRange (texts lines.now) line IsOldLimitsRow AreOldLimits) }
+    ensures fault { IfErr result
+        (IsToldFault (IsFaultHere (texts lines.now) line IsOldLimitsRow AreOldLimits)) }
+{
+    let words = words_at(alloc, lines, line)?;
+    let Some(limits) = old_limits_row(&words) else {
+        return Err(CheckFault::Shape { line });
+    };
+    if !are_old_limits(&limits) {
+        return Err(CheckFault::Range { line });
+    }
+    Ok(limits)
+}
+
+/// The set of a line after a word.
+pub(crate) fn set_at(
+    alloc: Global,
+    lines: &[&[u8]],
+    line: u32,
+    key: &[u8],
+) -> Result<Allowed, CheckFault>
+    requires { 1 ≤ line }
+    ensures told { IfOk result (IsToldSet (texts lines.now) line key.now) }
+    ensures fault { IfErr result
+        (IsToldFault (IsFaultHere (texts lines.now) line (IsSetRow key.now) AreItems)) }
+{
+    let words = words_at(alloc, lines, line)?;
+    let Some(items) = set_row(alloc, &words, key)? else {
+        return Err(CheckFault::Shape { line });
+    };
+    let items = items.as_slice();
+    if !are_items(items) {
+        return Err(CheckFault::Range { line });
+    }
+    Ok(set_of(items))
+}
+
+/// The position of a line.
+pub(crate) fn place_at(
+    alloc: Global,
+    lines: &[&[u8]],
+    line: u32,
+    chambers: u64,
+) -> Result<Position, CheckFault>
+    requires line { 1 ≤ line }
+    requires small { chambers ≤ 36 }
+    ensures told { IfOk result
+        (IsToldInRange (texts lines.now) line IsPlaceRow (IsInRange chambers)) }
+    ensures fault { IfErr result
+        (IsToldFault (IsFaultHere (texts lines.now) line IsPlaceRow (IsInRange chambers))) }
+{
+    let words = words_at(alloc, lines, line)?;
+    let Some(place) = place_row(alloc, &words)? else {
+        return Err(CheckFault::Shape { line });
+    };
+    if !is_in_range(chambers, &place) {
+        return Err(CheckFault::Range { line });
+    }
+    Ok(position(alloc, &place)?)
+}
+
+/// The position of a line of version 1.
+pub(crate) fn old_place_at(
+    alloc: Global,
+    lines: &[&[u8]],
+    line: u32,
+    chambers: u64,
+) -> Result<Position, CheckFault>
+    requires line { 1 ≤ line }
+    requires small { chambers ≤ 36 }
+    ensures told { IfOk result
+        (IsToldInRange (texts lines.now) line IsPlaceRow (IsInOldRange chambers)) }
+    ensures fault { IfErr result
+        (IsToldFault (IsFaultHere (texts lines.now) line IsPlaceRow (IsInOldRange chambers))) }
+{
+    let words = words_at(alloc, lines, line)?;
+    let Some(place) = place_row(alloc, &words)? else {
+        return Err(CheckFault::Shape { line });
+    };
+    if !is_in_old_range(chambers, &place) {
+        return Err(CheckFault::Range { line });
+    }
+    Ok(position(alloc, &place)?)
+}

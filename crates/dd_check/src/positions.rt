@@ -1,0 +1,33 @@
+ghost use Rattle.std.specs.Prelude.{◌≡◌, ◌<◌, ◌≤◌, ℕ, IfOk, length, slice_index};
+ghost use Rattle.dd_check.specs.Told.{position_of, IsSmallPlace};
+
+use crate::places::Place;
+use dd_model::{Job, Memory, Position, Prefix};
+use std::alloc::Global;
+
+/// The position that is told.
+pub(crate) fn position(alloc: Global, place: &Place) -> Result<Position, Memory>
+    requires { IsSmallPlace place.now }
+    ensures { IfOk result (λ at. at ≡ position_of place.now) }
+{
+    match place {
+        Place::At(size, numbers) => {
+            let size = *size as u32;
+            let prefix = prefix_of(alloc, numbers)?;
+            Ok(Position::At(Job { size, prefix }))
+        }
+        Place::End => Ok(Position::End),
+    }
+}
+
+/// A prefix of these numbers.
+fn prefix_of(alloc: Global, numbers: &[u64]) -> Result<Prefix, Memory>
+    requires { (t : ℕ) → t < length numbers.now → slice_index numbers.now t ≤ 216 }
+    ensures { IfOk result (λ prefix. prefix ≡ numbers.now) }
+{
+    let mut bytes = Vec::new(alloc);
+    for number in numbers {
+        bytes.push(*number as u8)?;
+    }
+    Ok(Prefix::from_slice(alloc, &bytes)?)
+}

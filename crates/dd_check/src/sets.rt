@@ -1,0 +1,135 @@
+ghost use Rattle.std.specs.Prelude.{◌≡◌, ◌⊎◌, ◌↔◌, ◌≤◌, ◌<◌, ℕ, IfOk, IfSome, IfNone, IsTrue};
+ghost use Rattle.dd_model.specs.Allowed.{IsIn};
+ghost use Rattle.dd_check.specs.declared.items.Item.{Item};
+ghost use Rattle.dd_check.specs.Texts.{texts};
+ghost use Rattle.dd_check.specs.Sets.{IsItem, AreItems, IsSetOf, low_of, high_of};
+ghost use Rattle.dd_check.specs.Rows.{IsSetRow};
+ghost use Rattle.dd_check.specs.Told.{AreEnds, IsItemWord, IsSetWord, IsWhatTells, IsWhatTellsItems};
+
+use crate::items::Item;
+use crate::numbers::read_number;
+use crate::parts::parts;
+use dd_model::{Allowed, Memory};
+use std::alloc::Global;
+
+/// The items after a word.
+pub(crate) fn set_row(
+    alloc: Global,
+    words: &[&[u8]],
+    key: &[u8],
+) -> Result<Option<Vec<Item>>, Memory>
+    ensures { IfOk result (λ told. IsWhatTellsItems (IsSetRow key.now) (texts words.now) told) }
+{
+    let [word, items] = words else {
+        return Ok(None)
+    };
+    if *word != key {
+        return Ok(None);
+    }
+    read_items(alloc, items)
+}
+
+/// The items of a word, which have commas between them.
+fn read_items(alloc: Global, word: &[u8]) -> Result<Option<Vec<Item>>, Memory>
+    ensures { IfOk result (λ told. IsWhatTellsItems IsSetWord word.now told) }
+{
+    let mut items = Vec::new(alloc);
+    let words = parts(alloc, word, b',')?;
+    let words = words.as_slice();
+    for part in words {
+        match read_item(alloc, part)? {
+            Some(item) => items.push(item)?,
+            None => return Ok(None),
+        }
+    }
+    Ok(Some(items))
+}
+
+/// One number, or two with a dash between them.
+fn read_item(alloc: Global, word: &[u8]) -> Result<Option<Item>, Memory>
+    ensures { IfOk result (λ told. IsWhatTells IsItemWord word.now told) }
+{
+    let ends = parts(alloc, word, b'-')?;
+    Ok(item_of(&ends))
+}
+
+/// The item of one number, or of two.
+fn item_of(words: &[&[u8]]) -> Option<Item>
+    ensures some { IfSome result (λ item. AreEnds (texts words.now) item) }
+    ensures none { IfNone result ((item : Item) → AreEnds (texts words.now) item → ⊥) }
+{
+    match words {
+        [number] => Some(Item::One(read_number(number)?)),
+        [low, high] => Some(Item::Span(read_number(low)?, read_number(high)?)),
+        _ => None,
+    }
+}
+
+/// Whether the items are in range, ascending and apart.
+pub(crate) fn are_items(items: &[Item]) -> bool
+    ensures { IsTrue result ↔ AreItems items.now }
+{
+    let mut next = 0;
+    for item in items {
+        if !is_item(*item) {
+            return false;
+        }
+        if low_of(*item) < next {
+            return false;
+        }
+        next = high_of(*item) + 2;
+    }
+    true
+}
+
+/// Whether an item is in range.
+fn is_item(item: Item) -> bool
+    ensures { IsTrue result ↔ IsItem item }
+{
+    match item {
+        Item::One(number) => number >= 1 && number <= 216,
+        Item::Span(low, high) => low >= 1 && low < high && high <= 216,
+    }
+}
+
+/// The least number of an item.
+fn low_of(item: Item) -> u64
+    ensures { result ≡ low_of item }
+{
+    match item {
+        Item::One(number) => number,
+        Item::Span(low, _) => low,
+    }
+}
+
+/// The greatest number of an item.
+fn high_of(item: Item) -> u64
+    ensures { result ≡ high_of item }
+{
+    match item {
+        Item::One(number) => number,
+        Item::Span(_, high) => high,
+    }
+}
+
+/// The set of the numbers of some items.
+pub(crate) fn set_of(items: &[Item]) -> Allowed
+    requires { AreItems items.now }
+    ensures { IsSetOf items.now result }
+{
+    let mut set = Allowed::none();
+    for item in items {
+        add_range(&mut set, low_of(*item) as u32, high_of(*item) as u32);
+    }
+    set
+}
+
+/// The numbers from low to high join a set.
+fn add_range(set: &mut Allowed, low: u32, high: u32)
+    requires { (1 ≤ low) × (low ≤ high) × (high ≤ 216) }
+    ensures { (m : ℕ) → IsIn set.new m ↔ (IsIn set.old m ⊎ ((low ≤ m) × (m ≤ high))) }
+{
+    for number in low..high + 1 {
+        set.add(number);
+    }
+}
