@@ -1,0 +1,10 @@
+pub mod LinesUpTo
+pub mod Fronts
+pub mod Stops
+pub mod ReadingBack
+mod Parts
+mod Steps
+mod Chained
+mod Found
+mod Rests
+mod Lone
