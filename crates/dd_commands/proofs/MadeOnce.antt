@@ -1,5 +1,5 @@
 -- What a command makes of a symbol is determined.
-use Rattle.std.proofs.Common.{◌≡◌, ℕ, ◌+◌, List, [], ◌∷◌, inl, inr, sym, ◌∙◌, arith}
+use Rattle.std.proofs.Common.{◌≡◌, ◌≤◌, ℕ, ◌+◌, List, [], ◌∷◌, inl, inr, sym, ◌∙◌, subst, arith}
 use Rattle.std.specs.List.{AllByRecursion}
 use Rattle.dd_model.specs.Symbol.{Symbol, IsTable}
 use Rattle.dd_model.specs.Code.{IsLeastForm}
@@ -7,6 +7,11 @@ use Rattle.dd_model.specs.Reading.{IsReadable}
 use Rattle.dd_model.proofs.Codes.{least_unique}
 use Rattle.dd_model.proofs.Isomorphisms.{Isomorphic-sym, Isomorphic-trans}
 use Rattle.dd_model.proofs.LeastForms.{same_least_forms}
+use Rattle.dd_covers.specs.OrientedCover.{IsOrientedCover}
+use Rattle.dd_covers.specs.TorusCover.{IsTorusCoverOf}
+use Rattle.dd_covers.proofs.OrientedLemmas.{small_of_two}
+use Rattle.dd_covers.proofs.TorusCovers.{middle_of, torus_above}
+use Rattle.dd_covers.proofs.Uniqueness.{one_cover}
 use Rattle.dd_quotient.specs.Dual.{dual_of}
 use Rattle.dd_quotient.proofs.DualLemmas.{small_symbol-dual}
 use Rattle.dd_quotient.proofs.ImageLemmas.{between, too_large_or_small}
@@ -17,12 +22,12 @@ use Rattle.dd_template.specs.Named.{table_of_operation}
 use Rattle.dd_template.proofs.NamedTables.{operation_lawful}
 use Rattle.dd_template.proofs.MadeSymbols.{made_symbol}
 use Rattle.dd_commands.specs.declared.commands.SymbolCommand.{SymbolCommand}
-use Rattle.dd_commands.specs.declared.commands.SymbolCommand.TheVariants.{Lines, Canon, Minimal, Dual, Derived}
+use Rattle.dd_commands.specs.declared.commands.SymbolCommand.TheVariants.{Lines, Canon, Minimal, Dual, Oriented, Torus, Derived}
 use Rattle.dd_commands.specs.InTurn.{AreInTurn}
 use Rattle.dd_commands.specs.declared.refusals.SymbolFault.{SymbolFault}
-use Rattle.dd_commands.specs.declared.refusals.SymbolFault.TheVariants.{TooManyChambers, BranchingTooLarge}
+use Rattle.dd_commands.specs.declared.refusals.SymbolFault.TheVariants.{TooManyChambers, BranchingTooLarge, NotFlat}
 use Rattle.dd_commands.specs.declared.refusals.SymbolRefusal.{SymbolRefusal}
-use Rattle.dd_commands.specs.Made.{IsLeastImage, IsDerived, IsMade, IsFaultOf, IsFirstFault}
+use Rattle.dd_commands.specs.Made.{IsLeastImage, IsLeastCover, IsLeastTorus, IsDerived, IsMade, IsFaultOf, IsFirstFault}
 use Rattle.dd_commands.proofs.InTurnLemmas.{in_turn_unique}
 
 form_once : (s t u : Symbol) → IsTable s → IsLeastForm s t → IsLeastForm s u → t ≡ u
@@ -37,6 +42,39 @@ image_once s t u readable a b =
 dual_once : (s t u : Symbol) → IsReadable s → IsLeastForm (dual_of s) t → IsLeastForm (dual_of s) u → t ≡ u
 dual_once s t u readable a b = form_once (dual_of s) t u (small_symbol-dual s readable.symbol).symbol.table a b
 
+-- the oriented cover of a symbol that a file may hold is a table
+cover_table : (s t : Symbol) (below : List ℕ) → IsReadable s → IsOrientedCover s t below → IsTable t
+cover_table s t below readable (inl own) = subst IsTable (sym own.same) readable.symbol.symbol.table
+cover_table s t below readable (inr twice) =
+    let few = readable.size in
+    subst IsTable (sym twice.sheets) (small_of_two s readable.symbol (omega arith)).symbol.table
+
+-- a symbol has one oriented cover
+same_cover : (s t u : Symbol) (m n : List ℕ) → IsOrientedCover s t m → IsOrientedCover s u n → u ≡ t
+same_cover s t u m n (inl a) (inl b) = b.same ∙ sym a.same
+same_cover s t u m n (inl a) (inr b) = absurd (b.not_oriented a.oriented)
+same_cover s t u m n (inr a) (inl b) = absurd (a.not_oriented b.oriented)
+same_cover s t u m n (inr a) (inr b) = b.sheets ∙ sym a.sheets
+
+cover_once : (s t u : Symbol) → IsReadable s → IsLeastCover s t → IsLeastCover s u → t ≡ u
+cover_once s t u readable a b =
+    let same : b.cover ≡ a.cover = same_cover s a.cover b.cover a.below b.below a.is_cover b.is_cover in
+    form_once a.cover t u (cover_table s a.cover a.below readable a.is_cover) a.least (subst (λ c. IsLeastForm c u) same b.least)
+
+-- a flat symbol has one torus cover
+torus_once : (s t u : Symbol) → IsReadable s → IsLeastTorus s t → IsLeastTorus s u → t ≡ u
+torus_once s t u readable a b =
+    let size = readable.size in
+    let few : s.size ≤ 8192 = omega arith in
+    let x = a.is_cover in
+    let y = b.is_cover in
+    let middle = middle_of s x.middle x.lower readable.symbol few readable.connected a.flat x.oriented in
+    let under : y.middle ≡ x.middle = same_cover s x.middle y.middle x.lower y.lower x.oriented y.oriented in
+    let torus : IsTorusCoverOf x.middle y.sheets b.cover y.upper = subst (λ m. IsTorusCoverOf m y.sheets b.cover y.upper) under y.torus in
+    let same : a.cover ≡ b.cover = one_cover x.middle a.cover b.cover x.sheets y.sheets x.upper y.upper middle.small.symbol middle.connected x.torus torus in
+    let table = (torus_above s a.cover a.below readable.symbol few readable.connected a.flat x).symbol.table in
+    form_once a.cover t u table a.least (subst (λ c. IsLeastForm c u) (sym same) b.least)
+
 derived_once : (table : Table) → IsLawful table → (s t u : Symbol) → IsReadable s → IsDerived table s t → IsDerived table s u → t ≡ u
 derived_once table lawful s t u readable a b = form_once (made table s) t u (made_symbol table s lawful readable.symbol.symbol).table a.least b.least
 
@@ -45,6 +83,8 @@ made_once Lines s t u readable a b = sym a ∙ b
 made_once Canon s t u readable a b = form_once s t u readable.symbol.symbol.table a b
 made_once Minimal s t u readable a b = image_once s t u readable a b
 made_once Dual s t u readable a b = dual_once s t u readable a b
+made_once Oriented s t u readable a b = cover_once s t u readable a b
+made_once Torus s t u readable a b = torus_once s t u readable a b
 made_once (Derived operation) s t u readable a b = derived_once (table_of_operation operation) (operation_lawful operation) s t u readable a b
 
 -- of a symbol with a fault nothing is made
@@ -54,9 +94,15 @@ nothing_made Canon s t why readable fault is = fault
 nothing_made Minimal s t (TooManyChambers n) readable fault is = fault
 nothing_made Minimal s t (BranchingTooLarge v) readable fault is =
     too_large_or_small s fault.image is.image fault.map is.map v readable.symbol.symbol.table.involutions fault.first is.is_image is.small.branching
+nothing_made Minimal s t (NotFlat x) readable fault is = fault
 nothing_made Dual s t why readable fault is = fault
+nothing_made Oriented s t why readable fault is = fault
+nothing_made Torus s t (TooManyChambers n) readable fault is = fault
+nothing_made Torus s t (BranchingTooLarge v) readable fault is = fault
+nothing_made Torus s t (NotFlat x) readable fault is = fault.0 is.flat
 nothing_made (Derived operation) s t (TooManyChambers n) readable fault is = let few = is.few in let many = fault.1 in omega arith
 nothing_made (Derived operation) s t (BranchingTooLarge v) readable fault is = fault
+nothing_made (Derived operation) s t (NotFlat x) readable fault is = fault
 
 -- of symbols of which one has a fault there is no list of what is made
 pub none_all_made : (command : SymbolCommand) (k : ℕ) (ss ts : List Symbol) (r : SymbolRefusal) → AllByRecursion IsReadable ss → IsFirstFault command k ss r → AreInTurn (IsMade command) ss ts → ⊥

@@ -1,17 +1,21 @@
 -- What a command makes of one symbol, and why it makes nothing.
 use Rattle.std.specs.Prelude.{◌≡◌, ◌⊎◌, ℕ, ◌+◌, ◌*◌, ◌<◌, ◌≤◌, List, [], ◌∷◌}
 use Rattle.dd_model.specs.Symbol.{Symbol}
+use Rattle.dd_model.specs.Flat.{Flat}
 use Rattle.dd_model.specs.Small.{IsSmallSymbol}
 use Rattle.dd_model.specs.Code.{IsLeastForm}
+use Rattle.dd_cells.specs.Curvature.{IsCurvature}
+use Rattle.dd_covers.specs.OrientedCover.{IsOrientedCover}
+use Rattle.dd_covers.specs.TorusCover.{IsTorusCover}
 use Rattle.dd_quotient.specs.Dual.{dual_of}
 use Rattle.dd_quotient.specs.MinimalImage.{IsMinimalImage, HasTooLarge}
 use Rattle.dd_template.specs.Table.{Table}
 use Rattle.dd_template.specs.Made.{made}
 use Rattle.dd_template.specs.Named.{table_of_operation}
 use Rattle.dd_commands.specs.declared.commands.SymbolCommand.{SymbolCommand}
-use Rattle.dd_commands.specs.declared.commands.SymbolCommand.TheVariants.{Lines, Canon, Minimal, Dual, Derived}
+use Rattle.dd_commands.specs.declared.commands.SymbolCommand.TheVariants.{Lines, Canon, Minimal, Dual, Oriented, Torus, Derived}
 use Rattle.dd_commands.specs.declared.refusals.SymbolFault.{SymbolFault}
-use Rattle.dd_commands.specs.declared.refusals.SymbolFault.TheVariants.{TooManyChambers, BranchingTooLarge}
+use Rattle.dd_commands.specs.declared.refusals.SymbolFault.TheVariants.{TooManyChambers, BranchingTooLarge, NotFlat}
 use Rattle.dd_commands.specs.declared.refusals.SymbolRefusal.{SymbolRefusal}
 
 -- the least form of a minimal image whose branching values are at most 30
@@ -21,6 +25,21 @@ pub record IsLeastImage (s t : Symbol) : Type 0 where
   pub is_image : IsMinimalImage s image map
   pub small : IsSmallSymbol image
   pub least : IsLeastForm image t
+
+-- the least form of the oriented cover
+pub record IsLeastCover (s t : Symbol) : Type 0 where
+  pub cover : Symbol
+  pub below : List ℕ
+  pub is_cover : IsOrientedCover s cover below
+  pub least : IsLeastForm cover t
+
+-- the least form of the torus cover of a flat symbol
+pub record IsLeastTorus (s t : Symbol) : Type 0 where
+  pub flat : Flat s
+  pub cover : Symbol
+  pub below : List ℕ
+  pub is_cover : IsTorusCover s cover below
+  pub least : IsLeastForm cover t
 
 -- the least form of what a table makes of a symbol, which has at most 1,024 chambers
 pub record IsDerived (table : Table) (s t : Symbol) : Type 0 where
@@ -33,17 +52,27 @@ IsMade Lines s t = s ≡ t
 IsMade Canon s t = IsLeastForm s t
 IsMade Minimal s t = IsLeastImage s t
 IsMade Dual s t = IsLeastForm (dual_of s) t
+IsMade Oriented s t = IsLeastCover s t
+IsMade Torus s t = IsLeastTorus s t
 IsMade (Derived operation) s t = IsDerived (table_of_operation operation) s t
 
 -- a symbol of n chambers, of which the table would make more than 1,024
 abbrev pub IsTooLong : Table → Symbol → SymbolFault → Type 0
 IsTooLong table s (TooManyChambers n) = (n ≡ s.size) × (1024 < s.size * table.parts)
 IsTooLong table s (BranchingTooLarge v) = ⊥
+IsTooLong table s (NotFlat x) = ⊥
 
 -- the minimal image has a branching value over 30, and v is the first
 abbrev pub IsTooSharp : Symbol → SymbolFault → Type 0
 IsTooSharp s (TooManyChambers n) = ⊥
 IsTooSharp s (BranchingTooLarge v) = HasTooLarge s v
+IsTooSharp s (NotFlat x) = ⊥
+
+-- the curvature is not 0, and x is the curvature
+abbrev pub IsCurved : Symbol → SymbolFault → Type 0
+IsCurved s (TooManyChambers n) = ⊥
+IsCurved s (BranchingTooLarge v) = ⊥
+IsCurved s (NotFlat x) = (¬ Flat s) × IsCurvature s x
 
 -- why a command makes nothing of a symbol
 abbrev pub IsFaultOf : SymbolCommand → Symbol → SymbolFault → Type 0
@@ -51,6 +80,8 @@ IsFaultOf Lines s fault = ⊥
 IsFaultOf Canon s fault = ⊥
 IsFaultOf Minimal s fault = IsTooSharp s fault
 IsFaultOf Dual s fault = ⊥
+IsFaultOf Oriented s fault = ⊥
+IsFaultOf Torus s fault = IsCurved s fault
 IsFaultOf (Derived operation) s fault = IsTooLong (table_of_operation operation) s fault
 
 -- something is made of a symbol

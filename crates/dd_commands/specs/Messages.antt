@@ -1,13 +1,15 @@
 -- The texts that tell of a symbol of which nothing is made.
 use Rattle.std.specs.Prelude.{ℕ, List, ◌++◌, codes, decimal}
+use Rattle.dd_commands.specs.Facts.{fraction_text}
 use Rattle.dd_commands.specs.declared.refusals.SymbolFault.{SymbolFault}
-use Rattle.dd_commands.specs.declared.refusals.SymbolFault.TheVariants.{TooManyChambers, BranchingTooLarge}
+use Rattle.dd_commands.specs.declared.refusals.SymbolFault.TheVariants.{TooManyChambers, BranchingTooLarge, NotFlat}
 use Rattle.dd_commands.specs.declared.refusals.SymbolRefusal.{SymbolRefusal}
 
 -- why nothing is made of a symbol
 abbrev pub symbol_fault_text : SymbolFault → List ℕ
 symbol_fault_text (TooManyChambers n) = codes "too many chambers " ++ decimal n
 symbol_fault_text (BranchingTooLarge v) = codes "branching too large " ++ decimal v
+symbol_fault_text (NotFlat x) = codes "not flat " ++ fraction_text x
 
 -- the symbol of a file of which nothing is made
 abbrev pub symbol_refusal_text : SymbolRefusal → List ℕ

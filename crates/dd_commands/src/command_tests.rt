@@ -1,4 +1,5 @@
 use crate::*;
+use dd_cells::Fraction;
 use dd_template::Operation;
 use std::alloc::{AllocError, Global};
 use std::test::Fail;
@@ -64,6 +65,17 @@ fn lines_of_files(rt: HostRuntime) -> Result<(), Fail> {
             "<1.1:3:1 3,2 3,1 2 3:3,8 4>\n",
         ),
         (SymbolCommand::Minimal, "<1.1:2:2,2,2:4,4>", SQUARES),
+        (
+            SymbolCommand::Torus,
+            SQUARES,
+            "<1.1:8:2 7 6 8,3 5 7 8,4 6 5 8:4,4>\n",
+        ),
+        (SymbolCommand::Oriented, SQUARES, "<1.1:2:2,2,2:4,4>\n"),
+        (
+            SymbolCommand::Oriented,
+            "<1.1:2:2,2,2:4,4>",
+            "<1.1:2:2,2,2:4,4>\n",
+        ),
         (
             SymbolCommand::Derived(Operation::Ambo),
             "<1.1:1:1,1,1:3,6>",
@@ -147,6 +159,13 @@ fn symbols_that_are_refused(rt: HostRuntime) -> Result<(), Fail> {
     let why = SymbolFault::BranchingTooLarge { v: 32 };
     assert_eq!(rt;
         fault_of(alloc, SymbolCommand::Minimal, sharp),
+        Some(CommandFault::Symbol(SymbolRefusal { symbol: 1, why }))
+    );
+    let why = SymbolFault::NotFlat {
+        curvature: Fraction { num: 1, den: 6 },
+    };
+    assert_eq!(rt;
+        fault_of(alloc, SymbolCommand::Torus, "<1.1:1:1,1,1:3,3>"),
         Some(CommandFault::Symbol(SymbolRefusal { symbol: 1, why }))
     );
     for (command, file) in [

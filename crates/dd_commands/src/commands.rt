@@ -11,6 +11,10 @@ pub enum SymbolCommand {
     Minimal,
     /// The least form of its dual.
     Dual,
+    /// The least form of its oriented cover.
+    Oriented,
+    /// The least form of its torus cover.
+    Torus,
     /// The least form of a derived tiling.
     Derived(Operation),
 }

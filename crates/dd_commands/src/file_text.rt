@@ -1,4 +1,6 @@
 ghost use Rattle.std.specs.Prelude.{◌≡◌, ◌≤◌, length, IfOk, IfErr};
+ghost use Rattle.std.specs.List.{AllByRecursion};
+ghost use Rattle.dd_model.specs.Reading.{IsReadable};
 ghost use Rattle.dd_commands.specs.Files.{IsTextOf, IsFileText, IsRefusalOf};
 ghost use Rattle.dd_commands.specs.Stops.{IsStop};
 ghost use Rattle.dd_commands.specs.Faults.{IsCommandFault, fault_of_why};
@@ -49,7 +51,8 @@ fn text_of(
     command: FileCommand,
     symbols: Vec<Connected>,
 ) -> Result<Vec<u8>, Stop<SymbolRefusal>>
-    requires { length symbols.items ≤ 1000000 }
+    requires few { length symbols.items ≤ 1000000 }
+    requires readable { AllByRecursion IsReadable symbols.items }
     ensures text { IfOk result (λ text. IsTextOf command symbols.items text.items) }
     ensures why { IfErr result (IsStop (IsRefusalOf command symbols.items)) }
 {

@@ -1,6 +1,7 @@
 ghost use Rattle.std.specs.Prelude.{Some};
 ghost use Rattle.dd_commands.specs.Messages.{symbol_fault_text, symbol_refusal_text};
 
+use dd_cells::Fraction;
 use std::fmt;
 
 /// Why a command makes nothing of a symbol.
@@ -16,6 +17,11 @@ pub enum SymbolFault {
         /// The first such value.
         v: u32,
     },
+    /// The curvature is not 0.
+    NotFlat {
+        /// The curvature.
+        curvature: Fraction,
+    },
 }
 
 impl fmt::Display for SymbolFault {
@@ -25,6 +31,12 @@ impl fmt::Display for SymbolFault {
         match self {
             SymbolFault::TooManyChambers { n } => write!(f, "too many chambers {n}"),
             SymbolFault::BranchingTooLarge { v } => write!(f, "branching too large {v}"),
+            SymbolFault::NotFlat { curvature } if curvature.den == 1 => {
+                write!(f, "not flat {}", curvature.num)
+            }
+            SymbolFault::NotFlat { curvature } => {
+                write!(f, "not flat {}/{}", curvature.num, curvature.den)
+            }
         }
     }
 }

@@ -1,7 +1,9 @@
 ghost use Rattle.std.specs.Prelude.{IfOk, IfErr};
+ghost use Rattle.std.specs.List.{AllByRecursion};
+ghost use Rattle.dd_model.specs.Reading.{IsReadable};
 ghost use Rattle.dd_template.specs.Named.{table_of_operation};
 ghost use Rattle.dd_commands.specs.InTurn.{AreInTurn};
-ghost use Rattle.dd_commands.specs.Made.{IsLeastImage, IsDerived, IsTooLong, IsTooSharp, IsMade, IsFaultOf, IsFirstFault};
+ghost use Rattle.dd_commands.specs.Made.{IsLeastImage, IsLeastTorus, IsDerived, IsTooLong, IsTooSharp, IsCurved, IsMade, IsFaultOf, IsFirstFault};
 ghost use Rattle.dd_commands.specs.Files.{AreLinesOfMade};
 ghost use Rattle.dd_commands.specs.Stops.{IsStop};
 
@@ -9,6 +11,7 @@ use crate::commands::SymbolCommand;
 use crate::refusals::{SymbolFault, SymbolRefusal};
 use crate::stop::Stop;
 use dd_canon::least_form;
+use dd_covers::{TorusFault, oriented, torus};
 use dd_model::Memory;
 use dd_quotient::{MinimalFault, dual, minimal_image};
 use dd_symbol::Connected;
@@ -22,6 +25,7 @@ pub fn lines_of(
     command: SymbolCommand,
     symbols: Vec<Connected>,
 ) -> Result<Vec<u8>, Stop<SymbolRefusal>>
+    requires { AllByRecursion IsReadable symbols.items }
     ensures text { IfOk result (λ text. AreLinesOfMade command symbols.items text.items) }
     ensures why { IfErr result (IsStop (IsFirstFault command 1 symbols.items)) }
 {
@@ -37,6 +41,7 @@ fn made_of(
     command: SymbolCommand,
     symbols: Vec<Connected>,
 ) -> Result<Vec<Connected>, Stop<SymbolRefusal>>
+    requires { AllByRecursion IsReadable symbols.items }
     ensures made { IfOk result (λ made. AreInTurn (IsMade command) symbols.items made.items) }
     ensures why { IfErr result (IsStop (IsFirstFault command 1 symbols.items)) }
 {
@@ -52,6 +57,7 @@ fn each_made(
     command: SymbolCommand,
     symbols: &[Connected],
 ) -> Result<Vec<Connected>, Stop<SymbolRefusal>>
+    requires { AllByRecursion IsReadable symbols.now }
     ensures made { IfOk result (λ made. AreInTurn (IsMade command) symbols.now made.items) }
     ensures why { IfErr result (IsStop (IsFirstFault command 1 symbols.now)) }
 {
@@ -77,6 +83,7 @@ fn made_of_one(
     command: SymbolCommand,
     s: &Connected,
 ) -> Result<Connected, Stop<SymbolFault>>
+    requires { IsReadable s.now }
     ensures made { IfOk result (λ made. IsMade command s.now made) }
     ensures why { IfErr result (IsStop (IsFaultOf command s.now)) }
 {
@@ -88,6 +95,11 @@ fn made_of_one(
             let dual = dual(alloc, s)?;
             Ok(least_form(alloc, &dual)?)
         }
+        SymbolCommand::Oriented => {
+            let cover = oriented(alloc, s)?;
+            Ok(least_form(alloc, &cover.symbol)?)
+        }
+        SymbolCommand::Torus => least_torus(alloc, s),
         SymbolCommand::Derived(operation) => derived(alloc, operation, s),
     }
 }
@@ -105,6 +117,22 @@ fn least_image(alloc: Global, s: &Connected) -> Result<Connected, Stop<SymbolFau
         Err(MinimalFault::Memory) => return Err(Stop::Memory),
     };
     Ok(least_form(alloc, &image)?)
+}
+
+/// The least form of the torus cover.
+fn least_torus(alloc: Global, s: &Connected) -> Result<Connected, Stop<SymbolFault>>
+    requires { IsReadable s.now }
+    ensures torus { IfOk result (λ form. IsLeastTorus s.now form) }
+    ensures why { IfErr result (IsStop (IsCurved s.now)) }
+{
+    let cover = match torus(alloc, s) {
+        Ok(cover) => cover,
+        Err(TorusFault::NotFlat { curvature }) => {
+            return Err(Stop::Refused(SymbolFault::NotFlat { curvature }));
+        }
+        Err(TorusFault::Memory) => return Err(Stop::Memory),
+    };
+    Ok(least_form(alloc, &cover.symbol)?)
 }
 
 /// The least form of what the table of an operation makes of a symbol.

@@ -6,3 +6,4 @@ pub mod CatalogueSteps
 pub mod HeldTexts
 pub mod Causes
 pub mod LongFiles
+pub mod LineParts

@@ -11,7 +11,7 @@ use Rattle.dd_words.specs.declared.commands.FileKind.{FileKind}
 use Rattle.dd_words.specs.declared.commands.FileKind.TheVariants as kind
 use Rattle.dd_commands.specs.declared.commands.FileCommand.{FileCommand}
 use Rattle.dd_commands.specs.declared.commands.FileCommand.TheVariants.{Symbols, Info}
-use Rattle.dd_commands.specs.declared.commands.SymbolCommand.TheVariants.{Lines, Canon, Minimal, Dual, Derived}
+use Rattle.dd_commands.specs.declared.commands.SymbolCommand.TheVariants.{Lines, Canon, Minimal, Dual, Oriented, Torus, Derived}
 use Rattle.dd_suite.specs.declared.pace.Pace.{Pace}
 use Rattle.dd_suite.specs.declared.task.Task.{Task}
 use Rattle.dd_suite.specs.declared.task.Task.TheVariants as task
@@ -29,8 +29,8 @@ command_of kind.Canon = Symbols Canon
 command_of kind.Minimal = Symbols Minimal
 command_of kind.Dual = Symbols Dual
 command_of (kind.Derived operation) = Symbols (Derived operation)
-command_of kind.Oriented = Info
-command_of kind.Torus = Info
+command_of kind.Oriented = Symbols Oriented
+command_of kind.Torus = Symbols Torus
 
 back_from_kind : (k : FileCommand) → command_of (kind_of k) ≡ k
 unfolding command_of
@@ -39,6 +39,8 @@ back_from_kind (Symbols Lines) = refl
 back_from_kind (Symbols Canon) = refl
 back_from_kind (Symbols Minimal) = refl
 back_from_kind (Symbols Dual) = refl
+back_from_kind (Symbols Oriented) = refl
+back_from_kind (Symbols Torus) = refl
 back_from_kind (Symbols (Derived operation)) = refl
 
 same_kind : (k l : FileCommand) → kind_of k ≡ kind_of l → k ≡ l

@@ -7,7 +7,7 @@ use Rattle.dd_words.specs.declared.commands.FileKind.{FileKind}
 use Rattle.dd_words.specs.declared.commands.FileKind.TheVariants as kind
 use Rattle.dd_commands.specs.declared.commands.FileCommand.{FileCommand}
 use Rattle.dd_commands.specs.declared.commands.FileCommand.TheVariants.{Symbols, Info}
-use Rattle.dd_commands.specs.declared.commands.SymbolCommand.TheVariants.{Lines, Canon, Minimal, Dual, Derived}
+use Rattle.dd_commands.specs.declared.commands.SymbolCommand.TheVariants.{Lines, Canon, Minimal, Dual, Oriented, Torus, Derived}
 
 -- the words of a catalogue with any number of workers and any length of a round, and no checkpoint
 pub record AskFor (words : List (List ℕ)) (q : Request) : Type 0 where
@@ -22,6 +22,8 @@ kind_of (Symbols Lines) = kind.Lines
 kind_of (Symbols Canon) = kind.Canon
 kind_of (Symbols Minimal) = kind.Minimal
 kind_of (Symbols Dual) = kind.Dual
+kind_of (Symbols Oriented) = kind.Oriented
+kind_of (Symbols Torus) = kind.Torus
 kind_of (Symbols (Derived operation)) = kind.Derived operation
 
 -- the words of a command on the file of a name

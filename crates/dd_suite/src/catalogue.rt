@@ -55,7 +55,7 @@ pub fn write_catalogue<R: Threads + Wait + Sync, F: Finder + Sync, G: Gate + Syn
             page.flush(out)?;
             return Ok(Finish::Whole);
         }
-        if !write_done(&mut front, &mut page, out)? {
+        if !write_done(rt, pace.workers, &mut front, &mut page, out)? {
             return Ok(Finish::CutShort);
         }
     }

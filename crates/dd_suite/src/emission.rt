@@ -8,15 +8,19 @@ use crate::pages::Page;
 use crate::rounds::count_at_front;
 use dd_front::Front;
 use dd_ports::{Sink, SinkFault};
+use std::thread::Threads;
 
-/// Emits the entries at the front that are done, and puts their lines to the page. Where there are too many lines, writes
+/// Emits the entries at the front that are done, and puts their lines, made by so many threads, to the page. Where there are too many lines, writes
 /// those up to the last number, and answers false.
-pub fn write_done<O: Sink>(
+pub fn write_done<R: Threads + Sync, O: Sink>(
+    rt: &R,
+    threads: u32,
     front: &mut Front,
     page: &mut Page,
     out: &mut O,
 ) -> Result<bool, SinkFault>
-    requires { IsAny (O.held out.old) page.old front.old }
+    requires threads { 1 ≤ threads }
+    requires any { IsAny (O.held out.old) page.old front.old }
     ensures all { IfOk result (λ all. OnTrue all
         (GoesOn (O.held out.old) (O.held out.new) page.old page.new front.old front.new)) }
     ensures opened { IfOk result (λ all. OnTrue all (AreOpen front.new.entries)) }
@@ -31,7 +35,7 @@ pub fn write_done<O: Sink>(
         let Some(members) = front.emit() else {
             unreachable!()
         };
-        if !page.add(members.as_slice(), out)? {
+        if !page.add(rt, threads, members.as_slice(), out)? {
             return Ok(false);
         }
     }

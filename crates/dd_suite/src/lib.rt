@@ -5,6 +5,7 @@ mod catalogue;
 mod emission;
 mod ending;
 mod file;
+mod lines;
 mod pace;
 mod pages;
 mod rounds;

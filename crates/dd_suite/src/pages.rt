@@ -4,10 +4,11 @@ ghost use Rattle.dd_ports.specs.declared.sink.SinkFault.TheVariants.{Failed};
 ghost use Rattle.dd_ports.specs.Causes.{HasCause, StaysSure};
 ghost use Rattle.dd_suite.specs.Pages.{KeepsLines, AddsAll, AddsTooMany, WritesPrefix, WritesPrefixOf};
 
+use crate::lines::put_lines_by;
 use dd_ports::{Sink, SinkFault, write_all_of};
 use dd_symbol::Connected;
-use dd_text::put_lines;
 use std::alloc::Global;
+use std::thread::Threads;
 
 /// How many bytes are collected before they are written.
 const FULL: usize = 65_536;
@@ -65,27 +66,36 @@ impl Page {
         Ok(())
     }
 
-    /// Collects the next lines.
-    fn put(&mut self, members: &[Connected]) -> Result<(), SinkFault>
+    /// Collects the next lines, made by so many threads.
+    fn put<R: Threads + Sync>(
+        &mut self,
+        rt: &R,
+        threads: u32,
+        members: &[Connected],
+    ) -> Result<(), SinkFault>
+        requires threads { 1 ≤ threads }
         requires few { self.old.count + length members.now ≤ 1000000000000000000 }
         ensures lines { OnOk result
             ((held : Option (List ℕ)) → AddsAll held held self.old self.new members.now) }
         ensures failed { result ≡ Err Failed → ⊥ }
     {
-        let Ok(()) = put_lines(&mut self.buffer, self.count, members) else {
+        let Ok(()) = put_lines_by(rt, threads, &mut self.buffer, self.count, members) else {
             return Err(SinkFault::Memory);
         };
         self.count += members.len() as u64;
         Ok(())
     }
 
-    /// Collects the next lines and writes them once there are enough. Where their numbers become too
+    /// Collects the next lines, made by so many threads, and writes them once there are enough. Where their numbers become too
     /// large, writes those up to the last number, and answers false.
-    pub(crate) fn add<O: Sink>(
+    pub(crate) fn add<R: Threads + Sync, O: Sink>(
         &mut self,
+        rt: &R,
+        threads: u32,
         members: &[Connected],
         out: &mut O,
     ) -> Result<bool, SinkFault>
+        requires threads { 1 ≤ threads }
         requires few { self.old.count ≤ 1000000000000000000 }
         ensures all { IfOk result (λ all.
             OnTrue all (AddsAll (O.held out.old) (O.held out.new) self.old self.new members.now)) }
@@ -98,11 +108,11 @@ impl Page {
     {
         let room = MOST_LINES - self.count;
         if members.len() as u64 > room {
-            self.put(&members[..room as usize])?;
+            self.put(rt, threads, &members[..room as usize])?;
             self.flush(out)?;
             return Ok(false);
         }
-        self.put(members)?;
+        self.put(rt, threads, members)?;
         self.flush_if_full(out)?;
         Ok(true)
     }

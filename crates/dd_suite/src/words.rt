@@ -4,7 +4,6 @@ ghost use Rattle.dd_words.specs.declared.commands.FileKind.TheVariants as kind;
 ghost use Rattle.dd_suite.specs.Words.{AreTaken, kind_of};
 ghost use Rattle.dd_suite.specs.Commands.{IsTaskOf, AskForTask};
 ghost use Rattle.dd_suite.specs.declared.task.Task.{Task as Asked};
-ghost use Rattle.dd_commands.specs.declared.commands.FileCommand.{FileCommand as OfFile};
 
 use crate::pace::Pace;
 use crate::task::Task;
@@ -38,28 +37,23 @@ fn task_of(command: Command) -> Option<Task>
             pause: None,
             checkpoint: None,
         } => Some(Task::Catalogue(request, Pace { workers, round })),
-        Command::File { kind, file } => match command_of(kind) {
-            Some(command) => Some(Task::OnFile(command, file)),
-            None => None,
-        },
+        Command::File { kind, file } => Some(Task::OnFile(command_of(kind), file)),
         _ => None,
     }
 }
 
-/// The command on files of a kind, and None where the program does not have it.
-fn command_of(kind: FileKind) -> Option<FileCommand>
-    ensures { MatchOption result ((command : OfFile) → kind ≡ kind_of command → ⊥)
-        (λ command. kind ≡ kind_of command) }
+/// The command on files of a kind.
+fn command_of(kind: FileKind) -> FileCommand
+    ensures { kind ≡ kind_of result }
 {
     match kind {
-        FileKind::Info => Some(FileCommand::Info),
-        FileKind::Lines => Some(FileCommand::Symbols(SymbolCommand::Lines)),
-        FileKind::Canon => Some(FileCommand::Symbols(SymbolCommand::Canon)),
-        FileKind::Minimal => Some(FileCommand::Symbols(SymbolCommand::Minimal)),
-        FileKind::Dual => Some(FileCommand::Symbols(SymbolCommand::Dual)),
-        FileKind::Derived(operation) => {
-            Some(FileCommand::Symbols(SymbolCommand::Derived(operation)))
-        }
-        FileKind::Oriented | FileKind::Torus => None,
+        FileKind::Info => FileCommand::Info,
+        FileKind::Lines => FileCommand::Symbols(SymbolCommand::Lines),
+        FileKind::Canon => FileCommand::Symbols(SymbolCommand::Canon),
+        FileKind::Minimal => FileCommand::Symbols(SymbolCommand::Minimal),
+        FileKind::Dual => FileCommand::Symbols(SymbolCommand::Dual),
+        FileKind::Oriented => FileCommand::Symbols(SymbolCommand::Oriented),
+        FileKind::Torus => FileCommand::Symbols(SymbolCommand::Torus),
+        FileKind::Derived(operation) => FileCommand::Symbols(SymbolCommand::Derived(operation)),
     }
 }

@@ -40,8 +40,8 @@ returns-then-not-more-clause-whole g c =
     let end = rw c.if-not-more.true at c.in-Ok-do_round.ensures.round in
     way_whole q asked.0 start before (g.O.Sink.held c.flush.new.out) c.loop-more.page c.flush.new.self c.loop-more.front asked.1 end.none c.in_ok-flush.ensures.kept c.in_ok-flush.ensures.empty asked.2
 
-pub write_done-requires : goal.write_done-requires
-write_done-requires g c =
+pub write_done-requires-clause-any : goal.write_done-requires-clause-any
+write_done-requires-clause-any g c κs within =
     let q = g.F.Finder.request c.args.finder.now in
     let start = g.O.Sink.held c.args.out.now in
     let before = g.O.Sink.held c.loop-more.out in

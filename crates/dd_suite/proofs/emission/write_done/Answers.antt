@@ -6,7 +6,7 @@ use Rattle.dd_suite.proofs.emission.write_done.Goals as goal
 
 pub emit-requires : goal.emit-requires
 emit-requires g c =
-    let r = c.requires in
+    let r = c.requires.any in
     let way = c.loop-front.invariant.0.way r.request r.jobs r.start r.way in
     room_on_way (g.O.Sink.held c.loop-front.out) c.loop-front.page c.loop-front.front c.count_at_front.result (record { request = r.request; jobs = r.jobs; start = r.start; way = way })
     (sym c.is_some.ensures ∙ c.loop-front-test.true) c.count_at_front.ensures
@@ -14,10 +14,10 @@ emit-requires g c =
 pub unreachable-requires : goal.unreachable-requires
 unreachable-requires g c = first_on_way c.loop-front.front c.count_at_front.result (sym c.is_some.ensures ∙ c.loop-front-test.true) c.count_at_front.ensures c.in_default.ensures.none
 
-pub add-requires : goal.add-requires
-add-requires g c =
-    let r = c.requires in
-    record { few = few_on_way r.request r.jobs r.start (g.O.Sink.held c.loop-front.out) c.loop-front.page c.loop-front.front (c.loop-front.invariant.0.way r.request r.jobs r.start r.way) }
+pub add-requires-clause-few : goal.add-requires-clause-few
+add-requires-clause-few g c κs within =
+    let r = c.requires.any in
+    few_on_way r.request r.jobs r.start (g.O.Sink.held c.loop-front.out) c.loop-front.page c.loop-front.front (c.loop-front.invariant.0.way r.request r.jobs r.start r.way)
 
 pub returns-in_err-add-clause-prefix : goal.returns-in_err-add-clause-prefix
 returns-in_err-add-clause-prefix g c q jobs start text is way of =
@@ -60,7 +60,7 @@ loop-front-preserved g c =
 
 pub returns-clause-opened : goal.returns-clause-opened
 returns-clause-opened g c =
-    let r = c.requires in
+    let r = c.requires.any in
     let way = c.loop-front.invariant.0.way r.request r.jobs r.start r.way in
     rest_open c.loop-front.front way.entries_are (none_on_way c.loop-front.front c.count_at_front.result (sym c.is_some.ensures ∙ c.loop-front-test.false) c.count_at_front.ensures)
 
