@@ -1,8 +1,6 @@
-//! Boards and desks by their events, workers that steal, and rounds, with the jobs and members of the search. The
-//! crate holds tests alone, and none stands on it.
+//! Workers that steal, and rounds, with the jobs and members of the search. The crate holds tests alone, and none
+//! stands on it.
 #![tactic(auto)]
 
-#[cfg(test)]
-mod board_trials;
 #[cfg(test)]
 mod round_trials;

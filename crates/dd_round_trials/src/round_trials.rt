@@ -1,16 +1,15 @@
-ghost use Rattle.std.specs.Prelude.{◌≡◌, ◌≤◌, IfOk};
+ghost use Rattle.std.specs.Prelude.{◌≡◌, ◌≤◌, IfOk, length};
 ghost use Rattle.dd_model.specs.Request.{IsValid};
 ghost use Rattle.dd_model.specs.Jobs.{AreAscendingJobs, AreApart};
 ghost use Rattle.dd_board.specs.Desk.{AreJobsOf};
 
-use crate::board_trials::{shown, ticket_of, two_jobs};
-use dd_board::{Blanks, Board, Naming};
+use dd_board::{Blanks, Board, Naming, Seat, Taken};
 use dd_branch::Search;
 use dd_front::{Entry, State};
 use dd_invol::opening;
 use dd_model::{Job, Memory, Request};
 use dd_ports::{Gate, OpenGate};
-use dd_rack::Rack;
+use dd_rack::{Hand, Rack};
 use dd_steal::{Ended, run_round, work};
 use dd_text::put_lines;
 use std::alloc::Global;
@@ -104,7 +103,52 @@ fn two_workers_work_at_once(rt: HostRuntime) -> Result<(), Fail> {
     Ok(())
 }
 
+/// Takes the eight jobs of a board and puts their tickets into a deque.
+fn take_all<N: Naming, K: Ledger, L: Ledger, S: Ledger, D: Ledger, B: Ledger, R: Wait>(
+    rt: &R,
+    board: &Board<N, K, L, S, D, B>,
+    seat: &mut Seat<K, L, S, D, B>,
+    hand: &mut Hand<N>,
+) -> Result<(), Fail> {
+    for _ in 0..8 {
+        let Taken::Job(ticket) = board.take(rt, seat)? else {
+            return Err(Fail::new("no job is open"));
+        };
+        if hand.push(ticket).is_err() {
+            return Err(Fail::new("no room"));
+        }
+    }
+    Ok(())
+}
+
 /// One hand gets all tickets, and the worker of the other hand does their jobs.
+fn steal_all<N: Naming, K: Ledger, L: Ledger, S: Ledger, D: Ledger, B: Ledger, R: Wait>(
+    rt: &R,
+    alloc: Global,
+    request: &Request,
+    board: &Board<N, K, L, S, D, B>,
+    seats: &mut [Seat<K, L, S, D, B>],
+    hands: &mut [Hand<N>],
+) -> Result<(), Fail>
+    requires request { request.now ≡ N.request }
+    requires seats { length seats.old ≡ 2 }
+    requires hands { length hands.old ≡ 2 }
+    ensures { length seats.new ≡ 2 }
+{
+    take_all(rt, board, &mut seats[0], &mut hands[0])?;
+    let finder = Search::new(request);
+    let gate = OpenGate::new();
+    let (seat, hand) = (&mut seats[1], &mut hands[1]);
+    if let Ended::Memory(_) = work(rt, alloc, &finder, &gate, board, seat, hand) {
+        return Err(Fail::new("out of memory"));
+    }
+    if hands[0].pop().is_some() {
+        return Err(Fail::new("a ticket that was not stolen"));
+    }
+    Ok(())
+}
+
+/// The lines of what one hand stole of the other. Nothing is swept.
 fn stolen_by_one<N: Naming, K: Ledger, L: Ledger, S: Ledger, D: Ledger, B: Ledger, R: Wait>(
     rt: &R,
     alloc: Global,
@@ -125,32 +169,22 @@ fn stolen_by_one<N: Naming, K: Ledger, L: Ledger, S: Ledger, D: Ledger, B: Ledge
     requires back { (blanks.back.name ≡ B.name) × (blanks.back.parts ≡ B.parts) × (B.parts ≡ 2) }
 {
     let (board, mut seats) = Board::<N, K, L, S, D, B>::open(alloc, request, jobs, 2, blanks)?;
-    let (_, mut hands) = Rack::<N>::open(alloc, 2, 2)?;
-    let one = ticket_of(board.take(rt, &mut seats[0])?)?;
-    let two = ticket_of(board.take(rt, &mut seats[0])?)?;
-    if hands[0].push(one).is_err() || hands[0].push(two).is_err() {
-        return Err(Fail::new("no room"));
-    }
-    let finder = Search::new(request);
-    let ended = work(
+    let (_, mut hands) = Rack::<N>::open(alloc, 2, 8)?;
+    steal_all(
         rt,
         alloc,
-        &finder,
-        &OpenGate::new(),
+        request,
         &board,
-        &mut seats[1],
-        &mut hands[1],
-    );
-    match ended {
-        Ended::Idle => shown(alloc, &board.close(seats)),
-        Ended::Memory(_) => Err(Fail::new("out of memory")),
-    }
+        seats.as_mut_slice(),
+        hands.as_mut_slice(),
+    )?;
+    Ok(lines_of(alloc, &board.close(seats).into_entries())?)
 }
 
-/// What a board shows whose jobs were stolen.
-fn shown_of_stolen<R: Wait>(rt: &R, alloc: Global) -> Result<Vec<u8>, Fail> {
+/// The lines of a board all of whose jobs were stolen.
+fn lines_of_stolen<R: Wait>(rt: &R, alloc: Global) -> Result<Vec<u8>, Fail> {
     let request = Request::up_to(2);
-    let jobs = two_jobs(alloc)?;
+    let jobs = opening_jobs(alloc, &request)?;
     stolen_by_one::<Brand, Brand, Brand, Brand, Brand, Brand, R>(
         rt,
         alloc,
@@ -161,13 +195,10 @@ fn shown_of_stolen<R: Wait>(rt: &R, alloc: Global) -> Result<Vec<u8>, Fail> {
 }
 
 #[test]
-fn a_worker_steals(rt: HostRuntime) -> Result<(), Fail> {
-    assert_eq!(rt;
-        shown_of_stolen(&rt, rt.alloc())?.as_slice(),
-        b"resume take take look finish look finish look \
-\ndone\n<1.1:1:1,1,1:3,6>\n<1.2:1:1,1,1:4,4>\n<1.3:1:1,1,1:6,3>\n\
-\ndone\n<1.1:2:1 2,1 2,2:3 3,6>\n<1.2:2:1 2,1 2,2:3 6,4>\n<1.3:2:1 2,1 2,2:4 4,4>\n"
-            .as_slice()
-    );
+fn a_worker_steals_all(rt: HostRuntime) -> Result<(), Fail> {
+    let alloc = rt.alloc();
+    let stolen = lines_of_stolen(&rt, alloc)?;
+    let round = lines_of(alloc, &round_of(&rt, alloc, &OpenGate::new(), 1)?)?;
+    assert_eq!(rt; stolen.as_slice(), round.as_slice());
     Ok(())
 }

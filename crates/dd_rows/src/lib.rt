@@ -1,11 +1,9 @@
-//! Worked rows of symbols and of their text. The crate holds tests alone, and none stands on it.
+//! Worked rows of symbols and of their lines. The crate holds tests alone, and none stands on it.
 #![tactic(auto)]
 
 #[cfg(test)]
 mod symbol_tests;
 #[cfg(test)]
 mod symbols;
-#[cfg(test)]
-mod text_reading_tests;
 #[cfg(test)]
 mod text_tests;

@@ -1,39 +1,14 @@
-use dd_ports::{MemorySink, MemoryStore, OpenGate, Sink, Store, SureSink, SureStore};
-use dd_suite::{Status, run};
-use std::alloc::{AllocError, Global};
-use std::process::Abort;
-use std::rc::RcStr;
-use std::sync::Wait;
+use crate::running::run_words;
+use dd_ports::{MemorySink, MemoryStore, Store, SureSink, SureStore};
+use dd_suite::Status;
 use std::test::Fail;
-use std::thread::Threads;
 
 const ONE_CHAMBER: &str = "<1.1:1:1,1,1:3,6>\n<1.2:1:1,1,1:4,4>\n<1.3:1:1,1,1:6,3>\n";
-
-fn words_of(alloc: Global, texts: &[&str]) -> Result<Vec<RcStr>, AllocError> {
-    let mut words = Vec::new(alloc);
-    for text in texts {
-        words.push(RcStr::from_string(String::from_str(alloc, text)?)?)?;
-    }
-    Ok(words)
-}
-
-pub(crate) fn run_words<R: Threads + Wait + Sync, S: Store, O: Sink>(
-    rt: &R,
-    alloc: Global,
-    texts: &[&str],
-    store: &mut S,
-    out: &mut O,
-    err: &mut SureSink,
-) -> Result<Status, AllocError> {
-    let words = words_of(alloc, texts)?;
-    let gate = OpenGate::new();
-    Ok(run(rt, alloc, &words, store, out, err, &gate))
-}
 
 #[test]
 fn words_that_are_not_taken(rt: HostRuntime) -> Result<(), Fail> {
     let alloc = rt.alloc();
-    let rows: [&[&str]; 15] = [
+    let rows: [&[&str]; 13] = [
         &[],
         &["catalogue"],
         &["catalogue", "0"],
@@ -45,8 +20,6 @@ fn words_that_are_not_taken(rt: HostRuntime) -> Result<(), Fail> {
         &["catalogue", "2", "--help"],
         &["--version"],
         &["resume", "c"],
-        &["oriented", "f"],
-        &["torus", "f"],
         &["draw", "f"],
         &["exercise", "1", "1"],
     ];
@@ -95,25 +68,6 @@ fn a_sink_that_fails(rt: HostRuntime) -> Result<(), Fail> {
 const LEAST: &str = "<1.1:3:1 2 3,1 3,2 3:4 8,3>\n";
 
 const OTHER: &str = "<7.3:3:1 2 3,2 3,3 2:8 4,3>";
-
-/// What a command writes of a file.
-pub(crate) fn written<R: Threads + Wait + Sync + Abort>(
-    rt: &R,
-    alloc: Global,
-    words: &[&str],
-    file: &str,
-) -> Result<SureSink, AllocError> {
-    let mut store = SureStore::new(alloc);
-    let put = store.put("f", file.as_bytes());
-    assert_eq!(rt; put, Ok(()));
-    let mut out = SureSink::new(alloc);
-    let mut err = SureSink::new(alloc);
-    let status = run_words(rt, alloc, words, &mut store, &mut out, &mut err)?;
-    assert_eq!(rt; status, Status::Done);
-    assert_eq!(rt; err.held(), b"".as_slice());
-    assert_eq!(rt; store.held("f"), Some(file.as_bytes()));
-    Ok(out)
-}
 
 // A refused file, and the line that tells why. Nothing is written.
 #[test]

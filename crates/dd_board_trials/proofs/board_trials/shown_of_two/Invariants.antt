@@ -1,4 +1,4 @@
-use Rattle.dd_round_trials.proofs.board_trials.shown_of_two.Given as goal
+use Rattle.dd_board_trials.proofs.board_trials.shown_of_two.Given as goal
 
 -- the round of these jobs, and the ledgers of these blanks
 abbrev pub ghosts-at_two_seats-N-Naming : goal.ghosts-at_two_seats-N-Naming

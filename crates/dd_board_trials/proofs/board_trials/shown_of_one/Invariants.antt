@@ -1,4 +1,4 @@
-use Rattle.dd_round_trials.proofs.board_trials.shown_of_one.Given as goal
+use Rattle.dd_board_trials.proofs.board_trials.shown_of_one.Given as goal
 
 -- the round of these jobs, and the ledgers of these blanks
 abbrev pub ghosts-at_one_seat-N-Naming : goal.ghosts-at_one_seat-N-Naming

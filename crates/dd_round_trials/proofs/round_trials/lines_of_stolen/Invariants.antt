@@ -1,4 +1,4 @@
-use Rattle.dd_round_trials.proofs.round_trials.shown_of_stolen.Given as goal
+use Rattle.dd_round_trials.proofs.round_trials.lines_of_stolen.Given as goal
 
 -- the round of these jobs, and the ledgers of these blanks
 abbrev pub ghosts-stolen_by_one-N-Naming : goal.ghosts-stolen_by_one-N-Naming

@@ -1,4 +1,4 @@
-ghost use Rattle.std.specs.Prelude.{◌≡◌, ◌≤◌, IfOk};
+ghost use Rattle.std.specs.Prelude.{◌≡◌, ◌≤◌, IfOk, length};
 ghost use Rattle.dd_model.specs.Request.{IsValid};
 ghost use Rattle.dd_model.specs.Jobs.{AreAscendingJobs, AreApart, AreMembersUnder, AreChildren};
 ghost use Rattle.dd_model.specs.declared.requests.Request.{Request};
@@ -18,7 +18,7 @@ use std::sync::ledger::Ledger;
 use std::test::Fail;
 
 /// The jobs (1; 1 1 1) and (2; 1 1 2 2 2 1).
-pub(crate) fn two_jobs(alloc: Global) -> Result<Vec<Job>, Memory>
+fn two_jobs(alloc: Global) -> Result<Vec<Job>, Memory>
     ensures ascending { IfOk result (λ jobs. AreAscendingJobs jobs.items) }
     ensures apart { IfOk result (λ jobs. AreApart jobs.items) }
     ensures all { IfOk result (λ jobs. (q : Request) → 2 ≤ q.chambers → AreJobsOf q jobs.items) }
@@ -78,7 +78,7 @@ fn parts<N: Naming>(alloc: Global, request: &Request, ticket: &Ticket<N>) -> Res
     Ok(Search::new(request).split(alloc, job)?)
 }
 
-pub(crate) fn ticket_of<N: Naming>(taken: Taken<N>) -> Result<Ticket<N>, Fail> {
+fn ticket_of<N: Naming>(taken: Taken<N>) -> Result<Ticket<N>, Fail> {
     match taken {
         Taken::Job(ticket) => Ok(ticket),
         Taken::Idle => Err(Fail::new("no job is open")),
@@ -101,7 +101,7 @@ fn name_of(event: &Event) -> &'static str {
 
 /// The names of a desk's events, the numbers of its open entries, and a line for each member of those that
 /// are done.
-pub(crate) fn shown<N: Naming>(alloc: Global, desk: &Desk<N>) -> Result<Vec<u8>, Fail> {
+fn shown<N: Naming>(alloc: Global, desk: &Desk<N>) -> Result<Vec<u8>, Fail> {
     let mut shown = Vec::new(alloc);
     for event in desk.log() {
         shown.extend_from_slice(name_of(event).as_bytes())?;
@@ -119,18 +119,18 @@ pub(crate) fn shown<N: Naming>(alloc: Global, desk: &Desk<N>) -> Result<Vec<u8>,
     Ok(shown)
 }
 
-/// Takes a job and books what is under it.
-fn take_and_finish<N: Naming, K: Ledger, L: Ledger, S: Ledger, D: Ledger, B: Ledger, R: Wait>(
+/// Books what is under the ticket's job.
+fn finish_found<N: Naming, K: Ledger, L: Ledger, S: Ledger, D: Ledger, B: Ledger, R: Wait>(
     rt: &R,
     alloc: Global,
     request: &Request,
     board: &Board<N, K, L, S, D, B>,
     seat: &mut Seat<K, L, S, D, B>,
+    ticket: Ticket<N>,
 ) -> Result<(), Fail>
     requires request { request.now ≡ N.request }
     requires valid { IsValid request.now }
 {
-    let ticket = ticket_of(board.take(rt, seat)?)?;
     let list = found(alloc, request, &ticket)?;
     board.finish(rt, seat, ticket, list).map_err(|_| Memory)?;
     Ok(())
@@ -153,7 +153,42 @@ fn take_and_split<N: Naming, K: Ledger, L: Ledger, S: Ledger, D: Ledger, B: Ledg
     Ok(())
 }
 
-/// One seat finishes its job and finds no other one, and one gives its job back, which a sweep then does.
+/// One seat finishes its job and finds no other one, and one gives its job back.
+fn finish_and_back<N: Naming, K: Ledger, L: Ledger, S: Ledger, D: Ledger, B: Ledger, R: Wait>(
+    rt: &R,
+    alloc: Global,
+    request: &Request,
+    board: &Board<N, K, L, S, D, B>,
+    seats: &mut [Seat<K, L, S, D, B>],
+) -> Result<(), Fail>
+    requires request { request.now ≡ N.request }
+    requires valid { IsValid request.now }
+    requires seats { length seats.old ≡ 2 }
+    ensures { length seats.new ≡ 2 }
+{
+    let one = ticket_of(board.take(rt, &mut seats[0])?)?;
+    let two = ticket_of(board.take(rt, &mut seats[1])?)?;
+    finish_found(rt, alloc, request, board, &mut seats[0], one)?;
+    let _idle = board.take(rt, &mut seats[0])?;
+    board.back(rt, &mut seats[1], two).map_err(|_| Memory)?;
+    Ok(())
+}
+
+/// What a desk shows, and what it shows after a sweep.
+fn shown_and_swept<N: Naming>(
+    alloc: Global,
+    request: &Request,
+    desk: &mut Desk<N>,
+) -> Result<Vec<u8>, Fail>
+    requires { request.now ≡ N.request }
+{
+    let mut text = shown(alloc, desk)?;
+    sweep(alloc, &Search::new(request), desk)?;
+    text.append(&mut shown(alloc, desk)?)?;
+    Ok(text)
+}
+
+/// What a board of two seats shows, one of which gives its job back, which a sweep then does.
 fn at_two_seats<N: Naming, K: Ledger, L: Ledger, S: Ledger, D: Ledger, B: Ledger, R: Wait>(
     rt: &R,
     alloc: Global,
@@ -174,22 +209,31 @@ fn at_two_seats<N: Naming, K: Ledger, L: Ledger, S: Ledger, D: Ledger, B: Ledger
     requires back { (blanks.back.name ≡ B.name) × (blanks.back.parts ≡ B.parts) × (B.parts ≡ 2) }
 {
     let (board, mut seats) = Board::<N, K, L, S, D, B>::open(alloc, request, jobs, 2, blanks)?;
-    let one = ticket_of(board.take(rt, &mut seats[0])?)?;
-    let two = ticket_of(board.take(rt, &mut seats[1])?)?;
-    let list = found(alloc, request, &one)?;
-    board
-        .finish(rt, &mut seats[0], one, list)
-        .map_err(|_| Memory)?;
-    let _idle = board.take(rt, &mut seats[0])?;
-    board.back(rt, &mut seats[1], two).map_err(|_| Memory)?;
-    let mut desk = board.close(seats);
-    let mut text = shown(alloc, &desk)?;
-    sweep(alloc, &Search::new(request), &mut desk)?;
-    text.append(&mut shown(alloc, &desk)?)?;
-    Ok(text)
+    finish_and_back(rt, alloc, request, &board, seats.as_mut_slice())?;
+    shown_and_swept(alloc, request, &mut board.close(seats))
 }
 
-/// One seat splits its job, finishes both parts and finds no other job.
+/// A seat splits its job, finishes both parts and finds no other job.
+fn split_and_finish<N: Naming, K: Ledger, L: Ledger, S: Ledger, D: Ledger, B: Ledger, R: Wait>(
+    rt: &R,
+    alloc: Global,
+    request: &Request,
+    board: &Board<N, K, L, S, D, B>,
+    seat: &mut Seat<K, L, S, D, B>,
+) -> Result<(), Fail>
+    requires request { request.now ≡ N.request }
+    requires valid { IsValid request.now }
+{
+    take_and_split(rt, alloc, request, board, seat)?;
+    for _ in 0..2 {
+        let ticket = ticket_of(board.take(rt, seat)?)?;
+        finish_found(rt, alloc, request, board, seat, ticket)?;
+    }
+    let _idle = board.take(rt, seat)?;
+    Ok(())
+}
+
+/// What a board of one seat shows.
 fn at_one_seat<N: Naming, K: Ledger, L: Ledger, S: Ledger, D: Ledger, B: Ledger, R: Wait>(
     rt: &R,
     alloc: Global,
@@ -210,11 +254,8 @@ fn at_one_seat<N: Naming, K: Ledger, L: Ledger, S: Ledger, D: Ledger, B: Ledger,
     requires back { (blanks.back.name ≡ B.name) × (blanks.back.parts ≡ B.parts) × (B.parts ≡ 1) }
 {
     let (board, mut seats) = Board::<N, K, L, S, D, B>::open(alloc, request, jobs, 1, blanks)?;
-    take_and_split(rt, alloc, request, &board, &mut seats[0])?;
-    take_and_finish(rt, alloc, request, &board, &mut seats[0])?;
-    take_and_finish(rt, alloc, request, &board, &mut seats[0])?;
-    let _idle = board.take(rt, &mut seats[0])?;
-    Ok(shown(alloc, &board.close(seats))?)
+    split_and_finish(rt, alloc, request, &board, &mut seats[0])?;
+    shown(alloc, &board.close(seats))
 }
 
 /// What a board of two seats shows.
@@ -243,7 +284,31 @@ fn shown_of_one<R: Wait>(rt: &R, alloc: Global) -> Result<Vec<u8>, Fail> {
     )
 }
 
+/// Takes the first open job and puts its parts in its place.
+fn split_next<N: Naming>(alloc: Global, request: &Request, desk: &mut Desk<N>) -> Result<(), Fail>
+    requires request { request.now ≡ N.request }
+    requires valid { IsValid request.now }
+{
+    let ticket = ticket_of(desk.take(2)?)?;
+    let jobs = parts(alloc, request, &ticket)?;
+    desk.split(2, ticket, jobs).map_err(|_| Memory)?;
+    Ok(())
+}
+
 /// One entry is given back and taken again, and its first ticket still fits. A split makes it stale.
+fn book_stale<N: Naming>(alloc: Global, request: &Request, desk: &mut Desk<N>) -> Result<(), Fail>
+    requires request { request.now ≡ N.request }
+    requires valid { IsValid request.now }
+{
+    let first = ticket_of(desk.take(1)?)?;
+    desk.back(1, first.entry())?;
+    split_next(alloc, request, desk)?;
+    let list = found(alloc, request, &first)?;
+    desk.finish(1, first, list).map_err(|_| Memory)?;
+    Ok(())
+}
+
+/// What a desk shows at which a stale ticket was booked.
 fn at_a_desk<N: Naming>(alloc: Global, request: &Request, jobs: Vec<Job>) -> Result<Vec<u8>, Fail>
     requires request { request.now ≡ N.request }
     requires jobs { jobs.items ≡ N.jobs }
@@ -253,14 +318,8 @@ fn at_a_desk<N: Naming>(alloc: Global, request: &Request, jobs: Vec<Job>) -> Res
     requires all { AreJobsOf request.now jobs.items }
 {
     let mut desk = Desk::<N>::open(alloc, *request, jobs)?;
-    let first = ticket_of(desk.take(1)?)?;
-    desk.back(1, first.entry())?;
-    let again = ticket_of(desk.take(2)?)?;
-    let children = parts(alloc, request, &again)?;
-    desk.split(2, again, children).map_err(|_| Memory)?;
-    let list = found(alloc, request, &first)?;
-    desk.finish(1, first, list).map_err(|_| Memory)?;
-    Ok(shown(alloc, &desk)?)
+    book_stale(alloc, request, &mut desk)?;
+    shown(alloc, &desk)
 }
 
 /// What a desk shows at which a stale ticket is finished.
