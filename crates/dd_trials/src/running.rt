@@ -15,7 +15,7 @@ fn words_of(alloc: Global, texts: &[&str]) -> Result<Vec<RcStr>, AllocError> {
 }
 
 /// Runs the program with these words over a store and two sinks, with an open gate.
-pub fn run_words<R: Threads + Wait + Sync, S: Store, O: Sink>(
+pub(crate) fn run_words<R: Threads + Wait + Sync, S: Store, O: Sink>(
     rt: &R,
     alloc: Global,
     texts: &[&str],
@@ -29,7 +29,7 @@ pub fn run_words<R: Threads + Wait + Sync, S: Store, O: Sink>(
 }
 
 /// What the program writes with these words to a store that holds this file under `f`, and is to end as done.
-pub fn written<R: Threads + Wait + Sync + Abort>(
+pub(crate) fn written<R: Threads + Wait + Sync + Abort>(
     rt: &R,
     alloc: Global,
     words: &[&str],

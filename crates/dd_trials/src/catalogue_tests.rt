@@ -1,8 +1,8 @@
+use crate::running::written;
 use dd_model::{Allowed, Request};
 use dd_plain::plain_catalogue;
 use dd_ports::SureSink;
 use dd_text::put_lines;
-use dd_trials::written;
 use std::alloc::{AllocError, Global};
 use std::process::Abort;
 use std::sync::Wait;
