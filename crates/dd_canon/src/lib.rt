@@ -4,10 +4,7 @@
 mod forms;
 mod isomorphisms;
 mod steps;
-#[cfg(test)]
-mod tests;
-#[cfg(test)]
-mod tie_tests;
+
 mod ties;
 mod traversal_laws;
 mod visits;

@@ -10,8 +10,6 @@ mod laws;
 mod listing;
 mod members;
 mod orientations;
-#[cfg(test)]
-mod tests;
 
 pub use cell::Cell;
 pub use colorings::orientation;

@@ -29,6 +29,3 @@ pub use laws::{
 };
 pub use reading::read_checkpoint;
 pub use writing::write_checkpoint;
-
-#[cfg(test)]
-mod tests;

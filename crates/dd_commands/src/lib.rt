@@ -21,6 +21,3 @@ pub use file_laws::{
 };
 pub use file_text::text_of_file;
 pub use refusals::{SymbolFault, SymbolRefusal};
-
-#[cfg(test)]
-mod command_tests;

@@ -12,8 +12,6 @@ mod settling;
 mod sheets;
 mod shifts;
 mod side;
-#[cfg(test)]
-mod tests;
 mod tori;
 mod torus_covers;
 mod torus_faults;

@@ -17,8 +17,6 @@ mod members;
 mod rounds;
 mod saving;
 mod steps;
-#[cfg(test)]
-mod tests;
 
 pub use entry::{Entry, State};
 pub use event::Event;

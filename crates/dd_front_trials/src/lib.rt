@@ -7,6 +7,8 @@ mod catalogue;
 #[cfg(test)]
 mod front_events;
 #[cfg(test)]
+mod front_rows;
+#[cfg(test)]
 mod front_trials;
 #[cfg(test)]
 mod plain_front;

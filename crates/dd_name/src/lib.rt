@@ -18,8 +18,6 @@ mod orders;
 mod rotations;
 mod rounds;
 mod surface;
-#[cfg(test)]
-mod tests;
 
 pub use laws::a_symbol_has_one_orbifold;
 pub use measuring::orbifold;

@@ -9,6 +9,3 @@ mod trials;
 
 pub use choices::each_list_has_a_number;
 pub use filter::plain_catalogue;
-
-#[cfg(test)]
-mod tests;

@@ -7,8 +7,6 @@ mod image_laws;
 mod images;
 mod minimal;
 mod ranks;
-#[cfg(test)]
-mod tests;
 
 pub use duals::{dual, dual_of_dual, duals_are_connected_symbols};
 pub use image_laws::{

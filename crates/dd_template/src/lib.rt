@@ -13,8 +13,6 @@ mod made_laws;
 mod named;
 mod operations;
 mod tables;
-#[cfg(test)]
-mod tests;
 mod words;
 
 pub use applying::{ApplyFault, apply};

@@ -1,4 +1,4 @@
-use crate::{CheckFault, read_checkpoint, write_checkpoint};
+use dd_check::{CheckFault, read_checkpoint, write_checkpoint};
 use std::alloc::Global;
 use std::test::Fail;
 

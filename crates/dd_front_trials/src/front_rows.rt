@@ -1,6 +1,6 @@
 ghost use Rattle.std.specs.Prelude.{◌≡◌, IfOk};
 
-use super::*;
+use dd_front::{Event, Front, Members};
 use dd_model::{Allowed, Job, Memory, Position, Prefix, Request};
 use dd_symbol::{Connected, build};
 use std::alloc::Global;

@@ -1,0 +1,213 @@
+"""Worked rows of the whole program: what it is given, and what it has to write, tell and answer."""
+
+# The flat symbols of up to two chambers, in the order of the catalogue, without their numbers.
+SYMBOLS = (
+    "1:1,1,1:3,6",
+    "1:1,1,1:4,4",
+    "1:1,1,1:6,3",
+    "2:1 2,1 2,2:3 3,6",
+    "2:1 2,1 2,2:3 6,4",
+    "2:1 2,1 2,2:4 4,4",
+    "2:1 2,2,1 2:4,4",
+    "2:1 2,2,2:4,4",
+    "2:1 2,2,2:6,3",
+    "2:2,1 2,1 2:4,3 6",
+    "2:2,1 2,1 2:4,4 4",
+    "2:2,1 2,1 2:6,3 3",
+    "2:2,1 2,2:4,4",
+    "2:2,2,1 2:3,6",
+    "2:2,2,1 2:4,4",
+    "2:2,2,2:3,6",
+    "2:2,2,2:4,4",
+    "2:2,2,2:6,3",
+)
+
+ALL = tuple(range(len(SYMBOLS)))
+ONE_TILE = (0, 1, 2, 6, 7, 8, 9, 10, 11, 12, 13, 14, 15, 16, 17)
+ONE_VERTEX = (0, 1, 2, 3, 4, 5, 6, 7, 8, 12, 13, 14, 15, 16, 17)
+
+# The words of a catalogue, and the places of the symbols that are written, counted from 0.
+CATALOGUES = (
+    ("catalogue 1", (0, 1, 2)),
+    ("catalogue 0000000002", ALL),
+    ("catalogue 2 --workers 64 --round 1", ALL),
+    ("catalogue 2 --tiles 1", ONE_TILE),
+    ("catalogue --tiles=1 2", ONE_TILE),
+    ("catalogue --tiles 1 -- 2", ONE_TILE),
+    ("catalogue 2 --vertices 1", ONE_VERTEX),
+    ("catalogue 2 --minimal", (0, 1, 2, 4, 9)),
+    ("catalogue 2 --least-face 7", ()),
+    ("catalogue 2 --least-degree 6", (0, 3, 13, 15)),
+    ("catalogue 2 --faces 4 --degrees 4", (1, 5, 6, 7, 10, 12, 14, 16)),
+    ("catalogue 2 --faces 6,3", (0, 2, 3, 4, 8, 11, 13, 15, 17)),
+    ("catalogue 2 --degrees=3-4,6-216 --faces 3-5 --minimal", (0, 1, 9)),
+)
+
+# Words that give the same bytes. With 14 chambers some jobs have so many members that their lines are made in parts.
+SAME = (
+    ("catalogue 8 --workers 4", "catalogue 8 --workers 1 --round 4096"),
+    ("catalogue 14 --workers 4", "catalogue 14 --workers 1 --round 4096"),
+)
+
+# The words of a catalogue, and how many symbols it has.
+COUNTS = (
+    ("catalogue 8", 445),
+    ("catalogue 9", 630),
+    ("catalogue 10", 1157),
+    ("catalogue 11", 1663),
+    ("catalogue 12", 3236),
+    ("catalogue 13", 4811),
+    ("catalogue 14", 9038),
+    ("catalogue 8 --minimal", 270),
+    ("catalogue 9 --minimal", 444),
+    ("catalogue 10 --minimal", 879),
+    ("catalogue 11 --minimal", 1385),
+    ("catalogue 12 --minimal", 2638),
+    ("catalogue 13 --minimal", 4213),
+    ("catalogue 14 --minimal", 8060),
+    ("catalogue 12 --tiles 1", 93),
+    ("catalogue 12 --vertices 1", 93),
+    ("catalogue 24 --tiles 2", 1363),
+)
+
+# Words that are not taken.
+NOT_TAKEN = (
+    "",
+    "catalogue",
+    "catalogue 0",
+    "catalogue 37",
+    "catalogue 2 2",
+    "catalogue 2 --min",
+    "catalogue 2 --workers 65",
+    "catalogue 2 --checkpoint c",
+    "catalogue 2 --help",
+    "--version",
+    "resume c",
+    "draw f",
+    "exercise 1 1",
+)
+
+# A command, a file that is refused, and the line that tells why.
+REFUSED = (
+    ("lines", "<1.1:1:1,1", "file: symbol 1 at 10: unexpected end"),
+    ("lines", "<1.1;1", "file: symbol 1 at 4: stray"),
+    ("lines", "<1.1:1234567890:", "file: symbol 1 at 5: number too long"),
+    ("lines", "<1.1:1:1,1,1:3,6><1.1:1 3:", "file: symbol 2 at 24: dimension"),
+    ("lines", "<1.1:3:2 3,1 2 3,1 3:4 3,3 4>", "file: symbol 1 at 0: not commuting 1"),
+    ("lines", "<1.1:1:1,1,1:3,0>", "file: symbol 1 at 0: degree zero vertex 1"),
+    ("lines", "<1.1:2:2,2,1 2:3,5>", "file: symbol 1 at 0: not multiple vertex 1 r 2 m 5"),
+    ("lines", "<1.1:1:1,1,1:3,31>", "file: symbol 1 at 0: branching too large vertex 1 v 31"),
+    ("minimal", "<1.1:2:1 2,2,1 2:32,4>", "symbol 1: branching too large 32"),
+    ("minimal", "<1.1:1:1,1,1:4,4><1.2:2:1 2,2,1 2:32,4>", "symbol 2: branching too large 32"),
+    ("minimal", "<1.1:2:1 2,2,1 2:32,60>", "symbol 1: branching too large 32"),
+    ("minimal", "<1.1:2:1 2,2,1 2:30,60>", "symbol 1: branching too large 60"),
+    ("torus", "<1.1:1:1,1,1:3,3>", "symbol 1: not flat 1/6"),
+    ("torus", "<1.1:1:1,1,1:3,7>", "symbol 1: not flat -1/42"),
+)
+
+SQUARES = "<1.1:1:1,1,1:4,4>\n"
+OCTAGONS = "<1.1:3:1 2 3,1 3,2 3:4 8,3>\n"
+ROTATIONS = "<1.1:2:2,2,2:4,4>\n"
+TRIHEXAGONS = "<1.1:2:1 2,1 2,2:3 6,4>\n"
+TURNED_OCTAGONS = "<1.1:6:4 5 6,4 6 5,5 4 6:4 8,3>\n"
+GREAT_RHOMBS = "<1.1:6:1 2 3 4 5 6,2 5 6,3 4 6:4 6 12,3>\n"
+ONE_SQUARE = "<1.1:8:2 4 6 8,8 3 5 7,6 5 8 7:4,4>\n"
+
+# A command, a file and what is written of it.
+FILES = (
+    ("lines", "<7.3:3:1 2 3,2 3,3 2:8 4,3>", "<1.1:3:1 2 3,2 3,3 2:8 4,3>\n"),
+    ("lines", "# one\n<1 2:1,\n 1,1:3,6>  # triangular\n", "<1.1:1:1,1,1:3,6>\n"),
+    ("lines", "<1:1,1,1:4,4>\t<1:1,1,1:6,3>", "<1.1:1:1,1,1:4,4>\n<1.2:1:1,1,1:6,3>\n"),
+    ("canon", "<7.3:3:1 2 3,2 3,3 2:8 4,3>", OCTAGONS),
+    ("canon", "<1.1:3:1 2 3,2 3,1 3:8 4,3>", OCTAGONS),
+    ("canon", OCTAGONS, OCTAGONS),
+    ("canon", "# nothing\n#", ""),
+    ("dual", OCTAGONS, "<1.1:3:1 3,2 3,1 2 3:3,8 4>\n"),
+    ("dual", "<1.1:3:2 3,1 3,1 2 3:3,4 8>", OCTAGONS),
+    ("minimal", ROTATIONS, SQUARES),
+    ("minimal", OCTAGONS, OCTAGONS),
+    ("minimal", "<1.1:3:1 2 3,1 3,2 3:6 6,3>", "<1.1:1:1,1,1:6,3>\n"),
+    ("oriented", SQUARES, ROTATIONS),
+    ("oriented", ROTATIONS, ROTATIONS),
+    ("oriented", "<1.1:1:1,1,1:3,7>", "<1.1:2:2,2,2:3,7>\n"),
+    ("torus", SQUARES, "<1.1:8:2 7 6 8,3 5 7 8,4 6 5 8:4,4>\n"),
+    ("ambo", "<1.1:1:1,1,1:3,6>", TRIHEXAGONS),
+    ("truncate", SQUARES, OCTAGONS),
+    ("chamfer", "", ""),
+    (
+        "info",
+        f"# Archimedean\n{OCTAGONS}{TRIHEXAGONS}<1.3:1:1,1,1:6,3>\n",
+        "1 chambers 3 tiles 2 vertices 1 edges 2 curvature 0 orientation weak group *442 minimal yes\n"
+        "2 chambers 2 tiles 2 vertices 1 edges 1 curvature 0 orientation weak group *632 minimal yes\n"
+        "3 chambers 1 tiles 1 vertices 1 edges 1 curvature 0 orientation weak group *632 minimal yes\n"
+        "total *442 1\ntotal *632 2\n",
+    ),
+    (
+        "info",
+        ROTATIONS,
+        "1 chambers 2 tiles 1 vertices 1 edges 1 curvature 0 orientation oriented group 442 minimal no\n"
+        "total 442 1\n",
+    ),
+)
+
+# Two commands on files that write the same.
+ALIKE = (
+    ("oriented", OCTAGONS, "canon", TURNED_OCTAGONS),
+    ("oriented", ONE_SQUARE, "canon", ONE_SQUARE),
+    ("torus", ONE_SQUARE, "canon", ONE_SQUARE),
+    ("torus", OCTAGONS, "torus", TURNED_OCTAGONS),
+)
+
+# A symbol, its curvature, its orientation and the name of its group.
+FACTS = (
+    ("<1:1,1,1:3,6>", "0", "weak", "*632"),
+    ("<1:1,1,1:4,4>", "0", "weak", "*442"),
+    ("<1:1,1,1:3,7>", "-1/42", "weak", "*732"),
+    ("<1:1,1,1:3,3>", "1/6", "weak", "*332"),
+    ("<1:1,1,1:12,30>", "-23/60", "weak", "*(30)(12)2"),
+    (ROTATIONS, "0", "oriented", "442"),
+    (TRIHEXAGONS, "0", "weak", "*632"),
+    (OCTAGONS, "0", "weak", "*442"),
+    ("<4:2 4,4 3,3 4:4,4>", "0", "none", "22x"),
+    ("<4:3 4,2 4,2 4:2,1 1>", "4", "oriented", "1"),
+    (ONE_SQUARE, "0", "oriented", "o"),
+    ("<8:2 4 6 8,8 3 5 7,5 6 8 7:4,4>", "0", "none", "xx"),
+    ("<8:2 4 6 8,8 3 5 7,6 5 3 4 7 8:4,4 4>", "0", "weak", "**"),
+    ("<8:2 4 6 8,8 3 5 7,5 6 3 4 7 8:4,4 4>", "0", "none", "*x"),
+    ("<8:2 4 6 8,8 3 5 7,2 4 6 8:4,4>", "0", "oriented", "2222"),
+    ("<8:2 4 6 8,8 3 5 7,2 3 4 6 7 8:4,4 4>", "0", "weak", "22*"),
+)
+
+# A symbol, and the number of chambers of its torus cover.
+TORI = (
+    (SQUARES, 8),
+    ("<1:1,1,1:6,3>", 12),
+    ("<1:1,1,1:3,6>", 12),
+    (ROTATIONS, 8),
+    (TRIHEXAGONS, 24),
+    (OCTAGONS, 24),
+    (TURNED_OCTAGONS, 24),
+    (GREAT_RHOMBS, 72),
+    (ONE_SQUARE, 8),
+)
+
+# The order of the point group of each group of the plane, which is the number of sheets of a torus cover.
+ORDERS = {
+    "*632": 12,
+    "632": 6,
+    "*442": 8,
+    "442": 4,
+    "4*2": 8,
+    "*333": 6,
+    "333": 3,
+    "3*3": 6,
+    "*2222": 4,
+    "2222": 2,
+    "2*22": 4,
+    "22*": 4,
+    "22x": 4,
+    "**": 2,
+    "*x": 2,
+    "xx": 2,
+    "o": 1,
+}
