@@ -6,6 +6,7 @@ pub mod Assigned
 pub mod Leaves
 pub mod RestSums
 pub mod Advancing
+pub mod PlacesInCell
 pub mod Beginnings
 pub mod Descents
 pub mod Splits

@@ -1,9 +1,11 @@
-ghost use Rattle.std.specs.Prelude.{◌≡◌, ℕ, ◌+◌, ◌*◌, ◌/◌, ◌≤◌, length};
+ghost use Rattle.std.specs.Prelude.{◌≡◌, ℕ, ◌+◌, ◌*◌, ◌/◌, ◌≤◌, ◌<◌, length, slice_index_or};
 ghost use Rattle.dd_model.specs.Symbol.{IsChamber};
 ghost use Rattle.dd_branch.specs.Choice.{IsChoice};
 ghost use Rattle.dd_branch.specs.Place.{HasPlaces, HasSides, IsPlaceOf};
+ghost use Rattle.dd_branch.specs.declared.places.Place.{Place as Known};
 
 use arrayvec::ArrayVec;
+use dd_cells::smaller_in_cell;
 use dd_model::{Allowed, Pair};
 use dd_symbol::{CellShape, Connected, Kind};
 
@@ -52,7 +54,7 @@ fn most_part(set: &Allowed, turns: u8, sides: u8) -> u8
     0
 }
 
-/// What a table tells of the degree of a pair at a chamber, where chamber 1 has the place `first`.
+/// What a table tells of the degree of a pair at the least chamber of a cell, where chamber 1 has the place `first`.
 fn place_of(table: &Connected, set: &Allowed, pair: Pair, first: u8, chamber: u32) -> Place
     requires small { table.now.size ≤ 36 }
     requires first { first ≤ 36 }
@@ -71,6 +73,47 @@ fn place_of(table: &Connected, set: &Allowed, pair: Pair, first: u8, chamber: u3
     }
 }
 
+/// What is then told at another chamber of the cell, which has nothing of the budget.
+fn beside(place: &Place) -> Place
+    ensures root { result.root ≡ place.now.root }
+    ensures turns { result.turns ≡ place.now.turns }
+    ensures sides { result.sides ≡ 0 }
+    ensures most { result.most ≡ 0 }
+    ensures least { result.least ≡ 0 }
+{
+    Place {
+        root: place.root,
+        turns: place.turns,
+        sides: 0,
+        most: 0,
+        least: 0,
+    }
+}
+
+/// What a table tells of the degree of a pair at a chamber, where that of the smaller chambers is at the places from `first`
+/// on. A cell is walked at its least chamber alone.
+fn following_place(
+    places: &[Place],
+    table: &Connected,
+    set: &Allowed,
+    pair: Pair,
+    first: u8,
+    chamber: u32,
+) -> Place
+    requires small { table.now.size ≤ 36 }
+    requires first { first ≤ 36 }
+    requires chamber { IsChamber table.now chamber }
+    requires before { first + chamber ≤ length places.now + 1 }
+    requires places { (k : ℕ) (x : Known) → k + 1 < chamber → IsPlaceOf table.now set.now pair
+        first (k + 1) (slice_index_or places.now (first + k) x) }
+    ensures { IsPlaceOf table.now set.now pair first chamber result }
+{
+    match smaller_in_cell(table.symbol(), pair, chamber) {
+        Some(smaller) => beside(&places[first as usize + smaller as usize - 1]),
+        None => place_of(table, set, pair, first, chamber),
+    }
+}
+
 /// Adds the places of a pair, one for each chamber.
 pub(crate) fn add_places(
     places: &mut ArrayVec<Place, 72>,
@@ -84,6 +127,7 @@ pub(crate) fn add_places(
 {
     let first = places.len() as u8;
     for k in 0..table.symbol().size() {
-        places.push(place_of(table, set, pair, first, k + 1));
+        let place = following_place(places.as_slice(), table, set, pair, first, k + 1);
+        places.push(place);
     }
 }

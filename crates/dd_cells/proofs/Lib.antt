@@ -1,4 +1,5 @@
 pub mod CountLemmas
+pub mod ShapesInCell
 pub mod MemberLemmas
 pub mod CellUniqueness
 pub mod ChainLemmas

@@ -1,5 +1,5 @@
 -- The cells of a pair, as they are told.
-use Rattle.std.specs.Prelude.{◌↔◌, ℕ, List, map}
+use Rattle.std.specs.Prelude.{◌↔◌, ℕ, ◌<◌, List, map}
 use Rattle.std.specs.List.{AllByRecursion, Contains}
 use Rattle.std.specs.List.Sorted.{IsStrictlyIncreasing}
 use Rattle.dd_model.specs.Symbol.{Symbol}
@@ -25,3 +25,8 @@ pub record IsCellOf (s : Symbol) (p : Pair) (c : Cell) : Type 0 where
 pub record AreCellsOf (s : Symbol) (p : Pair) (cells : List Cell) : Type 0 where
   pub least_chambers : AreCells s p (map (λ c. c.least) cells)
   pub each : AllByRecursion (IsCellOf s p) cells
+
+-- another chamber of the cell of d, which is smaller
+pub record IsSmallerInCell (s : Symbol) (p : Pair) (d e : ℕ) : Type 0 where
+  pub smaller : e < d
+  pub in_cell : InCell s p d e

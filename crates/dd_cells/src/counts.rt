@@ -1,29 +1,43 @@
-ghost use Rattle.std.specs.Prelude.{◌≡◌, ◌↔◌, ◌≤◌, ℕ, IsTrue, List, length, pos, ◌+ℤ◌, ◌≤ℤ◌};
+ghost use Rattle.std.specs.Prelude.{◌≡◌, ◌↔◌, ◌≤◌, ℕ, IsTrue, MatchOption, List, length, pos, ◌+ℤ◌, ◌≤ℤ◌};
 ghost use Rattle.dd_model.specs.Symbol.{IsChamber};
 ghost use Rattle.dd_model.specs.Cell.{IsLeastOfCell, AreCells};
 ghost use Rattle.dd_model.specs.Wanted.{AtMost};
+ghost use Rattle.dd_cells.specs.Cells.{IsSmallerInCell};
 ghost use Rattle.dd_cells.specs.Euler.{orbits as orbits_of, IsEuler};
 
 use dd_model::{Index, Pair};
 use dd_symbol::{Connected, Symbol};
 
-/// Whether a chamber is the least of its cell. The walk through the cell ends at a smaller chamber.
-pub(crate) fn is_least_of_cell(symbol: &Symbol, pair: Pair, chamber: u32) -> bool
+/// A smaller chamber of the cell of a chamber; None where that is the least of its cell. The walk through the cell ends at
+/// a smaller chamber.
+pub fn smaller_in_cell(symbol: &Symbol, pair: Pair, chamber: u32) -> Option<u32>
     requires { IsChamber symbol.now chamber }
-    ensures { IsTrue result ↔ IsLeastOfCell symbol.now pair chamber }
+    ensures { MatchOption result (IsLeastOfCell symbol.now pair chamber)
+        (λ smaller. IsSmallerInCell symbol.now pair chamber smaller) }
 {
     let mut place = chamber;
     for _turn in 0..symbol.size() {
         let neighbor = symbol.op(pair.first(), place);
+        if neighbor < chamber {
+            return Some(neighbor);
+        }
         place = symbol.op(pair.second(), neighbor);
-        if neighbor < chamber || place < chamber {
-            return false;
+        if place < chamber {
+            return Some(place);
         }
         if place == chamber {
-            return true;
+            return None;
         }
     }
     unreachable!()
+}
+
+/// Whether a chamber is the least of its cell.
+pub(crate) fn is_least_of_cell(symbol: &Symbol, pair: Pair, chamber: u32) -> bool
+    requires { IsChamber symbol.now chamber }
+    ensures { IsTrue result ↔ IsLeastOfCell symbol.now pair chamber }
+{
+    smaller_in_cell(symbol, pair, chamber).is_none()
 }
 
 /// The number of cells of a pair. It takes no memory.
