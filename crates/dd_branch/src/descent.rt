@@ -9,7 +9,7 @@ use crate::members::add_degrees;
 use arrayvec::ArrayVec;
 use dd_invol::{CollectingSearch, PrefixSearch, Starts, Stem, Table, Visit};
 use dd_model::{Memory, Request};
-use dd_shares::{Shares, parity_rules_out};
+use dd_shares::{Ends, Shares, parity_rules_out};
 use dd_symbol::Connected;
 use std::alloc::Global;
 use std::marker::Model;
@@ -23,6 +23,7 @@ pub struct Descent {
     request: Request,
     stem: Stem,
     shares: Shares,
+    ends: Ends,
     levels: ArrayVec<Level, 108>,
     starts: Starts,
     visit: Visit,
@@ -52,8 +53,8 @@ impl Descent {
     ghost use Rattle.dd_branch.specs.Descent.{IsDescent, shorter, taken_back};
     ghost use Rattle.dd_branch.specs.declared.levels.Level.{Level};
 
-    /// The search from the empty prefix.
-    pub fn new(alloc: Global, request: &Request, size: u8) -> Descent
+    /// The search from the empty prefix, with the ends of a table of which nothing is known.
+    pub fn new(alloc: Global, request: &Request, ends: &Ends, size: u8) -> Descent
         requires valid { IsValid request.now }
         requires size { (1 ≤ size) × (size ≤ 36) }
         ensures descent { IsDescent result }
@@ -66,6 +67,7 @@ impl Descent {
             request: *request,
             stem: Stem::new(size),
             shares: Shares::start(request, size),
+            ends: *ends,
             levels: ArrayVec::new(),
             starts: Starts::all(),
             visit: Visit::new(),
@@ -89,6 +91,7 @@ impl Descent {
         requires { IsReady self.old.stem.rows }
         ensures { self.new ≡ taken_back self.old level }
     {
+        self.ends.undo(self.stem.rows(), level.rows);
         self.stem.leave(level.rows);
         self.shares.undo(level.shares);
         self.starts = level.starts;
@@ -104,7 +107,7 @@ impl Descent {
             (prefix_of self.old.stem) }
     {
         parity_rules_out(self.stem.rows())
-            || self.shares.rules_out(self.stem.rows())
+            || self.shares.rules_out(&self.ends, self.stem.rows())
             || self.stem.is_beaten(&mut self.starts, &mut self.visit)
     }
 
@@ -133,7 +136,8 @@ impl Descent {
             self.levels.push(level);
             return true;
         }
-        self.shares.learn(self.stem.rows(), level.rows);
+        self.shares
+            .learn(&mut self.ends, self.stem.rows(), level.rows);
         if self.is_dead() {
             self.take_back(level);
             return false;

@@ -8,13 +8,16 @@ use crate::descent::Descent;
 use dd_front::Finder;
 use dd_invol::{children, find};
 use dd_model::{Job, Memory, Request};
+use dd_shares::Ends;
 use dd_symbol::Connected;
 use std::alloc::Global;
 
-/// The search for the members of the catalogue of a request, job by job.
+/// The search for the members of the catalogue of a request, job by job, with the ends from which
+/// each job begins.
 #[derive(Drop)]
 pub struct Search {
     request: Request,
+    ends: Ends,
 }
 
 impl Search {
@@ -22,7 +25,10 @@ impl Search {
     pub fn new(request: &Request) -> Search
         ensures { result.request ≡ request.now }
     {
-        Search { request: *request }
+        Search {
+            request: *request,
+            ends: Ends::start(request),
+        }
     }
 
     /// Whether a member may be under a job.
@@ -31,7 +37,7 @@ impl Search {
         requires job { IsJobOf self.now.request job.now }
         ensures { OnFalse result ((s : Tiling) → IsMemberUnder self.now.request job.now s → ⊥) }
     {
-        let mut descent = Descent::new(alloc, &self.request, job.size as u8);
+        let mut descent = Descent::new(alloc, &self.request, &self.ends, job.size as u8);
         descent.reach(job.prefix.as_slice())
     }
 
@@ -62,7 +68,7 @@ impl Finder for Search {
 
     fn find(&self, alloc: Global, job: &Job) -> Result<Vec<Connected>, Memory> {
         let mut list = Vec::new(alloc);
-        let mut descent = Descent::new(alloc, &self.request, job.size as u8);
+        let mut descent = Descent::new(alloc, &self.request, &self.ends, job.size as u8);
         if !descent.reach(job.prefix.as_slice()) {
             return Ok(list);
         }

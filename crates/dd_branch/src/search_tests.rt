@@ -6,6 +6,7 @@ use crate::{Descent, Search};
 use dd_front::Finder;
 use dd_invol::PrefixSearch;
 use dd_model::{Job, Prefix, Request};
+use dd_shares::Ends;
 use dd_symbol::Connected;
 use std::alloc::Global;
 use std::test::Fail;
@@ -106,7 +107,7 @@ fn nodes_of(alloc: Global, size: u8) -> u64 {
     if !request.is_valid() || size == 0 || size > 36 {
         return 0;
     }
-    let mut descent = Descent::new(alloc, &request, size);
+    let mut descent = Descent::new(alloc, &request, &Ends::start(&request), size);
     count_nodes(&mut descent)
 }
 

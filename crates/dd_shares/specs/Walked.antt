@@ -1,8 +1,8 @@
 -- A walk along a path.
-use Rattle.std.specs.Prelude.{◌≡◌, ◌≤◌, length, slice_index_or, true, false, IsTrue}
+use Rattle.std.specs.Prelude.{◌≡◌, ℕ, ◌≤◌, length, slice_index_or, true, false, IsTrue}
 use Rattle.std.specs.List.{AllByRecursion}
 use Rattle.dd_model.specs.Symbol.{Symbol}
-use Rattle.dd_shares.specs.Paths.{IsCapped, ArePath}
+use Rattle.dd_shares.specs.Paths.{InPath, IsCapped, ArePath}
 use Rattle.dd_shares.specs.declared.paths.Path.{Path}
 
 -- what a walk along the path of its start has met
@@ -14,3 +14,9 @@ pub record IsWalked (partial : Symbol) (path : Path) : Type 0 where
   pub some : 1 ≤ length path.chambers.items
   pub marks : length path.met ≡ 37
   pub capped : IsTrue path.is_capped → IsCapped partial path.pair path.start
+
+-- a chamber on the path of the walk's start
+pub record IsOnPath (partial : Symbol) (path : Path) (e : ℕ) : Type 0 where
+  pub in_path : InPath partial path.pair path.start e
+  pub low : 1 ≤ e
+  pub high : e ≤ partial.size

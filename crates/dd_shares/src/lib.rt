@@ -3,12 +3,17 @@
 
 mod cells;
 mod changes;
+mod classes;
+mod counts;
+mod ends;
 mod laws;
 mod limits;
+mod path_ends;
 mod paths;
 mod shares;
 mod sides;
 
+pub use ends::Ends;
 pub use laws::{
     a_cell_has_at_most_two_chambers_for_each_turn, each_cell_adds_at_most_two,
     fixed_flags_halve_a_cell, flat_symbols_have_large_shares, odd_tables_have_fixed_chambers,

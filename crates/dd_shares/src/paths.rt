@@ -1,15 +1,15 @@
 ghost use Rattle.std.specs.Prelude.{ℕ, ◌≡◌, ◌⊎◌, [], ◌∷◌, ◌+◌, ◌/◌, ◌≤◌, IsTrue, length, slice_index_or, true, false};
 ghost use Rattle.dd_model.specs.Symbol.{first, second};
 ghost use Rattle.dd_invol.specs.Rows.{partial_of, IsReady};
-ghost use Rattle.dd_shares.specs.Paths.{InPath};
-ghost use Rattle.dd_shares.specs.Walked.{IsWalked};
+ghost use Rattle.std.specs.Option.{IfSome};
+ghost use Rattle.dd_shares.specs.Walked.{IsWalked, IsOnPath};
 
 use arrayvec::ArrayVec;
 use dd_invol::Rows;
 use dd_model::{Index, Pair};
 
-/// Different chambers that known images of a pair join to a first one, and whether an involution is
-/// known to fix one of them. No call allocates.
+/// Different chambers that known images of a pair join to a first one, whether an involution is known
+/// to fix one of them, and whether an image of them is not known. No call allocates.
 #[derive(Drop)]
 pub(crate) struct Path {
     pair: Pair,
@@ -17,6 +17,7 @@ pub(crate) struct Path {
     pub(crate) chambers: ArrayVec<u8, 36>,
     met: [bool; 37],
     is_capped: bool,
+    is_open: bool,
 }
 
 impl Path {
@@ -40,32 +41,59 @@ impl Path {
             chambers,
             met,
             is_capped: false,
+            is_open: false,
         }
     }
 
-    /// Goes along one involution from a chamber of the path.
-    fn step(&mut self, table: &Rows, i: Index, chamber: u8)
+    /// Goes along one involution from a chamber of the path, to a chamber that it did not have; None
+    /// where there is none.
+    fn step(&mut self, table: &Rows, i: Index, chamber: u8) -> Option<u8>
         requires ready { IsReady table.now }
         requires walked { IsWalked (partial_of table.now) self.old }
-        requires low { 1 ≤ chamber }
-        requires high { chamber ≤ (partial_of table.now).size }
-        requires here { InPath (partial_of table.now) self.old.pair self.old.start chamber }
+        requires here { IsOnPath (partial_of table.now) self.old chamber }
         requires letter { (i ≡ first self.old.pair) ⊎ (i ≡ second self.old.pair) }
         ensures walked { IsWalked (partial_of table.now) self.new }
         ensures pair { self.new.pair ≡ self.old.pair }
         ensures start { self.new.start ≡ self.old.start }
-        ensures longer { length self.old.chambers.items ≤ length self.new.chambers.items }
+        ensures new { IfSome result (IsOnPath (partial_of table.now) self.new) }
     {
         let image = table.known(i, chamber);
+        if image == 0 {
+            self.is_open = true;
+            return None;
+        }
         if image == chamber {
             self.is_capped = true;
-            return;
+            return None;
         }
-        if image == 0 || self.met[image as usize] || self.chambers.is_full() {
-            return;
+        if self.met[image as usize] || self.chambers.is_full() {
+            return None;
         }
         self.met[image as usize] = true;
         self.chambers.push(image);
+        Some(image)
+    }
+
+    /// Goes along the path from its start, by two involutions in turn.
+    fn walk(&mut self, table: &Rows, i: Index, j: Index)
+        requires ready { IsReady table.now }
+        requires walked { IsWalked (partial_of table.now) self.old }
+        requires i { (i ≡ first self.old.pair) ⊎ (i ≡ second self.old.pair) }
+        requires j { (j ≡ first self.old.pair) ⊎ (j ≡ second self.old.pair) }
+        ensures walked { IsWalked (partial_of table.now) self.new }
+        ensures pair { self.new.pair ≡ self.old.pair }
+        ensures start { self.new.start ≡ self.old.start }
+    {
+        let mut chamber = self.start;
+        for _ in 0..18 {
+            let Some(beside) = self.step(table, i, chamber) else {
+                return;
+            };
+            let Some(next) = self.step(table, j, beside) else {
+                return;
+            };
+            chamber = next;
+        }
     }
 
     /// What known images of a pair join to a chamber.
@@ -77,17 +105,15 @@ impl Path {
         ensures pair { result.pair ≡ pair }
         ensures start { result.start ≡ start }
     {
-        let size = table.size();
         let mut path = Path::alone(pair, start);
-        for next in 0..usize::from(size) {
-            if next >= path.chambers.len() {
-                break;
-            }
-            let chamber = path.chambers.as_slice()[next];
-            path.step(table, pair.first(), chamber);
-            path.step(table, pair.second(), chamber);
-        }
+        path.walk(table, pair.first(), pair.second());
+        path.walk(table, pair.second(), pair.first());
         path
+    }
+
+    /// Whether an image of the path was not known.
+    pub(crate) fn is_open(&self) -> bool {
+        self.is_open
     }
 
     /// The first chamber.

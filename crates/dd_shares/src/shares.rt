@@ -9,6 +9,7 @@ ghost use Rattle.dd_shares.specs.Shares.{IsSought};
 ghost use Rattle.dd_shares.specs.Kept.{AreKept, HaveExchanged, mark_of, rolled_back};
 ghost use Rattle.dd_shares.specs.Units.{share_unit};
 
+use crate::ends::{Ends, Lessened, Link};
 use crate::sides::{SHARE_UNIT, Side};
 use dd_invol::Rows;
 use dd_model::{Index, Pair, Request};
@@ -67,8 +68,8 @@ impl Shares {
     }
 
     /// Exchanges the shares of the paths that have grown by what was put into the table after a
-    /// mark.
-    pub fn learn(&mut self, table: &Rows, mark: usize)
+    /// mark, where the ends tell that they become smaller.
+    pub fn learn(&mut self, ends: &mut Ends, table: &Rows, mark: usize)
         requires ready { IsReady table.now }
         requires kept { AreKept (partial_of table.now) self.old }
         ensures kept { AreKept (partial_of table.now) self.new }
@@ -77,66 +78,34 @@ impl Shares {
     {
         let places = table.filled(mark);
         for k in 0..places.len() {
-            self.renew_at(table, places[k]);
+            if let Some(link) = Link::at(table, places[k]) {
+                self.renew_at(table, link.chamber, ends.join(link));
+            }
         }
     }
 
-    /// Exchanges the shares of the paths on which an image stands that was put in at a place.
-    fn renew_at(&mut self, table: &Rows, place: u8)
+    /// Exchanges the shares of those paths of a chamber that become smaller.
+    fn renew_at(&mut self, table: &Rows, chamber: u8, lessened: Lessened)
         requires ready { IsReady table.now }
-        requires place { place < 108 }
+        requires low { 1 ≤ chamber }
         requires kept { AreKept (partial_of table.now) self.old }
         ensures kept { AreKept (partial_of table.now) self.new }
         ensures exchanged { HaveExchanged self.old self.new }
     {
-        let chamber = 1 + place / 3;
         if chamber > table.size() {
             return;
         }
-        match place % 3 {
-            0 => self.renew_tile(table, Index::Zero, chamber),
-            1 => {
-                self.renew_tile(table, Index::One, chamber);
-                self.renew_vertex(table, Index::One, chamber);
-            }
-            _ => self.renew_vertex(table, Index::Two, chamber),
+        if lessened.tiles {
+            self.tiles.renew(&self.request, table, Pair::Tile, chamber);
         }
-    }
-
-    /// Exchanges the shares of the tile path of a chamber, unless they are exchanged at its image.
-    fn renew_tile(&mut self, table: &Rows, i: Index, chamber: u8)
-        requires ready { IsReady table.now }
-        requires low { 1 ≤ chamber }
-        requires high { chamber ≤ (partial_of table.now).size }
-        requires kept { AreKept (partial_of table.now) self.old }
-        ensures kept { AreKept (partial_of table.now) self.new }
-        ensures exchanged { HaveExchanged self.old self.new }
-    {
-        if table.known(i, chamber) < chamber {
-            return;
+        if lessened.vertices {
+            self.vertices
+                .renew(&self.request, table, Pair::Vertex, chamber);
         }
-        self.tiles.renew(&self.request, table, Pair::Tile, chamber);
-    }
-
-    /// Exchanges the shares of the vertex path of a chamber, unless they are exchanged at its
-    /// image.
-    fn renew_vertex(&mut self, table: &Rows, i: Index, chamber: u8)
-        requires ready { IsReady table.now }
-        requires low { 1 ≤ chamber }
-        requires high { chamber ≤ (partial_of table.now).size }
-        requires kept { AreKept (partial_of table.now) self.old }
-        ensures kept { AreKept (partial_of table.now) self.new }
-        ensures exchanged { HaveExchanged self.old self.new }
-    {
-        if table.known(i, chamber) < chamber {
-            return;
-        }
-        self.vertices
-            .renew(&self.request, table, Pair::Vertex, chamber);
     }
 
     /// Whether it is sure that no wanted symbol completes the table: the shares are too small.
-    pub fn rules_out(&self, table: &Rows) -> bool
+    pub fn rules_out(&self, ends: &Ends, table: &Rows) -> bool
         requires ready { IsReady table.now }
         requires kept { AreKept (partial_of table.now) self.now }
         ensures { IsTrue result → (s : Tiling)
@@ -151,9 +120,29 @@ impl Shares {
         if is_too_small(self.tiles.total, self.vertices.total, table.size()) {
             return true;
         }
+        if !self.may_exceed(ends, table.size()) {
+            return false;
+        }
         let tiles = self.tiles.limited(&self.request, table, Pair::Tile);
         let vertices = self.vertices.limited(&self.request, table, Pair::Vertex);
         is_too_small(tiles, vertices, table.size())
+    }
+
+    /// Whether the ends tell that the limits of the request make the totals too small.
+    fn may_exceed(&self, ends: &Ends, size: u8) -> bool
+        requires tiles { self.now.tiles.total ≤ 36 * share_unit }
+        requires vertices { self.now.vertices.total ≤ 36 * share_unit }
+    {
+        if self.request.tiles == 0 && self.request.vertices == 0 {
+            return false;
+        }
+        let tiles = ends.bound(Pair::Tile, self.request.tiles, size);
+        let vertices = ends.bound(Pair::Vertex, self.request.vertices, size);
+        is_too_small(
+            tiles.min(self.tiles.total),
+            vertices.min(self.vertices.total),
+            size,
+        )
     }
 }
 

@@ -30,7 +30,7 @@ fn allows(request: &Request, pair: Pair, degree: u32) -> bool
 }
 
 /// A number that no allowed degree is less than, of those that are no less than another.
-fn least_degree(request: &Request, pair: Pair, from: u32) -> u32
+pub(crate) fn least_degree(request: &Request, pair: Pair, from: u32) -> u32
     requires { from ≤ 36 }
     ensures from { from ≤ result }
     ensures least { (m : ℕ) → IsAllowed request.now pair m → from ≤ m → result ≤ m }
@@ -44,7 +44,7 @@ fn least_degree(request: &Request, pair: Pair, from: u32) -> u32
 }
 
 /// SHARE_UNIT divided by the degree, rounded up.
-fn share_of(degree: u32) -> u64
+pub(crate) fn share_of(degree: u32) -> u64
     requires { 1 ≤ degree }
     ensures share { result ≡ (share_unit - 1) / degree + 1 }
     ensures small { result ≤ share_unit }
@@ -63,7 +63,7 @@ fn allows_cell(request: &Request, pair: Pair, branching: u32, turns: u8) -> bool
 
 /// SHARE_UNIT divided by the least degree that a request allows to a cell of so many turns, rounded
 /// up; 0 where it allows none. The degree is the branching value times the turns.
-fn share_of_cell(request: &Request, pair: Pair, turns: u8) -> u64
+pub(crate) fn share_of_cell(request: &Request, pair: Pair, turns: u8) -> u64
     requires { 1 ≤ turns }
     ensures { (v : ℕ) → IsCrystallographic v → IsAllowed request.now pair (v * turns)
         → share_unit ≤ result * (v * turns) }
@@ -86,8 +86,10 @@ fn share_near(request: &Request, table: &Rows, pair: Pair, path: &Path) -> u64
         → IsShare request.now (partial_of table.now) pair share_unit
         (slice_index path.now.chambers.items k) result }
 {
-    if let Some(cell) = WholeCell::from(table, pair, path.start(), 1) {
-        return share_of_cell(request, pair, cell.turns);
+    if !path.is_open() {
+        if let Some(cell) = WholeCell::from(table, pair, path.start(), 1) {
+            return share_of_cell(request, pair, cell.turns);
+        }
     }
     share_of(least_degree(request, pair, path.bound()))
 }

@@ -4,7 +4,7 @@ ghost use Rattle.dd_invol.specs.Stem.{IsStem};
 ghost use Rattle.dd_invol.specs.Visit.{IsVisiting};
 ghost use Rattle.dd_shares.specs.Kept.{AreKept};
 
-use crate::{Shares, parity_rules_out};
+use crate::{Ends, Shares, parity_rules_out};
 use dd_invol::{Rows, Stem, Visit};
 use dd_model::{Allowed, Request};
 use std::test::Fail;
@@ -29,7 +29,8 @@ fn is_empty(tiles: u32, least: u32, size: u8) -> bool
     requires size { (1 ≤ size) × (size ≤ 36) }
 {
     let rows = Rows::empty(size);
-    Shares::start(&asked(tiles, least), size).rules_out(&rows)
+    let request = asked(tiles, least);
+    Shares::start(&request, size).rules_out(&Ends::start(&request), &rows)
 }
 
 #[test]
@@ -44,7 +45,7 @@ fn a_tile_has_at_most_twelve_chambers(rt: HostRuntime) -> Result<(), Fail> {
 }
 
 /// Puts a number in at a place of a code, and learns from it.
-fn put(rows: &mut Rows, shares: &mut Shares, place: u8, number: u8) -> bool
+fn put(rows: &mut Rows, shares: &mut Shares, ends: &mut Ends, place: u8, number: u8) -> bool
     requires ready { IsReady rows.old }
     requires place { place < 3 * (partial_of rows.old).size }
     requires kept { AreKept (partial_of rows.old) shares.old }
@@ -56,7 +57,7 @@ fn put(rows: &mut Rows, shares: &mut Shares, place: u8, number: u8) -> bool
     if !rows.put(place, number) {
         return false;
     }
-    shares.learn(rows, mark);
+    shares.learn(ends, rows, mark);
     true
 }
 
@@ -65,16 +66,17 @@ fn put(rows: &mut Rows, shares: &mut Shares, place: u8, number: u8) -> bool
 fn answers() -> [bool; 6] {
     let mut rows = Rows::empty(6);
     let mut shares = Shares::start(&asked(0, 4), 6);
+    let mut ends = Ends::start(&asked(0, 4));
     let mark = shares.mark();
-    let before = shares.rules_out(&rows);
-    let one = put(&mut rows, &mut shares, 0, 2);
-    let two = put(&mut rows, &mut shares, 4, 3);
-    let three = put(&mut rows, &mut shares, 6, 4);
-    let four = put(&mut rows, &mut shares, 10, 5);
+    let before = shares.rules_out(&ends, &rows);
+    let one = put(&mut rows, &mut shares, &mut ends, 0, 2);
+    let two = put(&mut rows, &mut shares, &mut ends, 4, 3);
+    let three = put(&mut rows, &mut shares, &mut ends, 6, 4);
+    let four = put(&mut rows, &mut shares, &mut ends, 10, 5);
     let put_in = one && two && three && four;
-    let open = shares.rules_out(&rows);
-    let capped = put(&mut rows, &mut shares, 12, 5);
-    let after = shares.rules_out(&rows);
+    let open = shares.rules_out(&ends, &rows);
+    let capped = put(&mut rows, &mut shares, &mut ends, 12, 5);
+    let after = shares.rules_out(&ends, &rows);
     shares.undo(mark);
     let end = shares.mark();
     [before, put_in, open, capped, after, end == mark]
@@ -96,9 +98,10 @@ fn a_long_chain_exceeds(rt: HostRuntime) -> Result<(), Fail> {
 fn is_empty_with_a_tile(tiles: u32) -> bool {
     let mut rows = Rows::empty(3);
     let mut shares = Shares::start(&asked(tiles, 3), 3);
-    put(&mut rows, &mut shares, 0, 1)
-        && put(&mut rows, &mut shares, 1, 1)
-        && shares.rules_out(&rows)
+    let mut ends = Ends::start(&asked(tiles, 3));
+    put(&mut rows, &mut shares, &mut ends, 0, 1)
+        && put(&mut rows, &mut shares, &mut ends, 1, 1)
+        && shares.rules_out(&ends, &rows)
 }
 
 #[test]
@@ -118,11 +121,12 @@ fn answers_for_pentagons() -> [bool; 3] {
     request.faces = faces;
     let mut rows = Rows::empty(20);
     let mut shares = Shares::start(&request, 20);
-    let before = shares.rules_out(&rows);
-    let put_in = put(&mut rows, &mut shares, 0, 2)
-        && put(&mut rows, &mut shares, 1, 1)
-        && put(&mut rows, &mut shares, 4, 2);
-    [before, put_in, shares.rules_out(&rows)]
+    let mut ends = Ends::start(&request);
+    let before = shares.rules_out(&ends, &rows);
+    let put_in = put(&mut rows, &mut shares, &mut ends, 0, 2)
+        && put(&mut rows, &mut shares, &mut ends, 1, 1)
+        && put(&mut rows, &mut shares, &mut ends, 4, 2);
+    [before, put_in, shares.rules_out(&ends, &rows)]
 }
 
 #[test]
@@ -140,7 +144,8 @@ fn is_empty_with_a_chain(size: u8) -> bool
 {
     let mut rows = Rows::empty(size);
     let mut shares = Shares::start(&asked(1, 3), size);
-    put(&mut rows, &mut shares, 0, 1) && shares.rules_out(&rows)
+    let mut ends = Ends::start(&asked(1, 3));
+    put(&mut rows, &mut shares, &mut ends, 0, 1) && shares.rules_out(&ends, &rows)
 }
 
 #[test]
@@ -164,7 +169,13 @@ fn odd_sizes_have_fixed_chambers(rt: HostRuntime) -> Result<(), Fail> {
 
 /// How many numbers a search puts in under a stem that no test refuses, without those that follow
 /// from others. The stem's last number was put in after a mark.
-fn count_nodes(stem: &mut Stem, visit: &mut Visit, shares: &mut Shares, mark: usize) -> u64
+fn count_nodes(
+    stem: &mut Stem,
+    visit: &mut Visit,
+    shares: &mut Shares,
+    ends: &mut Ends,
+    mark: usize,
+) -> u64
     requires stem { IsStem stem.old }
     requires visiting { IsVisiting visit.old }
     requires kept { AreKept (partial_of stem.old.rows) shares.old }
@@ -173,29 +184,33 @@ fn count_nodes(stem: &mut Stem, visit: &mut Visit, shares: &mut Shares, mark: us
     ensures shares { shares.new ≡ shares.old }
 {
     let back = shares.mark();
-    shares.learn(stem.rows(), mark);
-    if shares.rules_out(stem.rows()) {
+    shares.learn(ends, stem.rows(), mark);
+    if shares.rules_out(ends, stem.rows()) {
+        ends.undo(stem.rows(), mark);
         shares.undo(back);
         return 0;
     }
     if parity_rules_out(stem.rows()) {
+        ends.undo(stem.rows(), mark);
         shares.undo(back);
         return 0;
     }
     let here = stem.mark();
     let mut count = u64::from(here > mark);
     if stem.is_whole() {
+        ends.undo(stem.rows(), mark);
         shares.undo(back);
         return count;
     }
     let mut k = 0;
     while let Some(number) = stem.next_from(k) {
         if stem.enter(number, visit) {
-            count = count_nodes(stem, visit, shares, here).saturating_add(count);
+            count = count_nodes(stem, visit, shares, ends, here).saturating_add(count);
             stem.leave(here);
         }
         k = number + 1;
     }
+    ends.undo(stem.rows(), mark);
     shares.undo(back);
     count
 }
@@ -207,7 +222,8 @@ fn nodes_of(tiles: u32, size: u8) -> u64
     let mut stem = Stem::new(size);
     let mut visit = Visit::new();
     let mut shares = Shares::start(&asked(tiles, 3), size);
-    count_nodes(&mut stem, &mut visit, &mut shares, 0)
+    let mut ends = Ends::start(&asked(tiles, 3));
+    count_nodes(&mut stem, &mut visit, &mut shares, &mut ends, 0)
 }
 
 #[test]

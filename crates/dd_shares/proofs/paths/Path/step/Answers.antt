@@ -24,7 +24,7 @@ returns-clause-walked c =
     let room : image < length old.met = omega (arith, within, small, marks) in
     let items = c.push.ensures.items in
     let there : InPath P old.pair old.start image =
-    subst (InPath P old.pair old.start) (sym e) (path_more P old.pair c.args.i old.start c.args.chamber c.requires.here c.requires.letter (λ none. some (e ∙ none))) in
+    subst (InPath P old.pair old.start) (sym e) (path_more P old.pair c.args.i old.start c.args.chamber c.requires.here.in_path c.requires.letter (λ none. some (e ∙ none))) in
     let new : get_or old.met image false ≡ true → ⊥ = λ yes. let clash : false ≡ true = sym c.if-self-image.false ∙ yes in cc in
     record {
       chambers = record {
@@ -38,4 +38,18 @@ returns-clause-walked c =
       some = let len = c.push.ensures.len in omega (arith, len);
       marks = length-set old.met image true ∙ marks;
       capped = walked.capped;
+    }
+
+pub returns-clause-new : goal.returns-clause-new
+returns-clause-new c =
+    let P = partial_of c.args.table.now in
+    let old = c.args.self.now in
+    let image = c.known-image.result in
+    let e = c.known-image.ensures.image in
+    let within = c.known-image.ensures.within in
+    let some = c.if-image-eq0.false in
+    record {
+      in_path = subst (InPath P old.pair old.start) (sym e) (path_more P old.pair c.args.i old.start c.args.chamber c.requires.here.in_path c.requires.letter (λ none. some (e ∙ none)));
+      low = omega (arith, some);
+      high = within;
     }

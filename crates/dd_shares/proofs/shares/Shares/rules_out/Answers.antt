@@ -35,4 +35,4 @@ returns c small s sought =
     let A = c.limited-tiles.result in
     let B = c.limited-vertices.result in
     too_small q P share_unit A B c.limited-tiles.ensures.total c.limited-vertices.ensures.total
-    (subst (λ n. 2 * (A + B) < n * share_unit) c.size-2.ensures (c.is_too_small-2.ensures small)) s sought
+    (subst (λ n. 2 * (A + B) < n * share_unit) c.size-3.ensures (c.is_too_small-2.ensures small)) s sought

@@ -1,0 +1,140 @@
+use crate::classes::{Class, ClassShares};
+use crate::counts::{Counts, Joint};
+use dd_model::{Pair, Request};
+
+/// An end of a path: the other end, and the class of the path.
+#[derive(Clone, Copy, Drop)]
+struct End {
+    other: u8,
+    class: Class,
+}
+
+/// The ends of the paths of a pair, told by flags: twice a chamber, and 1 more for the second
+/// involution. At a flag of which the image is known there stands what stood there when it became
+/// known, so that joined ends can be parted again in the opposite order. No clause reads any of it.
+#[derive(Clone, Copy, Drop)]
+pub(crate) struct PathEnds {
+    shares: ClassShares,
+    ends: [End; 128],
+    counts: Counts,
+}
+
+impl PathEnds {
+    /// The ends of single chambers.
+    pub(crate) fn start(request: &Request, pair: Pair) -> PathEnds {
+        let class = Class::ALONE;
+        let mut ends = [End { other: 0, class }; 128];
+        for k in 0..64u8 {
+            let first = 2 * k;
+            ends[usize::from(first)].other = first + 1;
+            ends[usize::from(first) + 1].other = first;
+        }
+        PathEnds {
+            shares: ClassShares::of(request, pair),
+            ends,
+            counts: Counts::none(),
+        }
+    }
+
+    fn at(&self, flag: u8) -> End {
+        self.ends[usize::from(flag % 128)]
+    }
+
+    fn set(&mut self, flag: u8, end: End) {
+        self.ends[usize::from(flag % 128)] = end;
+    }
+
+    /// What becomes of the paths of two flags that are joined; one flag is fixed.
+    fn joint(&self, x: u8, y: u8) -> Joint {
+        let end = self.at(x);
+        let one = end.class;
+        if x == y {
+            let new = one.fixed();
+            return Joint {
+                one,
+                other: Class::NONE,
+                new,
+            };
+        }
+        if end.other == y {
+            let new = one.closed();
+            return Joint {
+                one,
+                other: Class::NONE,
+                new,
+            };
+        }
+        let other = self.at(y).class;
+        let new = one.joined(other);
+        Joint { one, other, new }
+    }
+
+    /// Joins two flags, and tells whether the shares of their chambers become smaller.
+    pub(crate) fn join(&mut self, x: u8, y: u8) -> bool {
+        let joint = self.joint(x, y);
+        let one = self.at(x);
+        let class = joint.new;
+        if x == y {
+            if one.class.fixed_ends() == 0 {
+                self.set(one.other, End { other: x, class });
+            }
+        } else if one.other != y {
+            let other = self.at(y);
+            self.set(
+                one.other,
+                End {
+                    other: other.other,
+                    class,
+                },
+            );
+            self.set(
+                other.other,
+                End {
+                    other: one.other,
+                    class,
+                },
+            );
+        }
+        self.counts.add(&joint, &self.shares);
+        joint.lessens(&self.shares)
+    }
+
+    /// Parts two flags that were joined last.
+    pub(crate) fn part(&mut self, x: u8, y: u8) {
+        let joint = self.joint(x, y);
+        let one = self.at(x);
+        if x == y {
+            if one.class.fixed_ends() == 0 {
+                self.set(
+                    one.other,
+                    End {
+                        other: x,
+                        class: one.class,
+                    },
+                );
+            }
+        } else if one.other != y {
+            let other = self.at(y);
+            self.set(
+                one.other,
+                End {
+                    other: x,
+                    class: one.class.opened(),
+                },
+            );
+            self.set(
+                other.other,
+                End {
+                    other: y,
+                    class: other.class.opened(),
+                },
+            );
+        }
+        self.counts.remove(&joint, &self.shares);
+    }
+
+    /// What the cells add at most, where there are no more than a limit.
+    pub(crate) fn bound(&self, limit: u32, size: u8) -> u64 {
+        self.counts.bound(limit, size)
+    }
+}
