@@ -9,6 +9,7 @@ pub mod Filling
 pub mod Traversing
 pub mod Follows
 pub mod Growth
+pub mod MostLemmas
 pub mod FirstVisits
 pub mod CodeFronts
 pub mod JobLists

@@ -46,7 +46,7 @@ grown_shortened old new k grown =
     let items : take (length (prefix_of new) - 1) (prefix_of new) ≡ prefix_of old =
     ap (λ j. take j (prefix_of new)) last ∙ ap (take (length (prefix_of old))) grown.longer ∙ take_at (prefix_of old) (k ∷ []) (length (prefix_of old)) refl in
     let rows = grown.learns.undone in
-    λ x. record { rows = rows x; prefix = record { items = items x } }
+    λ x. record { rows = rows x; prefix = items x }
 
 -- the image that is known at the next place comes next
 pub known_next : (stem : Stem) (e : ℕ) → IsStem stem → length (prefix_of stem) < 3 * size_of stem → e ≡ op (partial_of stem.rows) (index_at (length (prefix_of stem) % 3)) (1 + length (prefix_of stem) / 3) → e ≢ 0

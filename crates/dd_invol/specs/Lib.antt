@@ -3,6 +3,7 @@ pub mod Orderly
 pub mod Under
 pub mod Search
 pub mod FirstVisit
+pub mod Mosts
 pub mod Distinct
 pub mod Beaten
 pub mod Rows

@@ -11,7 +11,7 @@ Any s = Unit {0}
 
 -- the numbers of the prefix
 abbrev pub prefix_of : Stem → List ℕ
-prefix_of stem = stem.prefix.items
+prefix_of stem = stem.prefix
 
 -- the number of chambers
 abbrev pub size_of : Stem → ℕ
@@ -19,7 +19,7 @@ size_of stem = stem.rows.size
 
 -- the stem without its last number, and with no more than so much put into the table
 abbrev pub shortened : Stem → ℕ → Stem
-shortened stem mark = record { rows = unwound stem.rows mark; prefix = record { items = take (length stem.prefix.items - 1) stem.prefix.items } }
+shortened stem mark = record { rows = unwound stem.rows mark; prefix = take (length stem.prefix - 1) stem.prefix }
 
 -- Each orderly table whose code begins with the prefix completes the table.
 pub record IsStem (stem : Stem) : Type 0 where

@@ -4,6 +4,7 @@
 mod laws;
 mod next_table;
 mod numbering;
+mod numbers;
 mod openings;
 mod rows;
 mod search;

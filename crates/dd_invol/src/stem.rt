@@ -5,10 +5,9 @@ ghost use Rattle.dd_invol.specs.Rows.{partial_of, depth_of, IsReady};
 ghost use Rattle.dd_invol.specs.Visit.{IsVisiting};
 ghost use Rattle.dd_invol.specs.Under.{HasNothingUnder, HasNoNumberFrom, SkipsTo};
 
-use crate::numbering::greatest;
+use crate::numbers::Numbers;
 use crate::rows::{Rows, index_at};
 use crate::traversal::{Starts, Visit, any_beats};
-use arrayvec::ArrayVec;
 use dd_model::Index;
 
 /// A prefix of the codes of tables of one size, with the partial table that follows from it. A
@@ -16,7 +15,7 @@ use dd_model::Index;
 #[derive(Drop)]
 pub struct Stem {
     rows: Rows,
-    prefix: ArrayVec<u8, 108>,
+    prefix: Numbers,
 }
 
 impl Stem {
@@ -30,7 +29,7 @@ impl Stem {
         ensures empty { prefix_of result ≡ [] }
     {
         let rows = Rows::empty(size);
-        let prefix = ArrayVec::new();
+        let prefix = Numbers::new();
         Stem { rows, prefix }
     }
 
@@ -80,7 +79,7 @@ impl Stem {
     {
         let place = self.prefix.len() as u8;
         let chamber = 1 + place / 3;
-        let most = greatest(&self.prefix);
+        let most = self.prefix.greatest();
         if chamber > most {
             return None;
         }
@@ -151,7 +150,7 @@ impl Stem {
         ensures visiting { IsVisiting visit.new }
         ensures dead { IsTrue result → HasNothingUnder Any (size_of self.now) (prefix_of self.now) }
     {
-        any_beats(&self.rows, &self.prefix, starts, visit)
+        any_beats(&self.rows, self.prefix.as_slice(), starts, visit)
     }
 
     /// Puts a number at the end with what follows from it, unless nothing is under the longer
@@ -186,6 +185,9 @@ impl Stem {
         ensures { self.new ≡ shortened self.old mark }
     {
         self.rows.undo(mark);
-        self.prefix.pop();
+        let count = self.prefix.len();
+        if count > 0 {
+            self.prefix.truncate(count - 1);
+        }
     }
 }

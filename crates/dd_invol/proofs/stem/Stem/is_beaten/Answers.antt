@@ -9,4 +9,4 @@ pub returns-clause-dead : goal.returns-clause-dead
 returns-clause-dead c beaten =
     let stem = c.args.self.now in
     none_under_beaten Any (size_of stem) (prefix_of stem) (partial_of stem.rows) c.requires.stem.follows c.requires.stem.short
-    (subst (IsBeaten (partial_of stem.rows)) c.deref.ensures.0 (c.any_beats.ensures.beaten beaten))
+    (subst (IsBeaten (partial_of stem.rows)) c.as_slice.ensures (c.any_beats.ensures.beaten beaten))

@@ -12,8 +12,8 @@ use Rattle.dd_invol.proofs.stem.Stem.next_from.Goals as goal
 pub returns-then-chamber-most : goal.returns-then-chamber-most
 returns-then-chamber-most c =
     let stem = c.args.self.now in
-    let at = c.len-place.ensures.value in
-    let most : c.greatest-most.result ≡ greatest (prefix_of stem) = c.greatest-most.ensures ∙ ap greatest c.deref.ensures.0 in
+    let at = c.len-place.ensures in
+    let most : c.greatest-most.result ≡ greatest (prefix_of stem) = c.greatest-most.ensures in
     let past = c.if-chamber-most.true in
     none_unmet stem c.args.k c.requires.room (omega arith)
 
@@ -37,13 +37,13 @@ comes_to stem k least m place i from at index later taken =
 pub returns-then-known-k : goal.returns-then-known-k
 returns-then-known-k c =
     let stem = c.args.self.now in
-    let known = known_is stem c.len-place.result c.known-known.result c.index_at-i.result c.len-place.ensures.value c.index_at-i.ensures c.known-known.ensures.image in
+    let known = known_is stem c.len-place.result c.known-known.result c.index_at-i.result c.len-place.ensures c.index_at-i.ensures c.known-known.ensures.image in
     none_from_known stem c.args.k c.known-known.result c.requires.stem c.requires.room known c.if-known-ne0.true c.if-known-k.true
 
 pub returns-then-known-ne0 : goal.returns-then-known-ne0
 returns-then-known-ne0 c =
     let stem = c.args.self.now in
-    let known = known_is stem c.len-place.result c.known-known.result c.index_at-i.result c.len-place.ensures.value c.index_at-i.ensures c.known-known.ensures.image in
+    let known = known_is stem c.len-place.result c.known-known.result c.index_at-i.result c.len-place.ensures c.index_at-i.ensures c.known-known.ensures.image in
     let small = c.requires.stem.ready.small in
     let within = c.known-known.ensures.within in
     skips_known stem c.args.k c.known-known.result c.requires.stem c.requires.room known c.if-known-ne0.true c.if-known-k.false (omega arith)
@@ -51,7 +51,7 @@ returns-then-known-ne0 c =
 pub returns-then-free-size : goal.returns-then-free-size
 returns-then-free-size c =
     let stem = c.args.self.now in
-    let to = comes_to stem c.args.k c.max.result c.first_free-free.result c.len-place.result c.index_at-i.result c.max.ensures c.len-place.ensures.value c.index_at-i.ensures c.first_free-free.ensures.later c.first_free-free.ensures.taken in
+    let to = comes_to stem c.args.k c.max.result c.first_free-free.result c.len-place.result c.index_at-i.result c.max.ensures c.len-place.ensures c.index_at-i.ensures c.first_free-free.ensures.later c.first_free-free.ensures.taken in
     let size = c.size.ensures in
     let past = c.if-free-size.true in
     none_past_size stem c.args.k c.first_free-free.result c.requires.stem c.requires.room to (omega arith)
@@ -59,15 +59,15 @@ returns-then-free-size c =
 pub returns-then-free-most : goal.returns-then-free-most
 returns-then-free-most c =
     let stem = c.args.self.now in
-    let to = comes_to stem c.args.k c.max.result c.first_free-free.result c.len-place.result c.index_at-i.result c.max.ensures c.len-place.ensures.value c.index_at-i.ensures c.first_free-free.ensures.later c.first_free-free.ensures.taken in
-    let most : c.greatest-most.result ≡ greatest (prefix_of stem) = c.greatest-most.ensures ∙ ap greatest c.deref.ensures.0 in
+    let to = comes_to stem c.args.k c.max.result c.first_free-free.result c.len-place.result c.index_at-i.result c.max.ensures c.len-place.ensures c.index_at-i.ensures c.first_free-free.ensures.later c.first_free-free.ensures.taken in
+    let most : c.greatest-most.result ≡ greatest (prefix_of stem) = c.greatest-most.ensures in
     let past = c.if-free-most.true in
     none_past_greatest stem c.args.k c.first_free-free.result c.requires.stem c.requires.room to (omega arith)
 
 pub returns : goal.returns
 returns c =
     let stem = c.args.self.now in
-    let to = comes_to stem c.args.k c.max.result c.first_free-free.result c.len-place.result c.index_at-i.result c.max.ensures c.len-place.ensures.value c.index_at-i.ensures c.first_free-free.ensures.later c.first_free-free.ensures.taken in
+    let to = comes_to stem c.args.k c.max.result c.first_free-free.result c.len-place.result c.index_at-i.result c.max.ensures c.len-place.ensures c.index_at-i.ensures c.first_free-free.ensures.later c.first_free-free.ensures.taken in
     let small = c.requires.stem.ready.small in
     let size = c.size.ensures in
     let inside = c.if-free-size.false in

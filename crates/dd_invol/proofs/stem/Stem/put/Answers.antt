@@ -10,20 +10,20 @@ use Rattle.dd_invol.proofs.stem.Stem.put.Goals as goal
 pub returns-then-not-put-clause-dead : goal.returns-then-not-put-clause-dead
 returns-then-not-put-clause-dead c =
     let stem = c.args.self.now in
-    none_put Any (size_of stem) (prefix_of stem) c.args.number c.len-place.result stem.rows c.len-place.ensures.value c.requires.room c.requires.stem.follows c.if-not-put.ensures.clash
+    none_put Any (size_of stem) (prefix_of stem) c.args.number c.len-place.result stem.rows c.len-place.ensures c.requires.room c.requires.stem.follows c.if-not-put.ensures.clash
 
 pub returns-clause-stem : goal.returns-clause-stem
 returns-clause-stem c =
     let stem = c.args.self.now in
-    let learns = subst (λ t. Learns (Puts t c.args.number) stem.rows c.put.new.self) c.len-place.ensures.value c.if-not-put.ensures.learnt in
-    grown_stem stem _ c.args.number c.requires.stem c.requires.room (record { learns = learns; ready = c.put.ensures.ready; longer = c.push.ensures.items })
+    let learns = subst (λ t. Learns (Puts t c.args.number) stem.rows c.put.new.self) c.len-place.ensures c.if-not-put.ensures.learnt in
+    grown_stem stem _ c.args.number c.requires.stem c.requires.room (record { learns = learns; ready = c.put.ensures.ready; longer = c.push.ensures })
 
 pub returns-clause-undone : goal.returns-clause-undone
 returns-clause-undone c =
     let stem = c.args.self.now in
     let mid : Stem = record { rows = c.put.new.self; prefix = c.push.new.self } in
-    let learns = subst (λ t. Learns (Puts t c.args.number) stem.rows c.put.new.self) c.len-place.ensures.value c.if-not-put.ensures.learnt in
-    let grown : IsGrown stem mid c.args.number = record { learns = learns; ready = c.put.ensures.ready; longer = c.push.ensures.items } in
+    let learns = subst (λ t. Learns (Puts t c.args.number) stem.rows c.put.new.self) c.len-place.ensures c.if-not-put.ensures.learnt in
+    let grown : IsGrown stem mid c.args.number = record { learns = learns; ready = c.put.ensures.ready; longer = c.push.ensures } in
     grown_shortened stem mid c.args.number grown
 
 pub returns-then-not-put-clause-stem : goal.returns-then-not-put-clause-stem

@@ -1,0 +1,79 @@
+ghost use Rattle.std.specs.Prelude.{◌≡◌, ◌<◌, [], ◌∷◌, ◌++◌, length, take};
+ghost use Rattle.dd_invol.specs.FirstVisit.{greatest};
+
+use std::marker::Model;
+
+/// The first numbers of a code. A number is put at the end and taken away again in place, and the
+/// greatest of them is told without a look at all.
+#[derive(Drop)]
+pub(crate) struct Numbers {
+    numbers: [u8; 108],
+    mosts: [u8; 109],
+    count: u8,
+}
+
+impl Model for Numbers {
+    ghost use Rattle.std.specs.Prelude.{ℕ, List, take};
+    ghost use Rattle.dd_invol.specs.Mosts.{AreMosts};
+
+    ghost Value = { List ℕ };
+
+    ghost view = { λ a. take a.count a.numbers };
+
+    ghost invariant = { λ a. AreMosts a.count a.numbers a.mosts };
+}
+
+impl Numbers {
+    /// No numbers.
+    pub(crate) fn new() -> Numbers
+        ensures { result ≡ [] }
+    {
+        Numbers {
+            numbers: [0; 108],
+            mosts: [1; 109],
+            count: 0,
+        }
+    }
+
+    /// How many there are.
+    pub(crate) fn len(&self) -> usize
+        ensures { result ≡ length self.now }
+    {
+        self.count as usize
+    }
+
+    /// The numbers, in order.
+    pub(crate) fn as_slice(&self) -> &[u8]
+        ensures { result.now ≡ self.now }
+    {
+        &self.numbers[..self.count as usize]
+    }
+
+    /// The greatest of 1 and the numbers.
+    pub(crate) fn greatest(&self) -> u8
+        ensures { result ≡ greatest self.now }
+    {
+        self.mosts[self.count as usize]
+    }
+
+    /// Puts a number at the end.
+    pub(crate) fn push(&mut self, number: u8)
+        requires { length self.old < 108 }
+        ensures { self.new ≡ self.old ++ number ∷ [] }
+    {
+        let most = self.greatest().max(number);
+        let place = self.count as usize;
+        self.numbers[place] = number;
+        self.mosts[place + 1] = most;
+        self.count += 1;
+    }
+
+    /// Keeps the first `count` numbers.
+    pub(crate) fn truncate(&mut self, count: usize)
+        ensures { self.new ≡ take count self.old }
+    {
+        if count < self.count as usize {
+            self.count = count as u8;
+        }
+    }
+}
