@@ -1,6 +1,5 @@
--- The text of a catalogue from its beginning is the lines of all its members.
-use Rattle.std.proofs.Common.{◌≡◌, ℕ, zero, suc, List, [], ◌∷◌, Bool, Option, Result, Ok, Err, IfOk, ◌≤◌, length, inl, inr, refl, subst, arith}
-use Rattle.std.specs.List.{AllByRecursion, Contains}
+-- What the words of a catalogue have written.
+use Rattle.std.proofs.Common.{◌≡◌, ℕ, List, Bool, Option, Result, Ok, Err, IfOk, ◌≤◌, length, inl, inr, refl, subst}
 use Rattle.dd_model.specs.Symbol.{Symbol}
 use Rattle.dd_model.specs.Wanted.{IsCatalogue}
 use Rattle.dd_model.specs.Text.{IsText, beginning}
@@ -9,22 +8,18 @@ use Rattle.dd_ports.specs.Grows.{GrowsByPrefix}
 use Rattle.dd_ports.specs.declared.sink.SinkFault.{SinkFault}
 use Rattle.dd_ports.specs.declared.sink.SinkFault.TheVariants.{Failed, Memory}
 use Rattle.dd_suite.specs.declared.ending.Ending.TheVariants.{Done}
-use Rattle.dd_suite.specs.declared.catalogue.Finish.{Finish}
-use Rattle.dd_suite.specs.declared.catalogue.Finish.TheVariants.{Whole, CutShort}
-use Rattle.dd_suite.specs.Finishes.{Finishes}
+use Rattle.dd_catalogue.specs.declared.catalogue.Finish.{Finish}
+use Rattle.dd_catalogue.specs.declared.catalogue.Finish.TheVariants.{Whole, CutShort}
+use Rattle.dd_catalogue.specs.Finishes.{Finishes}
 use Rattle.dd_suite.specs.Outside.{Before, After}
 use Rattle.dd_suite.specs.Stops.{HasCause, WritesPartOfFile}
 use Rattle.dd_ports.specs.Causes.{HasCause as SinkCause}
 use Rattle.dd_model.proofs.Catalogues.{catalogue_unique}
 use Rattle.dd_suite.specs.Endings.{written_ending}
 use Rattle.dd_suite.specs.Words.{AskFor}
-use Rattle.dd_suite.specs.Catalogue.{most_lines, AppendsText}
+use Rattle.dd_catalogue.specs.Catalogue.{most_lines, AppendsText}
 use Rattle.dd_suite.specs.Output.{IsKnownOutput, AppendsOutput}
 use Rattle.dd_suite.proofs.Requests.{same_request, taken, not_both}
-
-pub each_member : (P : Symbol → Type 0) (ss : List Symbol) → ((s : Symbol) → Contains ss s → P s) → AllByRecursion P ss
-each_member P [] all = tt
-each_member P (s ∷ ss) all = (all s (zero, omega arith, refl), each_member P ss (λ t h. all t (suc h.0, (let below = h.1 in omega arith), h.2)))
 
 -- Words of a catalogue have no output but the texts of their request.
 pub prefix_of_output : (words : List (List ℕ)) (tells : Bool) (held : List ℕ → Option (List ℕ)) (q : Request) (old new : Option (List ℕ)) → AskFor words q

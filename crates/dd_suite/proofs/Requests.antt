@@ -12,7 +12,7 @@ use Rattle.dd_words.specs.declared.commands.FileKind.TheVariants as kind
 use Rattle.dd_commands.specs.declared.commands.FileCommand.{FileCommand}
 use Rattle.dd_commands.specs.declared.commands.FileCommand.TheVariants.{Symbols, Info}
 use Rattle.dd_commands.specs.declared.commands.SymbolCommand.TheVariants.{Lines, Canon, Minimal, Dual, Oriented, Torus, Derived}
-use Rattle.dd_suite.specs.declared.pace.Pace.{Pace}
+use Rattle.dd_catalogue.specs.declared.pace.Pace.{Pace}
 use Rattle.dd_suite.specs.declared.task.Task.{Task}
 use Rattle.dd_suite.specs.declared.task.Task.TheVariants as task
 use Rattle.dd_suite.specs.Words.{AskFor, kind_of, IsOnFile, AreTaken}

@@ -13,8 +13,8 @@ use Rattle.dd_suite.specs.declared.status.Status.TheVariants as status
 use Rattle.dd_suite.specs.declared.ending.Ending.{Ending}
 use Rattle.dd_suite.specs.declared.ending.Ending.TheVariants.{Done, Usage, Refused, RefusedSymbol}
 use Rattle.dd_suite.specs.declared.ending.Ending.TheVariants.{StoreFault, SinkFault, Memory, TooManyLines}
-use Rattle.dd_suite.specs.declared.catalogue.Finish.{Finish}
-use Rattle.dd_suite.specs.declared.catalogue.Finish.TheVariants as finish
+use Rattle.dd_catalogue.specs.declared.catalogue.Finish.{Finish}
+use Rattle.dd_catalogue.specs.declared.catalogue.Finish.TheVariants as finish
 
 -- the status without its cause
 abbrev pub status_of : Ending → Status

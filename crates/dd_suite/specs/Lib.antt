@@ -4,10 +4,6 @@ pub mod Commands
 pub mod Outside
 pub mod Held
 pub mod Output
-pub mod Catalogue
 pub mod Endings
 pub mod Stops
 pub mod Messages
-pub mod Pages
-pub mod Rounds
-pub mod Finishes

@@ -1,7 +1,7 @@
 ghost use Rattle.std.specs.Prelude.{◌≡◌};
 
-use crate::catalogue::Finish;
 use crate::status::Status;
+use dd_catalogue::Finish;
 use dd_commands::{CommandFault, SymbolRefusal};
 use dd_ports::SinkFault;
 use dd_text::FileFault;

@@ -1,14 +1,8 @@
 //! The words of a command, the store and the sinks, and the one call that does all that the program does.
 #![tactic(auto)]
 
-mod catalogue;
-mod emission;
 mod ending;
 mod file;
-mod lines;
-mod pace;
-mod pages;
-mod rounds;
 mod status;
 mod task;
 mod telling;

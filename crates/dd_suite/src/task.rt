@@ -1,4 +1,4 @@
-use crate::pace::Pace;
+use dd_catalogue::Pace;
 use dd_commands::FileCommand;
 use dd_model::Request;
 use dd_words::Name;

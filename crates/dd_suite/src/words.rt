@@ -5,8 +5,8 @@ ghost use Rattle.dd_suite.specs.Words.{AreTaken, kind_of};
 ghost use Rattle.dd_suite.specs.Commands.{IsTaskOf, AskForTask};
 ghost use Rattle.dd_suite.specs.declared.task.Task.{Task as Asked};
 
-use crate::pace::Pace;
 use crate::task::Task;
+use dd_catalogue::Pace;
 use dd_commands::{FileCommand, SymbolCommand};
 use dd_model::Memory;
 use dd_words::{Command, FileKind, WordsFault, read_words};

@@ -2,7 +2,7 @@ use Rattle.std.proofs.Common.{ℕ, List, IfOk, map, inr, subst, sym, ◌∙◌}
 use Rattle.dd_model.specs.Request.{IsValid}
 use Rattle.dd_model.specs.Text.{IsText, beginning}
 use Rattle.dd_ports.specs.Grows.{GrowsByPrefix}
-use Rattle.dd_suite.specs.Finishes.{Finishes}
+use Rattle.dd_catalogue.specs.Finishes.{Finishes}
 use Rattle.dd_suite.specs.Outside.{Before, After}
 use Rattle.dd_suite.specs.Stops.{HasFileCause, HasCause}
 use Rattle.dd_suite.proofs.Causes.{cause_of_file}
@@ -10,7 +10,7 @@ use Rattle.std.specs.Rc.{rc_str_bytes}
 use Rattle.dd_suite.specs.declared.task.Task.TheVariants.{Catalogue, OnFile}
 use Rattle.dd_suite.specs.Words.{IsOnFile}
 use Rattle.dd_suite.specs.Held.{IsTextOfHeld}
-use Rattle.dd_suite.specs.Catalogue.{AppendsText}
+use Rattle.dd_catalogue.specs.Catalogue.{AppendsText}
 use Rattle.dd_suite.proofs.Requests.{valid_request, request_asked, pace_asked, taken, asked_of, same_request, not_both}
 use Rattle.dd_suite.proofs.CatalogueTexts.{prefix_of_output, whole_output, what_done_says, cause_of_catalogue, few_members}
 use Rattle.dd_suite.proofs.HeldTexts.{prefix_of_file_output}

@@ -1,0 +1,4 @@
+pub mod PageLemmas
+pub mod RoundEntries
+pub mod CatalogueSteps
+pub mod LineParts

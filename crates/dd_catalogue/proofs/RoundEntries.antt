@@ -1,0 +1,159 @@
+-- The entries of a front over a round.
+use Rattle.std.proofs.Common.{◌≡◌, ℕ, zero, suc, ◌+◌, ◌<◌, ◌≤◌, List, [], ◌∷◌, ◌++◌, length, take, drop, inl, inr, ⊎_elim, refl, sym, ap, ◌∙◌, subst, arith}
+use Rattle.std.proofs.lemmas.List.{map-append, take-append-drop, length-take}
+use Rattle.std.specs.List.{AllByRecursion}
+use Rattle.dd_model.specs.Symbol.{Symbol}
+use Rattle.dd_model.specs.Jobs.{AreAscendingJobs, AreApart}
+use Rattle.dd_model.specs.declared.jobs.Job.{Job}
+use Rattle.dd_front.specs.declared.entry.Entry.{Entry}
+use Rattle.dd_front.specs.declared.entry.State.{State}
+use Rattle.dd_front.specs.declared.entry.State.TheVariants.{Open, Out, Done}
+use Rattle.dd_front.specs.Absorbed.{AreAbsorbed, MayAbsorb, ComeFrom}
+use Rattle.dd_front.specs.Allowed.{HasFirst}
+use Rattle.dd_front.specs.Joining.{IsDone}
+use Rattle.dd_front.specs.Machine.{Machine, entry_of, open_entries, jobs_of}
+use Rattle.dd_front.specs.Rounds.{open_jobs, job_if_open}
+use Rattle.dd_front.proofs.Absorbing.{all_front, all_back, absorbed_jobs}
+use Rattle.dd_catalogue.specs.Rounds.{AreOpen, AreDoneThenOpen, IsRoundDone}
+
+pub open_all : (es : List Entry) → AreOpen es → AreDoneThenOpen es
+open_all [] opens = tt
+open_all (e ∷ es) opens = inr opens
+
+pub opened_open : (k : ℕ) (jobs : List Job) → AreOpen (open_entries k jobs)
+opened_open k [] = tt
+opened_open k (job ∷ jobs) = (refl, opened_open (k + 1) jobs)
+
+-- where all are open, their jobs are those that wait
+waiting_all : (es : List Entry) → AreOpen es → open_jobs es ≡ jobs_of es
+waiting_all [] opens = refl
+waiting_all (e ∷ es) opens = ap (λ state. job_if_open state e.job ++ open_jobs es) opens.0 ∙ ap (λ js. e.job ∷ js) (waiting_all es opens.1)
+
+-- entries that a round brought back are done, and none of them waits
+absorbed_done : (olds es done : List Entry) → AreAbsorbed olds es done → AllByRecursion (λ e. IsDone e.state) done
+absorbed_done [] es [] are = tt
+absorbed_done [] es (b ∷ bs) are = absurd are
+absorbed_done (a ∷ olds) es [] are = absurd are
+absorbed_done (a ∷ olds) es (b ∷ bs) are = (subst (λ (e : Entry). IsDone e.state) (sym are.4) tt, absorbed_done olds are.1 bs are.5)
+
+none_waits : (done back : List Entry) → AllByRecursion (λ e. IsDone e.state) done → open_jobs (done ++ back) ≡ open_jobs back
+none_waits [] back all = refl
+none_waits (e ∷ es) back all = go e.state all.0 ∙ none_waits es back all.1
+  where
+    go : (state : State) → IsDone state → job_if_open state e.job ++ open_jobs (es ++ back) ≡ open_jobs (es ++ back)
+    go Open never = absurd never
+    go Out never = absurd never
+    go (Done list) done = refl
+
+done_then : (done back : List Entry) → AllByRecursion (λ e. IsDone e.state) done → AreOpen back → AreDoneThenOpen (done ++ back)
+done_then [] back all opens = open_all back opens
+done_then (e ∷ es) back all opens = inl (all.0, done_then es back all.1 opens)
+
+opens_back : (k : ℕ) (es : List Entry) → AreOpen es → AreOpen (drop k es)
+opens_back k es opens = all_back (λ (e : Entry). e.state ≡ Open) (take k es) (drop k es) (subst AreOpen (sym (take-append-drop k es)) opens)
+
+pub round_entries : (f g : Machine) → IsRoundDone f g → AreOpen f.entries → AreDoneThenOpen g.entries
+round_entries f g round opens =
+    let done = round.absorbs.done in
+    let after : g.entries ≡ done ++ drop round.count f.entries = ap (λ (m : Machine). m.entries) round.absorbs.after in
+    subst AreDoneThenOpen (sym after) (done_then done (drop round.count f.entries) (absorbed_done (take round.count f.entries) round.found done round.absorbs.absorbed) (opens_back round.count f.entries opens))
+
+pub round_jobs : (f g : Machine) → IsRoundDone f g → jobs_of g.entries ≡ jobs_of f.entries
+round_jobs f g round =
+    let k = round.count in
+    let done = round.absorbs.done in
+    let job : Entry → Job = λ e. e.job in
+    ap (λ (m : Machine). jobs_of m.entries) round.absorbs.after ∙ map-append job done (drop k f.entries)
+    ∙ ap (λ js. js ++ jobs_of (drop k f.entries)) (absorbed_jobs (take k f.entries) round.found done round.absorbs.absorbed)
+    ∙ sym (map-append job (take k f.entries) (drop k f.entries)) ∙ ap jobs_of (take-append-drop k f.entries)
+
+left_below : {A : Type 0} (k : ℕ) (xs : List A) → length (drop k xs) < suc (length xs)
+left_below zero xs = omega arith
+left_below (suc k) [] = omega arith
+left_below (suc k) (x ∷ xs) = let rest = left_below k xs in omega (arith, rest)
+
+fewer_left : {A : Type 0} (k : ℕ) (xs : List A) → 1 ≤ k → k ≤ length xs → length (drop k xs) < length xs
+fewer_left zero xs some enough = absurd (omega (arith, some))
+fewer_left (suc k) [] some enough = absurd (omega (arith, enough))
+fewer_left (suc k) (x ∷ xs) some enough = left_below k xs
+
+length_jobs : (es : List Entry) → length (jobs_of es) ≡ length es
+length_jobs [] = refl
+length_jobs (e ∷ es) = ap suc (length_jobs es)
+
+-- fewer jobs wait after a round
+pub fewer_wait : (f g : Machine) → IsRoundDone f g → AreOpen f.entries → length (open_jobs g.entries) < length (open_jobs f.entries)
+fewer_wait f g round opens =
+    let k = round.count in
+    let done = round.absorbs.done in
+    let back = drop k f.entries in
+    let after : open_jobs g.entries ≡ jobs_of back =
+    ap (λ (m : Machine). open_jobs m.entries) round.absorbs.after ∙ none_waits done back (absorbed_done (take k f.entries) round.found done round.absorbs.absorbed) ∙ waiting_all back (opens_back k f.entries opens) in
+    let long = ap length after ∙ length_jobs back in
+    let all = ap length (waiting_all f.entries opens) ∙ length_jobs f.entries in
+    let fewer = fewer_left k f.entries round.some round.may.enough in
+    omega (arith, long, all, fewer)
+
+-- ## What goes into a round
+
+-- so many of the first entries as there are jobs taken
+taken_entries : (most : ℕ) (es : List Entry) → jobs_of (take (length (take most (jobs_of es))) es) ≡ take most (jobs_of es)
+taken_entries zero [] = refl
+taken_entries zero (e ∷ es) = refl
+taken_entries (suc most) [] = refl
+taken_entries (suc most) (e ∷ es) = ap (λ js. e.job ∷ js) (taken_entries most es)
+
+pub taken_jobs : (most : ℕ) (es : List Entry) (jobs : List Job) → AreOpen es → jobs ≡ take most (open_jobs es) → jobs ≡ take most (jobs_of es)
+taken_jobs most es jobs opens is = is ∙ ap (take most) (waiting_all es opens)
+
+pub may_absorb : (f : Machine) (most : ℕ) (jobs : List Job) (es : List Entry) → AreOpen f.entries → jobs ≡ take most (open_jobs f.entries) → ComeFrom f.request jobs es → MayAbsorb f (length jobs) es
+may_absorb f most jobs es opens is come =
+    let taken = taken_jobs most f.entries jobs opens is in
+    let long : length jobs ≡ length (take most (jobs_of f.entries)) = ap length taken in
+    let most_long = length-take most (jobs_of f.entries) in
+    let all = length_jobs f.entries in
+    let same : jobs_of (take (length jobs) f.entries) ≡ jobs = ap (λ n. jobs_of (take n f.entries)) long ∙ taken_entries most f.entries ∙ sym taken in
+    let k = length jobs in
+    record {
+      enough = omega arith;
+      open_entries = all_front (λ (e : Entry). e.state ≡ Open) (take k f.entries) (drop k f.entries) (subst AreOpen (sym (take-append-drop k f.entries)) opens);
+      come_from = subst (λ js. ComeFrom f.request js es) (sym same) come;
+    }
+
+pub all_taken : {A : Type 0} (P : A → Type 0) (most : ℕ) (xs : List A) → AllByRecursion P xs → AllByRecursion P (take most xs)
+all_taken P most xs all = all_front P (take most xs) (drop most xs) (subst (AllByRecursion P) (sym (take-append-drop most xs)) all)
+
+pub ascending_taken : (most : ℕ) (jobs : List Job) → AreAscendingJobs jobs → AreAscendingJobs (take most jobs)
+ascending_taken zero [] ascending = tt
+ascending_taken zero (job ∷ jobs) ascending = tt
+ascending_taken (suc most) [] ascending = tt
+ascending_taken (suc most) (job ∷ jobs) ascending = (all_taken _ most jobs ascending.0, ascending_taken most jobs ascending.1)
+
+pub apart_taken : (most : ℕ) (jobs : List Job) → AreApart jobs → AreApart (take most jobs)
+apart_taken zero [] apart = tt
+apart_taken zero (job ∷ jobs) apart = tt
+apart_taken (suc most) [] apart = tt
+apart_taken (suc most) (job ∷ jobs) apart = (all_taken _ most jobs apart.0, apart_taken most jobs apart.1)
+
+-- none is taken only where none is left
+pub none_taken : (most : ℕ) (es : List Entry) (jobs : List Job) → 1 ≤ most → AreOpen es → jobs ≡ take most (open_jobs es) → length jobs ≡ 0 → es ≡ []
+none_taken most [] jobs some opens is none = refl
+none_taken zero (e ∷ es) jobs some opens is none = absurd (omega (arith, some))
+none_taken (suc most) (e ∷ es) jobs some opens is none =
+    let taken = ap length (taken_jobs (suc most) (e ∷ es) jobs opens is) in
+    absurd (omega (arith, taken, none))
+
+-- ## At the front
+
+-- where the first entry is not done, all are open
+pub rest_open : (f : Machine) → AreDoneThenOpen f.entries → ((list : List Symbol) → ¬ HasFirst f list) → AreOpen f.entries
+rest_open f are none = go f.entries refl are
+  where
+    state_of : (e : Entry) (es : List Entry) → f.entries ≡ e ∷ es → (state : State) → e.state ≡ state → IsDone state → ⊥
+    state_of e es is Open same never = never
+    state_of e es is Out same never = never
+    state_of e es is (Done list) same done = none list (record { number = e.number; job = e.job; rest = es; entries = is ∙ ap (λ state. entry_of e.number e.job state ∷ es) same })
+
+    go : (es : List Entry) → f.entries ≡ es → AreDoneThenOpen es → AreOpen es
+    go [] is are' = tt
+    go (e ∷ es) is are' = ⊎_elim (λ done. absurd (state_of e es is e.state refl done.0)) (λ opens. opens) are'

@@ -1,0 +1,4 @@
+pub mod Catalogue
+pub mod Pages
+pub mod Rounds
+pub mod Finishes

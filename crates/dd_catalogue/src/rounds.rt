@@ -1,0 +1,74 @@
+ghost use Rattle.std.specs.Prelude.{◌≡◌, ◌≤◌, ◌<◌, ◌^◌, List, IfOk, OnErr, MatchBool, MatchOption, length};
+ghost use Rattle.dd_model.specs.Request.{IsValid};
+ghost use Rattle.dd_model.specs.Symbol.{Symbol};
+ghost use Rattle.dd_model.specs.Jobs.{AreAscendingJobs, AreApart};
+ghost use Rattle.dd_front.specs.Machine.{jobs_of};
+ghost use Rattle.dd_front.specs.Allowed.{HasFirst};
+ghost use Rattle.dd_board.specs.Desk.{AreJobsOf};
+ghost use Rattle.dd_catalogue.specs.Rounds.{IsBegun, AreOpen, IsRoundDone, IsAtEnd};
+
+use crate::pace::Pace;
+use dd_front::{Finder, Front, State};
+use dd_invol::opening;
+use dd_model::{Job, Memory, Position, Prefix, Request};
+use dd_ports::Gate;
+use dd_steal::run_round;
+use std::alloc::Global;
+use std::sync::Wait;
+use std::thread::Threads;
+
+/// A front of all jobs of a request, at the beginning.
+pub fn front_of(alloc: Global, request: &Request) -> Result<Front, Memory>
+    requires { IsValid request.now }
+    ensures { IfOk result (IsBegun request.now) }
+{
+    let jobs = opening(alloc, request)?;
+    let beginning = Position::At(Job {
+        size: 1,
+        prefix: Prefix::from_slice(alloc, &[1, 1, 1])?,
+    });
+    Front::open(alloc, *request, jobs, beginning, 0)
+}
+
+/// Does the next round of a front, and answers whether there was one. After `Err`, which comes for want of memory alone,
+/// the front is as before.
+pub fn do_round<R: Threads + Wait + Sync, F: Finder + Sync, G: Gate + Sync>(
+    rt: &R,
+    alloc: Global,
+    finder: &F,
+    gate: &G,
+    pace: Pace,
+    front: &mut Front,
+) -> Result<bool, Memory>
+    requires workers { (1 ≤ pace.workers) × (pace.workers ≤ 64) }
+    requires round { 1 ≤ pace.round }
+    requires valid { IsValid (F.request finder.now) }
+    requires request { front.old.request ≡ F.request finder.now }
+    requires jobs { AreJobsOf (F.request finder.now) (jobs_of front.old.entries) }
+    requires ascending { AreAscendingJobs (jobs_of front.old.entries) }
+    requires apart { AreApart (jobs_of front.old.entries) }
+    requires open_entries { AreOpen front.old.entries }
+    ensures round { IfOk result (λ more. MatchBool more (IsRoundDone front.old front.new)
+        (IsAtEnd front.old front.new)) }
+    ensures same { OnErr result (front.new ≡ front.old) }
+{
+    let jobs = front.first(pace.round)?;
+    if jobs.is_empty() {
+        return Ok(false);
+    }
+    let entries = run_round(rt, alloc, finder, gate, jobs, pace.workers)?;
+    front.absorb(entries)?;
+    Ok(true)
+}
+
+/// How many members the first entry has, where it is done.
+pub fn count_at_front(front: &Front) -> Option<usize>
+    ensures { MatchOption result ((list : List Symbol) → ¬ HasFirst front.now list)
+        (λ count. (count < 2 ^ 64) × ((list : List Symbol) × HasFirst front.now list
+        × (length list ≡ count))) }
+{
+    match &front.entries().first()?.state {
+        State::Done(list) => Some(list.len()),
+        State::Open | State::Out => None,
+    }
+}
