@@ -7,7 +7,7 @@ ghost use Rattle.dd_invol.specs.Under.{HasNothingUnder};
 use crate::levels::Level;
 use crate::members::add_degrees;
 use arrayvec::ArrayVec;
-use dd_invol::{CollectingSearch, PrefixSearch, Starts, Stem, Table, Visit};
+use dd_invol::{CollectingSearch, PrefixSearch, Starts, Stem, Table};
 use dd_model::{Memory, Request};
 use dd_shares::{Ends, Shares, parity_rules_out};
 use dd_symbol::Connected;
@@ -26,7 +26,6 @@ pub struct Descent {
     ends: Ends,
     levels: ArrayVec<Level, 108>,
     starts: Starts,
-    visit: Visit,
 }
 
 impl Model for Descent {
@@ -34,24 +33,18 @@ impl Model for Descent {
 
     ghost Value = { Descending };
 
-    ghost use Rattle.dd_invol.specs.Visit.{IsVisiting};
-
     ghost view = { λ a. record {
       request = a.request;
       stem = a.stem;
       shares = a.shares;
       levels = a.levels.items;
     } };
-
-    ghost invariant = { λ a. IsVisiting a.visit };
 }
 
 impl Descent {
-    ghost use Rattle.dd_invol.specs.Rows.{depth_of, IsReady};
-    ghost use Rattle.dd_invol.specs.Stem.{prefix_of, size_of, shortened};
-    ghost use Rattle.dd_shares.specs.Kept.{mark_of, rolled_back};
-    ghost use Rattle.dd_branch.specs.Descent.{IsDescent, shorter, taken_back};
-    ghost use Rattle.dd_branch.specs.declared.levels.Level.{Level};
+    ghost use Rattle.dd_invol.specs.Rows.{IsReady};
+    ghost use Rattle.dd_invol.specs.Stem.{prefix_of, size_of};
+    ghost use Rattle.dd_branch.specs.Descent.{IsDescent, IsLevelOf, GoesBack, HasDescended, shorter, taken_back, with_level};
 
     /// The search from the empty prefix, with the ends of a table of which nothing is known.
     pub fn new(alloc: Global, request: &Request, ends: &Ends, size: u8) -> Descent
@@ -69,37 +62,37 @@ impl Descent {
             shares: Shares::start(request, size),
             ends: *ends,
             levels: ArrayVec::new(),
-            starts: Starts::all(),
-            visit: Visit::new(),
+            starts: Starts::new(size),
         }
     }
 
-    /// How much there is to be kept.
+    /// How much there is.
     fn level(&self) -> Level
-        ensures rows { result.rows ≡ depth_of self.now.stem.rows }
-        ensures shares { result.shares ≡ mark_of self.now.shares }
+        ensures { IsLevelOf self.now result }
     {
         Level {
+            numbers: self.stem.prefix().len(),
             rows: self.stem.mark(),
             shares: self.shares.mark(),
-            starts: self.starts,
+            starts: self.starts.mark(),
         }
     }
 
-    /// Takes away the last number of the stem, and what was put in and exchanged after a level.
-    fn take_back(&mut self, level: Level)
+    /// Takes away what was put in, exchanged and moved after a level.
+    fn take_back(&mut self, level: &Level)
         requires { IsReady self.old.stem.rows }
-        ensures { self.new ≡ taken_back self.old level }
+        ensures { self.new ≡ taken_back self.old level.now }
     {
         self.ends.undo(self.stem.rows(), level.rows);
-        self.stem.leave(level.rows);
+        self.stem.cut(level.numbers, level.rows);
         self.shares.undo(level.shares);
-        self.starts = level.starts;
+        self.starts.undo(level.starts);
     }
 
-    /// Whether it is sure that no member is under the prefix: its size is odd and s0 moves chamber
-    /// 1, the shares are too small, or another numbering has a smaller code.
-    fn is_dead(&mut self) -> bool
+    /// Whether it is sure that no member is under the prefix, which has grown since a level: its
+    /// size is odd and s0 moves chamber 1, the next chamber was not met, the shares are too small,
+    /// or another numbering has a smaller code.
+    fn is_dead(&mut self, level: &Level) -> bool
         requires { IsDescent self.old }
         ensures same { self.new ≡ self.old }
         ensures dead { IsTrue result
@@ -107,8 +100,52 @@ impl Descent {
             (prefix_of self.old.stem) }
     {
         parity_rules_out(self.stem.rows())
+            || self.stem.is_stuck()
             || self.shares.rules_out(&self.ends, self.stem.rows())
-            || self.stem.is_beaten(&mut self.starts, &mut self.visit)
+            || self.starts.any_beats(&self.stem, level.numbers, level.rows)
+    }
+
+    /// Puts a number at the end of the prefix, and exchanges shares, unless commuting forbids it.
+    fn put(&mut self, number: u8) -> bool
+        requires descent { IsDescent self.old }
+        requires room { length (prefix_of self.old.stem) < 3 * size_of self.old.stem }
+        ensures descent { IsDescent self.new }
+        ensures request { self.new.request ≡ self.old.request }
+        ensures size { size_of self.new.stem ≡ size_of self.old.stem }
+        ensures levels { self.new.levels ≡ self.old.levels }
+        ensures longer { OnTrue result
+            (prefix_of self.new.stem ≡ prefix_of self.old.stem ++ number ∷ []) }
+        ensures back { OnTrue result (GoesBack self.old self.new) }
+        ensures same { OnFalse result (self.new ≡ self.old) }
+        ensures dead { OnFalse result
+            (HasNothingUnder (IsMember self.old.request) (size_of self.old.stem)
+            (prefix_of self.old.stem ++ number ∷ [])) }
+    {
+        let mark = self.stem.mark();
+        if !self.stem.put(number) {
+            return false;
+        }
+        self.shares.learn(&mut self.ends, self.stem.rows(), mark);
+        true
+    }
+
+    /// Keeps the level before what was put in, or takes that back where it is sure that no member
+    /// is under the prefix.
+    fn settle(&mut self, level: Level) -> bool
+        requires descent { IsDescent self.old }
+        requires room { length self.old.levels < length (prefix_of self.old.stem) }
+        ensures kept { OnTrue result (self.new ≡ with_level self.old level) }
+        ensures back { OnFalse result (self.new ≡ taken_back self.old level) }
+        ensures dead { OnFalse result
+            (HasNothingUnder (IsMember self.old.request) (size_of self.old.stem)
+            (prefix_of self.old.stem)) }
+    {
+        if self.is_dead(&level) {
+            self.take_back(&level);
+            return false;
+        }
+        self.levels.push(level);
+        true
     }
 
     /// Puts a number at the end of the prefix, unless it is sure that no member is under the longer
@@ -116,11 +153,26 @@ impl Descent {
     fn grow(&mut self, number: u8) -> bool
         requires descent { IsDescent self.old }
         requires room { length (prefix_of self.old.stem) < 3 * size_of self.old.stem }
-        ensures descent { IsDescent self.new }
-        ensures request { self.new.request ≡ self.old.request }
-        ensures size { size_of self.new.stem ≡ size_of self.old.stem }
+        ensures descent { OnTrue result (IsDescent self.new) }
+        ensures request { OnTrue result (self.new.request ≡ self.old.request) }
+        ensures size { OnTrue result (size_of self.new.stem ≡ size_of self.old.stem) }
         ensures longer { OnTrue result
             (prefix_of self.new.stem ≡ prefix_of self.old.stem ++ number ∷ []) }
+        ensures dead { OnFalse result
+            (HasNothingUnder (IsMember self.old.request) (size_of self.old.stem)
+            (prefix_of self.old.stem ++ number ∷ [])) }
+    {
+        let level = self.level();
+        self.put(number) && self.settle(level)
+    }
+
+    /// Puts a number at the end of the prefix, and all that are known after it, unless it is sure
+    /// that no member is under the longer prefix.
+    fn descend(&mut self, number: u8) -> bool
+        requires descent { IsDescent self.old }
+        requires room { length (prefix_of self.old.stem) < 3 * size_of self.old.stem }
+        ensures descent { IsDescent self.new }
+        ensures alive { OnTrue result (HasDescended number self.old self.new) }
         ensures undone { OnTrue result (shorter self.new ≡ self.old) }
         ensures same { OnFalse result (self.new ≡ self.old) }
         ensures dead { OnFalse result
@@ -128,21 +180,13 @@ impl Descent {
             (prefix_of self.old.stem ++ number ∷ [])) }
     {
         let level = self.level();
-        if !self.stem.put(number) {
+        if !self.put(number) {
             return false;
         }
-        // A number that was known before tells nothing new, and the tests wait for the next one.
-        if self.stem.mark() == level.rows && !self.stem.is_whole() {
-            self.levels.push(level);
-            return true;
-        }
-        self.shares
-            .learn(&mut self.ends, self.stem.rows(), level.rows);
-        if self.is_dead() {
-            self.take_back(level);
+        self.stem.absorb();
+        if !self.settle(level) {
             return false;
         }
-        self.levels.push(level);
         true
     }
 
@@ -201,12 +245,12 @@ impl PrefixSearch for Descent {
     }
 
     fn enter(&mut self, number: u8) -> bool {
-        self.grow(number)
+        self.descend(number)
     }
 
     fn leave(&mut self, _mark: usize) {
         if let Some(level) = self.levels.pop() {
-            self.take_back(level);
+            self.take_back(&level);
         }
     }
 }

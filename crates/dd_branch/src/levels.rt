@@ -1,11 +1,11 @@
-use dd_invol::Starts;
 use dd_shares::Mark;
 
-/// How much was in the table and among the exchanged shares before a number was put in, and which
-/// starts could still give a smaller code.
+/// How much there was before a number was put in: numbers of the prefix, images in the table,
+/// exchanged shares, and moves of starts.
 #[derive(Clone, Copy, Default, Drop)]
 pub(crate) struct Level {
+    pub(crate) numbers: usize,
     pub(crate) rows: usize,
     pub(crate) shares: Mark,
-    pub(crate) starts: Starts,
+    pub(crate) starts: usize,
 }

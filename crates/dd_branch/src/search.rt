@@ -1,12 +1,14 @@
-ghost use Rattle.std.specs.Prelude.{◌≡◌, ◌⊎◌, ◌*◌, ◌≤◌, ◌<◌, IfOk, IsTrue, length};
+ghost use Rattle.std.specs.Prelude.{◌≡◌, ◌⊎◌, ◌*◌, ◌≤◌, ◌<◌, IfOk, OnOk, IsTrue, length};
 ghost use Rattle.std.specs.Bool.{OnFalse};
 ghost use Rattle.dd_model.specs.Symbol.{Symbol as Tiling};
 ghost use Rattle.dd_model.specs.Request.{IsValid};
 ghost use Rattle.dd_model.specs.Jobs.{IsJobOf, IsMemberUnder, AreExtensions};
+ghost use Rattle.dd_model.specs.Wanted.{IsMember};
+ghost use Rattle.dd_invol.specs.Under.{AreUnder, Appends};
 
 use crate::descent::Descent;
 use dd_front::Finder;
-use dd_invol::{children, find};
+use dd_invol::{children, find, may_have_tables};
 use dd_model::{Job, Memory, Request};
 use dd_shares::Ends;
 use dd_symbol::Connected;
@@ -37,8 +39,29 @@ impl Search {
         requires job { IsJobOf self.now.request job.now }
         ensures { OnFalse result ((s : Tiling) → IsMemberUnder self.now.request job.now s → ⊥) }
     {
+        if !may_have_tables(job) {
+            return false;
+        }
         let mut descent = Descent::new(alloc, &self.request, &self.ends, job.size as u8);
         descent.reach(job.prefix.as_slice())
+    }
+
+    /// Adds the members under a job. It stays a call of its own, so that the room for the search is
+    /// made only where it is called.
+    #[inline(never)]
+    fn add_members(&self, alloc: Global, job: &Job, list: &mut Vec<Connected>) -> Result<(), Memory>
+        requires valid { IsValid self.now.request }
+        requires job { IsJobOf self.now.request job.now }
+        ensures { OnOk result (Appends
+            (AreUnder (IsMember self.now.request) job.now.size job.now.prefix)
+            list.old.items list.new.items) }
+    {
+        let mut descent = Descent::new(alloc, &self.request, &self.ends, job.size as u8);
+        if !descent.reach(job.prefix.as_slice()) {
+            return Ok(());
+        }
+        find(&mut descent, list)?;
+        Ok(())
     }
 
     /// Those of some extensions of a job under which a member may be.
@@ -68,11 +91,10 @@ impl Finder for Search {
 
     fn find(&self, alloc: Global, job: &Job) -> Result<Vec<Connected>, Memory> {
         let mut list = Vec::new(alloc);
-        let mut descent = Descent::new(alloc, &self.request, &self.ends, job.size as u8);
-        if !descent.reach(job.prefix.as_slice()) {
+        if !may_have_tables(job) {
             return Ok(list);
         }
-        find(&mut descent, &mut list)?;
+        self.add_members(alloc, job, &mut list)?;
         Ok(list)
     }
 

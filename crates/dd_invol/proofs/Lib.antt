@@ -16,6 +16,7 @@ pub mod JobLists
 pub mod OpeningLaws
 pub mod Extensions
 pub mod Stems
+pub mod Absorbing
 pub mod TableFronts
 pub mod Unbranched
 pub mod TableLemmas

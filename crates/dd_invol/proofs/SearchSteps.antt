@@ -3,7 +3,7 @@ use Rattle.std.proofs.Common.{◌≡◌, ◌↔◌, ℕ, ◌+◌, ◌*◌, ◌<�
 use Rattle.std.proofs.lemmas.Bool.{cases_eq}
 use Rattle.dd_model.specs.Symbol.{Symbol}
 use Rattle.dd_model.specs.declared.requests.Request.{Request}
-use Rattle.dd_invol.specs.Search.{IsLonger}
+use Rattle.dd_invol.specs.Search.{GoesOn}
 use Rattle.dd_invol.specs.Under.{HasNothingUnder, AreUnder, AreUnderBefore, Appends, SkipsTo}
 use Rattle.dd_invol.proofs.Prefixes.{appends_next, appends_dead}
 
@@ -15,13 +15,23 @@ not_whole b n m fails whole low = ⊎_elim (λ e. absurd (clash b fails (whole.1
     clash b fails holds = cc
 
 -- what is under the longer prefix of a new state
-pub found_longer : {S : Type 0} (request : S → Request) (wanted : Request → Symbol → Type 0) (size : S → ℕ) (prefix : S → List ℕ) (number : ℕ) (old new : S)
-    → IsLonger request size prefix number old new → (ss ts : List Symbol)
+pub found_longer : {S : Type 0} (request : S → Request) (wanted : Request → Symbol → Type 0) (size : S → ℕ) (prefix : S → List ℕ) (end : ℕ → ℕ) (number : ℕ) (old new : S)
+    → GoesOn request wanted size prefix end number old new → (ss ts : List Symbol)
     → Appends (AreUnder (wanted (request new)) (size new) (prefix new)) ss ts → Appends (AreUnder (wanted (request old)) (size old) (prefix old ++ number ∷ [])) ss ts
-found_longer request wanted size prefix number old new is ss ts a =
+found_longer request wanted size prefix end number old new is ss ts a =
     let one = subst (λ q. Appends (AreUnder (wanted q) (size new) (prefix new)) ss ts) is.same_request a in
     let two = subst (λ n. Appends (AreUnder (wanted (request old)) n (prefix new)) ss ts) is.same_size one in
-    subst (λ xs. Appends (AreUnder (wanted (request old)) (size old) xs) ss ts) is.longer two
+    record {
+      list = two.list;
+      grown = two.grown;
+      holds = record {
+        ascending = two.holds.ascending;
+        members = λ s. (
+          (λ there. (is.same.same s).0 ((two.holds.members s).0 there)),
+          (λ under. (two.holds.members s).1 ((is.same.same s).1 under)),
+        );
+      };
+    }
 
 -- nothing is under the longer prefix
 pub found_none : (W : Symbol → Type 0) (n : ℕ) (prefix : List ℕ) (k m : ℕ) (old mid : List Symbol) → length prefix < 5 * n → SkipsTo W n prefix k m → HasNothingUnder W n (prefix ++ m ∷ [])

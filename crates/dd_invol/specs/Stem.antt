@@ -1,8 +1,10 @@
 -- A prefix of the codes of tables, with the partial table that follows from it.
-use Rattle.std.specs.Prelude.{ℕ, ◌-◌, ◌*◌, ◌≤◌, List, length, take}
+use Rattle.std.specs.Prelude.{◌≡◌, ℕ, ◌-◌, ◌*◌, ◌≤◌, List, length, take}
 use Rattle.dd_model.specs.Symbol.{Symbol}
+use Rattle.dd_model.specs.Lists.{Begins}
+use Rattle.dd_model.specs.Code.{code}
 use Rattle.dd_invol.specs.Rows.{partial_of, unwound, IsReady}
-use Rattle.dd_invol.specs.Under.{Follows}
+use Rattle.dd_invol.specs.Under.{IsUnder, Follows}
 use Rattle.dd_invol.specs.declared.stem.Stem.{Stem}
 
 -- any orderly table
@@ -17,12 +19,23 @@ prefix_of stem = stem.prefix
 abbrev pub size_of : Stem → ℕ
 size_of stem = stem.rows.size
 
+-- the stem with no more than so many numbers, and with no more than so much put into the table
+abbrev pub cut_to : Stem → ℕ → ℕ → Stem
+cut_to stem count mark = record { rows = unwound stem.rows mark; prefix = take count stem.prefix }
+
 -- the stem without its last number, and with no more than so much put into the table
 abbrev pub shortened : Stem → ℕ → Stem
-shortened stem mark = record { rows = unwound stem.rows mark; prefix = take (length stem.prefix - 1) stem.prefix }
+shortened stem mark = cut_to stem (length stem.prefix - 1) mark
 
 -- Each orderly table whose code begins with the prefix completes the table.
 pub record IsStem (stem : Stem) : Type 0 where
   pub ready : IsReady stem.rows
   pub short : length (prefix_of stem) ≤ 3 * size_of stem
   pub follows : Follows Any (size_of stem) (prefix_of stem) (partial_of stem.rows)
+
+-- The prefix has grown by numbers that follow from it.
+pub record HasAbsorbed (old new : Stem) : Type 0 where
+  pub rows : new.rows ≡ old.rows
+  pub longer : length (prefix_of old) ≤ length (prefix_of new)
+  pub front : take (length (prefix_of old)) (prefix_of new) ≡ prefix_of old
+  pub begins : (s : Symbol) → IsUnder Any (size_of old) (prefix_of old) s → Begins (prefix_of new) (code s)

@@ -2,7 +2,6 @@ ghost use Rattle.std.specs.Prelude.{◌≡◌, ◌↔◌, ◌*◌, ◌≤◌, Is
 ghost use Rattle.dd_invol.specs.Stem.{IsStem, prefix_of, size_of};
 ghost use Rattle.dd_invol.specs.Walk.{IsSought, IsNext, HasNoneLeft, IsLeastNext, here};
 
-use crate::search::PrefixSearch;
 use crate::table::Table;
 use crate::tables::Tables;
 use dd_canon::is_least;

@@ -7,7 +7,7 @@ use arrayvec::ArrayVec;
 use dd_model::Index;
 
 /// The place of the image of a chamber in a code, places being counted from 0.
-fn place_of(i: Index, chamber: u8) -> u8
+pub(crate) fn place_of(i: Index, chamber: u8) -> u8
     requires low { 1 ≤ chamber }
     requires high { chamber ≤ 36 }
     ensures place { result ≡ place i chamber }
@@ -78,6 +78,16 @@ impl Rows {
         ensures within { result ≤ (partial_of self.now).size }
     {
         self.numbers[place_of(i, chamber) as usize]
+    }
+
+    /// The number at a place of the code, or 0 where it is not known.
+    pub(crate) fn number_at(&self, place: u8) -> u8
+        requires ready { IsReady self.now }
+        requires place { place < 108 }
+        ensures number { HasNumberAt place result (partial_of self.now) }
+        ensures within { result ≤ (partial_of self.now).size }
+    {
+        self.numbers[place as usize]
     }
 
     /// How much was put in.

@@ -3,7 +3,7 @@ ghost use Rattle.std.specs.Bool.{OnTrue, OnFalse};
 ghost use Rattle.dd_model.specs.Symbol.{Symbol as Tiling};
 ghost use Rattle.dd_model.specs.declared.requests.Request.{Request as Asked};
 ghost use Rattle.dd_invol.specs.Under.{HasNothingUnder, AreUnder, Appends, HasNoNumberFrom, SkipsTo};
-ghost use Rattle.dd_invol.specs.Search.{IsLonger};
+ghost use Rattle.dd_invol.specs.Search.{GoesOn};
 
 use dd_model::Memory;
 use dd_symbol::Connected;
@@ -47,20 +47,22 @@ pub trait PrefixSearch {
             (HasNoNumberFrom (wanted (request self.now)) (size self.now) (prefix self.now) k)
             (λ m. SkipsTo (wanted (request self.now)) (size self.now) (prefix self.now) k m) };
 
-    /// Puts a number at the end, unless it is sure that nothing is under the longer prefix.
+    /// Puts a number at the end, and others that follow from it, unless it is sure that nothing is
+    /// under the longer prefix.
     fn enter(&mut self, number: u8) -> bool
         requires valid { valid self.old }
         requires room { length (prefix self.old) < end (size self.old) }
         requires small { number ≤ 216 }
         ensures valid { valid self.new }
-        ensures alive { OnTrue result (IsLonger request size prefix number self.old self.new) }
+        ensures alive { OnTrue result
+            (GoesOn request wanted size prefix end number self.old self.new) }
         ensures undone { OnTrue result (undone self.new (depth self.old) ≡ self.old) }
         ensures same { OnFalse result (self.new ≡ self.old) }
         ensures dead { OnFalse result
             (HasNothingUnder (wanted (request self.old)) (size self.old)
             (prefix self.old ++ number ∷ [])) };
 
-    /// Takes away the last number, and what was put in after a mark.
+    /// Takes away what was put in after a mark.
     fn leave(&mut self, mark: usize)
         requires now { valid self.old }
         requires after { valid (undone self.old mark) }

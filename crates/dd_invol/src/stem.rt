@@ -7,7 +7,7 @@ ghost use Rattle.dd_invol.specs.Under.{HasNothingUnder, HasNoNumberFrom, SkipsTo
 
 use crate::numbers::Numbers;
 use crate::rows::{Rows, index_at};
-use crate::traversal::{Starts, Visit, any_beats};
+use crate::traversal::{Standing, Visit, stand};
 use dd_model::Index;
 
 /// A prefix of the codes of tables of one size, with the partial table that follows from it. A
@@ -19,7 +19,7 @@ pub struct Stem {
 }
 
 impl Stem {
-    ghost use Rattle.dd_invol.specs.Stem.{Any, IsStem, prefix_of, size_of, shortened};
+    ghost use Rattle.dd_invol.specs.Stem.{Any, IsStem, HasAbsorbed, prefix_of, size_of, cut_to, shortened};
 
     /// The empty prefix.
     pub fn new(size: u8) -> Stem
@@ -142,15 +142,64 @@ impl Stem {
         true
     }
 
+    /// Puts the numbers at the end that are known already, up to the first place where none is. The
+    /// same tables are under the prefix before and after.
+    pub fn absorb(&mut self)
+        requires { IsStem self.old }
+        ensures stem { IsStem self.new }
+        ensures absorbed { HasAbsorbed self.old self.new }
+    {
+        while self.prefix.len() < 3 * self.rows.size() as usize {
+            let number = self.rows.number_at(self.prefix.len() as u8);
+            if number == 0 {
+                return;
+            }
+            self.prefix.push(number);
+        }
+    }
+
+    /// Whether the chamber whose image is next has not been met, so that nothing is under the
+    /// prefix.
+    pub fn is_stuck(&self) -> bool
+        requires { IsStem self.now }
+        ensures { IsTrue result → HasNothingUnder Any (size_of self.now) (prefix_of self.now) }
+    {
+        if self.is_whole() {
+            return false;
+        }
+        1 + self.prefix.len() / 3 > self.prefix.greatest() as usize
+    }
+
+    /// How the traversal from a chamber stands to the prefix. Where it reads smaller, nothing is
+    /// under the prefix.
+    pub(crate) fn standing(&self, start: u8, visit: &mut Visit) -> Standing
+        requires stem { IsStem self.now }
+        requires visiting { IsVisiting visit.old }
+        ensures visiting { IsVisiting visit.new }
+        ensures dead { result ≡ Standing.Smaller
+            → HasNothingUnder Any (size_of self.now) (prefix_of self.now) }
+    {
+        if start == 0 || start > self.rows.size() {
+            return Standing::Larger;
+        }
+        stand(&self.rows, self.prefix.as_slice(), start, visit)
+    }
+
     /// Whether the traversal from some start gives a smaller code, so that nothing is under the
-    /// prefix. A tie is none. Starts that give a larger one are left out.
-    pub fn is_beaten(&self, starts: &mut Starts, visit: &mut Visit) -> bool
+    /// prefix. A tie is none. Chamber 1 reads as the prefix itself, and is not tried.
+    pub fn is_beaten(&self, visit: &mut Visit) -> bool
         requires stem { IsStem self.now }
         requires visiting { IsVisiting visit.old }
         ensures visiting { IsVisiting visit.new }
         ensures dead { IsTrue result → HasNothingUnder Any (size_of self.now) (prefix_of self.now) }
     {
-        any_beats(&self.rows, self.prefix.as_slice(), starts, visit)
+        for k in 1..self.rows.size() {
+            match self.standing(k + 1, visit) {
+                Standing::Smaller => return true,
+                Standing::Larger | Standing::Open(_) => {}
+            }
+        }
+        false
     }
 
     /// Puts a number at the end with what follows from it, unless nothing is under the longer
@@ -172,7 +221,7 @@ impl Stem {
         if !self.put(number) {
             return false;
         }
-        if self.is_beaten(&mut Starts::all(), visit) {
+        if self.is_beaten(visit) {
             self.leave(mark);
             return false;
         }
@@ -184,10 +233,16 @@ impl Stem {
         requires { IsReady self.old.rows }
         ensures { self.new ≡ shortened self.old mark }
     {
+        let count = self.prefix.len().saturating_sub(1);
+        self.cut(count, mark);
+    }
+
+    /// Takes away all but so many numbers, and what was put into the table after a mark.
+    pub fn cut(&mut self, count: usize, mark: usize)
+        requires { IsReady self.old.rows }
+        ensures { self.new ≡ cut_to self.old count mark }
+    {
         self.rows.undo(mark);
-        let count = self.prefix.len();
-        if count > 0 {
-            self.prefix.truncate(count - 1);
-        }
+        self.prefix.truncate(count);
     }
 }

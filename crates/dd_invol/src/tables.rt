@@ -1,6 +1,8 @@
-ghost use Rattle.std.specs.Prelude.{◌≡◌, ℕ, ◌*◌, ◌≤◌, []};
+ghost use Rattle.std.specs.Prelude.{◌≡◌, ◌↔◌, ◌*◌, ◌≤◌, ◌<◌, [], ◌∷◌, ◌++◌, IsTrue, MatchOption, length};
+ghost use Rattle.std.specs.Bool.{OnTrue, OnFalse};
+ghost use Rattle.dd_invol.specs.Search.{IsLonger};
+ghost use Rattle.dd_invol.specs.Under.{HasNothingUnder, HasNoNumberFrom, SkipsTo};
 
-use crate::search::PrefixSearch;
 use crate::stem::Stem;
 use crate::traversal::Visit;
 use dd_model::Request;
@@ -29,7 +31,9 @@ impl Model for Tables {
 
 impl Tables {
     ghost use Rattle.dd_invol.specs.Visit.{IsVisiting};
-    ghost use Rattle.dd_invol.specs.Stem.{IsStem, prefix_of, size_of};
+    ghost use Rattle.dd_invol.specs.Rows.{depth_of};
+    ghost use Rattle.dd_invol.specs.Stem.{Any, IsStem, prefix_of, size_of};
+    ghost use Rattle.dd_invol.specs.Growth.{asked_of, size_at, prefix_at, taken_back};
 
     /// The search from the empty prefix.
     pub fn new(request: &Request, size: u8) -> Tables
@@ -79,45 +83,53 @@ impl Tables {
     {
         self.stem.prefix()
     }
-}
 
-impl PrefixSearch for Tables {
-    ghost use Rattle.dd_invol.specs.Rows.{depth_of};
-    ghost use Rattle.dd_invol.specs.Stem.{Any, IsStem, prefix_of, size_of, shortened};
-
-    ghost request = { λ t. t.request };
-
-    ghost wanted = { λ _ s. Any s };
-
-    ghost size = { λ t. size_of t.stem };
-
-    ghost prefix = { λ t. prefix_of t.stem };
-
-    ghost end = { λ n. 3 * n };
-
-    ghost depth = { λ t. depth_of t.stem.rows };
-
-    ghost undone = { λ t mark. record { request = t.request; stem = shortened t.stem mark } };
-
-    ghost valid = { λ t. IsStem t.stem };
-
-    fn is_whole(&self) -> bool {
+    /// Whether all images are told.
+    pub(crate) fn is_whole(&self) -> bool
+        requires { IsStem self.now.stem }
+        ensures { IsTrue result ↔ (length (prefix_of self.now.stem) ≡ 3 * size_of self.now.stem) }
+    {
         self.stem.is_whole()
     }
 
-    fn mark(&self) -> usize {
+    /// How much has been put into the table.
+    pub(crate) fn mark(&self) -> usize
+        ensures { result ≡ depth_of self.now.stem.rows }
+    {
         self.stem.mark()
     }
 
-    fn next_from(&self, k: u8) -> Option<u8> {
+    /// The least number from k on that may come next; None where no such number may come.
+    pub(crate) fn next_from(&self, k: u8) -> Option<u8>
+        requires stem { IsStem self.now.stem }
+        requires room { length (prefix_of self.now.stem) < 3 * size_of self.now.stem }
+        ensures { MatchOption result
+            (HasNoNumberFrom Any (size_of self.now.stem) (prefix_of self.now.stem) k)
+            (λ m. SkipsTo Any (size_of self.now.stem) (prefix_of self.now.stem) k m) }
+    {
         self.stem.next_from(k)
     }
 
-    fn enter(&mut self, number: u8) -> bool {
+    /// Puts a number at the end, unless it is sure that nothing is under the longer prefix.
+    pub(crate) fn enter(&mut self, number: u8) -> bool
+        requires stem { IsStem self.old.stem }
+        requires room { length (prefix_of self.old.stem) < 3 * size_of self.old.stem }
+        ensures valid { IsStem self.new.stem }
+        ensures alive { OnTrue result (IsLonger asked_of size_at prefix_at number self.old self.new) }
+        ensures undone { OnTrue result
+            (taken_back self.new (depth_of self.old.stem.rows) ≡ self.old) }
+        ensures same { OnFalse result (self.new ≡ self.old) }
+        ensures dead { OnFalse result (HasNothingUnder Any (size_of self.old.stem)
+            (prefix_of self.old.stem ++ number ∷ [])) }
+    {
         self.stem.enter(number, &mut self.visit)
     }
 
-    fn leave(&mut self, mark: usize) {
+    /// Takes away the last number, and what was put into the table after a mark.
+    pub(crate) fn leave(&mut self, mark: usize)
+        requires { IsStem self.old.stem }
+        ensures { self.new ≡ taken_back self.old mark }
+    {
         self.stem.leave(mark);
     }
 }

@@ -1,4 +1,4 @@
-ghost use Rattle.std.specs.Prelude.{◌≡◌, ℕ, ◌+◌, ◌-◌, ◌*◌, ◌/◌, ◌%◌, [], ◌∷◌, ◌++◌, ◌≤◌, ◌<◌, IsTrue, length, set};
+ghost use Rattle.std.specs.Prelude.{◌≡◌, ℕ, ◌+◌, ◌-◌, ◌/◌, ◌%◌, [], ◌∷◌, ◌++◌, ◌≤◌, ◌<◌, length, set};
 ghost use Rattle.dd_model.specs.Symbol.{item};
 ghost use Rattle.dd_canon.specs.Traversal.{IsMeeting};
 ghost use Rattle.dd_invol.specs.Beaten.{IsBeaten};
@@ -6,7 +6,8 @@ ghost use Rattle.dd_invol.specs.Places.{index_at};
 ghost use Rattle.dd_invol.specs.Rows.{partial_of, IsReady};
 ghost use Rattle.dd_invol.specs.Visit.{IsVisiting};
 
-use crate::rows::Rows;
+use crate::rows::{Rows, place_of};
+use crate::sleepers::NOWHERE;
 use arrayvec::ArrayVec;
 use dd_model::Index;
 
@@ -75,12 +76,13 @@ impl Visit {
 }
 
 /// How the traversal from a start chamber stands to a prefix: it reads as the prefix and then
-/// smaller, or larger, whatever else is put in; or that is not decided yet.
+/// smaller, or larger, whatever else is put in; or that is not decided before the image at a place
+/// is told.
 #[derive(Clone, Copy, Debug, PartialEq, Eq)]
-enum Standing {
+pub(crate) enum Standing {
     Smaller,
     Larger,
-    Open,
+    Open(u8),
 }
 
 /// The involution of the next place of a code.
@@ -106,8 +108,8 @@ fn row_after(row: usize, i: Index) -> usize
 }
 
 /// Where the traversal from a start chamber stands. Where it comes to an image that is not known,
-/// or to the end of the prefix, nothing is decided.
-fn stand(rows: &Rows, prefix: &[u8], start: u8, visit: &mut Visit) -> Standing
+/// or to the end of the prefix, nothing is decided, nor ever where it has met all that it leads to.
+pub(crate) fn stand(rows: &Rows, prefix: &[u8], start: u8, visit: &mut Visit) -> Standing
     requires ready { IsReady rows.now }
     requires visiting { IsVisiting visit.old }
     requires start { (1 ≤ start) × (start ≤ (partial_of rows.now).size) }
@@ -120,12 +122,12 @@ fn stand(rows: &Rows, prefix: &[u8], start: u8, visit: &mut Visit) -> Standing
     let mut i = Index::Zero;
     for place in 0..prefix.len() {
         if row >= visit.order.len() {
-            return Standing::Open;
+            return Standing::Open(NOWHERE);
         }
         let chamber = visit.order[row];
         let image = rows.known(i, chamber);
         if image == 0 {
-            return Standing::Open;
+            return Standing::Open(place_of(i, chamber));
         }
         let number = visit.meet(image);
         if number < prefix[place] {
@@ -137,59 +139,5 @@ fn stand(rows: &Rows, prefix: &[u8], start: u8, visit: &mut Visit) -> Standing
         row = row_after(row, i);
         i = index_after(i);
     }
-    Standing::Open
-}
-
-/// Start chambers whose traversals may still read smaller than a prefix that grows. One that is
-/// left out in error is not tried, and nothing is cut for it.
-#[derive(Clone, Copy, Debug, Default, PartialEq, Eq)]
-pub struct Starts {
-    left_out: u64,
-}
-
-impl Starts {
-    /// All chambers.
-    pub fn all() -> Starts
-        ensures { result.left_out ≡ 0 }
-    {
-        Starts { left_out: 0 }
-    }
-
-    /// Whether a chamber is one of them.
-    fn has(self, chamber: u8) -> bool
-        requires { chamber ≤ 36 }
-    {
-        self.left_out >> chamber & 1 == 0
-    }
-
-    /// The chambers without one.
-    fn without(self, chamber: u8) -> Starts
-        requires { chamber ≤ 36 }
-    {
-        Starts {
-            left_out: self.left_out | 1 << chamber,
-        }
-    }
-}
-
-/// Whether the traversal from some start reads as the prefix and then smaller. A tie is none.
-/// Starts that read larger are left out. Chamber 1 reads as the prefix itself, and is not tried.
-pub fn any_beats(rows: &Rows, prefix: &[u8], starts: &mut Starts, visit: &mut Visit) -> bool
-    requires ready { IsReady rows.now }
-    requires visiting { IsVisiting visit.old }
-    requires short { length prefix.now ≤ 108 }
-    ensures visiting { IsVisiting visit.new }
-    ensures beaten { IsTrue result → IsBeaten (partial_of rows.now) prefix.now }
-{
-    for k in 1..rows.size() {
-        let start = k + 1;
-        if starts.has(start) {
-            match stand(rows, prefix, start, visit) {
-                Standing::Smaller => return true,
-                Standing::Larger => *starts = starts.without(start),
-                Standing::Open => {}
-            }
-        }
-    }
-    false
+    Standing::Open(prefix.len() as u8)
 }

@@ -1,18 +1,15 @@
-use Rattle.std.proofs.Common.{◌≡◌, ℕ, ◌∷◌, [], ◌++◌, ◌*◌, length, refl, ap, ◌∙◌, subst}
+use Rattle.std.proofs.Common.{◌≡◌, ◌∷◌, [], ◌++◌, ◌*◌, length, refl, ap, ◌∙◌, subst}
 use Rattle.dd_model.specs.Jobs.{extended}
 use Rattle.dd_invol.specs.Search.{IsLonger}
-use Rattle.dd_invol.specs.Stem.{Any, prefix_of, size_of, shortened}
+use Rattle.dd_invol.specs.Stem.{Any, prefix_of, size_of}
 use Rattle.dd_invol.specs.Rows.{depth_of}
 use Rattle.dd_invol.specs.Under.{HasNothingUnder, HasNoNumberFrom, SkipsTo}
-use Rattle.dd_invol.specs.Growth.{Growing}
+use Rattle.dd_invol.specs.Growth.{taken_back}
 use Rattle.dd_invol.specs.Walk.{here, HasNoneLeft, IsNext, IsLeastNext}
 use Rattle.dd_invol.proofs.SearchSteps.{not_whole}
 use Rattle.dd_invol.proofs.WalkLemmas.{none_before, none_dead, none_listed, next_found, none_left, moved_next, moved_none, with_some, with_none}
 use Rattle.dd_invol.proofs.next_table.+first_past.Goals as goal
 use Rattle.dd_invol.proofs.next_table.+first_past.Goals.{then-enter+in_ok-found+in_default-found, else-enter}
-
-abbrev taken_back : Growing → ℕ → Growing
-taken_back t mark = record { request = t.request; stem = shortened t.stem mark }
 
 pub loop-number-init : goal.loop-number-init
 loop-number-init t c =

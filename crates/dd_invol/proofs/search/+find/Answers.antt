@@ -1,5 +1,5 @@
 use Rattle.std.proofs.Common.{◌≡◌, ◌+◌, [], ◌∷◌, ◌++◌, ◌*◌, ◌<◌, length, refl, sym, ap, ◌∙◌, subst, arith}
-use Rattle.dd_invol.specs.Search.{IsLonger}
+use Rattle.dd_invol.specs.Search.{GoesOn}
 use Rattle.dd_invol.specs.Under.{HasNothingUnder, AreUnderBefore, Appends, HasNoNumberFrom, SkipsTo}
 use Rattle.dd_invol.proofs.Prefixes.{appends_first, appends_next, appends_all}
 use Rattle.dd_invol.proofs.SearchSteps.{not_whole, found_longer, found_none}
@@ -36,9 +36,9 @@ loop-number-preserved g t c =
     let small = skips.small in
     elim c.if-enter.branch [
       | then-enter+in_ok-find w ↦
-          let longer = subst (λ s. IsLonger T.request T.size T.prefix m s c.enter.new.self) same w.if-enter.ensures.alive in
+          let longer = subst (λ s. GoesOn T.request T.wanted T.size T.prefix T.end m s c.enter.new.self) same w.if-enter.ensures.alive in
           let back = subst (λ s. T.undone c.enter.new.self (T.depth s) ≡ s) same w.if-enter.ensures.undone in
-          let found = found_longer T.request T.wanted T.size T.prefix m S c.enter.new.self longer c.loop-number.list.items w.find.new.list.items w.in_ok-find.ensures.list in
+          let found = found_longer T.request T.wanted T.size T.prefix T.end m S c.enter.new.self longer c.loop-number.list.items w.find.new.list.items w.in_ok-find.ensures.list in
           record {
             small = omega (arith, small);
             valid = subst T.valid (sym (w.search-is ∙ w.leave.ensures ∙ ap (λ s. T.undone s c.mark-mark.result) w.in_ok-find.ensures.same ∙ ap (T.undone c.enter.new.self) i.mark ∙ back)) c.requires.valid;

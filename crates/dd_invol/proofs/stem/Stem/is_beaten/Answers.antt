@@ -1,12 +1,4 @@
-use Rattle.std.proofs.Common.{subst}
-use Rattle.dd_invol.specs.Rows.{partial_of}
-use Rattle.dd_invol.specs.Beaten.{IsBeaten}
-use Rattle.dd_invol.specs.Stem.{Any, prefix_of, size_of}
-use Rattle.dd_invol.proofs.Leastness.{none_under_beaten}
 use Rattle.dd_invol.proofs.stem.Stem.is_beaten.Goals as goal
 
-pub returns-clause-dead : goal.returns-clause-dead
-returns-clause-dead c beaten =
-    let stem = c.args.self.now in
-    none_under_beaten Any (size_of stem) (prefix_of stem) (partial_of stem.rows) c.requires.stem.follows c.requires.stem.short
-    (subst (IsBeaten (partial_of stem.rows)) c.as_slice.ensures (c.any_beats.ensures.beaten beaten))
+pub returns-in-Smaller-clause-dead : goal.returns-in-Smaller-clause-dead
+returns-in-Smaller-clause-dead c _ = c.standing.ensures.dead c.in-Smaller.is

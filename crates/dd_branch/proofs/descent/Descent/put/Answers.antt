@@ -1,0 +1,15 @@
+use Rattle.std.proofs.Common.{sym, ap, subst}
+use Rattle.dd_invol.specs.Rows.{partial_of}
+use Rattle.dd_invol.specs.declared.stem.Stem.{Stem}
+use Rattle.dd_shares.specs.Kept.{AreKept}
+use Rattle.dd_shares.proofs.GrowthLemmas.{kept_of_longer}
+use Rattle.dd_branch.specs.Descent.{Descending}
+use Rattle.dd_branch.proofs.descent.Descent.put.Goals as goal
+
+pub learn-requires-clause-kept : goal.learn-requires-clause-kept
+learn-requires-clause-kept c =
+    let stem = c.self.inside.stem in
+    let shares = c.self.inside.shares in
+    let kept = subst (λ (d : Descending). AreKept (partial_of d.stem.rows) d.shares) (sym c.self.view_is) c.requires.descent.kept in
+    let back = ap (λ (s : Stem). s.rows) c.if-not-put.ensures.undone in
+    subst (λ r. AreKept (partial_of r) shares) (sym c.rows.ensures) (kept_of_longer stem.rows c.put.new.self.rows shares c.if-not-put.ensures.size back kept)

@@ -1,0 +1,10 @@
+use Rattle.std.proofs.Common.{◌≡◌, take}
+use Rattle.dd_invol.specs.Stem.{IsStem, prefix_of, size_of}
+use Rattle.dd_invol.proofs.splits.may_have_tables.Given as goal
+
+abbrev pub invariant-loop-number : goal.invariant-loop-number
+invariant-loop-number l = record {
+  is : IsStem l.stem;
+  size : size_of l.stem ≡ l.fn.job.size;
+  prefix : prefix_of l.stem ≡ take l.number-index l.prefix;
+}
