@@ -14,8 +14,8 @@ use Rattle.dd_model.specs.declared.requests.Request.{Request}
 use Rattle.dd_model.specs.declared.jobs.Job.{Job}
 use Rattle.dd_invol.specs.Under.{IsUnder, HasNothingUnder, AreUnder, Appends}
 use Rattle.dd_invol.specs.Table.{HasNoTable, IsTableOf}
-use Rattle.dd_invol.specs.Rows.{partial_of, depth_of, unwound}
-use Rattle.dd_invol.specs.Stem.{Any, IsStem, HasAbsorbed, prefix_of, size_of, cut_to, shortened}
+use Rattle.dd_invol.specs.Rows.{partial_of, unwound}
+use Rattle.dd_invol.specs.Stem.{Any, IsStem, HasAbsorbed, prefix_of, size_of, cut_to}
 use Rattle.dd_invol.proofs.Absorbing.{absorbed_under}
 use Rattle.dd_invol.proofs.Stems.{any_under}
 use Rattle.dd_invol.proofs.Prefixes.{none_under}
@@ -23,8 +23,7 @@ use Rattle.dd_invol.specs.declared.stem.Stem.{Stem}
 use Rattle.dd_invol.proofs.Follows.{member_orderly}
 use Rattle.dd_invol.proofs.TableFronts.{front_same, front_begins}
 use Rattle.dd_branch.specs.Members.{AreMembersWith}
-use Rattle.dd_shares.specs.Kept.{AreKept, mark_of, rolled_back}
-use Rattle.dd_shares.specs.declared.shares.Shares.{Shares}
+use Rattle.dd_shares.specs.Kept.{AreKept, rolled_back}
 use Rattle.dd_branch.specs.Descent.{Descending, IsDescent, GoesBack, HasDescended, taken_back, with_level, without_last, shorter}
 use Rattle.dd_branch.specs.declared.levels.Level.{Level}
 

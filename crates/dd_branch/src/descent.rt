@@ -78,12 +78,20 @@ impl Descent {
         }
     }
 
-    /// Takes away what was put in, exchanged and moved after a level.
+    /// Takes away what was put in, joined, exchanged and moved after a level.
     fn take_back(&mut self, level: &Level)
         requires { IsReady self.old.stem.rows }
         ensures { self.new ≡ taken_back self.old level.now }
     {
         self.ends.undo(self.stem.rows(), level.rows);
+        self.drop_after(level);
+    }
+
+    /// The same, where the ends are those of the level.
+    fn drop_after(&mut self, level: &Level)
+        requires { IsReady self.old.stem.rows }
+        ensures { self.new ≡ taken_back self.old level.now }
+    {
         self.stem.cut(level.numbers, level.rows);
         self.shares.undo(level.shares);
         self.starts.undo(level.starts);
@@ -105,9 +113,11 @@ impl Descent {
             || self.starts.any_beats(&self.stem, level.numbers, level.rows)
     }
 
-    /// Puts a number at the end of the prefix, and exchanges shares, unless commuting forbids it.
-    fn put(&mut self, number: u8) -> bool
+    /// Puts a number at the end of the prefix, and exchanges shares, unless commuting forbids it or the
+    /// shares become too small. The level is that of the search.
+    fn put(&mut self, number: u8, level: &Level) -> bool
         requires descent { IsDescent self.old }
+        requires level { IsLevelOf self.old level.now }
         requires room { length (prefix_of self.old.stem) < 3 * size_of self.old.stem }
         ensures descent { IsDescent self.new }
         ensures request { self.new.request ≡ self.old.request }
@@ -121,11 +131,14 @@ impl Descent {
             (HasNothingUnder (IsMember self.old.request) (size_of self.old.stem)
             (prefix_of self.old.stem ++ number ∷ [])) }
     {
-        let mark = self.stem.mark();
         if !self.stem.put(number) {
             return false;
         }
-        self.shares.learn(&mut self.ends, self.stem.rows(), mark);
+        let rows = self.stem.rows();
+        if self.shares.learn(&mut self.ends, rows, level.rows) {
+            self.drop_after(level);
+            return false;
+        }
         true
     }
 
@@ -163,7 +176,7 @@ impl Descent {
             (prefix_of self.old.stem ++ number ∷ [])) }
     {
         let level = self.level();
-        self.put(number) && self.settle(level)
+        self.put(number, &level) && self.settle(level)
     }
 
     /// Puts a number at the end of the prefix, and all that are known after it, unless it is sure
@@ -180,7 +193,7 @@ impl Descent {
             (prefix_of self.old.stem ++ number ∷ [])) }
     {
         let level = self.level();
-        if !self.put(number) {
+        if !self.put(number, &level) {
             return false;
         }
         self.stem.absorb();

@@ -4,7 +4,6 @@
 mod forms;
 mod isomorphisms;
 mod steps;
-
 mod ties;
 mod traversal_laws;
 mod visits;

@@ -9,3 +9,4 @@ pub mod Bounds
 pub mod SideLemmas
 pub mod GrowthLemmas
 pub mod ClosedLemmas
+pub mod Reduced

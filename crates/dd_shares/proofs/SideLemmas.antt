@@ -158,9 +158,9 @@ whole_share q P p path cell lowest share which walked same_pair whole right j be
     let same = same_degree P p d (get_or path.chambers.items j 0) s sought.wanted.symbol full h there in
     subst (λ m. share_unit ≤ share * m) (has.product ∙ sym same) up
 
--- a share of 0 is a share of each chamber, since nothing is sought
-pub none_from_zero : (q : Request) (P : Symbol) (p : Pair) (d e : ℕ) → IsShare q P p share_unit d 0 → IsShare q P p share_unit e 0
-none_from_zero q P p d e is s sought = let none = is s sought in let zero_ : 0 * degree s p d ≡ 0 = omega arith in absurd (omega (arith, none, zero_))
+-- where a share is 0 nothing is sought
+pub none_sought : (q : Request) (P : Symbol) (p : Pair) (d : ℕ) → IsShare q P p share_unit d 0 → (s : Symbol) → IsSought q P s → ⊥
+none_sought q P p d is s sought = let none = is s sought in let zero_ : 0 * degree s p d ≡ 0 = omega arith in absurd (omega (arith, none, zero_))
 
 -- ## Exchanges
 
@@ -189,10 +189,3 @@ side_exchanged q P p r r' d share kept low is total smaller cases = record {
   total = total;
   small = let small = kept.small in omega (arith, small, smaller);
 }
-
--- nothing is sought where the share of chamber 1 is 0
-pub none_sought : (q : Request) (P : Symbol) (p : Pair) (side : Side) → IsSide q P p side → 1 ≤ P.size → get_or side.shares 0 0 ≡ 0 → (s : Symbol) → IsSought q P s → ⊥
-none_sought q P p side kept some none s sought =
-    let share = kept.shares.each 1 (omega arith) some s sought in
-    let zero_ : get_or side.shares 0 0 * degree s p 1 ≡ 0 = ap (λ n. n * degree s p 1) none ∙ omega arith in
-    absurd (omega (arith, share, zero_))

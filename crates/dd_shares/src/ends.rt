@@ -1,5 +1,5 @@
-ghost use Rattle.std.specs.Prelude.{◌≡◌, ◌+◌, ◌*◌, ◌≤◌, ◌<◌};
-ghost use Rattle.dd_invol.specs.Rows.{partial_of, IsReady};
+ghost use Rattle.std.specs.Prelude.{ℕ, ◌≤◌, ◌<◌, length, slice_index};
+ghost use Rattle.dd_invol.specs.Rows.{IsReady};
 
 use crate::path_ends::PathEnds;
 use dd_invol::Rows;
@@ -85,23 +85,37 @@ impl Ends {
         }
     }
 
-    /// Joins the ends between which an image has become known.
-    pub(crate) fn join(&mut self, link: Link) -> Lessened {
+    /// Which shares become smaller where the ends are joined between which an image has become known.
+    pub(crate) fn lessened(&self, link: Link) -> Lessened {
         let first = link.flags(0);
         let second = link.flags(1);
         match link.index {
             Index::Zero => Lessened {
-                tiles: self.tiles.join(first.0, first.1),
+                tiles: self.tiles.lessens(first.0, first.1),
                 vertices: false,
             },
             Index::One => Lessened {
-                tiles: self.tiles.join(second.0, second.1),
-                vertices: self.vertices.join(first.0, first.1),
+                tiles: self.tiles.lessens(second.0, second.1),
+                vertices: self.vertices.lessens(first.0, first.1),
             },
             Index::Two => Lessened {
                 tiles: false,
-                vertices: self.vertices.join(second.0, second.1),
+                vertices: self.vertices.lessens(second.0, second.1),
             },
+        }
+    }
+
+    /// Joins the ends between which an image has become known.
+    pub(crate) fn join(&mut self, link: Link) {
+        let first = link.flags(0);
+        let second = link.flags(1);
+        match link.index {
+            Index::Zero => self.tiles.join(first.0, first.1),
+            Index::One => {
+                self.tiles.join(second.0, second.1);
+                self.vertices.join(first.0, first.1);
+            }
+            Index::Two => self.vertices.join(second.0, second.1),
         }
     }
 
@@ -119,17 +133,24 @@ impl Ends {
         }
     }
 
-    /// Parts the ends that were joined by what was put into a table after a mark. It is called
-    /// before that is taken out again.
-    pub fn undo(&mut self, table: &Rows, mark: usize)
-        requires { IsReady table.now }
+    /// Parts the ends that were joined by what was put in at some places, the last first.
+    pub(crate) fn part_all(&mut self, table: &Rows, places: &[u8])
+        requires ready { IsReady table.now }
+        requires places { (k : ℕ) → k < length places.now → slice_index places.now k < 108 }
     {
-        let places = table.filled(mark);
         for k in 0..places.len() {
             if let Some(link) = Link::at(table, places[places.len() - 1 - k]) {
                 self.part(link);
             }
         }
+    }
+
+    /// Parts the ends that were joined by what was put into a table after a mark. It is called
+    /// before that is taken out again.
+    pub fn undo(&mut self, table: &Rows, mark: usize)
+        requires { IsReady table.now }
+    {
+        self.part_all(table, table.filled(mark));
     }
 
     /// What the cells of a pair add at most, where there are no more than a limit.

@@ -69,8 +69,13 @@ impl PathEnds {
         Joint { one, other, new }
     }
 
-    /// Joins two flags, and tells whether the shares of their chambers become smaller.
-    pub(crate) fn join(&mut self, x: u8, y: u8) -> bool {
+    /// Whether the shares of the chambers of two flags become smaller where they are joined.
+    pub(crate) fn lessens(&self, x: u8, y: u8) -> bool {
+        self.joint(x, y).lessens(&self.shares)
+    }
+
+    /// Joins two flags.
+    pub(crate) fn join(&mut self, x: u8, y: u8) {
         let joint = self.joint(x, y);
         let one = self.at(x);
         let class = joint.new;
@@ -96,7 +101,6 @@ impl PathEnds {
             );
         }
         self.counts.add(&joint, &self.shares);
-        joint.lessens(&self.shares)
     }
 
     /// Parts two flags that were joined last.

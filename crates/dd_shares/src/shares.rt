@@ -68,40 +68,94 @@ impl Shares {
     }
 
     /// Exchanges the shares of the paths that have grown by what was put into the table after a
-    /// mark, where the ends tell that they become smaller.
-    pub fn learn(&mut self, ends: &mut Ends, table: &Rows, mark: usize)
+    /// mark, where the ends tell that they become smaller. True where they become so small that no
+    /// wanted symbol completes the table; the ends are then those of the mark.
+    pub fn learn(&mut self, ends: &mut Ends, table: &Rows, mark: usize) -> bool
         requires ready { IsReady table.now }
         requires kept { AreKept (partial_of table.now) self.old }
         ensures kept { AreKept (partial_of table.now) self.new }
         ensures request { self.new.request ≡ self.old.request }
         ensures undone { rolled_back self.new (mark_of self.old) ≡ self.old }
+        ensures dead { IsTrue result → (s : Tiling)
+            → ¬ IsSought self.old.request (partial_of table.now) s }
     {
         let places = table.filled(mark);
         for k in 0..places.len() {
             if let Some(link) = Link::at(table, places[k]) {
-                self.renew_at(table, link.chamber, ends.join(link));
+                if self.renew_at(table, link.chamber, ends.lessened(link)) {
+                    ends.part_all(table, &places[..k]);
+                    return true;
+                }
+                ends.join(link);
             }
         }
+        false
     }
 
-    /// Exchanges the shares of those paths of a chamber that become smaller.
-    fn renew_at(&mut self, table: &Rows, chamber: u8, lessened: Lessened)
+    /// Exchanges the shares of those paths of a chamber that become smaller, unless they become too
+    /// small.
+    fn renew_at(&mut self, table: &Rows, chamber: u8, lessened: Lessened) -> bool
         requires ready { IsReady table.now }
         requires low { 1 ≤ chamber }
         requires kept { AreKept (partial_of table.now) self.old }
         ensures kept { AreKept (partial_of table.now) self.new }
         ensures exchanged { HaveExchanged self.old self.new }
+        ensures dead { IsTrue result → (s : Tiling)
+            → ¬ IsSought self.old.request (partial_of table.now) s }
     {
         if chamber > table.size() {
-            return;
+            return false;
         }
         if lessened.tiles {
-            self.tiles.renew(&self.request, table, Pair::Tile, chamber);
+            if self.renew_tile(table, chamber) {
+                return true;
+            }
         }
-        if lessened.vertices {
-            self.vertices
-                .renew(&self.request, table, Pair::Vertex, chamber);
-        }
+        lessened.vertices && self.renew_vertex(table, chamber)
+    }
+
+    /// Exchanges the shares of the tile path of a chamber, unless they become too small.
+    fn renew_tile(&mut self, table: &Rows, chamber: u8) -> bool
+        requires ready { IsReady table.now }
+        requires low { 1 ≤ chamber }
+        requires high { chamber ≤ (partial_of table.now).size }
+        requires kept { AreKept (partial_of table.now) self.old }
+        ensures kept { AreKept (partial_of table.now) self.new }
+        ensures exchanged { HaveExchanged self.old self.new }
+        ensures dead { IsTrue result → (s : Tiling)
+            → ¬ IsSought self.old.request (partial_of table.now) s }
+    {
+        let vertices = self.vertices.total;
+        let least = least_beside(vertices, table.size());
+        let Some(total) = self
+            .tiles
+            .renew(&self.request, table, Pair::Tile, chamber, least)
+        else {
+            return true;
+        };
+        is_too_small(total, vertices, table.size())
+    }
+
+    /// Exchanges the shares of the vertex path of a chamber, unless they become too small.
+    fn renew_vertex(&mut self, table: &Rows, chamber: u8) -> bool
+        requires ready { IsReady table.now }
+        requires low { 1 ≤ chamber }
+        requires high { chamber ≤ (partial_of table.now).size }
+        requires kept { AreKept (partial_of table.now) self.old }
+        ensures kept { AreKept (partial_of table.now) self.new }
+        ensures exchanged { HaveExchanged self.old self.new }
+        ensures dead { IsTrue result → (s : Tiling)
+            → ¬ IsSought self.old.request (partial_of table.now) s }
+    {
+        let tiles = self.tiles.total;
+        let least = least_beside(tiles, table.size());
+        let Some(total) = self
+            .vertices
+            .renew(&self.request, table, Pair::Vertex, chamber, least)
+        else {
+            return true;
+        };
+        is_too_small(tiles, total, table.size())
     }
 
     /// Whether it is sure that no wanted symbol completes the table: the shares are too small.
@@ -111,12 +165,6 @@ impl Shares {
         ensures { IsTrue result → (s : Tiling)
             → ¬ IsSought self.now.request (partial_of table.now) s }
     {
-        if self.tiles.is_void() {
-            return true;
-        }
-        if self.vertices.is_void() {
-            return true;
-        }
         if is_too_small(self.tiles.total, self.vertices.total, table.size()) {
             return true;
         }
@@ -153,6 +201,11 @@ fn is_too_small(tiles: u64, vertices: u64, size: u8) -> bool
     ensures { IsTrue result → 2 * (tiles + vertices) < size * share_unit }
 {
     2 * (tiles + vertices) < u64::from(size) * SHARE_UNIT
+}
+
+/// The least total of one pair that is not too small beside that of the other.
+fn least_beside(other: u64, size: u8) -> u64 {
+    (u64::from(size) * SHARE_UNIT / 2).saturating_sub(other)
 }
 
 /// Whether it is sure that no least table completes the table: its size is odd, and s0 moves

@@ -1,8 +1,10 @@
-ghost use Rattle.std.specs.Prelude.{◌≡◌, ◌⊎◌, ℕ, ◌+◌, ◌-◌, ◌*◌, ◌/◌, ◌≤◌, ◌<◌, ◌↔◌, IsTrue, length, slice_index, slice_set, sum};
+ghost use Rattle.std.specs.Prelude.{◌≡◌, ◌⊎◌, ℕ, ◌+◌, ◌-◌, ◌*◌, ◌/◌, ◌≤◌, ◌<◌, ◌↔◌, IsTrue, IfSome, IfNone, length, slice_index, slice_set, sum};
 ghost use Rattle.dd_model.specs.Symbol.{Symbol as Tiling, item};
 ghost use Rattle.dd_model.specs.Wanted.{IsCrystallographic};
 ghost use Rattle.dd_model.specs.declared.pair.Pair.TheVariants.{Tile, Vertex};
-ghost use Rattle.dd_shares.specs.Shares.{IsAllowed, IsShare};
+ghost use Rattle.dd_model.specs.declared.pair.Pair.{Pair as Pairing};
+ghost use Rattle.dd_model.specs.declared.requests.Request.{Request as Asked};
+ghost use Rattle.dd_shares.specs.Shares.{IsAllowed, IsSought, IsShare, AreShares, IsTotal};
 ghost use Rattle.dd_shares.specs.Sides.{depth_of, unwound, IsSide, HasExchanged};
 ghost use Rattle.dd_shares.specs.Walked.{IsWalked};
 ghost use Rattle.dd_invol.specs.Rows.{partial_of, IsReady};
@@ -133,13 +135,6 @@ impl Side {
         self.shares[(chamber - 1) as usize]
     }
 
-    /// Whether a path had no room, so that no wanted symbol completes the table.
-    pub(crate) fn is_void(&self) -> bool
-        ensures { IsTrue result → item self.now.shares 1 ≡ 0 }
-    {
-        self.shares[0] == 0
-    }
-
     /// How much was exchanged.
     pub(crate) fn mark(&self) -> usize
         ensures { result ≡ depth_of self.now }
@@ -183,9 +178,41 @@ impl Side {
         self.total -= before - share;
     }
 
-    /// Gives each chamber of a path the share that the path has room for. Where it has none, no
-    /// wanted symbol completes the table, and chamber 1 gets the share 0.
-    pub(crate) fn renew(&mut self, request: &Request, table: &Rows, pair: Pair, start: u8)
+    /// The total where each chamber of a path has a share, unless its own is smaller.
+    fn total_with(&self, table: &Rows, path: &Path, share: u64) -> u64
+        requires ready { IsReady table.now }
+        requires walked { IsWalked (partial_of table.now) path.now }
+        requires total { self.now.total ≡ sum self.now.shares }
+        ensures total { (q : Asked) (p : Pairing) → (p ≡ Tile) ⊎ (p ≡ Vertex)
+            → AreShares q (partial_of table.now) p share_unit self.now.shares
+            → ((k : ℕ) → k < length path.now.chambers.items
+            → IsShare q (partial_of table.now) p share_unit
+            (slice_index path.now.chambers.items k) share)
+            → IsTotal q (partial_of table.now) p share_unit result }
+        ensures smaller { result ≤ self.now.total }
+    {
+        let chambers = path.chambers.as_slice();
+        let mut total = self.total;
+        for k in 0..chambers.len() {
+            let before = self.share(chambers[k]);
+            if share < before {
+                total -= before - share;
+            }
+        }
+        total
+    }
+
+    /// Gives each chamber of a path the share that the path has room for, unless the total then is
+    /// less than a number. Answers that total; None where the path has no room, so that no wanted
+    /// symbol completes the table.
+    pub(crate) fn renew(
+        &mut self,
+        request: &Request,
+        table: &Rows,
+        pair: Pair,
+        start: u8,
+        least: u64,
+    ) -> Option<u64>
         requires ready { IsReady table.now }
         requires low { 1 ≤ start }
         requires high { start ≤ (partial_of table.now).size }
@@ -193,16 +220,25 @@ impl Side {
         requires kept { IsSide request.now (partial_of table.now) pair self.old }
         ensures kept { IsSide request.now (partial_of table.now) pair self.new }
         ensures exchanged { HasExchanged self.old self.new }
+        ensures none { IfNone result ((s : Tiling)
+            → ¬ IsSought request.now (partial_of table.now) s) }
+        ensures total { IfSome result
+            (λ total. IsTotal request.now (partial_of table.now) pair share_unit total) }
+        ensures small { IfSome result (λ total. total ≤ 36 * share_unit) }
     {
         let path = Path::from(table, pair, start);
         let share = share_near(request, table, pair, &path);
         if share == 0 {
-            self.exchange(1, 0);
-            return;
+            return None;
+        }
+        let total = self.total_with(table, &path, share);
+        if total < least {
+            return Some(total);
         }
         for k in 0..path.chambers.len() {
             let chamber = path.chambers.as_slice()[k];
             self.exchange(chamber, share);
         }
+        Some(total)
     }
 }

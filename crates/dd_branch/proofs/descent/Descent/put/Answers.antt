@@ -12,4 +12,4 @@ learn-requires-clause-kept c =
     let shares = c.self.inside.shares in
     let kept = subst (λ (d : Descending). AreKept (partial_of d.stem.rows) d.shares) (sym c.self.view_is) c.requires.descent.kept in
     let back = ap (λ (s : Stem). s.rows) c.if-not-put.ensures.undone in
-    subst (λ r. AreKept (partial_of r) shares) (sym c.rows.ensures) (kept_of_longer stem.rows c.put.new.self.rows shares c.if-not-put.ensures.size back kept)
+    subst (λ r. AreKept (partial_of r) shares) (sym c.rows-rows.ensures) (kept_of_longer stem.rows c.put.new.self.rows shares c.if-not-put.ensures.size back kept)

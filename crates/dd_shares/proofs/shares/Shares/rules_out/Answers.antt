@@ -3,20 +3,8 @@ use Rattle.dd_invol.specs.Rows.{partial_of}
 use Rattle.dd_model.specs.declared.pair.Pair.TheVariants.{Tile, Vertex}
 use Rattle.dd_shares.specs.Units.{share_unit}
 use Rattle.dd_shares.proofs.Bounds.{too_small}
-use Rattle.dd_shares.proofs.SideLemmas.{kept_total, none_sought}
+use Rattle.dd_shares.proofs.SideLemmas.{kept_total}
 use Rattle.dd_shares.proofs.shares.Shares.rules_out.Goals as goal
-
-pub returns-then-is_void : goal.returns-then-is_void
-returns-then-is_void c _ s sought =
-    let q = c.args.self.now.request in
-    let P = partial_of c.args.table.now in
-    none_sought q P Tile c.args.self.now.tiles c.requires.kept.tiles c.requires.ready.positive (c.if-is_void.ensures refl) s sought
-
-pub returns-then-is_void-2 : goal.returns-then-is_void-2
-returns-then-is_void-2 c _ s sought =
-    let q = c.args.self.now.request in
-    let P = partial_of c.args.table.now in
-    none_sought q P Vertex c.args.self.now.vertices c.requires.kept.vertices c.requires.ready.positive (c.if-is_void-2.ensures refl) s sought
 
 pub returns-then-is_too_small : goal.returns-then-is_too_small
 returns-then-is_too_small c _ s sought =

@@ -3,19 +3,24 @@ use Rattle.dd_invol.specs.Rows.{partial_of}
 use Rattle.dd_invol.proofs.Orders.{all_at}
 use Rattle.dd_shares.specs.Shares.{IsShare}
 use Rattle.dd_shares.specs.Units.{share_unit}
-use Rattle.dd_shares.proofs.SideLemmas.{side_exchanged, none_from_zero, exchanged_both}
+use Rattle.dd_shares.proofs.SideLemmas.{side_exchanged, none_sought, exchanged_both}
 use Rattle.dd_shares.proofs.sides.Side.renew.Goals as goal
 
-pub returns-then-share-eq0-clause-kept : goal.returns-then-share-eq0-clause-kept
-returns-then-share-eq0-clause-kept c =
+pub returns-then-share-eq0-clause-none : goal.returns-then-share-eq0-clause-none
+returns-then-share-eq0-clause-none c =
     let q = c.args.request.now in
     let P = partial_of c.args.table.now in
     let p = c.args.pair in
-    let path = c.from-path.result in
-    let first = get_or path.chambers.items 0 0 in
-    let none : IsShare q P p share_unit first 0 = subst (IsShare q P p share_unit first) c.if-share-eq0.true (c.share_near-share.ensures 0 c.from-path.ensures.walked.some) in
-    side_exchanged q P p c.args.self.now c.exchange.new.self 1 0 c.requires.kept (omega arith) (none_from_zero q P p first 1 none)
-    c.exchange.ensures.total c.exchange.ensures.smaller c.exchange.ensures.shares
+    let first = get_or c.from-path.result.chambers.items 0 0 in
+    none_sought q P p first (subst (IsShare q P p share_unit first) c.if-share-eq0.true (c.share_near-share.ensures 0 c.from-path.ensures.walked.some))
+
+pub returns-then-total-least-clause-total : goal.returns-then-total-least-clause-total
+returns-then-total-least-clause-total c =
+    c.total_with-total.ensures.total c.args.request.now c.args.pair c.requires.pair c.requires.kept.shares c.share_near-share.ensures
+
+pub returns-clause-total : goal.returns-clause-total
+returns-clause-total c =
+    c.total_with-total.ensures.total c.args.request.now c.args.pair c.requires.pair c.requires.kept.shares c.share_near-share.ensures
 
 pub loop-k-preserved : goal.loop-k-preserved
 loop-k-preserved c =
@@ -35,7 +40,7 @@ loop-k-preserved c =
     let low = inside.0 in
     let here : IsShare q P p share_unit (get_or seen k 0) share = subst (λ x. IsShare q P p share_unit x share) (sym same) (c.share_near-share.ensures k below) in
     record {
-      kept = side_exchanged q P p c.loop-k.self c.exchange-in-loop-k.new.self (get_or seen k 0) share i.kept (omega (arith, same, low)) here
-          c.exchange-in-loop-k.ensures.total c.exchange-in-loop-k.ensures.smaller c.exchange-in-loop-k.ensures.shares;
-      exchanged = exchanged_both c.args.self.now c.loop-k.self c.exchange-in-loop-k.new.self i.exchanged c.exchange-in-loop-k.ensures.exchanged;
+      kept = side_exchanged q P p c.loop-k.self c.exchange.new.self (get_or seen k 0) share i.kept (omega (arith, same, low)) here
+          c.exchange.ensures.total c.exchange.ensures.smaller c.exchange.ensures.shares;
+      exchanged = exchanged_both c.args.self.now c.loop-k.self c.exchange.new.self i.exchanged c.exchange.ensures.exchanged;
     }
