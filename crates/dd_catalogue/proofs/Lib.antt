@@ -1,4 +1,6 @@
 pub mod PageLemmas
 pub mod RoundEntries
-pub mod CatalogueSteps
+pub mod JobsFrom
+pub mod WaySteps
+pub mod Outcomes
 pub mod LineParts

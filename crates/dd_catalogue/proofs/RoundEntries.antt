@@ -1,10 +1,12 @@
 -- The entries of a front over a round.
 use Rattle.std.proofs.Common.{◌≡◌, ℕ, zero, suc, ◌+◌, ◌<◌, ◌≤◌, List, [], ◌∷◌, ◌++◌, length, take, drop, inl, inr, ⊎_elim, refl, sym, ap, ◌∙◌, subst, arith}
-use Rattle.std.proofs.lemmas.List.{map-append, take-append-drop, length-take}
-use Rattle.std.specs.List.{AllByRecursion}
+use Rattle.std.proofs.lemmas.List.{map-append, take-append-drop, length-take, take-map}
+use Rattle.std.proofs.lemmas.List.Elements.{Contains-append_cases}
+use Rattle.std.specs.List.{AllByRecursion, Contains}
 use Rattle.dd_model.specs.Symbol.{Symbol}
 use Rattle.dd_model.specs.Jobs.{AreAscendingJobs, AreApart}
 use Rattle.dd_model.specs.declared.jobs.Job.{Job}
+use Rattle.dd_model.proofs.Lists.{Contains-none, Contains-head, Contains-later, Contains-cases, Contains-map, each_of}
 use Rattle.dd_front.specs.declared.entry.Entry.{Entry}
 use Rattle.dd_front.specs.declared.entry.State.{State}
 use Rattle.dd_front.specs.declared.entry.State.TheVariants.{Open, Out, Done}
@@ -25,7 +27,7 @@ opened_open k [] = tt
 opened_open k (job ∷ jobs) = (refl, opened_open (k + 1) jobs)
 
 -- where all are open, their jobs are those that wait
-waiting_all : (es : List Entry) → AreOpen es → open_jobs es ≡ jobs_of es
+pub waiting_all : (es : List Entry) → AreOpen es → open_jobs es ≡ jobs_of es
 waiting_all [] opens = refl
 waiting_all (e ∷ es) opens = ap (λ state. job_if_open state e.job ++ open_jobs es) opens.0 ∙ ap (λ js. e.job ∷ js) (waiting_all es opens.1)
 
@@ -52,14 +54,14 @@ done_then (e ∷ es) back all opens = inl (all.0, done_then es back all.1 opens)
 opens_back : (k : ℕ) (es : List Entry) → AreOpen es → AreOpen (drop k es)
 opens_back k es opens = all_back (λ (e : Entry). e.state ≡ Open) (take k es) (drop k es) (subst AreOpen (sym (take-append-drop k es)) opens)
 
-pub round_entries : (f g : Machine) → IsRoundDone f g → AreOpen f.entries → AreDoneThenOpen g.entries
-round_entries f g round opens =
+pub round_entries : (most : ℕ) (f g : Machine) → IsRoundDone most f g → AreOpen f.entries → AreDoneThenOpen g.entries
+round_entries most f g round opens =
     let done = round.absorbs.done in
     let after : g.entries ≡ done ++ drop round.count f.entries = ap (λ (m : Machine). m.entries) round.absorbs.after in
     subst AreDoneThenOpen (sym after) (done_then done (drop round.count f.entries) (absorbed_done (take round.count f.entries) round.found done round.absorbs.absorbed) (opens_back round.count f.entries opens))
 
-pub round_jobs : (f g : Machine) → IsRoundDone f g → jobs_of g.entries ≡ jobs_of f.entries
-round_jobs f g round =
+pub round_jobs : (most : ℕ) (f g : Machine) → IsRoundDone most f g → jobs_of g.entries ≡ jobs_of f.entries
+round_jobs most f g round =
     let k = round.count in
     let done = round.absorbs.done in
     let job : Entry → Job = λ e. e.job in
@@ -82,8 +84,8 @@ length_jobs [] = refl
 length_jobs (e ∷ es) = ap suc (length_jobs es)
 
 -- fewer jobs wait after a round
-pub fewer_wait : (f g : Machine) → IsRoundDone f g → AreOpen f.entries → length (open_jobs g.entries) < length (open_jobs f.entries)
-fewer_wait f g round opens =
+pub fewer_wait : (most : ℕ) (f g : Machine) → IsRoundDone most f g → AreOpen f.entries → length (open_jobs g.entries) < length (open_jobs f.entries)
+fewer_wait most f g round opens =
     let k = round.count in
     let done = round.absorbs.done in
     let back = drop k f.entries in
@@ -135,6 +137,9 @@ apart_taken zero (job ∷ jobs) apart = tt
 apart_taken (suc most) [] apart = tt
 apart_taken (suc most) (job ∷ jobs) apart = (all_taken _ most jobs apart.0, apart_taken most jobs apart.1)
 
+pub few_taken : {A : Type 0} (most : ℕ) (xs ys : List A) → ys ≡ take most xs → length ys ≤ most
+few_taken most xs ys is = let size = length-take most xs in let long = ap length is in omega (arith, size, long)
+
 -- none is taken only where none is left
 pub none_taken : (most : ℕ) (es : List Entry) (jobs : List Job) → 1 ≤ most → AreOpen es → jobs ≡ take most (open_jobs es) → length jobs ≡ 0 → es ≡ []
 none_taken most [] jobs some opens is none = refl
@@ -157,3 +162,37 @@ rest_open f are none = go f.entries refl are
     go : (es : List Entry) → f.entries ≡ es → AreDoneThenOpen es → AreOpen es
     go [] is are' = tt
     go (e ∷ es) is are' = ⊎_elim (λ done. absurd (state_of e es is e.state refl done.0)) (λ opens. opens) are'
+
+-- ## The jobs of a round
+
+take_within : {A : Type 0} (k most : ℕ) (xs : List A) (x : A) → k ≤ most → Contains (take k xs) x → Contains (take most xs) x
+take_within zero most xs x low there = absurd (Contains-none x (subst (λ ys. Contains ys x) (take_none xs) there))
+  where
+    take_none : {A : Type 0} (ys : List A) → take 0 ys ≡ []
+    take_none [] = refl
+    take_none (y ∷ ys) = refl
+take_within (suc k) most [] x low there = absurd (Contains-none x there)
+take_within (suc k) zero (y ∷ ys) x low there = absurd (omega (arith, low))
+take_within (suc k) (suc most) (y ∷ ys) x low there =
+    ⊎_elim
+    (λ first. subst (λ z. Contains (y ∷ take most ys) z) first (Contains-head y (take most ys)))
+    (λ later. Contains-later y x (take most ys) (take_within k most ys x (omega (arith, low)) later))
+    (Contains-cases y x (take k ys) there)
+
+-- an entry that a round made done is one of its jobs
+pub done_in_round : (most : ℕ) (f g : Machine) → IsRoundDone most f g → AreOpen f.entries → (e : Entry) → Contains g.entries e → IsDone e.state → Contains (take most (jobs_of f.entries)) e.job
+done_in_round most f g round opens e there done =
+    let k = round.count in
+    let job : Entry → Job = λ d. d.job in
+    let brought = round.absorbs.done in
+    let after : g.entries ≡ brought ++ drop k f.entries = ap (λ (m : Machine). m.entries) round.absorbs.after in
+    let jobs : jobs_of brought ≡ take k (jobs_of f.entries) = absorbed_jobs (take k f.entries) round.found brought round.absorbs.absorbed ∙ sym (take-map job k f.entries) in
+    ⊎_elim
+    (λ early. take_within k most (jobs_of f.entries) e.job round.few (subst (λ js. Contains js e.job) jobs (Contains-map job brought e early)))
+    (λ late. absurd (never e.state (each_of (λ (d : Entry). d.state ≡ Open) (drop k f.entries) e (opens_back k f.entries opens) late) done))
+    (Contains-append_cases brought (drop k f.entries) e (subst (λ es. Contains es e) after there))
+  where
+    never : (state : State) → state ≡ Open → IsDone state → ⊥
+    never Open is none = none
+    never Out is none = none
+    never (Done list) is done = cc

@@ -1,4 +1,5 @@
-pub mod Catalogue
 pub mod Pages
 pub mod Rounds
-pub mod Finishes
+pub mod Ways
+pub mod Runs
+pub mod Outputs

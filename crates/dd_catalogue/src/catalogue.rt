@@ -1,62 +1,87 @@
-ghost use Rattle.std.specs.Prelude.{◌≡◌, ◌≤◌, ℕ, List, IfOk, true};
+ghost use Rattle.std.specs.Prelude.{◌≡◌, ◌≤◌, ℕ, List, [], true};
 ghost use Rattle.dd_model.specs.Request.{IsValid};
-ghost use Rattle.dd_model.specs.Text.{IsText, beginning};
+ghost use Rattle.dd_model.specs.Position.{IsPosition};
 ghost use Rattle.dd_ports.specs.declared.sink.SinkFault.TheVariants.{Failed};
 ghost use Rattle.dd_ports.specs.Causes.{HasCause, StaysSure};
-ghost use Rattle.dd_ports.specs.Grows.{GrowsByPrefix};
-ghost use Rattle.dd_catalogue.specs.Finishes.{Finishes};
+ghost use Rattle.dd_catalogue.specs.Runs.{start_of};
+ghost use Rattle.dd_catalogue.specs.Rounds.{IsBegun};
+ghost use Rattle.dd_catalogue.specs.Outputs.{IsOutput};
 
 use crate::emission::write_done;
-use crate::pace::Pace;
+use crate::finish::Finish;
 use crate::pages::Page;
 use crate::rounds::{do_round, front_of};
-use dd_front::Finder;
+use crate::run::Run;
+use dd_front::{Finder, Front};
 use dd_ports::{Gate, Sink, SinkFault};
 use std::alloc::Global;
 use std::sync::Wait;
 use std::thread::Threads;
 
-/// How the writing of a catalogue came to its end.
-#[derive(Clone, Copy, Debug, PartialEq, Eq)]
-pub enum Finish {
-    /// All lines were written.
-    Whole,
-    /// There are lines whose numbers are too large; those before them were written.
-    CutShort,
-}
-
-/// Writes the lines of the catalogue of a request: does the jobs of the opening round by round, and writes the lines of
-/// what was found page by page. Neither the workers nor what they choose changes what is written.
+/// Writes the lines of a run that keeps no checkpoint: does its jobs round by round, and writes the lines of what was found
+/// page by page. Neither the workers nor what they choose changes what is written.
 pub fn write_catalogue<R: Threads + Wait + Sync, F: Finder + Sync, G: Gate + Sync, O: Sink>(
     rt: &R,
     alloc: Global,
     finder: &F,
     gate: &G,
-    pace: Pace,
+    run: &Run,
     out: &mut O,
 ) -> Result<Finish, SinkFault>
-    requires valid { IsValid (F.request finder.now) }
-    requires workers { (1 ≤ pace.workers) × (pace.workers ≤ 64) }
-    requires round { 1 ≤ pace.round }
-    ensures prefix { (text : List ℕ) → IsText (F.request finder.now) beginning 0 text
-        → GrowsByPrefix (O.held out.old) (O.held out.new) text }
-    ensures whole { IfOk result (λ finish.
-        Finishes finish (F.request finder.now) (O.held out.old) (O.held out.new)) }
+    requires request { F.request finder.now ≡ run.now.request }
+    requires valid { IsValid run.now.request }
+    requires position { IsPosition run.now.at }
+    requires lines { run.now.lines ≤ 1000000000000000000 }
+    requires workers { (1 ≤ run.now.pace.workers) × (run.now.pace.workers ≤ 64) }
+    requires round { 1 ≤ run.now.pace.round }
+    ensures output { (output : List ℕ) × IsOutput (start_of run.now) run.now.pause
+        (O.held out.old) (O.held out.new) result output }
     ensures cause { HasCause Failed (O.faults out.old) (O.faults out.new) result }
     ensures sure { O.sure out.old ≡ true
         → StaysSure Failed (O.faults out.old) (O.faults out.new) (O.sure out.new) result }
 {
-    let Ok(mut front) = front_of(alloc, &finder.request()) else {
+    let Ok(mut front) = front_of(alloc, run) else {
         return Err(SinkFault::Memory);
     };
-    let mut page = Page::new(alloc);
-    while let Ok(more) = do_round(rt, alloc, finder, gate, pace, &mut front) {
+    let mut page = Page::new(alloc, run.lines);
+    write_rounds(rt, alloc, finder, gate, run, &mut front, &mut page, out)
+}
+
+/// Writes the lines of a run from its first round on.
+fn write_rounds<R: Threads + Wait + Sync, F: Finder + Sync, G: Gate + Sync, O: Sink>(
+    rt: &R,
+    alloc: Global,
+    finder: &F,
+    gate: &G,
+    run: &Run,
+    front: &mut Front,
+    page: &mut Page,
+    out: &mut O,
+) -> Result<Finish, SinkFault>
+    requires request { F.request finder.now ≡ run.now.request }
+    requires valid { IsValid run.now.request }
+    requires lines { run.now.lines ≤ 1000000000000000000 }
+    requires workers { (1 ≤ run.now.pace.workers) × (run.now.pace.workers ≤ 64) }
+    requires round { 1 ≤ run.now.pace.round }
+    requires begun { IsBegun (start_of run.now) front.old }
+    requires empty { page.old.buffer.items ≡ [] }
+    requires count { page.old.count ≡ run.now.lines }
+    requires bytes { page.old.bytes ≡ 0 }
+    ensures output { (output : List ℕ) × IsOutput (start_of run.now) run.now.pause
+        (O.held out.old) (O.held out.new) result output }
+    ensures cause { HasCause Failed (O.faults out.old) (O.faults out.new) result }
+    ensures sure { O.sure out.old ≡ true
+        → StaysSure Failed (O.faults out.old) (O.faults out.new) (O.sure out.new) result }
+{
+    let limit = run.limit();
+    while let Ok(more) = do_round(rt, alloc, finder, gate, run.pace, front) {
         if !more {
             page.flush(out)?;
             return Ok(Finish::Whole);
         }
-        if !write_done(rt, pace.workers, &mut front, &mut page, out)? {
-            return Ok(Finish::CutShort);
+        if !write_done(rt, run.pace.workers, limit.last, front, page, out)? {
+            page.flush(out)?;
+            return Ok(limit.finish());
         }
     }
     Err(SinkFault::Memory)

@@ -1,43 +1,79 @@
-ghost use Rattle.std.specs.Prelude.{◌≡◌, ◌≤◌, IfOk, true};
+ghost use Rattle.std.specs.Prelude.{◌≡◌, ◌+◌, ◌≤◌, IfOk, OnOk, true};
 ghost use Rattle.std.specs.Bool.{OnTrue, OnFalse};
 ghost use Rattle.dd_ports.specs.declared.sink.SinkFault.TheVariants.{Failed};
 ghost use Rattle.dd_ports.specs.Causes.{HasCause, StaysSure};
-ghost use Rattle.dd_catalogue.specs.Rounds.{IsAny, AreOpen, GoesOn, IsCutOff, WritesPart};
+ghost use Rattle.dd_front.specs.Allowed.{MayPart};
+ghost use Rattle.dd_catalogue.specs.Rounds.{AreOpen};
+ghost use Rattle.dd_catalogue.specs.Ways.{IsAny, GoesOn, FillsUp, WritesPart};
 
 use crate::pages::Page;
 use crate::rounds::count_at_front;
-use dd_front::Front;
+use dd_front::{Event, Front};
 use dd_ports::{Sink, SinkFault};
 use std::thread::Threads;
 
-/// Emits the entries at the front that are done, and puts their lines, made by so many threads, to the page. Where there are too many lines, writes
-/// those up to the last number, and answers false.
+/// Emits the entries at the front that are done, and puts their lines, made by so many threads, to the page. Where there is a line
+/// after the last one that may be written, the front stops at its member, and the answer is false.
 pub fn write_done<R: Threads + Sync, O: Sink>(
     rt: &R,
     threads: u32,
+    last: u64,
     front: &mut Front,
     page: &mut Page,
     out: &mut O,
 ) -> Result<bool, SinkFault>
     requires threads { 1 ≤ threads }
+    requires last { last ≤ 1000000000000000000 }
+    requires room { page.old.count ≤ last }
     requires any { IsAny (O.held out.old) page.old front.old }
     ensures all { IfOk result (λ all. OnTrue all
         (GoesOn (O.held out.old) (O.held out.new) page.old page.new front.old front.new)) }
     ensures opened { IfOk result (λ all. OnTrue all (AreOpen front.new.entries)) }
-    ensures cut { IfOk result (λ all. OnFalse all
-        (IsCutOff (O.held out.old) (O.held out.new) page.old front.old)) }
-    ensures prefix { WritesPart (O.held out.old) (O.held out.new) page.old front.old }
+    ensures room { IfOk result (λ all. OnTrue all (page.new.count ≤ last)) }
+    ensures full { IfOk result (λ all. OnFalse all
+        (FillsUp (O.held out.old) (O.held out.new) page.old page.new last front.old front.new)) }
+    ensures part { WritesPart (O.held out.old) (O.held out.new) page.old front.old }
     ensures cause { HasCause Failed (O.faults out.old) (O.faults out.new) result }
     ensures sure { O.sure out.old ≡ true
         → StaysSure Failed (O.faults out.old) (O.faults out.new) (O.sure out.new) result }
 {
     while count_at_front(front).is_some() {
+        let room = last - page.count;
+        if front.allowed(&Event::Part { count: room }) {
+            write_last(rt, threads, room, front, page, out)?;
+            return Ok(false);
+        }
         let Some(members) = front.emit() else {
             unreachable!()
         };
-        if !page.add(rt, threads, members.as_slice(), out)? {
-            return Ok(false);
-        }
+        page.add(rt, threads, members.as_slice(), out)?;
     }
     Ok(true)
+}
+
+/// Emits so many members of the first entry, after which there is one more, and puts their lines to the page.
+fn write_last<R: Threads + Sync, O: Sink>(
+    rt: &R,
+    threads: u32,
+    count: u64,
+    front: &mut Front,
+    page: &mut Page,
+    out: &mut O,
+) -> Result<(), SinkFault>
+    requires threads { 1 ≤ threads }
+    requires room { page.old.count + count ≤ 1000000000000000000 }
+    requires more { MayPart front.old count }
+    requires any { IsAny (O.held out.old) page.old front.old }
+    ensures full { OnOk result (FillsUp (O.held out.old) (O.held out.new) page.old page.new
+        (page.old.count + count) front.old front.new) }
+    ensures part { WritesPart (O.held out.old) (O.held out.new) page.old front.old }
+    ensures cause { HasCause Failed (O.faults out.old) (O.faults out.new) result }
+    ensures sure { O.sure out.old ≡ true
+        → StaysSure Failed (O.faults out.old) (O.faults out.new) (O.sure out.new) result }
+{
+    let Ok(members) = front.part(count) else {
+        return Err(SinkFault::Memory);
+    };
+    page.add(rt, threads, members.as_slice(), out)?;
+    Ok(())
 }

@@ -5,29 +5,49 @@ ghost use Rattle.dd_model.specs.Jobs.{AreAscendingJobs, AreApart};
 ghost use Rattle.dd_front.specs.Machine.{jobs_of};
 ghost use Rattle.dd_front.specs.Allowed.{HasFirst};
 ghost use Rattle.dd_board.specs.Desk.{AreJobsOf};
+ghost use Rattle.dd_model.specs.Lists.{IsWithout};
+ghost use Rattle.dd_model.specs.Position.{IsPosition, IsWhollyBefore};
+ghost use Rattle.dd_catalogue.specs.Runs.{start_of};
 ghost use Rattle.dd_catalogue.specs.Rounds.{IsBegun, AreOpen, IsRoundDone, IsAtEnd};
 
 use crate::pace::Pace;
+use crate::run::Run;
 use dd_front::{Finder, Front, State};
 use dd_invol::opening;
-use dd_model::{Job, Memory, Position, Prefix, Request};
+use dd_model::{Job, Memory, Position};
 use dd_ports::Gate;
 use dd_steal::run_round;
 use std::alloc::Global;
 use std::sync::Wait;
 use std::thread::Threads;
 
-/// A front of all jobs of a request, at the beginning.
-pub fn front_of(alloc: Global, request: &Request) -> Result<Front, Memory>
-    requires { IsValid request.now }
-    ensures { IfOk result (IsBegun request.now) }
+/// The jobs that are not wholly before a position.
+fn jobs_from(alloc: Global, jobs: Vec<Job>, at: &Position) -> Result<Vec<Job>, Memory>
+    ensures { IfOk result (λ left. IsWithout (IsWhollyBefore at.now) jobs.items left.items) }
 {
-    let jobs = opening(alloc, request)?;
-    let beginning = Position::At(Job {
-        size: 1,
-        prefix: Prefix::from_slice(alloc, &[1, 1, 1])?,
-    });
-    Front::open(alloc, *request, jobs, beginning, 0)
+    let mut left = Vec::new(alloc);
+    for job in &jobs {
+        if !job.is_wholly_before(at) {
+            left.push(job.try_copy()?)?;
+        }
+    }
+    Ok(left)
+}
+
+/// A front of the jobs of a run.
+pub fn front_of(alloc: Global, run: &Run) -> Result<Front, Memory>
+    requires valid { IsValid run.now.request }
+    requires position { IsPosition run.now.at }
+    ensures { IfOk result (IsBegun (start_of run.now)) }
+{
+    let jobs = jobs_from(alloc, opening(alloc, &run.request)?, &run.at)?;
+    Front::open(
+        alloc,
+        run.request,
+        jobs,
+        run.at.try_copy()?,
+        u128::from(run.lines),
+    )
 }
 
 /// Does the next round of a front, and answers whether there was one. After `Err`, which comes for want of memory alone,
@@ -48,7 +68,7 @@ pub fn do_round<R: Threads + Wait + Sync, F: Finder + Sync, G: Gate + Sync>(
     requires ascending { AreAscendingJobs (jobs_of front.old.entries) }
     requires apart { AreApart (jobs_of front.old.entries) }
     requires open_entries { AreOpen front.old.entries }
-    ensures round { IfOk result (λ more. MatchBool more (IsRoundDone front.old front.new)
+    ensures round { IfOk result (λ more. MatchBool more (IsRoundDone pace.round front.old front.new)
         (IsAtEnd front.old front.new)) }
     ensures same { OnErr result (front.new ≡ front.old) }
 {

@@ -6,5 +6,5 @@ mod Parts
 mod Steps
 mod Chained
 mod Found
-mod Rests
+pub mod Rests
 mod Lone

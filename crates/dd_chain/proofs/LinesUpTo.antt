@@ -60,7 +60,7 @@ joined_between q from at to k l m a b x y = record {
         (before_or_not at s)
 
 -- the lines from the beginning to the end are the text of the catalogue
-pub whole_text : (q : Request) (l : ℕ) (a : Text) → AreLinesBetween q beginning End 0 l a → IsText q beginning 0 a
+abbrev pub whole_text : (q : Request) (l : ℕ) (a : Text) → AreLinesBetween q beginning End 0 l a → IsText q beginning 0 a
 whole_text q l a x = record {
   members = x.members;
   catalogue = record {

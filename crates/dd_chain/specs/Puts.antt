@@ -1,5 +1,5 @@
 -- What a call leaves under its name.
-use Rattle.std.specs.Prelude.{◌≡◌, ◌⊎◌, ◌^◌, ◌<◌, ◌≤◌, Some, length, take}
+use Rattle.std.specs.Prelude.{◌≡◌, ◌⊎◌, ◌^◌, ◌<◌, ◌≤◌, Option, Some, length, take}
 use Rattle.dd_model.specs.Symbol.{Symbol}
 use Rattle.dd_model.specs.Code.{code}
 use Rattle.dd_model.specs.Wanted.{IsMember}
@@ -36,18 +36,22 @@ pub record DoCountsFit (c : Checkpoint) : Type 0 where
   pub lines : c.lines < 2 ^ 128
   pub bytes : c.bytes < 2 ^ 128
 
--- After the call the name holds the text of a checkpoint of this run: so many bytes of what it wrote are the lines from
+-- The name holds the text of a checkpoint of the run that began at the start: so many bytes of what it wrote are the lines from
 -- its start to the position, numbered up to the checkpoint's number of lines.
-pub record HasPut (call : Call) (start : Start) (c : Checkpoint) : Type 0 where
+pub record IsPut (after : Option Text) (output : Text) (start : Start) (c : Checkpoint) : Type 0 where
   pub text : Text
-  pub held : call.after ≡ Some text
+  pub held : after ≡ Some text
   pub is_text : IsCheckText c text
   pub fit : DoCountsFit c
   pub run : c.run ≡ start.number
   pub request : c.request ≡ start.request
-  pub within : c.bytes ≤ length call.output
-  pub written : AreLinesBetween start.request start.at c.at start.lines c.lines (take c.bytes call.output)
+  pub within : c.bytes ≤ length output
+  pub written : AreLinesBetween start.request start.at c.at start.lines c.lines (take c.bytes output)
   pub stop : IsStop start.request c.at
+
+-- after the call it does
+abbrev pub HasPut : Call → Start → Checkpoint → Type 0
+HasPut call start c = IsPut call.after call.output start c
 
 pub record Puts (call : Call) : Type 0 where
   pub start : Start

@@ -3,3 +3,4 @@ pub mod CatalogueTexts
 pub mod HeldTexts
 pub mod Causes
 pub mod LongFiles
+pub mod LoneRuns

@@ -1,7 +1,5 @@
 -- What an ending says, and what has caused it.
-use Rattle.std.specs.Prelude.{ℕ, List, [], ◌++◌, Result, Ok, Err, codes}
-use Rattle.dd_ports.specs.declared.sink.SinkFault.{SinkFault as Fault}
-use Rattle.dd_ports.specs.declared.sink.SinkFault.TheVariants.{Failed, Memory as NoMemory}
+use Rattle.std.specs.Prelude.{ℕ, List, [], ◌++◌, codes}
 use Rattle.dd_commands.specs.declared.command_fault.CommandFault.{CommandFault}
 use Rattle.dd_commands.specs.declared.command_fault.CommandFault.TheVariants.{File, Symbol, Memory as NoRoom}
 use Rattle.dd_text.specs.declared.faults.FileFault.{FileFault}
@@ -13,8 +11,6 @@ use Rattle.dd_suite.specs.declared.status.Status.TheVariants as status
 use Rattle.dd_suite.specs.declared.ending.Ending.{Ending}
 use Rattle.dd_suite.specs.declared.ending.Ending.TheVariants.{Done, Usage, Refused, RefusedSymbol}
 use Rattle.dd_suite.specs.declared.ending.Ending.TheVariants.{StoreFault, SinkFault, Memory, TooManyLines}
-use Rattle.dd_catalogue.specs.declared.catalogue.Finish.{Finish}
-use Rattle.dd_catalogue.specs.declared.catalogue.Finish.TheVariants as finish
 
 -- the status without its cause
 abbrev pub status_of : Ending → Status
@@ -45,13 +41,6 @@ message_of StoreFault = codes "dressline: store failed\n"
 message_of SinkFault = codes "dressline: sink failed\n"
 message_of Memory = codes "dressline: out of memory\n"
 message_of TooManyLines = codes "dressline: too many lines\n"
-
--- how a command ended whose writes ended so
-abbrev pub written_ending : Result Finish Fault → Ending
-written_ending (Ok finish.Whole) = Done
-written_ending (Ok finish.CutShort) = TooManyLines
-written_ending (Err Failed) = SinkFault
-written_ending (Err NoMemory) = Memory
 
 -- how a command ends that has no text for a file
 abbrev pub fault_ending : CommandFault → Ending

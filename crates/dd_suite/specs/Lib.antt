@@ -3,7 +3,9 @@ pub mod Words
 pub mod Commands
 pub mod Outside
 pub mod Held
+pub mod Catalogue
 pub mod Output
 pub mod Endings
+pub mod Lone
 pub mod Stops
 pub mod Messages

@@ -8,7 +8,7 @@ use Rattle.dd_model.specs.declared.requests.Request.{Request}
 use Rattle.dd_text.specs.declared.faults.FileFault.{FileFault}
 use Rattle.dd_commands.specs.declared.commands.FileCommand.{FileCommand}
 use Rattle.dd_suite.specs.Words.{AreTaken, AskFor, IsOnFile}
-use Rattle.dd_catalogue.specs.Catalogue.{AppendsFirstLines}
+use Rattle.dd_suite.specs.Catalogue.{AppendsFirstLines}
 use Rattle.dd_commands.specs.declared.refusals.SymbolRefusal.{SymbolRefusal}
 use Rattle.dd_commands.specs.Files.{IsRefusalOf}
 use Rattle.dd_suite.specs.Held.{IsTextOfHeld, HoldsFaulty, HoldsRefused}

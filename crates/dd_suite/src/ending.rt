@@ -1,9 +1,7 @@
 ghost use Rattle.std.specs.Prelude.{◌≡◌};
 
 use crate::status::Status;
-use dd_catalogue::Finish;
 use dd_commands::{CommandFault, SymbolRefusal};
-use dd_ports::SinkFault;
 use dd_text::FileFault;
 
 /// How a command ended, with all that its line on the error stream tells.
@@ -28,19 +26,7 @@ pub enum Ending {
 }
 
 impl Ending {
-    ghost use Rattle.dd_suite.specs.Endings.{status_of, written_ending, fault_ending};
-
-    /// How a command ended whose writes ended so.
-    pub fn of_catalogue(written: Result<Finish, SinkFault>) -> Ending
-        ensures { result ≡ written_ending written }
-    {
-        match written {
-            Ok(Finish::Whole) => Ending::Done,
-            Ok(Finish::CutShort) => Ending::TooManyLines,
-            Err(SinkFault::Failed) => Ending::SinkFault,
-            Err(SinkFault::Memory) => Ending::Memory,
-        }
-    }
+    ghost use Rattle.dd_suite.specs.Endings.{status_of, fault_ending};
 
     /// How a command ends that has no text for a file.
     pub fn of_fault(fault: CommandFault) -> Ending

@@ -3,6 +3,7 @@
 
 mod ending;
 mod file;
+mod lone;
 mod status;
 mod task;
 mod telling;

@@ -8,7 +8,7 @@ ghost use Rattle.dd_model.specs.Symbol.{Symbol};
 ghost use Rattle.dd_model.specs.Wanted.{IsCatalogue};
 ghost use Rattle.dd_model.specs.declared.requests.Request.{Request};
 ghost use Rattle.dd_suite.specs.Words.{AreTaken, AskFor};
-ghost use Rattle.dd_catalogue.specs.Catalogue.{most_lines};
+ghost use Rattle.dd_catalogue.specs.Runs.{most_lines};
 ghost use Rattle.dd_suite.specs.Output.{IsFileOutput, IsKnownOutput, AppendsOutput, CutsShort};
 ghost use Rattle.dd_suite.specs.Output.{NameFile, IsRefusedFile, IsFileHeld, IsFileAccepted};
 ghost use Rattle.dd_suite.specs.Messages.{TellsOf};
@@ -16,12 +16,11 @@ ghost use Rattle.dd_suite.specs.Stops.{HasCause};
 
 use crate::ending::Ending;
 use crate::file::write_file;
+use crate::lone::write_lone;
 use crate::status::Status;
 use crate::task::Task;
 use crate::telling::tell;
 use crate::words::read_task;
-use dd_branch::Search;
-use dd_catalogue::write_catalogue;
 use dd_model::Memory;
 use dd_ports::{Gate, Sink, Store};
 use std::alloc::Global;
@@ -152,10 +151,7 @@ fn perform<R: Threads + Wait + Sync, S: Store, O: Sink, G: Gate + Sync>(
         Err(Memory) => return Ending::Memory,
     };
     match task {
-        Task::Catalogue(request, pace) => {
-            let search = Search::new(&request);
-            Ending::of_catalogue(write_catalogue(rt, alloc, &search, gate, pace, out))
-        }
+        Task::Catalogue(request, pace) => write_lone(rt, alloc, &request, pace, gate, out),
         Task::OnFile(command, name) => write_file(alloc, command, name.as_str(), store, out),
     }
 }

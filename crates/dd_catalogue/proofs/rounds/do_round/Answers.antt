@@ -2,8 +2,9 @@ use Rattle.std.proofs.Common.{length, refl, sym, subst, rules, ◌≡◌, ◌≤
 use Rattle.dd_model.specs.Jobs.{AreAscendingJobs, AreApart, IsJobOf}
 use Rattle.dd_front.specs.Absorbed.{ComeFrom}
 use Rattle.dd_front.specs.Machine.{jobs_of}
+use Rattle.dd_front.specs.Rounds.{open_jobs}
 use Rattle.dd_board.specs.Desk.{AreJobsOf}
-use Rattle.dd_catalogue.proofs.RoundEntries.{taken_jobs, may_absorb, all_taken, ascending_taken, apart_taken, none_taken}
+use Rattle.dd_catalogue.proofs.RoundEntries.{taken_jobs, may_absorb, all_taken, ascending_taken, apart_taken, none_taken, few_taken}
 use Rattle.dd_catalogue.proofs.rounds.do_round.Goals as goal
 
 pub returns-then-is_empty-clause-round : goal.returns-then-is_empty-clause-round
@@ -42,4 +43,5 @@ returns-clause-round g c =
     let come = subst (λ r. ComeFrom r jobs c.in_ok-entries.entries.items) (sym c.requires.request) c.in_ok-entries.ensures in
     let may = may_absorb c.args.front.now c.args.pace.round jobs c.in_ok-entries.entries.items c.requires.open_entries c.in_ok-jobs.ensures come in
     let some : 1 ≤ length jobs = search rules in
-    record { count = length jobs; some = some; found = c.in_ok-entries.entries.items; may = may; absorbs = c.in_ok-absorb.ensures.absorbs (length jobs) may }
+    let few : length jobs ≤ c.args.pace.round = few_taken c.args.pace.round (open_jobs c.args.front.now.entries) jobs c.in_ok-jobs.ensures in
+    record { count = length jobs; some = some; few = few; found = c.in_ok-entries.entries.items; may = may; absorbs = c.in_ok-absorb.ensures.absorbs (length jobs) may }

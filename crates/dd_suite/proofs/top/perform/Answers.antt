@@ -2,7 +2,6 @@ use Rattle.std.proofs.Common.{ℕ, List, IfOk, map, inr, subst, sym, ◌∙◌}
 use Rattle.dd_model.specs.Request.{IsValid}
 use Rattle.dd_model.specs.Text.{IsText, beginning}
 use Rattle.dd_ports.specs.Grows.{GrowsByPrefix}
-use Rattle.dd_catalogue.specs.Finishes.{Finishes}
 use Rattle.dd_suite.specs.Outside.{Before, After}
 use Rattle.dd_suite.specs.Stops.{HasFileCause, HasCause}
 use Rattle.dd_suite.proofs.Causes.{cause_of_file}
@@ -10,26 +9,26 @@ use Rattle.std.specs.Rc.{rc_str_bytes}
 use Rattle.dd_suite.specs.declared.task.Task.TheVariants.{Catalogue, OnFile}
 use Rattle.dd_suite.specs.Words.{IsOnFile}
 use Rattle.dd_suite.specs.Held.{IsTextOfHeld}
-use Rattle.dd_catalogue.specs.Catalogue.{AppendsText}
+use Rattle.dd_suite.specs.Catalogue.{AppendsText}
 use Rattle.dd_suite.proofs.Requests.{valid_request, request_asked, pace_asked, taken, asked_of, same_request, not_both}
-use Rattle.dd_suite.proofs.CatalogueTexts.{prefix_of_output, whole_output, what_done_says, cause_of_catalogue, few_members}
+use Rattle.dd_suite.proofs.CatalogueTexts.{prefix_of_output, whole_output, done_says, cause_of_lone, few_members}
 use Rattle.dd_suite.proofs.HeldTexts.{prefix_of_file_output}
 use Rattle.dd_suite.proofs.top.perform.Goals as goal
 
-pub write_catalogue-requires-clause-valid : goal.write_catalogue-requires-clause-valid
-write_catalogue-requires-clause-valid g c κs within =
+pub write_lone-requires-clause-valid : goal.write_lone-requires-clause-valid
+write_lone-requires-clause-valid g c κs within =
     let words = map rc_str_bytes c.args.words.now in
     let task = asked_of words c.in-Ok-Some.field-0 c.in-Ok-Some.task (Catalogue c.in-Catalogue.request c.in-Catalogue.pace) c.in-Ok-Some.ensures c.in-Ok-Some.field-0-is c.in-Catalogue.is in
-    subst IsValid (sym c.new-search.ensures) (valid_request words c.in-Catalogue.request (request_asked words c.in-Catalogue.request c.in-Catalogue.pace task))
+    valid_request words c.in-Catalogue.request (request_asked words c.in-Catalogue.request c.in-Catalogue.pace task)
 
-pub write_catalogue-requires-clause-workers : goal.write_catalogue-requires-clause-workers
-write_catalogue-requires-clause-workers g c κs within =
+pub write_lone-requires-clause-workers : goal.write_lone-requires-clause-workers
+write_lone-requires-clause-workers g c κs within =
     let words = map rc_str_bytes c.args.words.now in
     let task = asked_of words c.in-Ok-Some.field-0 c.in-Ok-Some.task (Catalogue c.in-Catalogue.request c.in-Catalogue.pace) c.in-Ok-Some.ensures c.in-Ok-Some.field-0-is c.in-Catalogue.is in
     (pace_asked words c.in-Catalogue.request c.in-Catalogue.pace task).workers_are
 
-pub write_catalogue-requires-clause-round : goal.write_catalogue-requires-clause-round
-write_catalogue-requires-clause-round g c κs within =
+pub write_lone-requires-clause-round : goal.write_lone-requires-clause-round
+write_lone-requires-clause-round g c κs within =
     let words = map rc_str_bytes c.args.words.now in
     let task = asked_of words c.in-Ok-Some.field-0 c.in-Ok-Some.task (Catalogue c.in-Catalogue.request c.in-Catalogue.pace) c.in-Ok-Some.ensures c.in-Ok-Some.field-0-is c.in-Catalogue.is in
     (pace_asked words c.in-Catalogue.request c.in-Catalogue.pace task).round_is.0
@@ -38,16 +37,16 @@ pub returns-in-Catalogue-clause-prefix : goal.returns-in-Catalogue-clause-prefix
 returns-in-Catalogue-clause-prefix g c =
     let asked = request_asked (map rc_str_bytes c.args.words.now) c.in-Catalogue.request c.in-Catalogue.pace (asked_of (map rc_str_bytes c.args.words.now) c.in-Ok-Some.field-0 c.in-Ok-Some.task (Catalogue c.in-Catalogue.request c.in-Catalogue.pace) c.in-Ok-Some.ensures c.in-Ok-Some.field-0-is c.in-Catalogue.is) in
     let old = g.O.Sink.held c.args.out.now in
-    let new = g.O.Sink.held c.write_catalogue.new.out in
+    let new = g.O.Sink.held c.write_lone.new.out in
     prefix_of_output (map rc_str_bytes c.args.words.now) (g.S.Store.tells c.args.store.now) (g.S.Store.held c.args.store.now) c.in-Catalogue.request old new asked
-    (subst (λ q. (text : List ℕ) → IsText q beginning 0 text → GrowsByPrefix old new text) c.new-search.ensures c.write_catalogue.ensures.prefix)
+    c.write_lone.ensures.prefix
 
 pub returns-in-Catalogue-clause-whole : goal.returns-in-Catalogue-clause-whole
 returns-in-Catalogue-clause-whole g c done =
     let old = g.O.Sink.held c.args.out.now in
-    let new = g.O.Sink.held c.write_catalogue.new.out in
+    let new = g.O.Sink.held c.write_lone.new.out in
     let asked = request_asked (map rc_str_bytes c.args.words.now) c.in-Catalogue.request c.in-Catalogue.pace (asked_of (map rc_str_bytes c.args.words.now) c.in-Ok-Some.field-0 c.in-Ok-Some.task (Catalogue c.in-Catalogue.request c.in-Catalogue.pace) c.in-Ok-Some.ensures c.in-Ok-Some.field-0-is c.in-Catalogue.is) in
-    let written = subst (λ q. AppendsText q old new) c.new-search.ensures (what_done_says c.write_catalogue.result c.new-search.result.request old new (sym c.of_catalogue.ensures ∙ done) c.write_catalogue.ensures.whole) in
+    let written = done_says c.write_lone.result c.in-Catalogue.request old new (g.O.Sink.faults c.args.out.now) (g.O.Sink.faults c.write_lone.new.out) done c.write_lone.ensures.ending in
     whole_output (map rc_str_bytes c.args.words.now) (g.S.Store.tells c.args.store.now) (g.S.Store.held c.args.store.now) c.in-Catalogue.request old new asked written
 
 pub returns-in-Catalogue-clause-cause : goal.returns-in-Catalogue-clause-cause
@@ -62,21 +61,19 @@ returns-in-Catalogue-clause-cause g c =
     } in
     let after : After = record {
       store_faults = g.S.Store.faults c.args.store.now;
-      written = g.O.Sink.held c.write_catalogue.new.out;
-      sink_faults = g.O.Sink.faults c.write_catalogue.new.out;
+      written = g.O.Sink.held c.write_lone.new.out;
+      sink_faults = g.O.Sink.faults c.write_lone.new.out;
     } in
     let asked = request_asked words c.in-Catalogue.request c.in-Catalogue.pace (asked_of words c.in-Ok-Some.field-0 c.in-Ok-Some.task (Catalogue c.in-Catalogue.request c.in-Catalogue.pace) c.in-Ok-Some.ensures c.in-Ok-Some.field-0-is c.in-Catalogue.is) in
-    let finish = subst (λ q. IfOk c.write_catalogue.result (λ finish. Finishes finish q before.written after.written)) c.new-search.ensures c.write_catalogue.ensures.whole in
-    subst (λ e. HasCause e words before after) (sym c.of_catalogue.ensures)
-    (cause_of_catalogue words c.in-Catalogue.request before after c.write_catalogue.result asked finish c.write_catalogue.ensures.cause)
+    cause_of_lone c.write_lone.result words c.in-Catalogue.request before after asked c.write_lone.ensures.ending
 
 pub returns-in-Catalogue-clause-not_cut : goal.returns-in-Catalogue-clause-not_cut
 returns-in-Catalogue-clause-not_cut g c done q members other is =
     let words = map rc_str_bytes c.args.words.now in
     let old = g.O.Sink.held c.args.out.now in
-    let new = g.O.Sink.held c.write_catalogue.new.out in
+    let new = g.O.Sink.held c.write_lone.new.out in
     let asked = request_asked words c.in-Catalogue.request c.in-Catalogue.pace (asked_of words c.in-Ok-Some.field-0 c.in-Ok-Some.task (Catalogue c.in-Catalogue.request c.in-Catalogue.pace) c.in-Ok-Some.ensures c.in-Ok-Some.field-0-is c.in-Catalogue.is) in
-    let written = subst (λ r. AppendsText r old new) c.new-search.ensures (what_done_says c.write_catalogue.result c.new-search.result.request old new (sym c.of_catalogue.ensures ∙ done) c.write_catalogue.ensures.whole) in
+    let written = done_says c.write_lone.result c.in-Catalogue.request old new (g.O.Sink.faults c.args.out.now) (g.O.Sink.faults c.write_lone.new.out) done c.write_lone.ensures.ending in
     few_members q old new members (subst (λ r. AppendsText r old new) (same_request words c.in-Catalogue.request q asked other) written) is
 
 pub returns-in-OnFile-clause-not_cut : goal.returns-in-OnFile-clause-not_cut

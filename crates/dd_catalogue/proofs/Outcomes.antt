@@ -1,0 +1,210 @@
+-- What a run has written.
+use Rattle.std.proofs.Common.{◌≡◌, ◌⊎◌, ℕ, ◌≤◌, List, [], ◌++◌, Bool, true, false, MatchBool, Option, Some, length, length-append, take, inl, inr, ⊎_elim, refl, sym, ap, ◌∙◌, subst, arith, append_assoc}
+use Rattle.std.proofs.lemmas.List.{append-nil}
+use Rattle.std.specs.Io.KnownBytes.{Appends}
+use Rattle.std.specs.List.{Contains}
+use Rattle.std.specs.Prelude.{if◌then◌else◌}
+use Rattle.dd_model.specs.Symbol.{Symbol}
+use Rattle.dd_model.specs.Code.{IsBelow}
+use Rattle.dd_model.specs.Lists.{Begins}
+use Rattle.dd_model.specs.Position.{IsBefore}
+use Rattle.dd_model.specs.Text.{AreLines, IsText}
+use Rattle.dd_model.specs.Wanted.{IsMember}
+use Rattle.dd_model.specs.Joined.{IsUnderOne}
+use Rattle.dd_model.specs.declared.requests.Request.{Request}
+use Rattle.dd_model.specs.declared.jobs.Job.{Job}
+use Rattle.dd_model.specs.declared.jobs.Position.{Position}
+use Rattle.dd_model.specs.declared.jobs.Position.TheVariants.{End}
+use Rattle.dd_model.proofs.Ascending.{begins_append}
+use Rattle.dd_model.proofs.Lists.{all_from_members}
+use Rattle.dd_model.proofs.Positions.{before_or_not, before_symbol, below_over}
+use Rattle.dd_model.proofs.Texts.{split_lines, lines_unique}
+use Rattle.dd_front.specs.Held.{IsHeld}
+use Rattle.dd_front.specs.Machine.{Machine, StandsAt, jobs_of}
+use Rattle.dd_front.specs.Step.{at_symbol}
+use Rattle.dd_front.proofs.Holding.{held_covered}
+use Rattle.dd_front.proofs.Standing.{stands_once, stands_somewhere, jobs_stand, before_stands}
+use Rattle.dd_branch.proofs.FirstMembers.{begins_with}
+use Rattle.dd_ports.proofs.Growth.{Appends_trans}
+use Rattle.dd_chain.specs.Between.{AreMembersBetween, AreLinesBetween, IsNoEarlier}
+use Rattle.dd_chain.specs.Starts.{Start}
+use Rattle.dd_chain.proofs.Rests.{text_is_rest}
+use Rattle.dd_catalogue.specs.Pages.{HasLines, IsFrontOut}
+use Rattle.dd_catalogue.specs.Rounds.{AreJobsFrom, AreOpen, IsRoundDone}
+use Rattle.dd_catalogue.specs.Ways.{Way, IsUnderWay, IsFull, IsPartOut}
+use Rattle.dd_catalogue.specs.Runs.{IsPause, IsBeforePause, IsLimit, WritesRest, WritesUpTo, Finishes}
+use Rattle.dd_catalogue.specs.Outputs.{IsShown}
+use Rattle.dd_catalogue.specs.declared.finish.Finish.TheVariants.{Paused, CutShort}
+use Rattle.dd_catalogue.specs.declared.limit.Limit.{Limit}
+use Rattle.dd_catalogue.specs.declared.pages.Page.{Page}
+use Rattle.dd_catalogue.proofs.JobsFrom.{from_covers}
+use Rattle.dd_catalogue.proofs.WaySteps.{way_round}
+
+-- ## What a machine has emitted
+
+-- It is the members between the start and where the machine stands.
+pub held_between : (q : Request) (at p : Position) (jobs : List Job) (f : Machine) (out : List Symbol) → AreJobsFrom q at jobs → IsHeld q jobs at f out → StandsAt f.from f.entries p → AreMembersBetween q at p out
+held_between q at p jobs f out from held stands =
+    let covered = held_covered q jobs at f out held in
+    let same : covered.stands ≡ p = stands_once f.from covered.stands p f.entries covered.stands_at stands in
+    record {
+      ascending = covered.ascending;
+      members = λ s. (
+        (λ there. let between = (covered.emitted s).0 there in record { member = between.from.under.under.member; later = between.from.later; earlier = subst (λ z. IsBefore z s) same between.before }),
+        (λ is. (covered.emitted s).1 (record { from = record { under = from_covers q at jobs s from is.member is.later; later = is.later }; before = subst (λ z. IsBefore z s) (sym same) is.earlier })),
+      );
+    }
+
+pub held_no_earlier : (q : Request) (at p : Position) (jobs : List Job) (f : Machine) (out : List Symbol) → IsHeld q jobs at f out → StandsAt f.from f.entries p → IsNoEarlier q at p
+held_no_earlier q at p jobs f out held stands s member before =
+    before_stands f.from p (jobs_of f.entries) s (jobs_stand f.from p f.entries stands) (held.go_on.further s member before)
+
+-- the members up to a position begin with those up to an earlier one
+first_members : (q : Request) (at p r : Position) (ss ts : List Symbol) → AreMembersBetween q at p ss → AreMembersBetween q at r ts → IsNoEarlier q p r → (rest : List Symbol) × (ts ≡ ss ++ rest)
+first_members q at p r ss ts early late order =
+    begins_with ss ts early.ascending late.ascending
+    (λ s there. let own = (early.members s).0 there in (late.members s).1 (record { member = own.member; later = own.later; earlier = order s own.member own.earlier }))
+    (λ t there.
+    let own = (late.members t).0 there in
+    ⊎_elim
+    (λ before. inl ((early.members t).1 (record { member = own.member; later = own.later; earlier = before })))
+    (λ not. inr (all_from_members (λ m. IsBelow m t) ss (λ m among.
+    let other = (early.members m).0 among in
+    below_over p m t other.member.wanted.symbol.table own.member.wanted.symbol.table other.earlier not)))
+    (before_or_not p t))
+
+-- a text of more lines begins with what went out
+text_begins : (k : ℕ) (shown later more ts : List Symbol) (output rest text : List ℕ) → ts ≡ (shown ++ later) ++ more → AreLines k shown (output ++ rest) → AreLines k ts text
+    → (z : List ℕ) × (text ≡ output ++ z)
+text_begins k shown later more ts output rest text parts lines all =
+    let split = split_lines k shown (later ++ more) text (subst (λ us. AreLines k us text) (parts ∙ append_assoc shown later more) all) in
+    let same : split.0 ≡ output ++ rest = lines_unique k shown split.0 (output ++ rest) split.2 lines in
+    (rest ++ split.1, split.4 ∙ ap (λ xs. xs ++ split.1) same ∙ append_assoc output rest split.1)
+
+-- Each round begins where the machine stands.
+pub next_round : (w : Way) (most : ℕ) (now : Option (List ℕ)) (page : Page) (f g : Machine) → IsRoundDone most f g → AreOpen f.entries → IsUnderWay w now page f
+    → (p : Position) × IsUnderWay (record { start = w.start; jobs = w.jobs; base = w.base; known = w.known; since = p; round = take most (jobs_of f.entries) }) now page g
+next_round w most now page f g round opens way =
+    let at = stands_somewhere f.from f.entries in
+    let between = held_between w.start.request w.start.at at.0 w.jobs f way.members way.from way.held at.1 in
+    (at.0, way_round w most now page f g at.0 round opens way (λ s there. ((between.members s).0 there).earlier))
+
+-- ## What went out
+
+pub record WentOut (w : Way) (old now : Option (List ℕ)) (output : List ℕ) : Type 0 where
+  pub appended : Appends old now output
+  pub front : (text : List ℕ) → IsText w.start.request w.start.at w.start.lines text → Begins output text
+  pub shown : (m : Symbol) → IsMember w.start.request m → (¬ IsBefore w.start.at m) → IsShown w.start output m → IsBefore w.since m ⊎ IsUnderOne w.start.request w.round m
+
+pub went_out : (w : Way) (old now : Option (List ℕ)) (part : IsPartOut w now) → Appends old w.known w.base → WentOut w old now (w.base ++ part.out.written)
+went_out w old now part before = record {
+  appended = Appends_trans old w.known now w.base part.out.written (w.base ++ part.out.written) before part.out.appended refl;
+  front = λ text is.
+      let rest = text_is_rest q at k text is in
+      let first = first_members q at p End part.members rest.1.members between rest.1.between (λ s member early. tt) in
+      let begins = text_begins k out.shown out.later first.0 rest.1.members (w.base ++ out.written) out.rest text (first.1 ∙ ap (λ ss. ss ++ first.0) out.parts) out.lines rest.1.lines in
+      subst (Begins (w.base ++ out.written)) (sym begins.1) (begins_append (w.base ++ out.written) begins.0);
+  shown = λ m member later is. part.recent m (among m member later is);
+}
+  where
+    q : Request
+    q = w.start.request
+
+    at : Position
+    at = w.start.at
+
+    k : ℕ
+    k = w.start.lines
+
+    out : IsFrontOut w.start.lines w.base w.known now part.members
+    out = part.out
+
+    where_it : (p : Position) × StandsAt part.machine.from part.machine.entries p
+    where_it = stands_somewhere part.machine.from part.machine.entries
+
+    p : Position
+    p = where_it.0
+
+    between : AreMembersBetween w.start.request w.start.at p part.members
+    between = held_between w.start.request w.start.at p w.jobs part.machine part.members part.from part.held where_it.1
+
+    among : (m : Symbol) → IsMember w.start.request m → (¬ IsBefore w.start.at m) → IsShown w.start (w.base ++ part.out.written) m → Contains part.members m
+    among m member later is =
+        ⊎_elim
+        (λ before. (between.members m).1 (record { member = member; later = later; earlier = before }))
+        (λ not.
+        let order : IsNoEarlier w.start.request p (at_symbol m) = λ s other early.
+        before_symbol s m other.wanted.symbol.table member.wanted.symbol.table (below_over p s m other.wanted.symbol.table member.wanted.symbol.table early not) in
+        let first = first_members w.start.request w.start.at p (at_symbol m) part.members is.lines.members between is.lines.between order in
+        let begins = text_begins w.start.lines out.shown out.later first.0 is.lines.members (w.base ++ out.written) out.rest is.before (first.1 ∙ ap (λ ss. ss ++ first.0) out.parts) out.lines is.lines.lines in
+        let size = ap length begins.1 ∙ length-append (w.base ++ out.written) begins.0 in
+        let shorter = is.shorter in
+        absurd (omega (arith, size, shorter)))
+        (before_or_not p m)
+
+-- where nothing is collected, what was written are the lines up to where the machine stands
+pub lines_between : (w : Way) (now : Option (List ℕ)) (page : Page) (f : Machine) (members : List Symbol) (p : Position) → AreJobsFrom w.start.request w.start.at w.jobs
+    → IsHeld w.start.request w.jobs w.start.at f members → (has : HasLines w.start.lines w.base w.known now page members) → page.buffer.items ≡ [] → StandsAt f.from f.entries p
+    → AreLinesBetween w.start.request w.start.at p w.start.lines page.count (w.base ++ has.written)
+lines_between w now page f members p from held has empty stands = record {
+  members = members;
+  between = held_between w.start.request w.start.at p w.jobs f members from held stands;
+  no_earlier = held_no_earlier w.start.request w.start.at p w.jobs f members held stands;
+  count = has.count;
+  lines = subst (AreLines w.start.lines members) (ap (λ xs. (w.base ++ has.written) ++ xs) empty ∙ append-nil (w.base ++ has.written)) has.lines;
+}
+
+-- ## Ends of the run's own
+
+one_pause : (a b : ℕ) → Some a ≡ Some b → a ≡ b
+one_pause a b e = cc
+
+pub finish_whole : (s : Start) (pause : Option ℕ) (limit : Limit) (count : ℕ) (output : List ℕ) → IsLimit s.lines pause limit → AreLinesBetween s.request s.at End s.lines count output → count ≤ limit.last
+    → WritesRest s pause output
+finish_whole s pause limit count output is lines low = go limit.pauses is
+  where
+    go : (b : Bool) → MatchBool b (IsPause s.lines pause limit.last) (IsBeforePause s.lines pause limit.last) → WritesRest s pause output
+    go true p = record {
+      count = count;
+      written = lines;
+      within = let within = p.within in omega (arith, within, low);
+      few = λ n asked. let same = one_pause p.lines n (sym p.asked ∙ asked) in let last = p.last_is in omega (arith, same, last, low);
+    }
+    go false p = record {
+      count = count;
+      written = lines;
+      within = let most = p.most in omega (arith, most, low);
+      few = λ n asked. let later = p.later n asked in let most = p.most in omega (arith, later, most, low);
+    }
+
+pub finish_full : (s : Start) (pause : Option ℕ) (limit : Limit) (output : List ℕ) → IsLimit s.lines pause limit → WritesUpTo s limit.last output
+    → Finishes s pause output (if limit.pauses then Paused else CutShort)
+finish_full s pause limit output is lines = go limit.pauses is
+  where
+    go : (b : Bool) → MatchBool b (IsPause s.lines pause limit.last) (IsBeforePause s.lines pause limit.last) → Finishes s pause output (if b then Paused else CutShort)
+    go true p = record { last = limit.last; pause_is = p; lines = lines }
+    go false p = record { before_pause = subst (IsBeforePause s.lines pause) p.most p; lines = subst (λ n. WritesUpTo s n output) p.most lines }
+
+-- a machine that is full has written the lines up to the last one, and there is one more
+pub full_lines : (w : Way) (now : Option (List ℕ)) (page : Page) (last : ℕ) (f : Machine) (full : IsFull w now page last f) → page.buffer.items ≡ [] → WritesUpTo w.start last (w.base ++ full.lines.written)
+full_lines w now page last f full empty = record {
+  at = at_symbol full.next;
+  written = subst (λ n. AreLinesBetween w.start.request w.start.at (at_symbol full.next) w.start.lines n (w.base ++ full.lines.written)) full.count
+      (lines_between w now page f full.members (at_symbol full.next) full.from full.held full.lines empty full.stands);
+  next = record { next = full.next; member = full.member; job_is = refl };
+}
+
+-- no line before the run is after its last line
+pub limit_above : (before : ℕ) (pause : Option ℕ) (limit : Limit) → IsLimit before pause limit → before ≤ 1000000000000000000 → before ≤ limit.last
+limit_above before pause limit is low = go limit.pauses is
+  where
+    go : (b : Bool) → MatchBool b (IsPause before pause limit.last) (IsBeforePause before pause limit.last) → before ≤ limit.last
+    go true p = let last = p.last_is in omega (arith, last)
+    go false p = let most = p.most in omega (arith, most, low)
+
+pub limit_most : (before : ℕ) (pause : Option ℕ) (limit : Limit) → IsLimit before pause limit → limit.last ≤ 1000000000000000000
+limit_most before pause limit is = go limit.pauses is
+  where
+    go : (b : Bool) → MatchBool b (IsPause before pause limit.last) (IsBeforePause before pause limit.last) → limit.last ≤ 1000000000000000000
+    go true p = p.within
+    go false p = let most = p.most in omega (arith, most)

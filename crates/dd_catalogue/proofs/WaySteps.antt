@@ -1,0 +1,332 @@
+-- The writing of a catalogue, round by round.
+use Rattle.std.proofs.Common.{◌≡◌, ℕ, false, ◌+◌, ◌<◌, ◌≤◌, ◌^◌, List, [], ◌∷◌, ◌++◌, Option, Some, None, IsSome, MatchOption, length, length-append, take, inl, inr, ⊎_elim, refl, sym, ap, ◌∙◌, subst, arith, append_assoc}
+use Rattle.std.proofs.lemmas.Bool.{cases_lt}
+use Rattle.std.proofs.lemmas.List.{append-nil}
+use Rattle.std.proofs.lemmas.List.Elements.{Contains-append_cases, Contains-append_left, Contains-append_right}
+use Rattle.std.specs.Io.KnownBytes.{Appends}
+use Rattle.std.specs.List.{Contains}
+use Rattle.std.specs.Option.{is_some}
+use Rattle.dd_model.specs.Symbol.{Symbol}
+use Rattle.dd_model.specs.Position.{IsBefore}
+use Rattle.dd_model.specs.Jobs.{IsMemberUnder, IsJobOf}
+use Rattle.dd_model.specs.declared.jobs.Job.{Job}
+use Rattle.dd_model.specs.declared.jobs.Position.{Position}
+use Rattle.dd_model.proofs.Lists.{Contains-none, Contains-head, Contains-later, Contains-cases}
+use Rattle.dd_model.proofs.Without.{without_there}
+use Rattle.dd_front.specs.declared.entry.Entry.{Entry}
+use Rattle.dd_front.specs.declared.entry.State.{State}
+use Rattle.dd_front.specs.declared.entry.State.TheVariants.{Open, Out, Done}
+use Rattle.dd_front.specs.declared.event.Event.TheVariants.{Emit, Part}
+use Rattle.dd_front.specs.Allowed.{HasFirst, MayPart}
+use Rattle.dd_front.specs.Held.{IsHeld}
+use Rattle.dd_front.specs.Joining.{IsDone}
+use Rattle.dd_front.specs.Machine.{Machine, StandsAt, entry_of, open_entries, jobs_of}
+use Rattle.dd_front.specs.Room.{HasRoom, HasRoomToEmit}
+use Rattle.dd_front.specs.Rounds.{open_jobs}
+use Rattle.dd_front.specs.Step.{Emits, EmitsPart, at_symbol}
+use Rattle.dd_front.proofs.Absorbing.{held_absorbed, all_back}
+use Rattle.dd_front.proofs.Entries.{jobs_opened}
+use Rattle.dd_front.proofs.Events.{held_next}
+use Rattle.dd_front.proofs.Telling.{one_first}
+use Rattle.dd_front.proofs.Holding.{held_first}
+use Rattle.dd_board.specs.Desk.{AreJobsOf}
+use Rattle.dd_chain.specs.Starts.{Start}
+use Rattle.dd_catalogue.specs.Pages.{AddsAll, KeepsLines, WritesFront, WritesFrontOf}
+use Rattle.dd_catalogue.specs.Rounds.{IsBegun, AreOpen, AreDoneThenOpen, IsRoundDone}
+use Rattle.dd_catalogue.specs.Ways.{Way, AreRecent, AreOfRound, IsUnderWay, IsFull, IsPartOut, IsAny}
+use Rattle.dd_catalogue.specs.declared.pages.Page.{Page}
+use Rattle.dd_catalogue.proofs.JobsFrom.{from_jobs}
+use Rattle.dd_catalogue.proofs.PageLemmas.{front_kept}
+use Rattle.dd_catalogue.proofs.RoundEntries.{open_all, opened_open, round_jobs, round_entries, done_in_round}
+
+pub appends_nothing : (old : Option (List ℕ)) → Appends old old []
+appends_nothing None = tt
+appends_nothing (Some xs) = sym (append-nil xs)
+
+never_open : (state : State) → state ≡ Open → IsDone state → ⊥
+never_open Open is none = none
+never_open Out is none = none
+never_open (Done list) is done = cc
+
+-- where all entries are open, none is done
+none_done : (w : Way) (es : List Entry) → AreOpen es → AreOfRound w es
+none_done w [] opens e there done = absurd (Contains-none e there)
+none_done w (d ∷ ds) opens e there done =
+    ⊎_elim
+    (λ same. absurd (never_open e.state (subst (λ (x : Entry). x.state ≡ Open) same opens.0) done))
+    (λ later. none_done w ds opens.1 e later done)
+    (Contains-cases d e ds there)
+
+pub begun_open : (s : Start) (f : Machine) → IsBegun s f → AreOpen f.entries
+begun_open s f begun = subst AreOpen (sym begun.opened.entries) (opened_open 1 begun.jobs)
+
+-- no job is done yet
+pub way_first : (s : Start) (known : Option (List ℕ)) (page : Page) (f : Machine) (p : Position) (begun : IsBegun s f) → page.buffer.items ≡ [] → page.count ≡ s.lines → page.bytes ≡ 0
+    → IsUnderWay (record { start = s; jobs = begun.jobs; base = []; known = known; since = p; round = [] }) known page f
+way_first s known page f p begun empty count bytes =
+    let o = begun.opened in
+    let w : Way = record { start = s; jobs = begun.jobs; base = []; known = known; since = p; round = [] } in
+    let listed : jobs_of f.entries ≡ begun.jobs = ap jobs_of o.entries ∙ jobs_opened 1 begun.jobs in
+    record {
+      members = [];
+      from = begun.from;
+      opened = o.opened;
+      stays = o.from;
+      gone = [];
+      jobs_are = sym listed;
+      entries_are = subst AreDoneThenOpen (sym o.entries) (open_all (open_entries 1 begun.jobs) (opened_open 1 begun.jobs));
+      held = held_first s.request begun.jobs s.at s.lines f o;
+      lines = record { written = []; appended = appends_nothing known; lines = empty; count = omega (arith, count); bytes = bytes };
+      recent = λ m there. absurd (Contains-none m there);
+      of_round = none_done w f.entries (begun_open s f begun);
+    }
+
+-- a round is done; all that was emitted before it is before where it begins
+pub way_round : (w : Way) (most : ℕ) (now : Option (List ℕ)) (page : Page) (f g : Machine) (p : Position) → IsRoundDone most f g → AreOpen f.entries → (way : IsUnderWay w now page f)
+    → ((s : Symbol) → Contains way.members s → IsBefore p s)
+    → IsUnderWay (record { start = w.start; jobs = w.jobs; base = w.base; known = w.known; since = p; round = take most (jobs_of f.entries) }) now page g
+way_round w most now page f g p round opens way before =
+    let after : (A : Type 0) (field : Machine → A) → field g ≡ field (record f { entries = g.entries }) = λ A field. ap field (same_but_entries f g most round) in
+    record {
+      members = way.members;
+      from = way.from;
+      opened = after ℕ (λ m. m.opened) ∙ way.opened;
+      stays = after Position (λ m. m.from) ∙ way.stays;
+      gone = way.gone;
+      jobs_are = way.jobs_are ∙ ap (λ js. way.gone ++ js) (sym (round_jobs most f g round));
+      entries_are = round_entries most f g round opens;
+      held = held_absorbed w.start.request w.jobs w.start.at f g way.members round.count round.found way.held round.may round.absorbs;
+      lines = way.lines;
+      recent = λ s there. inl (before s there);
+      of_round = done_in_round most f g round opens;
+    }
+  where
+    same_but_entries : (f g : Machine) (most : ℕ) (round : IsRoundDone most f g) → g ≡ record f { entries = g.entries }
+    same_but_entries f g most round = round.absorbs.after ∙ ap (λ es. record f { entries = es }) (sym (ap (λ (m : Machine). m.entries) round.absorbs.after))
+
+first_done : (es rest : List Entry) (k : ℕ) (job : Job) (list : List Symbol) → es ≡ entry_of k job (Done list) ∷ rest → AreDoneThenOpen es → AreDoneThenOpen rest
+first_done es rest k job list is are = ⊎_elim (λ done. done.1) (λ opens. absurd (not_open opens.0)) (subst AreDoneThenOpen is are)
+  where
+    not_open : Done list ≡ Open → ⊥
+    not_open e = cc
+
+-- what the first entry has is under a job of the round
+module _ (w : Way) (now : Option (List ℕ)) (page : Page) (f : Machine) (way : IsUnderWay w now page f) (list : List Symbol) (first : HasFirst f list) where
+  entry_there : Contains f.entries (entry_of first.number first.job (Done list))
+  entry_there = subst (λ es. Contains es (entry_of first.number first.job (Done list))) (sym first.entries) (Contains-head (entry_of first.number first.job (Done list)) first.rest)
+
+  first_under : (s : Symbol) → Contains list s → IsMemberUnder w.start.request first.job s
+  first_under s there = ((way.held.found (entry_of first.number first.job (Done list)) entry_there list refl).members s).0 there
+
+  recent_more : (emitted : List Symbol) → ((s : Symbol) → Contains emitted s → Contains list s) → AreRecent w (way.members ++ emitted)
+  recent_more emitted inside s there =
+      ⊎_elim
+      (λ old. way.recent s old)
+      (λ new. inr (record { job = first.job; listed = way.of_round (entry_of first.number first.job (Done list)) entry_there tt; under = first_under s (inside s new) }))
+      (Contains-append_cases way.members emitted s there)
+
+-- the first entry is emitted, and its lines are put to the page
+pub way_next : (w : Way) (before now : Option (List ℕ)) (old new : Page) (f g : Machine) (emitted : List Symbol) → Emits f g emitted → AddsAll before now old new emitted
+    → IsUnderWay w before old f → IsUnderWay w now new g
+way_next w before now old new f g emitted emits adds way =
+    let first = emits.first in
+    let rest : g.entries ≡ first.rest = ap (λ (m : Machine). m.entries) emits.after in
+    let inside : (s : Symbol) → Contains emitted s → Contains emits.list s = λ s there. (without_there (IsBefore f.from) emits.list emitted s emits.not_before there).0 in
+    let jobs : jobs_of f.entries ≡ first.job ∷ jobs_of g.entries = ap jobs_of first.entries ∙ ap (λ es. first.job ∷ jobs_of es) (sym rest) in
+    record {
+      members = way.members ++ emitted;
+      from = way.from;
+      opened = ap (λ (m : Machine). m.opened) emits.after ∙ way.opened;
+      stays = ap (λ (m : Machine). m.from) emits.after ∙ way.stays;
+      gone = way.gone ++ first.job ∷ [];
+      jobs_are = way.jobs_are ∙ ap (λ js. way.gone ++ js) jobs ∙ sym (append_assoc way.gone (first.job ∷ []) (jobs_of g.entries));
+      entries_are = subst AreDoneThenOpen (sym rest) (first_done f.entries first.rest first.number first.job emits.list first.entries way.entries_are);
+      held = held_next w.start.request w.jobs w.start.at f g way.members emitted Emit way.held (record { allowed = (emits.list, first); step = emits });
+      lines = adds w.start.lines w.base w.known way.members way.lines;
+      recent = recent_more w before old f way emits.list first emitted inside;
+      of_round = λ e there done. way.of_round e (subst (λ es. Contains es e) (sym first.entries) (Contains-later (entry_of first.number first.job (Done emits.list)) e first.rest (subst (λ es. Contains es e) rest there))) done;
+    }
+
+-- the jobs that wait are the same
+pub waiting_emitted : (f g : Machine) (emitted : List Symbol) → Emits f g emitted → open_jobs g.entries ≡ open_jobs f.entries
+waiting_emitted f g emitted emits = ap (λ (m : Machine). open_jobs m.entries) emits.after ∙ sym (ap open_jobs emits.first.entries)
+
+-- what went out where the first entry was emitted
+pub way_added : (w : Way) (before now : Option (List ℕ)) (page : Page) (f g : Machine) (emitted : List Symbol) → Emits f g emitted → WritesFrontOf before now page emitted → IsUnderWay w before page f
+    → IsPartOut w now
+way_added w before now page f g emitted emits writes way =
+    let inside : (s : Symbol) → Contains emitted s → Contains emits.list s = λ s there. (without_there (IsBefore f.from) emits.list emitted s emits.not_before there).0 in
+    record {
+      machine = g;
+      members = way.members ++ emitted;
+      from = way.from;
+      held = held_next w.start.request w.jobs w.start.at f g way.members emitted Emit way.held (record { allowed = (emits.list, emits.first); step = emits });
+      recent = recent_more w before page f way emits.list emits.first emitted inside;
+      out = writes w.start.lines w.base w.known way.members way.lines;
+    }
+
+-- nothing more went out
+abbrev pub way_part : (w : Way) (now : Option (List ℕ)) (page : Page) (f : Machine) → IsUnderWay w now page f → IsPartOut w now
+way_part w now page f way = record {
+  machine = f;
+  members = way.members;
+  from = way.from;
+  held = way.held;
+  recent = way.recent;
+  out = front_kept w.start.lines w.base w.known now page way.members way.lines;
+}
+
+-- what was collected went out, or a part of it
+pub way_written : (w : Way) (before now : Option (List ℕ)) (page : Page) (f : Machine) → WritesFront before now page → IsUnderWay w before page f → IsPartOut w now
+way_written w before now page f writes way = record {
+  machine = f;
+  members = way.members;
+  from = way.from;
+  held = way.held;
+  recent = way.recent;
+  out = writes w.start.lines w.base w.known way.members way.lines;
+}
+
+pub way_flushed : (w : Way) (before now : Option (List ℕ)) (old new : Page) (f : Machine) → KeepsLines before now old new → IsUnderWay w before old f → IsUnderWay w now new f
+way_flushed w before now old new f keeps way = record {
+  members = way.members;
+  from = way.from;
+  opened = way.opened;
+  stays = way.stays;
+  gone = way.gone;
+  jobs_are = way.jobs_are;
+  entries_are = way.entries_are;
+  held = way.held;
+  lines = keeps w.start.lines w.base w.known way.members way.lines;
+  recent = way.recent;
+  of_round = way.of_round;
+}
+
+-- ## The last lines
+
+module _ (w : Way) (before now : Option (List ℕ)) (old : Page) (f g : Machine) (count : ℕ) (emitted : List Symbol) (part : EmitsPart f count g emitted) (way : IsUnderWay w before old f) where
+  inside : (s : Symbol) → Contains (emitted ++ part.next ∷ part.rest) s → Contains part.list s
+  inside s there = (without_there (IsBefore f.from) part.list (emitted ++ part.next ∷ part.rest) s part.not_before there).0
+
+  emitted_in : (s : Symbol) → Contains emitted s → Contains part.list s
+  emitted_in s there = inside s (Contains-append_left emitted (part.next ∷ part.rest) s there)
+
+  more : MayPart f count
+  more =
+      let size = length-append emitted (part.next ∷ part.rest) in
+      let is = part.count in
+      record { list = part.list; done = part.first; later = emitted ++ part.next ∷ part.rest; not_before = part.not_before; more = omega (arith, size, is) }
+
+  held_after : IsHeld w.start.request w.jobs w.start.at g (way.members ++ emitted)
+  held_after = held_next w.start.request w.jobs w.start.at f g way.members emitted (Part count) way.held (record { allowed = more; step = part })
+
+  recent_after : AreRecent w (way.members ++ emitted)
+  recent_after = recent_more w before old f way part.list part.first emitted emitted_in
+
+  pub part_full : (new : Page) → AddsAll before now old new emitted → new.count ≡ old.count + length emitted → IsFull w now new (old.count + count) g
+  part_full new adds size =
+      let first = part.first in
+      let under = first_under w before old f way part.list first part.next (inside part.next (Contains-append_right emitted (part.next ∷ part.rest) part.next (Contains-head part.next part.rest))) in
+      let entries : g.entries ≡ entry_of first.number first.job (Done part.list) ∷ first.rest = ap (λ (m : Machine). m.entries) part.after ∙ first.entries in
+      let from : g.from ≡ at_symbol part.next = ap (λ (m : Machine). m.from) part.after in
+      record {
+        members = way.members ++ emitted;
+        from = way.from;
+        held = held_after;
+        lines = adds w.start.lines w.base w.known way.members way.lines;
+        recent = recent_after;
+        count = size ∙ ap (λ n. old.count + n) part.count;
+        next = part.next;
+        member = under.member;
+        stands = subst (λ es. StandsAt g.from es (at_symbol part.next)) (sym entries)
+            (subst (λ p. StandsAt p (entry_of first.number first.job (Done part.list) ∷ first.rest) (at_symbol part.next)) (sym from) (inl (inr (sym under.size, under.begins), refl)));
+      }
+
+  pub part_added : WritesFrontOf before now old emitted → IsPartOut w now
+  part_added writes = record {
+    machine = g;
+    members = way.members ++ emitted;
+    from = way.from;
+    held = held_after;
+    recent = recent_after;
+    out = writes w.start.lines w.base w.known way.members way.lines;
+  }
+
+pub full_flushed : (w : Way) (before now : Option (List ℕ)) (old new : Page) (last : ℕ) (f : Machine) → KeepsLines before now old new → new.count ≡ old.count → IsFull w before old last f → IsFull w now new last f
+full_flushed w before now old new last f keeps count full = record {
+  members = full.members;
+  from = full.from;
+  held = full.held;
+  lines = keeps w.start.lines w.base w.known full.members full.lines;
+  recent = full.recent;
+  count = count ∙ full.count;
+  next = full.next;
+  member = full.member;
+  stands = full.stands;
+}
+
+abbrev pub full_part : (w : Way) (now : Option (List ℕ)) (page : Page) (last : ℕ) (f : Machine) → IsFull w now page last f → IsPartOut w now
+full_part w now page last f full = record {
+  machine = f;
+  members = full.members;
+  from = full.from;
+  held = full.held;
+  recent = full.recent;
+  out = front_kept w.start.lines w.base w.known now page full.members full.lines;
+}
+
+pub full_written : (w : Way) (before now : Option (List ℕ)) (page : Page) (last : ℕ) (f : Machine) → WritesFront before now page → IsFull w before page last f → IsPartOut w now
+full_written w before now page last f writes full = record {
+  machine = f;
+  members = full.members;
+  from = full.from;
+  held = full.held;
+  recent = full.recent;
+  out = writes w.start.lines w.base w.known full.members full.lines;
+}
+
+-- ## What the front allows
+
+-- there is room to count the lines of the first entry
+pub room_on_way : (now : Option (List ℕ)) (page : Page) (f : Machine) (count : Option ℕ) → IsAny now page f → page.count ≤ 1000000000000000000 → IsSome count
+    → MatchOption count ((list : List Symbol) → ¬ HasFirst f list) (λ n. (n < 2 ^ 64) × ((list : List Symbol) × HasFirst f list × (length list ≡ n))) → HasRoomToEmit f
+room_on_way now page f None any few some first list at = cc
+room_on_way now page f (Some n) any few some (low, first) list at =
+    let opened = any.way.opened in
+    let lines = any.way.held.lines in
+    let count = any.way.lines.count in
+    let same = ap length (one_first f list first.0 at first.1) in
+    let size = first.2 in
+    omega (arith, opened, lines, count, same, size, low, few)
+
+pub room_to_part : (now : Option (List ℕ)) (page : Page) (f : Machine) (count : ℕ) → IsAny now page f → page.count + count ≤ 1000000000000000000 → HasRoom f (Part count)
+room_to_part now page f count any few =
+    let opened = any.way.opened in
+    let lines = any.way.held.lines in
+    let size = any.way.lines.count in
+    omega (arith, opened, lines, size, few)
+
+-- where no more members are left than that, they are emitted whole
+pub few_emitted : (f g : Machine) (room : ℕ) (emitted : List Symbol) → (MayPart f room → ⊥) → Emits f g emitted → length emitted ≤ room
+few_emitted f g room emitted not emits =
+    ⊎_elim
+    (λ many. absurd (not (record { list = emits.list; done = emits.first; later = emitted; not_before = emits.not_before; more = many })))
+    (λ few. few)
+    (cases_lt room (length emitted))
+
+-- so the first entry is done
+pub first_on_way : (f : Machine) (count : Option ℕ) → IsSome count → MatchOption count ((list : List Symbol) → ¬ HasFirst f list) (λ n. (n < 2 ^ 64) × ((list : List Symbol) × HasFirst f list × (length list ≡ n)))
+    → ((list : List Symbol) → ¬ HasFirst f list) → ⊥
+first_on_way f None some first none = cc
+first_on_way f (Some n) some (low, first) none = none first.0 first.1
+
+-- and where the first entry is not done it has no members
+pub none_on_way : (f : Machine) (count : Option ℕ) → is_some count ≡ false → MatchOption count ((list : List Symbol) → ¬ HasFirst f list) (λ n. (n < 2 ^ 64) × ((list : List Symbol) × HasFirst f list × (length list ≡ n)))
+    → (list : List Symbol) → ¬ HasFirst f list
+none_on_way f None not first = first
+none_on_way f (Some n) not first = cc
+
+-- the jobs of a run under way are jobs of its request
+pub way_jobs : (w : Way) (now : Option (List ℕ)) (page : Page) (f : Machine) → IsUnderWay w now page f → AreJobsOf w.start.request (jobs_of f.entries)
+way_jobs w now page f way =
+    all_back (IsJobOf w.start.request) way.gone (jobs_of f.entries) (subst (AreJobsOf w.start.request) way.jobs_are (from_jobs w.start.request w.start.at w.jobs way.from))

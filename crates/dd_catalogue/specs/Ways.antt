@@ -1,0 +1,90 @@
+-- A run of a catalogue under way.
+use Rattle.std.specs.Prelude.{◌≡◌, ◌⊎◌, ℕ, List, ◌++◌, Option}
+use Rattle.std.specs.List.{Contains}
+use Rattle.dd_model.specs.Symbol.{Symbol}
+use Rattle.dd_model.specs.Position.{IsBefore}
+use Rattle.dd_model.specs.Joined.{IsUnderOne}
+use Rattle.dd_model.specs.Wanted.{IsMember}
+use Rattle.dd_model.specs.declared.jobs.Job.{Job}
+use Rattle.dd_model.specs.declared.jobs.Position.{Position}
+use Rattle.dd_front.specs.declared.entry.Entry.{Entry}
+use Rattle.dd_front.specs.Held.{IsHeld}
+use Rattle.dd_front.specs.Joining.{IsDone}
+use Rattle.dd_front.specs.Machine.{Machine, StandsAt, jobs_of}
+use Rattle.dd_front.specs.Rounds.{open_jobs}
+use Rattle.dd_front.specs.Step.{at_symbol}
+use Rattle.dd_chain.specs.Starts.{Start}
+use Rattle.dd_catalogue.specs.Pages.{HasLines, IsFrontOut}
+use Rattle.dd_catalogue.specs.declared.pages.Page.{Page}
+use Rattle.dd_catalogue.specs.Rounds.{AreJobsFrom, AreDoneThenOpen}
+
+-- A run under way: where it began, and its jobs; what it had written when the round began, what the sink held then, where
+-- the run stood, and the jobs of the round.
+pub record Way : Type 0 where
+  pub start : Start
+  pub jobs : List Job
+  pub base : List ℕ
+  pub known : Option (List ℕ)
+  pub since : Position
+  pub round : List Job
+
+-- Each member that was emitted is before the beginning of the round, or under one of its jobs.
+abbrev pub AreRecent : Way → List Symbol → Type 0
+AreRecent w ss = (s : Symbol) → Contains ss s → IsBefore w.since s ⊎ IsUnderOne w.start.request w.round s
+
+-- the entries that are done are those of the round
+abbrev pub AreOfRound : Way → List Entry → Type 0
+AreOfRound w es = (e : Entry) → Contains es e → IsDone e.state → Contains w.round e.job
+
+-- the machine has emitted the members whose lines are written or collected since the start
+pub record IsUnderWay (w : Way) (now : Option (List ℕ)) (page : Page) (f : Machine) : Type 0 where
+  pub members : List Symbol
+  pub from : AreJobsFrom w.start.request w.start.at w.jobs
+  pub opened : f.opened ≡ w.start.lines
+  pub stays : f.from ≡ w.start.at
+  pub gone : List Job
+  pub jobs_are : w.jobs ≡ gone ++ jobs_of f.entries
+  pub entries_are : AreDoneThenOpen f.entries
+  pub held : IsHeld w.start.request w.jobs w.start.at f members
+  pub lines : HasLines w.start.lines w.base w.known now page members
+  pub recent : AreRecent w members
+  pub of_round : AreOfRound w f.entries
+
+-- Whatever was under way goes on, up to the first entry that is open.
+pub record GoesOn (before now : Option (List ℕ)) (old new : Page) (f g : Machine) : Type 0 where
+  pub way : (w : Way) → IsUnderWay w before old f → IsUnderWay w now new g
+  pub waiting : open_jobs g.entries ≡ open_jobs f.entries
+
+-- the machine has emitted the members up to a last line, and stands at one more
+pub record IsFull (w : Way) (now : Option (List ℕ)) (page : Page) (last : ℕ) (g : Machine) : Type 0 where
+  pub members : List Symbol
+  pub from : AreJobsFrom w.start.request w.start.at w.jobs
+  pub held : IsHeld w.start.request w.jobs w.start.at g members
+  pub lines : HasLines w.start.lines w.base w.known now page members
+  pub recent : AreRecent w members
+  pub count : page.count ≡ last
+  pub next : Symbol
+  pub member : IsMember w.start.request next
+  pub stands : StandsAt g.from g.entries (at_symbol next)
+
+-- Whatever was under way comes to its last line.
+abbrev pub FillsUp : Option (List ℕ) → Option (List ℕ) → Page → Page → ℕ → Machine → Machine → Type 0
+FillsUp before now old new last f g = (w : Way) → IsUnderWay w before old f → IsFull w now new last g
+
+-- what went out since the start is a front of the lines of what a machine has emitted
+pub record IsPartOut (w : Way) (now : Option (List ℕ)) : Type 0 where
+  pub machine : Machine
+  pub members : List Symbol
+  pub from : AreJobsFrom w.start.request w.start.at w.jobs
+  pub held : IsHeld w.start.request w.jobs w.start.at machine members
+  pub recent : AreRecent w members
+  pub out : IsFrontOut w.start.lines w.base w.known now members
+
+-- Whatever was under way has such a front written.
+abbrev pub WritesPart : Option (List ℕ) → Option (List ℕ) → Page → Machine → Type 0
+WritesPart before now old f = (w : Way) → IsUnderWay w before old f → IsPartOut w now
+
+-- some run is under way
+pub record IsAny (now : Option (List ℕ)) (page : Page) (f : Machine) : Type 0 where
+  pub any : Way
+  pub way : IsUnderWay any now page f
