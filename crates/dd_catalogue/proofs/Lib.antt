@@ -4,3 +4,4 @@ pub mod JobsFrom
 pub mod WaySteps
 pub mod Outcomes
 pub mod LineParts
+pub mod KeptRuns

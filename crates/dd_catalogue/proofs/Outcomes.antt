@@ -154,6 +154,22 @@ lines_between w now page f members p from held has empty stands = record {
   lines = subst (AreLines w.start.lines members) (ap (λ xs. (w.base ++ has.written) ++ xs) empty ∙ append-nil (w.base ++ has.written)) has.lines;
 }
 
+-- a member whose line is in the lines up to a position, in whole or in part, is before it
+pub shown_earlier : (s : Start) (p : Position) (n : ℕ) (output : List ℕ) → AreLinesBetween s.request s.at p s.lines n output → (m : Symbol) → IsMember s.request m → IsShown s output m → IsBefore p m
+shown_earlier s p n output lines m member is =
+    ⊎_elim
+    (λ before. before)
+    (λ not.
+    let order : IsNoEarlier s.request p (at_symbol m) = λ x other early.
+    before_symbol x m other.wanted.symbol.table member.wanted.symbol.table (below_over p x m other.wanted.symbol.table member.wanted.symbol.table early not) in
+    let first = first_members s.request s.at p (at_symbol m) lines.members is.lines.members lines.between is.lines.between order in
+    let begins = text_begins s.lines lines.members [] first.0 is.lines.members output [] is.before (first.1 ∙ ap (λ ss. ss ++ first.0) (sym (append-nil lines.members)))
+    (subst (AreLines s.lines lines.members) (sym (append-nil output)) lines.lines) is.lines.lines in
+    let size = ap length begins.1 ∙ length-append output begins.0 in
+    let shorter = is.shorter in
+    absurd (omega (arith, size, shorter)))
+    (before_or_not p m)
+
 -- ## Ends of the run's own
 
 one_pause : (a b : ℕ) → Some a ≡ Some b → a ≡ b

@@ -1,10 +1,11 @@
 -- The writing of a catalogue, round by round.
-use Rattle.std.proofs.Common.{◌≡◌, ℕ, false, ◌+◌, ◌<◌, ◌≤◌, ◌^◌, List, [], ◌∷◌, ◌++◌, Option, Some, None, IsSome, MatchOption, length, length-append, take, inl, inr, ⊎_elim, refl, sym, ap, ◌∙◌, subst, arith, append_assoc}
+use Rattle.std.proofs.Common.{◌≡◌, ℕ, Bool, true, false, ◌+◌, ◌<◌, ◌≤◌, ◌^◌, List, [], ◌∷◌, ◌++◌, Option, Some, None, IsSome, MatchOption, length, length-append, take, inl, inr, ⊎_elim, refl, sym, ap, ◌∙◌, subst, arith, append_assoc}
 use Rattle.std.proofs.lemmas.Bool.{cases_lt}
 use Rattle.std.proofs.lemmas.List.{append-nil}
 use Rattle.std.proofs.lemmas.List.Elements.{Contains-append_cases, Contains-append_left, Contains-append_right}
 use Rattle.std.specs.Io.KnownBytes.{Appends}
 use Rattle.std.specs.List.{Contains}
+use Rattle.std.specs.Bool.{OnTrue, OnFalse}
 use Rattle.std.specs.Option.{is_some}
 use Rattle.dd_model.specs.Symbol.{Symbol}
 use Rattle.dd_model.specs.Position.{IsBefore}
@@ -33,7 +34,7 @@ use Rattle.dd_board.specs.Desk.{AreJobsOf}
 use Rattle.dd_chain.specs.Starts.{Start}
 use Rattle.dd_catalogue.specs.Pages.{AddsAll, KeepsLines, WritesFront, WritesFrontOf}
 use Rattle.dd_catalogue.specs.Rounds.{IsBegun, AreOpen, AreDoneThenOpen, IsRoundDone}
-use Rattle.dd_catalogue.specs.Ways.{Way, AreRecent, AreOfRound, IsUnderWay, IsFull, IsPartOut, IsAny}
+use Rattle.dd_catalogue.specs.Ways.{Way, AreRecent, AreOfRound, IsUnderWay, IsFull, IsPartOut, IsAny, GoesOn, FillsUp, WritesPart}
 use Rattle.dd_catalogue.specs.declared.pages.Page.{Page}
 use Rattle.dd_catalogue.proofs.JobsFrom.{from_jobs}
 use Rattle.dd_catalogue.proofs.PageLemmas.{front_kept}
@@ -49,7 +50,7 @@ never_open Out is none = none
 never_open (Done list) is done = cc
 
 -- where all entries are open, none is done
-none_done : (w : Way) (es : List Entry) → AreOpen es → AreOfRound w es
+pub none_done : (w : Way) (es : List Entry) → AreOpen es → AreOfRound w es
 none_done w [] opens e there done = absurd (Contains-none e there)
 none_done w (d ∷ ds) opens e there done =
     ⊎_elim
@@ -61,7 +62,7 @@ pub begun_open : (s : Start) (f : Machine) → IsBegun s f → AreOpen f.entries
 begun_open s f begun = subst AreOpen (sym begun.opened.entries) (opened_open 1 begun.jobs)
 
 -- no job is done yet
-pub way_first : (s : Start) (known : Option (List ℕ)) (page : Page) (f : Machine) (p : Position) (begun : IsBegun s f) → page.buffer.items ≡ [] → page.count ≡ s.lines → page.bytes ≡ 0
+abbrev pub way_first : (s : Start) (known : Option (List ℕ)) (page : Page) (f : Machine) (p : Position) (begun : IsBegun s f) → page.buffer.items ≡ [] → page.count ≡ s.lines → page.bytes ≡ 0
     → IsUnderWay (record { start = s; jobs = begun.jobs; base = []; known = known; since = p; round = [] }) known page f
 way_first s known page f p begun empty count bytes =
     let o = begun.opened in
@@ -330,3 +331,28 @@ none_on_way f (Some n) not first = cc
 pub way_jobs : (w : Way) (now : Option (List ℕ)) (page : Page) (f : Machine) → IsUnderWay w now page f → AreJobsOf w.start.request (jobs_of f.entries)
 way_jobs w now page f way =
     all_back (IsJobOf w.start.request) way.gone (jobs_of f.entries) (subst (AreJobsOf w.start.request) way.jobs_are (from_jobs w.start.request w.start.at w.jobs way.from))
+
+-- ## What was collected is written
+
+on_true : (b : Bool) (P Q : Type 0) → (P → Q) → OnTrue b P → OnTrue b Q
+on_true true P Q f p = f p
+on_true false P Q f p = tt
+
+on_false : (b : Bool) (P Q : Type 0) → (P → Q) → OnFalse b P → OnFalse b Q
+on_false true P Q f p = tt
+on_false false P Q f p = f p
+
+module _ (before mid now : Option (List ℕ)) (old part new : Page) (last : ℕ) (f g : Machine) (keeps : KeepsLines mid now part new) (count : new.count ≡ part.count) where
+  pub goes_on_flushed : (b : Bool) → OnTrue b (GoesOn before mid old part f g) → OnTrue b (GoesOn before now old new f g)
+  goes_on_flushed b = on_true b (GoesOn before mid old part f g) (GoesOn before now old new f g) (λ goes. record { way = λ w way. way_flushed w mid now part new g keeps (goes.way w way); waiting = goes.waiting })
+
+  pub room_flushed : (b : Bool) → OnTrue b (part.count ≤ last) → OnTrue b (new.count ≤ last)
+  room_flushed b = on_true b (part.count ≤ last) (new.count ≤ last) (λ low. omega (arith, low, count))
+
+  pub full_up_flushed : (b : Bool) → OnFalse b (FillsUp before mid old part last f g) → OnFalse b (FillsUp before now old new last f g)
+  full_up_flushed b = on_false b (FillsUp before mid old part last f g) (FillsUp before now old new last f g) (λ fills w way. full_flushed w mid now part new last g keeps count (fills w way))
+
+pub part_flushed : (before mid now : Option (List ℕ)) (old part : Page) (last : ℕ) (f g : Machine) (b : Bool) → OnTrue b (GoesOn before mid old part f g) → OnFalse b (FillsUp before mid old part last f g)
+    → WritesFront mid now part → WritesPart before now old f
+part_flushed before mid now old part last f g true goes fills writes w way = way_written w mid now part g writes (goes.way w way)
+part_flushed before mid now old part last f g false goes fills writes w way = full_written w mid now part last g writes (fills w way)

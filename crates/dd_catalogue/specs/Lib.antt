@@ -3,3 +3,4 @@ pub mod Rounds
 pub mod Ways
 pub mod Runs
 pub mod Outputs
+pub mod Saves
