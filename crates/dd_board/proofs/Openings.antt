@@ -12,6 +12,7 @@ use Rattle.dd_model.specs.declared.jobs.Position.TheVariants.{At}
 use Rattle.dd_model.proofs.Differing.{smaller_less}
 use Rattle.dd_model.proofs.Orders.{nat_cmp-less, nat_cmp-same, job_cmp_total, job_not_below_itself}
 use Rattle.dd_model.proofs.Without.{without_none, without_unique}
+use Rattle.dd_model.proofs.Positions.{not_before_itself}
 use Rattle.dd_front.specs.Machine.{Machine, IsOpened, StandsAt, open_entries}
 use Rattle.dd_front.specs.declared.event.Event.TheVariants.{Resume}
 use Rattle.dd_front.specs.Step.{IsStep, Resumes}
@@ -22,9 +23,6 @@ wholly_below : (j k : Job) → IsWhollyBefore (At j) k → IsJobBelow k j
 wholly_below j k (inl less) = rw (nat_cmp-less k.size j.size less) refl
 wholly_below j k (inr (same, smaller)) = rw (same, nat_cmp-same j.size) (smaller_less k.prefix j.prefix smaller)
 
-not_itself : (j : Job) → IsWhollyBefore (At j) j → ⊥
-not_itself j before = job_not_below_itself j j (wholly_below j j before) refl refl
-
 not_later : (j k : Job) → IsJobBelow j k → IsWhollyBefore (At j) k → ⊥
 not_later j k below before = job_not_below_itself j j (job_cmp_total.trans j k j below (wholly_below j k before)) refl refl
 
@@ -32,7 +30,7 @@ not_later j k below before = job_not_below_itself j j (job_cmp_total.trans j k j
 none_before : (jobs : List Job) → AreAscendingJobs jobs → AllByRecursion (λ k. ¬ IsWhollyBefore (first_place jobs) k) jobs
 none_before [] ascending = tt
 none_before (job ∷ jobs) ascending =
-    (not_itself job, all-map (IsJobBelow job) (λ k. ¬ IsWhollyBefore (At job) k) jobs (λ k below. not_later job k below) ascending.0)
+    (not_before_itself job, all-map (IsJobBelow job) (λ k. ¬ IsWhollyBefore (At job) k) jobs (λ k below. not_later job k below) ascending.0)
 
 stands_first : (jobs : List Job) (at : Position) → StandsAt (first_place jobs) (open_entries 1 jobs) at → at ≡ first_place jobs
 stands_first [] at stands = stands

@@ -57,9 +57,3 @@ pub equal_from : (o : Ordering) → is_eq o ≡ true → o ≡ Equal
 equal_from Less e = cc
 equal_from Equal e = refl
 equal_from Greater e = cc
-
--- what holds of each item holds of the one at a place
-pub inside_of : (xs : List ℕ) (n k : ℕ) → ((d : ℕ) → 1 ≤ d → d ≤ length xs → (1 ≤ item xs d) × (item xs d ≤ n)) → k < length xs → (1 ≤ get_or xs k 0) × (get_or xs k 0 ≤ n)
-inside_of xs n k all inside =
-    let back : k + 1 - 1 ≡ k = omega arith in
-    subst (λ j. (1 ≤ get_or xs j 0) × (get_or xs j 0 ≤ n)) back (all (k + 1) (omega arith) (omega arith))

@@ -17,7 +17,7 @@ use Rattle.dd_model.proofs.Ascending.{begins_itself}
 use Rattle.dd_model.proofs.Differing.{smaller_apart}
 use Rattle.dd_model.proofs.Lists.{Contains-none, Contains-head, Contains-later, Contains-cases, each_of, all_from_members}
 use Rattle.dd_model.proofs.Pairs.{ArePairs, part_pairs, pairs_ascending_jobs, pairs_apart, pairs_across, pairs_back}
-use Rattle.dd_model.proofs.Positions.{begun_before, under_wholly_before}
+use Rattle.dd_model.proofs.Positions.{begun_before, under_wholly_before, not_before_itself}
 use Rattle.dd_model.proofs.Without.{without_all, without_first, without_kept, without_none, without_pairs, without_there}
 use Rattle.dd_front.specs.declared.entry.Entry.{Entry}
 use Rattle.dd_front.specs.Machine.{StandsAt, jobs_of}
@@ -102,10 +102,6 @@ one_first R (z ∷ zs) x y pairs hx hy =
     (λ fx. ⊎_elim (λ fy. inl (sym fx ∙ fy)) (λ ly. inr (inl (subst (λ a. R a y) fx (each_of (R z) zs y pairs.0 ly)))) (Contains-cases z y zs hy))
     (λ lx. ⊎_elim (λ fy. inr (inr (subst (λ a. R a x) fy (each_of (R z) zs x pairs.0 lx)))) (λ ly. one_first R zs x y pairs.1 lx ly) (Contains-cases z y zs hy))
     (Contains-cases z x zs hx)
-
-not_before_itself : (job : Job) → IsWhollyBefore (At job) job → ⊥
-not_before_itself job (inl low) = omega (arith, low)
-not_before_itself job (inr (same, smaller)) = (smaller_apart job.prefix job.prefix smaller).0 (begins_itself job.prefix)
 
 -- Where a machine stands that still has these jobs, those jobs are the ones that are not wholly before.
 pub jobs_left : (q : Request) (at p : Position) (jobs gone : List Job) (es : List Entry) → AreJobsFrom q at jobs → jobs ≡ gone ++ jobs_of es → StandsAt at es p → AreJobsFrom q p (jobs_of es)

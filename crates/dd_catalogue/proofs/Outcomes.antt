@@ -19,6 +19,7 @@ use Rattle.dd_model.proofs.Ascending.{begins_append}
 use Rattle.dd_model.proofs.Lists.{all_from_members}
 use Rattle.dd_model.proofs.Positions.{before_or_not, before_symbol, below_over}
 use Rattle.dd_model.proofs.Texts.{split_lines, lines_unique}
+use Rattle.dd_model.proofs.Options.{some_same}
 use Rattle.dd_front.specs.Held.{IsHeld}
 use Rattle.dd_front.specs.Machine.{Machine, StandsAt, jobs_of}
 use Rattle.dd_front.specs.Step.{at_symbol}
@@ -172,9 +173,6 @@ shown_earlier s p n output lines m member is =
 
 -- ## Ends of the run's own
 
-one_pause : (a b : ℕ) → Some a ≡ Some b → a ≡ b
-one_pause a b e = cc
-
 pub finish_whole : (s : Start) (pause : Option ℕ) (limit : Limit) (count : ℕ) (output : List ℕ) → IsLimit s.lines pause limit → AreLinesBetween s.request s.at End s.lines count output → count ≤ limit.last
     → WritesRest s pause output
 finish_whole s pause limit count output is lines low = go limit.pauses is
@@ -184,7 +182,7 @@ finish_whole s pause limit count output is lines low = go limit.pauses is
       count = count;
       written = lines;
       within = let within = p.within in omega (arith, within, low);
-      few = λ n asked. let same = one_pause p.lines n (sym p.asked ∙ asked) in let last = p.last_is in omega (arith, same, last, low);
+      few = λ n asked. let same = some_same p.lines n (sym p.asked ∙ asked) in let last = p.last_is in omega (arith, same, last, low);
     }
     go false p = record {
       count = count;

@@ -3,7 +3,7 @@ use Rattle.std.proofs.Common.{get_or, ◌≡◌, ◌⊎◌, ◌≤◌, ◌<◌, 
 use Rattle.std.specs.Prelude.{codes}
 use Rattle.dd_model.specs.Allowed.{IsFrom}
 use Rattle.dd_model.specs.declared.allowed.Allowed.{Allowed}
-use Rattle.dd_model.proofs.AllowedSets.{same_sets}
+use Rattle.dd_model.proofs.AllowedSets.{same_sets, same_from_sets}
 use Rattle.dd_check.specs.declared.checkpoint.Checkpoint.{Checkpoint}
 use Rattle.dd_check.specs.declared.faults.CheckFault.{CheckFault}
 use Rattle.dd_check.specs.declared.faults.CheckFault.TheVariants.{Version, Shape, Range, Position, Long, Memory}
@@ -65,11 +65,6 @@ not_both ls a b = differ (sym a.line_is ∙ b.line_is)
 same_item_sets : (xs ys : List Item) (a b : Allowed) → xs ≡ ys → IsSetOf xs a → IsSetOf ys b → a ≡ b
 same_item_sets xs ys a b e p q =
     same_sets a b (λ m. (λ h. (q m).1 (subst (λ zs. HasNumberIn zs m) e ((p m).0 h)), λ h. (p m).1 (subst (λ zs. HasNumberIn zs m) (sym e) ((q m).0 h))))
-
-same_from_sets : (f g : ℕ) (a b : Allowed) → f ≡ g → IsFrom f a → IsFrom g b → a ≡ b
-same_from_sets f g a b e p q =
-    let p2 : IsFrom g a = subst (λ k. IsFrom k a) e p in
-    same_sets a b (λ m. (λ h. (q m).1 ((p2 m).0 h), λ h. (p2 m).1 ((q m).0 h)))
 
 same_values : (ls : List Text) (c d : Checkpoint) → TellsCheck ls c → TellsCheck ls d → c ≡ d
 same_values ls c d s t =

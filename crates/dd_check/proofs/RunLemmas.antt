@@ -10,6 +10,7 @@ use Rattle.std.proofs.Math.ListN.{get_or-eq_default}
 use Rattle.dd_model.proofs.Lists.{Contains-none, Contains-one, Contains-head}
 use Rattle.dd_model.specs.declared.allowed.Allowed.{Allowed}
 use Rattle.dd_model.specs.Allowed.{IsIn}
+use Rattle.dd_model.proofs.AllowedLemmas.{in_small}
 use Rattle.dd_check.specs.declared.items.Item.{Item}
 use Rattle.dd_check.specs.declared.items.Item.TheVariants.{One, Span}
 use Rattle.dd_check.specs.Sets.{item_text, set_text, low_of, high_of, IsItem, ArePartedItems, AreParted, AreItems, HasNumberIn, IsSetOf}
@@ -17,12 +18,6 @@ use Rattle.dd_check.specs.Texts.{Text}
 use Rattle.dd_check.specs.Writing.{run_of, next_item, AddsSet}
 use Rattle.dd_check.proofs.JoinLemmas.{joined_more}
 use Rattle.dd_check.proofs.SetReads.{all_more}
-
-pub in_small : (a : Allowed) (m : ℕ) → IsIn a m → m ≤ 216
-in_small a m h = elim (cases_lt m 217) [
-  | inl low ↦ omega arith
-  | inr high ↦ let whole = a.whole in let past = get_or-eq_default a.table false {n = m} (omega arith) in cc
-]
 
 -- ---- the item of a row of numbers
 

@@ -100,12 +100,6 @@ no_number m h = Contains-none h.item h.among
 
 -- ---- ranges of numbers
 
-pub up_to : {P Q : Type 0} (low high last m : ℕ) → last ≡ high + 1 → (P → Q ⊎ ((low ≤ m) × (m < last))) → P → Q ⊎ ((low ≤ m) × (m ≤ high))
-up_to low high last m e f p = elim (f p) [ inl q ↦ inl q | inr r ↦ let below = r.1 in inr (r.0, omega arith) ]
-
-pub from_up_to : {P Q : Type 0} (low high last m : ℕ) → last ≡ high + 1 → (Q ⊎ ((low ≤ m) × (m < last)) → P) → Q ⊎ ((low ≤ m) × (m ≤ high)) → P
-from_up_to low high last m e f s = f (elim s [ inl q ↦ inl q | inr r ↦ let below = r.1 in inr (r.0, omega arith) ])
-
 -- the set has the numbers of the items that are gone over, and what is left has those of the others
 pub record IsSetSoFar (all rest : List Item) (set : Allowed) : Type 0 where
   pub there : (m : ℕ) → IsIn set m → HasNumberIn all m

@@ -158,10 +158,6 @@ set_told None key word words e h = λ items row.
     h items (record { text_is = ap (λ ws. get_or ws 1 []) (sym e ∙ row.words_are); some = row.some; short = row.short })
 set_told (Some items) key word words e h = record { words_are = e ∙ ap (λ w. key ∷ w ∷ []) h.text_is; some = h.some; short = h.short }
 
--- an answer that is none
-pub given_none : {A P : Type 0} (r : Option A) → r ≡ None → P → IfNone r P
-given_none {P = P} r e p = subst (λ x. IfNone x P) (sym e) p
-
 -- whether the first line is the one that is asked for
 pub is_first_line : (ls : List (Bor Text)) (d : Bor Text) (line : Text) (b : Bool) → b ≡ pointwise nat_eq (get_or ls 0 d).now line → 1 < length ls
     → IsTrue b ↔ IsLine (texts ls) 1 line

@@ -11,6 +11,7 @@ use Rattle.dd_model.specs.Small.{IsSmallSymbol}
 use Rattle.dd_model.specs.Isomorphic.{IsMorphism}
 use Rattle.dd_model.proofs.CountFrom.{length-count_from, item-count_from}
 use Rattle.dd_model.proofs.Words.{act-append, backwards, act-backwards}
+use Rattle.dd_model.proofs.Lists.{ones_at}
 use Rattle.dd_cells.specs.Orientation.{IsOriented, color}
 use Rattle.dd_covers.specs.TorusCover.{sum_along}
 use Rattle.dd_covers.specs.Sheets.{sheets_of, below_sheets}
@@ -182,9 +183,6 @@ two_are_connected s is all not_oriented e h =
     (cases_Bool (is_met tree.steps e))
 
 -- ## Shifts that are kept as ones
-
-ones_at : (n d : ℕ) → 1 ≤ d → d ≤ n → item (replicate n 1) d ≡ 1
-ones_at n d low high = let inside : d - 1 < n = omega (arith, low, high) in get_or-replicate n (d - 1) 1 0 inside
 
 pub are_ones : (s : Symbol) (x : Shifts) (n : ℕ) → n ≡ s.size → x.x0.items ≡ replicate n 1 → x.x1.items ≡ replicate n 1 → x.x2.items ≡ replicate n 1 → AreOnes s x
 are_ones s x n size a b c =

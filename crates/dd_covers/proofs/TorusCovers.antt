@@ -103,8 +103,3 @@ within_lower s middle t k lower upper m is d low high =
     let places = m.morphism.images in
     let w = down.within d (low, omega arith) in
     (w.0, omega (arith, w.1))
-
-pub inside_at : (xs : List ℕ) (n k : ℕ) → ((d : ℕ) → 1 ≤ d → d ≤ length xs → (1 ≤ item xs d) × (item xs d ≤ n)) → k < length xs → (1 ≤ get_or xs k 0) × (get_or xs k 0 ≤ n)
-inside_at xs n k within inside =
-    let e : k + 1 - 1 ≡ k = omega arith in
-    subst (λ j. (1 ≤ get_or xs j 0) × (get_or xs j 0 ≤ n)) e (within (k + 1) (omega arith) (omega arith))

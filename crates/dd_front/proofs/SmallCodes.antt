@@ -14,12 +14,7 @@ use Rattle.dd_model.specs.declared.requests.Request.{Request}
 use Rattle.dd_model.proofs.AllDegrees.{listed_item}
 use Rattle.dd_model.proofs.Ascending.{all-append}
 use Rattle.dd_model.proofs.Lists.{all_from_members}
-
-in_set : (a : Allowed) (m : ℕ) → IsIn a m → m ≤ 216
-in_set a m is = ⊎_elim
-    (λ (low : m < 217). omega arith)
-    (λ (past : 217 ≤ m). let none : get_or a.table m false ≡ false = get_or_past a.table m false (let whole = a.whole in omega arith) in absurd cc)
-    (cases_lt m 217)
+use Rattle.dd_model.proofs.AllowedLemmas.{in_small}
 
 images_small : (s : Symbol) (k n : ℕ) → AreInvolutions s → s.size ≤ 36 → 1 ≤ k → k + n ≤ s.size + 1 → AllByRecursion (λ m. m < 256) (flat_map (images s) (count_from k n))
 images_small s k zero involutions few one within = tt
@@ -35,7 +30,7 @@ images_small s k (suc n) involutions few one within =
 degrees_small : (a : Allowed) (xs : List ℕ) (n : ℕ) → length xs ≡ n → ((d : ℕ) → (1 ≤ d) × (d ≤ n) → IsIn a (item xs d)) → AllByRecursion (λ m. m < 256) xs
 degrees_small a xs n long each = all_from_members (λ m. m < 256) xs (λ x there.
     let d = listed_item xs n x long there in
-    let low = in_set a x (subst (IsIn a) d.3 (each d.0 (d.1, d.2))) in
+    let low = in_small a x (subst (IsIn a) d.3 (each d.0 (d.1, d.2))) in
     omega arith)
 
 pub small_code : (q : Request) (s : Symbol) → IsValid q → IsMember q s → AllByRecursion (λ m. m < 256) (code s)

@@ -1,11 +1,11 @@
 -- Two sets with the same numbers are equal.
 use mathlib.Core.HLevel.{is_prop→PathP}
-use Rattle.std.proofs.Common.{◌≡◌, ℕ, ◌↔◌, Bool, true, false, IsTrue, length, slice_index_or, refl, sym, ◌∙◌}
+use Rattle.std.proofs.Common.{◌≡◌, ℕ, ◌↔◌, Bool, true, false, IsTrue, length, slice_index_or, refl, sym, ◌∙◌, subst}
 use Rattle.std.proofs.Math.Bool.{Bool-set}
 use Rattle.std.proofs.Math.Nat.{ℕ_set}
 use Rattle.std.proofs.lemmas.List.{ext_get_or}
 use Rattle.dd_model.specs.declared.allowed.Allowed.{Allowed}
-use Rattle.dd_model.specs.Allowed.{IsIn}
+use Rattle.dd_model.specs.Allowed.{IsIn, IsFrom}
 
 same_truth : (x y : Bool) → (IsTrue x ↔ IsTrue y) → x ≡ y
 same_truth true true h = refl
@@ -25,3 +25,8 @@ same_sets a b same =
       whole = is_prop→PathP (λ j. length (e j) ≡ 217) (λ j. hlevel ℕ_set) a.whole b.whole i;
       no_zero = is_prop→PathP (λ j. slice_index_or (e j) 0 false ≡ false) (λ j. hlevel Bool-set) a.no_zero b.no_zero i;
     }
+
+pub same_from_sets : (f g : ℕ) (a b : Allowed) → f ≡ g → IsFrom f a → IsFrom g b → a ≡ b
+same_from_sets f g a b e p q =
+    let p2 : IsFrom g a = subst (λ k. IsFrom k a) e p in
+    same_sets a b (λ m. (λ h. (q m).1 ((p2 m).0 h), λ h. (p2 m).1 ((q m).0 h)))

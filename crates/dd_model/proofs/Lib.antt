@@ -1,4 +1,5 @@
 pub mod Lists
+pub mod Options
 pub mod SmallerPlaces
 pub mod CountFrom
 pub mod Numbers

@@ -1,8 +1,9 @@
 -- Lists: their members, and lists of numbers.
-use Rattle.std.proofs.Common.{◌≡◌, ℕ, zero, suc, ◌⊎◌, List, [], ◌∷◌, get_or, map, replicate, refl, sym, ap, ◌∙◌, subst, inl, inr, ⊎_elim, arith}
-use Rattle.std.proofs.lemmas.List.{get_or-map}
+use Rattle.std.proofs.Common.{◌≡◌, ℕ, zero, suc, ◌+◌, ◌-◌, ◌<◌, ◌≤◌, ◌⊎◌, List, [], ◌∷◌, length, get_or, set, map, replicate, refl, sym, ap, ◌∙◌, subst, inl, inr, ⊎_elim, arith}
+use Rattle.std.proofs.lemmas.List.{get_or-map, get_or-replicate}
 use Rattle.std.proofs.lemmas.List.Elements.{All-from_recursion, All-contains}
 use Rattle.std.specs.List.{Contains, AllByRecursion}
+use Rattle.dd_model.specs.Symbol.{item}
 
 -- ## Members
 
@@ -61,3 +62,19 @@ pub zero_at : (n k : ℕ) → ◌≡◌ {A = ℕ} (get_or (replicate n 0) k 0) 0
 zero_at zero k = refl
 zero_at (suc n) zero = refl
 zero_at (suc n) (suc k) = zero_at n k
+
+-- at each place of a list of ones is one
+pub ones_at : (n d : ℕ) → 1 ≤ d → d ≤ n → item (replicate n 1) d ≡ 1
+ones_at n d low high = let inside : d - 1 < n = omega (arith, low, high) in get_or-replicate n (d - 1) 1 0 inside
+
+-- what holds of each item holds of the one at a place
+pub inside_of : (xs : List ℕ) (n k : ℕ) → ((d : ℕ) → 1 ≤ d → d ≤ length xs → (1 ≤ item xs d) × (item xs d ≤ n)) → k < length xs → (1 ≤ get_or xs k 0) × (get_or xs k 0 ≤ n)
+inside_of xs n k all inside =
+    let back : k + 1 - 1 ≡ k = omega arith in
+    subst (λ j. (1 ≤ get_or xs j 0) × (get_or xs j 0 ≤ n)) back (all (k + 1) (omega arith) (omega arith))
+
+-- a list is seen as before where an item is changed and what is seen of it is not
+pub map_set_same : {A B : Type 0} (f : A → B) (xs : List A) (i : ℕ) (x y : A) → x ≡ get_or xs i x → f y ≡ f x → map f (set xs i y) ≡ map f xs
+map_set_same f [] i x y at same = refl
+map_set_same f (a ∷ xs) zero x y at same = ap (λ b. b ∷ map f xs) (same ∙ ap f at)
+map_set_same f (a ∷ xs) (suc i) x y at same = ap (λ bs. f a ∷ bs) (map_set_same f xs i x y at same)

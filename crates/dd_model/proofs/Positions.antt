@@ -186,3 +186,8 @@ within_or_not j (At p) =
     (λ same. ⊎_elim (λ h. inl (same, h)) (λ not. inr (λ h. not h.1)) (begins_or_not j.prefix p.prefix))
     (λ different. inr (λ h. different h.0))
     (cases_eq j.size p.size)
+
+-- no job is before itself
+pub not_before_itself : (job : Job) → IsWhollyBefore (At job) job → ⊥
+not_before_itself job (inl low) = omega (arith, low)
+not_before_itself job (inr (same, smaller)) = (smaller_apart job.prefix job.prefix smaller).0 (begins_itself job.prefix)

@@ -56,6 +56,3 @@ pub use worked::{
     single_chambers_are_three, squares_have_a_symbol, truncated_squares_backwards_are_not_least,
     truncated_squares_have_a_symbol,
 };
-
-#[cfg(test)]
-mod tests;

@@ -23,6 +23,3 @@ pub use std_sink::StdSink;
 pub use store::{Fetched, Store, StoreFault};
 pub use sure_sink::SureSink;
 pub use sure_store::SureStore;
-
-#[cfg(test)]
-mod tests;

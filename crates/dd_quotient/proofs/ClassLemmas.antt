@@ -5,19 +5,17 @@ use Rattle.dd_model.specs.declared.index.Index.{Index}
 use Rattle.dd_model.specs.declared.index.Index.TheVariants.{Zero, One, Two}
 use Rattle.dd_model.specs.Symbol.{Symbol, IsChamber, AreInvolutions, Word, item, op, act}
 use Rattle.dd_model.specs.Minimal.{Alike, Minimal}
+use Rattle.dd_model.proofs.Lists.{ones_at}
 use Rattle.dd_quotient.specs.Alike.{AreAlikeClasses, IsRefined, signature}
 use Rattle.dd_quotient.proofs.SumLemmas.{total, total-lt, total-bound}
 
--- each chamber has the least of its class, and alike chambers are in one class
+-- each chamber has the least of its class, and alike chambers are in ones_at class
 pub record IsClasses (s : Symbol) (c : List ℕ) : Type 0 where
   pub images : length c ≡ s.size
   pub within : (d : ℕ) → IsChamber s d → IsChamber s (item c d)
   pub own : (d : ℕ) → IsChamber s d → item c (item c d) ≡ item c d
   pub low : (d : ℕ) → IsChamber s d → item c d ≤ d
   pub alike : (d e : ℕ) → IsChamber s d → IsChamber s e → Alike s d e → item c d ≡ item c e
-
-one : (n d : ℕ) → 1 ≤ d → d ≤ n → item (replicate n 1) d ≡ 1
-one n d low high = get_or-replicate n (d - 1) 1 0 (omega arith)
 
 six : (a b c d e f a' b' c' d' e' f' : ℕ) → a ≡ a' → b ≡ b' → c ≡ c' → d ≡ d' → e ≡ e' → f ≡ f'
     → a ∷ b ∷ c ∷ d ∷ e ∷ f ∷ [] ≡ a' ∷ b' ∷ c' ∷ d' ∷ e' ∷ f' ∷ []
@@ -58,7 +56,7 @@ sum_grows s c f i r other =
     let square : length f * s.size ≡ s.size * s.size = ap (λ n. n * s.size) fi in
     omega (arith, more, bound, square)
 
--- where nothing more is told, no word tells chambers of one class apart
+-- where nothing more is told, no word tells chambers of ones_at class apart
 signature-same : (s : Symbol) (c : List ℕ) → IsRefined s c c → (d e : ℕ) → IsChamber s d → IsChamber s e → item c d ≡ item c e → signature s c d ≡ signature s c e
 signature-same s c r d e h k same = sym (r.member d h) ∙ ap (signature s c) same ∙ r.member e k
 

@@ -8,6 +8,7 @@ use Rattle.std.specs.BTreeMap.{BTreeMap}
 use Rattle.std.proofs.lemmas.Map.Text.{is_eq-slice_cmp}
 use Rattle.std.proofs.lemmas.Slice.Eq.{bytes_eq-Decides}
 use Rattle.dd_model.specs.Symbol.{Symbol, IsChamber, item}
+use Rattle.dd_model.proofs.Options.{some_same}
 use Rattle.dd_quotient.specs.Alike.{IsMet, IsRefined, first_of, signature}
 
 same_key : (xs ys : List ℕ) → is_eq (slice_cmp nat_cmp xs ys) ≡ true → xs ≡ ys
@@ -23,9 +24,6 @@ pick false o d e h = inr h
 keep : (b : Bool) (o : Option ℕ) (d e : ℕ) → (b ≡ true → o ≡ None) → o ≡ Some e → cond b (Some d) o ≡ Some e
 keep true o d e none h = let n = none refl in absurd (cc)
 keep false o d e none h = h
-
-some_same : (x y : ℕ) → Some x ≡ Some y → x ≡ y
-some_same x y h = cc
 
 -- a chamber is kept for a signature that had none
 pub met_new : (m n : BTreeMap (List ℕ) ℕ) (own : List ℕ) (d : ℕ)

@@ -6,12 +6,6 @@ use Rattle.std.proofs.lemmas.List.{length-map}
 use Rattle.std.proofs.lemmas.List.Elements.{All-append, All-cons}
 use Rattle.dd_rack.specs.Numbers.{times}
 
--- where the change keeps what is seen of it
-pub map_set_same : {A B : Type 0} (f : A → B) (xs : List A) (i : ℕ) (x y : A) → x ≡ slice_index_or xs i x → f y ≡ f x → map f (slice_set xs i y) ≡ map f xs
-map_set_same f [] i x y at same = refl
-map_set_same f (a ∷ xs) zero x y at same = ap (λ b. b ∷ map f xs) (same ∙ ap f at)
-map_set_same f (a ∷ xs) (suc i) x y at same = ap (λ bs. f a ∷ bs) (map_set_same f xs i x y at same)
-
 pub map_set_at : {A B : Type 0} (f : A → B) (xs : List A) (i : ℕ) (y : A) (d : B) → i < length xs → slice_index_or (map f (slice_set xs i y)) i d ≡ f y
 map_set_at f [] i y d lt = absurd (omega (arith, lt))
 map_set_at f (a ∷ xs) zero y d lt = refl

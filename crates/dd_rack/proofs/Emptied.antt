@@ -3,10 +3,11 @@ use Rattle.std.proofs.Common.{◌≡◌, ℕ, ◌+◌, ◌<◌, ◌≤◌, ◌�
 use Rattle.std.proofs.lemmas.Bool.{cases_lt}
 use Rattle.std.proofs.lemmas.List.{get_or-map}
 use Rattle.std.proofs.lemmas.List.Sums.{sum_by-cons}
+use Rattle.dd_model.proofs.Lists.{map_set_same}
 use Rattle.dd_board.specs.declared.naming.Naming.{Ghosts}
 use Rattle.dd_rack.specs.declared.hand.Hand.{Hand}
 use Rattle.dd_rack.specs.Hands.{hand_pushed, hand_popped, HasPoppedAll}
-use Rattle.dd_rack.proofs.Changed.{map_set_same, map_at, same_length, all_head, all_tail}
+use Rattle.dd_rack.proofs.Changed.{map_at, same_length, all_head, all_tail}
 
 module _ {N : Type 0} {names : Ghosts N} where
   pub not_empty : (hands before : List (Hand N names)) (i : ℕ) (x : Hand N names) → i < length hands → map hand_pushed hands ≡ map hand_pushed before → map hand_popped hands ≡ map hand_popped before

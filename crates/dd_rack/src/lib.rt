@@ -12,8 +12,6 @@ mod owning;
 mod rack;
 mod rest;
 mod slot;
-#[cfg(test)]
-mod tests;
 mod way;
 mod ways;
 

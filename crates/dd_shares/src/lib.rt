@@ -21,6 +21,3 @@ pub use laws::{
 };
 pub use shares::{Mark, Shares, parity_rules_out};
 pub use sides::SHARE_UNIT;
-
-#[cfg(test)]
-mod tests;

@@ -1,6 +1,7 @@
 -- A word has at most one form.
 use Rattle.std.proofs.Common.{◌≡◌, ◌≢◌, ◌==◌, ℕ, false, cond, [], ◌∷◌, Option, Some, None, refl, sym, ap, ◌∙◌, arith}
 use Rattle.std.proofs.lemmas.Bool.Decides.{nat_tests}
+use Rattle.dd_model.proofs.Options.{some_same}
 use Rattle.dd_words.specs.declared.settings.Setting.{Setting}
 use Rattle.dd_words.specs.declared.settings.Setting.TheVariants.{Tiles, Vertices, LeastFace, LeastDegree, Faces, Degrees, Minimal, Workers, Round, Pause, Checkpoint, Cell}
 use Rattle.dd_words.specs.declared.verbs.Verb.{Verb}
@@ -74,9 +75,6 @@ sorted v w end h = ap sort h
 sorted v w (flag s) h = ap sort h.1 ∙ sort_dashed s ∙ ap (λ b. Some (cond b (spaced s) (flag s))) h.0.flag
 sorted v w (spaced s) h = ap sort h.1 ∙ sort_dashed s ∙ ap (λ b. Some (cond b (spaced s) (flag s))) h.0.valued
 sorted v w (tied s value) h = ap sort h.1 ∙ sort_assigned s value
-
-some_same : (f g : Form) → Some f ≡ Some g → f ≡ g
-some_same f g e = cc
 
 pub same_form : (v : Verb) (w : Text) (f g : Form) → IsForm v w f → IsForm v w g → f ≡ g
 same_form v w f g a b = some_same f g (sym (sorted v w f a) ∙ sorted v w g b)

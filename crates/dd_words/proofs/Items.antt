@@ -163,12 +163,6 @@ item_added w low high a b item same = record {
   );
 }
 
-pub up_to : {P Q : Type 0} (low high last m : ℕ) → last ≡ high + 1 → (P → Q ⊎ ((low ≤ m) × (m < last))) → P → Q ⊎ ((low ≤ m) × (m ≤ high))
-up_to low high last m e f p = elim (f p) [ inl q ↦ inl q | inr r ↦ let below = r.1 in inr (r.0, omega arith) ]
-
-pub from_up_to : {P Q : Type 0} (low high last m : ℕ) → last ≡ high + 1 → (Q ⊎ ((low ≤ m) × (m < last)) → P) → Q ⊎ ((low ≤ m) × (m ≤ high)) → P
-from_up_to low high last m e f s = f (elim s [ inl q ↦ inl q | inr r ↦ let below = r.1 in inr (r.0, omega arith) ])
-
 pub not_asked : (w : Text) (low high : ℕ) → AreBounds low high w → ((1 ≤ low) → (low ≤ high) → (high ≤ 216) → ⊥) → AsksForNumbers w → ⊥
 not_asked w low high bounds none h =
     let same = same_bounds w h.low h.high low high h.item.bounds bounds in

@@ -2,9 +2,6 @@
 use Rattle.std.proofs.Common.{◌≡◌, Option, None, Some, sym, subst}
 use Rattle.std.specs.Prelude.{IfNone}
 
-pub given_none : {A P : Type 0} (r : Option A) → r ≡ None → P → IfNone r P
-given_none {P = P} r e p = subst (λ x. IfNone x P) (sym e) p
-
 pub none_then : {A P Q : Type 0} (r : Option A) → (P → Q) → IfNone r P → IfNone r Q
 none_then None f p = f p
 none_then (Some x) f p = tt

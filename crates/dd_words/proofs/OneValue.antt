@@ -2,7 +2,7 @@
 use Rattle.std.proofs.Common.{◌≡◌, ◌≤◌, ◌==◌, ℕ, zero, suc, inl, inr, Bool, true, false, Option, Some, None, List, [], ◌∷◌, length, refl, sym, ap, ◌∙◌, subst, arith}
 use Rattle.dd_model.specs.Allowed.{IsFrom}
 use Rattle.dd_model.specs.declared.allowed.Allowed.{Allowed}
-use Rattle.dd_model.proofs.AllowedSets.{same_sets}
+use Rattle.dd_model.proofs.AllowedSets.{same_sets, same_from_sets}
 use Rattle.dd_words.specs.declared.settings.Setting.{Setting}
 use Rattle.dd_words.specs.declared.settings.Setting.TheVariants.{Cell}
 use Rattle.dd_words.specs.declared.commands.Frame.{Frame}
@@ -93,15 +93,12 @@ one_flag ss s false false a b = refl
 pub one_set_word : (w : Text) (a b : Allowed) → IsSetWord w a → IsSetWord w b → a ≡ b
 one_set_word w a b x y = same_sets a b (λ m. (λ h. (y.members m).1 ((x.members m).0 h), λ h. (x.members m).1 ((y.members m).0 h)))
 
-one_from : (m n : ℕ) (a b : Allowed) → m ≡ n → IsFrom m a → IsFrom n b → a ≡ b
-one_from m n a b e x y = let z = subst (λ k. IsFrom k a) e x in same_sets a b (λ k. (λ h. (y k).1 ((z k).0 h), λ h. (z k).1 ((y k).0 h)))
-
 pub one_set : (ss : List Given) (set least : Setting) (a b : Allowed) → AreSingle ss → IsSet ss set least a → IsSet ss set least b → a ≡ b
 one_set ss set least a b single (inl x) (inl y) =
     one_set_word x.word a b x.is_set (subst (λ w. IsSetWord w b) (same_value ss set y.word x.word single y.has x.has) y.is_set)
 one_set ss set least a b single (inl x) (inr y) = absurd (not_both ss set x.word x.has y.alone)
 one_set ss set least a b single (inr x) (inl y) = absurd (not_both ss set y.word y.has x.alone)
-one_set ss set least a b single (inr x) (inr y) = one_from x.first y.first a b (one_number ss least 1 36 3 x.first y.first single x.is_first y.is_first) x.is_set y.is_set
+one_set ss set least a b single (inr x) (inr y) = same_from_sets x.first y.first a b (one_number ss least 1 36 3 x.first y.first single x.is_first y.is_first) x.is_set y.is_set
 
 square_or_hex : (f g : Frame) → word_of_frame f ≡ word_of_frame g → f ≡ g
 square_or_hex Square Square e = refl

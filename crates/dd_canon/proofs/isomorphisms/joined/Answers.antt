@@ -1,5 +1,5 @@
 use Rattle.std.proofs.Common.{length, arith}
-use Rattle.dd_canon.proofs.OrderLemmas.{inside_of}
+use Rattle.dd_model.proofs.Lists.{inside_of}
 use Rattle.dd_canon.proofs.isomorphisms.joined.Goals as goal
 
 pub overflow_sub-chamber : goal.overflow_sub-chamber

@@ -1,6 +1,7 @@
 use Rattle.std.proofs.Common.{◌∙◌, arith}
+use Rattle.dd_model.proofs.Options.{given_none}
 use Rattle.dd_check.specs.Rows.{limits_row}
-use Rattle.dd_check.proofs.WordReads.{given_none, nth_word, same_word, five_words}
+use Rattle.dd_check.proofs.WordReads.{nth_word, same_word, five_words}
 use Rattle.dd_check.proofs.rows.limits_row.Goals as goal
 
 pub returns-in_err-read_filter-clause-none : goal.returns-in_err-read_filter-clause-none

@@ -1,6 +1,7 @@
 use Rattle.std.proofs.Common.{◌∙◌, arith}
+use Rattle.dd_model.proofs.Options.{given_none}
 use Rattle.dd_check.specs.Rows.{old_limits_row}
-use Rattle.dd_check.proofs.WordReads.{given_none, nth_word, same_word, seven_words}
+use Rattle.dd_check.proofs.WordReads.{nth_word, same_word, seven_words}
 use Rattle.dd_check.proofs.rows.old_limits_row.Goals as goal
 
 pub returns-in_err-read_number-5-clause-none : goal.returns-in_err-read_number-5-clause-none

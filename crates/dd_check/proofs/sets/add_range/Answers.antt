@@ -1,5 +1,5 @@
 use Rattle.std.proofs.Common.{◌≡◌, ◌+◌, arith}
-use Rattle.dd_check.proofs.SetReads.{up_to, from_up_to}
+use Rattle.dd_model.proofs.AllowedLemmas.{up_to, from_up_to}
 use Rattle.dd_check.proofs.sets.add_range.Goals as goal
 
 pub returns : goal.returns

@@ -1,11 +1,12 @@
 use Rattle.std.proofs.Common.{◌≡◌, ◌≢◌, ◌+◌, ◌<◌, ℕ, length, map, drop, All, slice_index_or, subst, refl, sym, ◌∙◌, ap, arith, ⊎_elim}
 use Rattle.std.proofs.lemmas.Bool.{cases_eq}
 use Rattle.std.proofs.lemmas.List.{get_or-map, length-map}
+use Rattle.dd_model.proofs.Lists.{map_set_same}
 use Rattle.dd_rack.specs.Ends.{owner_deque, owner_passes, owner_taken}
 use Rattle.dd_rack.specs.Hands.{hand_deck, hand_ways, hand_pushed, hand_popped, hand_passes, way_end}
 use Rattle.dd_rack.specs.Numbers.{times}
 use Rattle.dd_rack.specs.Places.{LeadsInto, others}
-use Rattle.dd_rack.proofs.Changed.{map_set_same, same_length, same_sum, map_at, item_at}
+use Rattle.dd_rack.proofs.Changed.{same_length, same_sum, map_at, item_at}
 use Rattle.dd_rack.proofs.Linked.{ways_in_rack}
 use Rattle.dd_rack.proofs.Joined.{same_next, drop_set, next_row, row_ways, row_sum}
 use Rattle.dd_rack.proofs.Others.{times_other}

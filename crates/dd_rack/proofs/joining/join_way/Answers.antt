@@ -1,6 +1,7 @@
 use Rattle.std.proofs.Common.{ap, arith, ◌-◌}
+use Rattle.dd_model.proofs.Lists.{map_set_same}
 use Rattle.dd_rack.specs.Hands.{hand_deck, hand_ways, hand_pushed, hand_popped, hand_passes}
-use Rattle.dd_rack.proofs.Changed.{map_set_same, got_within, sum_set, less_at}
+use Rattle.dd_rack.proofs.Changed.{got_within, sum_set, less_at}
 use Rattle.dd_rack.proofs.joining.join_way.Goals as goal
 
 pub returns-clause-decks : goal.returns-clause-decks

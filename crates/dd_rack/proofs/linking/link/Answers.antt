@@ -2,11 +2,12 @@ use Rattle.std.proofs.Common.{◌≡◌, ◌+◌, ◌<◌, ℕ, [], length, map,
 use Rattle.std.proofs.lemmas.Bool.{cases_eq}
 use Rattle.std.proofs.lemmas.List.{length-map}
 use Rattle.std.proofs.lemmas.List.Elements.{All-set, All-get_or}
+use Rattle.dd_model.proofs.Lists.{map_set_same}
 use Rattle.dd_rack.specs.Ends.{owner_deque, owner_passes, owner_taken, way_taken}
 use Rattle.dd_rack.specs.Hands.{hand_deck, hand_core, hand_ends, hand_passes, way_end, IsNew}
 use Rattle.dd_rack.specs.Numbers.{times}
 use Rattle.dd_rack.specs.Places.{LeadsInto, others}
-use Rattle.dd_rack.proofs.Changed.{map_set_same, map_set_at, map_set_else, map_through, same_length, map_at, item_at}
+use Rattle.dd_rack.proofs.Changed.{map_set_at, map_set_else, map_through, same_length, map_at, item_at}
 use Rattle.dd_rack.proofs.Linked.{AreWays, linked, all_new}
 use Rattle.dd_rack.proofs.Others.{times_other, times_itself}
 use Rattle.dd_rack.proofs.linking.link.Goals as goal

@@ -1,10 +1,11 @@
 use Rattle.std.proofs.Common.{◌≡◌, ◌+◌, ◌-◌, ◌<◌, ◌++◌, ◌∷◌, [], All, length, map, subst, sym, ◌∙◌, ap, arith, sum_by, Some, slice_get}
 use Rattle.std.proofs.lemmas.List.{map-append}
 use Rattle.std.proofs.lemmas.List.Sums.{sum_by_push}
+use Rattle.dd_model.proofs.Lists.{map_set_same}
 use Rattle.dd_rack.specs.Ends.{way_taken}
 use Rattle.dd_rack.specs.Hands.{hand_deck, hand_core, hand_passes, way_end}
 use Rattle.dd_rack.specs.Places.{LeadsInto, others}
-use Rattle.dd_rack.proofs.Changed.{map_set_same, same_length, more_at, map_through, map_get, all_snoc}
+use Rattle.dd_rack.proofs.Changed.{same_length, more_at, map_through, map_get, all_snoc}
 use Rattle.dd_rack.proofs.Others.{others_more, times_more}
 use Rattle.dd_rack.proofs.linking.ways_for.Goals as goal
 

@@ -1,6 +1,6 @@
 use Rattle.std.proofs.Common.{map}
+use Rattle.dd_model.proofs.Options.{given_none}
 use Rattle.dd_words.specs.Settings.{given_of}
-use Rattle.dd_words.proofs.NoneGiven.{given_none}
 use Rattle.dd_words.proofs.OneValue.{only_given}
 use Rattle.dd_words.proofs.given.number_if_given.Goals as goal
 

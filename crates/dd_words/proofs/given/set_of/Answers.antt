@@ -1,6 +1,7 @@
 use Rattle.std.proofs.Common.{map}
+use Rattle.dd_model.proofs.Options.{given_none}
 use Rattle.dd_words.specs.Settings.{given_of}
-use Rattle.dd_words.proofs.NoneGiven.{given_none, none_then}
+use Rattle.dd_words.proofs.NoneGiven.{none_then}
 use Rattle.dd_words.proofs.OneValue.{no_least, no_set}
 use Rattle.dd_words.proofs.given.set_of.Goals as goal
 

@@ -1,5 +1,5 @@
-use Rattle.dd_words.proofs.NoneGiven.{given_none}
 use Rattle.dd_words.proofs.requests.read_request.Goals as goal
+use Rattle.dd_model.proofs.Options.{given_none}
 
 pub returns-in_err-tiles-clause-none : goal.returns-in_err-tiles-clause-none
 returns-in_err-tiles-clause-none c =

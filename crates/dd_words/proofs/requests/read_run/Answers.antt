@@ -1,5 +1,5 @@
-use Rattle.dd_words.proofs.NoneGiven.{given_none}
 use Rattle.dd_words.proofs.requests.read_run.Goals as goal
+use Rattle.dd_model.proofs.Options.{given_none}
 
 pub returns-in_err-workers-clause-none : goal.returns-in_err-workers-clause-none
 returns-in_err-workers-clause-none c =

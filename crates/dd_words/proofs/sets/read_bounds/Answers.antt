@@ -1,5 +1,5 @@
-use Rattle.dd_words.proofs.NoneGiven.{given_none}
 use Rattle.dd_words.proofs.Items.{no_bounds_parted, no_bounds_alone}
+use Rattle.dd_model.proofs.Options.{given_none}
 use Rattle.dd_words.proofs.sets.read_bounds.Goals as goal
 
 pub returns-in_err-low-in-Some-clause-none : goal.returns-in_err-low-in-Some-clause-none

@@ -1,5 +1,5 @@
 use Rattle.std.proofs.Common.{arith}
-use Rattle.dd_words.proofs.NoneGiven.{given_none}
+use Rattle.dd_model.proofs.Options.{given_none}
 use Rattle.dd_words.proofs.Items.{not_asked}
 use Rattle.dd_words.proofs.sets.read_item.Goals as goal
 

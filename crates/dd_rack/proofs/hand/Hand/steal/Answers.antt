@@ -1,6 +1,6 @@
 use Rattle.std.proofs.Common.{ap}
+use Rattle.dd_model.proofs.Lists.{map_set_same}
 use Rattle.dd_rack.specs.Hands.{hand_deck, hand_passes, way_end}
-use Rattle.dd_rack.proofs.Changed.{map_set_same}
 use Rattle.dd_rack.proofs.hand.Hand.steal.Goals as goal
 
 pub returns-clause-place : goal.returns-clause-place

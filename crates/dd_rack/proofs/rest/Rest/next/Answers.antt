@@ -1,8 +1,9 @@
 use Rattle.std.proofs.Common.{◌<◌, ◌∙◌, ap, arith, length}
 use Rattle.std.proofs.lemmas.List.{length-set}
 use Rattle.std.proofs.lemmas.List.Elements.{All-set, All-get_or}
+use Rattle.dd_model.proofs.Lists.{map_set_same}
 use Rattle.dd_rack.specs.Hands.{hand_pushed, hand_popped, hand_passes, HasNoPasses}
-use Rattle.dd_rack.proofs.Changed.{map_set_same, same_sum, sum_set}
+use Rattle.dd_rack.proofs.Changed.{same_sum, sum_set}
 use Rattle.dd_rack.proofs.Emptied.{not_empty, emptied_on, all_emptied, all_sums}
 use Rattle.dd_rack.proofs.rest.Rest.next.Goals as goal
 

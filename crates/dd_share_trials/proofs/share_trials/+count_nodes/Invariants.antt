@@ -1,0 +1,24 @@
+use Rattle.std.proofs.Common.{◌≡◌, ◌-◌, ◌*◌, ◌<◌, ◌≤◌, length}
+use Rattle.dd_invol.specs.Rows.{partial_of, depth_of}
+use Rattle.dd_invol.specs.Stem.{IsStem, prefix_of, size_of}
+use Rattle.dd_invol.specs.Visit.{IsVisiting}
+use Rattle.dd_shares.specs.Kept.{AreKept}
+use Rattle.dd_share_trials.proofs.share_trials.+count_nodes.Given as goal
+
+abbrev pub decreases-count_nodes : goal.decreases-count_nodes
+decreases-count_nodes l = 3 * size_of l.stem.now - length (prefix_of l.stem.now)
+
+abbrev pub invariant-loop-number : goal.invariant-loop-number
+invariant-loop-number l = record {
+  small : l.k ≤ 217;
+  same : l.stem ≡ l.fn.stem;
+  stem : IsStem l.fn.stem;
+  visiting : IsVisiting l.visit;
+  kept : AreKept (partial_of l.fn.stem.rows) l.shares;
+  learnt : l.shares ≡ l.initial.shares;
+  short : length (prefix_of l.fn.stem) < 3 * size_of l.fn.stem;
+  here : l.here ≡ depth_of l.fn.stem.rows;
+}
+
+abbrev pub decreases-loop-number : goal.decreases-loop-number
+decreases-loop-number l = 217 - l.k

@@ -1,8 +1,0 @@
-use Rattle.dd_invol.specs.Rows.{partial_of}
-use Rattle.dd_shares.proofs.tests.answers.Goals as goal
-
-pub rules_out-before-requires-clause-kept : goal.rules_out-before-requires-clause-kept
-rules_out-before-requires-clause-kept c = c.start-shares.ensures.kept (partial_of c.empty-rows.result) c.empty-rows.ensures.size
-
-pub put-one-requires-clause-kept : goal.put-one-requires-clause-kept
-put-one-requires-clause-kept c = c.start-shares.ensures.kept (partial_of c.empty-rows.result) c.empty-rows.ensures.size

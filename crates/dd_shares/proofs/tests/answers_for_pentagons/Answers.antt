@@ -1,8 +1,0 @@
-use Rattle.dd_invol.specs.Rows.{partial_of}
-use Rattle.dd_shares.proofs.tests.answers_for_pentagons.Goals as goal
-
-pub rules_out-before-requires-clause-kept : goal.rules_out-before-requires-clause-kept
-rules_out-before-requires-clause-kept c = c.start-shares.ensures.kept (partial_of c.empty-rows.result) c.empty-rows.ensures.size
-
-pub put-requires-clause-kept : goal.put-requires-clause-kept
-put-requires-clause-kept c = c.start-shares.ensures.kept (partial_of c.empty-rows.result) c.empty-rows.ensures.size

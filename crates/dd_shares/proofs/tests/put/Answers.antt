@@ -1,7 +1,0 @@
-use Rattle.dd_shares.proofs.GrowthLemmas.{kept_of_longer}
-use Rattle.dd_shares.proofs.tests.put.Goals as goal
-
-pub learn-requires-clause-kept : goal.learn-requires-clause-kept
-learn-requires-clause-kept c =
-    let learnt = c.if-not-put.ensures.learnt in
-    kept_of_longer c.args.rows.now c.put.new.self c.args.shares.now learnt.size learnt.undone c.requires.kept
