@@ -1,5 +1,5 @@
 -- Rows and the involutions of them give each other back.
-use Rattle.std.proofs.Common.{◌≡◌, ℕ, zero, suc, ◌+◌, ◌-◌, ◌*◌, ◌<◌, ◌≤◌, List, [], ◌∷◌, ◌++◌, length, get_or, take, drop, refl, sym, ap, ◌∙◌, subst, ⊎_elim, arith}
+use Rattle.std.proofs.Common.{◌≡◌, ◌↔◌, Bool, IsTrue, ℕ, zero, suc, ◌+◌, ◌-◌, ◌*◌, ◌<◌, ◌≤◌, List, [], ◌∷◌, ◌++◌, length, get_or, take, drop, refl, sym, ap, ◌∙◌, subst, ⊎_elim, arith}
 use Rattle.std.proofs.lemmas.List.{get_or-map, length-map, take_all, length-append, length_push, drop_more, get_or_append_left, get_or_push}
 use Rattle.std.proofs.lemmas.Bool.{cases_lt}
 use Rattle.std.specs.List.{flat_map}
@@ -53,6 +53,13 @@ lengths n xs i = elim i as (λ j. length (operation (of_rows n xs) j) ≡ n) [
 
 pub with_same : (s : Symbol) (m01 m12 : List ℕ) → HaveSameInvolutions s (with_degrees s m01 m12)
 with_same s m01 m12 = record { size = refl; s0 = refl; s1 = refl; s2 = refl }
+
+-- tables have the involutions of their symbols
+pub same_of_tables : (s t : Table) (test : Bool) → IsTrue test ↔ HaveSameInvolutions t.involutions s.involutions → IsTrue test ↔ HaveSameInvolutions (symbol_of t) (symbol_of s)
+same_of_tables s t test says = (
+  (λ h. let same = says.0 h in record { size = same.size; s0 = same.s0; s1 = same.s1; s2 = same.s2 }),
+  (λ same. says.1 (record { size = same.size; s0 = same.s0; s1 = same.s1; s2 = same.s2 })),
+)
 
 pub table_lengths : (t : Table) → HaveLengths (symbol_of t)
 table_lengths t = record {
@@ -125,6 +132,20 @@ rows_from n xs long k (suc m) e =
 -- the images of rows are those rows
 pub images-of_rows : (n : ℕ) (xs : List ℕ) → length xs ≡ 3 * n → all_images (of_rows n xs) ≡ xs
 images-of_rows n xs e = rows_from n xs (omega arith) 0 n (omega arith) ∙ take_all (3 * n) xs (omega arith)
+
+-- rows are equal exactly where they are of the same involutions
+pub same_from_rows : (n m : ℕ) (xs ys : List ℕ) → length xs ≡ 3 * n → length ys ≡ 3 * m → xs ≡ ys → HaveSameInvolutions (of_rows m ys) (of_rows n xs)
+same_from_rows n m xs ys lx ly e =
+    let lengths_agree = ap length e in
+    let size : n ≡ m = omega arith in
+    let whole : of_rows n xs ≡ of_rows m ys = ap (λ k. of_rows k xs) size ∙ ap (of_rows m) e in
+    record { size = size; s0 = ap (λ s. s.s0) whole; s1 = ap (λ s. s.s1) whole; s2 = ap (λ s. s.s2) whole }
+
+pub rows_from_same : (n m : ℕ) (xs ys : List ℕ) → length xs ≡ 3 * n → length ys ≡ 3 * m → HaveSameInvolutions (of_rows m ys) (of_rows n xs) → xs ≡ ys
+rows_from_same n m xs ys lx ly same =
+    let images : all_images (of_rows n xs) ≡ all_images (of_rows m ys) =
+    λ i. all_images (record { size = same.size i; s0 = same.s0 i; s1 = same.s1 i; s2 = same.s2 i; m01 = []; m12 = [] }) in
+    sym (images-of_rows n xs lx) ∙ images ∙ images-of_rows m ys ly
 
 -- ## The involutions of rows
 

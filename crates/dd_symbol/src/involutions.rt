@@ -1,4 +1,4 @@
-ghost use Rattle.std.specs.Prelude.{◌≡◌, ◌≤◌, ◌*◌, [], length, IfOk, IfErr, OnOk};
+ghost use Rattle.std.specs.Prelude.{◌≡◌, ◌↔◌, ◌≤◌, ◌*◌, [], length, IsTrue, IfOk, IfErr, OnOk};
 ghost use Rattle.dd_symbol.specs.Building.{listed};
 ghost use Rattle.dd_symbol.specs.Rows.{HasRows};
 ghost use Rattle.dd_model.specs.Symbol.{op};
@@ -49,6 +49,7 @@ impl Involutions {
     ghost use Rattle.dd_symbol.specs.Refusals.{IsRowsFault, IsInvolutionsFault};
     ghost use Rattle.dd_model.specs.Symbol.{AreInvolutions, IsChamber, act, turn};
     ghost use Rattle.dd_model.specs.Code.{all_images};
+    ghost use Rattle.dd_model.specs.Involutions.{HaveSameInvolutions};
 
     /// The involutions with these images, s0, s1 and s2 of chamber 1, then those of chamber 2 and so
     /// on; else the first cause why they are none.
@@ -122,6 +123,13 @@ impl Involutions {
         ensures { result.now ≡ all_images self.now }
     {
         self.rows.numbers.as_slice()
+    }
+
+    /// Whether these are the same three involutions of as many chambers.
+    pub(crate) fn is_same(&self, other: &Involutions) -> bool
+        ensures { IsTrue result ↔ HaveSameInvolutions other.now self.now }
+    {
+        self.rows.numbers.as_slice() == other.rows.numbers.as_slice()
     }
 
     /// Equal involutions.

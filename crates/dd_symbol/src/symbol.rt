@@ -33,6 +33,7 @@ impl Symbol {
     ghost use Rattle.dd_model.specs.Symbol.{IsChamber, op, degree};
     ghost use Rattle.dd_model.specs.Cell.{IsBranching, AreCells};
     ghost use Rattle.dd_model.specs.Code.{code};
+    ghost use Rattle.dd_model.specs.Involutions.{HaveSameInvolutions};
     ghost use Rattle.dd_model.specs.Position.{IsBefore};
     ghost use Rattle.dd_symbol.specs.Table.{symbol_of};
     ghost use Rattle.dd_symbol.specs.Images.{with_degrees};
@@ -126,6 +127,13 @@ impl Symbol {
         ensures { IsTrue result ↔ IsBefore position.now self.now }
     {
         self.table.is_before(position)
+    }
+
+    /// Whether another symbol has as many chambers and the same three involutions.
+    pub fn has_involutions_of(&self, other: &Symbol) -> bool
+        ensures { IsTrue result ↔ HaveSameInvolutions other.now self.now }
+    {
+        self.table.involutions.is_same(&other.table.involutions)
     }
 
     /// The symbol with these involutions and other degrees, which are known to be those of a symbol.

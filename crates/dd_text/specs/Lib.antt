@@ -9,3 +9,4 @@ pub mod SymbolFaults
 pub mod FileFaults
 pub mod Items
 pub mod Messages
+pub mod Outline

@@ -7,6 +7,7 @@ mod fault_laws;
 mod faults;
 mod images;
 mod lists;
+mod outline;
 mod reader;
 mod reading;
 mod symbol_text;

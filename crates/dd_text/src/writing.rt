@@ -4,6 +4,7 @@ ghost use Rattle.dd_model.specs.Symbol.{IsChamber, degree};
 ghost use Rattle.dd_model.specs.Text.{AreLines};
 ghost use Rattle.dd_text.specs.Writing.{next_number, AddsLine, AddsLines, IsLonger};
 
+use crate::outline::Outline;
 use dd_model::{Index, Memory, Pair};
 use dd_symbol::{Connected, Symbol};
 use itoa::Buffer;
@@ -40,10 +41,18 @@ fn append_lines(out: &mut Vec<u8>, before: u64, symbols: &[Connected]) -> Result
     ensures lines { OnOk result (AddsLines before symbols.now out.old.items out.new.items) }
     ensures longer { IsLonger out.old.items out.new.items }
 {
+    let Some(first) = symbols.first() else {
+        return Ok(());
+    };
+    let mut last = first.symbol();
+    let mut outline = Outline::of(*out.allocator(), last)?;
     let mut number = u128::from(before);
-    for symbol in symbols {
+    for connected in symbols {
+        let symbol = connected.symbol();
+        outline.follow(last, symbol)?;
+        last = symbol;
         number += 1;
-        append_line(out, number, symbol.symbol())?;
+        outline.put_line(out, number, symbol)?;
     }
     Ok(())
 }
@@ -52,30 +61,11 @@ fn append_line(out: &mut Vec<u8>, k: u128, symbol: &Symbol) -> Result<(), Memory
     ensures line { OnOk result (AddsLine k symbol.now out.old.items out.new.items) }
     ensures longer { IsLonger out.old.items out.new.items }
 {
-    let alloc = *out.allocator();
-    let tiles = symbol.least_chambers(alloc, Pair::Tile)?;
-    let vertices = symbol.least_chambers(alloc, Pair::Vertex)?;
-    put_head(out, k, symbol.size())?;
-    put_involutions(out, symbol)?;
-    put_cells(out, symbol, &tiles, &vertices)?;
-    Ok(())
-}
-
-/// Appends `<1.k:n:`.
-fn put_head(out: &mut Vec<u8>, k: u128, size: u32) -> Result<(), Memory>
-    ensures head { OnOk result (out.new.items ≡ out.old.items ++ codes "<1." ++ decimal k
-        ++ codes ":" ++ decimal size ++ codes ":") }
-    ensures longer { IsLonger out.old.items out.new.items }
-{
-    put_bytes(out, b"<1.")?;
-    put_ordinal(out, k)?;
-    put_bytes(out, b":")?;
-    put_number(out, size)?;
-    put_bytes(out, b":")
+    Outline::of(*out.allocator(), symbol)?.put_line(out, k, symbol)
 }
 
 /// Appends the images of the three involutions, parted by commas.
-fn put_involutions(out: &mut Vec<u8>, symbol: &Symbol) -> Result<(), Memory>
+pub(crate) fn put_involutions(out: &mut Vec<u8>, symbol: &Symbol) -> Result<(), Memory>
     ensures images { OnOk result (out.new.items ≡ out.old.items
         ++ spaced (told_images symbol.now Index.Zero) ++ codes ","
         ++ spaced (told_images symbol.now Index.One) ++ codes ","
@@ -90,7 +80,7 @@ fn put_involutions(out: &mut Vec<u8>, symbol: &Symbol) -> Result<(), Memory>
 }
 
 /// Appends `:`, the degrees of the cells, which are told by their least chambers, and the line's end.
-fn put_cells(
+pub(crate) fn put_cells(
     out: &mut Vec<u8>,
     symbol: &Symbol,
     tiles: &[u32],
@@ -160,7 +150,7 @@ fn put_next(out: &mut Vec<u8>, begun: bool, number: u32) -> Result<(), Memory>
 }
 
 /// Appends the number of a line in decimal.
-fn put_ordinal(out: &mut Vec<u8>, k: u128) -> Result<(), Memory>
+pub(crate) fn put_ordinal(out: &mut Vec<u8>, k: u128) -> Result<(), Memory>
     ensures number { OnOk result (out.new.items ≡ out.old.items ++ decimal k) }
     ensures longer { IsLonger out.old.items out.new.items }
 {
@@ -169,7 +159,7 @@ fn put_ordinal(out: &mut Vec<u8>, k: u128) -> Result<(), Memory>
 }
 
 /// Appends a number in decimal. Most are of one digit.
-fn put_number(out: &mut Vec<u8>, number: u32) -> Result<(), Memory>
+pub(crate) fn put_number(out: &mut Vec<u8>, number: u32) -> Result<(), Memory>
     ensures number { OnOk result (out.new.items ≡ out.old.items ++ decimal number) }
     ensures longer { IsLonger out.old.items out.new.items }
 {

@@ -1,8 +1,10 @@
 use Rattle.std.proofs.Common.{◌≡◌, ◌+◌, take}
 use Rattle.dd_text.specs.Writing.{AddsLines}
+use Rattle.dd_text.specs.Outline.{IsOutlineOf}
 use Rattle.dd_text.proofs.writing.append_lines.Given as goal
 
--- the lines of the symbols so far stand
-abbrev pub invariant-loop-symbol : goal.invariant-loop-symbol
-invariant-loop-symbol l =
-    (l.number ≡ l.before + l.symbol-index) × AddsLines l.before (take l.symbol-index l.symbols) l.initial.out.items l.out.items
+-- the lines of the symbols so far stand, and the outline is that of the last one
+abbrev pub invariant-loop-connected : goal.invariant-loop-connected
+invariant-loop-connected l =
+    (l.number ≡ l.before + l.connected-index) × AddsLines l.before (take l.connected-index l.symbols) l.initial.out.items l.out.items
+    × IsOutlineOf l.last l.outline
