@@ -57,33 +57,28 @@ fn is_asked(
 
 impl Assignment {
     /// The search from a table of which no degree is told.
-    pub(crate) fn new(
-        alloc: Global,
-        table: &Connected,
-        ties: Vec<u32>,
-        q: &Request,
-    ) -> Result<Assignment, Memory>
-        requires table { IsBareTable table.now }
-        requires limits { HasLimits q.now table.now }
-        requires ties { AreTies table.now ties.items }
-        ensures ready { IfOk result (λ a. IsAssignment a) }
-        ensures root { IfOk result (λ a. IsAtRoot a) }
-        ensures request { IfOk result (λ a. a.request ≡ q.now) }
-        ensures table { IfOk result (λ a. a.table ≡ table.now) }
-        ensures none { IfOk result (λ a. a.degrees.items ≡ []) }
+    pub(crate) fn new(alloc: Global, table: Connected, ties: Vec<u32>, q: &Request) -> Assignment
+        requires table { IsBareTable table }
+        requires limits { HasLimits q.now table }
+        requires ties { AreTies table ties.items }
+        ensures ready { IsAssignment result }
+        ensures root { IsAtRoot result }
+        ensures request { result.request ≡ q.now }
+        ensures table { result.table ≡ table }
+        ensures none { result.degrees.items ≡ [] }
     {
         let mut places = ArrayVec::new();
-        add_places(&mut places, table, &q.faces, Pair::Tile);
-        add_places(&mut places, table, &q.degrees, Pair::Vertex);
-        Ok(Assignment {
+        add_places(&mut places, &table, &q.faces, Pair::Tile);
+        add_places(&mut places, &table, &q.degrees, Pair::Vertex);
+        Assignment {
             alloc,
             request: *q,
-            table: table.try_copy(alloc)?,
+            table,
             ties,
             rests: Rests::of(places.as_slice()),
             places,
             degrees: ArrayVec::new(),
-        })
+        }
     }
 
     /// The number of chambers.

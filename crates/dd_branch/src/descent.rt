@@ -274,7 +274,7 @@ impl CollectingSearch for Descent {
         let Some(table) = found else {
             return Ok(());
         };
-        add_degrees(self.alloc, &table, &self.request, list)
+        add_degrees(self.alloc, table, &self.request, list)
     }
 }
 

@@ -59,14 +59,15 @@ fn count_all_ends(search: &mut Assignment) -> u64
 }
 
 /// How many assignments of degrees of a table come to their ends.
-fn ends_of(alloc: Global, request: &Request, table: &Table) -> Result<u64, Fail> {
-    if !has_limits(table.symbol(), request) {
+fn ends_of(alloc: Global, request: &Request, table: Table) -> Result<u64, Fail> {
+    let table = table.into_symbol();
+    if !has_limits(&table, request) {
         return Ok(0);
     }
-    let Some(ties) = tied_starts(alloc, table.symbol())? else {
+    let Some(ties) = tied_starts(alloc, &table)? else {
         return Ok(0);
     };
-    let mut search = Assignment::new(alloc, table.symbol(), ties, request)?;
+    let mut search = Assignment::new(alloc, table, ties, request);
     Ok(count_all_ends(&mut search))
 }
 
@@ -88,8 +89,10 @@ fn counts(alloc: Global, chambers: u32) -> Result<(u64, u64), Fail> {
     let mut ends = 0u64;
     let mut members = 0u64;
     for job in &opening(alloc, &request)? {
-        for table in &tables(alloc, &request, job)? {
+        for table in tables(alloc, &request, job)? {
             ends = ends.saturating_add(ends_of(alloc, &request, table)?);
+        }
+        for table in tables(alloc, &request, job)? {
             members = members.saturating_add(degrees(alloc, table, &request)?.len() as u64);
         }
     }

@@ -24,25 +24,25 @@ pub(crate) fn has_limits(t: &Connected, q: &Request) -> bool
 /// Adds all members of a request's catalogue that have the involutions of a table, ascending.
 pub fn add_degrees(
     alloc: Global,
-    t: &Table,
+    t: Table,
     q: &Request,
     list: &mut Vec<Connected>,
 ) -> Result<(), Memory>
-    ensures { OnOk result (Appends (AreMembersWith q.now t.now) list.old.items list.new.items) }
+    ensures { OnOk result (Appends (AreMembersWith q.now t) list.old.items list.new.items) }
 {
-    if !has_limits(t.symbol(), q) {
+    let table = t.into_symbol();
+    if !has_limits(&table, q) {
         return Ok(());
     }
-    let Some(ties) = tied_starts(alloc, t.symbol())? else {
+    let Some(ties) = tied_starts(alloc, &table)? else {
         return Ok(());
     };
-    let mut search = Assignment::new(alloc, t.symbol(), ties, q)?;
-    search.add_all(list)
+    Assignment::new(alloc, table, ties, q).add_all(list)
 }
 
 /// All members of a request's catalogue that have the involutions of a table, ascending.
-pub fn degrees(alloc: Global, t: &Table, q: &Request) -> Result<Vec<Connected>, Memory>
-    ensures { IfOk result (λ list. AreMembersWith q.now t.now list.items) }
+pub fn degrees(alloc: Global, t: Table, q: &Request) -> Result<Vec<Connected>, Memory>
+    ensures { IfOk result (λ list. AreMembersWith q.now t list.items) }
 {
     let mut list = Vec::new(alloc);
     add_degrees(alloc, t, q, &mut list)?;

@@ -11,7 +11,9 @@ use Rattle.dd_invol.proofs.TableFronts.{told_same, told_begins, lengths_told}
 use Rattle.dd_model.proofs.SameInvolutions.{chamber-same, involutions-same, connected-same, turned-same, period-same}
 use Rattle.dd_invol.proofs.Unbranched.{HasPeriods, unbranched_of_periods, small_of_periods}
 use Rattle.dd_symbol.specs.Building.{IsConnectedSymbol}
-use Rattle.dd_symbol.specs.Images.{of_rows}
+use Rattle.dd_symbol.specs.Images.{of_rows, with_degrees}
+use Rattle.dd_symbol.specs.Conditions.{AreConnected}
+use Rattle.dd_model.specs.Small.{IsSmallSymbol}
 use Rattle.dd_symbol.specs.Cells.{ArePeriods}
 use Rattle.dd_symbol.specs.Refusals.{IsRowsFault}
 use Rattle.dd_symbol.specs.declared.refusals.Refusal.{Refusal}
@@ -91,6 +93,15 @@ told_accepted s n numbers m01 m12 few whole both is connected commuting size beg
 pub none_built : (n : ℕ) (numbers m01 m12 : List ℕ) → n ≤ 36 → length numbers ≡ 3 * n → HaveBothPeriods n numbers m01 m12 → (IsConnectedSymbol (told n numbers m01 m12) → ⊥) → HasNoTable n numbers
 none_built n numbers m01 m12 few whole both refused s is connected commuting size begins =
     refused (told_accepted s n numbers m01 m12 few whole both is connected commuting size begins)
+
+-- the least numbers of turns are degrees of a symbol where the rest holds
+pub periods_fit : (n : ℕ) (numbers m01 m12 : List ℕ) (it : Symbol) → 1 ≤ n → n ≤ 36 → it ≡ of_rows n numbers → HaveBothPeriods n numbers m01 m12
+    → AreConnected (with_degrees it m01 m12) → IsSmallSymbol (with_degrees it m01 m12)
+periods_fit n numbers m01 m12 it some few same both =
+    subst (λ s. AreConnected (with_degrees s m01 m12) → IsSmallSymbol (with_degrees s m01 m12)) (sym same) (λ are.
+    small_of_periods (told n numbers m01 m12) (told_table n numbers m01 m12 some both are.involutions)
+    (λ d h. record { positive = omega arith; along_first = refl; along_second = refl; turns = are.commuting d h })
+    (told_tiles n numbers m01 m12 both) (told_vertices n numbers m01 m12 both) (omega arith))
 
 -- what was built is bare
 pub bare_of_told : (n : ℕ) (numbers m01 m12 : List ℕ) (t : Symbol) → n ≤ 36 → t ≡ told n numbers m01 m12 → IsConnectedSymbol t → HaveBothPeriods n numbers m01 m12 → IsBareTable t

@@ -1,7 +1,7 @@
 ghost use Rattle.std.specs.Prelude.{◌≡◌, ℕ, ◌*◌, ◌≤◌, IfOk, MatchOption, length};
 
 use dd_model::{Index, Memory, Pair};
-use dd_symbol::{Connected, Involutions, build_if};
+use dd_symbol::{Connected, Involutions, build_fitting};
 use std::alloc::Global;
 use std::marker::Model;
 
@@ -54,7 +54,7 @@ impl Table {
         };
         let m01 = involutions.periods(alloc, Pair::Tile)?;
         let m12 = involutions.periods(alloc, Pair::Vertex)?;
-        let Some(symbol) = build_if(alloc, involutions, m01, m12)? else {
+        let Some(symbol) = build_fitting(alloc, involutions, m01, m12)? else {
             return Ok(None);
         };
         Ok(Some(Table { symbol }))
@@ -83,5 +83,12 @@ impl Table {
         ensures table { IsBareTable self.now }
     {
         &self.symbol
+    }
+    /// The same symbol, for a caller that keeps it.
+    pub fn into_symbol(self) -> Connected
+        ensures same { result ≡ self }
+        ensures table { IsBareTable self }
+    {
+        self.symbol
     }
 }

@@ -4,9 +4,10 @@ use Rattle.std.proofs.lemmas.Bool.{cases_lt}
 use Rattle.dd_model.specs.declared.pair.Pair.{Pair}
 use Rattle.dd_model.specs.Symbol.{Symbol, AreInvolutions, IsChamber, first, second, op}
 use Rattle.dd_model.specs.Cell.{InCell, IsChain, IsPeriod, turned}
-use Rattle.dd_model.proofs.Turns.{period_bound, IsLeastTurns-from_period}
+use Rattle.dd_model.proofs.Turns.{period_bound, IsLeastTurns-from_period, least_turns_unique}
+use Rattle.dd_model.proofs.Branching.{turns-along}
 use Rattle.dd_model.proofs.Words.{act_within}
-use Rattle.dd_model.proofs.CellWalks.{IsMet, met_cases, met_from_in_cell, next_place, period_from_first_return, in_cell-trans, in_cell-turned, in_cell-first}
+use Rattle.dd_model.proofs.CellWalks.{IsMet, met_cases, met_from_in_cell, next_place, period_from_first_return, in_cell-trans, in_cell-turned, in_cell-first, in_cell-sym, has_period}
 use Rattle.dd_model.proofs.FreeWalks.{IsFreeWalk, free_walk_goes_on, free_walk_comes_back}
 use Rattle.dd_symbol.specs.Cells.{IsLeastFor, IsKindOf, IsShapeOf}
 use Rattle.dd_symbol.specs.declared.kind.Kind.{Kind}
@@ -165,3 +166,13 @@ shape_found s inv p d k place least next least' kind kind' h old step back =
 -- no walk is longer than there are chambers
 pub shaping_ends : (s : Symbol) → AreInvolutions s → (p : Pair) (d place least : ℕ) (kind : Kind) → IsChamber s d → IsShaping s p d s.size place least kind → ⊥
 shaping_ends s inv p d place least kind h old = let bound = period_bound s inv p d (s.size + 1) h old.unfixed in omega arith
+
+-- ## Periods
+
+-- a neighbor in the cell has the same one
+pub period_across : (s : Symbol) → AreInvolutions s → (p : Pair) (d e r : ℕ) → IsChamber s d → IsChamber s e → InCell s p d e → IsPeriod s p e r → IsPeriod s p d r
+period_across s inv p d e r hd he there is =
+    let has = has_period s inv p d hd in
+    let own = IsLeastTurns-from_period s inv p d has.r hd has.period in
+    let carried = turns-along s inv p e d r he (in_cell-sym s inv p d e hd there) (IsLeastTurns-from_period s inv p e r he is) in
+    subst (IsPeriod s p d) (least_turns_unique s p d has.r r own carried) has.period

@@ -1,7 +1,9 @@
 ghost use Rattle.std.specs.Prelude.{◌≡◌, ◌≢◌, ◌≤◌, length, IfOk, IfErr, OnOk, MatchOption};
 ghost use Rattle.dd_symbol.specs.Building.{given, HaveOneLength, IsAccepted, IsBuilt, IsConnectedSymbol};
 ghost use Rattle.dd_symbol.specs.Images.{with_degrees};
+ghost use Rattle.dd_symbol.specs.Conditions.{AreConnected};
 ghost use Rattle.dd_symbol.specs.Refusals.{IsRefused, IsFault};
+ghost use Rattle.dd_model.specs.Small.{IsSmallSymbol};
 
 use crate::connected::Connected;
 use crate::involutions::Involutions;
@@ -14,7 +16,17 @@ use std::alloc::Global;
 impl Table {
     ghost use Rattle.dd_symbol.specs.Table.{symbol_of};
     ghost use Rattle.dd_model.specs.Connected.{Connected as AllReached};
-    ghost use Rattle.dd_model.specs.Small.{IsSmallSymbol};
+
+    /// Refuses what is not connected, or where s0 s2 differs from s2 s0. Degrees are not looked at.
+    fn check_involutions(&self, alloc: Global) -> Result<(), Refusal>
+        requires some { 1 ≤ (symbol_of self.now).size }
+        ensures connected { OnOk result (AreConnected (symbol_of self.now)) }
+        ensures why { IfErr result (λ why. IsFault (symbol_of self.now) why) }
+    {
+        self.involutions.check_commuting()?;
+        self.involutions.check_connected(alloc)?;
+        Ok(())
+    }
 
     /// Refuses what is no connected symbol with branching values of at most 30.
     fn check(&self, alloc: Global) -> Result<(), Refusal>
@@ -23,8 +35,7 @@ impl Table {
         ensures connected { OnOk result (AllReached (symbol_of self.now)) }
         ensures why { IfErr result (λ why. IsFault (symbol_of self.now) why) }
     {
-        self.involutions.check_commuting()?;
-        self.involutions.check_connected(alloc)?;
+        self.check_involutions(alloc)?;
         self.check_degrees(alloc)
     }
 }
@@ -57,23 +68,34 @@ pub fn build_on(
     Ok(Connected::from_symbol(Symbol::from_table(table)))
 }
 
-/// The same, where the cause is of no interest.
-pub fn build_if(
+/// The connected symbol with these involutions and degrees, which are known to be those of one where
+/// the involutions are connected and s0 s2 is s2 s0; None where they are not. Degrees are not tested.
+pub fn build_fitting(
     alloc: Global,
     involutions: Involutions,
     m01: Vec<u32>,
     m12: Vec<u32>,
 ) -> Result<Option<Connected>, Memory>
+    requires some { 1 ≤ involutions.size }
     requires tiles { length m01.items ≡ involutions.size }
     requires vertices { length m12.items ≡ involutions.size }
+    requires fitting { AreConnected (with_degrees involutions m01.items m12.items)
+        → IsSmallSymbol (with_degrees involutions m01.items m12.items) }
     ensures { IfOk result (λ found. MatchOption found
         (IsConnectedSymbol (with_degrees involutions m01.items m12.items) → ⊥)
         (IsBuilt (with_degrees involutions m01.items m12.items))) }
 {
-    match build_on(alloc, involutions, m01, m12) {
-        Ok(symbol) => Ok(Some(symbol)),
-        Err(Refusal::Memory) => Err(Memory),
-        Err(_) => Ok(None),
+    let table = Table {
+        involutions,
+        m01,
+        m12,
+    };
+    match table.check_involutions(alloc) {
+        Ok(()) => Ok(Some(Connected::from_symbol(Symbol::from_table(table)))),
+        Err(why) => match why {
+            Refusal::Memory => Err(Memory),
+            _ => Ok(None),
+        },
     }
 }
 

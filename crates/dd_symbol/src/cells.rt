@@ -1,4 +1,4 @@
-ghost use Rattle.std.specs.Prelude.{◌≡◌, ℕ, length, IfOk};
+ghost use Rattle.std.specs.Prelude.{◌≡◌, ℕ, ◌+◌, ◌<◌, ◌≤◌, length, IfOk};
 
 use crate::involutions::Involutions;
 use crate::kind::Kind;
@@ -55,13 +55,34 @@ impl Involutions {
         unreachable!()
     }
 
+    /// The least positive number of turns that fixes a chamber, where those of the smaller chambers
+    /// are listed. A cell is walked only where no neighbor is smaller.
+    fn following_period(&self, periods: &[u32], pair: Pair, chamber: u32) -> u32
+        requires chamber { IsChamber self.now chamber }
+        requires length { chamber ≤ length periods.now + 1 }
+        requires before { (e : ℕ) → 1 ≤ e → e < chamber
+            → IsPeriod self.now pair e (item periods.now e) }
+        ensures { IsPeriod self.now pair chamber result }
+    {
+        let first = self.op(pair.first(), chamber);
+        if first < chamber {
+            return item(periods, first);
+        }
+        let second = self.op(pair.second(), chamber);
+        if second < chamber {
+            return item(periods, second);
+        }
+        self.period(pair, chamber)
+    }
+
     /// For each chamber the least positive number of turns that fixes it.
     pub fn periods(&self, alloc: Global, pair: Pair) -> Result<Vec<u32>, Memory>
         ensures { IfOk result (λ periods. ArePeriods self.now pair periods.items) }
     {
         let mut periods = Vec::with_capacity(alloc, self.size() as usize)?;
         for k in 0..self.size() {
-            periods.push(self.period(pair, k + 1))?;
+            let turns = self.following_period(&periods, pair, k + 1);
+            periods.push(turns)?;
         }
         Ok(periods)
     }

@@ -2,7 +2,7 @@ use Rattle.std.proofs.Common.{ap, sym, ◌∙◌, subst}
 use Rattle.dd_symbol.specs.Building.{IsConnectedSymbol}
 use Rattle.dd_symbol.specs.Images.{of_rows, with_degrees}
 use Rattle.dd_symbol.specs.Refusals.{IsRowsFault}
-use Rattle.dd_invol.proofs.TableLemmas.{both_periods, same_rows, no_table, none_built, bare_of_told, table_of_told}
+use Rattle.dd_invol.proofs.TableLemmas.{both_periods, same_rows, no_table, none_built, bare_of_told, table_of_told, periods_fit}
 use Rattle.dd_invol.proofs.table.Table.of.Goals as goal
 
 pub returns-in_default : goal.returns-in_default
@@ -10,6 +10,14 @@ returns-in_default c =
     no_table c.args.size c.args.numbers.now c.in_default.field-0 c.requires.whole
     (subst (λ n. IsRowsFault (of_rows n c.args.numbers.now) c.in_default.field-0) c.from.ensures
     (subst (λ xs. IsRowsFault (of_rows c.from.result xs) c.in_default.field-0) c.in_ok-rows.ensures c.in_default.ensures.why))
+
+pub build_fitting-requires-clause-fitting : goal.build_fitting-requires-clause-fitting
+build_fitting-requires-clause-fitting c =
+    let m01 = c.in_ok-m01.m01.items in
+    let m12 = c.in_ok-m12.m12.items in
+    let rows = same_rows c.args.size c.from.result c.args.numbers.now c.in_ok-rows.rows.items c.in-Ok.involutions c.in-Ok.ensures.same c.from.ensures c.in_ok-rows.ensures in
+    periods_fit c.args.size c.args.numbers.now m01 m12 c.in-Ok.involutions c.requires.size.0 c.requires.size.1 rows
+    (both_periods c.args.size c.args.numbers.now m01 m12 c.in-Ok.involutions rows c.in_ok-m01.ensures c.in_ok-m12.ensures)
 
 pub returns-in_default-2 : goal.returns-in_default-2
 returns-in_default-2 c =

@@ -14,12 +14,12 @@ loop-k-preserved c =
     let size = c.loop-k.invariant.length in
     let more = c.in_ok-push.ensures.items in
     record {
-      length = ap length more ∙ length_push old c.period.result ∙ omega arith;
+      length = ap length more ∙ length_push old c.following_period-turns.result ∙ omega arith;
       each = λ d low high. subst (λ xs. IsPeriod s p d (item xs d)) (sym more) (⊎_elim
-          (λ early. subst (IsPeriod s p d) (sym (get_or_append_left old (c.period.result ∷ []) 0 (d - 1) (omega arith))) (c.loop-k.invariant.each d low early))
+          (λ early. subst (IsPeriod s p d) (sym (get_or_append_left old (c.following_period-turns.result ∷ []) 0 (d - 1) (omega arith))) (c.loop-k.invariant.each d low early))
           (λ late.
           let here : k + 1 ≡ d = omega arith in
-          subst (IsPeriod s p d) (sym (get_or_push old c.period.result 0 (d - 1) (omega arith))) (subst (λ e. IsPeriod s p e c.period.result) here c.period.ensures.period))
+          subst (IsPeriod s p d) (sym (get_or_push old c.following_period-turns.result 0 (d - 1) (omega arith))) (subst (λ e. IsPeriod s p e c.following_period-turns.result) here c.following_period-turns.ensures))
           (cases_lt d (k + 1)));
     }
 
