@@ -144,7 +144,7 @@ fn put_next(out: &mut Vec<u8>, begun: bool, number: u32) -> Result<(), Memory>
     ensures longer { IsLonger out.old.items out.new.items }
 {
     if begun {
-        put_bytes(out, b" ")?;
+        out.push(b' ')?;
     }
     put_number(out, number)
 }
