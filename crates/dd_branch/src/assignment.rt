@@ -13,7 +13,7 @@ ghost use Rattle.dd_branch.specs.Choice.{IsChoice};
 ghost use Rattle.dd_branch.specs.Assignment.{HasLimits, IsAssignment, IsAtRoot, IsMemberUnder, next_place, prefix_of, spent_by, told};
 ghost use Rattle.dd_branch.specs.Entered.{HasBudget, HasEntered, HasForced};
 
-use crate::places::{Place, add_places};
+use crate::places::{Place, add_places, part_of_side};
 use crate::rests::Rests;
 use arrayvec::ArrayVec;
 use dd_canon::is_least_from_ties;
@@ -150,7 +150,7 @@ impl Assignment {
         if value == 5 || !self.allows(value * place.turns) {
             return false;
         }
-        let sum = sum + u16::from(place.sides * (12 / value));
+        let sum = sum + u16::from(place.sides * part_of_side(value));
         if !self.has_budget(sum, self.degrees.len() + 1) {
             return false;
         }
@@ -257,7 +257,8 @@ impl Assignment {
         for value in 1..7u8 {
             if self.may_stand(sum, value) {
                 self.enter(value * place.turns);
-                self.add_members(sum + u16::from(place.sides * (12 / value)), list)?;
+                let part = u16::from(place.sides * part_of_side(value));
+                self.add_members(sum + part, list)?;
                 self.degrees.truncate(next);
             }
         }

@@ -67,7 +67,8 @@ overflow_mul-place t c =
     let room = room_here a c.len-next.result c.len.result c.requires.ready c.if-next-len.false c.len-next.ensures.value c.len.ensures.value in
     let small = part_small a c.loop-value.value c.requires.ready room in
     let same = ap (λ (x : Place). x.sides * (12 / c.loop-value.value)) c.next_place-place.ensures in
-    omega (arith, small, same)
+    let side = ap (λ k. c.next_place-place.result.sides * k) c.part_of_side.ensures in
+    omega (arith, small, same, side)
 
 pub add_members-requires : goal.add_members-requires
 add_members-requires t c =
@@ -81,7 +82,7 @@ add_members-requires t c =
     let room' = subst (λ (x : Assignment). told x < 2 * x.table.size) (sym same) room in
     let budget = subst (λ x. HasBudget x c.args.sum) (sym same) c.requires.budget in
     let entered = subst (λ (x : Place). HasEntered c.loop-value.self (v * x.turns) b) place c.enter.ensures.entered in
-    let part : c.from.result ≡ (next_place c.loop-value.self).sides * (12 / v) = c.from.ensures ∙ ap (λ (x : Place). x.sides * (12 / v)) place in
+    let part : c.from-part.result ≡ (next_place c.loop-value.self).sides * (12 / v) = c.from-part.ensures ∙ ap (λ k. c.next_place-place.result.sides * k) c.part_of_side.ensures ∙ ap (λ (x : Place). x.sides * (12 / v)) place in
     let more = budget_more c.loop-value.self b v c.args.sum is room' budget entered c.if-may_stand.ensures.enough c.if-may_stand.ensures.room in
     let longer = entered.longer in
     let size = ap (λ (x : Assignment). x.table.size) (entered.back ∙ same) in

@@ -1,4 +1,4 @@
-use Rattle.std.proofs.Common.{◌*◌, ◌/◌, ap, arith}
+use Rattle.std.proofs.Common.{◌*◌, ◌/◌, ap, ◌∙◌, arith}
 use Rattle.dd_branch.specs.Assignment.{next_place}
 use Rattle.dd_branch.specs.declared.places.Place.{Place}
 use Rattle.dd_branch.proofs.Advancing.{budget_of_member, choice_of_value, degree_small, none_if_five, none_if_refused, part_small}
@@ -29,7 +29,8 @@ pub overflow_mul-place : goal.overflow_mul-place
 overflow_mul-place c =
     let small = part_small c.args.self.now c.args.value c.requires.ready c.requires.room in
     let same = ap (λ (x : Place). x.sides * (12 / c.args.value)) c.next_place-place.ensures in
-    omega (arith, small, same)
+    let side = ap (λ k. c.next_place-place.result.sides * k) c.part_of_side.ensures in
+    omega (arith, small, same, side)
 
 pub returns-then-not-has_budget-clause-dead : goal.returns-then-not-has_budget-clause-dead
 returns-then-not-has_budget-clause-dead c s under next =
@@ -37,7 +38,7 @@ returns-then-not-has_budget-clause-dead c s under next =
     let part = ap (λ (x : Place). x.sides * (12 / c.args.value)) c.next_place-place.ensures in
     let most = meets.0 in
     let least = meets.1 in
-    let cast = c.from.ensures in
+    let cast = c.from.ensures ∙ ap (λ k. c.next_place-place.result.sides * k) c.part_of_side.ensures in
     let len = c.len.ensures.value in
     let has = c.has_budget.ensures.1 (rw (cast, part, len) (most, least)) in
     let no' = c.if-not-has_budget.true in
