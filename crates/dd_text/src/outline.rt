@@ -43,8 +43,8 @@ impl Outline {
         })
     }
 
-    /// From the outline for a symbol it becomes that for the next one, which is made anew only where
-    /// the involutions are others.
+    /// Goes on from one symbol to the next: the outline is made anew only where the involutions are
+    /// others.
     pub(crate) fn follow(&mut self, last: &Symbol, next: &Symbol) -> Result<(), Memory>
         requires { IsOutlineOf last.now self.old }
         ensures { OnOk result (IsOutlineOf next.now self.new) }
