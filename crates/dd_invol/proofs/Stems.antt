@@ -125,6 +125,12 @@ skips_to_free stem k m is low to small =
       none_between = comes_past stem k m is low to;
     }
 
+pub none_from_past : (stem : Stem) (k : ℕ) → IsStem stem → length (prefix_of stem) < 3 * size_of stem → size_of stem < k → HasNoNumberFrom Any (size_of stem) (prefix_of stem) k
+none_from_past stem k is low past s under =
+    let inside = next_inside stem s low under in
+    let most = inside.1 in
+    omega arith
+
 pub none_past_size : (stem : Stem) (k m : ℕ) → IsStem stem → length (prefix_of stem) < 3 * size_of stem → ComesTo stem k m → size_of stem < m → HasNoNumberFrom Any (size_of stem) (prefix_of stem) k
 none_past_size stem k m is low to past s under =
     let inside = next_inside stem s low under in

@@ -1,5 +1,5 @@
 -- The places of a code.
-use Rattle.std.specs.Prelude.{ℕ, zero, suc, ◌+◌, ◌-◌, ◌*◌}
+use Rattle.std.specs.Prelude.{ℕ, zero, suc, ◌+◌, ◌-◌, ◌*◌, ◌%◌, ◌^◌, bit_or}
 use Rattle.dd_model.specs.declared.index.Index.{Index}
 use Rattle.dd_model.specs.declared.index.Index.TheVariants.{Zero, One, Two}
 
@@ -14,3 +14,12 @@ abbrev pub place : Index → ℕ → ℕ
 place Zero d = 3 * (d - 1)
 place One d = 3 * (d - 1) + 1
 place Two d = 3 * (d - 1) + 2
+
+-- the place at which the image of a place leads back; the place itself where no image is known
+abbrev pub back_of : ℕ → ℕ → ℕ
+back_of t zero = t
+back_of t (suc e) = 3 * e + t % 3
+
+-- a chamber and its image as bits
+abbrev pub bits_of : ℕ → ℕ → ℕ
+bits_of d e = bit_or (2 ^ d) (2 ^ e)

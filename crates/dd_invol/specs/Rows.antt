@@ -1,5 +1,6 @@
 -- A table that is filled in place, and what was put into it, in order.
-use Rattle.std.specs.Prelude.{◌≡◌, ◌≢◌, ℕ, zero, suc, ◌+◌, ◌-◌, ◌/◌, ◌%◌, ◌<◌, ◌≤◌, List, [], length, map, take, slice_index, slice_set}
+use Rattle.std.specs.Prelude.{◌≡◌, ◌≢◌, ℕ, zero, suc, ◌+◌, ◌-◌, ◌/◌, ◌%◌, ◌<◌, ◌≤◌, List, [], length, map, take, slice_index, slice_set, bit_xor}
+use Rattle.std.specs.Int.{bit_at}
 use Rattle.std.specs.List.{sum_by}
 use Rattle.dd_model.specs.declared.index.Index.{Index}
 use Rattle.dd_model.specs.declared.index.Index.TheVariants.{Zero, One, Two}
@@ -8,7 +9,7 @@ use Rattle.dd_model.specs.Symbol.{Symbol, IsChamber, HasDegree, op}
 use Rattle.dd_model.specs.Code.{count_from}
 use Rattle.dd_model.specs.Partial.{Completes}
 use Rattle.dd_canon.specs.Traversal.{unnumbered}
-use Rattle.dd_invol.specs.Places.{index_at, place}
+use Rattle.dd_invol.specs.Places.{index_at, place, back_of, bits_of}
 use Rattle.dd_invol.specs.declared.rows.Rows.{Rows}
 
 -- the images of 36 chambers under an involution, in a list of images in the order of codes
@@ -31,11 +32,24 @@ partial_of r = partial_from r.size r.numbers
 abbrev pub depth_of : Rows → ℕ
 depth_of r = length r.trail.items
 
+-- the numbers without those at a place and at the one to which its image leads
+abbrev pub cleared : List ℕ → ℕ → List ℕ
+cleared numbers t = slice_set (slice_set numbers t 0) (back_of t (slice_index numbers t)) 0
+
+-- the bits of the chambers without images, with those of a place and of its image the other way round
+abbrev pub flipped : List ℕ → ℕ → ℕ → List ℕ
+flipped free t e = slice_set free (t % 3) (bit_xor (slice_index free (t % 3)) (bits_of (1 + t / 3) e))
+
+-- the place that was filled last
+abbrev pub last_of : Rows → ℕ
+last_of r = slice_index r.trail.items (length r.trail.items - 1)
+
 -- the rows without what was put in last
 abbrev pub popped : Rows → Rows
 popped r = record {
   size = r.size;
-  numbers = slice_set r.numbers (slice_index r.trail.items (length r.trail.items - 1)) 0;
+  numbers = cleared r.numbers (last_of r);
+  free = flipped r.free (last_of r) (slice_index r.numbers (last_of r));
   trail = record { items = take (length r.trail.items - 1) r.trail.items };
 }
 
@@ -48,14 +62,19 @@ unwind (suc k) r = unwind k (popped r)
 abbrev pub unwound : Rows → ℕ → Rows
 unwound r mark = unwind (depth_of r - mark) r
 
--- Images are chambers, and what was put in stands at places of the table, no more of them than it has.
+-- Images are chambers that lead back, and the chambers without images are told by bits. What was put in last is known, and no
+-- more was put in than there are places, now and at each step of the way back.
 pub record IsReady (r : Rows) : Type 0 where
   pub positive : 1 ≤ r.size
   pub small : r.size ≤ 36
   pub whole : length r.numbers ≡ 108
   pub within : (t : ℕ) → slice_index r.numbers t ≤ r.size
+  pub paired : (t : ℕ) → t < 108 → slice_index r.numbers t ≢ 0 → slice_index r.numbers (back_of t (slice_index r.numbers t)) ≡ 1 + t / 3
+  pub free : (t : ℕ) → t < 108 → bit_at (slice_index r.free (t % 3)) (1 + t / 3) ≡ unnumbered (slice_index r.numbers t)
+  pub three : length r.free ≡ 3
+  pub known : (k : ℕ) → k < length r.trail.items → slice_index (unwind k r).numbers (last_of (unwind k r)) ≢ 0
   pub inside : (k : ℕ) → k < length r.trail.items → slice_index r.trail.items k < 108
-  pub room : sum_by unnumbered r.numbers + length r.trail.items ≤ 108
+  pub room : (k : ℕ) → k ≤ length r.trail.items → sum_by unnumbered (unwind k r).numbers + (length r.trail.items - k) ≤ 108
 
 -- What was put in holds of each completion with the property P, leaves what was known, and can be taken out again.
 pub record Learns (P : Symbol → Type 0) (old new : Rows) : Type 0 where

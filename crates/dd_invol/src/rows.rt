@@ -1,7 +1,7 @@
-ghost use Rattle.std.specs.Prelude.{◌≡◌, ℕ, ◌+◌, ◌-◌, ◌*◌, ◌/◌, ◌%◌, ◌≤◌, ◌<◌, length, drop, slice_index};
+ghost use Rattle.std.specs.Prelude.{◌≡◌, ◌≢◌, ℕ, ◌+◌, ◌-◌, ◌*◌, ◌/◌, ◌%◌, ◌≤◌, ◌<◌, length, drop, slice_index};
 ghost use Rattle.std.specs.Bool.{OnTrue, OnFalse};
 ghost use Rattle.dd_model.specs.Symbol.{op};
-ghost use Rattle.dd_invol.specs.Places.{index_at, place};
+ghost use Rattle.dd_invol.specs.Places.{index_at, place, back_of, bits_of};
 
 use arrayvec::ArrayVec;
 use dd_model::Index;
@@ -32,13 +32,37 @@ pub(crate) fn index_at(place: u8) -> Index
     }
 }
 
+/// The place at which the image of a place leads back; the place itself where no image is known.
+pub(crate) fn back_of(place: u8, image: u8) -> u8
+    requires place { place < 108 }
+    requires image { image ≤ 36 }
+    ensures back { result ≡ back_of place image }
+    ensures inside { result < 108 }
+{
+    if image == 0 {
+        return place;
+    }
+    3 * (image - 1) + place % 3
+}
+
+/// A chamber and its image as bits.
+fn bits_of(chamber: u8, image: u8) -> u64
+    requires chamber { chamber ≤ 36 }
+    requires image { image ≤ 36 }
+    ensures { result ≡ bits_of chamber image }
+{
+    (1 << chamber) | (1 << image)
+}
+
 /// What is known of three involutions of at most 36 chambers, in the order of codes, where 0
-/// stands for an image that is not known; and the places that were filled, in order, so that they
-/// can be cleared again. No call allocates.
+/// stands for an image that is not known; for each involution the chambers whose images are not
+/// known, as bits; and of each two places that were filled at once, since an involution leads back,
+/// the one, in order, so that both can be cleared again. No call allocates.
 #[derive(Drop)]
 pub struct Rows {
     size: u8,
     numbers: [u8; 108],
+    free: [u64; 3],
     trail: ArrayVec<u8, 108>,
 }
 
@@ -58,6 +82,7 @@ impl Rows {
         Rows {
             size,
             numbers,
+            free: [u64::MAX; 3],
             trail,
         }
     }
@@ -90,6 +115,30 @@ impl Rows {
         self.numbers[place as usize]
     }
 
+    /// The place at which the image of a place leads back; the place itself where no image is known.
+    pub(crate) fn back_from(&self, place: u8) -> u8
+        requires ready { IsReady self.now }
+        requires place { place < 108 }
+        ensures back { result ≡ back_of place (slice_index self.now.numbers place) }
+        ensures inside { result < 108 }
+    {
+        back_of(place, self.numbers[place as usize])
+    }
+
+    /// The first chamber from `least` on whose image is not known; the number after the size where
+    /// there is none.
+    pub(crate) fn first_free(&self, i: Index, least: u8) -> u8
+        requires ready { IsReady self.now }
+        requires low { 1 ≤ least }
+        requires high { least ≤ (partial_of self.now).size }
+        ensures later { least ≤ result }
+        ensures small { result ≤ (partial_of self.now).size + 1 }
+        ensures taken { (d : ℕ) → least ≤ d → d < result → op (partial_of self.now) i d ≢ 0 }
+    {
+        let free = self.free[place_of(i, 1) as usize] >> least;
+        (least + free.trailing_zeros() as u8).min(self.size + 1)
+    }
+
     /// How much was put in.
     pub fn mark(&self) -> usize
         ensures { result ≡ depth_of self.now }
@@ -97,7 +146,7 @@ impl Rows {
         self.trail.len()
     }
 
-    /// The places that were filled after a mark, in order.
+    /// The places that were filled after a mark, in order, one of each two that lead to each other.
     pub fn filled(&self, mark: usize) -> &[u8]
         requires { IsReady self.now }
         ensures places { result.now ≡ drop mark self.now.trail.items }
@@ -115,33 +164,13 @@ impl Rows {
     {
         while self.trail.len() > mark {
             if let Some(place) = self.trail.pop() {
+                let image = self.numbers[place as usize];
+                let back = back_of(place, image);
                 self.numbers[place as usize] = 0;
+                self.numbers[back as usize] = 0;
+                self.free[(place % 3) as usize] ^= bits_of(1 + place / 3, image);
             }
         }
-    }
-
-    /// Puts in the image at a place, unless another is known there.
-    fn tell(&mut self, place: u8, image: u8) -> bool
-        requires ready { IsReady self.old }
-        requires place { place < 108 }
-        requires low { 1 ≤ image }
-        requires high { image ≤ (partial_of self.old).size }
-        ensures ready { IsReady self.new }
-        ensures learnt { OnTrue result (Learns (HasNumberAt place image) self.old self.new) }
-        ensures told { OnTrue result (HasNumberAt place image (partial_of self.new)) }
-        ensures same { OnFalse result (self.new ≡ self.old) }
-        ensures clash { OnFalse result (Excludes (HasNumberAt place image) self.old) }
-    {
-        let known = self.numbers[place as usize];
-        if known == image {
-            return true;
-        }
-        if known != 0 {
-            return false;
-        }
-        self.numbers[place as usize] = image;
-        self.trail.push(place);
-        true
     }
 
     /// Puts in that an involution exchanges two chambers, or fixes one, unless that cannot be.
@@ -155,14 +184,19 @@ impl Rows {
         ensures same { OnFalse result (self.new ≡ self.old) }
         ensures clash { OnFalse result (Excludes (λ s. op s i chamber ≡ image) self.old) }
     {
-        let mark = self.mark();
-        if !self.tell(place_of(i, chamber), image) {
+        let place = place_of(i, chamber);
+        let known = self.numbers[place as usize];
+        if known == image {
+            return true;
+        }
+        let back = place_of(i, image);
+        if known != 0 || self.numbers[back as usize] != 0 {
             return false;
         }
-        if !self.tell(place_of(i, image), chamber) {
-            self.undo(mark);
-            return false;
-        }
+        self.numbers[place as usize] = image;
+        self.numbers[back as usize] = chamber;
+        self.free[(place % 3) as usize] ^= bits_of(chamber, image);
+        self.trail.push(place);
         true
     }
 

@@ -51,8 +51,9 @@ impl Starts {
         requires { IsStem stem.now }
     {
         let mut woken = 0;
-        for place in stem.rows().filled(mark) {
-            woken |= self.sleepers.at(*place);
+        let rows = stem.rows();
+        for place in rows.filled(mark) {
+            woken |= self.sleepers.at(*place) | self.sleepers.at(rows.back_from(*place));
         }
         for place in numbers..stem.prefix().len() {
             woken |= self.sleepers.at(place as u8);

@@ -91,7 +91,11 @@ impl Stem {
             }
             return Some(known);
         }
-        let free = self.first_free(i, chamber, k.max(1));
+        let least = k.max(1);
+        if least > self.rows.size() {
+            return None;
+        }
+        let free = self.rows.first_free(i, least);
         if free > self.rows.size() {
             return None;
         }
@@ -99,27 +103,6 @@ impl Stem {
             return None;
         }
         Some(free)
-    }
-
-    /// The first number from `least` on that is no chamber, or for which no image but `chamber` is
-    /// known. The chamber cannot go to any number before it, since an involution leads back.
-    fn first_free(&self, i: Index, chamber: u8, least: u8) -> u8
-        requires ready { IsReady self.now.rows }
-        requires low { 1 ≤ least }
-        ensures later { least ≤ result }
-        ensures taken { (d : ℕ) → least ≤ d → d < result
-            → (op (partial_of self.now.rows) i d ≢ 0)
-            × (op (partial_of self.now.rows) i d ≢ chamber) }
-    {
-        let mut number = least;
-        while number <= self.rows.size() {
-            let image = self.rows.known(i, number);
-            if image == 0 || image == chamber {
-                return number;
-            }
-            number += 1;
-        }
-        number
     }
 
     /// Puts a number at the end, with what follows by commuting, unless commuting forbids it.

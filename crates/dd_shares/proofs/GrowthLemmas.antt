@@ -5,9 +5,9 @@ use Rattle.dd_model.specs.declared.index.Index.{Index}
 use Rattle.dd_model.specs.declared.pair.Pair.TheVariants.{Tile, Vertex}
 use Rattle.dd_model.specs.Symbol.{Symbol, op}
 use Rattle.dd_model.specs.Partial.{Completes}
-use Rattle.dd_invol.specs.Places.{place}
+use Rattle.dd_invol.specs.Places.{place, back_of}
 use Rattle.dd_invol.specs.declared.rows.Rows.{Rows}
-use Rattle.dd_invol.specs.Rows.{partial_of, depth_of, popped, unwind, unwound}
+use Rattle.dd_invol.specs.Rows.{partial_of, depth_of, cleared, last_of, popped, unwind, unwound}
 use Rattle.dd_invol.specs.Stem.{size_of, shortened}
 use Rattle.dd_invol.specs.declared.stem.Stem.{Stem}
 use Rattle.dd_invol.proofs.RowsLemmas.{op_partial, op_past}
@@ -16,23 +16,28 @@ use Rattle.dd_shares.specs.declared.shares.Shares.{Shares}
 use Rattle.dd_shares.specs.Units.{share_unit}
 use Rattle.dd_shares.proofs.Bounds.{shares_of_larger}
 
--- a list with a place cleared
-cleared : (xs : List ℕ) (t u : ℕ) → (get_or (set xs t 0) u 0 ≡ get_or xs u 0) ⊎ (get_or (set xs t 0) u 0 ≡ 0)
-cleared [] t u = inl refl
-cleared (x ∷ xs) zero zero = inr refl
-cleared (x ∷ xs) zero (suc u) = inl refl
-cleared (x ∷ xs) (suc t) zero = inl refl
-cleared (x ∷ xs) (suc t) (suc u) = cleared xs t u
+-- a list with a place set to zero
+zero_or_same : (xs : List ℕ) (t u : ℕ) → (get_or (set xs t 0) u 0 ≡ get_or xs u 0) ⊎ (get_or (set xs t 0) u 0 ≡ 0)
+zero_or_same [] t u = inl refl
+zero_or_same (x ∷ xs) zero zero = inr refl
+zero_or_same (x ∷ xs) zero (suc u) = inl refl
+zero_or_same (x ∷ xs) (suc t) zero = inl refl
+zero_or_same (x ∷ xs) (suc t) (suc u) = zero_or_same xs t u
+
+-- the same with two places
+cleared_or_same : (xs : List ℕ) (t u : ℕ) → (get_or (cleared xs t) u 0 ≡ get_or xs u 0) ⊎ (get_or (cleared xs t) u 0 ≡ 0)
+cleared_or_same xs t u = ⊎_elim
+    (λ second. ⊎_elim (λ first. inl (second ∙ first)) (λ none. inr (second ∙ none)) (zero_or_same xs t u))
+    (λ none. inr none)
+    (zero_or_same (set xs t 0) (back_of t (get_or xs t 0)) u)
 
 known_before : (r : Rows) (i : Index) (d : ℕ) → op (partial_of (popped r)) i d ≢ 0 → op (partial_of r) i d ≡ op (partial_of (popped r)) i d
-known_before r i d some =
-    let t = get_or r.trail.items (length r.trail.items - 1) 0 in
-    ⊎_elim
+known_before r i d some = ⊎_elim
     (λ low.
     let now = op_partial r.size r.numbers i d low in
-    let before : op (partial_of (popped r)) i d ≡ get_or (set r.numbers t 0) (place i d) 0 = op_partial r.size (set r.numbers t 0) i d low in
-    ⊎_elim (λ same. now ∙ sym same ∙ sym before) (λ none. absurd (some (before ∙ none))) (cleared r.numbers t (place i d)))
-    (λ high. absurd (some (op_past r.size (set r.numbers t 0) i d high)))
+    let before : op (partial_of (popped r)) i d ≡ get_or (cleared r.numbers (last_of r)) (place i d) 0 = op_partial r.size (cleared r.numbers (last_of r)) i d low in
+    ⊎_elim (λ same. now ∙ sym same ∙ sym before) (λ none. absurd (some (before ∙ none))) (cleared_or_same r.numbers (last_of r) (place i d)))
+    (λ high. absurd (some (op_past r.size (cleared r.numbers (last_of r)) i d high)))
     (cases_lt (d - 1) 36)
 
 completes_popped : (r : Rows) (s : Symbol) → Completes (partial_of r) s → Completes (partial_of (popped r)) s

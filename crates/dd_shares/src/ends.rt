@@ -21,7 +21,7 @@ pub struct Ends {
     vertices: PathEnds,
 }
 
-/// An image that is known: the involution, a chamber, and its image, which is not less.
+/// An image that is known: the involution, a chamber, and its image.
 #[derive(Clone, Copy, Drop)]
 pub(crate) struct Link {
     pub(crate) index: Index,
@@ -50,7 +50,7 @@ fn flag(chamber: u8, side: u8) -> u8
 }
 
 impl Link {
-    /// What was put in at a place; None where it is told at the place of its image.
+    /// What was put in at a place; None where nothing is known there.
     pub(crate) fn at(table: &Rows, place: u8) -> Option<Link>
         requires ready { IsReady table.now }
         requires place { place < 108 }
@@ -58,7 +58,7 @@ impl Link {
         let index = index_of(place);
         let chamber = 1 + place / 3;
         let image = table.known(index, chamber);
-        if image < chamber {
+        if image == 0 {
             return None;
         }
         Some(Link {
