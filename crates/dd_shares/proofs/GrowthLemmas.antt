@@ -1,5 +1,5 @@
 -- A table that is filled knows what it knew before.
-use Rattle.std.proofs.Common.{◌≡◌, ◌≢◌, ℕ, zero, suc, ◌-◌, ◌⊎◌, List, [], ◌∷◌, length, get_or, set, refl, sym, ap, ◌∙◌, subst, inl, inr, ⊎_elim}
+use Rattle.std.proofs.Common.{◌≡◌, ◌≢◌, ℕ, zero, suc, ◌-◌, ◌⊎◌, List, [], ◌∷◌, get_or, set, refl, sym, ap, ◌∙◌, subst, inl, inr, ⊎_elim}
 use Rattle.std.proofs.lemmas.Bool.{cases_lt}
 use Rattle.dd_model.specs.declared.index.Index.{Index}
 use Rattle.dd_model.specs.declared.pair.Pair.TheVariants.{Tile, Vertex}

@@ -1,7 +1,8 @@
 -- A walk along the path of a chamber.
-use Rattle.std.proofs.Common.{◌≡◌, ◌≢◌, ℕ, ◌+◌, ◌<◌, ◌⊎◌, Bool, true, false, List, [], ◌∷◌, ◌++◌, length, get_or, set, sym, ap, ◌∙◌, subst, ⊎_elim, arith}
+use Rattle.std.proofs.Common.{◌≡◌, ◌≢◌, ℕ, ◌+◌, ◌^◌, ◌<◌, ◌⊎◌, bit_or, List, [], ◌∷◌, ◌++◌, length, get_or, sym, ap, ◌∙◌, subst, ⊎_elim, arith}
 use Rattle.std.proofs.lemmas.Bool.{cases_eq}
-use Rattle.std.proofs.lemmas.List.{get_or-set_same, get_or-set_other}
+use Rattle.std.proofs.lemmas.Nat.Bits.{bit_at-lt, bit_at-pow_same, bit_at_or}
+use Rattle.std.specs.Int.{bit_at}
 use Rattle.std.specs.List.{AllByRecursion}
 use Rattle.dd_model.specs.declared.index.Index.{Index}
 use Rattle.dd_model.specs.declared.pair.Pair.{Pair}
@@ -32,14 +33,15 @@ pub path_at : (P : Symbol) (p : Pair) (d : ℕ) (es : List ℕ) (k : ℕ) → Ar
 path_at P p d es k path low = all_at (InPath P p d) es k path.in_path low
 
 -- a mark more keeps the marks
-pub marked_more : (met : List Bool) (j : ℕ) → j < length met → (es : List ℕ) → AllByRecursion (λ e. get_or met e false ≡ true) es → AllByRecursion (λ e. get_or (set met j true) e false ≡ true) es
-marked_more met j room es marked =
-    all_map (λ e. get_or met e false ≡ true) (λ e. get_or (set met j true) e false ≡ true)
-    (λ e old. ⊎_elim
-    (λ same. ap (λ k. get_or (set met j true) k false) same ∙ get_or-set_same met j true false room)
-    (λ other. get_or-set_other met j e true false other ∙ old)
-    (cases_eq e j))
-    es marked
+pub marked_more : (met j : ℕ) (es : List ℕ) → AllByRecursion (λ e. bit_at met e ≡ 1) es → AllByRecursion (λ e. bit_at (bit_or met (2 ^ j)) e ≡ 1) es
+marked_more met j es marked =
+    all_map (λ e. bit_at met e ≡ 1) (λ e. bit_at (bit_or met (2 ^ j)) e ≡ 1) (λ e old. let other = bit_at-lt (2 ^ j) e in bit_at_or met (2 ^ j) e ∙ omega arith) es marked
+
+pub marked_new : (met j : ℕ) → bit_at (bit_or met (2 ^ j)) j ≡ 1
+marked_new met j =
+    let own = bit_at-pow_same j in
+    let other = bit_at-lt met j in
+    bit_at_or met (2 ^ j) j ∙ omega arith
 
 -- a list with one more number, which a test tells from each of the list
 pub distinct-push : (P : ℕ → Type 0) (xs : List ℕ) (y : ℕ) → AreDistinct xs → AllByRecursion P xs → (P y → ⊥) → AreDistinct (xs ++ y ∷ [])

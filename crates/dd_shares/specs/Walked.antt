@@ -1,5 +1,6 @@
 -- A walk along a path.
-use Rattle.std.specs.Prelude.{◌≡◌, ℕ, ◌≤◌, length, slice_index_or, true, false, IsTrue}
+use Rattle.std.specs.Prelude.{◌≡◌, ℕ, ◌≤◌, length, IsTrue}
+use Rattle.std.specs.Int.{bit_at}
 use Rattle.std.specs.List.{AllByRecursion}
 use Rattle.dd_model.specs.Symbol.{Symbol}
 use Rattle.dd_shares.specs.Paths.{InPath, IsCapped, ArePath}
@@ -9,10 +10,9 @@ use Rattle.dd_shares.specs.declared.paths.Path.{Path}
 pub record IsWalked (partial : Symbol) (path : Path) : Type 0 where
   pub chambers : ArePath partial path.pair path.start path.chambers.items
   pub within : AllByRecursion (λ e. (1 ≤ e) × (e ≤ partial.size)) path.chambers.items
-  pub marked : AllByRecursion (λ e. slice_index_or path.met e false ≡ true) path.chambers.items
+  pub marked : AllByRecursion (λ e. bit_at path.met e ≡ 1) path.chambers.items
   pub begins : (1 ≤ path.start) × (path.start ≤ partial.size)
   pub some : 1 ≤ length path.chambers.items
-  pub marks : length path.met ≡ 37
   pub capped : IsTrue path.is_capped → IsCapped partial path.pair path.start
 
 -- a chamber on the path of the walk's start

@@ -1,4 +1,5 @@
-ghost use Rattle.std.specs.Prelude.{ℕ, ◌≡◌, ◌⊎◌, [], ◌∷◌, ◌+◌, ◌/◌, ◌≤◌, IsTrue, length, slice_index_or, true, false};
+ghost use Rattle.std.specs.Prelude.{ℕ, ◌≡◌, ◌⊎◌, [], ◌∷◌, ◌+◌, ◌/◌, ◌≤◌, IsTrue, length, false};
+ghost use Rattle.std.specs.Int.{bit_at};
 ghost use Rattle.dd_model.specs.Symbol.{first, second};
 ghost use Rattle.dd_invol.specs.Rows.{partial_of, IsReady};
 ghost use Rattle.std.specs.Option.{IfSome};
@@ -8,14 +9,15 @@ use arrayvec::ArrayVec;
 use dd_invol::Rows;
 use dd_model::{Index, Pair};
 
-/// Different chambers that known images of a pair join to a first one, whether an involution is known
-/// to fix one of them, and whether an image of them is not known. No call allocates.
+/// Different chambers that known images of a pair join to a first one, in the order in which they were
+/// met and as bits, whether an involution is known to fix one of them, and whether an image of them is
+/// not known. No call allocates.
 #[derive(Drop)]
 pub(crate) struct Path {
     pair: Pair,
     start: u8,
     pub(crate) chambers: ArrayVec<u8, 36>,
-    met: [bool; 37],
+    met: u64,
     is_capped: bool,
     is_open: bool,
 }
@@ -27,19 +29,16 @@ impl Path {
         ensures pair { result.pair ≡ pair }
         ensures start { result.start ≡ start }
         ensures chambers { result.chambers.items ≡ start ∷ [] }
-        ensures met { slice_index_or result.met start false ≡ true }
-        ensures marks { length result.met ≡ 37 }
+        ensures met { bit_at result.met start ≡ 1 }
         ensures open { result.is_capped ≡ false }
     {
         let mut chambers = ArrayVec::new();
         chambers.push(start);
-        let mut met = [false; 37];
-        met[start as usize] = true;
         Path {
             pair,
             start,
             chambers,
-            met,
+            met: 1 << start,
             is_capped: false,
             is_open: false,
         }
@@ -66,10 +65,10 @@ impl Path {
             self.is_capped = true;
             return None;
         }
-        if self.met[image as usize] || self.chambers.is_full() {
+        if (self.met >> image) & 1 == 1 || self.chambers.is_full() {
             return None;
         }
-        self.met[image as usize] = true;
+        self.met |= 1 << image;
         self.chambers.push(image);
         Some(image)
     }
