@@ -79,16 +79,27 @@ NOT_TAKEN = (
     "catalogue 2 2",
     "catalogue 2 --min",
     "catalogue 2 --workers 65",
-    "catalogue 2 --checkpoint c",
+    "catalogue 2 --pause 1",
+    "catalogue 2 --checkpoint -c",
     "catalogue 2 --help",
     "--version",
-    "resume c",
+    "resume",
+    "resume c --tiles 1",
     "draw f",
     "exercise 1 1",
 )
 
-# A command, a file that is refused, and the line that tells why.
+FIRST_ROUND = "dressline checkpoint 2\nrun 1\nrequest 2 0 0 all\nfaces 3-216\ndegrees 3-216\nlines 3\nbytes 54\nat 2 1 1 2 2 2 1\n"
+OLD_FIRST_ROUND = "dressline checkpoint 1\nrun 1\nrequest 2 0 0 3 3 all\nlines 3\nbytes 54\nat 2 1 1 2 2 2 1\n"
+
+# A command, a file that is refused, and the line that tells why. To go on from a name that holds no checkpoint text is one.
 REFUSED = (
+    ("resume", OLD_FIRST_ROUND.replace("checkpoint 1", "checkpoint 9"), "checkpoint: version"),
+    ("resume", OLD_FIRST_ROUND[:68], "checkpoint: shape line 6"),
+    ("resume", OLD_FIRST_ROUND.replace("lines 3", "lines 03"), "checkpoint: shape line 4"),
+    ("resume", OLD_FIRST_ROUND.replace("request 2", "request 37"), "checkpoint: range line 3"),
+    ("resume", OLD_FIRST_ROUND.replace("2 2 2 1", "1 2 2 2"), "checkpoint: position"),
+    ("resume", "d" * 4097, "checkpoint: too long"),
     ("lines", "<1.1:1:1,1", "file: symbol 1 at 10: unexpected end"),
     ("lines", "<1.1;1", "file: symbol 1 at 4: stray"),
     ("lines", "<1.1:1234567890:", "file: symbol 1 at 5: number too long"),
@@ -103,6 +114,19 @@ REFUSED = (
     ("minimal", "<1.1:2:1 2,2,1 2:30,60>", "symbol 1: branching too large 60"),
     ("torus", "<1.1:1:1,1,1:3,3>", "symbol 1: not flat 1/6"),
     ("torus", "<1.1:1:1,1,1:3,7>", "symbol 1: not flat -1/42"),
+)
+
+# Chains of calls under a name: what it holds at first, and for each call its words, how many lines the chain has written before
+# and after it, the line that tells of a pause, and the number, the bytes and the position of the checkpoint that it leaves.
+PAUSES = ("catalogue 2 --round 1 --pause 1 --checkpoint f", 0, 1, "paused at 1 lines", 1, 18, "1 1 1 1 4 4")
+CHAINS = (
+    ("", (PAUSES, ("resume f", 1, 18, "", 2, 365, "end"), ("resume f", 18, 18, "", 2, 365, "end"))),
+    ("", (PAUSES, ("resume f --pause 17", 1, 18, "", 2, 365, "end"))),
+    ("", (PAUSES, ("resume f --pause=16 --workers 3", 1, 17, "paused at 17 lines", 2, 341, "2 2 2 2 1 1 1 6 6 3 3"))),
+    ("", (PAUSES, ("resume f --pause 1", 1, 2, "paused at 2 lines", 2, 18, "1 1 1 1 6 3"), ("resume f", 2, 18, "", 3, 347, "end"))),
+    (FIRST_ROUND, (("resume f --round 2", 3, 18, "", 2, 329, "end"),)),
+    (OLD_FIRST_ROUND, (("resume f", 3, 18, "", 2, 329, "end"),)),
+    (OLD_FIRST_ROUND.replace("lines 3", "lines 0"), (("resume f --pause 1", 0, 1, "paused at 1 lines", 2, 22, "2 1 1 2 2 2 1 3 6 6 4 4"),)),
 )
 
 SQUARES = "<1.1:1:1,1,1:4,4>\n"

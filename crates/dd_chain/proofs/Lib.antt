@@ -2,9 +2,9 @@ pub mod LinesUpTo
 pub mod Fronts
 pub mod Stops
 pub mod ReadingBack
-mod Parts
+pub mod Parts
 mod Steps
-mod Chained
+pub mod Chained
 mod Found
 pub mod Rests
 mod Lone

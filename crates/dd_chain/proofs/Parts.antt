@@ -20,7 +20,7 @@ pub one_held : (held : Option Text) (c d : Checkpoint) → Holds held c → Hold
 one_held held c d a b =
     one_checkpoint a.text c d a.accepted (subst (λ t. IsCheckpointText t d) (same_text b.text a.text (sym b.held_is ∙ a.held_is)) b.accepted)
 
-starts_once : (task : Task) (held : Option Text) (s t : Start) → Starts task held s → Starts task held t → s ≡ t
+pub starts_once : (task : Task) (held : Option Text) (s t : Start) → Starts task held s → Starts task held t → s ≡ t
 starts_once (Catalogue q name) held s t a b = a ∙ sym b
 starts_once (Resume name) held s t a b = a.2 ∙ ap next_start (one_held held a.0 b.0 a.1 b.1) ∙ sym b.2
 

@@ -12,3 +12,4 @@ pub mod Told
 pub mod Places
 pub mod Accepted
 pub mod Refusals
+pub mod Messages

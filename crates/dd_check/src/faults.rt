@@ -1,7 +1,9 @@
-ghost use Rattle.std.specs.Prelude.{◌≡◌};
+ghost use Rattle.std.specs.Prelude.{◌≡◌, Some};
+ghost use Rattle.dd_check.specs.Messages.{check_fault_text};
 
 use dd_model::Memory;
 use std::alloc::{AllocError, AllocFailed};
+use std::fmt;
 
 /// Why a text is no checkpoint text.
 #[derive(Debug, Clone, Copy, PartialEq, Eq)]
@@ -18,6 +20,21 @@ pub enum CheckFault {
     Long,
     /// Want of memory.
     Memory,
+}
+
+impl fmt::Display for CheckFault {
+    ghost output = { λ fault. Some (check_fault_text fault) };
+
+    fn fmt<W: fmt::Write>(&self, f: &mut fmt::Formatter<W>) -> fmt::Result {
+        match self {
+            CheckFault::Version => f.write_str("version"),
+            CheckFault::Shape { line } => write!(f, "shape line {line}"),
+            CheckFault::Range { line } => write!(f, "range line {line}"),
+            CheckFault::Position => f.write_str("position"),
+            CheckFault::Long => f.write_str("too long"),
+            CheckFault::Memory => f.write_str("out of memory"),
+        }
+    }
 }
 
 impl From<Memory> for CheckFault {

@@ -1,6 +1,11 @@
 pub mod Requests
-pub mod CatalogueTexts
+pub mod RunEndings
+pub mod RunOutputs
 pub mod HeldTexts
-pub mod Causes
 pub mod LongFiles
-pub mod LoneRuns
+pub mod FileOutcomes
+pub mod RunOutcomes
+pub mod Clauses
+pub mod CheckValues
+pub mod RunCalls
+pub mod ProgramCalls

@@ -1,9 +1,30 @@
--- A name that holds more bytes than a file may have.
+-- A name that holds more bytes than are fetched.
 use Rattle.std.proofs.Common.{◌≡◌, ℕ, List, [], ◌∷◌, ◌++◌, ◌+◌, ◌<◌, length, Bool, true, false, Option, Some, refl, arith, length-append}
+use Rattle.dd_check.specs.declared.faults.CheckFault.TheVariants as check
 use Rattle.dd_text.specs.declared.faults.FileFault.{FileFault}
 use Rattle.dd_text.specs.declared.faults.Why.TheVariants.{Long}
 use Rattle.dd_commands.specs.Files.{IsFaulty}
-use Rattle.dd_suite.specs.Held.{HoldsFaulty}
+use Rattle.dd_suite.specs.Beginnings.{HoldsNoCheck}
+use Rattle.dd_suite.specs.Held.{HoldsMore, HoldsFaulty}
+
+-- Where a store tells, the bytes are what it holds; else any bytes that begin so, and are more, will do.
+pub more_held : (tells : Bool) (held : Option (List ℕ)) (into : List ℕ) (most : ℕ) → length into ≡ most
+    → (tells ≡ true → (rest : List ℕ) × (0 < length rest) × (held ≡ Some (into ++ rest)))
+    → HoldsMore tells held most
+more_held true held into most full holds =
+    let more = holds refl in
+    record {
+      bytes = into ++ more.0;
+      fetched = λ _. more.2;
+      more = omega (arith, length-append into more.0, more.1, full);
+    }
+more_held false held into most full holds = record {
+  bytes = into ++ 0 ∷ [];
+  fetched = λ e. absurd (cc);
+  more = let size : length (into ++ 0 ∷ []) ≡ length into + 1 = length-append into (0 ∷ []) in omega (arith, full);
+}
+
+-- ## As a file, and as a checkpoint
 
 too_long : FileFault
 too_long = record { symbol = 0; at = 16777216; why = Long }
@@ -16,20 +37,9 @@ long_faulty bytes long = record {
   no_memory = λ e. (cc);
 }
 
--- Where a store tells, the bytes are what it holds; else any bytes that begin so, and are more, will do.
-pub long_held : (tells : Bool) (held : Option (List ℕ)) (into : List ℕ) → length into ≡ 16777216
-    → (tells ≡ true → (rest : List ℕ) × (0 < length rest) × (held ≡ Some (into ++ rest)))
-    → HoldsFaulty tells held (record { symbol = 0; at = 16777216; why = Long })
+pub long_file : (tells : Bool) (held : Option (List ℕ)) → HoldsMore tells held 16777216 → HoldsFaulty tells held (record { symbol = 0; at = 16777216; why = Long })
 unfolding too_long
-long_held true held into full holds =
-    let more = holds refl in
-    record {
-      bytes = into ++ more.0;
-      fetched = λ _. more.2;
-      faulty = long_faulty (into ++ more.0) (omega (arith, length-append into more.0, more.1, full));
-    }
-long_held false held into full holds = record {
-  bytes = into ++ 0 ∷ [];
-  fetched = λ e. absurd (cc);
-  faulty = long_faulty (into ++ 0 ∷ []) (let size : length (into ++ 0 ∷ []) ≡ length into + 1 = length-append into (0 ∷ []) in omega arith);
-}
+long_file tells held more = record { bytes = more.bytes; fetched = more.fetched; faulty = long_faulty more.bytes more.more }
+
+pub long_check : (tells : Bool) (held : Option (List ℕ)) → HoldsMore tells held 4096 → HoldsNoCheck tells held check.Long
+long_check tells held more = record { bytes = more.bytes; fetched = more.fetched; faulty = more.more }

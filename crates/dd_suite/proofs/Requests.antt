@@ -4,22 +4,20 @@ use Rattle.dd_model.specs.declared.requests.Request.{Request}
 use Rattle.dd_model.specs.Request.{IsValid}
 use Rattle.dd_words.specs.Grammar.{IsCommand}
 use Rattle.dd_words.proofs.ReadCommands.{one_command}
-use Rattle.dd_words.proofs.Validity.{valid, IsPace, pace as pace_of}
+use Rattle.dd_words.proofs.Validity.{valid, IsPace, pace as pace_of, resume_pace, lone_pause}
 use Rattle.dd_words.specs.declared.commands.Command.{Command}
-use Rattle.dd_words.specs.declared.commands.Command.TheVariants.{Catalogue, File}
+use Rattle.dd_words.specs.declared.commands.Command.TheVariants.{Catalogue, Resume, File}
 use Rattle.dd_words.specs.declared.commands.FileKind.{FileKind}
 use Rattle.dd_words.specs.declared.commands.FileKind.TheVariants as kind
+use Rattle.dd_chain.specs.Calls.{Task as ChainTask, Catalogue as First, Resume as Next}
 use Rattle.dd_commands.specs.declared.commands.FileCommand.{FileCommand}
 use Rattle.dd_commands.specs.declared.commands.FileCommand.TheVariants.{Symbols, Info}
 use Rattle.dd_commands.specs.declared.commands.SymbolCommand.TheVariants.{Lines, Canon, Minimal, Dual, Oriented, Torus, Derived}
 use Rattle.dd_catalogue.specs.declared.pace.Pace.{Pace}
 use Rattle.dd_suite.specs.declared.task.Task.{Task}
 use Rattle.dd_suite.specs.declared.task.Task.TheVariants as task
-use Rattle.dd_suite.specs.Words.{AskFor, kind_of, IsOnFile, AreTaken}
+use Rattle.dd_suite.specs.Words.{Order, run_command, AskForRun, kind_of, IsOnFile, AreTaken}
 use Rattle.dd_suite.specs.Commands.{IsTaskOf, AskForTask}
-
-pub valid_request : (words : List (List ℕ)) (q : Request) → AskFor words q → IsValid q
-valid_request words q a = valid words q a.workers a.round None None a.command
 
 -- the command on files of a kind
 command_of : FileKind → FileCommand
@@ -46,15 +44,36 @@ back_from_kind (Symbols (Derived operation)) = refl
 same_kind : (k l : FileCommand) → kind_of k ≡ kind_of l → k ≡ l
 same_kind k l e = sym (back_from_kind k) ∙ ap command_of e ∙ back_from_kind l
 
-pub same_request : (words : List (List ℕ)) (q r : Request) → AskFor words q → AskFor words r → q ≡ r
-same_request words q r a b = let e : Catalogue q a.workers a.round None None ≡ Catalogue r b.workers b.round None None = one_command words _ _ a.command b.command in cc
+-- the run that a command asks for, and nothing for other commands
+order_of : Command → Option Order
+order_of (Catalogue q workers round pause name) = Some (record { task = First q name; round = round; pause = pause })
+order_of (Resume name workers round pause) = Some (record { task = Next name; round = round; pause = pause })
+order_of other = None
 
-pub taken : (words : List (List ℕ)) (q : Request) → AskFor words q → AreTaken words
-taken words q a = inl (q, a)
+order_told : (task : ChainTask) (workers round : ℕ) (pause : Option ℕ) → order_of (run_command task workers round pause) ≡ Some (record { task = task; round = round; pause = pause })
+unfolding order_of
+order_told (First q name) workers round pause = refl
+order_told (Next name) workers round pause = refl
 
--- no words are those of a catalogue and of a command on a file
-pub not_both : (words : List (List ℕ)) (q : Request) (k : FileCommand) (name : List ℕ) → AskFor words q → IsOnFile words k name → ⊥
-not_both words q k name a b = let e : Catalogue q a.workers a.round None None ≡ File (kind_of k) name = one_command words _ _ a.command b in cc
+no_order : (k : FileCommand) (name : List ℕ) → order_of (File (kind_of k) name) ≡ None
+unfolding order_of
+no_order k name = refl
+
+same_some : (a b : Order) → Some a ≡ Some b → a ≡ b
+same_some a b e = cc
+
+none_some : (a : Order) → Some a ≡ None → ⊥
+none_some a e = cc
+
+pub one_order : (words : List (List ℕ)) (a b : Order) → AskForRun words a → AskForRun words b → a ≡ b
+one_order words a b h i =
+    same_some a b
+    (sym (order_told a.task h.workers a.round a.pause) ∙ ap order_of (one_command words _ _ h.command i.command) ∙ order_told b.task i.workers b.round b.pause)
+
+-- no words are those of a run and of a command on a file
+pub not_both : (words : List (List ℕ)) (order : Order) (k : FileCommand) (name : List ℕ) → AskForRun words order → IsOnFile words k name → ⊥
+not_both words order k name a b =
+    none_some order (sym (order_told order.task a.workers order.round order.pause) ∙ ap order_of (one_command words _ _ a.command b) ∙ no_order k name)
 
 pub same_command : (words : List (List ℕ)) (k l : FileCommand) (a b : List ℕ) → IsOnFile words k a → IsOnFile words l b → (k ≡ l) × (a ≡ b)
 same_command words k l a b h i =
@@ -63,26 +82,29 @@ same_command words k l a b h i =
     let names : a ≡ b = cc in
     (same_kind k l kinds, names)
 
--- the words of a command ask for its task
-pub task_asked : (words : List (List ℕ)) (c : Command) (t : Task) → IsCommand words c → IsTaskOf c t → AskForTask words t
-task_asked words c (task.Catalogue q pace) is of = subst (IsCommand words) of is
-task_asked words c (task.OnFile k name) is of = subst (IsCommand words) of is
+-- ## Tasks
+
+run_task : (c : Command) (t : ChainTask) (workers round : ℕ) (pause : Option ℕ) → c ≡ run_command t workers round pause → (u : Task) × IsTaskOf c u
+run_task c (First q None) workers round pause e = (task.Catalogue q (record { workers = workers; round = round }), (pause, e))
+run_task c (First q (Some name)) workers round pause e = (task.Kept q name (record { workers = workers; round = round }) pause, e)
+run_task c (Next name) workers round pause e = (task.Resume name (record { workers = workers; round = round }) pause, e)
 
 -- the words of a command without a task are not taken
 pub no_task : (words : List (List ℕ)) (c : Command) → IsCommand words c → ((t : Task) → IsTaskOf c t → ⊥) → AreTaken words → ⊥
-no_task words c is none (inl (q, a)) =
-    none (task.Catalogue q (record { workers = a.workers; round = a.round })) (one_command words c (Catalogue q a.workers a.round None None) is a.command)
+no_task words c is none (inl (order, a)) =
+    let found = run_task c order.task a.workers order.round order.pause (one_command words c _ is a.command) in
+    none found.0 found.1
 no_task words c is none (inr (k, name, a)) = none (task.OnFile k name) (one_command words c (File (kind_of k) name) is a)
 
 -- the task of a command is that of its words
 pub task_of_words : (words : List (List ℕ)) (c : Command) (o : Option Task) → IsCommand words c → MatchOption o ((t : Task) → IsTaskOf c t → ⊥) (IsTaskOf c)
     → MatchOption o (¬ AreTaken words) (AskForTask words)
 task_of_words words c None is none = no_task words c is none
-task_of_words words c (Some t) is of = task_asked words c t is of
+task_of_words words c (Some t) is of = record { command = c; asked = is; task_is = of }
 
 -- words that no command fits are not taken
 pub none_taken : (words : List (List ℕ)) → ((c : Command) → IsCommand words c → ⊥) → AreTaken words → ⊥
-none_taken words none (inl (q, a)) = none (Catalogue q a.workers a.round None None) a.command
+none_taken words none (inl (order, a)) = none (run_command order.task a.workers order.round order.pause) a.command
 none_taken words none (inr (k, name, a)) = none (File (kind_of k) name) a
 
 -- what was read is what the words ask for
@@ -91,10 +113,31 @@ asked_of words o t u h e f =
     let here : MatchOption (Some t) (¬ AreTaken words) (AskForTask words) = subst (λ (p : Option Task). MatchOption p (¬ AreTaken words) (AskForTask words)) e h in
     subst (AskForTask words) f here
 
--- the words ask for the request of their task
-pub request_asked : (words : List (List ℕ)) (q : Request) (pace : Pace) → AskForTask words (task.Catalogue q pace) → AskFor words q
-request_asked words q pace is = record { workers = pace.workers; round = pace.round; command = is }
+-- ## What a task asks for
 
--- and its numbers are in their ranges
-pub pace_asked : (words : List (List ℕ)) (q : Request) (pace : Pace) → AskForTask words (task.Catalogue q pace) → IsPace pace.workers pace.round
-pace_asked words q pace is = pace_of words q pace.workers pace.round None None is
+pub file_asked : (words : List (List ℕ)) (k : FileCommand) (name : List ℕ) → AskForTask words (task.OnFile k name) → IsOnFile words k name
+file_asked words k name is = subst (IsCommand words) is.task_is is.asked
+
+-- a run with its request or name, and the pace of its task
+pub record AsksForRun (words : List (List ℕ)) (order : Order) (pace : Pace) : Type 0 where
+  pub order_asked : AskForRun words order
+  pub in_range : IsPace pace.workers pace.round
+
+pub lone_asked : (words : List (List ℕ)) (q : Request) (pace : Pace) → AskForTask words (task.Catalogue q pace)
+    → IsValid q × AsksForRun words (record { task = First q None; round = pace.round; pause = None }) pace
+lone_asked words q pace is =
+    let said : IsCommand words (Catalogue q pace.workers pace.round is.task_is.0 None) = subst (IsCommand words) is.task_is.1 is.asked in
+    let own = subst (λ (p : Option ℕ). IsCommand words (Catalogue q pace.workers pace.round p None)) (lone_pause words q pace.workers pace.round is.task_is.0 said) said in
+    (valid words q pace.workers pace.round None None own, record { order_asked = record { workers = pace.workers; command = own }; in_range = pace_of words q pace.workers pace.round None None own })
+
+pub kept_asked : (words : List (List ℕ)) (q : Request) (name : List ℕ) (pace : Pace) (pause : Option ℕ) → AskForTask words (task.Kept q name pace pause)
+    → IsValid q × AsksForRun words (record { task = First q (Some name); round = pace.round; pause = pause }) pace
+kept_asked words q name pace pause is =
+    let own : IsCommand words (Catalogue q pace.workers pace.round pause (Some name)) = subst (IsCommand words) is.task_is is.asked in
+    (valid words q pace.workers pace.round pause (Some name) own, record { order_asked = record { workers = pace.workers; command = own }; in_range = pace_of words q pace.workers pace.round pause (Some name) own })
+
+pub resume_asked : (words : List (List ℕ)) (name : List ℕ) (pace : Pace) (pause : Option ℕ) → AskForTask words (task.Resume name pace pause)
+    → AsksForRun words (record { task = Next name; round = pace.round; pause = pause }) pace
+resume_asked words name pace pause is =
+    let own : IsCommand words (Resume name pace.workers pace.round pause) = subst (IsCommand words) is.task_is is.asked in
+    record { order_asked = record { workers = pace.workers; command = own }; in_range = resume_pace words name pace.workers pace.round pause own }

@@ -1,18 +1,21 @@
 -- The task of words.
-use Rattle.std.specs.Prelude.{◌≡◌, ℕ, List, None}
+use Rattle.std.specs.Prelude.{◌≡◌, ℕ, List, Option, None, Some}
 use Rattle.dd_words.specs.declared.commands.Command.{Command}
 use Rattle.dd_words.specs.declared.commands.Command.TheVariants as command
 use Rattle.dd_suite.specs.declared.task.Task.{Task}
-use Rattle.dd_suite.specs.declared.task.Task.TheVariants.{Catalogue, OnFile}
+use Rattle.dd_suite.specs.declared.task.Task.TheVariants.{Catalogue, Kept, Resume, OnFile}
 use Rattle.dd_words.specs.Grammar.{IsCommand}
-use Rattle.dd_suite.specs.Words.{IsOnFile, kind_of}
+use Rattle.dd_suite.specs.Words.{kind_of}
 
 -- the command is that of a task
 abbrev pub IsTaskOf : Command → Task → Type 0
-IsTaskOf c (Catalogue q pace) = c ≡ command.Catalogue q pace.workers pace.round None None
+IsTaskOf c (Catalogue q pace) = (pause : Option ℕ) × (c ≡ command.Catalogue q pace.workers pace.round pause None)
+IsTaskOf c (Kept q name pace pause) = c ≡ command.Catalogue q pace.workers pace.round pause (Some name)
+IsTaskOf c (Resume name pace pause) = c ≡ command.Resume name pace.workers pace.round pause
 IsTaskOf c (OnFile kind name) = c ≡ command.File (kind_of kind) name
 
 -- the words ask for this task
-abbrev pub AskForTask : List (List ℕ) → Task → Type 0
-AskForTask words (Catalogue q pace) = IsCommand words (command.Catalogue q pace.workers pace.round None None)
-AskForTask words (OnFile kind name) = IsOnFile words kind name
+pub record AskForTask (words : List (List ℕ)) (task : Task) : Type 0 where
+  pub command : Command
+  pub asked : IsCommand words command
+  pub task_is : IsTaskOf command task

@@ -1,5 +1,5 @@
 -- What a command makes of what a name holds. Bytes are what was fetched: where the store tells, what it holds.
-use Rattle.std.specs.Prelude.{◌≡◌, ℕ, List, Option, Some, Bool, true}
+use Rattle.std.specs.Prelude.{◌≡◌, ◌<◌, ℕ, List, Option, Some, Bool, true, length}
 use Rattle.std.specs.Io.KnownBytes.{Appends}
 use Rattle.dd_ports.specs.Grows.{GrowsByPrefix}
 use Rattle.dd_text.specs.declared.faults.FileFault.{FileFault}
@@ -10,6 +10,12 @@ use Rattle.dd_commands.specs.Files.{IsFileText, IsFaulty, IsRefused}
 -- bytes that were fetched: what the name holds, if the store tells
 abbrev pub AreFetched : Bool → Option (List ℕ) → List ℕ → Type 0
 AreFetched tells held bytes = tells ≡ true → held ≡ Some bytes
+
+-- a name holds more bytes than so many
+pub record HoldsMore (tells : Bool) (held : Option (List ℕ)) (most : ℕ) : Type 0 where
+  pub bytes : List ℕ
+  pub fetched : AreFetched tells held bytes
+  pub more : most < length bytes
 
 -- what a command writes of the file that a name holds
 pub record IsTextOfHeld (command : FileCommand) (tells : Bool) (held : Option (List ℕ)) (text : List ℕ) : Type 0 where

@@ -1,15 +1,15 @@
--- Why a command ended without its output, and what it may have written.
-use Rattle.std.specs.Prelude.{◌⊎◌, ℕ, List, [], Option, Bool}
-use Rattle.std.specs.Io.KnownBytes.{Appends}
+-- Why a command on a file ended without its output, and what the words of any command came to.
+use Rattle.std.specs.Prelude.{◌≡◌, ◌⊎◌, ℕ, List, Option, Bool, true}
 use Rattle.dd_ports.specs.Causes.{Rose}
+use Rattle.dd_ports.specs.Grows.{GrowsByPrefix}
 use Rattle.dd_commands.specs.declared.commands.FileCommand.{FileCommand}
 use Rattle.dd_suite.specs.declared.ending.Ending.{Ending}
 use Rattle.dd_suite.specs.declared.ending.Ending.TheVariants.{Done, Usage, Refused, RefusedSymbol}
-use Rattle.dd_suite.specs.declared.ending.Ending.TheVariants.{StoreFault, SinkFault, Memory, TooManyLines}
-use Rattle.dd_suite.specs.Outside.{Before, After}
-use Rattle.dd_suite.specs.Words.{AreTaken, IsOnFile}
-use Rattle.dd_suite.specs.Held.{HoldsFaulty, HoldsRefused, AppendsPart}
-use Rattle.dd_suite.specs.Output.{CutsShort, NameFaulty, NameRefused}
+use Rattle.dd_suite.specs.declared.ending.Ending.TheVariants.{StoreFault, SinkFault, Memory}
+use Rattle.dd_suite.specs.Outcomes.{IsRunOutcome}
+use Rattle.dd_suite.specs.Outside.{Before, After, WritesNothing, KeepsNames}
+use Rattle.dd_suite.specs.Words.{Order, AreTaken, AskForRun, IsOnFile}
+use Rattle.dd_suite.specs.Held.{HoldsFaulty, HoldsRefused, IsTextOfHeld, AppendsFileText, AppendsPart}
 
 -- a fetch failed and was counted, or the name holds what no file may be, or memory is wanting
 abbrev pub IsFetchStop : Ending → Bool → Option (List ℕ) → ℕ → ℕ → Type 0
@@ -25,10 +25,6 @@ IsWriteEnding SinkFault before now = Rose before now
 IsWriteEnding Memory before now = Unit {0}
 IsWriteEnding ending before now = ⊥
 
--- nothing was written
-abbrev pub WritesNothing : Before → After → Type 0
-WritesNothing before after = Appends before.written after.written []
-
 -- nothing was written, or a prefix of the text of the file that the name holds
 abbrev pub WritesPart : FileCommand → List ℕ → Before → After → Type 0
 WritesPart command name before after =
@@ -37,27 +33,30 @@ WritesPart command name before after =
 -- Each ending of a command on a file has its cause, and only Done may have written more than a part.
 abbrev pub HasFileCause : FileCommand → List ℕ → Ending → Before → After → Type 0
 HasFileCause command name Done before after = Unit {0}
-HasFileCause command name Usage before after = ⊥
 HasFileCause command name (Refused fault) before after = HoldsFaulty before.tells (before.held name) fault × WritesNothing before after
 HasFileCause command name (RefusedSymbol refusal) before after =
     HoldsRefused command before.tells (before.held name) refusal × WritesNothing before after
 HasFileCause command name StoreFault before after = Rose before.store_faults after.store_faults × WritesNothing before after
 HasFileCause command name SinkFault before after = Rose before.sink_faults after.sink_faults × WritesPart command name before after
 HasFileCause command name Memory before after = WritesPart command name before after
-HasFileCause command name TooManyLines before after = ⊥
+HasFileCause command name ending before after = ⊥
 
--- where the words name a file, nothing was written, or a prefix of the text of that file
-abbrev pub WritesPartOfFile : List (List ℕ) → Before → After → Type 0
-WritesPartOfFile words before after =
-    (command : FileCommand) (name : List ℕ) → IsOnFile words command name → WritesPart command name before after
+-- a prefix of the text of the file that the name holds was written, and after Done the whole; the store is as it was
+pub record EndsOnFile (command : FileCommand) (name : List ℕ) (ending : Ending) (before : Before) (after : After) : Type 0 where
+  pub cause : HasFileCause command name ending before after
+  pub prefix : before.tells ≡ true → (text : List ℕ) → IsTextOfHeld command before.tells (before.held name) text
+      → GrowsByPrefix before.written after.written text
+  pub whole : ending ≡ Done → AppendsFileText command before.tells (before.held name) before.written after.written
+  pub same : KeepsNames before after
 
--- Each ending has its cause, and a refusal or StoreFault has written nothing.
-abbrev pub HasCause : Ending → List (List ℕ) → Before → After → Type 0
-HasCause Done words before after = Unit {0}
-HasCause Usage words before after = ¬ AreTaken words
-HasCause (Refused fault) words before after = NameFaulty words before.tells before.held fault × WritesNothing before after
-HasCause (RefusedSymbol refusal) words before after = NameRefused words before.tells before.held refusal × WritesNothing before after
-HasCause StoreFault words before after = Rose before.store_faults after.store_faults × WritesNothing before after
-HasCause SinkFault words before after = Rose before.sink_faults after.sink_faults × WritesPartOfFile words before after
-HasCause Memory words before after = WritesPartOfFile words before after
-HasCause TooManyLines words before after = CutsShort words before.written after.written
+-- nothing happened
+pub record LeavesAll (before : Before) (after : After) : Type 0 where
+  pub nothing : WritesNothing before after
+  pub same : KeepsNames before after
+
+-- What words came to: they are not taken, or there was no memory to read them, or their command was done.
+pub data IsOutcome (words : List (List ℕ)) (ending : Ending) (before : Before) (after : After) : Type 0 where
+  untaken : ending ≡ Usage → (¬ AreTaken words) → LeavesAll before after → IsOutcome words ending before after
+  unread : ending ≡ Memory → LeavesAll before after → IsOutcome words ending before after
+  on_file : (command : FileCommand) (name : List ℕ) → IsOnFile words command name → EndsOnFile command name ending before after → IsOutcome words ending before after
+  of_run : (order : Order) → AskForRun words order → IsRunOutcome order ending before after → IsOutcome words ending before after

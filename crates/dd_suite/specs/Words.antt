@@ -1,19 +1,44 @@
 -- Which words the program takes, and what they ask for.
-use Rattle.std.specs.Prelude.{ℕ, ◌⊎◌, List, None}
+use Rattle.std.specs.Prelude.{ℕ, ◌⊎◌, List, Option}
 use Rattle.dd_model.specs.declared.requests.Request.{Request}
 use Rattle.dd_words.specs.Grammar.{IsCommand}
-use Rattle.dd_words.specs.declared.commands.Command.TheVariants.{Catalogue, File}
+use Rattle.dd_words.specs.declared.commands.Command.{Command}
+use Rattle.dd_words.specs.declared.commands.Command.TheVariants as command
 use Rattle.dd_words.specs.declared.commands.FileKind.{FileKind}
 use Rattle.dd_words.specs.declared.commands.FileKind.TheVariants as kind
+use Rattle.dd_chain.specs.Calls.{Task, Catalogue, Resume}
 use Rattle.dd_commands.specs.declared.commands.FileCommand.{FileCommand}
 use Rattle.dd_commands.specs.declared.commands.FileCommand.TheVariants.{Symbols, Info}
 use Rattle.dd_commands.specs.declared.commands.SymbolCommand.TheVariants.{Lines, Canon, Minimal, Dual, Oriented, Torus, Derived}
 
--- the words of a catalogue with any number of workers and any length of a round, and no checkpoint
-pub record AskFor (words : List (List ℕ)) (q : Request) : Type 0 where
-  pub workers : ℕ
+-- A run of a chain as words ask for it: its task, how many jobs go into a round, and after how many lines it is to pause, if it is.
+pub record Order : Type 0 where
+  pub task : Task
   pub round : ℕ
-  pub command : IsCommand words (Catalogue q workers round None None)
+  pub pause : Option ℕ
+
+-- the command with this task
+abbrev pub run_command : Task → ℕ → ℕ → Option ℕ → Command
+run_command (Catalogue q name) workers round pause = command.Catalogue q workers round pause name
+run_command (Resume name) workers round pause = command.Resume name workers round pause
+
+-- the words of a run, with any number of workers
+pub record AskForRun (words : List (List ℕ)) (order : Order) : Type 0 where
+  pub workers : ℕ
+  pub command : IsCommand words (run_command order.task workers order.round order.pause)
+
+-- the words of a catalogue, with a name for its checkpoint or without one
+pub record AskFor (words : List (List ℕ)) (q : Request) : Type 0 where
+  pub name : Option (List ℕ)
+  pub round : ℕ
+  pub pause : Option ℕ
+  pub run : AskForRun words (record { task = Catalogue q name; round = round; pause = pause })
+
+-- the words that go on from the checkpoint of a name
+pub record AskToResume (words : List (List ℕ)) (name : List ℕ) : Type 0 where
+  pub round : ℕ
+  pub pause : Option ℕ
+  pub run : AskForRun words (record { task = Resume name; round = round; pause = pause })
 
 -- the words of the commands on files that the program has
 abbrev pub kind_of : FileCommand → FileKind
@@ -28,8 +53,12 @@ kind_of (Symbols (Derived operation)) = kind.Derived operation
 
 -- the words of a command on the file of a name
 abbrev pub IsOnFile : List (List ℕ) → FileCommand → List ℕ → Type 0
-IsOnFile words command name = IsCommand words (File (kind_of command) name)
+IsOnFile words asked name = IsCommand words (command.File (kind_of asked) name)
+
+-- the words name a file
+abbrev pub NameFile : List (List ℕ) → Type 0
+NameFile words = (command : FileCommand) × (name : List ℕ) × IsOnFile words command name
 
 -- The words are taken: they are those of a command that the program has. Those of other commands are not taken yet.
 abbrev pub AreTaken : List (List ℕ) → Type 0
-AreTaken words = ((q : Request) × AskFor words q) ⊎ ((command : FileCommand) × (name : List ℕ) × IsOnFile words command name)
+AreTaken words = ((order : Order) × AskForRun words order) ⊎ NameFile words

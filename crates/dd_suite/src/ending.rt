@@ -1,6 +1,8 @@
 ghost use Rattle.std.specs.Prelude.{◌≡◌};
 
 use crate::status::Status;
+use dd_catalogue::{Finish, RunFault};
+use dd_check::CheckFault;
 use dd_commands::{CommandFault, SymbolRefusal};
 use dd_text::FileFault;
 
@@ -15,6 +17,10 @@ pub enum Ending {
     Refused(FileFault),
     /// Nothing is made of a symbol of the file.
     RefusedSymbol(SymbolRefusal),
+    /// What is to be gone on from is no checkpoint text.
+    RefusedCheck(CheckFault),
+    /// As many lines were written as were to be written before a pause, and there are more. It tells the number of the last one.
+    Paused(u64),
     /// A call of the store failed.
     StoreFault,
     /// A write on the output failed.
@@ -26,7 +32,7 @@ pub enum Ending {
 }
 
 impl Ending {
-    ghost use Rattle.dd_suite.specs.Endings.{status_of, fault_ending};
+    ghost use Rattle.dd_suite.specs.Endings.{status_of, fault_ending, run_ending};
 
     /// How a command ends that has no text for a file.
     pub fn of_fault(fault: CommandFault) -> Ending
@@ -39,6 +45,20 @@ impl Ending {
         }
     }
 
+    /// How a run ends whose pause comes after the line of a number.
+    pub fn of_run(ended: Result<Finish, RunFault>, last: u64) -> Ending
+        ensures { result ≡ run_ending ended last }
+    {
+        match ended {
+            Ok(Finish::Whole) => Ending::Done,
+            Ok(Finish::Paused) => Ending::Paused(last),
+            Ok(Finish::CutShort) => Ending::TooManyLines,
+            Err(RunFault::Store) => Ending::StoreFault,
+            Err(RunFault::Sink) => Ending::SinkFault,
+            Err(RunFault::Memory) => Ending::Memory,
+        }
+    }
+
     /// The status without its cause.
     pub fn status(self) -> Status
         ensures { result ≡ status_of self }
@@ -46,7 +66,10 @@ impl Ending {
         match self {
             Ending::Done => Status::Done,
             Ending::Usage => Status::Usage,
-            Ending::Refused(_) | Ending::RefusedSymbol(_) => Status::Refused,
+            Ending::Refused(_) | Ending::RefusedSymbol(_) | Ending::RefusedCheck(_) => {
+                Status::Refused
+            }
+            Ending::Paused(_) => Status::Paused,
             Ending::StoreFault => Status::StoreFault,
             Ending::SinkFault => Status::SinkFault,
             Ending::Memory => Status::Memory,

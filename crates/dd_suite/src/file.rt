@@ -6,8 +6,9 @@ ghost use Rattle.dd_suite.specs.Held.{AreFetched, IsTextOfHeld, AppendsFileText}
 ghost use Rattle.dd_suite.specs.Stops.{IsFetchStop, IsWriteEnding, HasFileCause};
 
 use crate::ending::Ending;
+use crate::fetching::fetch_all;
 use dd_commands::{FileCommand, text_of_file};
-use dd_ports::{Fetched, Sink, SinkFault, Store, StoreFault, write_all_of};
+use dd_ports::{Sink, SinkFault, Store, StoreFault, write_all_of};
 use dd_text::{FileFault, Why};
 use std::alloc::Global;
 
@@ -29,10 +30,9 @@ fn fetch_file<S: Store>(alloc: Global, name: &str, store: &mut S) -> Result<Vec<
     ensures passes { S.sure store.old ≡ true → IsSome (S.held store.old name.now)
         → IfErr result (λ ending. ending ≡ Ending.StoreFault → ⊥) }
 {
-    let mut bytes = Vec::new(alloc);
-    match store.fetch(name, &mut bytes, MOST_BYTES) {
-        Ok(Fetched::Whole) => Ok(bytes),
-        Ok(Fetched::Longer) => Err(Ending::Refused(FileFault {
+    match fetch_all(alloc, name, MOST_BYTES, store) {
+        Ok(Some(bytes)) => Ok(bytes),
+        Ok(None) => Err(Ending::Refused(FileFault {
             symbol: 0,
             at: MOST_BYTES as u64,
             why: Why::Long,
@@ -80,10 +80,10 @@ pub fn write_file<S: Store, O: Sink>(
           sink_faults = O.faults out.old;
         })
         (record {
+          held = S.held store.new;
           store_faults = S.faults store.new;
           written = O.held out.new;
-          sink_faults =
-              O.faults out.new;
+          sink_faults = O.faults out.new;
         }) }
     ensures same { S.tells store.old ≡ true
         → (S.tells store.new ≡ true) × SameTexts (S.held store.old) (S.held store.new) }

@@ -1,12 +1,10 @@
-ghost use Rattle.std.specs.Prelude.{◌≡◌, ◌≤◌, ℕ, List, true};
+ghost use Rattle.std.specs.Prelude.{◌≡◌, ◌≤◌, true};
 ghost use Rattle.dd_model.specs.Request.{IsValid};
-ghost use Rattle.dd_model.specs.Text.{IsText, beginning};
-ghost use Rattle.dd_ports.specs.Grows.{GrowsByPrefix};
-ghost use Rattle.dd_suite.specs.Lone.{IsLoneEnding};
+ghost use Rattle.dd_suite.specs.Lone.{IsLoneEnding, run_result};
 
 use crate::ending::Ending;
 use dd_branch::Search;
-use dd_catalogue::{Finish, Pace, Run, write_catalogue};
+use dd_catalogue::{Finish, Pace, Run, RunFault, write_catalogue};
 use dd_model::Request;
 use dd_ports::{Gate, Sink, SinkFault};
 use std::alloc::Global;
@@ -25,24 +23,28 @@ pub fn write_lone<R: Threads + Wait + Sync, G: Gate + Sync, O: Sink>(
     requires valid { IsValid request.now }
     requires workers { (1 ≤ pace.workers) × (pace.workers ≤ 64) }
     requires round { 1 ≤ pace.round }
-    ensures prefix { (text : List ℕ) → IsText request.now beginning 0 text
-        → GrowsByPrefix (O.held out.old) (O.held out.new) text }
     ensures ending { IsLoneEnding result request.now (O.held out.old) (O.held out.new)
         (O.faults out.old) (O.faults out.new) }
     ensures count { O.faults out.old ≤ O.faults out.new }
     ensures sure { O.sure out.old ≡ true
         → (O.faults out.new ≡ O.faults out.old) × (result ≡ Ending.SinkFault → ⊥) }
 {
-    let search = Search::new(request);
     let Ok(run) = Run::first(alloc, *request, pace, None) else {
         return Ending::Memory;
     };
-    match write_catalogue(rt, alloc, &search, gate, &run, out) {
-        Ok(Finish::Whole) => Ending::Done,
-        // A run pauses only where it is asked to.
-        Ok(Finish::Paused) => unreachable!(),
-        Ok(Finish::CutShort) => Ending::TooManyLines,
-        Err(SinkFault::Failed) => Ending::SinkFault,
-        Err(SinkFault::Memory) => Ending::Memory,
+    let search = Search::new(request);
+    let ended = write_catalogue(rt, alloc, &search, gate, &run, out);
+    // It does not pause, so that no line is told.
+    Ending::of_run(as_run(ended), 0)
+}
+
+/// The same with the fault of a run.
+fn as_run(ended: Result<Finish, SinkFault>) -> Result<Finish, RunFault>
+    ensures { result ≡ run_result ended }
+{
+    match ended {
+        Ok(finish) => Ok(finish),
+        Err(SinkFault::Failed) => Err(RunFault::Sink),
+        Err(SinkFault::Memory) => Err(RunFault::Memory),
     }
 }

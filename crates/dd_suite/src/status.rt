@@ -7,8 +7,10 @@ pub enum Status {
     Done,
     /// The words are not taken.
     Usage,
-    /// The file is refused, or a symbol of it.
+    /// The file is refused, or a symbol of it, or what is to be gone on from is no checkpoint text.
     Refused,
+    /// As many lines were written as were to be written before a pause, and there are more.
+    Paused,
     /// A call of the store failed.
     StoreFault,
     /// A write on the output failed.
@@ -30,6 +32,7 @@ impl Status {
             Status::Done => 0,
             Status::Refused => 1,
             Status::Usage => 2,
+            Status::Paused => 3,
             Status::StoreFault => 4,
             Status::SinkFault => 5,
             Status::Memory => 6,

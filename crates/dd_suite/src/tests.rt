@@ -1,5 +1,6 @@
 use crate::ending::Ending;
 use crate::telling::tell;
+use dd_check::CheckFault;
 use dd_ports::{MemorySink, SinkFault, SureSink};
 use std::test::Fail;
 
@@ -10,6 +11,11 @@ fn lines_of_endings(rt: HostRuntime) -> Result<(), Fail> {
     for (ending, line) in [
         (Ending::Done, ""),
         (Ending::Usage, "dressline: words not taken\n"),
+        (
+            Ending::RefusedCheck(CheckFault::Shape { line: 6 }),
+            "dressline: checkpoint: shape line 6\n",
+        ),
+        (Ending::Paused(17), "dressline: paused at 17 lines\n"),
         (Ending::StoreFault, "dressline: store failed\n"),
         (Ending::SinkFault, "dressline: sink failed\n"),
         (Ending::Memory, "dressline: out of memory\n"),

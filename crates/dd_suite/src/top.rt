@@ -7,16 +7,23 @@ ghost use Rattle.dd_ports.specs.Texts.{SameTexts};
 ghost use Rattle.dd_model.specs.Symbol.{Symbol};
 ghost use Rattle.dd_model.specs.Wanted.{IsCatalogue};
 ghost use Rattle.dd_model.specs.declared.requests.Request.{Request};
-ghost use Rattle.dd_suite.specs.Words.{AreTaken, AskFor};
+ghost use Rattle.dd_check.specs.declared.checkpoint.Checkpoint.{Checkpoint};
 ghost use Rattle.dd_catalogue.specs.Runs.{most_lines};
-ghost use Rattle.dd_suite.specs.Output.{IsFileOutput, IsKnownOutput, AppendsOutput, CutsShort};
-ghost use Rattle.dd_suite.specs.Output.{NameFile, IsRefusedFile, IsFileHeld, IsFileAccepted};
+ghost use Rattle.dd_suite.specs.Words.{Order, AskForRun, AskFor, AskToResume, NameFile, AreTaken};
+ghost use Rattle.dd_suite.specs.Beginnings.{HoldsCheck};
+ghost use Rattle.dd_suite.specs.Runs.{IsCallOf};
+ghost use Rattle.dd_suite.specs.Output.{IsFileOutput, IsKnownOutput, AppendsOutput};
+ghost use Rattle.dd_suite.specs.Arguments.{AreRefused, AreHeld, IsFileAccepted, IsCheckAccepted};
+ghost use Rattle.dd_suite.specs.Arguments.{KeepUnder, SameButKept};
+ghost use Rattle.dd_suite.specs.Cuts.{Pauses, CutsShort, IsEndOfOwn};
 ghost use Rattle.dd_suite.specs.Messages.{TellsOf};
-ghost use Rattle.dd_suite.specs.Stops.{HasCause};
+ghost use Rattle.dd_suite.specs.Stops.{IsOutcome};
 
 use crate::ending::Ending;
 use crate::file::write_file;
+use crate::kept::write_kept;
 use crate::lone::write_lone;
+use crate::resume::resume;
 use crate::status::Status;
 use crate::task::Task;
 use crate::telling::tell;
@@ -47,47 +54,78 @@ pub fn run<R: Threads + Wait + Sync, S: Store, O: Sink, E: Sink, G: Gate + Sync>
         → AppendsOutput (map rc_str_bytes words.now) (S.tells store.old)
         (S.held store.old) (O.held out.old) (O.held out.new) }
 
+    // A call with words of a run is a run from where it has to begin, which leaves a checkpoint where it has a name for it;
+    // else it wrote nothing and changed nothing.
+    ensures call { (order : Order) → AskForRun (map rc_str_bytes words.now) order
+        → IsCallOf order
+        result
+        (record {
+          tells = S.tells store.old;
+          held = S.held store.old;
+          store_faults = S.faults store.old;
+          written = O.held out.old;
+          sink_faults = O.faults out.old;
+        })
+        (record {
+          held = S.held store.new;
+          store_faults = S.faults store.new;
+          written = O.held out.new;
+          sink_faults = O.faults out.new;
+        }) }
+    ensures not_resumed { (name : List ℕ) → AskToResume (map rc_str_bytes words.now) name
+        → ((c : Checkpoint) → HoldsCheck (S.tells store.old) (S.held store.old name) c → ⊥)
+        → Appends (O.held out.old) (O.held out.new) []
+        × (S.tells store.old ≡ true → SameTexts (S.held store.old) (S.held store.new)) }
+
     ensures usage { result ≡ Status.Usage → ¬ AreTaken (map rc_str_bytes words.now) }
     ensures not_taken { (¬ AreTaken (map rc_str_bytes words.now))
         → (result ≡ Status.Usage) ⊎ (result ≡ Status.Memory) }
 
-    // A refused command has written nothing, nor has any whose file has no text, whatever the status.
+    // A refused command has written nothing, nor has one whose file has no text, whatever the status. Without a name for
+    // checkpoints a fault of the store comes before anything is written.
     ensures refused { result ≡ Status.Refused
-        → IsRefusedFile (map rc_str_bytes words.now) (S.tells store.old) (S.held store.old) }
-    ensures quiet { (result ≡ Status.Refused) ⊎ (result ≡ Status.StoreFault)
+        → AreRefused (map rc_str_bytes words.now) (S.tells store.old) (S.held store.old) }
+    ensures quiet { (result ≡ Status.Refused) ⊎ ((result ≡ Status.StoreFault)
+        × ((name : List ℕ) → KeepUnder (map rc_str_bytes words.now) name → ⊥))
         → Appends (O.held out.old) (O.held out.new) [] }
     ensures nothing { NameFile (map rc_str_bytes words.now)
         → ((text : List ℕ) → IsFileOutput
         (map rc_str_bytes words.now) (S.tells store.old) (S.held store.old) text → ⊥)
         → Appends (O.held out.old) (O.held out.new) [] }
 
-    ensures store { S.tells store.old ≡ true
-        → (S.tells store.new ≡ true) × SameTexts (S.held store.old) (S.held store.new) }
+    ensures store { S.tells store.old ≡ true → (S.tells store.new ≡ true)
+        × SameButKept (map rc_str_bytes words.now) (S.held store.old) (S.held store.new) }
     ensures store_count { S.faults store.old ≤ S.faults store.new }
     ensures sink_count { O.faults out.old ≤ O.faults out.new }
     ensures store_fault { result ≡ Status.StoreFault
         → Rose (S.faults store.old) (S.faults store.new) }
     ensures sink_fault { result ≡ Status.SinkFault → Rose (O.faults out.old) (O.faults out.new) }
     ensures store_sure { S.sure store.old ≡ true
-        → IsFileHeld (map rc_str_bytes words.now) (S.held store.old)
+        → AreHeld (map rc_str_bytes words.now) (S.held store.old)
         → (S.faults store.new ≡ S.faults store.old) × (result ≡ Status.StoreFault → ⊥) }
     ensures sink_sure { O.sure out.old ≡ true
         → (O.faults out.new ≡ O.faults out.old) × (result ≡ Status.SinkFault → ⊥) }
 
-    // A catalogue is cut short exactly where it has over ten to the 18th lines; those up to that number went out.
+    // A run pauses only where there are more lines than it is to write, and is cut short only where it has lines of numbers over
+    // ten to the 18th; those before went out. After Done it has neither.
+    ensures paused { result ≡ Status.Paused
+        → Pauses (map rc_str_bytes words.now) (S.tells store.old) (S.held store.old)
+        (O.held out.old) (O.held out.new) }
     ensures cut_short { result ≡ Status.TooManyLines
-        → CutsShort (map rc_str_bytes words.now) (O.held out.old) (O.held out.new) }
+        → CutsShort (map rc_str_bytes words.now) (S.tells store.old) (S.held store.old)
+        (O.held out.old) (O.held out.new) }
     ensures not_cut { result ≡ Status.Done → (q : Request) (members : List Symbol)
         → AskFor (map rc_str_bytes words.now) q → IsCatalogue q members
         → length members ≤ most_lines }
 
-    // Taken words end as Done or are cut short where the file is accepted, nothing is refused and no count rose,
-    // unless memory is wanting.
+    // Taken words end as Done, as paused or as cut short where the file is accepted or the checkpoint, nothing is refused and no
+    // count rose, unless memory is wanting.
     ensures complete { AreTaken (map rc_str_bytes words.now)
         → IsFileAccepted (map rc_str_bytes words.now) (S.tells store.old) (S.held store.old)
+        → IsCheckAccepted (map rc_str_bytes words.now) (S.tells store.old) (S.held store.old)
         → (¬ Rose (S.faults store.old) (S.faults store.new))
         → (¬ Rose (O.faults out.old) (O.faults out.new))
-        → (result ≡ Status.Done) ⊎ ((result ≡ Status.TooManyLines) ⊎ (result ≡ Status.Memory)) }
+        → IsEndOfOwn result ⊎ (result ≡ Status.Memory) }
 
     // The line may be cut off, and even be missing, since a sink may want memory: `tell` says whether all of it
     // was written, and then it was.
@@ -110,13 +148,8 @@ fn perform<R: Threads + Wait + Sync, S: Store, O: Sink, G: Gate + Sync>(
     out: &mut O,
     gate: &G,
 ) -> Ending
-    ensures prefix { (bytes : List ℕ)
-        → IsKnownOutput (map rc_str_bytes words.now) (S.tells store.old) (S.held store.old) bytes
-        → GrowsByPrefix (O.held out.old) (O.held out.new) bytes }
-    ensures whole { result ≡ Ending.Done
-        → AppendsOutput (map rc_str_bytes words.now) (S.tells store.old)
-        (S.held store.old) (O.held out.old) (O.held out.new) }
-    ensures cause { HasCause result (map rc_str_bytes words.now)
+    ensures outcome { IsOutcome (map rc_str_bytes words.now)
+        result
         (record {
           tells = S.tells store.old;
           held = S.held store.old;
@@ -125,22 +158,16 @@ fn perform<R: Threads + Wait + Sync, S: Store, O: Sink, G: Gate + Sync>(
           sink_faults = O.faults out.old;
         })
         (record {
+          held = S.held store.new;
           store_faults = S.faults store.new;
           written = O.held out.new;
-          sink_faults =
-              O.faults out.new;
+          sink_faults = O.faults out.new;
         }) }
-    ensures not_taken { (¬ AreTaken (map rc_str_bytes words.now))
-        → (result ≡ Ending.Usage) ⊎ (result ≡ Ending.Memory) }
-    ensures not_cut { result ≡ Ending.Done → (q : Request) (members : List Symbol)
-        → AskFor (map rc_str_bytes words.now) q → IsCatalogue q members
-        → length members ≤ most_lines }
-    ensures store { S.tells store.old ≡ true
-        → (S.tells store.new ≡ true) × SameTexts (S.held store.old) (S.held store.new) }
+    ensures tells { S.tells store.old ≡ true → S.tells store.new ≡ true }
     ensures store_count { S.faults store.old ≤ S.faults store.new }
     ensures sink_count { O.faults out.old ≤ O.faults out.new }
     ensures store_sure { S.sure store.old ≡ true
-        → IsFileHeld (map rc_str_bytes words.now) (S.held store.old)
+        → AreHeld (map rc_str_bytes words.now) (S.held store.old)
         → (S.faults store.new ≡ S.faults store.old) × (result ≡ Ending.StoreFault → ⊥) }
     ensures sink_sure { O.sure out.old ≡ true
         → (O.faults out.new ≡ O.faults out.old) × (result ≡ Ending.SinkFault → ⊥) }
@@ -152,6 +179,25 @@ fn perform<R: Threads + Wait + Sync, S: Store, O: Sink, G: Gate + Sync>(
     };
     match task {
         Task::Catalogue(request, pace) => write_lone(rt, alloc, &request, pace, gate, out),
+        Task::Kept {
+            request,
+            name,
+            pace,
+            pause,
+        } => write_kept(
+            rt,
+            alloc,
+            &request,
+            name.as_str(),
+            pace,
+            pause,
+            gate,
+            store,
+            out,
+        ),
+        Task::Resume { name, pace, pause } => {
+            resume(rt, alloc, name.as_str(), pace, pause, gate, store, out)
+        }
         Task::OnFile(command, name) => write_file(alloc, command, name.as_str(), store, out),
     }
 }

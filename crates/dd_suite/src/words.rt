@@ -1,6 +1,6 @@
 ghost use Rattle.std.specs.Prelude.{◌≡◌, map, IfOk, MatchOption};
 ghost use Rattle.std.specs.Rc.{rc_str_bytes};
-ghost use Rattle.dd_words.specs.declared.commands.FileKind.TheVariants as kind;
+ghost use Rattle.dd_words.specs.declared.commands.Command.TheVariants as commands;
 ghost use Rattle.dd_suite.specs.Words.{AreTaken, kind_of};
 ghost use Rattle.dd_suite.specs.Commands.{IsTaskOf, AskForTask};
 ghost use Rattle.dd_suite.specs.declared.task.Task.{Task as Asked};
@@ -8,8 +8,8 @@ ghost use Rattle.dd_suite.specs.declared.task.Task.{Task as Asked};
 use crate::task::Task;
 use dd_catalogue::Pace;
 use dd_commands::{FileCommand, SymbolCommand};
-use dd_model::Memory;
-use dd_words::{Command, FileKind, WordsFault, read_words};
+use dd_model::{Memory, Request};
+use dd_words::{Command, FileKind, Name, WordsFault, read_words};
 use std::alloc::Global;
 use std::rc::RcStr;
 
@@ -34,11 +34,36 @@ fn task_of(command: Command) -> Option<Task>
             request,
             workers,
             round,
-            pause: None,
-            checkpoint: None,
-        } => Some(Task::Catalogue(request, Pace { workers, round })),
+            pause,
+            checkpoint,
+        } => Some(catalogue_of(request, Pace { workers, round }, pause, checkpoint)),
+        Command::Resume {
+            name,
+            workers,
+            round,
+            pause,
+        } => Some(Task::Resume {
+            name,
+            pace: Pace { workers, round },
+            pause,
+        }),
         Command::File { kind, file } => Some(Task::OnFile(command_of(kind), file)),
         _ => None,
+    }
+}
+
+/// The task of a catalogue, which keeps a checkpoint where it has a name for it.
+fn catalogue_of(request: Request, pace: Pace, pause: Option<u32>, name: Option<Name>) -> Task
+    ensures { IsTaskOf (commands.Catalogue request pace.workers pace.round pause name) result }
+{
+    match name {
+        Some(name) => Task::Kept {
+            request,
+            name,
+            pace,
+            pause,
+        },
+        None => Task::Catalogue(request, pace),
     }
 }
 

@@ -6,6 +6,8 @@
 #[cfg(test)]
 mod catalogue_tests;
 #[cfg(test)]
+mod chain_tests;
+#[cfg(test)]
 mod run_tests;
 #[cfg(test)]
 mod running;

@@ -1,12 +1,12 @@
 -- The request of taken words is valid.
-use Rattle.std.proofs.Common.{◌≡◌, ◌≤◌, ℕ, inl, inr, Option, List, [], ◌∷◌, refl, arith}
+use Rattle.std.proofs.Common.{◌≡◌, ◌≤◌, ℕ, inl, inr, Option, Some, None, List, [], ◌∷◌, refl, arith}
 use Rattle.std.specs.List.{AllByRecursion, onto_first}
 use Rattle.std.specs.Prelude.{◌==◌, Bool, true, false, cond}
 use Rattle.dd_model.specs.Request.{IsValid, HasNumber}
 use Rattle.dd_model.specs.declared.allowed.Allowed.{Allowed}
 use Rattle.dd_model.specs.declared.requests.Request.{Request}
 use Rattle.dd_words.specs.declared.settings.Setting.{Setting}
-use Rattle.dd_words.specs.declared.commands.Command.TheVariants.{Catalogue}
+use Rattle.dd_words.specs.declared.commands.Command.TheVariants.{Catalogue, Resume}
 use Rattle.dd_words.specs.Values.{Text, AsksForNumbers, IsCovered, items_of}
 use Rattle.dd_words.specs.Given.{Given}
 use Rattle.dd_words.specs.Grammar.{IsSaid, IsCommand}
@@ -80,3 +80,25 @@ pace_said (x ∷ y ∷ xs) ss q workers round pause checkpoint h = absurd h
 pub pace : (words : List Text) (q : Request) (workers round : ℕ) (pause : Option ℕ) (checkpoint : Option Text)
     → IsCommand words (Catalogue q workers round pause checkpoint) → IsPace workers round
 pace words q workers round pause checkpoint h = pace_said h.arguments h.settings q workers round pause checkpoint h.said
+
+resume_said : (xs : List Text) (ss : List Given) (name : Text) (workers round : ℕ) (pause : Option ℕ) → IsSaid (Resume name workers round pause) xs ss → IsPace workers round
+resume_said (x ∷ []) ss name workers round pause h = record {
+  workers_are = in_range ss _ 1 64 1 workers (omega arith) (omega arith) h.run.workers_are;
+  round_is = in_range ss _ 1 4096 64 round (omega arith) (omega arith) h.run.round_is;
+}
+resume_said [] ss name workers round pause h = absurd h
+resume_said (x ∷ y ∷ xs) ss name workers round pause h = absurd h
+
+-- the same of a catalogue that is taken up again
+pub resume_pace : (words : List Text) (name : Text) (workers round : ℕ) (pause : Option ℕ) → IsCommand words (Resume name workers round pause) → IsPace workers round
+resume_pace words name workers round pause h = resume_said h.arguments h.settings name workers round pause h.said
+
+no_pause : (xs : List Text) (ss : List Given) (q : Request) (workers round : ℕ) (pause : Option ℕ) → IsSaid (Catalogue q workers round pause None) xs ss → pause ≡ None
+no_pause (x ∷ []) ss q workers round None h = refl
+no_pause (x ∷ []) ss q workers round (Some lines) h = let e = h.resumable refl in absurd (cc)
+no_pause [] ss q workers round pause h = absurd h
+no_pause (x ∷ y ∷ xs) ss q workers round pause h = absurd h
+
+-- a catalogue without a name for its checkpoint does not pause
+pub lone_pause : (words : List Text) (q : Request) (workers round : ℕ) (pause : Option ℕ) → IsCommand words (Catalogue q workers round pause None) → pause ≡ None
+lone_pause words q workers round pause h = no_pause h.arguments h.settings q workers round pause h.said

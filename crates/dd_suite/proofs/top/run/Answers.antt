@@ -1,31 +1,62 @@
-use Rattle.std.proofs.Common.{◌≡◌, ◌⊎◌, map, subst, sym, ◌∙◌}
+use Rattle.std.proofs.Common.{◌≡◌, ◌⊎◌, map, sym, ◌∙◌, subst}
 use Rattle.std.specs.Rc.{rc_str_bytes}
-use Rattle.dd_suite.specs.declared.status.Status.TheVariants.{Done, Memory, TooManyLines}
-use Rattle.dd_suite.proofs.Causes.{complete_ending, done_ending, cut_says, its_fault, nothing_written}
+use Rattle.dd_suite.specs.declared.status.Status.TheVariants.{Usage, Memory}
+use Rattle.dd_suite.specs.Cuts.{IsEndOfOwn}
+use Rattle.dd_suite.proofs.Clauses.{known, whole, call_as, not_resumed, usage, not_taken, refused, quiet_as, nothing, store, store_fault, sink_fault, paused, cut_short, not_cut, complete, told}
 use Rattle.dd_suite.proofs.top.run.Goals as goal
 
-pub returns-clause-complete : goal.returns-clause-complete
-returns-clause-complete g c taken accepted kept sank =
-    subst (λ status. (status ≡ Done) ⊎ ((status ≡ TooManyLines) ⊎ (status ≡ Memory))) (sym c.status.ensures)
-    (complete_ending c.perform-ending.result (map rc_str_bytes c.args.words.now) _ _ c.perform-ending.ensures.cause taken accepted kept sank)
+pub returns-clause-prefix : goal.returns-clause-prefix
+returns-clause-prefix g c = known (map rc_str_bytes c.args.words.now) c.perform-ending.result _ _ c.perform-ending.ensures.outcome
 
 pub returns-clause-whole : goal.returns-clause-whole
-returns-clause-whole g c done = c.perform-ending.ensures.whole (done_ending c.perform-ending.result (sym c.status.ensures ∙ done))
+returns-clause-whole g c h = whole (map rc_str_bytes c.args.words.now) c.perform-ending.result _ _ c.perform-ending.ensures.outcome (sym c.status.ensures ∙ h)
+
+pub returns-clause-call : goal.returns-clause-call
+returns-clause-call g c = call_as (map rc_str_bytes c.args.words.now) c.perform-ending.result _ _ c.perform-ending.ensures.outcome c.status.result c.status.ensures
+
+pub returns-clause-not_resumed : goal.returns-clause-not_resumed
+returns-clause-not_resumed g c = not_resumed (map rc_str_bytes c.args.words.now) c.perform-ending.result _ _ c.perform-ending.ensures.outcome
+
+pub returns-clause-usage : goal.returns-clause-usage
+returns-clause-usage g c h = usage (map rc_str_bytes c.args.words.now) c.perform-ending.result _ _ c.perform-ending.ensures.outcome (sym c.status.ensures ∙ h)
+
+pub returns-clause-not_taken : goal.returns-clause-not_taken
+returns-clause-not_taken g c none = subst (λ s. (s ≡ Usage) ⊎ (s ≡ Memory)) (sym c.status.ensures) (not_taken (map rc_str_bytes c.args.words.now) c.perform-ending.result _ _ c.perform-ending.ensures.outcome none)
+
+pub returns-clause-refused : goal.returns-clause-refused
+returns-clause-refused g c h = refused (map rc_str_bytes c.args.words.now) c.perform-ending.result _ _ c.perform-ending.ensures.outcome (sym c.status.ensures ∙ h)
+
+pub returns-clause-quiet : goal.returns-clause-quiet
+returns-clause-quiet g c = quiet_as (map rc_str_bytes c.args.words.now) c.perform-ending.result _ _ c.perform-ending.ensures.outcome c.status.result c.status.ensures
 
 pub returns-clause-nothing : goal.returns-clause-nothing
-returns-clause-nothing g c named none =
-    nothing_written c.perform-ending.result (map rc_str_bytes c.args.words.now) _ _ c.perform-ending.ensures.cause c.perform-ending.ensures.whole named none
+returns-clause-nothing g c = nothing (map rc_str_bytes c.args.words.now) c.perform-ending.result _ _ c.perform-ending.ensures.outcome
 
-pub returns-clause-not_cut : goal.returns-clause-not_cut
-returns-clause-not_cut g c done = c.perform-ending.ensures.not_cut (done_ending c.perform-ending.result (sym c.status.ensures ∙ done))
+pub returns-clause-store : goal.returns-clause-store
+returns-clause-store g c told = (c.perform-ending.ensures.tells told, store (map rc_str_bytes c.args.words.now) c.perform-ending.result _ _ c.perform-ending.ensures.outcome told)
+
+pub returns-clause-store_fault : goal.returns-clause-store_fault
+returns-clause-store_fault g c h = store_fault (map rc_str_bytes c.args.words.now) c.perform-ending.result _ _ c.perform-ending.ensures.outcome (sym c.status.ensures ∙ h)
+
+pub returns-clause-sink_fault : goal.returns-clause-sink_fault
+returns-clause-sink_fault g c h = sink_fault (map rc_str_bytes c.args.words.now) c.perform-ending.result _ _ c.perform-ending.ensures.outcome (sym c.status.ensures ∙ h)
+
+pub returns-clause-paused : goal.returns-clause-paused
+returns-clause-paused g c h = paused (map rc_str_bytes c.args.words.now) c.perform-ending.result _ _ c.perform-ending.ensures.outcome (sym c.status.ensures ∙ h)
 
 pub returns-clause-cut_short : goal.returns-clause-cut_short
-returns-clause-cut_short g c cut = cut_says c.perform-ending.result (map rc_str_bytes c.args.words.now) _ _ (sym c.status.ensures ∙ cut) c.perform-ending.ensures.cause
+returns-clause-cut_short g c h = cut_short (map rc_str_bytes c.args.words.now) c.perform-ending.result _ _ c.perform-ending.ensures.outcome (sym c.status.ensures ∙ h)
+
+pub returns-clause-not_cut : goal.returns-clause-not_cut
+returns-clause-not_cut g c h = not_cut (map rc_str_bytes c.args.words.now) c.perform-ending.result _ _ c.perform-ending.ensures.outcome (sym c.status.ensures ∙ h)
+
+pub returns-clause-complete : goal.returns-clause-complete
+returns-clause-complete g c taken file check kept sank = subst (λ s. IsEndOfOwn s ⊎ (s ≡ Memory)) (sym c.status.ensures) (complete (map rc_str_bytes c.args.words.now) c.perform-ending.result _ _ c.perform-ending.ensures.outcome taken file check kept sank)
 
 pub returns-clause-err : goal.returns-clause-err
 returns-clause-err g c = record {
   ending = c.perform-ending.result;
   status_is = sym c.status.ensures;
-  fault = its_fault c.perform-ending.result (map rc_str_bytes c.args.words.now) _ _ c.perform-ending.ensures.cause;
+  cause = told (map rc_str_bytes c.args.words.now) c.perform-ending.result _ _ c.perform-ending.ensures.outcome;
   grown = c.tell.ensures.prefix;
 }

@@ -1,0 +1,118 @@
+ghost use Rattle.std.specs.Prelude.{◌≡◌, ◌≤◌, ℕ, Some, true};
+ghost use Rattle.dd_model.specs.Request.{IsValid};
+ghost use Rattle.dd_model.specs.Position.{IsPosition};
+ghost use Rattle.dd_chain.specs.Calls.{Catalogue};
+ghost use Rattle.dd_chain.specs.Starts.{first_start};
+ghost use Rattle.dd_catalogue.specs.Runs.{start_of, IsPause};
+ghost use Rattle.dd_suite.specs.Outcomes.{IsRunOutcome, EndsRunFrom};
+
+use crate::ending::Ending;
+use dd_branch::Search;
+use dd_catalogue::{Pace, Run, write_run};
+use dd_model::Request;
+use dd_ports::{Gate, Sink, Store};
+use std::alloc::Global;
+use std::sync::Wait;
+use std::thread::Threads;
+
+/// Writes the catalogue of a request by a run that keeps its checkpoint under a name.
+pub fn write_kept<R: Threads + Wait + Sync, S: Store, G: Gate + Sync, O: Sink>(
+    rt: &R,
+    alloc: Global,
+    request: &Request,
+    name: &str,
+    pace: Pace,
+    pause: Option<u32>,
+    gate: &G,
+    store: &mut S,
+    out: &mut O,
+) -> Ending
+    requires valid { IsValid request.now }
+    requires workers { (1 ≤ pace.workers) × (pace.workers ≤ 64) }
+    requires round { 1 ≤ pace.round }
+    ensures outcome { IsRunOutcome
+        (record {
+          task = Catalogue request.now (Some name.now);
+          round = pace.round;
+          pause = pause;
+        })
+        result
+        (record {
+          tells = S.tells store.old;
+          held = S.held store.old;
+          store_faults = S.faults store.old;
+          written = O.held out.old;
+          sink_faults = O.faults out.old;
+        })
+        (record {
+          held = S.held store.new;
+          store_faults = S.faults store.new;
+          written = O.held out.new;
+          sink_faults = O.faults out.new;
+        }) }
+    ensures tells { S.tells store.old ≡ true → S.tells store.new ≡ true }
+    ensures store_count { S.faults store.old ≤ S.faults store.new }
+    ensures sink_count { O.faults out.old ≤ O.faults out.new }
+    ensures store_sure { S.sure store.old ≡ true
+        → (S.faults store.new ≡ S.faults store.old) × (result ≡ Ending.StoreFault → ⊥) }
+    ensures sink_sure { O.sure out.old ≡ true
+        → (O.faults out.new ≡ O.faults out.old) × (result ≡ Ending.SinkFault → ⊥) }
+{
+    let Ok(run) = Run::first(alloc, *request, pace, pause) else {
+        return Ending::Memory;
+    };
+    keep_run(rt, alloc, &run, name, gate, store, out)
+}
+
+/// Writes the lines of a run that keeps its checkpoint under a name.
+pub fn keep_run<R: Threads + Wait + Sync, S: Store, G: Gate + Sync, O: Sink>(
+    rt: &R,
+    alloc: Global,
+    run: &Run,
+    name: &str,
+    gate: &G,
+    store: &mut S,
+    out: &mut O,
+) -> Ending
+    requires valid { IsValid run.now.request }
+    requires position { IsPosition run.now.at }
+    requires lines { run.now.lines ≤ 1000000000000000000 }
+    requires first { run.now.number ≡ 1 → start_of run.now ≡ first_start run.now.request }
+    requires workers { (1 ≤ run.now.pace.workers) × (run.now.pace.workers ≤ 64) }
+    requires round { 1 ≤ run.now.pace.round }
+    ensures run { EndsRunFrom
+        (start_of run.now) name.now run.now.pace.round run.now.pause
+        result
+        (record {
+          tells = S.tells store.old;
+          held = S.held store.old;
+          store_faults = S.faults store.old;
+          written = O.held out.old;
+          sink_faults = O.faults out.old;
+        })
+        (record {
+          held = S.held store.new;
+          store_faults = S.faults store.new;
+          written = O.held out.new;
+          sink_faults = O.faults out.new;
+        }) }
+    ensures tells { S.tells store.old ≡ true → S.tells store.new ≡ true }
+    ensures store_count { S.faults store.old ≤ S.faults store.new }
+    ensures sink_count { O.faults out.old ≤ O.faults out.new }
+    ensures store_sure { S.sure store.old ≡ true
+        → (S.faults store.new ≡ S.faults store.old) × (result ≡ Ending.StoreFault → ⊥) }
+    ensures sink_sure { O.sure out.old ≡ true
+        → (O.faults out.new ≡ O.faults out.old) × (result ≡ Ending.SinkFault → ⊥) }
+{
+    let search = Search::new(&run.request);
+    let ended = write_run(rt, alloc, &search, gate, run, name, store, out);
+    Ending::of_run(ended, pause_line(run))
+}
+
+/// The number of the last line before the pause of a run, where a line may have it.
+fn pause_line(run: &Run) -> u64
+    ensures { (last : ℕ) → IsPause run.now.lines run.now.pause last → result ≡ last }
+{
+    let lines = run.pause.map_or(0, u64::from);
+    run.lines.saturating_add(lines)
+}

@@ -1,0 +1,119 @@
+ghost use Rattle.std.specs.Prelude.{◌≡◌, ◌≤◌, IfOk, IfErr, IsSome, true};
+ghost use Rattle.dd_chain.specs.Calls.{Resume};
+ghost use Rattle.dd_ports.specs.Texts.{SameTexts};
+ghost use Rattle.dd_check.specs.Accepted.{IsCheckpointText};
+ghost use Rattle.dd_chain.specs.Starts.{next_start};
+ghost use Rattle.dd_catalogue.specs.Runs.{start_of};
+ghost use Rattle.dd_suite.specs.Beginnings.{HoldsCheck};
+ghost use Rattle.dd_suite.specs.Outcomes.{IsRunOutcome, IsReadStop, IsHeldStop};
+
+use crate::ending::Ending;
+use crate::fetching::fetch_all;
+use crate::kept::keep_run;
+use dd_catalogue::{Pace, Run};
+use dd_check::{CheckFault, Checkpoint, read_checkpoint};
+use dd_ports::{Gate, Sink, Store, StoreFault};
+use std::alloc::Global;
+use std::sync::Wait;
+use std::thread::Threads;
+
+/// The most bytes of a checkpoint text.
+const MOST_BYTES: usize = 4096;
+
+/// The checkpoint whose text a name holds.
+fn fetch_check<S: Store>(alloc: Global, name: &str, store: &mut S) -> Result<Checkpoint, Ending>
+    ensures check { IfOk result (HoldsCheck (S.tells store.old) (S.held store.old name.now)) }
+    ensures why { IfErr result (λ ending.
+        IsHeldStop ending (S.tells store.old) (S.held store.old name.now)
+        (S.faults store.old) (S.faults store.new)) }
+    ensures same { S.tells store.old ≡ true
+        → (S.tells store.new ≡ true) × SameTexts (S.held store.old) (S.held store.new) }
+    ensures count { S.faults store.old ≤ S.faults store.new }
+    ensures sure { S.sure store.old ≡ true → S.sure store.new ≡ true }
+    ensures passes { S.sure store.old ≡ true → IsSome (S.held store.old name.now)
+        → (S.faults store.new ≡ S.faults store.old)
+        × IfErr result (λ ending. ending ≡ Ending.StoreFault → ⊥) }
+{
+    let bytes = match fetch_all(alloc, name, MOST_BYTES, store) {
+        Ok(Some(bytes)) => bytes,
+        Ok(None) => return Err(Ending::RefusedCheck(CheckFault::Long)),
+        Err(StoreFault::Failed) => return Err(Ending::StoreFault),
+        Err(StoreFault::Memory) => return Err(Ending::Memory),
+    };
+    check_of(alloc, &bytes)
+}
+
+/// The checkpoint of a text.
+fn check_of(alloc: Global, bytes: &[u8]) -> Result<Checkpoint, Ending>
+    ensures check { IfOk result (IsCheckpointText bytes.now) }
+    ensures why { IfErr result (IsReadStop bytes.now) }
+{
+    match read_checkpoint(alloc, bytes) {
+        Ok(check) => Ok(check),
+        Err(CheckFault::Memory) => Err(Ending::Memory),
+        Err(fault) => Err(Ending::RefusedCheck(fault)),
+    }
+}
+
+/// Goes on from the checkpoint of a name, by a run with the next number.
+pub fn resume<R: Threads + Wait + Sync, S: Store, G: Gate + Sync, O: Sink>(
+    rt: &R,
+    alloc: Global,
+    name: &str,
+    pace: Pace,
+    pause: Option<u32>,
+    gate: &G,
+    store: &mut S,
+    out: &mut O,
+) -> Ending
+    requires workers { (1 ≤ pace.workers) × (pace.workers ≤ 64) }
+    requires round { 1 ≤ pace.round }
+    ensures outcome { IsRunOutcome
+        (record { task = Resume name.now; round = pace.round; pause = pause })
+        result
+        (record {
+          tells = S.tells store.old;
+          held = S.held store.old;
+          store_faults = S.faults store.old;
+          written = O.held out.old;
+          sink_faults = O.faults out.old;
+        })
+        (record {
+          held = S.held store.new;
+          store_faults = S.faults store.new;
+          written = O.held out.new;
+          sink_faults = O.faults out.new;
+        }) }
+    ensures tells { S.tells store.old ≡ true → S.tells store.new ≡ true }
+    ensures store_count { S.faults store.old ≤ S.faults store.new }
+    ensures sink_count { O.faults out.old ≤ O.faults out.new }
+    ensures store_sure { S.sure store.old ≡ true → IsSome (S.held store.old name.now)
+        → (S.faults store.new ≡ S.faults store.old) × (result ≡ Ending.StoreFault → ⊥) }
+    ensures sink_sure { O.sure out.old ≡ true
+        → (O.faults out.new ≡ O.faults out.old) × (result ≡ Ending.SinkFault → ⊥) }
+{
+    let check = match fetch_check(alloc, name, store) {
+        Ok(check) => check,
+        Err(ending) => return ending,
+    };
+    let run = next_run(check, pace, pause);
+    keep_run(rt, alloc, &run, name, gate, store, out)
+}
+
+/// The run after that of a checkpoint.
+fn next_run(check: Checkpoint, pace: Pace, pause: Option<u32>) -> Run
+    requires run { (1 ≤ check.run) × (check.run ≤ 999999999) }
+    requires lines { check.lines ≤ 1000000000000000000 }
+    ensures start { start_of result ≡ next_start check }
+    ensures pace { result.pace ≡ pace }
+    ensures pause { result.pause ≡ pause }
+{
+    Run {
+        number: check.run + 1,
+        request: check.request,
+        at: check.at,
+        lines: check.lines as u64,
+        pace,
+        pause,
+    }
+}
