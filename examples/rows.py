@@ -122,11 +122,11 @@ PAUSES = ("catalogue 2 --round 1 --pause 1 --checkpoint f", 0, 1, "paused at 1 l
 CHAINS = (
     ("", (PAUSES, ("resume f", 1, 18, "", 2, 365, "end"), ("resume f", 18, 18, "", 2, 365, "end"))),
     ("", (PAUSES, ("resume f --pause 17", 1, 18, "", 2, 365, "end"))),
-    ("", (PAUSES, ("resume f --pause=16 --workers 3", 1, 17, "paused at 17 lines", 2, 341, "2 2 2 2 1 1 1 6 6 3 3"))),
+    ("", (PAUSES, ("resume f --pause=16 --workers 3", 1, 17, "paused at 17 lines", 2, 346, "2 2 2 2 1 1 1 6 6 3 3"))),
     ("", (PAUSES, ("resume f --pause 1", 1, 2, "paused at 2 lines", 2, 18, "1 1 1 1 6 3"), ("resume f", 2, 18, "", 3, 347, "end"))),
     (FIRST_ROUND, (("resume f --round 2", 3, 18, "", 2, 329, "end"),)),
     (OLD_FIRST_ROUND, (("resume f", 3, 18, "", 2, 329, "end"),)),
-    (OLD_FIRST_ROUND.replace("lines 3", "lines 0"), (("resume f --pause 1", 0, 1, "paused at 1 lines", 2, 22, "2 1 1 2 2 2 1 3 6 6 4 4"),)),
+    (OLD_FIRST_ROUND.replace("lines 3", "lines 0"), (("resume f --pause 1", 0, 1, "paused at 1 lines", 2, 24, "2 1 1 2 2 2 1 3 6 4 4"),)),
 )
 
 SQUARES = "<1.1:1:1,1,1:4,4>\n"

@@ -23,12 +23,12 @@ struct Faults {
 const MOST_CALLS: u32 = 4;
 
 /// The number of the run of the checkpoint that the name holds, and how many bytes it tells; zeros where there is none.
-fn check_of(alloc: Global, store: &MemoryStore) -> (u32, u128) {
+fn check_of(alloc: Global, store: &MemoryStore) -> (u32, usize) {
     let Some(text) = store.held("c") else {
         return (0, 0);
     };
     match read_checkpoint(alloc, text) {
-        Ok(check) => (check.run, check.bytes),
+        Ok(check) => (check.run, usize::try_from(check.bytes).unwrap_or(0)),
         Err(_) => (0, 0),
     }
 }
@@ -56,7 +56,7 @@ fn joined<R: Threads + Wait + Sync + Abort>(
         let kept = if status == Status::Done {
             out.held().len()
         } else if now > number {
-            bytes as usize
+            bytes
         } else {
             0
         };
