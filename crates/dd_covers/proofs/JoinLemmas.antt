@@ -135,7 +135,7 @@ module _ (s : Symbol) (table : IsTable s) (all : Connected s) (f : List ℕ) (vi
       subst (λ z. IsLevel mark i z) y.chamber (subst (λ z. IsLevel mark z y.side.chamber) y.index (level_of_even y.side (free.each y.side y.listed).0 even))) in
       uneven reached j.out j.side.from j.side.to next.new next.old (even_of_level j.side is level)
 
-  ends_low : (x : Side) → Contains sides x → (x.from < 3 * (s.size + 1)) × (x.to < 3 * (s.size + 1))
+  pub ends_low : (x : Side) → Contains sides x → (x.from < 3 * (s.size + 1)) × (x.to < 3 * (s.size + 1))
   ends_low x here =
       let is = (free.each x here).0 in
       (number_low s (one_end x.index) x.chamber x.from is.from, number_low s (other_end x.index) x.chamber x.to is.to)
@@ -217,6 +217,12 @@ unequal true true differ same = cc
 unequal true false differ same = cc
 unequal false true differ same = cc
 unequal false false differ same = cc
+
+pub equal : (a b : Bool) → not (beq a b) ≡ false → a ≡ b
+equal true true same = refl
+equal true false same = absurd (cc)
+equal false true same = absurd (cc)
+equal false false same = refl
 
 uneven_new : (reached : List Bool) (a b : ℕ) (s t : Bool) → flag reached a ≡ s → flag reached b ≡ t → (s ≡ t → ⊥) → flag reached (either t a b) ≡ false
 uneven_new reached a b true true ea eb differ = absurd (differ refl)

@@ -33,6 +33,7 @@ pub mod TorusCovers
 pub mod VisitingLemmas
 pub mod SideListLemmas
 pub mod JoinLemmas
+pub mod WaitLemmas
 pub mod SettleLemmas
 pub mod WantLemmas
 pub mod SettledFirst

@@ -10,6 +10,7 @@ pub mod Visiting
 pub mod CellNumbers
 pub mod SideLists
 pub mod Joins
+pub mod Waiting
 pub mod Settling
 pub mod Wanting
 pub mod TorusFaults

@@ -1,7 +1,9 @@
-use Rattle.std.specs.Prelude.{◌≡◌, ℕ, ◌<◌, slice_index_or}
-use Rattle.dd_covers.specs.Joins.{IsEven}
-use Rattle.dd_covers.specs.declared.side.Side.{Side}
+use Rattle.std.specs.BinaryHeap.{heap_items, heap_len}
+use Rattle.dd_covers.specs.Waiting.{AreWaiting, IsNoSide}
 use Rattle.dd_covers.proofs.growing.next_join.Given as goal
 
-abbrev pub invariant-loop-k : goal.invariant-loop-k
-invariant-loop-k l = (q : ℕ) (x : Side) → q < l.k → slice_index_or l.sides q x ≡ x → IsEven l.reached x
+abbrev pub invariant-loop-after : goal.invariant-loop-after
+invariant-loop-after l = AreWaiting l.sides l.reached (heap_items l.waiting) IsNoSide
+
+abbrev pub decreases-loop-after : goal.decreases-loop-after
+decreases-loop-after l = heap_len l.waiting
