@@ -1,0 +1,12 @@
+use Rattle.std.specs.Prelude.{◌≡◌, ℕ, ◌<◌, length, slice_index, slice_index_or}
+use Rattle.dd_lattice.specs.Edges.{IsKindOf, AreVerticesTo, AreTilesTo}
+use Rattle.dd_lattice.specs.declared.kinds.EdgeKind.{EdgeKind}
+use Rattle.dd_lattice.proofs.kinds.edge_kinds.Given as goal
+
+abbrev pub invariant-loop-k : goal.invariant-loop-k
+invariant-loop-k l = record {
+  vertices : AreVerticesTo l.symbol l.edges l.k l.vertices.items;
+  tiles : AreTilesTo l.symbol l.edges l.k l.tiles.items;
+  many : length l.kinds.items ≡ l.k;
+  each : (j : ℕ) (d : EdgeKind) → j < l.k → IsKindOf l.symbol (slice_index l.edges j) (slice_index_or l.kinds.items j d);
+}
