@@ -26,7 +26,7 @@ use Rattle.dd_covers.proofs.CellRanks.{all_whites, listed_white, round, sum_over
 use Rattle.dd_covers.proofs.EulerLemmas.{cells_of, are_cells_of}
 
 -- an involution that fixes no chamber has half as many orbits
-free_orbits : (s : Symbol) → AreInvolutions s → ((i : Index) (d : ℕ) → IsChamber s d → op s i d ≢ d) → (i : Index) → 2 * orbits s i ≡ s.size
+pub free_orbits : (s : Symbol) → AreInvolutions s → ((i : Index) (d : ℕ) → IsChamber s d → op s i d ≢ d) → (i : Index) → 2 * orbits s i ≡ s.size
 free_orbits s inv free i =
     let none : fixed_chambers s i ≡ 0 = sum_by_none (fixed_flag s i) (chambers s) (λ d listed. ap one_if (ne_eqb (op s i d) d (free i d (listed_chamber s d listed)))) in
     let twice = twice_orbits s inv i in

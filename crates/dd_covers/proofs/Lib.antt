@@ -1,4 +1,4 @@
-mod Mapped
+pub mod Mapped
 pub mod Trees
 pub mod SheetLemmas
 pub mod BelowLemmas

@@ -39,11 +39,34 @@ one_pair t inv p d e h is there P x y a b least_x least_y least_a least_b holds 
 
 -- ## Ascending edges
 
-ascending : (xs : List ℕ) (t : Symbol) → AreCells t Edge xs → (q k : ℕ) → q < k → k < length xs → get_or xs q 0 < get_or xs k 0
+pub ascending : (xs : List ℕ) (t : Symbol) → AreCells t Edge xs → (q k : ℕ) → q < k → k < length xs → get_or xs q 0 < get_or xs k 0
 ascending xs t cells q k less inside = AllPairs-from_increasing xs cells.ascending q k 0 less inside
 
 pub listed_edge : (t : Symbol) (edges : List ℕ) → AreCells t Edge edges → (k : ℕ) → k < length edges → IsLeastOfCell t Edge (get_or edges k 0)
 listed_edge t edges cells k inside = (cells.members (get_or edges k 0)).0 (Contains-get_or edges k 0 inside)
+
+pub same_default : (edges : List ℕ) (q e : ℕ) → q < length edges → get_or edges q e ≡ e → get_or edges q 0 ≡ e
+same_default edges q e inside at = get_or_default edges q 0 e inside ∙ at
+
+-- a smaller edge stands at a smaller place
+pub place_before : (t : Symbol) (edges : List ℕ) → AreCells t Edge edges → (k : ℕ) → k < length edges → (e : ℕ) → IsLeastOfCell t Edge e → e < get_or edges k 0 → (q : ℕ) × (q < k) × (get_or edges q 0 ≡ e)
+place_before t edges cells k inside e is less =
+    let listed = (cells.members e).1 is in
+    let q = listed.0 in
+    let own = same_default edges q e listed.1 listed.2 in (
+      q,
+      ⊎_elim
+          (λ yes. yes)
+          (λ no. ⊎_elim
+          (λ at. let z = ap (λ r. get_or edges r 0) at in absurd (omega arith))
+          (λ rest. let far = ascending edges t cells k q (omega arith) listed.1 in absurd (omega arith))
+          (cases_eq q k))
+          (cases_lt q k),
+      own,
+    )
+
+pub own_root : (t : Symbol) (inv : AreInvolutions t) (p : Pair) (v : ℕ) → IsLeastOfCell t p v → v ≡ (has_roots t inv p).root v
+own_root t inv p v least = least_of_cell_unique t inv p v ((has_roots t inv p).root v) least ((has_roots t inv p).are.least v least.0) ((has_roots t inv p).are.in_cell v least.0)
 
 module _ (t : Symbol) (inv : AreInvolutions t) (p : Pair) (i : Index) (Counts : ℕ → Type 0) (edges : List ℕ) (cells : AreCells t Edge edges) where
   abbrev edge : ℕ → ℕ
@@ -79,18 +102,13 @@ module _ (t : Symbol) (inv : AreInvolutions t) (p : Pair) (i : Index) (Counts : 
         let roots = (has_roots t inv p).are in
         let linked = forest.linked h level in
         let same = joined (λ d. h (root d)) (λ j d own holds. ap h (root_beside t inv p root roots j d own holds)) (λ e is counts less.
-        let listed = (cells.members e).1 is in
-        let q = listed.0 in
-        let own : edge q ≡ e = get_or_default edges q 0 e listed.1 ∙ listed.2 in
-        let low : q < k = ⊎_elim
-        (λ yes. yes)
-        (λ no. ⊎_elim
-        (λ at. let z = ap edge at in absurd (omega arith))
-        (λ rest. let far = ascending edges t cells k q (omega arith) listed.1 in absurd (omega arith))
-        (cases_eq q k))
-        (cases_lt q k) in
+        let at = place_before t edges cells k inside e is less in
+        let q = at.0 in
+        let low = at.1 in
+        let own = at.2 in
+        let listed : q < length edges = omega arith in
         sym (subst (λ z. h (root z) ≡ h (root (op t i z))) own
-        (linked q (root (edge q)) (root (op t i (edge q))) low listed.1 (subst Counts (sym own) counts) (least (edge q) (edge_is q listed.1).0) (least (op t i (edge q)) ((inv i).within (edge q) (edge_is q listed.1).0))))) in
+        (linked q (root (edge q)) (root (op t i (edge q))) low listed (subst Counts (sym own) counts) (least (edge q) (edge_is q listed).0) (least (op t i (edge q)) ((inv i).within (edge q) (edge_is q listed).0))))) in
         ap h (one_least t inv p (edge k) a (root (edge k)) chamber least_a (least (edge k) chamber)) ∙ sym same ∙ ap h (one_least t inv p (op t i (edge k)) (root (op t i (edge k))) b beside (least (op t i (edge k)) beside) least_b)
       where
         least : (d : ℕ) → IsChamber t d → IsLeastFor t p d ((has_roots t inv p).root d)

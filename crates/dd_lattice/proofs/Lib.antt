@@ -1,2 +1,10 @@
 pub mod ForestLemmas
 pub mod KindLemmas
+pub mod FreshLinks
+pub mod KindCounts
+pub mod Around
+pub mod TreeCounts
+pub mod Flows
+pub mod Dual
+pub mod TorusCounts
+pub mod TorusLaw

@@ -1,6 +1,6 @@
 -- What the edges of a symbol are in its net. An edge is told by its least chamber d; its vertices are those of d and of its
 -- image by s0, and the tiles at its sides are those of d and of its image by s2.
-use Rattle.std.specs.Prelude.{◌≡◌, ℕ, ◌+◌, ◌<◌, List, length, slice_index, slice_index_or}
+use Rattle.std.specs.Prelude.{◌≡◌, ℕ, ◌+◌, ◌<◌, Bool, true, false, List, length, slice_index, slice_index_or}
 use Rattle.dd_model.specs.Symbol.{Symbol, IsChamber, op}
 use Rattle.dd_model.specs.Cell.{IsLeastOfCell}
 use Rattle.dd_model.specs.declared.index.Index.{Index}
@@ -41,6 +41,22 @@ IsKindOf t d Left = (¬ IsTreeEdge t d) × AreTilesJoined t d
 pub record AreKindsOf (t : Symbol) (edges : List ℕ) (kinds : List EdgeKind) : Type 0 where
   pub many : length kinds ≡ length edges
   pub each : (k : ℕ) (d : EdgeKind) → k < length edges → IsKindOf t (slice_index edges k) (slice_index_or kinds k d)
+
+-- whether an edge is of a kind
+abbrev pub is_tree : EdgeKind → Bool
+is_tree Tree = true
+is_tree Crossing = false
+is_tree Left = false
+
+abbrev pub is_crossing : EdgeKind → Bool
+is_crossing Tree = false
+is_crossing Crossing = true
+is_crossing Left = false
+
+abbrev pub is_left : EdgeKind → Bool
+is_left Tree = false
+is_left Crossing = false
+is_left Left = true
 
 -- ## As they are found
 

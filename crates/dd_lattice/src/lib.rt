@@ -3,5 +3,7 @@
 
 mod forest;
 mod kinds;
+mod laws;
 
 pub use kinds::{EdgeKind, edge_kinds};
+pub use laws::two_edges_of_a_torus_are_left;
