@@ -4,6 +4,8 @@
 #[cfg(test)]
 mod answer_tests;
 #[cfg(test)]
+mod edge_tests;
+#[cfg(test)]
 mod symbol_tests;
 #[cfg(test)]
 mod symbols;
