@@ -5,9 +5,9 @@ ghost use Rattle.dd_board.specs.Desk.{AreJobsOf};
 ghost use Rattle.dd_rack.specs.Hands.{hand_place};
 ghost use Rattle.dd_rack.specs.Places.{IsRack};
 
-use dd_rack::{Hand, Rack};
 use dd_board::{Desk, Naming, Taken, Ticket};
 use dd_model::{Job, Prefix, Request};
+use dd_rack::{Hand, Rack};
 use std::alloc::Global;
 use std::marker::Brand;
 use std::process::Abort;

@@ -4,9 +4,9 @@ ghost use Rattle.dd_invol.specs.Stem.{IsStem};
 ghost use Rattle.dd_invol.specs.Visit.{IsVisiting};
 ghost use Rattle.dd_shares.specs.Kept.{AreKept};
 
-use dd_shares::{Ends, Shares, parity_rules_out};
 use dd_invol::{Rows, Stem, Visit};
 use dd_model::{Allowed, Request};
+use dd_shares::{Ends, Shares, parity_rules_out};
 use std::test::Fail;
 
 /// Requests for at most so many classes of tiles, with degrees from a least one on.

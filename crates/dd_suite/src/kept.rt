@@ -106,11 +106,11 @@ pub fn keep_run<R: Threads + Wait + Sync, S: Store, G: Gate + Sync, O: Sink>(
 {
     let search = Search::new(&run.request);
     let ended = write_run(rt, alloc, &search, gate, run, name, store, out);
-    Ending::of_run(ended, pause_line(run))
+    Ending::of_run(ended, last_before_pause(run))
 }
 
 /// The number of the last line before the pause of a run, where a line may have it.
-fn pause_line(run: &Run) -> u64
+fn last_before_pause(run: &Run) -> u64
     ensures { (last : ℕ) → IsPause run.now.lines run.now.pause last → result ≡ last }
 {
     let lines = run.pause.map_or(0, u64::from);

@@ -94,3 +94,20 @@ fn chains_that_are_stopped(rt: HostRuntime) -> Result<(), Fail> {
     }
     Ok(())
 }
+
+// The third call of the store fails: six lines were written, of which the checkpoint tells three, or all where the store keeps it.
+#[test]
+fn a_put_that_fails(rt: HostRuntime) -> Result<(), Fail> {
+    let alloc = rt.alloc();
+    let words = ["catalogue", "2", "--round", "1", "--checkpoint", "c"];
+    for (keeps_new, told) in [(false, 54), (true, 126)] {
+        let mut store = MemoryStore::new(alloc, vec![in alloc; 3]?, keeps_new);
+        let mut out = SureSink::new(alloc);
+        let mut err = SureSink::new(alloc);
+        let status = run_words(&rt, alloc, words.as_slice(), &mut store, &mut out, &mut err)?;
+        assert_eq!(rt; status, Status::StoreFault);
+        assert_eq!(rt; out.held().len(), 126);
+        assert_eq!(rt; check_of(alloc, &store), (1, told));
+    }
+    Ok(())
+}

@@ -1,9 +1,14 @@
-use Rattle.std.proofs.Common.{rules, sym, subst}
-use Rattle.dd_invol.specs.Rows.{partial_of}
+use Rattle.std.proofs.Common.{◌≡◌, ◌+◌, length, sym, ap, ◌∙◌, subst, arith}
+use Rattle.std.proofs.lemmas.List.{length_push}
+use Rattle.dd_invol.specs.Rows.{partial_of, depth_of}
+use Rattle.dd_invol.specs.Stem.{prefix_of, size_of, shortened}
+use Rattle.dd_invol.specs.Visit.{IsVisiting}
 use Rattle.dd_invol.specs.declared.stem.Stem.{Stem}
 use Rattle.dd_shares.specs.Kept.{AreKept}
+use Rattle.dd_shares.specs.declared.shares.Shares.{Shares}
 use Rattle.dd_shares.proofs.GrowthLemmas.{kept_of_longer_stem}
 use Rattle.dd_share_trials.proofs.share_trials.+count_nodes.Goals as goal
+use Rattle.dd_share_trials.proofs.share_trials.+count_nodes.Goals.{then-enter, else-enter}
 
 pub count_nodes-requires : goal.count_nodes-requires
 count_nodes-requires t c =
@@ -11,4 +16,36 @@ count_nodes-requires t c =
     let entered = c.if-enter.ensures in
     let shares = c.loop-number.shares in
     let kept : AreKept (partial_of c.loop-number.stem.rows) shares = subst (λ (s : Stem). AreKept (partial_of s.rows) shares) (sym i.same) i.kept in
-    (search rules, (entered.stem, (entered.visiting, kept_of_longer_stem c.loop-number.stem c.enter.new.self shares entered.size entered.undone kept)))
+    let size : size_of c.enter.new.self ≡ size_of c.args.stem.now = entered.size ∙ ap size_of i.same in
+    let more : length (prefix_of c.enter.new.self) ≡ length (prefix_of c.args.stem.now) + 1 =
+    ap length entered.longer ∙ length_push (prefix_of c.loop-number.stem) c.in-Some.number ∙ ap (λ (s : Stem). length (prefix_of s) + 1) i.same in
+    let short = i.short in
+    (omega (arith, size, more, short), (entered.stem, (entered.visiting, kept_of_longer_stem c.loop-number.stem c.enter.new.self shares entered.size entered.undone kept)))
+
+pub loop-number-preserved : goal.loop-number-preserved
+loop-number-preserved t c =
+    let i = c.loop-number.invariant in
+    let small = c.in-Some.ensures.small in
+    let here = i.here ∙ ap (λ (s : Stem). depth_of s.rows) (sym i.same) in
+    elim c.if-enter.branch [
+      | then-enter w ↦ record {
+        small = omega arith;
+        same = w.stem-is ∙ w.leave.ensures ∙ ap (λ (s : Stem). shortened s c.mark-here.result) w.count_nodes.ensures.stem ∙ ap (shortened c.enter.new.self) here ∙ w.if-enter.ensures.undone ∙ i.same;
+        stem = i.stem;
+        visiting = subst IsVisiting (sym w.visit-is) w.count_nodes.ensures.visiting;
+        kept = subst (AreKept (partial_of c.args.stem.now.rows)) (sym (w.shares-is ∙ w.count_nodes.ensures.shares)) i.kept;
+        learnt = w.shares-is ∙ w.count_nodes.ensures.shares ∙ i.learnt;
+        short = i.short;
+        here = i.here;
+      }
+      | else-enter w ↦ record {
+        small = omega arith;
+        same = w.stem-is ∙ w.if-enter.ensures.same ∙ i.same;
+        stem = i.stem;
+        visiting = subst IsVisiting (sym w.visit-is) c.enter.ensures.visiting;
+        kept = subst (AreKept (partial_of c.args.stem.now.rows)) (sym w.shares-is) i.kept;
+        learnt = w.shares-is ∙ i.learnt;
+        short = i.short;
+        here = i.here;
+      }
+    ]
