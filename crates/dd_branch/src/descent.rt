@@ -7,7 +7,7 @@ ghost use Rattle.dd_invol.specs.Under.{HasNothingUnder};
 use crate::levels::Level;
 use crate::members::add_degrees;
 use arrayvec::ArrayVec;
-use dd_invol::{CollectingSearch, PrefixSearch, Starts, Stem, Table};
+use dd_invol::{CollectingSearch, PrefixSearch, Starts, Stem, Table, can_follow};
 use dd_model::{Memory, Request};
 use dd_shares::{Ends, Shares, parity_rules_out};
 use dd_symbol::Connected;
@@ -200,6 +200,27 @@ impl Descent {
         if !self.settle(level) {
             return false;
         }
+        true
+    }
+
+    /// Whether a member may be under the prefix with one number more.
+    pub fn may_grow(&mut self, number: u8) -> bool
+        requires descent { IsDescent self.old }
+        requires room { length (prefix_of self.old.stem) < 3 * size_of self.old.stem }
+        requires small { number ≤ 216 }
+        ensures same { self.new ≡ self.old }
+        ensures dead { OnFalse result
+            (HasNothingUnder (IsMember self.old.request) (size_of self.old.stem)
+            (prefix_of self.old.stem ++ number ∷ [])) }
+    {
+        if !can_follow(self.stem.size() as u32, self.stem.prefix(), number) {
+            return false;
+        }
+        let mark = self.mark();
+        if !self.enter(number) {
+            return false;
+        }
+        self.leave(mark);
         true
     }
 

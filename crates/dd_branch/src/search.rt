@@ -1,14 +1,12 @@
-ghost use Rattle.std.specs.Prelude.{◌≡◌, ◌⊎◌, ◌*◌, ◌≤◌, ◌<◌, IfOk, OnOk, IsTrue, length};
-ghost use Rattle.std.specs.Bool.{OnFalse};
-ghost use Rattle.dd_model.specs.Symbol.{Symbol as Tiling};
+ghost use Rattle.std.specs.Prelude.{◌≡◌, ◌*◌, ◌≤◌, ◌<◌, IfOk, OnOk, length};
 ghost use Rattle.dd_model.specs.Request.{IsValid};
-ghost use Rattle.dd_model.specs.Jobs.{IsJobOf, IsMemberUnder, AreExtensions};
+ghost use Rattle.dd_model.specs.Jobs.{IsJobOf, AreExtensions};
 ghost use Rattle.dd_model.specs.Wanted.{IsMember};
 ghost use Rattle.dd_invol.specs.Under.{AreUnder, Appends};
 
 use crate::descent::Descent;
 use dd_front::Finder;
-use dd_invol::{children, find, may_have_tables};
+use dd_invol::{child, find, may_have_tables};
 use dd_model::{Job, Memory, Request};
 use dd_shares::Ends;
 use dd_symbol::Connected;
@@ -33,19 +31,6 @@ impl Search {
         }
     }
 
-    /// Whether a member may be under a job.
-    fn may_have(&self, alloc: Global, job: &Job) -> bool
-        requires valid { IsValid self.now.request }
-        requires job { IsJobOf self.now.request job.now }
-        ensures { OnFalse result ((s : Tiling) → IsMemberUnder self.now.request job.now s → ⊥) }
-    {
-        if !may_have_tables(job) {
-            return false;
-        }
-        let mut descent = Descent::new(alloc, &self.request, &self.ends, job.size as u8);
-        descent.reach(job.prefix.as_slice())
-    }
-
     /// Adds the members under a job. It stays a call of its own, so that the room for the search is
     /// made only where it is called.
     #[inline(never)]
@@ -64,21 +49,26 @@ impl Search {
         Ok(())
     }
 
-    /// Those of some extensions of a job under which a member may be.
-    fn alive(&self, alloc: Global, job: &Job, jobs: &[Job]) -> Result<Vec<Job>, Memory>
+    /// The jobs with one number more under which a member may be. The search goes down to the job
+    /// once, and looks one number further for each of them.
+    fn extensions(&self, alloc: Global, job: &Job) -> Result<Vec<Job>, Memory>
         requires valid { IsValid self.now.request }
         requires job { IsJobOf self.now.request job.now }
         requires shorter { length job.now.prefix < 3 * job.now.size }
-        requires extensions { AreExtensions self.now.request job.now jobs.now }
-        ensures { IfOk result (λ alive. AreExtensions self.now.request job.now alive.items) }
+        ensures { IfOk result (λ jobs. AreExtensions self.now.request job.now jobs.items) }
     {
-        let mut alive = Vec::new(alloc);
-        for child in jobs {
-            if self.may_have(alloc, child) {
-                alive.push(child.try_copy()?)?;
+        let mut jobs = Vec::new(alloc);
+        let mut descent = Descent::new(alloc, &self.request, &self.ends, job.size as u8);
+        if !descent.reach(job.prefix.as_slice()) {
+            return Ok(jobs);
+        }
+        for k in 0..job.size as u8 {
+            let number = k + 1;
+            if descent.may_grow(number) {
+                jobs.push(child(alloc, job, number)?)?;
             }
         }
-        Ok(alive)
+        Ok(jobs)
     }
 }
 
@@ -99,13 +89,11 @@ impl Finder for Search {
     }
 
     fn split(&self, alloc: Global, job: &Job) -> Result<Vec<Job>, Memory> {
-        let mut jobs = children(alloc, &self.request, job)?;
-        let alive = self.alive(alloc, job, &jobs)?;
-        if !alive.is_empty() {
-            return Ok(alive);
+        let mut jobs = self.extensions(alloc, job)?;
+        if jobs.is_empty() {
+            // Nothing is under any of them, and the list of children may not be empty.
+            jobs.push(child(alloc, job, 1)?)?;
         }
-        // Nothing is under any of them, and the list of children may not be empty.
-        jobs.truncate(1);
         Ok(jobs)
     }
 }

@@ -1,8 +1,9 @@
 -- The jobs of an opening that are not wholly before a position.
-use Rattle.std.proofs.Common.{◌≡◌, ◌⊎◌, List, [], ◌∷◌, ◌++◌, inl, inr, ⊎_elim, refl, sym, ap, ◌∙◌, subst, arith}
+use Rattle.std.proofs.Common.{◌≡◌, ◌⊎◌, Bool, true, false, length, List, [], ◌∷◌, ◌++◌, inl, inr, ⊎_elim, refl, sym, ap, ◌∙◌, subst, arith}
 use Rattle.std.proofs.lemmas.List.{append-nil}
 use Rattle.std.proofs.lemmas.List.Elements.{Contains-append_left, Contains-append_right}
-use Rattle.std.specs.List.{AllByRecursion, Contains}
+use Rattle.std.specs.List.{AllByRecursion, Contains, items_where_true}
+use Rattle.std.specs.List.Retain.{IsFiltered, ReturnsInTurn}
 use Rattle.dd_model.specs.Symbol.{Symbol}
 use Rattle.dd_model.specs.Lists.{IsWithout}
 use Rattle.dd_model.specs.Position.{IsBefore, IsWhollyBefore, IsWithin}
@@ -14,7 +15,6 @@ use Rattle.dd_model.specs.declared.jobs.Job.{Job}
 use Rattle.dd_model.specs.declared.jobs.Position.{Position}
 use Rattle.dd_model.specs.declared.jobs.Position.TheVariants.{At, End}
 use Rattle.dd_model.proofs.Ascending.{begins_itself}
-use Rattle.dd_model.proofs.Differing.{smaller_apart}
 use Rattle.dd_model.proofs.Lists.{Contains-none, Contains-head, Contains-later, Contains-cases, each_of, all_from_members}
 use Rattle.dd_model.proofs.Pairs.{ArePairs, part_pairs, pairs_ascending_jobs, pairs_apart, pairs_across, pairs_back}
 use Rattle.dd_model.proofs.Positions.{begun_before, under_wholly_before, not_before_itself}
@@ -79,20 +79,21 @@ all_gone : {A : Type 0} (P : A → Type 0) (xs ys : List A) → AllByRecursion P
 all_gone P [] ys gone left = without_none P ys left
 all_gone P (x ∷ xs) ys gone left = without_first P x (xs ++ ys) ys gone.0 (all_gone P xs ys gone.1 left)
 
--- with one more item, which is left out or not
-pub one_more_gone : {A : Type 0} (P : A → Type 0) (xs ys : List A) (x : A) → IsWithout P xs ys → P x → IsWithout P (xs ++ x ∷ []) ys
-one_more_gone P [] [] x is gone = (gone, tt)
-one_more_gone P [] (y ∷ ys) x is gone = absurd is
-one_more_gone P (z ∷ zs) [] x is gone = (is.0, one_more_gone P zs [] x is.1 gone)
-one_more_gone P (z ∷ zs) (y ∷ ys) x is gone =
-    ⊎_elim (λ h. inl (h.0, one_more_gone P zs (y ∷ ys) x h.1 gone)) (λ h. inr (h.0, h.1, one_more_gone P zs ys x h.2 gone)) is
+-- a test that answers `true` where P does not hold, and stays as it was, leaves those at which it does not
+module _ {A F : Type 0} (R : F → A → Bool → F → Type 0) (P : A → Type 0) (f : F) (h : (x : A) (b : Bool) (g : F) → R f x b g → (b ≡ true → ¬ P x) × (b ≡ false → P x) × (g ≡ f)) where
+  without_told : (bs : List Bool) (q : F) (xs : List A) → length bs ≡ length xs → ReturnsInTurn R f bs xs q → IsWithout P xs (items_where_true bs xs)
+  without_told [] q [] many told = tt
+  without_told [] q (x ∷ xs) many told = cc
+  without_told (b ∷ bs) q [] many told = absurd told
+  without_told (true ∷ bs) q (x ∷ xs) many told =
+      let one = h x true told.0 told.1 in
+      inr (one.0 refl, refl, without_told bs q xs (let m = many in omega arith) (subst (λ g. ReturnsInTurn R g bs xs q) one.2 told.2))
+  without_told (false ∷ bs) q (x ∷ xs) many told =
+      let one = h x false told.0 told.1 in
+      without_first P x xs (items_where_true bs xs) (one.1 refl) (without_told bs q xs (let m = many in omega arith) (subst (λ g. ReturnsInTurn R g bs xs q) one.2 told.2))
 
-pub one_more_left : {A : Type 0} (P : A → Type 0) (xs ys : List A) (x : A) → IsWithout P xs ys → (¬ P x) → IsWithout P (xs ++ x ∷ []) (ys ++ x ∷ [])
-one_more_left P [] [] x is stays = inr (stays, refl, tt)
-one_more_left P [] (y ∷ ys) x is stays = absurd is
-one_more_left P (z ∷ zs) [] x is stays = inl (is.0, one_more_left P zs [] x is.1 stays)
-one_more_left P (z ∷ zs) (y ∷ ys) x is stays =
-    ⊎_elim (λ h. inl (h.0, one_more_left P zs (y ∷ ys) x h.1 stays)) (λ h. inr (h.0, h.1, one_more_left P zs ys x h.2 stays)) is
+  pub without_from_retain : (xs ys : List A) → IsFiltered R f xs ys → IsWithout P xs ys
+  without_from_retain xs ys k = subst (IsWithout P xs) (sym k.4) (without_told k.0 k.1 xs k.2 k.3)
 
 -- two of a list of pairs are the same, or one comes before the other
 one_first : {A : Type 0} (R : A → A → Type 0) (xs : List A) (x y : A) → ArePairs R xs → Contains xs x → Contains xs y → (x ≡ y) ⊎ (R x y ⊎ R y x)

@@ -22,16 +22,11 @@ use std::sync::Wait;
 use std::thread::Threads;
 
 /// The jobs that are not wholly before a position.
-fn jobs_from(alloc: Global, jobs: Vec<Job>, at: &Position) -> Result<Vec<Job>, Memory>
-    ensures { IfOk result (λ left. IsWithout (IsWhollyBefore at.now) jobs.items left.items) }
+fn jobs_from(mut jobs: Vec<Job>, at: &Position) -> Vec<Job>
+    ensures { IsWithout (IsWhollyBefore at.now) jobs.items result.items }
 {
-    let mut left = Vec::new(alloc);
-    for job in &jobs {
-        if !job.is_wholly_before(at) {
-            left.push(job.try_copy()?)?;
-        }
-    }
-    Ok(left)
+    jobs.retain(|job| !job.is_wholly_before(at));
+    jobs
 }
 
 /// A front of the jobs of a run.
@@ -40,7 +35,7 @@ pub fn front_of(alloc: Global, run: &Run) -> Result<Front, Memory>
     requires position { IsPosition run.now.at }
     ensures { IfOk result (IsBegun (start_of run.now)) }
 {
-    let jobs = jobs_from(alloc, opening(alloc, &run.request)?, &run.at)?;
+    let jobs = jobs_from(opening(alloc, &run.request)?, &run.at);
     Front::open(
         alloc,
         run.request,

@@ -22,7 +22,7 @@ pub use numbering::{can_follow, greatest, is_first_visit};
 pub use openings::{is_opening, opening};
 pub use rows::Rows;
 pub use search::{CollectingSearch, PrefixSearch, find};
-pub use splits::{children, may_have_tables};
+pub use splits::{child, children, may_have_tables};
 pub use starts::Starts;
 pub use stem::Stem;
 pub use table::Table;

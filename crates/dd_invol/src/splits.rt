@@ -14,7 +14,7 @@ use dd_model::{Job, Memory, Prefix, Request};
 use std::alloc::Global;
 
 /// A job with one number more.
-fn child(alloc: Global, job: &Job, number: u8) -> Result<Job, Memory>
+pub fn child(alloc: Global, job: &Job, number: u8) -> Result<Job, Memory>
     ensures { IfOk result (λ child. child ≡ extended job.now number) }
 {
     let mut numbers = Vec::from_slice(alloc, job.prefix.as_slice())?;

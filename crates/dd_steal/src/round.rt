@@ -3,11 +3,12 @@ ghost use Rattle.dd_model.specs.Request.{IsValid};
 ghost use Rattle.dd_model.specs.Jobs.{AreAscendingJobs, AreApart};
 ghost use Rattle.dd_front.specs.Absorbed.{ComeFrom};
 ghost use Rattle.dd_board.specs.Desk.{AreJobsOf};
+ghost use Rattle.dd_steal.specs.Sweep.{AreDone};
 
 use crate::crew::{Member, crew_of, seats_of};
 use crate::sweeping::sweep;
 use crate::worker::work;
-use dd_board::{Blanks, Board, Naming};
+use dd_board::{Blanks, Board, Desk, Naming};
 use dd_front::{Entry, Finder};
 use dd_model::{Job, Memory};
 use dd_ports::Gate;
@@ -115,5 +116,13 @@ fn run_named<
     );
     let mut desk = board.close(seats_of(alloc, crew)?);
     sweep(alloc, finder, &mut desk)?;
-    Ok(desk.into_entries())
+    Ok(entries_of(desk))
+}
+
+// The entries of a desk on which all is done: those of its round.
+fn entries_of<N: Naming>(desk: Desk<N>) -> Vec<Entry>
+    requires { AreDone desk.machine.entries }
+    ensures { ComeFrom N.request N.jobs result.items }
+{
+    desk.into_entries()
 }

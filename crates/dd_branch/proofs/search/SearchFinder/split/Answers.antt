@@ -1,13 +1,16 @@
-use Rattle.std.proofs.Common.{◌≡◌, length, vec_len, sym, subst}
+use Rattle.std.proofs.Common.{◌++◌, ◌∷◌, [], length, vec_len, sym, ap, ◌∙◌, subst}
 use Rattle.dd_model.specs.Jobs.{AreChildren}
-use Rattle.dd_invol.proofs.Extensions.{no_length}
-use Rattle.dd_branch.proofs.Splits.{one_kept}
+use Rattle.dd_invol.proofs.Extensions.{one_child, some_children, no_items, no_length, some_length}
 use Rattle.dd_branch.proofs.search.SearchFinder.split.Goals as goal
+use Rattle.dd_branch.proofs.search.SearchFinder.split.Goals.{then-is_empty+in_ok-child+in_ok-push, else-is_empty}
 
 pub returns : goal.returns
 returns c =
     let q = c.args.self.now.request in
     let job = c.args.job.now in
-    let alive = c.in_ok-alive.alive in
-    let empty : length alive.items ≡ 0 = no_length (vec_len alive) (length alive.items) c.if-not-is_empty.ensures alive.ok.0 in
-    subst (AreChildren q job) (sym c.truncate.ensures.items) (one_kept q job c.in_ok-jobs.jobs.items alive.items c.in_ok-jobs.ensures empty c.in_ok-alive.ensures)
+    elim c.if-is_empty.branch [
+      | then-is_empty+in_ok-child+in_ok-push w ↦
+          let pushed = ap (λ l. l.items) w.jobs-is ∙ w.in_ok-push.ensures.items ∙ ap (λ j. c.in_ok-jobs.jobs.items ++ j ∷ []) w.in_ok-child.ensures in
+          one_child q job c.in_ok-jobs.jobs.items c.if-is_empty.jobs.items c.requires.shorter (no_items c.in_ok-jobs.jobs.items (no_length (vec_len c.in_ok-jobs.jobs) (length c.in_ok-jobs.jobs.items) w.if-is_empty.ensures c.in_ok-jobs.jobs.ok.0)) pushed c.in_ok-jobs.ensures
+      | else-is_empty w ↦ subst (λ l. AreChildren q job l.items) (sym w.jobs-is) (some_children q job c.in_ok-jobs.jobs.items c.requires.shorter (some_length (vec_len c.in_ok-jobs.jobs) (length c.in_ok-jobs.jobs.items) w.if-is_empty.ensures c.in_ok-jobs.jobs.ok.0) c.in_ok-jobs.ensures)
+    ]

@@ -1,0 +1,10 @@
+use Rattle.std.proofs.Common.{◌+◌}
+use Rattle.dd_invol.proofs.Extensions.{AreExtensionsBelow}
+use Rattle.dd_branch.proofs.Splits.{HasReached}
+use Rattle.dd_branch.proofs.search.Search.extensions.Given as goal
+
+abbrev pub invariant-loop-k : goal.invariant-loop-k
+invariant-loop-k l = record {
+  jobs : AreExtensionsBelow l.self.request l.job (l.k + 1) l.jobs.items;
+  reached : HasReached l.self.request l.job l.descent;
+}
