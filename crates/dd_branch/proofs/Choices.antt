@@ -1,5 +1,5 @@
 -- The degrees that a cell may have, one branching value after another.
-use Rattle.std.proofs.Common.{◌≡◌, ◌≢◌, ℕ, zero, suc, ◌+◌, ◌*◌, ◌/◌, ◌≤◌, [], ◌∷◌, refl, ap, ◌∙◌, subst, ⊎_elim, arith}
+use Rattle.std.proofs.Common.{◌≡◌, ◌≢◌, ℕ, zero, suc, ◌+◌, ◌*◌, ◌/◌, ◌≤◌, refl, ap, ◌∙◌, subst, ⊎_elim, arith}
 use Rattle.std.proofs.Math.Nat.{div-le_self, div-mul-le_self, mul-le-mul_left}
 use Rattle.std.proofs.lemmas.Bool.{cases_lt}
 use Rattle.std.proofs.lemmas.Nat.{le-div}
@@ -7,7 +7,6 @@ use Rattle.dd_model.specs.Allowed.{IsIn}
 use Rattle.dd_model.specs.Wanted.{IsCrystallographic}
 use Rattle.dd_model.specs.declared.allowed.Allowed.{Allowed}
 use Rattle.dd_model.proofs.WantedDegrees.{by_value}
-use Rattle.dd_model.proofs.Lists.{Contains-cases}
 use Rattle.dd_cells.specs.Fraction.{Divides}
 use Rattle.dd_branch.specs.Choice.{IsChoice, HasNoneBelow}
 

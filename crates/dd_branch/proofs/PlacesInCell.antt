@@ -3,12 +3,10 @@ use Rattle.std.proofs.Common.{◌≡◌, ℕ, ◌+◌, ◌-◌, ◌*◌, ◌/◌
 use Rattle.dd_model.specs.declared.allowed.Allowed.{Allowed}
 use Rattle.dd_model.specs.declared.pair.Pair.{Pair}
 use Rattle.dd_model.specs.Symbol.{Symbol, AreInvolutions, IsChamber}
-use Rattle.dd_model.specs.Cell.{InCell}
 use Rattle.dd_model.proofs.CellWalks.{in_cell-sym}
 use Rattle.dd_model.proofs.Words.{act_within}
 use Rattle.dd_cells.specs.Cells.{IsSmallerInCell}
 use Rattle.dd_cells.proofs.ShapesInCell.{shape_beside}
-use Rattle.dd_branch.specs.Choice.{IsChoice}
 use Rattle.dd_branch.specs.Place.{AreBounds, IsPlaceOf}
 use Rattle.dd_branch.specs.declared.places.Place.{Place}
 
