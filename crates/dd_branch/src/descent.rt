@@ -142,6 +142,38 @@ impl Descent {
         true
     }
 
+    /// Puts a number at the end of the prefix, and all that are known after it, and exchanges shares,
+    /// unless commuting forbids it, the next chamber is then one that was not met, or the shares become
+    /// too small. The level is that of the search.
+    fn put_all(&mut self, number: u8, level: &Level) -> bool
+        requires descent { IsDescent self.old }
+        requires level { IsLevelOf self.old level.now }
+        requires room { length (prefix_of self.old.stem) < 3 * size_of self.old.stem }
+        ensures descent { OnTrue result (IsDescent self.new) }
+        ensures levels { self.new.levels ≡ self.old.levels }
+        ensures alive { OnTrue result (HasDescended number self.old self.new) }
+        ensures back { OnTrue result (GoesBack self.old self.new) }
+        ensures same { OnFalse result (self.new ≡ self.old) }
+        ensures dead { OnFalse result
+            (HasNothingUnder (IsMember self.old.request) (size_of self.old.stem)
+            (prefix_of self.old.stem ++ number ∷ [])) }
+    {
+        if !self.stem.put(number) {
+            return false;
+        }
+        self.stem.absorb();
+        if self.stem.is_stuck() {
+            self.drop_after(level);
+            return false;
+        }
+        let rows = self.stem.rows();
+        if self.shares.learn(&mut self.ends, rows, level.rows) {
+            self.drop_after(level);
+            return false;
+        }
+        true
+    }
+
     /// Keeps the level before what was put in, or takes that back where it is sure that no member
     /// is under the prefix.
     fn settle(&mut self, level: Level) -> bool
@@ -193,10 +225,9 @@ impl Descent {
             (prefix_of self.old.stem ++ number ∷ [])) }
     {
         let level = self.level();
-        if !self.put(number, &level) {
+        if !self.put_all(number, &level) {
             return false;
         }
-        self.stem.absorb();
         if !self.settle(level) {
             return false;
         }

@@ -106,7 +106,7 @@ impl Rows {
     }
 
     /// The number at a place of the code, or 0 where it is not known.
-    pub(crate) fn number_at(&self, place: u8) -> u8
+    pub fn number_at(&self, place: u8) -> u8
         requires ready { IsReady self.now }
         requires place { place < 108 }
         ensures number { HasNumberAt place result (partial_of self.now) }
@@ -245,12 +245,19 @@ impl Rows {
         }
         let mark = self.mark();
         let chamber = 1 + place / 3;
-        if !self.join(index_at(place), chamber, number) {
+        let i = index_at(place);
+        if !self.join(i, chamber, number) {
             return false;
+        }
+        if i == Index::One {
+            return true;
         }
         if !self.fill(chamber) {
             self.undo(mark);
             return false;
+        }
+        if number == chamber {
+            return true;
         }
         if !self.fill(number) {
             self.undo(mark);

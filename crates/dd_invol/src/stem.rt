@@ -83,8 +83,7 @@ impl Stem {
         if chamber > most {
             return None;
         }
-        let i = index_at(place);
-        let known = self.rows.known(i, chamber);
+        let known = self.rows.number_at(place);
         if known != 0 {
             if known < k {
                 return None;
@@ -95,7 +94,7 @@ impl Stem {
         if least > self.rows.size() {
             return None;
         }
-        let free = self.rows.first_free(i, least);
+        let free = self.rows.first_free(index_at(place), least);
         if free > self.rows.size() {
             return None;
         }

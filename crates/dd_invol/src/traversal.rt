@@ -2,14 +2,12 @@ ghost use Rattle.std.specs.Prelude.{◌≡◌, ℕ, ◌+◌, ◌-◌, ◌/◌, �
 ghost use Rattle.dd_model.specs.Symbol.{item};
 ghost use Rattle.dd_canon.specs.Traversal.{IsMeeting};
 ghost use Rattle.dd_invol.specs.Beaten.{IsBeaten};
-ghost use Rattle.dd_invol.specs.Places.{index_at};
 ghost use Rattle.dd_invol.specs.Rows.{partial_of, IsReady};
 ghost use Rattle.dd_invol.specs.Visit.{IsVisiting};
 
-use crate::rows::{Rows, place_of};
+use crate::rows::Rows;
 use crate::sleepers::NOWHERE;
 use arrayvec::ArrayVec;
-use dd_model::Index;
 
 /// Chambers in the order in which a traversal meets them, and the number of each, 0 where it has
 /// none. It serves for one traversal after another, and no call allocates.
@@ -53,9 +51,8 @@ impl Visit {
         ensures visiting { IsVisiting self.new }
         ensures order { self.new.order.items ≡ start ∷ [] }
     {
-        while let Some(chamber) = self.order.pop() {
-            self.number[chamber as usize - 1] = 0;
-        }
+        self.order = ArrayVec::new();
+        self.number = [0; 36];
         self.add(start);
     }
 
@@ -85,26 +82,20 @@ pub(crate) enum Standing {
     Open(u8),
 }
 
-/// The involution of the next place of a code.
-fn index_after(i: Index) -> Index
-    ensures { (place : ℕ) → i ≡ index_at (place % 3) → result ≡ index_at ((place + 1) % 3) }
+/// Which of three places of its row the next place of a code is.
+fn offset_after(offset: u8) -> u8
+    requires { offset < 3 }
+    ensures { (place : ℕ) → offset ≡ place % 3 → result ≡ (place + 1) % 3 }
 {
-    match i {
-        Index::Zero => Index::One,
-        Index::One => Index::Two,
-        Index::Two => Index::Zero,
-    }
+    if offset == 2 { 0 } else { offset + 1 }
 }
 
 /// The row of the next place of a code. Counted along, it costs no division.
-fn row_after(row: usize, i: Index) -> usize
+fn row_after(row: usize, offset: u8) -> usize
     requires { row < 36 }
-    ensures { (place : ℕ) → row ≡ place / 3 → i ≡ index_at (place % 3) → result ≡ (place + 1) / 3 }
+    ensures { (place : ℕ) → row ≡ place / 3 → offset ≡ place % 3 → result ≡ (place + 1) / 3 }
 {
-    match i {
-        Index::Zero | Index::One => row,
-        Index::Two => row + 1,
-    }
+    if offset == 2 { row + 1 } else { row }
 }
 
 /// Where the traversal from a start chamber stands. Where it comes to an image that is not known,
@@ -119,15 +110,16 @@ pub(crate) fn stand(rows: &Rows, prefix: &[u8], start: u8, visit: &mut Visit) ->
 {
     visit.begin(start);
     let mut row = 0;
-    let mut i = Index::Zero;
+    let mut offset = 0;
     for place in 0..prefix.len() {
         if row >= visit.order.len() {
             return Standing::Open(NOWHERE);
         }
         let chamber = visit.order[row];
-        let image = rows.known(i, chamber);
+        let at = 3 * (chamber - 1) + offset;
+        let image = rows.number_at(at);
         if image == 0 {
-            return Standing::Open(place_of(i, chamber));
+            return Standing::Open(at);
         }
         let number = visit.meet(image);
         if number < prefix[place] {
@@ -136,8 +128,8 @@ pub(crate) fn stand(rows: &Rows, prefix: &[u8], start: u8, visit: &mut Visit) ->
         if number > prefix[place] {
             return Standing::Larger;
         }
-        row = row_after(row, i);
-        i = index_after(i);
+        row = row_after(row, offset);
+        offset = offset_after(offset);
     }
     Standing::Open(prefix.len() as u8)
 }

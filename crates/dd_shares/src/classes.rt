@@ -41,6 +41,11 @@ impl Class {
         self.0 % 64
     }
 
+    /// Whether one of its ends is fixed, where it is not whole.
+    pub(crate) fn is_fixed(self) -> bool {
+        self.0 & 64 != 0
+    }
+
     /// How many of its ends are fixed, where it is not whole.
     pub(crate) fn fixed_ends(self) -> u32
         ensures { result ≤ 1 }

@@ -11,6 +11,12 @@ pub(crate) struct Joint {
 }
 
 impl Joint {
+    /// Of an end of one path alone, which is fixed, or joined to the other end.
+    pub(crate) fn alone(one: Class, new: Class) -> Joint {
+        let other = Class::NONE;
+        Joint { one, other, new }
+    }
+
     /// Whether the chambers of the new path have a smaller share than before.
     pub(crate) fn lessens(&self, shares: &ClassShares) -> bool {
         let new = shares.share(self.new);

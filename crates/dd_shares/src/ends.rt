@@ -57,7 +57,7 @@ impl Link {
     {
         let index = index_of(place);
         let chamber = 1 + place / 3;
-        let image = table.known(index, chamber);
+        let image = table.number_at(place);
         if image == 0 {
             return None;
         }
@@ -80,8 +80,8 @@ impl Ends {
     /// The ends of a table of which nothing is known.
     pub fn start(request: &Request) -> Ends {
         Ends {
-            tiles: PathEnds::start(request, Pair::Tile),
-            vertices: PathEnds::start(request, Pair::Vertex),
+            tiles: PathEnds::start(request, Pair::Tile, request.tiles),
+            vertices: PathEnds::start(request, Pair::Vertex, request.vertices),
         }
     }
 

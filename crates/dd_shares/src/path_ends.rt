@@ -17,11 +17,13 @@ pub(crate) struct PathEnds {
     shares: ClassShares,
     ends: [End; 128],
     counts: Counts,
+    /// Whether the request sets a limit to the cells, so that they have to be counted.
+    is_limited: bool,
 }
 
 impl PathEnds {
     /// The ends of single chambers.
-    pub(crate) fn start(request: &Request, pair: Pair) -> PathEnds {
+    pub(crate) fn start(request: &Request, pair: Pair, limit: u32) -> PathEnds {
         let class = Class::ALONE;
         let mut ends = [End { other: 0, class }; 128];
         for k in 0..64u8 {
@@ -33,6 +35,7 @@ impl PathEnds {
             shares: ClassShares::of(request, pair),
             ends,
             counts: Counts::none(),
+            is_limited: limit != 0,
         }
     }
 
@@ -40,8 +43,8 @@ impl PathEnds {
         self.ends[usize::from(flag % 128)]
     }
 
-    fn set(&mut self, flag: u8, end: End) {
-        self.ends[usize::from(flag % 128)] = end;
+    fn set(&mut self, flag: u8, other: u8, class: Class) {
+        self.ends[usize::from(flag % 128)] = End { other, class };
     }
 
     /// What becomes of the paths of two flags that are joined; one flag is fixed.
@@ -49,20 +52,10 @@ impl PathEnds {
         let end = self.at(x);
         let one = end.class;
         if x == y {
-            let new = one.fixed();
-            return Joint {
-                one,
-                other: Class::NONE,
-                new,
-            };
+            return Joint::alone(one, one.fixed());
         }
         if end.other == y {
-            let new = one.closed();
-            return Joint {
-                one,
-                other: Class::NONE,
-                new,
-            };
+            return Joint::alone(one, one.closed());
         }
         let other = self.at(y).class;
         let new = one.joined(other);
@@ -76,65 +69,45 @@ impl PathEnds {
 
     /// Joins two flags.
     pub(crate) fn join(&mut self, x: u8, y: u8) {
-        let joint = self.joint(x, y);
-        let one = self.at(x);
-        let class = joint.new;
-        if x == y {
-            if one.class.fixed_ends() == 0 {
-                self.set(one.other, End { other: x, class });
-            }
-        } else if one.other != y {
-            let other = self.at(y);
-            self.set(
-                one.other,
-                End {
-                    other: other.other,
-                    class,
-                },
-            );
-            self.set(
-                other.other,
-                End {
-                    other: one.other,
-                    class,
-                },
-            );
+        if self.is_limited {
+            let joint = self.joint(x, y);
+            self.counts.add(&joint, &self.shares);
         }
-        self.counts.add(&joint, &self.shares);
+        let one = self.at(x);
+        if x == y {
+            if !one.class.is_fixed() {
+                self.set(one.other, x, one.class.fixed());
+            }
+            return;
+        }
+        if one.other == y {
+            return;
+        }
+        let other = self.at(y);
+        let class = one.class.joined(other.class);
+        self.set(one.other, other.other, class);
+        self.set(other.other, one.other, class);
     }
 
     /// Parts two flags that were joined last.
     pub(crate) fn part(&mut self, x: u8, y: u8) {
-        let joint = self.joint(x, y);
+        if self.is_limited {
+            let joint = self.joint(x, y);
+            self.counts.remove(&joint, &self.shares);
+        }
         let one = self.at(x);
         if x == y {
-            if one.class.fixed_ends() == 0 {
-                self.set(
-                    one.other,
-                    End {
-                        other: x,
-                        class: one.class,
-                    },
-                );
+            if !one.class.is_fixed() {
+                self.set(one.other, x, one.class);
             }
-        } else if one.other != y {
-            let other = self.at(y);
-            self.set(
-                one.other,
-                End {
-                    other: x,
-                    class: one.class.opened(),
-                },
-            );
-            self.set(
-                other.other,
-                End {
-                    other: y,
-                    class: other.class.opened(),
-                },
-            );
+            return;
         }
-        self.counts.remove(&joint, &self.shares);
+        if one.other == y {
+            return;
+        }
+        let other = self.at(y);
+        self.set(one.other, x, one.class.opened());
+        self.set(other.other, y, other.class.opened());
     }
 
     /// What the cells add at most, where there are no more than a limit.

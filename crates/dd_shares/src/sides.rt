@@ -45,13 +45,26 @@ pub(crate) fn least_degree(request: &Request, pair: Pair, from: u32) -> u32
     217
 }
 
-/// SHARE_UNIT divided by the degree, rounded up.
+/// SHARE_UNIT divided by the degree, rounded up. No division is made for the degrees that paths have
+/// most often.
 pub(crate) fn share_of(degree: u32) -> u64
     requires { 1 ≤ degree }
     ensures share { result ≡ (share_unit - 1) / degree + 1 }
     ensures small { result ≤ share_unit }
 {
-    (SHARE_UNIT - 1) / u64::from(degree) + 1
+    match degree {
+        3 => SHARE_UNIT / 3,
+        4 => SHARE_UNIT / 4,
+        5 => SHARE_UNIT / 5,
+        6 => SHARE_UNIT / 6,
+        7 => SHARE_UNIT / 7,
+        8 => SHARE_UNIT / 8,
+        9 => SHARE_UNIT / 9,
+        10 => SHARE_UNIT / 10,
+        11 => SHARE_UNIT / 11,
+        12 => SHARE_UNIT / 12,
+        _ => (SHARE_UNIT - 1) / u64::from(degree) + 1,
+    }
 }
 
 /// Whether a cell of so many turns may have the branching value.

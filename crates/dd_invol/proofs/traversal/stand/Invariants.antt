@@ -1,5 +1,4 @@
 use Rattle.std.proofs.Common.{◌≡◌, ◌/◌, ◌%◌}
-use Rattle.dd_invol.specs.Places.{index_at}
 use Rattle.dd_invol.specs.Rows.{partial_of}
 use Rattle.dd_invol.specs.Visit.{IsVisiting}
 use Rattle.dd_invol.proofs.Traversing.{AreInside, ReadsSo}
@@ -11,5 +10,5 @@ invariant-loop-place l = record {
   inside : AreInside (partial_of l.rows).size l.visit.order.items;
   reads : ReadsSo (partial_of l.rows) l.prefix l.visit.order.items l.place;
   row : l.row ≡ l.place / 3;
-  index : l.i ≡ index_at (l.place % 3);
+  offset : l.offset ≡ l.place % 3;
 }

@@ -1,7 +1,6 @@
-use Rattle.std.proofs.Common.{rules, ◌≡◌, ◌+◌, ◌/◌, ◌^◌, ◌<◌, ◌≤◌, ℕ, get_or, sym, ap, subst, w64, arith}
+use Rattle.std.proofs.Common.{rules, ◌+◌, ◌/◌, ◌^◌, ◌<◌, ℕ, get_or, subst, w64, arith}
 use Rattle.std.proofs.lemmas.Nat.{shr_le}
 use Rattle.std.specs.Int.{trailing_zeros}
-use Rattle.dd_invol.specs.Places.{place}
 use Rattle.dd_invol.proofs.RowsLemmas.{has_image}
 use Rattle.dd_invol.proofs.rows.Rows.first_free.Goals as goal
 

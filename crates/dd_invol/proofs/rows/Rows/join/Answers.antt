@@ -1,7 +1,7 @@
 use Rattle.std.proofs.Common.{◌≡◌, ◌≢◌, ◌+◌, ◌/◌, ◌%◌, get_or, set, refl, sym, ap, ◌∙◌, arith}
 use Rattle.std.specs.Int.Bits.{bit_xor}
 use Rattle.dd_model.specs.Symbol.{op}
-use Rattle.dd_invol.specs.Places.{place, back_of, bits_of}
+use Rattle.dd_invol.specs.Places.{back_of, bits_of}
 use Rattle.dd_invol.specs.Rows.{partial_of}
 use Rattle.dd_invol.specs.declared.rows.Rows.{Rows}
 use Rattle.dd_invol.proofs.RowsLemmas.{IsPut, HasBoth, back_is_place, chamber_of_place, flipped_by, known_excludes, put_learns, put_ready, put_told, room_left, told_at}

@@ -3,7 +3,7 @@ use Rattle.dd_model.specs.Symbol.{Symbol, op}
 use Rattle.dd_invol.specs.Places.{index_at}
 use Rattle.dd_invol.specs.Rows.{partial_of, unwound, Commutes}
 use Rattle.dd_invol.proofs.RowsLemmas.{learns_both, undone_after}
-use Rattle.dd_invol.proofs.Filling.{image_inside, still_known}
+use Rattle.dd_invol.proofs.Filling.{image_inside, learns_from, still_known}
 use Rattle.dd_invol.proofs.rows.Rows.put.Goals as goal
 
 pub returns-then-number-eq0-clause-clash : goal.returns-then-number-eq0-clause-clash
@@ -20,33 +20,46 @@ returns-then-number-self-clause-clash c s full has =
 
 pub returns-then-not-join-clause-clash : goal.returns-then-not-join-clause-clash
 returns-then-not-join-clause-clash c s full has =
-    c.if-not-join.ensures.clash s full (ap (λ i. op s i (1 + c.args.place / 3)) c.index_at.ensures ∙ has.1)
+    c.if-not-join.ensures.clash s full (ap (λ i. op s i (1 + c.args.place / 3)) c.index_at-i.ensures ∙ has.1)
 
 pub returns-then-not-fill-clause-clash : goal.returns-then-not-fill-clause-clash
 returns-then-not-fill-clause-clash c s full has =
-    let first = c.if-not-join.ensures.learnt.completes s full (ap (λ i. op s i (1 + c.args.place / 3)) c.index_at.ensures ∙ has.1) in
+    let first = c.if-not-join.ensures.learnt.completes s full (ap (λ i. op s i (1 + c.args.place / 3)) c.index_at-i.ensures ∙ has.1) in
     c.if-not-fill.ensures.clash s first has.0
 
 pub returns-then-not-fill-2-clause-same : goal.returns-then-not-fill-2-clause-same
 returns-then-not-fill-2-clause-same c =
     let old = c.args.self.now in
-    let P : Symbol → Type 0 = λ s. op s c.index_at.result (1 + c.args.place / 3) ≡ c.args.number in
+    let P : Symbol → Type 0 = λ s. op s c.index_at-i.result (1 + c.args.place / 3) ≡ c.args.number in
     let both = learns_both P Commutes (λ s. P s × Commutes s) old c.join.new.self c.fill.new.self (λ s full has. has) c.if-not-join.ensures.learnt c.if-not-fill.ensures.learnt in
     undone_after (λ s. P s × Commutes s) old c.fill.new.self c.undo-then-not-fill-2.new.self c.mark-mark.result both c.mark-mark.ensures
     (c.undo-then-not-fill-2.ensures.undone ∙ ap (λ r. unwound r c.mark-mark.result) c.if-not-fill-2.ensures.same)
 
 pub returns-then-not-fill-2-clause-clash : goal.returns-then-not-fill-2-clause-clash
 returns-then-not-fill-2-clause-clash c s full has =
-    let first = c.if-not-join.ensures.learnt.completes s full (ap (λ i. op s i (1 + c.args.place / 3)) c.index_at.ensures ∙ has.1) in
+    let first = c.if-not-join.ensures.learnt.completes s full (ap (λ i. op s i (1 + c.args.place / 3)) c.index_at-i.ensures ∙ has.1) in
     c.if-not-fill-2.ensures.clash s (c.if-not-fill.ensures.learnt.completes s first has.0) has.0
+
+-- s1 has no part in what commutes
+pub returns-then-eq-clause-learnt : goal.returns-then-eq-clause-learnt
+returns-then-eq-clause-learnt c =
+    let old = c.args.self.now in
+    learns_from (λ s. op s c.index_at-i.result (1 + c.args.place / 3) ≡ c.args.number) (λ s. Commutes s × (op s (index_at (c.args.place % 3)) (1 + c.args.place / 3) ≡ c.args.number)) old c.join.new.self
+    (λ s full has. ap (λ i. op s i (1 + c.args.place / 3)) c.index_at-i.ensures ∙ has.1) c.if-not-join.ensures.learnt
+
+pub returns-then-number-chamber-clause-learnt : goal.returns-then-number-chamber-clause-learnt
+returns-then-number-chamber-clause-learnt c =
+    let old = c.args.self.now in
+    learns_both (λ s. op s c.index_at-i.result (1 + c.args.place / 3) ≡ c.args.number) Commutes (λ s. Commutes s × (op s (index_at (c.args.place % 3)) (1 + c.args.place / 3) ≡ c.args.number)) old c.join.new.self c.fill.new.self
+    (λ s full has. (ap (λ i. op s i (1 + c.args.place / 3)) c.index_at-i.ensures ∙ has.1, has.0)) c.if-not-join.ensures.learnt c.if-not-fill.ensures.learnt
 
 pub returns-clause-learnt : goal.returns-clause-learnt
 returns-clause-learnt c =
     let old = c.args.self.now in
-    let P : Symbol → Type 0 = λ s. op s c.index_at.result (1 + c.args.place / 3) ≡ c.args.number in
+    let P : Symbol → Type 0 = λ s. op s c.index_at-i.result (1 + c.args.place / 3) ≡ c.args.number in
     let both = learns_both P Commutes (λ s. P s × Commutes s) old c.join.new.self c.fill.new.self (λ s full has. has) c.if-not-join.ensures.learnt c.if-not-fill.ensures.learnt in
     learns_both (λ s. P s × Commutes s) Commutes (λ s. Commutes s × (op s (index_at (c.args.place % 3)) (1 + c.args.place / 3) ≡ c.args.number)) old c.fill.new.self c.fill-2.new.self
-    (λ s full has. ((ap (λ i. op s i (1 + c.args.place / 3)) c.index_at.ensures ∙ has.1, has.0), has.0)) both c.if-not-fill-2.ensures.learnt
+    (λ s full has. ((ap (λ i. op s i (1 + c.args.place / 3)) c.index_at-i.ensures ∙ has.1, has.0), has.0)) both c.if-not-fill-2.ensures.learnt
 
 pub returns-clause-told : goal.returns-clause-told
 returns-clause-told c =
@@ -54,6 +67,6 @@ returns-clause-told c =
     let d = 1 + c.args.place / 3 in
     let k = c.args.number in
     let some : 1 ≤ k = let zero_ = c.if-number-eq0.false in omega arith in
-    let first : op (partial_of c.join.new.self) i d ≡ k = ap (λ j. op (partial_of c.join.new.self) j d) (sym c.index_at.ensures) ∙ c.if-not-join.ensures.told in
+    let first : op (partial_of c.join.new.self) i d ≡ k = ap (λ j. op (partial_of c.join.new.self) j d) (sym c.index_at-i.ensures) ∙ c.if-not-join.ensures.told in
     still_known Commutes c.fill.new.self c.fill-2.new.self i d k c.if-not-fill-2.ensures.learnt some
     (still_known Commutes c.join.new.self c.fill.new.self i d k c.if-not-fill.ensures.learnt some first)
