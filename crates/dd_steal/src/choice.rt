@@ -3,7 +3,7 @@ ghost use Rattle.std.specs.Prelude.{◌*◌, ◌<◌, IsTrue, length};
 use dd_model::Job;
 
 /// So many jobs for each worker are to wait.
-const AHEAD: u64 = 4;
+const AHEAD: u64 = 16;
 
 /// Whether a job is to be split: few jobs wait for as many workers, and the job's prefix is short, so that much may be
 /// under it. A worker that is alone splits none.
