@@ -16,3 +16,5 @@ pub mod ClosedPaths
 pub mod Reaching
 pub mod ListLemmas
 pub mod NetLemmas
+pub mod TileFlows
+pub mod OneChoice
