@@ -42,11 +42,11 @@ module _ (t : Symbol) (symbol : IsSymbol t) (white : ℕ → Bool) (exchanged : 
   abbrev inv : AreInvolutions t
   inv = symbol.table.involutions
 
-  abbrev listed : List ℕ
+  abbrev pub listed : List ℕ
   listed = all_whites t inv white exchanged
 
   -- two functions of chambers that s0 and s2 exchange
-  abbrev AreExchanged : (ℕ → ℕ) → (ℕ → ℕ) → Type 0
+  abbrev pub AreExchanged : (ℕ → ℕ) → (ℕ → ℕ) → Type 0
   AreExchanged x y = (i : Index) (d : ℕ) → IsChamber t d → Holds Edge i → (x (op t i d) ≡ y d) × (y (op t i d) ≡ x d)
 
   -- the first is no greater at white chambers, and the second at others
@@ -76,6 +76,30 @@ module _ (t : Symbol) (symbol : IsSymbol t) (white : ℕ → Bool) (exchanged : 
       let there = whites (op t Zero d) ((inv Zero).within d h) (exchanged Zero d h ∙ ap not w) in
       sym s.1 ∙ sym there ∙ s.0)
       (cases_Bool (white d))
+
+  around_edge : (x y : ℕ → ℕ) (e : ℕ) → IsBelowAt x y e → ((z : ℕ) → IsLeastOfCell t Edge z → z ≢ e → x z ≡ y z) → (z : ℕ) → IsLeastOfCell t Edge z → IsBelowAt x y z
+  around_edge x y e below rest z is =
+      ⊎_elim
+      (λ same. subst (IsBelowAt x y) (sym same) below)
+      (λ off. let equal = rest z is off in (λ yes_. omega arith, λ no_. omega arith))
+      (cases_eq z e)
+
+  -- two functions with equal sums that are equal at all edges but one are so at that one, too
+  pub one_edge : (x y : ℕ → ℕ) → AreExchanged x y → sum_by x listed ≡ sum_by y listed → (e : ℕ) → IsChamber t e → ((z : ℕ) → IsLeastOfCell t Edge z → z ≢ e → x z ≡ y z) → x e ≡ y e
+  one_edge x y swap same e own others =
+      let there : AreExchanged y x = λ i d hd holds. let s = swap i d hd holds in (s.1, s.0) in
+      let first = λ (below : IsBelowAt x y e). equal_at x y swap same (around_edge x y e below others) e own in
+      let second = λ (below : IsBelowAt y x e). sym (equal_at y x there (sym same) (around_edge y x e below (λ z is off. sym (others z is off))) e own) in
+      ⊎_elim
+      (λ w. ⊎_elim
+      (λ less. first (λ yes_. omega arith, λ no_. absurd (cc)))
+      (λ more. second (λ yes_. more, λ no_. absurd (cc)))
+      (cases_lt (x e) (y e)))
+      (λ w. ⊎_elim
+      (λ less. second (λ yes_. absurd (cc), λ no_. omega arith))
+      (λ more. first (λ yes_. absurd (cc), λ no_. more))
+      (cases_lt (x e) (y e)))
+      (cases_Bool (white e))
 
   module _ (h g : ℕ → ℕ) (of_vertices : IsOfCells t Vertex h) (of_tiles : IsOfCells t Tile g) where
     -- what an edge has, once with the values exchanged along it, and once with those across it
@@ -170,24 +194,4 @@ module _ (t : Symbol) (symbol : IsSymbol t) (white : ℕ → Bool) (exchanged : 
 
     -- where all edges but one have the same both ways, that one has, too
     pub same_at : (e : ℕ) → IsChamber t e → ((x : ℕ) → IsLeastOfCell t Edge x → x ≢ e → straight x ≡ crossed x) → straight e ≡ crossed e
-    same_at e own others =
-        let there : AreExchanged crossed straight = λ i d hd holds. let s = exchanged_sides i d hd holds in (s.1, s.0) in
-        let first = λ (below : IsBelowAt straight crossed e). equal_at straight crossed exchanged_sides equal_sums (around straight crossed below others) e own in
-        let second = λ (below : IsBelowAt crossed straight e). sym (equal_at crossed straight there (sym equal_sums) (around crossed straight below (λ x is off. sym (others x is off))) e own) in
-        ⊎_elim
-        (λ w. ⊎_elim
-        (λ less. first (λ yes_. omega arith, λ no_. absurd (cc)))
-        (λ more. second (λ yes_. more, λ no_. absurd (cc)))
-        (cases_lt (straight e) (crossed e)))
-        (λ w. ⊎_elim
-        (λ less. second (λ yes_. absurd (cc), λ no_. omega arith))
-        (λ more. first (λ yes_. absurd (cc), λ no_. more))
-        (cases_lt (straight e) (crossed e)))
-        (cases_Bool (white e))
-      where
-        around : (x y : ℕ → ℕ) → IsBelowAt x y e → ((z : ℕ) → IsLeastOfCell t Edge z → z ≢ e → x z ≡ y z) → (z : ℕ) → IsLeastOfCell t Edge z → IsBelowAt x y z
-        around x y below rest z is =
-            ⊎_elim
-            (λ same. subst (IsBelowAt x y) (sym same) below)
-            (λ off. let equal = rest z is off in (λ yes_. omega arith, λ no_. omega arith))
-            (cases_eq z e)
+    same_at = one_edge straight crossed exchanged_sides equal_sums

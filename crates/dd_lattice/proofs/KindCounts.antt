@@ -79,7 +79,7 @@ module _ (t : Symbol) (inv : AreInvolutions t) (p : Pair) (i : Index) (Counts : 
       (no : (k : ℕ) → k < length edges → chosen k ≡ false → Counts (edge k) → AreCellsJoined t p i Counts (edge k)) where
     -- ## Each link joins two labels
 
-    fresh_at : (k : ℕ) → k < length edges → chosen k ≡ true → labels (links k) (root (edge k)) ≢ labels (links k) (root (op t i (edge k)))
+    pub fresh_at : (k : ℕ) → k < length edges → chosen k ≡ true → labels (links k) (root (edge k)) ≢ labels (links k) (root (op t i (edge k)))
     fresh_at k inside is same =
         let e = (listed_edge t edges cells k inside).0 in
         (yes k inside is).1 (λ g of_cells level.

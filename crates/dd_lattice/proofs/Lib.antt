@@ -8,3 +8,13 @@ pub mod Flows
 pub mod Dual
 pub mod TorusCounts
 pub mod TorusLaw
+pub mod GrowLemmas
+pub mod TileSums
+pub mod PathSums
+pub mod PathLemmas
+pub mod ClosedPaths
+pub mod Reaching
+pub mod ListLemmas
+pub mod NetLemmas
+pub mod TileFlows
+pub mod OneChoice

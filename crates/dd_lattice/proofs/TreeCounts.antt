@@ -95,10 +95,10 @@ module _ (t : Symbol) (inv : AreInvolutions t) (edges : List ℕ) (cells : AreCe
       let places = all_places Vertex Zero (λ e. Unit {0}) is_tree in
       omega arith
 
-  crossing_chosen : (k : ℕ) → k < length edges → is_crossing (kind k) ≡ true → (IsTreeEdge t (get_or edges k 0) → ⊥) × (AreTilesJoined t (get_or edges k 0) → ⊥)
+  pub crossing_chosen : (k : ℕ) → k < length edges → is_crossing (kind k) ≡ true → (IsTreeEdge t (get_or edges k 0) → ⊥) × (AreTilesJoined t (get_or edges k 0) → ⊥)
   crossing_chosen k inside yes_ = crossing_yes (kind k) (get_or edges k 0) (is_kind k inside) yes_
 
-  crossing_not_chosen : (k : ℕ) → k < length edges → is_crossing (kind k) ≡ false → (IsTreeEdge t (get_or edges k 0) → ⊥) → AreTilesJoined t (get_or edges k 0)
+  pub crossing_not_chosen : (k : ℕ) → k < length edges → is_crossing (kind k) ≡ false → (IsTreeEdge t (get_or edges k 0) → ⊥) → AreTilesJoined t (get_or edges k 0)
   crossing_not_chosen k inside no_ none = crossing_no (kind k) (get_or edges k 0) (is_kind k inside) no_ none
 
   -- where values of tiles that are equal across edges that are no tree edges are equal everywhere

@@ -1,2 +1,9 @@
 pub mod Edges
 pub mod Forest
+pub mod Growing
+pub mod Lists
+pub mod Nets
+pub mod NetOf
+pub mod Paths
+pub mod Shifts
+pub mod Steps

@@ -24,6 +24,30 @@ pub enum EdgeKind {
     Left,
 }
 
+impl EdgeKind {
+    ghost use Rattle.dd_lattice.specs.Edges.{is_crossing, is_left};
+
+    /// Whether it is a crossing edge.
+    pub fn is_crossing(self) -> bool
+        ensures { result ≡ is_crossing self }
+    {
+        match self {
+            EdgeKind::Crossing => true,
+            EdgeKind::Tree | EdgeKind::Left => false,
+        }
+    }
+
+    /// Whether it is left.
+    pub fn is_left(self) -> bool
+        ensures { result ≡ is_left self }
+    {
+        match self {
+            EdgeKind::Left => true,
+            EdgeKind::Tree | EdgeKind::Crossing => false,
+        }
+    }
+}
+
 /// Joins the parts of the two cells of a chamber and of its image, and tells whether they were two.
 fn join_cells(above: &mut Vec<u32>, symbol: &Symbol, pair: Pair, i: Index, chamber: u32) -> bool
     requires symbol { IsSmallSymbol symbol.now }

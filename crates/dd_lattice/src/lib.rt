@@ -1,9 +1,19 @@
-//! Nets of torus covers: which edges are tree edges, crossing edges and left.
+//! Nets of tori: which edges are tree edges, crossing edges and left, and the shifts.
 #![tactic(auto)]
 
 mod forest;
+mod growing;
 mod kinds;
 mod laws;
+mod listing;
+mod net;
+mod net_edge;
+mod net_shifts;
+mod paths;
+mod step;
 
 pub use kinds::{EdgeKind, edge_kinds};
-pub use laws::two_edges_of_a_torus_are_left;
+pub use laws::{shifts_are_the_one_choice, two_edges_of_a_torus_are_left};
+pub use net::Net;
+pub use net_edge::NetEdge;
+pub use net_shifts::shifts;

@@ -1,0 +1,192 @@
+-- What is made of the parts of a net, and that it is connected.
+use Rattle.std.proofs.Common.{◌≡◌, ℕ, zero, suc, ◌+◌, ◌-◌, ◌<◌, ◌≤◌, true, cond, eqb, List, [], ◌∷◌, length, get_or, refl, sym, ap, ◌∙◌, subst, inl, inr, ⊎_elim, ℤ, pos, arith}
+use Rattle.std.proofs.lemmas.Bool.{cases_eq, eq-eqb, ne_eqb}
+use Rattle.std.proofs.lemmas.List.{take_all}
+use Rattle.std.proofs.lemmas.List.Elements.{Contains-get_or}
+use Rattle.std.specs.List.{count_by}
+use Rattle.std.specs.List.Sorted.{IsStrictlyIncreasing}
+use Rattle.dd_model.specs.declared.index.Index.TheVariants.{Zero}
+use Rattle.dd_model.specs.declared.pair.Pair.TheVariants.{Vertex, Edge}
+use Rattle.dd_model.specs.Symbol.{Symbol, AreInvolutions, IsChamber, item, op}
+use Rattle.dd_model.specs.Cell.{IsLeastOfCell, AreCells}
+use Rattle.dd_model.specs.Small.{IsSmallSymbol}
+use Rattle.dd_model.proofs.CellLists.{increasing-head, increasing-tail}
+use Rattle.dd_model.proofs.CellWalks.{in_cell-refl}
+use Rattle.dd_cells.proofs.CellSums.{has_roots}
+use Rattle.dd_covers.proofs.Nodes.{root_beside}
+use Rattle.dd_covers.specs.Torus.{IsTorus}
+use Rattle.dd_lattice.specs.Edges.{IsKindOf, IsOfCells, AreKindsOf, is_left}
+use Rattle.dd_lattice.specs.Lists.{AreLeftOf, AreVertexNumbers}
+use Rattle.dd_lattice.specs.NetOf.{IsVertexNumber, IsEdgeOf, IsNet}
+use Rattle.dd_lattice.specs.Nets.{IsNetVertex, IsEqualAtEnds, IsConnectedNet}
+use Rattle.dd_lattice.specs.Shifts.{IsLeftEdge, AreLeft}
+use Rattle.dd_lattice.specs.declared.kinds.EdgeKind.{EdgeKind}
+use Rattle.dd_lattice.specs.declared.kinds.EdgeKind.TheVariants.{Tree, Crossing, Left}
+use Rattle.dd_lattice.specs.declared.net.Net.{Net}
+use Rattle.dd_lattice.specs.declared.net_edge.NetEdge.{NetEdge}
+use Rattle.dd_lattice.proofs.Around.{vertices_joined}
+use Rattle.dd_lattice.proofs.KindLemmas.{listed_edge, one_least, same_default}
+use Rattle.dd_lattice.proofs.TorusLaw.{two_left}
+
+-- ## The two edges that are left
+
+module _ (t : Symbol) (small : IsSmallSymbol t) (torus : IsTorus t) (edges : List ℕ) (cells : AreCells t Edge edges) (kinds : List EdgeKind) (are : AreKindsOf t edges kinds) (left : List ℕ) (list : AreLeftOf edges kinds (length edges) left) where
+  pub left_two : length left ≡ 2
+  left_two =
+      let many = are.many in
+      list.many ∙ ap (count_by is_left) (take_all (length edges) kinds (omega arith)) ∙ two_left t small torus edges cells kinds are
+
+  kind_left : (k : EdgeKind) (d : ℕ) → IsKindOf t d k → is_left k ≡ true → IsKindOf t d Left
+  kind_left Tree d is yes_ = cc
+  kind_left Crossing d is yes_ = cc
+  kind_left Left d is yes_ = is
+
+  left_kind : (k : EdgeKind) (d : ℕ) → IsKindOf t d k → IsKindOf t d Left → is_left k ≡ true
+  left_kind Tree d is left_ = absurd (left_.0 is)
+  left_kind Crossing d is left_ = absurd (is.1 left_.1)
+  left_kind Left d is left_ = refl
+
+  pub left_at : (q : ℕ) → q < 2 → IsLeftEdge t (get_or left q 0)
+  left_at q low =
+      let two = left_two in
+      let from = list.each q (omega arith) in
+      subst (IsLeftEdge t) from.is (record {
+        least = listed_edge t edges cells from.place from.early;
+        kind = kind_left (get_or kinds from.place Left) (get_or edges from.place 0) (are.each from.place Left from.early) (from.left Left);
+      })
+
+  pub are_left : AreLeft t (get_or left 0 0) (get_or left 1 0)
+  are_left = record {
+    apart = let two = left_two in list.ascending 0 1 (omega arith) (omega arith);
+    first = left_at 0 (omega arith);
+    second = left_at 1 (omega arith);
+    only = λ d is.
+        let listed = (cells.members d).1 is.least in
+        let q = listed.0 in
+        let own = same_default edges q d listed.1 listed.2 in
+        let here = list.all d (record {
+          place = q;
+          early = listed.1;
+          is = own;
+          left = λ e. left_kind (get_or kinds q e) (get_or edges q 0) (are.each q e listed.1) (subst (λ z. IsKindOf t z Left) (sym own) is.kind);
+        }) in
+        let at = same_default left here.0 d here.1 here.2 in
+        let low = here.1 in
+        let two = left_two in
+        ⊎_elim
+        (λ first. inl (sym at ∙ ap (λ z. get_or left z 0) first))
+        (λ off. let second : here.0 ≡ 1 = omega arith in inr (sym at ∙ ap (λ z. get_or left z 0) second))
+        (cases_eq here.0 0);
+  }
+
+-- ## Places in ascending lists
+
+abbrev place_in : List ℕ → ℕ → ℕ
+place_in [] x = 0
+place_in (y ∷ ys) x = cond (eqb y x) 0 (suc (place_in ys x))
+
+place_at : (xs : List ℕ) → IsStrictlyIncreasing xs → (k : ℕ) → k < length xs → place_in xs (get_or xs k 0) ≡ k
+place_at [] up k low = absurd (omega arith)
+place_at (y ∷ ys) up zero low = ap (λ b. cond b 0 (suc (place_in ys y))) (eq-eqb y y refl)
+place_at (y ∷ ys) up (suc k) low =
+    let x = get_or ys k 0 in
+    let inside : k < length ys = omega arith in
+    let less = increasing-head y x ys up (Contains-get_or ys k 0 inside) in
+    ap (λ b. cond b 0 (suc (place_in ys x))) (ne_eqb y x (λ e. absurd (omega arith))) ∙ ap suc (place_at ys (increasing-tail y ys up) k inside)
+
+-- ## Nets of tori are connected
+
+module _ (t : Symbol) (torus : IsTorus t) (net : Net) (is : IsNet t net) where
+  abbrev inv : AreInvolutions t
+  inv = torus.symbol.table.involutions
+
+  abbrev root : ℕ → ℕ
+  root = (has_roots t inv Vertex).root
+
+  -- the number of the vertex of a chamber
+  abbrev number : ℕ → ℕ
+  number d = place_in is.vertices (root d) + 1
+
+  number_is : (d n : ℕ) → IsChamber t d → IsVertexNumber t is.vertices d n → n ≡ number d
+  number_is d n h told =
+      let low = told.positive in
+      let high = told.within in
+      let roots = (has_roots t inv Vertex).are in
+      let same = one_least t inv Vertex d (item is.vertices n) (root d) h told.least (record { in_cell = roots.in_cell d h; is_least = roots.least d h }) in
+      let at = place_at is.vertices is.are_vertices.ascending (n - 1) (omega arith) in
+      let moved = ap (place_in is.vertices) same in
+      omega arith
+
+  one : IsChamber t 1
+  one = (omega arith, torus.symbol.table.chambers)
+
+  pub some_vertex : 1 ≤ net.vertices
+  some_vertex =
+      let listed = (is.are_vertices.members (root 1)).1 ((has_roots t inv Vertex).are.least 1 one) in
+      let low = listed.1 in
+      let many = is.many_vertices in
+      omega arith
+
+  -- each number is that of the first chamber of a vertex
+  first_chamber : (v : ℕ) → IsNetVertex net v → IsChamber t (item is.vertices v) × (v ≡ number (item is.vertices v))
+  first_chamber v inside =
+      let low = inside.0 in
+      let high = inside.1 in
+      let many = is.many_vertices in
+      let d = item is.vertices v in
+      let least = (is.are_vertices.members d).0 (Contains-get_or is.vertices (v - 1) 0 (omega arith)) in
+      (least.0, number_is d v least.0 (record { positive = low; within = omega arith; least = record { in_cell = in_cell-refl t Vertex d; is_least = least } }))
+
+  module _ (h : ℕ → ℕ) (level : IsEqualAtEnds net h) where
+    abbrev g : ℕ → ℕ
+    g d = h (number d)
+
+    of_vertices : IsOfCells t Vertex g
+    of_vertices i d hd holds = ap (λ z. h (place_in is.vertices z + 1)) (root_beside t inv Vertex root (has_roots t inv Vertex).are i d hd holds)
+
+    none : NetEdge
+    none = record { from = 0; to = 0; x = pos 0; y = pos 0 }
+
+    along : (e : ℕ) → IsLeastOfCell t Edge e → g (op t Zero e) ≡ g e
+    along e least =
+        let listed = (is.are_edges.members e).1 least in
+        let k = listed.0 in
+        let low = listed.1 in
+        let many = is.many_edges in
+        let own = same_default is.edges k e listed.1 listed.2 in
+        let d = get_or is.edges k 0 in
+        let hd = (listed_edge t is.edges is.are_edges k listed.1).0 in
+        let edge = is.each k none listed.1 in
+        let from = number_is d (get_or net.edges.items k none).from hd edge.from in
+        let to = number_is (op t Zero d) (get_or net.edges.items k none).to ((inv Zero).within d hd) edge.to in
+        subst (λ z. g (op t Zero z) ≡ g z) own (sym (ap h to) ∙ sym (level k none (omega arith)) ∙ ap h from)
+
+    value : (v : ℕ) → IsNetVertex net v → h v ≡ g 1
+    value v inside =
+        let first = first_chamber v inside in
+        ap h first.1 ∙ vertices_joined t torus.symbol torus.connected one g of_vertices along (item is.vertices v) first.0
+
+    pub all_joined : (v : ℕ) → IsNetVertex net v → h v ≡ h 1
+    all_joined v inside = value v inside ∙ sym (value 1 (omega arith, some_vertex))
+
+  vertex_of : (d n : ℕ) → IsVertexNumber t is.vertices d n → IsNetVertex net n
+  vertex_of d n told = let many = is.many_vertices in let high = told.within in (told.positive, omega arith)
+
+  pub connected_net : IsConnectedNet net
+  connected_net = record {
+    some = some_vertex;
+    from = λ k e low. let many = is.many_edges in vertex_of (get_or is.edges k 0) (get_or net.edges.items k e).from (is.each k e (omega arith)).from;
+    to = λ k e low. let many = is.many_edges in vertex_of (op t Zero (get_or is.edges k 0)) (get_or net.edges.items k e).to (is.each k e (omega arith)).to;
+    joined = all_joined;
+  }
+
+-- ## The parts of a net
+
+pub edge_of : (t : Symbol) → AreInvolutions t → (vertices numbers : List ℕ) → AreVertexNumbers t vertices numbers → (first second : ℕ → ℤ) (d : ℕ) → IsChamber t d → (e : NetEdge)
+    → e.from ≡ item numbers d → e.to ≡ item numbers (op t Zero d) → e.x ≡ first d → e.y ≡ second d → IsEdgeOf t vertices first second d e
+edge_of t inv vertices numbers are first second d h e from to x y = record {
+  from = subst (IsVertexNumber t vertices d) (sym from) (are.each d h);
+  to = subst (IsVertexNumber t vertices (op t Zero d)) (sym to) (are.each (op t Zero d) ((inv Zero).within d h));
+  x = x;
+  y = y;
+}

@@ -1,0 +1,10 @@
+use crate::net_edge::NetEdge;
+
+/// The net of a torus: its vertices, and edges from one to another with whole shifts.
+#[derive(Drop)]
+pub struct Net {
+    /// How many vertices it has. They are numbered from 1.
+    pub vertices: u32,
+    /// The edges.
+    pub edges: Vec<NetEdge>,
+}

@@ -1,0 +1,87 @@
+ghost use Rattle.std.specs.Prelude.{◌≡◌, ℕ, ◌<◌, ◌≤◌, length, IfOk, pos};
+ghost use Rattle.dd_model.specs.Symbol.{IsChamber};
+ghost use Rattle.dd_covers.specs.Torus.{IsTorus};
+ghost use Rattle.dd_lattice.specs.Shifts.{IsLeftEdge, AreShifts};
+ghost use Rattle.dd_lattice.specs.Steps.{IsTree, IsReached, across};
+ghost use Rattle.dd_lattice.specs.Paths.{IsBack, mark, shift_by};
+
+use crate::step::Step;
+use dd_model::{Index, Memory};
+use dd_symbol::{Connected, Symbol};
+use std::alloc::Global;
+
+/// Goes a step back where it led to the place of a path, and answers the new place. Where it
+/// crossed an edge, the path leaves the tile across this.
+fn back(leaves: &mut Vec<bool>, place: u32, step: Step) -> u32
+    requires low { 1 ≤ place }
+    requires high { place ≤ length leaves.old.items }
+    ensures { IsBack step place result leaves.old.items leaves.new.items }
+{
+    if step.to != place {
+        return place;
+    }
+    if step.crosses {
+        leaves[place as usize - 1] = true;
+    }
+    step.from
+}
+
+/// A closed path over the tiles of a torus.
+#[derive(Drop)]
+pub(crate) struct Path {
+    /// Whether the path leaves the tile of a chamber across the edge of the chamber.
+    pub leaves: Vec<bool>,
+}
+
+impl Path {
+    /// The path that leaves the tile of a first chamber across its edge, and comes back by steps.
+    pub(crate) fn closed(
+        alloc: Global,
+        t: &Connected,
+        first: u32,
+        steps: &[Step],
+    ) -> Result<Path, Memory>
+        requires torus { IsTorus t.now }
+        requires left { IsLeftEdge t.now first }
+        requires tree { IsTree t.now first steps.now }
+        requires reached { IsReached first steps.now (length steps.now) (across t.now first) }
+        ensures shifts { IfOk result (λ path. AreShifts t.now first
+            (shift_by t.now path.leaves.items)) }
+        ensures whole { IfOk result (λ path. length path.leaves.items ≡ t.now.size) }
+    {
+        let symbol = t.symbol();
+        let mut leaves = vec![in alloc; false; symbol.size() as usize]?;
+        leaves[first as usize - 1] = true;
+        let mut place = symbol.op(Index::Zero, symbol.op(Index::Two, first));
+        for k in 0..steps.len() {
+            place = back(&mut leaves, place, steps[steps.len() - 1 - k]);
+        }
+        Ok(Path { leaves })
+    }
+
+    /// 1 where the path leaves the tile of a chamber across its edge.
+    fn mark(&self, chamber: u32) -> i64
+        requires low { 1 ≤ chamber }
+        requires high { chamber ≤ length self.now.leaves.items }
+        ensures { result ≡ pos (mark self.now.leaves.items chamber) }
+    {
+        if self.leaves[chamber as usize - 1] {
+            1
+        } else {
+            0
+        }
+    }
+
+    /// The shift of the edge of a chamber, away from the chamber's vertex.
+    pub(crate) fn shift(&self, symbol: &Symbol, chamber: u32) -> i64
+        requires chamber { IsChamber symbol.now chamber }
+        requires whole { length self.now.leaves.items ≡ symbol.now.size }
+        ensures { result ≡ shift_by symbol.now self.now.leaves.items chamber }
+    {
+        let beyond = symbol.op(Index::Two, chamber);
+        let out = self.mark(chamber) + self.mark(beyond);
+        let inward = self.mark(symbol.op(Index::Zero, chamber))
+            + self.mark(symbol.op(Index::Zero, beyond));
+        out - inward
+    }
+}
