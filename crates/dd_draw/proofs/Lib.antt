@@ -1,0 +1,12 @@
+pub mod Rings
+pub mod Integers
+pub mod Totals
+pub mod Pulls
+pub mod NetLemmas
+pub mod Uniqueness
+pub mod FirstTable
+pub mod WholeTables
+pub mod Pivots
+pub mod Ratios
+pub mod LowestTerms
+pub mod FractionSteps

@@ -1,0 +1,4 @@
+pub mod Placement
+pub mod Elimination
+pub mod Limit
+pub mod Width
