@@ -10,3 +10,10 @@ pub mod Pivots
 pub mod Ratios
 pub mod LowestTerms
 pub mod FractionSteps
+pub mod RowLemmas
+pub mod FirstSums
+pub mod RatioTables
+pub mod TableLemmas
+pub mod StepLemmas
+pub mod TableReading
+pub mod Placed

@@ -17,7 +17,7 @@ use Rattle.dd_draw.specs.Placement.{if_same, pull}
 use Rattle.dd_draw.specs.Elimination.{first_entry, sum_unlooped, seen_from}
 
 -- the tables of a net, in whole numbers
-pub table : Net → ℕ → Table
+unfoldable pub table : Net → ℕ → Table
 table net zero = record { number = first_entry net; scale = pos 1 }
 table net (suc k) = after (suc k) (table net k)
 
