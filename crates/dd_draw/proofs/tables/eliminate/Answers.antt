@@ -1,0 +1,115 @@
+use Rattle.std.proofs.Common.{suc, ◌+◌, sym, subst, arith}
+use Rattle.dd_draw.proofs.StepLemmas.{midway_skip, midway_all}
+use Rattle.dd_draw.proofs.TableLemmas.{within_row, pivot_number}
+use Rattle.dd_draw.proofs.TableReading.{handed_on, column_inside, few_numbers, pivot_row, own_stop, own_done, left_row, done_row, other_stop, other_done}
+use Rattle.dd_draw.specs.Tables.{IsMidway, IsPlaceFault, IsRowOf, lists}
+use Rattle.dd_draw.proofs.tables.eliminate.Goals as goal
+use Rattle.dd_draw.proofs.tables.eliminate.Goals.{then-other-place+in_ok-rest, else-other-place}
+
+pub bounds-pivot_row-place : goal.bounds-pivot_row-place
+bounds-pivot_row-place c =
+    column_inside c.args.net.now c.args.place (suc c.args.place) c.args.place c.as_slice-pivot_row.result.now (let p = c.requires.place in omega arith)
+    (pivot_row c.args.net.now c.args.place c.args.rows.now.items c.index.result.now c.as_slice-pivot_row.result.now c.requires.place c.requires.table
+    c.index.ensures c.as_slice-pivot_row.ensures.value)
+
+pub divided-requires-clause-few : goal.divided-requires-clause-few
+divided-requires-clause-few c =
+    few_numbers c.args.net.now c.args.place (suc c.args.place) c.as_slice-pivot_row.result.now c.requires.few
+    (pivot_row c.args.net.now c.args.place c.args.rows.now.items c.index.result.now c.as_slice-pivot_row.result.now c.requires.place c.requires.table
+    c.index.ensures c.as_slice-pivot_row.ensures.value)
+
+pub divided-requires-clause-row : goal.divided-requires-clause-row
+divided-requires-clause-row c =
+    within_row c.args.net.now c.args.place (suc c.args.place) c.as_slice-pivot_row.result.now
+    (pivot_row c.args.net.now c.args.place c.args.rows.now.items c.index.result.now c.as_slice-pivot_row.result.now c.requires.place c.requires.table
+    c.index.ensures c.as_slice-pivot_row.ensures.value)
+
+pub divided-requires-clause-pivot : goal.divided-requires-clause-pivot
+divided-requires-clause-pivot c =
+    let is = pivot_row c.args.net.now c.args.place c.args.rows.now.items c.index.result.now c.as_slice-pivot_row.result.now c.requires.place c.requires.table
+    c.index.ensures c.as_slice-pivot_row.ensures.value in
+    within_row c.args.net.now c.args.place (suc c.args.place) c.as_slice-pivot_row.result.now is c.args.place
+    (column_inside c.args.net.now c.args.place (suc c.args.place) c.args.place c.as_slice-pivot_row.result.now (let p = c.requires.place in omega arith) is)
+
+pub divided-requires-clause-nonzero : goal.divided-requires-clause-nonzero
+divided-requires-clause-nonzero c =
+    pivot_number c.args.net.now c.args.place c.as_slice-pivot_row.result.now c.requires.connected c.requires.place
+    (pivot_row c.args.net.now c.args.place c.args.rows.now.items c.index.result.now c.as_slice-pivot_row.result.now c.requires.place c.requires.table
+    c.index.ensures c.as_slice-pivot_row.ensures.value)
+
+pub returns-in_err-top-clause-fault : goal.returns-in_err-top-clause-fault
+returns-in_err-top-clause-fault c =
+    handed_on c.from_residual.result (IsPlaceFault c.args.net.now) c.in_err-top.field-0.0 c.from_residual.ensures.1
+    (own_stop c.args.net.now c.args.place c.args.rows.now.items c.index.result.now c.as_slice-pivot_row.result.now c.in_err-top.field-0.0 c.requires.connected
+    c.requires.few c.requires.place c.requires.table c.index.ensures c.as_slice-pivot_row.ensures.value c.in_err-top.ensures.fault)
+
+pub loop-other-init : goal.loop-other-init
+loop-other-init c =
+    own_done c.args.net.now c.args.place c.args.rows.now.items c.index.result.now c.in_ok-top.top c.as_slice-pivot_row.result.now c.requires.connected
+    c.requires.place c.requires.table c.index.ensures c.as_slice-pivot_row.ensures.value c.in_ok-top.ensures.made
+
+pub bounds-row-place : goal.bounds-row-place
+bounds-row-place c =
+    column_inside c.args.net.now c.args.place (suc c.loop-other.other) c.args.place c.as_slice-row.result.now (let p = c.requires.place in omega arith)
+    (left_row c.args.net.now c.args.place c.loop-other.other c.loop-other.rows.items c.index-then-other-place-2.result.now c.as_slice-row.result.now
+    (omega (arith, c.loop-other-test.true)) c.if-other-place.true c.loop-other.invariant c.index-then-other-place-2.ensures c.as_slice-row.ensures.value)
+
+pub remaining-requires-clause-few : goal.remaining-requires-clause-few
+remaining-requires-clause-few c =
+    few_numbers c.args.net.now c.args.place (suc c.loop-other.other) c.as_slice-row.result.now c.requires.few
+    (left_row c.args.net.now c.args.place c.loop-other.other c.loop-other.rows.items c.index-then-other-place-2.result.now c.as_slice-row.result.now
+    (omega (arith, c.loop-other-test.true)) c.if-other-place.true c.loop-other.invariant c.index-then-other-place-2.ensures c.as_slice-row.ensures.value)
+
+pub remaining-requires-clause-row : goal.remaining-requires-clause-row
+remaining-requires-clause-row c =
+    within_row c.args.net.now c.args.place (suc c.loop-other.other) c.as_slice-row.result.now
+    (left_row c.args.net.now c.args.place c.loop-other.other c.loop-other.rows.items c.index-then-other-place-2.result.now c.as_slice-row.result.now
+    (omega (arith, c.loop-other-test.true)) c.if-other-place.true c.loop-other.invariant c.index-then-other-place-2.ensures c.as_slice-row.ensures.value)
+
+pub remaining-requires-clause-factor : goal.remaining-requires-clause-factor
+remaining-requires-clause-factor c =
+    let is = left_row c.args.net.now c.args.place c.loop-other.other c.loop-other.rows.items c.index-then-other-place-2.result.now c.as_slice-row.result.now
+    (omega (arith, c.loop-other-test.true)) c.if-other-place.true c.loop-other.invariant c.index-then-other-place-2.ensures c.as_slice-row.ensures.value in
+    within_row c.args.net.now c.args.place (suc c.loop-other.other) c.as_slice-row.result.now is c.args.place
+    (column_inside c.args.net.now c.args.place (suc c.loop-other.other) c.args.place c.as_slice-row.result.now (let p = c.requires.place in omega arith) is)
+
+pub remaining-requires-clause-top : goal.remaining-requires-clause-top
+remaining-requires-clause-top c =
+    within_row c.args.net.now (suc c.args.place) (suc c.args.place) c.as_slice-top.result.now
+    (done_row c.args.net.now c.args.place c.loop-other.other c.loop-other.rows.items c.index-then-other-place.result.now c.as_slice-top.result.now c.requires.place
+    c.loop-other.invariant c.index-then-other-place.ensures c.as_slice-top.ensures.value)
+
+pub remaining-requires-clause-as_long : goal.remaining-requires-clause-as_long
+remaining-requires-clause-as_long c =
+    let is = left_row c.args.net.now c.args.place c.loop-other.other c.loop-other.rows.items c.index-then-other-place-2.result.now c.as_slice-row.result.now
+    (omega (arith, c.loop-other-test.true)) c.if-other-place.true c.loop-other.invariant c.index-then-other-place-2.ensures c.as_slice-row.ensures.value in
+    let above = done_row c.args.net.now c.args.place c.loop-other.other c.loop-other.rows.items c.index-then-other-place.result.now c.as_slice-top.result.now c.requires.place
+    c.loop-other.invariant c.index-then-other-place.ensures c.as_slice-top.ensures.value in
+    omega (arith, is.many, above.many)
+
+pub returns-in_err-rest-clause-fault : goal.returns-in_err-rest-clause-fault
+returns-in_err-rest-clause-fault c =
+    handed_on c.from_residual-in_err-rest.result (IsPlaceFault c.args.net.now) c.in_err-rest.field-0.0 c.from_residual-in_err-rest.ensures.1
+    (other_stop c.args.net.now c.args.place c.loop-other.other c.loop-other.rows.items c.index-then-other-place-2.result.now c.index-then-other-place.result.now
+    c.as_slice-row.result.now c.as_slice-top.result.now c.in_err-rest.field-0.0 c.requires.connected c.requires.few c.requires.place
+    (omega (arith, c.loop-other-test.true)) c.if-other-place.true c.loop-other.invariant c.index-then-other-place-2.ensures c.as_slice-row.ensures.value
+    c.index-then-other-place.ensures c.as_slice-top.ensures.value c.in_err-rest.ensures.fault)
+
+pub loop-other-preserved : goal.loop-other-preserved
+loop-other-preserved c =
+    elim c.if-other-place.branch [
+      | then-other-place+in_ok-rest w ↦
+          subst (λ rows. IsMidway c.args.net.now c.args.place (c.loop-other.other + 1) (lists rows.items)) (sym w.rows-is)
+          (other_done c.args.net.now c.args.place c.loop-other.other c.loop-other.rows.items w.index-then-other-place-2.result.now w.index-then-other-place.result.now
+          w.in_ok-rest.rest w.as_slice-row.result.now w.as_slice-top.result.now c.requires.connected c.requires.place (omega (arith, c.loop-other-test.true))
+          w.if-other-place.true c.loop-other.invariant w.index-then-other-place-2.ensures w.as_slice-row.ensures.value w.index-then-other-place.ensures
+          w.as_slice-top.ensures.value w.in_ok-rest.ensures.made)
+      | else-other-place w ↦
+          subst (λ rows. IsMidway c.args.net.now c.args.place (c.loop-other.other + 1) (lists rows.items)) (sym w.rows-is)
+          (midway_skip c.args.net.now c.args.place c.loop-other.other (lists c.loop-other.rows.items) w.if-other-place.false c.loop-other.invariant)
+    ]
+
+pub returns-clause-table : goal.returns-clause-table
+returns-clause-table c =
+    midway_all c.args.net.now c.args.place c.loop-other.other (lists c.loop-other.rows.items)
+    (let m = c.loop-other.invariant.many in omega (arith, c.loop-other-test.false)) c.loop-other.invariant

@@ -1,0 +1,5 @@
+use Rattle.dd_draw.specs.Tables.{lists, IsTable}
+use Rattle.dd_draw.proofs.tables.last_table.Given as goal
+
+abbrev pub invariant-loop-place : goal.invariant-loop-place
+invariant-loop-place l = IsTable l.fn.net l.place (lists l.rows.items)

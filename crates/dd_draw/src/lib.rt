@@ -1,0 +1,18 @@
+//! Exact placement of nets.
+#![tactic(auto)]
+
+mod first_table;
+mod fractions;
+mod laws;
+mod place_fault;
+mod places;
+mod placing;
+mod point;
+mod rows;
+mod tables;
+
+pub use laws::a_connected_net_has_one_placement;
+pub use place_fault::PlaceFault;
+pub use places::Places;
+pub use placing::place;
+pub use point::Point;

@@ -1,0 +1,8 @@
+use crate::point::Point;
+
+/// The places of the vertices of a net, in their order.
+#[derive(Debug, Drop)]
+pub struct Places {
+    /// The point of each vertex.
+    pub points: Vec<Point>,
+}

@@ -1,0 +1,61 @@
+ghost use Rattle.std.specs.Prelude.{◌≡◌, ◌≤◌, ◌<◌, ◌+◌, ℕ, length, IfOk, IfErr};
+ghost use Rattle.dd_lattice.specs.Nets.{IsConnectedNet};
+ghost use Rattle.dd_draw.specs.Placement.{IsPlacement};
+ghost use Rattle.dd_draw.specs.Points.{ArePointsTo};
+ghost use Rattle.dd_draw.specs.Tables.{lists, row_at, IsPlaceFault};
+ghost use Rattle.dd_draw.specs.Width.{Place, IsPlaceOf, IsWideAt};
+
+use crate::place_fault::PlaceFault;
+use crate::places::Places;
+use crate::point::Point;
+use crate::tables::last_table;
+use dd_cells::Fraction;
+use dd_lattice::Net;
+use dd_model::Memory;
+use std::alloc::Global;
+
+/// The most vertices of a net that is placed.
+const MOST_VERTICES: u32 = 96;
+
+/// The points that the last table tells: the first vertex is at the origin, and of each other one
+/// the coordinates stand in the two columns of the shifts.
+fn points_of(alloc: Global, vertices: usize, rows: &[Vec<Fraction>]) -> Result<Vec<Point>, Memory>
+    requires some { 1 ≤ vertices }
+    requires few { vertices ≤ 96 }
+    requires rows { (i : ℕ) → i < length rows.now
+        → length (row_at (lists rows.now) i) ≡ vertices + 1 }
+    ensures { IfOk result (λ points.
+        ArePointsTo vertices (length rows.now) (lists rows.now) points.items) }
+{
+    let zero = Fraction { num: 0, den: 1 };
+    let mut points = Vec::new(alloc);
+    points.push(Point { x: zero, y: zero })?;
+    for place in 0..rows.len() {
+        let row = rows[place].as_slice();
+        points.push(Point {
+            x: row[vertices - 1],
+            y: row[vertices],
+        })?;
+    }
+    Ok(points)
+}
+
+/// Where the vertices of a connected net stand: each in the middle of the ends that its edges lead
+/// to, and the first at the origin.
+pub fn place(alloc: Global, net: &Net) -> Result<Places, PlaceFault>
+    requires { IsConnectedNet net.now }
+    ensures placement { IfOk result (λ places. IsPlacement net.now places.points.items) }
+    ensures few { IfOk result (λ places. net.now.vertices ≤ 96) }
+    ensures narrow { IfOk result (λ places.
+        (p : Place) → IsPlaceOf net.now p → ¬ IsWideAt net.now p) }
+    ensures fault { IfErr result (λ why. IsPlaceFault net.now why) }
+{
+    if net.vertices > MOST_VERTICES {
+        return Err(PlaceFault::TooManyVertices {
+            count: net.vertices,
+        });
+    }
+    let rows = last_table(alloc, net)?;
+    let points = points_of(alloc, net.vertices as usize, rows.as_slice())?;
+    Ok(Places { points })
+}
