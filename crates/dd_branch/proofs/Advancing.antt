@@ -22,7 +22,7 @@ use Rattle.dd_branch.specs.declared.places.Place.{Place}
 use Rattle.dd_branch.proofs.Assigned.{length-prefix, next_degree, same_of_under, told_degree}
 use Rattle.dd_branch.proofs.Budgets.{AllAreChosen, flat_if_spent, spent_at_least, spent_at_most, spent_next, spent_same}
 use Rattle.dd_branch.proofs.Chosen.{IsSound, all_bounded, constant_at, sound_places, wanted_chosen}
-use Rattle.dd_branch.proofs.Choices.{IsValue, is_crystallographic, part_at_most, value_of}
+use Rattle.dd_branch.proofs.Choices.{IsValue, is_crystallographic, part_at_most, part_falls, value_of}
 
 -- the assignment with other degrees
 abbrev pub with_list : Assignment → List ℕ → Assignment
@@ -479,6 +479,29 @@ all_values a v is room end old new more =
     let up : (next.value + 1) * r ≤ v * r = mul-le-mul_right r (omega (arith, high, end)) in
     let up_one = next_up next.value r in
     omega (arith, up, up_one, e, some))
+    more
+
+-- where too much is left with a branching value, there are no more
+pub no_more_values : (a : Assignment) (v sum : ℕ) → IsAssignment a → told a < 2 * a.table.size → HasBudget a sum → 1 ≤ v
+    → sum + (next_place a).sides * (12 / v) + get_or a.rests.most (told a + 1) 0 < 6 * a.table.size → (old new : List Symbol)
+    → Appends (AreUnderBefore (IsMember a.request) a.table.size (prefix_of a) (v * (next_place a).turns)) old new → Appends (AreUnder (IsMember a.request) a.table.size (prefix_of a)) old new
+no_more_values a v sum is room budget some short old new more =
+    let r = (next_place a).turns in
+    let turns = (sound_next a is (told a) no_place room).some in
+    appends_all (IsMember a.request) a.table.size (prefix_of a) (v * r) old new
+    (λ s under.
+    let next = next_value a is room s under in
+    let e = next.product in
+    ⊎_elim
+    (λ less.
+    let up : (next.value + 1) * r ≤ v * r = mul-le-mul_right r (above next.value v less) in
+    let up_one = next_up next.value r in
+    omega (arith, up, up_one, e, turns))
+    (λ high.
+    let enough = (budget_of_member a next.value sum is room budget s under e).0 in
+    let falls = part_falls (next_place a).sides v next.value some high in
+    absurd (omega (arith, enough, falls, short)))
+    (cases_lt next.value v))
     more
 
 -- what was found after a degree was told

@@ -129,6 +129,20 @@ impl Assignment {
         sum + self.rests.most[place] >= whole && sum + self.rests.least[place] <= whole
     }
 
+    /// Whether a branching value of the next cell, and so each greater one, leaves too much of the budget.
+    fn leaves_too_much(&self, sum: u16, value: u8) -> bool
+        requires ready { IsAssignment self.now }
+        requires room { told self.now < 2 * self.now.table.size }
+        requires small { sum ≤ 4096 }
+        requires value { (1 ≤ value) × (value ≤ 6) }
+        ensures { IsTrue result → sum + (next_place self.now).sides * (12 / value)
+            + slice_index self.now.rests.most (told self.now + 1) < 6 * self.now.table.size }
+    {
+        let place = self.next_place();
+        let sum = sum + u16::from(place.sides * part_of_side(value));
+        sum + self.rests.most[self.degrees.len() + 1] < 6 * self.size() as u16
+    }
+
     /// Whether a degree of so many turns times a branching value may come next.
     pub(crate) fn may_stand(&self, sum: u16, value: u8) -> bool
         requires ready { IsAssignment self.now }
@@ -259,6 +273,9 @@ impl Assignment {
         }
         let place = self.next_place();
         for value in 1..7u8 {
+            if self.leaves_too_much(sum, value) {
+                return Ok(());
+            }
             if self.may_stand(sum, value) {
                 self.enter(value * place.turns);
                 let part = u16::from(place.sides * part_of_side(value));

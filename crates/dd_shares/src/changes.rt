@@ -3,7 +3,7 @@ ghost use Rattle.std.specs.Prelude.{◌<◌};
 /// A share as it was before it was exchanged, and the total of that time.
 #[derive(Clone, Copy, Drop)]
 pub(crate) struct Change {
-    pub(crate) place: u8,
+    pub(crate) place: usize,
     pub(crate) share: u64,
     pub(crate) total: u64,
     ghost inside: { place < 36 },

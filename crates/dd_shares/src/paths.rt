@@ -24,7 +24,7 @@ pub(crate) struct Path {
 
 impl Path {
     /// A chamber alone.
-    fn alone(pair: Pair, start: u8) -> Path
+    pub(crate) fn alone(pair: Pair, start: u8) -> Path
         requires { start ≤ 36 }
         ensures pair { result.pair ≡ pair }
         ensures start { result.start ≡ start }
@@ -95,19 +95,18 @@ impl Path {
         }
     }
 
-    /// What known images of a pair join to a chamber.
-    pub(crate) fn from(table: &Rows, pair: Pair, start: u8) -> Path
+    /// Goes along the path from its start, both ways.
+    pub(crate) fn follow(&mut self, table: &Rows)
         requires ready { IsReady table.now }
-        requires low { 1 ≤ start }
-        requires high { start ≤ (partial_of table.now).size }
-        ensures walked { IsWalked (partial_of table.now) result }
-        ensures pair { result.pair ≡ pair }
-        ensures start { result.start ≡ start }
+        requires walked { IsWalked (partial_of table.now) self.old }
+        ensures walked { IsWalked (partial_of table.now) self.new }
+        ensures pair { self.new.pair ≡ self.old.pair }
+        ensures start { self.new.start ≡ self.old.start }
     {
-        let mut path = Path::alone(pair, start);
-        path.walk(table, pair.first(), pair.second());
-        path.walk(table, pair.second(), pair.first());
-        path
+        let first = self.pair.first();
+        let second = self.pair.second();
+        self.walk(table, first, second);
+        self.walk(table, second, first);
     }
 
     /// Whether an image of the path was not known.

@@ -52,7 +52,12 @@ pub(crate) fn share_of(degree: u32) -> u64
     ensures share { result ≡ (share_unit - 1) / degree + 1 }
     ensures small { result ≤ share_unit }
 {
+    if degree > 12 {
+        return (SHARE_UNIT - 1) / u64::from(degree) + 1;
+    }
     match degree {
+        1 => SHARE_UNIT,
+        2 => SHARE_UNIT / 2,
         3 => SHARE_UNIT / 3,
         4 => SHARE_UNIT / 4,
         5 => SHARE_UNIT / 5,
@@ -62,8 +67,7 @@ pub(crate) fn share_of(degree: u32) -> u64
         9 => SHARE_UNIT / 9,
         10 => SHARE_UNIT / 10,
         11 => SHARE_UNIT / 11,
-        12 => SHARE_UNIT / 12,
-        _ => (SHARE_UNIT - 1) / u64::from(degree) + 1,
+        _ => SHARE_UNIT / 12,
     }
 }
 
@@ -161,7 +165,7 @@ impl Side {
     {
         while self.trail.len() > mark {
             if let Some(change) = self.trail.pop() {
-                self.shares[change.place as usize] = change.share;
+                self.shares[change.place] = change.share;
                 self.total = change.total;
             }
         }
@@ -177,8 +181,8 @@ impl Side {
             ⊎ (self.new.shares ≡ slice_set self.old.shares (chamber - 1) share) }
         ensures exchanged { HasExchanged self.old self.new }
     {
-        let place = chamber - 1;
-        let before = self.shares[place as usize];
+        let place = usize::from(chamber - 1);
+        let before = self.shares[place];
         if share >= before || self.trail.is_full() {
             return;
         }
@@ -187,7 +191,7 @@ impl Side {
             share: before,
             total: self.total,
         });
-        self.shares[place as usize] = share;
+        self.shares[place] = share;
         self.total -= before - share;
     }
 
@@ -239,7 +243,8 @@ impl Side {
             (λ total. IsTotal request.now (partial_of table.now) pair share_unit total) }
         ensures small { IfSome result (λ total. total ≤ 36 * share_unit) }
     {
-        let path = Path::from(table, pair, start);
+        let mut path = Path::alone(pair, start);
+        path.follow(table);
         let share = share_near(request, table, pair, &path);
         if share == 0 {
             return None;

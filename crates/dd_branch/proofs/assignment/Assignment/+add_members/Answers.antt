@@ -1,4 +1,4 @@
-use Rattle.std.proofs.Common.{◌≡◌, ◌+◌, ◌*◌, ◌/◌, ◌<◌, refl, sym, ap, ◌∙◌, subst, arith}
+use Rattle.std.proofs.Common.{◌≡◌, ◌+◌, ◌*◌, ◌/◌, ◌<◌, get_or, refl, sym, ap, ◌∙◌, subst, arith}
 use Rattle.dd_model.specs.Symbol.{Symbol}
 use Rattle.dd_model.specs.Wanted.{IsMember}
 use Rattle.dd_invol.specs.Under.{Appends, AreUnderBefore, next_number}
@@ -7,7 +7,7 @@ use Rattle.dd_branch.specs.Entered.{HasBudget, HasEntered}
 use Rattle.dd_branch.specs.Choice.{IsChoice}
 use Rattle.dd_branch.specs.declared.assignment.Assignment.{Assignment}
 use Rattle.dd_branch.specs.declared.places.Place.{Place}
-use Rattle.dd_branch.proofs.Advancing.{all_values, budget_more, degree_small, first_value, found_entered, part_small, room_here, value_found, value_refused, with_list}
+use Rattle.dd_branch.proofs.Advancing.{all_values, budget_more, degree_small, first_value, found_entered, no_more_values, part_small, room_here, value_found, value_refused, with_list}
 use Rattle.dd_branch.proofs.assignment.Assignment.+add_members.Goals as goal
 use Rattle.dd_branch.proofs.assignment.Assignment.+add_members.Goals.{then-may_stand+in_ok-add_members, else-may_stand}
 
@@ -117,6 +117,16 @@ loop-value-preserved t c =
                 (value_refused a v c.requires.ready room dead c.args.list.now.items c.loop-value.list.items i.list);
           }
     ]
+
+pub returns-then-leaves_too_much-clause-list : goal.returns-then-leaves_too_much-clause-list
+returns-then-leaves_too_much-clause-list t c =
+    let a = c.args.self.now in
+    let v = c.loop-value.value in
+    let i = c.loop-value.invariant in
+    let low = c.loop-value.auto.value in
+    let room = room_here a c.len-next.result c.len.result c.requires.ready c.if-next-len.false c.len-next.ensures.value c.len.ensures.value in
+    let short = subst (λ (x : Assignment). c.args.sum + (next_place x).sides * (12 / v) + get_or x.rests.most (told x + 1) 0 < 6 * x.table.size) i.same (c.leaves_too_much.ensures c.if-leaves_too_much.true) in
+    no_more_values a v c.args.sum c.requires.ready room c.requires.budget (omega (arith, low)) short c.args.list.now.items c.loop-value.list.items i.list
 
 pub returns-clause-same : goal.returns-clause-same
 returns-clause-same t c = c.loop-value.invariant.same

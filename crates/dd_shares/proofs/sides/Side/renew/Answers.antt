@@ -11,8 +11,8 @@ returns-then-share-eq0-clause-none c =
     let q = c.args.request.now in
     let P = partial_of c.args.table.now in
     let p = c.args.pair in
-    let first = get_or c.from-path.result.chambers.items 0 0 in
-    none_sought q P p first (subst (IsShare q P p share_unit first) c.if-share-eq0.true (c.share_near-share.ensures 0 c.from-path.ensures.walked.some))
+    let first = get_or c.follow.new.self.chambers.items 0 0 in
+    none_sought q P p first (subst (IsShare q P p share_unit first) c.if-share-eq0.true (c.share_near-share.ensures 0 c.follow.ensures.walked.some))
 
 pub returns-then-total-least-clause-total : goal.returns-then-total-least-clause-total
 returns-then-total-least-clause-total c =
@@ -27,7 +27,7 @@ loop-k-preserved c =
     let q = c.args.request.now in
     let P = partial_of c.args.table.now in
     let p = c.args.pair in
-    let es = c.from-path.result.chambers.items in
+    let es = c.follow.new.self.chambers.items in
     let i = c.loop-k.invariant in
     let k = c.loop-k.k in
     let seen = c.as_slice.result.now in
@@ -36,7 +36,7 @@ loop-k-preserved c =
     let size = c.len-k-end.ensures.value in
     let test = c.loop-k-test.true in
     let below : k < length es = omega (arith, size, test) in
-    let inside = all_at (λ e. (1 ≤ e) × (e ≤ P.size)) es k c.from-path.ensures.walked.within below in
+    let inside = all_at (λ e. (1 ≤ e) × (e ≤ P.size)) es k c.follow.ensures.walked.within below in
     let low = inside.0 in
     let here : IsShare q P p share_unit (get_or seen k 0) share = subst (λ x. IsShare q P p share_unit x share) (sym same) (c.share_near-share.ensures k below) in
     record {
