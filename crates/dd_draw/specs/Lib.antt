@@ -6,3 +6,6 @@ pub mod Rows
 pub mod FirstTable
 pub mod Tables
 pub mod Points
+pub mod Spots
+pub mod Extents
+pub mod Document

@@ -1,8 +1,9 @@
 -- Fractions in lowest terms, and which of them are too wide.
-use Rattle.std.specs.Prelude.{◌≡◌, ◌⊎◌, ℕ, ◌^◌, ◌<◌, ◌≤◌, ℤ, pos, ◌*ℤ◌, nat_abs}
+use Rattle.std.specs.Prelude.{◌≡◌, ◌⊎◌, ◌^◌, ◌<◌, ◌≤◌, ◌*ℤ◌, nat_abs}
 use Rattle.dd_cells.specs.Fraction.{IsReduced}
 use Rattle.dd_cells.specs.declared.fractions.Fraction.{Fraction}
 use Rattle.dd_draw.specs.Elimination.{Ratio}
+use Rattle.dd_draw.specs.declared.point.Point.{Point}
 
 -- the fraction is the ratio in lowest terms
 pub record IsLowest (x : Fraction) (r : Ratio) : Type 0 where
@@ -33,3 +34,8 @@ pub record IsNarrow (x : Fraction) (r : Ratio) : Type 0 where
 -- a fraction as a ratio
 abbrev pub ratio_of : Fraction → Ratio
 ratio_of x = record { over = x.num; under = x.den }
+
+-- both coordinates are reduced and within the limit
+pub record IsNarrowPoint (p : Point) : Type 0 where
+  pub x : IsWithin p.x
+  pub y : IsWithin p.y

@@ -1,6 +1,8 @@
 //! Exact placement of nets.
 #![tactic(auto)]
 
+mod drawing;
+mod extent;
 mod first_table;
 mod fractions;
 mod laws;
@@ -9,8 +11,10 @@ mod places;
 mod placing;
 mod point;
 mod rows;
+mod spot;
 mod tables;
 
+pub use drawing::svg;
 pub use laws::a_connected_net_has_one_placement;
 pub use place_fault::PlaceFault;
 pub use places::Places;

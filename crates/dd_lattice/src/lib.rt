@@ -2,6 +2,7 @@
 #![tactic(auto)]
 
 mod forest;
+mod frame;
 mod growing;
 mod kinds;
 mod laws;
@@ -12,6 +13,7 @@ mod net_shifts;
 mod paths;
 mod step;
 
+pub use frame::Frame;
 pub use kinds::{EdgeKind, edge_kinds};
 pub use laws::{shifts_are_the_one_choice, two_edges_of_a_torus_are_left};
 pub use net::Net;

@@ -1,0 +1,16 @@
+use Rattle.std.proofs.Common.{◌≡◌, ◌++◌, codes, string_bytes, ◌∙◌}
+use Rattle.std.specs.Fmt.{signed_decimal}
+use Rattle.std.proofs.lemmas.Result.{IfOk-weaker}
+use Rattle.dd_draw.specs.Document.{view_text}
+use Rattle.dd_draw.proofs.Spots.{margin_read, width_read}
+use Rattle.dd_draw.proofs.drawing.view_of.Goals as goal
+
+pub returns : goal.returns
+returns c =
+    let e = c.args.extent in
+    let small = c.requires in
+    IfOk-weaker c.format.result _ (λ text. string_bytes text ≡ view_text e)
+    (λ text is. is ∙ (λ i.
+    signed_decimal (margin_read e.left small.left i) ++ (codes " " ++ (signed_decimal (margin_read e.top small.top i) ++ (codes " " ++
+    (signed_decimal (width_read e.right e.left small.right small.left i) ++ (codes " " ++ signed_decimal (width_read e.bottom e.top small.bottom small.top i))))))))
+    c.format.ensures.ok
