@@ -17,3 +17,4 @@ pub mod TableLemmas
 pub mod StepLemmas
 pub mod TableReading
 pub mod Placed
+pub mod PlaceOrder

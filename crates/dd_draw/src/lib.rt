@@ -11,7 +11,7 @@ mod point;
 mod rows;
 mod tables;
 
-pub use laws::a_connected_net_has_one_placement;
+pub use laws::{a_connected_net_has_one_placement, a_net_has_one_first_wide_place};
 pub use place_fault::PlaceFault;
 pub use places::Places;
 pub use placing::place;
