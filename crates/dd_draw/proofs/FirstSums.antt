@@ -1,17 +1,16 @@
 -- The entries of the first table, summed edge by edge.
-use Rattle.std.proofs.Common.{◌≡◌, ◌≢◌, ℕ, zero, suc, ◌+◌, ◌*◌, ◌<◌, ◌≤◌, ◌^◌, ℤ, pos, SFits, to_z, of_z, ◌+ℤ◌, ◌-ℤ◌, ◌*ℤ◌, ◌<ℤ◌, nat_abs, Bool, true, false, cond, nat_eq, List, [], ◌∷◌, ◌++◌, length, take, get_or, inl, inr, refl, sym, ap, ◌∙◌, subst, add-one, arith}
+use Rattle.std.proofs.Common.{◌≡◌, ℕ, zero, suc, ◌+◌, ◌*◌, ◌<◌, ◌≤◌, ◌^◌, ℤ, pos, SFits, to_z, of_z, ◌+ℤ◌, ◌-ℤ◌, nat_abs, Bool, true, false, cond, nat_eq, List, [], ◌∷◌, ◌++◌, length, take, get_or, inl, refl, sym, ap, ◌∙◌, subst, add-one, arith}
 use Rattle.std.specs.Int.{w128}
 use Rattle.std.proofs.lemmas.Int.{ints, to_z-of_z, fits_signed_from_abs}
 use Rattle.std.proofs.lemmas.List.{take_more, take_all}
-use Rattle.dd_cells.specs.Fraction.{IsReduced, Divides}
-use Rattle.dd_cells.specs.declared.fractions.Fraction.{Fraction}
+use Rattle.dd_cells.specs.Fraction.{IsReduced}
 use Rattle.dd_lattice.specs.declared.net.Net.{Net}
 use Rattle.dd_lattice.specs.declared.net_edge.NetEdge.{NetEdge}
-use Rattle.dd_draw.proofs.Rings.{at, nat, equal, ◌⊞◌, ◌⊟◌, ◌⊠◌}
+use Rattle.dd_draw.proofs.Rings.{at, nat, equal, ◌⊞◌}
 use Rattle.dd_draw.proofs.LowestTerms.{size_read}
 use Rattle.dd_draw.proofs.Ratios.{narrow_not_wide}
 use Rattle.dd_draw.specs.Elimination.{sum_unlooped, first_entry, whole, ends_at, joins, seen_from}
-use Rattle.dd_draw.specs.FirstTable.{share_of, unlooped_share}
+use Rattle.dd_draw.specs.FirstTable.{unlooped_share}
 use Rattle.dd_draw.specs.Limit.{IsWide, IsNarrow}
 
 negated_sum : (f : NetEdge → ℤ) (es : List NetEdge) → sum_unlooped (λ e. pos 0 -ℤ f e) es ≡ pos 0 -ℤ sum_unlooped f es

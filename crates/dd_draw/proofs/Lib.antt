@@ -18,3 +18,4 @@ pub mod StepLemmas
 pub mod TableReading
 pub mod Placed
 pub mod Spots
+pub mod PlaceOrder

@@ -1,16 +1,14 @@
 -- Division of numerator and denominator by their greatest common divisor.
-use Rattle.std.proofs.Common.{◌≡◌, ◌≢◌, ◌⊎◌, ℕ, zero, suc, ◌+◌, ◌*◌, ◌/◌, ◌<◌, ◌≤◌, ◌^◌, ℤ, pos, negsuc, neg_ℤ, SFits, to_z, of_z, ◌+ℤ◌, ◌-ℤ◌, ◌*ℤ◌, ◌<ℤ◌, ◌≤ℤ◌, nat_abs, inl, inr, refl, sym, ap, ◌∙◌, subst, ⊎_elim, arith}
+use Rattle.std.proofs.Common.{◌≡◌, ◌⊎◌, ℕ, zero, suc, ◌*◌, ◌/◌, ◌<◌, ◌≤◌, ◌^◌, ℤ, pos, negsuc, SFits, to_z, of_z, ◌-ℤ◌, ◌*ℤ◌, ◌<ℤ◌, ◌≤ℤ◌, nat_abs, inl, inr, refl, sym, ap, ◌∙◌, subst, ⊎_elim, arith}
 use Rattle.std.specs.Int.{IsGcd, w128}
 use Rattle.std.proofs.Common.{true, false}
 use lib.Signed.{lt_z}
 use Rattle.std.proofs.lemmas.Int.{ints, to_z-of_z}
 use Rattle.std.proofs.Math.Nat.{div-mul_cancel}
-use Rattle.dd_cells.specs.Fraction.{IsReduced}
 use Rattle.dd_cells.specs.declared.fractions.Fraction.{Fraction}
 use Rattle.dd_cells.proofs.FractionLemmas.{reduced_quotient, divisor_positive}
-use Rattle.dd_draw.proofs.Rings.{at, nat, equal, ◌⊞◌, ◌⊟◌, ◌⊠◌}
-use Rattle.dd_draw.specs.Elimination.{Ratio}
-use Rattle.dd_draw.specs.Limit.{IsLowest, IsOverLimit, IsWide, IsWithin, IsNarrow}
+use Rattle.dd_draw.proofs.Rings.{at, nat, equal, ◌⊟◌, ◌⊠◌}
+use Rattle.dd_draw.specs.Limit.{IsLowest, IsWide, IsNarrow}
 
 -- a size with the sign of a number
 abbrev pub signed : ℤ → ℕ → ℤ

@@ -1,5 +1,5 @@
 -- No pivot of a connected net is 0, and what the last table says is a placement.
-use Rattle.std.proofs.Common.{◌≡◌, ◌≢◌, ℕ, zero, suc, ◌+◌, ◌<◌, ◌≤◌, ◌⊎◌, ℤ, pos, ◌+ℤ◌, ◌-ℤ◌, ◌*ℤ◌, Bool, true, false, cond, nat_eq, nat_lt, inl, inr, refl, sym, ap, ◌∙◌, subst, ⊎_elim, arith}
+use Rattle.std.proofs.Common.{◌≡◌, ◌≢◌, ℕ, zero, suc, ◌<◌, ◌≤◌, ◌⊎◌, ℤ, pos, ◌+ℤ◌, ◌-ℤ◌, ◌*ℤ◌, cond, nat_eq, nat_lt, inl, inr, refl, sym, ap, ◌∙◌, subst, ⊎_elim, arith}
 use Rattle.std.proofs.lemmas.Int.{ints}
 use Rattle.std.proofs.lemmas.Bool.{cases_eq, cases_lt, eq-eqb, ne_eqb, lt-ltb, le-ltb}
 use Rattle.dd_lattice.specs.Nets.{IsConnectedNet}
@@ -11,9 +11,9 @@ use Rattle.dd_draw.proofs.Totals.{total, total-same, total-zero, total_one, tota
 use Rattle.std.specs.List.{AllByRecursion}
 use Rattle.dd_draw.proofs.Pulls.{IsInside, balanced_first}
 use Rattle.dd_draw.proofs.NetLemmas.{edges_inside, zero_everywhere}
-use Rattle.dd_draw.proofs.FirstTable.{entry-row, entry-x, entry-y, row, pull_is}
+use Rattle.dd_draw.proofs.FirstTable.{entry-row, row, pull_is}
 use Rattle.dd_draw.proofs.WholeTables.{Table, after, value, before_step, IsUnit, unit_after}
-use Rattle.dd_draw.specs.Placement.{if_same, pull}
+use Rattle.dd_draw.specs.Placement.{pull}
 use Rattle.dd_draw.specs.Elimination.{first_entry, sum_unlooped, seen_from}
 
 -- the tables of a net, in whole numbers

@@ -1,13 +1,13 @@
 -- The tables in exact fractions are those in whole numbers over one denominator.
-use Rattle.std.proofs.Common.{◌≡◌, ◌≢◌, ℕ, zero, suc, ◌<◌, ◌≤◌, ℤ, pos, ◌+ℤ◌, ◌-ℤ◌, ◌*ℤ◌, cond, nat_eq, refl, sym, ap, ◌∙◌, subst, ⊎_elim, arith}
+use Rattle.std.proofs.Common.{◌≡◌, ◌≢◌, ℕ, zero, suc, ◌<◌, ℤ, pos, ◌-ℤ◌, ◌*ℤ◌, cond, refl, sym, ap, ◌∙◌, subst, ⊎_elim, arith}
 use Rattle.std.proofs.lemmas.Int.{ints}
 use Rattle.std.proofs.lemmas.Bool.{cases_eq, eq-eqb, ne_eqb}
 use Rattle.dd_lattice.specs.Nets.{IsConnectedNet}
 use Rattle.dd_lattice.specs.declared.net.Net.{Net}
-use Rattle.dd_draw.proofs.Rings.{at, nat, equal, ◌⊞◌, ◌⊟◌, ◌⊠◌}
-use Rattle.dd_draw.proofs.Integers.{product_nonzero, zero_factor}
+use Rattle.dd_draw.proofs.Rings.{at, nat, equal, ◌⊟◌, ◌⊠◌}
+use Rattle.dd_draw.proofs.Integers.{product_nonzero}
 use Rattle.dd_draw.proofs.Pivots.{table, pivot}
-use Rattle.dd_draw.proofs.WholeTables.{Table, after, after-own, after-other}
+use Rattle.dd_draw.proofs.WholeTables.{after, after-own, after-other}
 use Rattle.dd_draw.specs.Elimination.{Ratio, entry, first_entry, quotient, product, difference}
 
 -- ## The entries by step

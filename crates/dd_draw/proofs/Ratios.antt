@@ -1,11 +1,11 @@
 -- Ratios with one value: their sums, products and quotients, and what is in lowest terms.
-use Rattle.std.proofs.Common.{◌≡◌, ◌≢◌, ◌⊎◌, ℕ, ◌<◌, ◌≤◌, ◌^◌, ℤ, pos, ◌+ℤ◌, ◌-ℤ◌, ◌*ℤ◌, nat_abs, inl, inr, refl, sym, ap, ◌∙◌, subst, ⊎_elim, arith}
+use Rattle.std.proofs.Common.{◌≡◌, ◌≢◌, pos, ◌-ℤ◌, ◌*ℤ◌, refl, sym, ap, ◌∙◌, subst, ⊎_elim, arith}
 use Rattle.dd_cells.specs.Fraction.{IsReduced}
 use Rattle.dd_cells.specs.declared.fractions.Fraction.{Fraction}
-use Rattle.dd_draw.proofs.Rings.{at, nat, equal, ◌⊞◌, ◌⊟◌, ◌⊠◌}
+use Rattle.dd_draw.proofs.Rings.{at, equal, ◌⊟◌, ◌⊠◌}
 use Rattle.dd_draw.proofs.Integers.{cancel, positive_nonzero, product_nonzero, same_fraction}
 use Rattle.dd_draw.specs.Elimination.{Ratio, quotient, product, difference}
-use Rattle.dd_draw.specs.Limit.{IsLowest, IsOverLimit, IsWide, IsWithin, IsNarrow, ratio_of}
+use Rattle.dd_draw.specs.Limit.{IsOverLimit, IsWide, IsWithin, IsNarrow, ratio_of}
 
 -- Two ratios have one value, and this is a number.
 pub record IsSame (r s : Ratio) : Type 0 where

@@ -1,11 +1,11 @@
 -- Rows that grow by one number.
-use Rattle.std.proofs.Common.{◌≡◌, ◌≢◌, ◌⊎◌, ℕ, suc, ◌+◌, ◌<◌, ◌≤◌, ℤ, pos, ◌*ℤ◌, List, [], ◌∷◌, ◌++◌, length, get_or, inl, inr, refl, sym, ap, ◌∙◌, subst, below_more, arith}
+use Rattle.std.proofs.Common.{◌≡◌, ◌≢◌, ◌⊎◌, ℕ, ◌+◌, ◌<◌, pos, ◌*ℤ◌, List, [], ◌∷◌, ◌++◌, length, inl, inr, refl, sym, subst, below_more, arith}
 use Rattle.std.proofs.lemmas.List.{length-append, get_or_append_left, get_or_push}
 use Rattle.dd_cells.specs.declared.fractions.Fraction.{Fraction}
 use Rattle.dd_draw.proofs.Integers.{product_nonzero}
 use Rattle.dd_draw.proofs.Ratios.{narrow_not_wide, den_nonzero}
-use Rattle.dd_draw.specs.Elimination.{Ratio, quotient, product, difference}
-use Rattle.dd_draw.specs.Limit.{IsWide, IsWithin, IsNarrow, ratio_of}
+use Rattle.dd_draw.specs.Elimination.{Ratio}
+use Rattle.dd_draw.specs.Limit.{IsWide, IsWithin, IsNarrow}
 use Rattle.dd_draw.specs.Rows.{AreWithin, AreMade, number_at, quotients, products, remainders}
 
 pub made_none : (r : ℕ → Ratio) (Wide : ℕ → Type 0) → AreMade r Wide 0 []

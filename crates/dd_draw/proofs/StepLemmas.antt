@@ -1,17 +1,17 @@
 -- A step of the elimination, row by row, and the first wide place.
-use Rattle.std.proofs.Common.{◌≡◌, ◌≢◌, ◌⊎◌, ℕ, zero, suc, ◌+◌, ◌<◌, ◌≤◌, pos, List, [], ◌∷◌, ◌++◌, length, get_or, set, inl, inr, refl, sym, ap, ◌∙◌, subst, ⊎_elim, below_more, add-one, arith}
+use Rattle.std.proofs.Common.{◌≡◌, ◌≢◌, ◌⊎◌, ℕ, zero, suc, ◌+◌, ◌<◌, ◌≤◌, List, [], ◌∷◌, ◌++◌, length, set, inl, inr, refl, sym, ap, ◌∙◌, subst, ⊎_elim, below_more, add-one, arith}
 use Rattle.std.proofs.lemmas.Bool.{cases_eq, cases_lt}
 use Rattle.std.proofs.lemmas.List.{length-set, length-append, get_or-set_same, get_or-set_other, get_or_append_left, get_or_push}
 use Rattle.dd_cells.specs.declared.fractions.Fraction.{Fraction}
 use Rattle.dd_lattice.specs.Nets.{IsConnectedNet}
 use Rattle.dd_lattice.specs.declared.net.Net.{Net}
 use Rattle.dd_draw.proofs.RatioTables.{entry-first}
-use Rattle.dd_draw.proofs.TableLemmas.{own_wide, own_not_wide, own_quotient_not_wide, own_row, other_row, other_wide, other_not_wide, row_not_wide, AreWideRemainders}
-use Rattle.dd_draw.specs.Elimination.{Ratio, entry, whole, first_entry}
+use Rattle.dd_draw.proofs.TableLemmas.{own_wide, own_not_wide, own_quotient_not_wide, other_wide, other_not_wide, row_not_wide, AreWideRemainders}
+use Rattle.dd_draw.specs.Elimination.{entry, whole, first_entry}
 use Rattle.dd_draw.specs.Limit.{IsWide, IsNarrow}
-use Rattle.dd_draw.specs.Rows.{AreMade, IsFirstColumn, number_at, quotients, remainders}
-use Rattle.dd_draw.specs.Tables.{IsRowOf, IsTable, IsMidway, IsNarrowTo, row_at, place_at}
-use Rattle.dd_draw.specs.Width.{Place, IsPlaceOf, IsWideAt, IsBefore, IsFirstWide}
+use Rattle.dd_draw.specs.Rows.{AreMade, IsFirstColumn, number_at, quotients}
+use Rattle.dd_draw.specs.Tables.{IsRowOf, IsTable, IsMidway, row_at, place_at}
+use Rattle.dd_draw.specs.Width.{Place, IsPlaceOf, IsWideAt, IsFirstWide}
 
 -- ## Places
 

@@ -1,16 +1,15 @@
 -- Rows that were made are rows of the next table, and where one was not made the first wide place stands.
-use Rattle.std.proofs.Common.{◌≡◌, ◌≢◌, ◌⊎◌, ℕ, zero, suc, ◌+◌, ◌<◌, ◌≤◌, ℤ, pos, ◌*ℤ◌, List, [], ◌∷◌, length, get_or, set, inl, inr, refl, sym, ap, ◌∙◌, subst, ⊎_elim, arith}
-use Rattle.std.proofs.lemmas.Bool.{cases_eq}
+use Rattle.std.proofs.Common.{◌≢◌, ◌⊎◌, ℕ, suc, ◌+◌, ◌<◌, pos, ◌*ℤ◌, List, length, inl, inr, refl, sym, ap, ◌∙◌, subst, arith}
 use Rattle.dd_cells.specs.declared.fractions.Fraction.{Fraction}
 use Rattle.dd_lattice.specs.Nets.{IsConnectedNet}
 use Rattle.dd_lattice.specs.declared.net.Net.{Net}
-use Rattle.dd_draw.proofs.Rings.{at, nat, equal, ◌⊞◌, ◌⊟◌, ◌⊠◌}
-use Rattle.dd_draw.proofs.Integers.{product_nonzero, zero_factor}
+use Rattle.dd_draw.proofs.Rings.{at, nat, equal, ◌⊠◌}
+use Rattle.dd_draw.proofs.Integers.{zero_factor}
 use Rattle.dd_draw.proofs.Ratios.{IsSame, IsSame-sym, quotient_same, product_same, difference_same, narrow_along, wide_along, same_from_narrow, narrow_not_wide, den_nonzero}
 use Rattle.dd_draw.proofs.RatioTables.{entry-own, entry-other, under_nonzero, pivot_entry}
-use Rattle.dd_draw.specs.Elimination.{Ratio, entry, taken, quotient, product, difference}
+use Rattle.dd_draw.specs.Elimination.{Ratio, entry, taken}
 use Rattle.dd_draw.specs.Limit.{IsWide, IsNarrow, ratio_of}
-use Rattle.dd_draw.specs.Rows.{AreWithin, AreMade, IsFirstColumn, number_at, quotients, products, remainders}
+use Rattle.dd_draw.specs.Rows.{AreWithin, AreMade, number_at, quotients, products, remainders}
 use Rattle.dd_draw.specs.Tables.{IsRowOf, place_at}
 use Rattle.dd_draw.specs.Width.{IsWideAt}
 

@@ -1,5 +1,5 @@
 -- The rows of a table as the code reads them.
-use Rattle.std.proofs.Common.{◌≡◌, ◌≢◌, ◌⊎◌, ℕ, zero, suc, ◌+◌, ◌-◌, ◌<◌, ◌≤◌, pos, List, [], ◌∷◌, ◌++◌, length, get_or, set, map, Vec, Result, Ok, Err, IfErr, inl, inr, refl, sym, ap, ◌∙◌, subst, ⊎_elim, add-one, arith}
+use Rattle.std.proofs.Common.{◌≡◌, ◌≢◌, ℕ, zero, suc, ◌+◌, ◌<◌, ◌≤◌, List, [], ◌∷◌, ◌++◌, length, get_or, set, Vec, Result, Ok, Err, IfErr, inr, refl, sym, ap, ◌∙◌, subst, add-one, arith}
 use Rattle.std.specs.Global.{Global}
 use Rattle.std.specs.Result.{IsErrAnd}
 use Rattle.std.proofs.lemmas.List.{length-map, get_or-map, map-set, map_push}
@@ -7,7 +7,7 @@ use Rattle.dd_cells.specs.declared.fractions.Fraction.{Fraction}
 use Rattle.dd_lattice.specs.Nets.{IsConnectedNet}
 use Rattle.dd_lattice.specs.declared.net.Net.{Net}
 use Rattle.dd_draw.proofs.TableLemmas.{own_row, other_row, other_not_wide, AreWideRemainders}
-use Rattle.dd_draw.proofs.StepLemmas.{IsBegun, first_row_of, first_fault, begun_more, midway_first, midway_skip, midway_more, own_fault, other_fault}
+use Rattle.dd_draw.proofs.StepLemmas.{IsBegun, first_row_of, first_fault, begun_more, midway_first, midway_more, own_fault, other_fault}
 use Rattle.dd_draw.specs.Elimination.{whole, first_entry}
 use Rattle.dd_draw.specs.Limit.{IsWide}
 use Rattle.dd_draw.specs.Rows.{AreMade, IsFirstColumn, IsRowFault, number_at, quotients, remainders}

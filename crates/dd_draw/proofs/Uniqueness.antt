@@ -1,5 +1,5 @@
 -- A connected net has at most one placement.
-use Rattle.std.proofs.Common.{◌≡◌, ◌≢◌, ℕ, zero, suc, ◌+◌, ◌-◌, ◌<◌, ◌≤◌, ℤ, pos, ◌+ℤ◌, ◌-ℤ◌, ◌*ℤ◌, Bool, true, false, cond, nat_eq, List, [], ◌∷◌, length, get_or, inr, refl, sym, ap, ◌∙◌, subst, arith}
+use Rattle.std.proofs.Common.{◌≡◌, ◌≢◌, ℕ, suc, ◌-◌, ◌<◌, ◌≤◌, ℤ, pos, ◌+ℤ◌, ◌-ℤ◌, ◌*ℤ◌, Bool, true, false, cond, nat_eq, List, [], ◌∷◌, length, get_or, inr, sym, ap, ◌∙◌, subst, arith}
 use Rattle.std.proofs.lemmas.Int.{ints}
 use Rattle.std.proofs.lemmas.List.{ext_get_or}
 use Rattle.dd_cells.specs.declared.fractions.Fraction.{Fraction}
@@ -7,7 +7,7 @@ use Rattle.dd_lattice.specs.Nets.{IsConnectedNet}
 use Rattle.dd_lattice.specs.declared.net.Net.{Net}
 use Rattle.dd_lattice.specs.declared.net_edge.NetEdge.{NetEdge}
 use Rattle.dd_draw.proofs.Rings.{at, nat, equal, ◌⊞◌, ◌⊟◌, ◌⊠◌}
-use Rattle.dd_draw.proofs.Integers.{cancel, positive_nonzero, product_nonzero, same_fraction}
+use Rattle.dd_draw.proofs.Integers.{cancel, product_nonzero, same_fraction}
 use Rattle.dd_draw.proofs.NetLemmas.{zero_everywhere}
 use Rattle.dd_draw.specs.declared.point.Point.{Point}
 use Rattle.dd_draw.specs.Placement.{pull, if_same, ArePlaced, IsPlacement, point_of, origin}

@@ -1,7 +1,7 @@
 -- What single edges give to the entries of the first table.
 use Rattle.std.specs.Prelude.{ℕ, ◌+◌, ℤ, pos, ◌-ℤ◌, cond, nat_eq}
 use Rattle.dd_lattice.specs.declared.net_edge.NetEdge.{NetEdge}
-use Rattle.dd_draw.specs.Elimination.{ends_at, joins, seen_from, first_entry}
+use Rattle.dd_draw.specs.Elimination.{ends_at, joins, seen_from}
 
 -- what an edge that is no loop gives to row i and column j, for n vertices
 abbrev pub unlooped_share : ℕ → ℕ → ℕ → NetEdge → ℤ

@@ -1,5 +1,5 @@
 -- Rows of fractions that are made number by number, up to the first that is too wide.
-use Rattle.std.specs.Prelude.{◌≡◌, ◌⊎◌, ℕ, ◌+◌, ◌<◌, ◌≤◌, pos, List, length, slice_index_or}
+use Rattle.std.specs.Prelude.{◌≡◌, ℕ, ◌+◌, ◌<◌, pos, List, length, slice_index_or}
 use Rattle.dd_cells.specs.declared.fractions.Fraction.{Fraction}
 use Rattle.dd_draw.specs.Elimination.{Ratio, quotient, product, difference}
 use Rattle.dd_draw.specs.Limit.{IsWithin, IsNarrow, ratio_of}

@@ -15,7 +15,7 @@ mod spot;
 mod tables;
 
 pub use drawing::svg;
-pub use laws::a_connected_net_has_one_placement;
+pub use laws::{a_connected_net_has_one_placement, a_net_has_one_first_wide_place};
 pub use place_fault::PlaceFault;
 pub use places::Places;
 pub use placing::place;

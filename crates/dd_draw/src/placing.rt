@@ -1,8 +1,9 @@
-ghost use Rattle.std.specs.Prelude.{◌≡◌, ◌≤◌, ◌<◌, ◌+◌, ℕ, length, IfOk, IfErr};
+ghost use Rattle.std.specs.Prelude.{◌≡◌, ◌≤◌, ◌<◌, ◌+◌, ℕ, length, Err, IfOk, IfErr};
 ghost use Rattle.dd_lattice.specs.Nets.{IsConnectedNet};
 ghost use Rattle.dd_draw.specs.Placement.{IsPlacement};
 ghost use Rattle.dd_draw.specs.Points.{ArePointsTo};
 ghost use Rattle.dd_draw.specs.Tables.{lists, row_at, IsPlaceFault};
+ghost use Rattle.dd_draw.specs.declared.place_fault.PlaceFault.TheVariants as faults;
 ghost use Rattle.dd_draw.specs.Width.{Place, IsPlaceOf, IsWideAt};
 
 use crate::place_fault::PlaceFault;
@@ -48,6 +49,8 @@ pub fn place(alloc: Global, net: &Net) -> Result<Places, PlaceFault>
     ensures few { IfOk result (λ places. net.now.vertices ≤ 96) }
     ensures narrow { IfOk result (λ places.
         (p : Place) → IsPlaceOf net.now p → ¬ IsWideAt net.now p) }
+    ensures many { 96 < net.now.vertices
+        → result ≡ Err (faults.TooManyVertices net.now.vertices) }
     ensures fault { IfErr result (λ why. IsPlaceFault net.now why) }
 {
     if net.vertices > MOST_VERTICES {

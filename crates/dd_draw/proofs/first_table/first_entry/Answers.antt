@@ -1,4 +1,4 @@
-use Rattle.std.proofs.Common.{◌≡◌, ◌<◌, ◌≤◌, ◌^◌, refl, arith}
+use Rattle.std.proofs.Common.{◌<◌, ◌^◌, refl, arith}
 use Rattle.dd_draw.proofs.FirstSums.{sum_fits, sum_more, sum_small, sum_all}
 use Rattle.dd_draw.proofs.first_table.first_entry.Goals as goal
 

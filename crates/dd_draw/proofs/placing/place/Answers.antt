@@ -1,4 +1,4 @@
-use Rattle.std.proofs.Common.{◌≡◌, suc, ◌-◌, length, subst, sym, arith}
+use Rattle.std.proofs.Common.{◌≡◌, suc, ◌-◌, subst, sym, arith}
 use Rattle.std.proofs.lemmas.List.{length-map}
 use Rattle.dd_draw.proofs.Placed.{placed}
 use Rattle.dd_draw.proofs.TableReading.{rows_long}

@@ -1,4 +1,4 @@
-use Rattle.std.proofs.Common.{refl, arith}
+use Rattle.std.proofs.Common.{refl}
 use Rattle.dd_draw.proofs.RowLemmas.{made_more, quotient_not_wide}
 use Rattle.dd_draw.proofs.rows.divided.Goals as goal
 

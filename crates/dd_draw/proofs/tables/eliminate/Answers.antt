@@ -2,7 +2,7 @@ use Rattle.std.proofs.Common.{suc, ◌+◌, sym, subst, arith}
 use Rattle.dd_draw.proofs.StepLemmas.{midway_skip, midway_all}
 use Rattle.dd_draw.proofs.TableLemmas.{within_row, pivot_number}
 use Rattle.dd_draw.proofs.TableReading.{handed_on, column_inside, few_numbers, pivot_row, own_stop, own_done, left_row, done_row, other_stop, other_done}
-use Rattle.dd_draw.specs.Tables.{IsMidway, IsPlaceFault, IsRowOf, lists}
+use Rattle.dd_draw.specs.Tables.{IsMidway, IsPlaceFault, lists}
 use Rattle.dd_draw.proofs.tables.eliminate.Goals as goal
 use Rattle.dd_draw.proofs.tables.eliminate.Goals.{then-other-place+in_ok-rest, else-other-place}
 
