@@ -27,7 +27,7 @@ use Rattle.dd_lattice.proofs.TileSums.{one, total_none, sum_as, turned_color}
 
 -- ## No edge of a torus is folded
 
-pub not_folded : (t : Symbol) → IsTorus t → (d : ℕ) → IsChamber t d → op t Two d ≢ op t Zero d
+not_folded : (t : Symbol) → IsTorus t → (d : ℕ) → IsChamber t d → op t Two d ≢ op t Zero d
 not_folded t torus d h same =
     let inv = torus.symbol.table.involutions in
     let fixed : op t Two (op t Zero d) ≡ d = ap (op t Two) (sym same) ∙ (inv Two).involutive d h in

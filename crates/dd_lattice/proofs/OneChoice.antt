@@ -148,7 +148,7 @@ module _ (t : Symbol) (torus : IsTorus t) (edges : List ℕ) (cells : AreCells t
         (cases_Bool (crossing_at q))
         )
 
-    pub equal_here : x (edge m) ≡ y (edge m)
+    equal_here : x (edge m) ≡ y (edge m)
     equal_here =
         let e = edge m in
         let h = (listed_edge t edges cells m inside).0 in
@@ -170,7 +170,7 @@ module _ (t : Symbol) (torus : IsTorus t) (edges : List ℕ) (cells : AreCells t
       (λ none. told (get_or kinds q Left) (edge q) (listed_edge t edges cells q inside) (are.each q Left inside) none)
       (cases_Bool (crossing_at q))
 
-  pub one_choice : (d : ℕ) → IsChamber t d → x d ≡ y d
+  one_choice : (d : ℕ) → IsChamber t d → x d ≡ y d
   one_choice =
       through_edge t torus.symbol (λ d. x d ≡ y d)
       (λ i d h holds same. ⊎_elim

@@ -19,7 +19,7 @@ use Rattle.dd_lattice.proofs.TileSums.{one}
 
 -- ## What is reached
 
-pub reached_later : (first : ℕ) (steps : List Step) (j k d : ℕ) → j ≤ k → IsReached first steps j d → IsReached first steps k d
+reached_later : (first : ℕ) (steps : List Step) (j k d : ℕ) → j ≤ k → IsReached first steps j d → IsReached first steps k d
 reached_later first steps j k d less reached =
     ⊎_elim
     (λ own. inl own)
@@ -27,7 +27,7 @@ reached_later first steps j k d less reached =
     reached
 
 -- by the last of some steps, or by those before
-pub last_or_before : (first : ℕ) (steps : List Step) (m d : ℕ) (x : Step) → get_or steps m x ≡ x → IsReached first steps (m + 1) d → (x.to ≡ d) ⊎ IsReached first steps m d
+last_or_before : (first : ℕ) (steps : List Step) (m d : ℕ) (x : Step) → get_or steps m x ≡ x → IsReached first steps (m + 1) d → (x.to ≡ d) ⊎ IsReached first steps m d
 last_or_before first steps m d x at reached =
     ⊎_elim
     (λ own. inr (inl own))
