@@ -1,6 +1,7 @@
 -- What the last table says is a placement.
 use Rattle.std.proofs.Common.{◌≡◌, ℕ, zero, suc, ◌+◌, ◌-◌, ◌<◌, ◌≤◌, ℤ, pos, ◌*ℤ◌, List, [], ◌∷◌, ◌++◌, length, get_or, refl, sym, ap, ◌∙◌, subst, below_more, arith}
 use Rattle.std.proofs.lemmas.List.{length-append, get_or_append_left, get_or_push}
+use Rattle.std.specs.List.{AllByRecursion}
 use Rattle.dd_cells.specs.Fraction.{IsReduced}
 use Rattle.dd_cells.specs.declared.fractions.Fraction.{Fraction}
 use Rattle.dd_lattice.specs.Nets.{IsConnectedNet}
@@ -13,7 +14,7 @@ use Rattle.dd_draw.proofs.FirstTable.{entry-x, entry-y}
 use Rattle.dd_draw.proofs.Pivots.{table, sound, solution, of_vertices, column_of}
 use Rattle.dd_draw.proofs.RatioTables.{IsAt, entry_at}
 use Rattle.dd_draw.specs.Elimination.{Ratio, entry, first_entry, sum_unlooped, seen_from}
-use Rattle.dd_draw.specs.Limit.{IsNarrow}
+use Rattle.dd_draw.specs.Limit.{IsNarrow, IsWithin, IsNarrowPoint}
 use Rattle.dd_draw.specs.Placement.{ArePlaced, IsPlacement, point_of, origin}
 use Rattle.dd_draw.specs.Points.{ArePointsTo}
 use Rattle.dd_draw.specs.Rows.{number_at}
@@ -66,6 +67,28 @@ placed net k rows points connected last t are = record {
   where
     at_point : (n : ℕ) → point_of points (suc n) ≡ get_or points n origin
     at_point n = let e : suc n - 1 ≡ n = omega arith in ap (λ m. get_or points m origin) e
+
+zero_within : IsWithin (record { num = pos 0; den = pos 1 })
+zero_within = record { reduced = whole_reduced (pos 0); num = omega arith; den = omega arith }
+
+all_narrow : (points : List Point) → ((i : ℕ) → i < length points → IsNarrowPoint (get_or points i origin)) → AllByRecursion IsNarrowPoint points
+all_narrow [] each = tt
+all_narrow (p ∷ ps) each = (each zero (omega arith), all_narrow ps (λ i low. each (suc i) (omega arith)))
+
+-- the points are of numbers of the table
+pub narrow_points : (net : Net) (k : ℕ) (rows : List (List Fraction)) (points : List Point) → IsTable net k rows → ArePointsTo net.vertices (length rows) rows points
+    → AllByRecursion IsNarrowPoint points
+narrow_points net k rows points t are = all_narrow points at_place
+  where
+    at_place : (i : ℕ) → i < length points → IsNarrowPoint (get_or points i origin)
+    at_place zero low = subst IsNarrowPoint (sym are.start) (record { x = zero_within; y = zero_within })
+    at_place (suc i) low =
+        let m = are.many in
+        let inside : i < length rows = omega arith in
+        record {
+          x = subst IsWithin (sym (are.x i inside)) ((t.each i inside).each (net.vertices - 1) (omega arith)).within;
+          y = subst IsWithin (sym (are.y i inside)) ((t.each i inside).each net.vertices (omega arith)).within;
+        }
 
 pub points_none : (vertices : ℕ) (rows : List (List Fraction)) (points : List Point) → points ≡ [] ++ origin ∷ [] → ArePointsTo vertices zero rows points
 points_none vertices rows points e = subst (ArePointsTo vertices zero rows) (sym e)

@@ -1,5 +1,7 @@
 ghost use Rattle.std.specs.Prelude.{◌≡◌, ◌≤◌, ◌<◌, ◌+◌, ℕ, length, Err, IfOk, IfErr};
+ghost use Rattle.std.specs.List.{AllByRecursion};
 ghost use Rattle.dd_lattice.specs.Nets.{IsConnectedNet};
+ghost use Rattle.dd_draw.specs.Limit.{IsNarrowPoint};
 ghost use Rattle.dd_draw.specs.Placement.{IsPlacement};
 ghost use Rattle.dd_draw.specs.Points.{ArePointsTo};
 ghost use Rattle.dd_draw.specs.Tables.{lists, row_at, IsPlaceFault};
@@ -49,6 +51,7 @@ pub fn place(alloc: Global, net: &Net) -> Result<Places, PlaceFault>
     ensures few { IfOk result (λ places. net.now.vertices ≤ 96) }
     ensures narrow { IfOk result (λ places.
         (p : Place) → IsPlaceOf net.now p → ¬ IsWideAt net.now p) }
+    ensures within { IfOk result (λ places. AllByRecursion IsNarrowPoint places.points.items) }
     ensures many { 96 < net.now.vertices
         → result ≡ Err (faults.TooManyVertices net.now.vertices) }
     ensures fault { IfErr result (λ why. IsPlaceFault net.now why) }

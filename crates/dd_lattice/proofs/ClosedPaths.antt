@@ -27,7 +27,7 @@ use Rattle.dd_lattice.proofs.TileSums.{one, total_none, sum_as, turned_color}
 
 -- ## No edge of a torus is folded
 
-pub not_folded : (t : Symbol) → IsTorus t → (d : ℕ) → IsChamber t d → op t Two d ≢ op t Zero d
+not_folded : (t : Symbol) → IsTorus t → (d : ℕ) → IsChamber t d → op t Two d ≢ op t Zero d
 not_folded t torus d h same =
     let inv = torus.symbol.table.involutions in
     let fixed : op t Two (op t Zero d) ≡ d = ap (op t Two) (sym same) ∙ (inv Two).involutive d h in
@@ -88,23 +88,23 @@ module _ (t : Symbol) (torus : IsTorus t) (root : ℕ → ℕ) (roots : AreRoots
 
   -- ## The start
 
-  pub way_start : (leaves : List Bool) → length leaves ≡ t.size → ((d : ℕ) → flag leaves d ≡ false) → IsReached first steps (length steps) (across t first)
-      → IsOnWay t first steps root (length steps) (set leaves (first - 1) true) (across t first)
-  way_start leaves whole none reached = record {
-    whole = length-set leaves (first - 1) true ∙ whole;
+  pub way_start : (exits : List Bool) → length exits ≡ t.size → ((d : ℕ) → flag exits d ≡ false) → IsReached first steps (length steps) (across t first)
+      → IsOnWay t first steps root (length steps) (set exits (first - 1) true) (across t first)
+  way_start exits whole none reached = record {
+    whole = length-set exits (first - 1) true ∙ whole;
     chamber = (inv Zero).within (op t Two first) ((inv Two).within first tree.chamber);
     reached = reached;
-    own = flag_here t leaves whole first tree.chamber (none first);
+    own = flag_here t exits whole first tree.chamber (none first);
     passed = λ d h yes_. ⊎_elim
         (λ own. inl own)
-        (λ off. let old = sym (flag_there t leaves whole first tree.chamber (none first) d h off) ∙ yes_ in let no_ = none d in cc)
+        (λ off. let old = sym (flag_there t exits whole first tree.chamber (none first) d h off) ∙ yes_ in let no_ = none d in cc)
         (cases_eq d first);
     balance = λ d r h period.
-        let a = out_more t leaves whole first tree.chamber (none first) torus.symbol colors exchanged root roots d r h period in
-        let b = into_more t leaves whole first tree.chamber (none first) torus.symbol colors exchanged root roots d r h period in
-        let unmarked : (x : ℕ) → mark leaves x ≡ 0 = λ x. mark_off leaves x (none x) in
-        let x : out_of t leaves d r ≡ 0 = total_none t (λ c. mark leaves c + mark leaves (op t Zero c)) d r (λ j low. let p = unmarked (turned t Tile j d) in let q = unmarked (op t Zero (turned t Tile j d)) in omega arith) in
-        let y : into t leaves d r ≡ 0 = total_none t (λ c. mark leaves (op t Two c) + mark leaves (op t Zero (op t Two c))) d r (λ j low.
+        let a = out_more t exits whole first tree.chamber (none first) torus.symbol colors exchanged root roots d r h period in
+        let b = into_more t exits whole first tree.chamber (none first) torus.symbol colors exchanged root roots d r h period in
+        let unmarked : (x : ℕ) → mark exits x ≡ 0 = λ x. mark_off exits x (none x) in
+        let x : out_of t exits d r ≡ 0 = total_none t (λ c. mark exits c + mark exits (op t Zero c)) d r (λ j low. let p = unmarked (turned t Tile j d) in let q = unmarked (op t Zero (turned t Tile j d)) in omega arith) in
+        let y : into t exits d r ≡ 0 = total_none t (λ c. mark exits (op t Two c) + mark exits (op t Zero (op t Two c))) d r (λ j low.
         let p = unmarked (op t Two (turned t Tile j d)) in
         let q = unmarked (op t Zero (op t Two (turned t Tile j d))) in
         omega arith) in
@@ -113,42 +113,42 @@ module _ (t : Symbol) (torus : IsTorus t) (root : ℕ → ℕ) (roots : AreRoots
 
   -- ## The end
 
-  module _ (left : IsLeftEdge t first) (leaves : List Bool) (place : ℕ) (way : IsOnWay t first steps root 0 leaves place) where
+  module _ (left : IsLeftEdge t first) (exits : List Bool) (place : ℕ) (way : IsOnWay t first steps root 0 exits place) where
     home : place ≡ first
     home = ⊎_elim (λ own. own) (λ led. let low = led.early in absurd (omega arith)) way.reached
 
-    balanced : (d r : ℕ) → IsChamber t d → IsPeriod t Tile d r → out_of t leaves d r ≡ into t leaves d r
+    balanced : (d r : ℕ) → IsChamber t d → IsPeriod t Tile d r → out_of t exits d r ≡ into t exits d r
     balanced d r h period =
         let e = way.balance d r h period in
         let same = ap (λ z. one (root d) (root z)) home in
         omega arith
 
-    marked_color : (d : ℕ) → IsChamber t d → flag leaves d ≡ true → colors d ≡ colors first
+    marked_color : (d : ℕ) → IsChamber t d → flag exits d ≡ true → colors d ≡ colors first
     marked_color d h yes_ = ⊎_elim (λ own. ap colors own) (λ p. reached_color (length steps) d p.reached) (way.passed d h yes_)
 
-    other_color : (d : ℕ) → IsChamber t d → colors d ≡ not (colors first) → mark leaves d ≡ 0
+    other_color : (d : ℕ) → IsChamber t d → colors d ≡ not (colors first) → mark exits d ≡ 0
     other_color d h other =
         ⊎_elim
         (λ yes_. absurd (not_own (colors first) (sym (marked_color d h yes_) ∙ other)))
-        (λ no_. mark_off leaves d no_)
-        (cases_Bool (flag leaves d))
+        (λ no_. mark_off exits d no_)
+        (cases_Bool (flag exits d))
 
     -- the edges that are passed are the first one and crossing edges
-    marked_edge : (e d : ℕ) → IsLeastOfCell t Edge e → IsChamber t d → InCell t Edge e d → flag leaves d ≡ true → (e ≡ first) ⊎ IsKindOf t e Crossing
+    marked_edge : (e d : ℕ) → IsLeastOfCell t Edge e → IsChamber t d → InCell t Edge e d → flag exits d ≡ true → (e ≡ first) ⊎ IsKindOf t e Crossing
     marked_edge e d least h near yes_ =
         ⊎_elim
         (λ own. inl (least_of_cell_unique t inv Edge e first least left.least (subst (InCell t Edge e) own near)))
         (λ p. inr (p.crossing e (record { in_cell = in_cell-sym t inv Edge e d least.0 near; is_least = least })))
         (way.passed d h yes_)
 
-    unmarked : (e d : ℕ) → IsLeastOfCell t Edge e → IsChamber t d → InCell t Edge e d → e ≢ first → (IsKindOf t e Crossing → ⊥) → mark leaves d ≡ 0
+    unmarked : (e d : ℕ) → IsLeastOfCell t Edge e → IsChamber t d → InCell t Edge e d → e ≢ first → (IsKindOf t e Crossing → ⊥) → mark exits d ≡ 0
     unmarked e d least h near off not_crossing =
         ⊎_elim
         (λ yes_. absurd (⊎_elim off not_crossing (marked_edge e d least h near yes_)))
-        (λ no_. mark_off leaves d no_)
-        (cases_Bool (flag leaves d))
+        (λ no_. mark_off exits d no_)
+        (cases_Bool (flag exits d))
 
-    no_shift : (e : ℕ) → IsLeastOfCell t Edge e → e ≢ first → (IsKindOf t e Crossing → ⊥) → shift_by t leaves e ≡ pos 0
+    no_shift : (e : ℕ) → IsLeastOfCell t Edge e → e ≢ first → (IsKindOf t e Crossing → ⊥) → shift_by t exits e ≡ pos 0
     no_shift e least off not_crossing =
         let h = least.0 in
         let h2 = (inv Two).within e h in
@@ -161,21 +161,21 @@ module _ (t : Symbol) (torus : IsTorus t) (root : ℕ → ℕ) (roots : AreRoots
         omega (arith, ints)
 
     abbrev x : ℕ → ℤ
-    x = shift_by t leaves
+    x = shift_by t exits
 
     back_shift : (d : ℕ) → IsChamber t d → x (op t Zero d) ≡ pos 0 -ℤ x d
     back_shift d h =
         let h2 = (inv Two).within d h in
         let beyond : op t Two (op t Zero d) ≡ op t Zero (op t Two d) = commute t torus.symbol d h in
-        let a = ap (mark leaves) beyond in
-        let b = ap (mark leaves) ((inv Zero).involutive d h) in
-        let c = ap (mark leaves) (ap (op t Zero) beyond ∙ (inv Zero).involutive (op t Two d) h2) in
+        let a = ap (mark exits) beyond in
+        let b = ap (mark exits) ((inv Zero).involutive d h) in
+        let c = ap (mark exits) (ap (op t Zero) beyond ∙ (inv Zero).involutive (op t Two d) h2) in
         omega (arith, ints)
 
     across_shift : (d : ℕ) → IsChamber t d → x (op t Two d) ≡ x d
     across_shift d h =
-        let a = ap (mark leaves) ((inv Two).involutive d h) in
-        let b = ap (λ z. mark leaves (op t Zero z)) ((inv Two).involutive d h) in
+        let a = ap (mark exits) ((inv Two).involutive d h) in
+        let b = ap (λ z. mark exits (op t Zero z)) ((inv Two).involutive d h) in
         omega (arith, ints)
 
     unit_shift : x first ≡ pos 1
@@ -183,17 +183,17 @@ module _ (t : Symbol) (torus : IsTorus t) (root : ℕ → ℕ) (roots : AreRoots
         let h = tree.chamber in
         let h2 = (inv Two).within first h in
         let h02 = (inv Zero).within (op t Two first) h2 in
-        let a = mark_at leaves first way.own in
+        let a = mark_at exits first way.own in
         let b = other_color (op t Two first) h2 (exchanged Two first h) in
         let c = other_color (op t Zero first) ((inv Zero).within first h) (exchanged Zero first h) in
         let not_crossing : IsKindOf t first Crossing → ⊥ = λ crossing. crossing.1 left.kind.1 in
-        let d = mark_off leaves (across t first) (⊎_elim
+        let d = mark_off exits (across t first) (⊎_elim
         (λ yes_. absurd (⊎_elim
         (λ own. not_folded t torus first h (sym ((inv Zero).involutive (op t Two first) h2) ∙ ap (op t Zero) own))
         (λ p. not_crossing (p.crossing first (record { in_cell = in_cell-sym t inv Edge first (across t first) h (across_cell t first); is_least = left.least })))
         (way.passed (across t first) h02 yes_)))
         (λ no_. no_)
-        (cases_Bool (flag leaves (across t first)))) in
+        (cases_Bool (flag exits (across t first)))) in
         omega (arith, ints)
 
     round_shift : (d r : ℕ) → IsChamber t d → IsPeriod t Tile d r → sum_round t x d r ≡ pos 0
@@ -202,8 +202,8 @@ module _ (t : Symbol) (torus : IsTorus t) (root : ℕ → ℕ) (roots : AreRoots
         let here : (j : ℕ) → IsChamber t (walk j) = λ j. turned_within t inv Tile j d h in
         let tone : (j : ℕ) → colors (walk j) ≡ colors d = λ j. turned_color t inv colors exchanged root roots d h j in
         let same = balanced d r h period in
-        let o : ℕ → ℕ = λ c. mark leaves c + mark leaves (op t Zero c) in
-        let i : ℕ → ℕ = λ c. mark leaves (op t Two c) + mark leaves (op t Zero (op t Two c)) in
+        let o : ℕ → ℕ = λ c. mark exits c + mark exits (op t Zero c) in
+        let i : ℕ → ℕ = λ c. mark exits (op t Two c) + mark exits (op t Zero (op t Two c)) in
         ⊎_elim
         (λ (own : colors d ≡ colors first).
         let sums = sum_as t x o i d r (λ j.
@@ -225,7 +225,7 @@ module _ (t : Symbol) (torus : IsTorus t) (root : ℕ → ℕ) (roots : AreRoots
         same_or_other false true = inr refl
         same_or_other false false = inl refl
 
-    pub are_shifts : AreShifts t first (shift_by t leaves)
+    pub are_shifts : AreShifts t first (shift_by t exits)
     are_shifts = record {
       back = back_shift;
       across = across_shift;

@@ -47,17 +47,17 @@ not_crossing_at t flags are d l least no_ at = are.no l least.is_least no_ (at l
 
 -- ## What is reached
 
-pub extended-refl : (xs : List Step) → IsExtended xs xs
+extended-refl : (xs : List Step) → IsExtended xs xs
 extended-refl xs = record { longer = omega arith; same = λ q e low. refl }
 
-pub extended-trans : (xs ys zs : List Step) → IsExtended xs ys → IsExtended ys zs → IsExtended xs zs
+extended-trans : (xs ys zs : List Step) → IsExtended xs ys → IsExtended ys zs → IsExtended xs zs
 extended-trans xs ys zs a b = let la = a.longer in let lb = b.longer in record {
   longer = omega arith;
   same = λ q e low. b.same q e (omega arith) ∙ a.same q e low;
 }
 
 -- what some steps lead to more do
-pub led_more : (xs ys : List Step) → IsExtended xs ys → (j k d : ℕ) → j ≤ k → IsLedTo xs j d → IsLedTo ys k d
+led_more : (xs ys : List Step) → IsExtended xs ys → (j k d : ℕ) → j ≤ k → IsLedTo xs j d → IsLedTo ys k d
 led_more xs ys more j k d less led = let low = led.early in let own = led.inside in let far = more.longer in record {
   place = led.place;
   early = omega arith;
@@ -65,7 +65,7 @@ led_more xs ys more j k d less led = let low = led.early in let own = led.inside
   leads = λ e. ap (λ (x : Step). x.to) (more.same led.place e own) ∙ led.leads e;
 }
 
-pub reached_more : (first : ℕ) (xs ys : List Step) → IsExtended xs ys → (j k d : ℕ) → j ≤ k → IsReached first xs j d → IsReached first ys k d
+reached_more : (first : ℕ) (xs ys : List Step) → IsExtended xs ys → (j k d : ℕ) → j ≤ k → IsReached first xs j d → IsReached first ys k d
 reached_more first xs ys more j k d less reached = ⊎_elim (λ own. inl own) (λ led. inr (led_more xs ys more j k d less led)) reached
 
 -- and the first ones lead to what they led to
@@ -179,7 +179,7 @@ module _ (t : Symbol) (first : ℕ) (met : List Bool) (steps : List Step) (step 
       reached = leads;
     }
 
-  pub has_taken : (now : List Bool) (all : List Step) → IsTaken step met now steps all → HasTaken t first step.to now steps all
+  has_taken : (now : List Bool) (all : List Step) → IsTaken step met now steps all → HasTaken t first step.to now steps all
   has_taken now all taken =
       ⊎_elim
       (λ passed. subst (λ xs. HasTaken t first step.to xs steps all) (sym passed.same_met) (subst (HasTaken t first step.to met steps) (sym passed.same_steps) (record {

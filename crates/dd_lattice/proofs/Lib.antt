@@ -18,3 +18,4 @@ pub mod ListLemmas
 pub mod NetLemmas
 pub mod TileFlows
 pub mod OneChoice
+pub mod KindsExist

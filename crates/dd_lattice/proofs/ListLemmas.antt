@@ -30,7 +30,7 @@ use Rattle.dd_lattice.specs.declared.kinds.EdgeKind.TheVariants.{Tree, Crossing,
 use Rattle.dd_lattice.proofs.KindLemmas.{ascending, listed_edge, same_default}
 
 -- no more cells than chambers
-pub few_cells : (t : Symbol) (p : Pair) (ds : List ℕ) → AreCells t p ds → length ds ≤ t.size
+few_cells : (t : Symbol) (p : Pair) (ds : List ℕ) → AreCells t p ds → length ds ≤ t.size
 few_cells t p ds are =
     let few : length ds ≤ length (chambers t) = length-le_from_partners (λ a b. a ≡ b) ds (chambers t) are.ascending
     (λ a here. (a, chamber_listed t a ((are.members a).0 here).0, refl))
@@ -138,22 +138,14 @@ module _ (edges : List ℕ) (rising : (q r : ℕ) → q < r → r < length edges
         (cases_lt at.place n);
   }
 
-  pub left_none : AreLeftOf edges kinds 0 []
-  left_none = record {
-    many = refl;
-    ascending = λ q r less far. absurd (omega arith);
-    each = λ q far. absurd (omega arith);
-    all = λ d at. let early = at.early in absurd (omega arith);
-  }
-
 -- ## Numbers of vertices
 
-pub all_at : {X : Type 0} (P : X → Type 0) (xs : List X) → AllByRecursion P xs → (k : ℕ) (d : X) → k < length xs → P (get_or xs k d)
+all_at : {X : Type 0} (P : X → Type 0) (xs : List X) → AllByRecursion P xs → (k : ℕ) (d : X) → k < length xs → P (get_or xs k d)
 all_at P [] all k d low = absurd (omega arith)
 all_at P (x ∷ xs) all zero d low = all.0
 all_at P (x ∷ xs) all (suc k) d low = all_at P xs all.1 k d (omega arith)
 
-pub map_at : {X : Type 0} (f : X → ℕ) (xs : List X) (k e : ℕ) (d : X) → k < length xs → get_or (map f xs) k e ≡ f (get_or xs k d)
+map_at : {X : Type 0} (f : X → ℕ) (xs : List X) (k e : ℕ) (d : X) → k < length xs → get_or (map f xs) k e ≡ f (get_or xs k d)
 map_at f [] k e d low = absurd (omega arith)
 map_at f (x ∷ xs) zero e d low = refl
 map_at f (x ∷ xs) (suc k) e d low = map_at f xs k e d (omega arith)

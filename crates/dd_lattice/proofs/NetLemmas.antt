@@ -120,7 +120,7 @@ module _ (t : Symbol) (torus : IsTorus t) (net : Net) (is : IsNet t net) where
   one : IsChamber t 1
   one = (omega arith, torus.symbol.table.chambers)
 
-  pub some_vertex : 1 ≤ net.vertices
+  some_vertex : 1 ≤ net.vertices
   some_vertex =
       let listed = (is.are_vertices.members (root 1)).1 ((has_roots t inv Vertex).are.least 1 one) in
       let low = listed.1 in
@@ -166,7 +166,7 @@ module _ (t : Symbol) (torus : IsTorus t) (net : Net) (is : IsNet t net) where
         let first = first_chamber v inside in
         ap h first.1 ∙ vertices_joined t torus.symbol torus.connected one g of_vertices along (item is.vertices v) first.0
 
-    pub all_joined : (v : ℕ) → IsNetVertex net v → h v ≡ h 1
+    all_joined : (v : ℕ) → IsNetVertex net v → h v ≡ h 1
     all_joined v inside = value v inside ∙ sym (value 1 (omega arith, some_vertex))
 
   vertex_of : (d n : ℕ) → IsVertexNumber t is.vertices d n → IsNetVertex net n

@@ -1,12 +1,15 @@
 -- One coordinate of the shifts is the one choice.
-use Rattle.std.proofs.Common.{◌≡◌, ◌≢◌, ℕ, zero, suc, ◌+◌, ◌*◌, ◌<◌, ◌≤◌, Bool, true, false, cond, eqb, List, length, get_or, ℤ, pos, negsuc, ◌-ℤ◌, refl, sym, ap, ◌∙◌, subst, ⊎_elim, arith}
+use Rattle.std.proofs.Common.{◌≡◌, ◌≢◌, ℕ, zero, suc, ◌+◌, ◌-◌, ◌*◌, ◌<◌, ◌≤◌, Bool, true, false, cond, eqb, List, length, get_or, ℤ, pos, negsuc, ◌-ℤ◌, refl, sym, ap, ◌∙◌, subst, ⊎_elim, arith}
 use Rattle.std.proofs.lemmas.Bool.{cases_lt, cases_eq, cases_Bool, eq-eqb, ne_eqb}
 use Rattle.std.proofs.lemmas.Int.{ints}
+use Rattle.std.proofs.lemmas.List.{ext_get_or}
+use Rattle.std.proofs.lemmas.List.Kept.{AllPairs-from_increasing}
 use borrow.Author.Differences.{up, down}
 use Rattle.dd_model.specs.declared.index.Index.TheVariants.{Zero, Two}
-use Rattle.dd_model.specs.declared.pair.Pair.TheVariants.{Tile, Edge}
-use Rattle.dd_model.specs.Symbol.{Symbol, AreInvolutions, IsChamber, op}
+use Rattle.dd_model.specs.declared.pair.Pair.TheVariants.{Tile, Vertex, Edge}
+use Rattle.dd_model.specs.Symbol.{Symbol, AreInvolutions, IsChamber, item, op}
 use Rattle.dd_model.specs.Cell.{IsLeastOfCell, IsPeriod, AreCells}
+use Rattle.dd_model.proofs.CellLists.{cells_exist, cells_unique}
 use Rattle.dd_model.proofs.Turns.{IsLeastTurns-from_period}
 use Rattle.dd_cells.proofs.CellSums.{has_roots}
 use Rattle.dd_cells.specs.Orientation.{color}
@@ -14,12 +17,16 @@ use Rattle.dd_covers.proofs.Labels.{labels, linked}
 use Rattle.dd_covers.proofs.Nodes.{root_beside}
 use Rattle.dd_covers.specs.Torus.{IsTorus}
 use Rattle.dd_lattice.specs.Edges.{IsOfCells, IsTreeEdge, IsKindOf, AreKindsOf, is_crossing}
-use Rattle.dd_lattice.specs.Shifts.{IsLeftEdge, AreShifts}
+use Rattle.dd_lattice.specs.NetOf.{IsVertexNumber, IsEdgeOf, IsNet}
+use Rattle.dd_lattice.specs.Shifts.{IsLeftEdge, AreLeft, AreShifts}
+use Rattle.dd_lattice.specs.declared.net.Net.{Net}
+use Rattle.dd_lattice.specs.declared.net_edge.NetEdge.{NetEdge}
 use Rattle.dd_lattice.specs.declared.kinds.EdgeKind.{EdgeKind}
 use Rattle.dd_lattice.specs.declared.kinds.EdgeKind.TheVariants.{Tree, Crossing, Left}
 use Rattle.dd_lattice.proofs.Around.{through_edge}
 use Rattle.dd_lattice.proofs.KindCounts.{links, link_listed, fresh_at}
-use Rattle.dd_lattice.proofs.KindLemmas.{listed_edge, same_default}
+use Rattle.dd_lattice.proofs.KindLemmas.{listed_edge, one_least, same_default}
+use Rattle.dd_lattice.proofs.KindsExist.{kinds_exist}
 use Rattle.dd_lattice.proofs.TileFlows.{even_at}
 use Rattle.dd_lattice.proofs.TileSums.{total, total_both, sum_as}
 use Rattle.dd_lattice.proofs.TreeCounts.{crossing_chosen, crossing_not_chosen}
@@ -141,7 +148,7 @@ module _ (t : Symbol) (torus : IsTorus t) (edges : List ℕ) (cells : AreCells t
         (cases_Bool (crossing_at q))
         )
 
-    pub equal_here : x (edge m) ≡ y (edge m)
+    equal_here : x (edge m) ≡ y (edge m)
     equal_here =
         let e = edge m in
         let h = (listed_edge t edges cells m inside).0 in
@@ -163,7 +170,7 @@ module _ (t : Symbol) (torus : IsTorus t) (edges : List ℕ) (cells : AreCells t
       (λ none. told (get_or kinds q Left) (edge q) (listed_edge t edges cells q inside) (are.each q Left inside) none)
       (cases_Bool (crossing_at q))
 
-  pub one_choice : (d : ℕ) → IsChamber t d → x d ≡ y d
+  one_choice : (d : ℕ) → IsChamber t d → x d ≡ y d
   one_choice =
       through_edge t torus.symbol (λ d. x d ≡ y d)
       (λ i d h holds same. ⊎_elim
@@ -173,3 +180,74 @@ module _ (t : Symbol) (torus : IsTorus t) (edges : List ℕ) (cells : AreCells t
       (λ e least.
       let listed = (cells.members e).1 least in
       subst (λ z. x z ≡ y z) (same_default edges listed.0 e listed.1 listed.2) (from_last (length edges) listed.0 (omega arith) listed.1))
+
+-- ## One net
+
+pub one_solution : (t : Symbol) → IsTorus t → (one : ℕ) (x y : ℕ → ℤ) → AreShifts t one x → AreShifts t one y → (d : ℕ) → IsChamber t d → x d ≡ y d
+one_solution t torus one x y sx sy =
+    let inv = torus.symbol.table.involutions in
+    let edges = cells_exist t inv Edge in
+    let kinds = kinds_exist t inv edges.0 edges.1 in
+    one_choice t torus edges.0 edges.1 kinds.0 kinds.1 one x y sx sy
+
+pub one_vertices : (t : Symbol) (net other : Net) → IsNet t net → IsNet t other → net.vertices ≡ other.vertices
+one_vertices t net other is are = is.many_vertices ∙ ap (λ (vs : List ℕ). length vs) (cells_unique t Vertex is.vertices are.vertices is.are_vertices are.are_vertices) ∙ sym are.many_vertices
+
+one_number : (t : Symbol) → AreInvolutions t → (vs : List ℕ) → AreCells t Vertex vs → (d m n : ℕ) → IsChamber t d → IsVertexNumber t vs d m → IsVertexNumber t vs d n → m ≡ n
+one_number t inv vs cells d m n h a b =
+    let same = one_least t inv Vertex d (item vs m) (item vs n) h a.least b.least in
+    let ma = a.positive in
+    let mb = a.within in
+    let na = b.positive in
+    let nb = b.within in
+    ⊎_elim
+    (λ e. e)
+    (λ off. ⊎_elim
+    (λ less. let far = AllPairs-from_increasing vs cells.ascending (m - 1) (n - 1) 0 (omega arith) (omega arith) in absurd (omega arith))
+    (λ rest. let far = AllPairs-from_increasing vs cells.ascending (n - 1) (m - 1) 0 (omega arith) (omega arith) in absurd (omega arith))
+    (cases_lt m n))
+    (cases_eq m n)
+
+-- the two that are left are the first two of such
+one_left : (t : Symbol) (a b c d : ℕ) → AreLeft t a b → AreLeft t c d → (a ≡ c) × (b ≡ d)
+one_left t a b c d ab cd =
+    let low = ab.apart in
+    let high = cd.apart in
+    let first = cd.only a ab.first in
+    let second = cd.only b ab.second in
+    let back_ = ab.only c cd.first in
+    let over = ab.only d cd.second in (
+      ⊎_elim (λ e. e) (λ ad. ⊎_elim (λ bc. absurd (omega arith)) (λ bd. absurd (omega arith)) second) first,
+      ⊎_elim (λ bc. ⊎_elim (λ ac. absurd (omega arith)) (λ ad. absurd (omega arith)) first) (λ e. e) second,
+    )
+
+same_edge : (e f : NetEdge) → e.from ≡ f.from → e.to ≡ f.to → e.x ≡ f.x → e.y ≡ f.y → e ≡ f
+same_edge e f from to x y = λ i. record { from = from i; to = to i; x = x i; y = y i }
+
+pub one_net : (t : Symbol) (net other : Net) → IsTorus t → IsNet t net → IsNet t other → net.edges.items ≡ other.edges.items
+one_net t net other torus is are =
+    let inv = torus.symbol.table.involutions in
+    let edges = cells_unique t Edge is.edges are.edges is.are_edges are.are_edges in
+    let vertices = cells_unique t Vertex is.vertices are.vertices is.are_vertices are.are_vertices in
+    let left = one_left t is.one is.two are.one are.two is.are_left are.are_left in
+    let many = is.many_edges in
+    let size = is.many_edges ∙ ap (λ (es : List ℕ). length es) edges ∙ sym are.many_edges in
+    ext_get_or none net.edges.items other.edges.items size (λ k low.
+    let inside : k < length is.edges = omega arith in
+    let there : k < length are.edges = let e = ap (λ (es : List ℕ). length es) edges in omega arith in
+    let d = get_or is.edges k 0 in
+    let same : get_or are.edges k 0 ≡ d = ap (λ es. get_or es k 0) (sym edges) in
+    let h = (listed_edge t is.edges is.are_edges k inside).0 in
+    let a = is.each k none inside in
+    let b : IsEdgeOf t is.vertices are.first are.second d (get_or other.edges.items k none) =
+    subst (λ vs. IsEdgeOf t vs are.first are.second d (get_or other.edges.items k none)) (sym vertices) (subst (λ c. IsEdgeOf t are.vertices are.first are.second c (get_or other.edges.items k none)) same (are.each k none there)) in
+    let x = one_solution t torus is.one is.first are.first is.are_first (subst (λ z. AreShifts t z are.first) (sym left.0) are.are_first) d h in
+    let y = one_solution t torus is.two is.second are.second is.are_second (subst (λ z. AreShifts t z are.second) (sym left.1) are.are_second) d h in
+    same_edge (get_or net.edges.items k none) (get_or other.edges.items k none)
+    (one_number t inv is.vertices is.are_vertices d (get_or net.edges.items k none).from (get_or other.edges.items k none).from h a.from b.from)
+    (one_number t inv is.vertices is.are_vertices (op t Zero d) (get_or net.edges.items k none).to (get_or other.edges.items k none).to ((inv Zero).within d h) a.to b.to)
+    (a.x ∙ x ∙ sym b.x)
+    (a.y ∙ y ∙ sym b.y))
+  where
+    none : NetEdge
+    none = record { from = 0; to = 0; x = pos 0; y = pos 0 }

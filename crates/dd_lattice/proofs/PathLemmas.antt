@@ -19,7 +19,7 @@ use Rattle.dd_lattice.proofs.TileSums.{one}
 
 -- ## What is reached
 
-pub reached_later : (first : ℕ) (steps : List Step) (j k d : ℕ) → j ≤ k → IsReached first steps j d → IsReached first steps k d
+reached_later : (first : ℕ) (steps : List Step) (j k d : ℕ) → j ≤ k → IsReached first steps j d → IsReached first steps k d
 reached_later first steps j k d less reached =
     ⊎_elim
     (λ own. inl own)
@@ -27,7 +27,7 @@ reached_later first steps j k d less reached =
     reached
 
 -- by the last of some steps, or by those before
-pub last_or_before : (first : ℕ) (steps : List Step) (m d : ℕ) (x : Step) → get_or steps m x ≡ x → IsReached first steps (m + 1) d → (x.to ≡ d) ⊎ IsReached first steps m d
+last_or_before : (first : ℕ) (steps : List Step) (m d : ℕ) (x : Step) → get_or steps m x ≡ x → IsReached first steps (m + 1) d → (x.to ≡ d) ⊎ IsReached first steps m d
 last_or_before first steps m d x at reached =
     ⊎_elim
     (λ own. inr (inl own))
@@ -62,13 +62,13 @@ pub record IsPassed (t : Symbol) (first : ℕ) (steps : List Step) (m d : ℕ) :
   pub crossing : IsCrossingAt t d
 
 -- The path has come back by all steps but the first m of them.
-pub record IsOnWay (t : Symbol) (first : ℕ) (steps : List Step) (root : ℕ → ℕ) (m : ℕ) (leaves : List Bool) (place : ℕ) : Type 0 where
-  pub whole : length leaves ≡ t.size
+pub record IsOnWay (t : Symbol) (first : ℕ) (steps : List Step) (root : ℕ → ℕ) (m : ℕ) (exits : List Bool) (place : ℕ) : Type 0 where
+  pub whole : length exits ≡ t.size
   pub chamber : IsChamber t place
   pub reached : IsReached first steps m place
-  pub own : flag leaves first ≡ true
-  pub passed : (d : ℕ) → IsChamber t d → flag leaves d ≡ true → (d ≡ first) ⊎ IsPassed t first steps m d
-  pub balance : (d r : ℕ) → IsChamber t d → IsPeriod t Tile d r → out_of t leaves d r + one (root d) (root place) ≡ into t leaves d r + one (root d) (root first)
+  pub own : flag exits first ≡ true
+  pub passed : (d : ℕ) → IsChamber t d → flag exits d ≡ true → (d ≡ first) ⊎ IsPassed t first steps m d
+  pub balance : (d r : ℕ) → IsChamber t d → IsPeriod t Tile d r → out_of t exits d r + one (root d) (root place) ≡ into t exits d r + one (root d) (root first)
 
 passed_before : (t : Symbol) (first : ℕ) (steps : List Step) (m n d : ℕ) → m ≤ n → (d ≡ first) ⊎ IsPassed t first steps n d → (d ≡ first) ⊎ IsPassed t first steps m d
 passed_before t first steps m n d less passed =
@@ -92,7 +92,7 @@ module _ (t : Symbol) (symbol : IsSymbol t) (color : ℕ → Bool) (exchanged : 
       (λ comes. ap root comes ∙ zero_ (op t One d) ((inv One).within d h) ∙ one_ d h)
       leads
 
-  module _ (m : ℕ) (inside : m < length steps) (leaves : List Bool) (place : ℕ) (way : IsOnWay t first steps root (m + 1) leaves place) (x : Step) (at : get_or steps m x ≡ x) where
+  module _ (m : ℕ) (inside : m < length steps) (exits : List Bool) (place : ℕ) (way : IsOnWay t first steps root (m + 1) exits place) (x : Step) (at : get_or steps m x ≡ x) where
     is : IsStep t x
     is = subst (IsStep t) at (tree.each m x inside)
 
@@ -102,7 +102,7 @@ module _ (t : Symbol) (symbol : IsSymbol t) (color : ℕ → Bool) (exchanged : 
     new : IsReached first steps m x.to → ⊥
     new reached = tree.new m x inside (subst (λ (y : Step). IsReached first steps m y.to) (sym at) reached)
 
-    elsewhere : x.to ≢ place → IsOnWay t first steps root m leaves place
+    elsewhere : x.to ≢ place → IsOnWay t first steps root m exits place
     elsewhere other = record {
       whole = way.whole;
       chamber = way.chamber;
@@ -116,7 +116,7 @@ module _ (t : Symbol) (symbol : IsSymbol t) (color : ℕ → Bool) (exchanged : 
     no_both true yes_ no_ = cc
     no_both false yes_ no_ = cc
 
-    round : x.to ≡ place → x.crosses ≡ false → IsOnWay t first steps root m leaves x.from
+    round : x.to ≡ place → x.crosses ≡ false → IsOnWay t first steps root m exits x.from
     round here stays =
         ⊎_elim
         (λ (step : IsStepRound t x).
@@ -127,32 +127,32 @@ module _ (t : Symbol) (symbol : IsSymbol t) (color : ℕ → Bool) (exchanged : 
           reached = from;
           own = way.own;
           passed = λ d h yes_. passed_before t first steps m (m + 1) d (omega arith) (way.passed d h yes_);
-          balance = λ d r h period. ap (λ z. out_of t leaves d r + one (root d) z) (sym same) ∙ way.balance d r h period;
+          balance = λ d r h period. ap (λ z. out_of t exits d r + one (root d) z) (sym same) ∙ way.balance d r h period;
         })
         (λ (step : IsStepAcross t x). absurd (no_both x.crosses step.crosses stays))
         is.either
 
-    over : x.to ≡ place → x.crosses ≡ true → IsOnWay t first steps root m (set leaves (place - 1) true) x.from
+    over : x.to ≡ place → x.crosses ≡ true → IsOnWay t first steps root m (set exits (place - 1) true) x.from
     over here crosses =
         ⊎_elim
         (λ (step : IsStepRound t x). absurd (no_both x.crosses crosses step.stays))
         (λ (step : IsStepAcross t x).
         let there : x.from ≡ across t place = sym (across_back t symbol x.from is.chamber) ∙ ap (across t) (sym step.leads ∙ here) in
-        let unmarked : flag leaves place ≡ false = ⊎_elim
+        let unmarked : flag exits place ≡ false = ⊎_elim
         (λ yes_. ⊎_elim
         (λ own. absurd (new (inl (here ∙ own))))
         (λ p. absurd (p.later way.reached))
         (way.passed place way.chamber yes_))
         (λ no_. no_)
-        (cases_Bool (flag leaves place)) in
+        (cases_Bool (flag exits place)) in
         let unreached : IsReached first steps m place → ⊥ = λ reached. new (subst (IsReached first steps m) (sym here) reached) in
         record {
-          whole = length-set leaves (place - 1) true ∙ way.whole;
+          whole = length-set exits (place - 1) true ∙ way.whole;
           chamber = is.chamber;
           reached = from;
           own = ⊎_elim
               (λ same. absurd (unreached (inl (sym same))))
-              (λ off. flag_there t leaves way.whole place way.chamber unmarked first tree.chamber off ∙ way.own)
+              (λ off. flag_there t exits way.whole place way.chamber unmarked first tree.chamber off ∙ way.own)
               (cases_eq first place);
           passed = λ d h yes_. ⊎_elim
               (λ same. inr (record {
@@ -160,24 +160,24 @@ module _ (t : Symbol) (symbol : IsSymbol t) (color : ℕ → Bool) (exchanged : 
                 reached = reached_later first steps (m + 1) (length steps) d (omega arith) (subst (IsReached first steps (m + 1)) (sym same) way.reached);
                 crossing = subst (IsCrossingAt t) (sym same) (crossing_in_cell t inv x.from place (subst (InCell t Edge x.from) (sym step.leads ∙ here) (across_cell t x.from)) step.crossing);
               }))
-              (λ off. passed_before t first steps m (m + 1) d (omega arith) (way.passed d h (sym (flag_there t leaves way.whole place way.chamber unmarked d h off) ∙ yes_)))
+              (λ off. passed_before t first steps m (m + 1) d (omega arith) (way.passed d h (sym (flag_there t exits way.whole place way.chamber unmarked d h off) ∙ yes_)))
               (cases_eq d place);
           balance = λ d r h period.
               let old = way.balance d r h period in
-              let a = out_more t leaves way.whole place way.chamber unmarked symbol color exchanged root roots d r h period in
-              let b = into_more t leaves way.whole place way.chamber unmarked symbol color exchanged root roots d r h period in
+              let a = out_more t exits way.whole place way.chamber unmarked symbol color exchanged root roots d r h period in
+              let b = into_more t exits way.whole place way.chamber unmarked symbol color exchanged root roots d r h period in
               let c = ap (λ z. one (root d) (root z)) there in
               omega arith;
         })
         is.either
 
-    pub way_back : (leaves' : List Bool) (place' : ℕ) → IsBack x place place' leaves leaves' → IsOnWay t first steps root m leaves' place'
-    way_back leaves' place' went =
+    pub way_back : (exits' : List Bool) (place' : ℕ) → IsBack x place place' exits exits' → IsOnWay t first steps root m exits' place'
+    way_back exits' place' went =
         ⊎_elim
-        (λ (w : IsElsewhere x place place' leaves leaves'). subst (λ xs. IsOnWay t first steps root m xs place') (sym w.same) (subst (IsOnWay t first steps root m leaves) (sym w.stays) (elsewhere w.other)))
+        (λ (w : IsElsewhere x place place' exits exits'). subst (λ xs. IsOnWay t first steps root m xs place') (sym w.same) (subst (IsOnWay t first steps root m exits) (sym w.stays) (elsewhere w.other)))
         (λ rest. ⊎_elim
-        (λ (w : IsBackRound x place place' leaves leaves'). subst (λ xs. IsOnWay t first steps root m xs place') (sym w.same) (subst (IsOnWay t first steps root m leaves) (sym w.goes) (round w.here w.round)))
-        (λ (w : IsBackAcross x place place' leaves leaves').
-        subst (λ xs. IsOnWay t first steps root m xs place') (sym w.marked) (subst (IsOnWay t first steps root m (set leaves (place - 1) true)) (sym w.goes) (over w.here w.over)))
+        (λ (w : IsBackRound x place place' exits exits'). subst (λ xs. IsOnWay t first steps root m xs place') (sym w.same) (subst (IsOnWay t first steps root m exits) (sym w.goes) (round w.here w.round)))
+        (λ (w : IsBackAcross x place place' exits exits').
+        subst (λ xs. IsOnWay t first steps root m xs place') (sym w.marked) (subst (IsOnWay t first steps root m (set exits (place - 1) true)) (sym w.goes) (over w.here w.over)))
         rest)
         went

@@ -16,37 +16,37 @@ use Rattle.dd_lattice.proofs.TileSums.{one, one_same, one_at, one_off, total, to
 
 -- how often a path goes out of the tile of d, and how often into it
 abbrev pub out_of : Symbol → List Bool → ℕ → ℕ → ℕ
-out_of t leaves d r = total t (λ c. mark leaves c + mark leaves (op t Zero c)) d r
+out_of t exits d r = total t (λ c. mark exits c + mark exits (op t Zero c)) d r
 
 abbrev pub into : Symbol → List Bool → ℕ → ℕ → ℕ
-into t leaves d r = total t (λ c. mark leaves (op t Two c) + mark leaves (op t Zero (op t Two c))) d r
+into t exits d r = total t (λ c. mark exits (op t Two c) + mark exits (op t Zero (op t Two c))) d r
 
-pub mark_at : (leaves : List Bool) (d : ℕ) → flag leaves d ≡ true → mark leaves d ≡ 1
-mark_at leaves d e = ap (λ b. cond b 1 0) e
+pub mark_at : (exits : List Bool) (d : ℕ) → flag exits d ≡ true → mark exits d ≡ 1
+mark_at exits d e = ap (λ b. cond b 1 0) e
 
-pub mark_off : (leaves : List Bool) (d : ℕ) → flag leaves d ≡ false → mark leaves d ≡ 0
-mark_off leaves d e = ap (λ b. cond b 1 0) e
+pub mark_off : (exits : List Bool) (d : ℕ) → flag exits d ≡ false → mark exits d ≡ 0
+mark_off exits d e = ap (λ b. cond b 1 0) e
 
-module _ (t : Symbol) (leaves : List Bool) (whole : length leaves ≡ t.size) (c : ℕ) (hc : IsChamber t c) (none : flag leaves c ≡ false) where
+module _ (t : Symbol) (exits : List Bool) (whole : length exits ≡ t.size) (c : ℕ) (hc : IsChamber t c) (none : flag exits c ≡ false) where
   abbrev more : List Bool
-  more = set leaves (c - 1) true
+  more = set exits (c - 1) true
 
   pub flag_here : flag more c ≡ true
-  flag_here = get_or-set_same leaves (c - 1) true false (let h = hc.0 in let g = hc.1 in omega arith)
+  flag_here = get_or-set_same exits (c - 1) true false (let h = hc.0 in let g = hc.1 in omega arith)
 
-  pub flag_there : (d : ℕ) → IsChamber t d → d ≢ c → flag more d ≡ flag leaves d
-  flag_there d h off = let a = h.0 in let b = hc.0 in get_or-set_other leaves (c - 1) (d - 1) true false (λ e. off (omega arith))
+  pub flag_there : (d : ℕ) → IsChamber t d → d ≢ c → flag more d ≡ flag exits d
+  flag_there d h off = let a = h.0 in let b = hc.0 in get_or-set_other exits (c - 1) (d - 1) true false (λ e. off (omega arith))
 
-  mark_more : (d : ℕ) → IsChamber t d → mark more d ≡ mark leaves d + one d c
+  mark_more : (d : ℕ) → IsChamber t d → mark more d ≡ mark exits d + one d c
   mark_more d h =
       ⊎_elim
       (λ e.
       let now = mark_at more d (ap (flag more) e ∙ flag_here) in
-      let old = mark_off leaves d (ap (flag leaves) e ∙ none) in
+      let old = mark_off exits d (ap (flag exits) e ∙ none) in
       let hit = one_at d c e in
       omega arith)
       (λ off.
-      let now : mark more d ≡ mark leaves d = ap (λ b. cond b 1 0) (flag_there d h off) in
+      let now : mark more d ≡ mark exits d = ap (λ b. cond b 1 0) (flag_there d h off) in
       let miss = one_off d c off in
       omega arith)
       (cases_eq d c)
@@ -62,13 +62,13 @@ module _ (t : Symbol) (leaves : List Bool) (whole : length leaves ≡ t.size) (c
     here : (j : ℕ) → IsChamber t (walk j)
     here j = turned_within t inv Tile j d hd
 
-    pub out_more : out_of t more d r ≡ out_of t leaves d r + one (root d) (root c)
+    pub out_more : out_of t more d r ≡ out_of t exits d r + one (root d) (root c)
     out_more =
-        let each : (j : ℕ) → mark more (walk j) + mark more (op t Zero (walk j)) ≡ (mark leaves (walk j) + mark leaves (op t Zero (walk j))) + (one (walk j) c + one (op t Zero (walk j)) c) =
+        let each : (j : ℕ) → mark more (walk j) + mark more (op t Zero (walk j)) ≡ (mark exits (walk j) + mark exits (op t Zero (walk j))) + (one (walk j) c + one (op t Zero (walk j)) c) =
         λ j. let a = mark_more (walk j) (here j) in let b = mark_more (op t Zero (walk j)) ((inv Zero).within (walk j) (here j)) in omega arith in
-        total_same t (λ x. mark more x + mark more (op t Zero x)) (λ x. (mark leaves x + mark leaves (op t Zero x)) + (one x c + one (op t Zero x) c)) d r each
-        ∙ total_both t (λ x. mark leaves x + mark leaves (op t Zero x)) (λ x. one x c + one (op t Zero x) c) d r
-        ∙ ap (λ n. out_of t leaves d r + n) (hits_total t inv color exchanged root roots d c r hd hc period)
+        total_same t (λ x. mark more x + mark more (op t Zero x)) (λ x. (mark exits x + mark exits (op t Zero x)) + (one x c + one (op t Zero x) c)) d r each
+        ∙ total_both t (λ x. mark exits x + mark exits (op t Zero x)) (λ x. one x c + one (op t Zero x) c) d r
+        ∙ ap (λ n. out_of t exits d r + n) (hits_total t inv color exchanged root roots d c r hd hc period)
 
     abbrev beyond : ℕ
     beyond = across t c
@@ -93,9 +93,9 @@ module _ (t : Symbol) (leaves : List Bool) (whole : length leaves ≡ t.size) (c
         sym ((inv Two).involutive x h) ∙ ap (op t Two) up ∙ commute t symbol c hc)
         (λ e. ap (λ z. op t Zero (op t Two z)) (e ∙ sym (commute t symbol c hc)) ∙ ap (op t Zero) ((inv Two).involutive (op t Zero c) ((inv Zero).within c hc)) ∙ (inv Zero).involutive c hc)
 
-    pub into_more : into t more d r ≡ into t leaves d r + one (root d) (root beyond)
+    pub into_more : into t more d r ≡ into t exits d r + one (root d) (root beyond)
     into_more =
-        let each : (j : ℕ) → mark more (op t Two (walk j)) + mark more (op t Zero (op t Two (walk j))) ≡ (mark leaves (op t Two (walk j)) + mark leaves (op t Zero (op t Two (walk j)))) + (one (walk j) beyond + one (op t Zero (walk j)) beyond) =
+        let each : (j : ℕ) → mark more (op t Two (walk j)) + mark more (op t Zero (op t Two (walk j))) ≡ (mark exits (op t Two (walk j)) + mark exits (op t Zero (op t Two (walk j)))) + (one (walk j) beyond + one (op t Zero (walk j)) beyond) =
         λ j.
         let h2 = (inv Two).within (walk j) (here j) in
         let a = mark_more (op t Two (walk j)) h2 in
@@ -103,6 +103,6 @@ module _ (t : Symbol) (leaves : List Bool) (whole : length leaves ≡ t.size) (c
         let x = first_hit (walk j) (here j) in
         let y = second_hit (walk j) (here j) in
         omega arith in
-        total_same t (λ x. mark more (op t Two x) + mark more (op t Zero (op t Two x))) (λ x. (mark leaves (op t Two x) + mark leaves (op t Zero (op t Two x))) + (one x beyond + one (op t Zero x) beyond)) d r each
-        ∙ total_both t (λ x. mark leaves (op t Two x) + mark leaves (op t Zero (op t Two x))) (λ x. one x beyond + one (op t Zero x) beyond) d r
-        ∙ ap (λ n. into t leaves d r + n) (hits_total t inv color exchanged root roots d beyond r hd hb period)
+        total_same t (λ x. mark more (op t Two x) + mark more (op t Zero (op t Two x))) (λ x. (mark exits (op t Two x) + mark exits (op t Zero (op t Two x))) + (one x beyond + one (op t Zero x) beyond)) d r each
+        ∙ total_both t (λ x. mark exits (op t Two x) + mark exits (op t Zero (op t Two x))) (λ x. one x beyond + one (op t Zero x) beyond) d r
+        ∙ ap (λ n. into t exits d r + n) (hits_total t inv color exchanged root roots d beyond r hd hb period)

@@ -48,7 +48,7 @@ pub total_none : (t : Symbol) (f : ℕ → ℕ) (d n : ℕ) → ((j : ℕ) → j
 total_none t f d zero none = refl
 total_none t f d (suc n) none = let rest = total_none t f d n (λ j low. none j (omega arith)) in let last = none n (omega arith) in omega arith
 
-pub total_one : (t : Symbol) (f : ℕ → ℕ) (d n m : ℕ) → m < n → f (turned t Tile m d) ≡ 1 → ((j : ℕ) → j < n → j ≢ m → f (turned t Tile j d) ≡ 0) → total t f d n ≡ 1
+total_one : (t : Symbol) (f : ℕ → ℕ) (d n m : ℕ) → m < n → f (turned t Tile m d) ≡ 1 → ((j : ℕ) → j < n → j ≢ m → f (turned t Tile j d) ≡ 0) → total t f d n ≡ 1
 total_one t f d zero m low at others = absurd (omega arith)
 total_one t f d (suc n) m low at others =
     ⊎_elim
@@ -85,7 +85,7 @@ module _ (t : Symbol) (inv : AreInvolutions t) (color : ℕ → Bool) (exchanged
       let ht = turned_within t inv Tile j d h in
       ap color (turned-last t Tile j d) ∙ exchanged One (op t Zero at) ((inv Zero).within at ht) ∙ ap not (exchanged Zero at ht) ∙ not_not (color at) ∙ turned_color d h j
 
-  pub root_same : (d e : ℕ) → IsChamber t d → IsChamber t e → InCell t Tile d e → root d ≡ root e
+  root_same : (d e : ℕ) → IsChamber t d → IsChamber t e → InCell t Tile d e → root d ≡ root e
   root_same d e hd he near =
       least_of_cell_unique t inv Tile (root d) (root e) (roots.least d hd) (roots.least e he)
       (in_cell-trans t Tile (root d) e (root e) (in_cell-trans t Tile (root d) d e (in_cell-sym t inv Tile d (root d) hd (roots.in_cell d hd)) near) (roots.in_cell e he))

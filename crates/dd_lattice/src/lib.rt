@@ -15,7 +15,7 @@ mod step;
 
 pub use frame::Frame;
 pub use kinds::{EdgeKind, edge_kinds};
-pub use laws::{shifts_are_the_one_choice, two_edges_of_a_torus_are_left};
+pub use laws::{a_torus_has_one_net, shifts_are_the_one_choice, two_edges_of_a_torus_are_left};
 pub use net::Net;
 pub use net_edge::NetEdge;
 pub use net_shifts::shifts;

@@ -1,6 +1,7 @@
 ghost use Rattle.std.specs.Prelude.{◌≡◌, ℕ, ◌<◌, List, length, slice_index, slice_index_or, IfOk};
 ghost use Rattle.dd_model.specs.Cell.{AreCells};
 ghost use Rattle.dd_model.specs.Symbol.{IsChamber, op, item};
+ghost use Rattle.dd_model.specs.Small.{IsSmallSymbol};
 ghost use Rattle.dd_model.specs.declared.index.Index.TheVariants.{Zero};
 ghost use Rattle.dd_model.specs.declared.pair.Pair.TheVariants.{Vertex, Edge};
 ghost use Rattle.dd_cells.specs.Cells.{AreCellsOf};
@@ -20,7 +21,7 @@ use crate::net_edge::NetEdge;
 use crate::paths::Path;
 use dd_cells::{Cell, cells};
 use dd_model::{Index, Memory, Pair};
-use dd_symbol::{Connected, item};
+use dd_symbol::{Connected, Symbol, item};
 use std::alloc::Global;
 
 /// The path over the tiles that crosses an edge that is left, and comes back across crossing edges.
@@ -37,8 +38,8 @@ fn closed_path(
     requires kinds { AreKindsOf t.now edges.now kinds.now }
     requires left { IsLeftEdge t.now first }
     ensures shifts { IfOk result (λ path. AreShifts t.now first
-        (shift_by t.now path.leaves.items)) }
-    ensures whole { IfOk result (λ path. length path.leaves.items ≡ t.now.size) }
+        (shift_by t.now path.exits.items)) }
+    ensures whole { IfOk result (λ path. length path.exits.items ≡ t.now.size) }
 {
     let crossing = crossing_edges(alloc, t, edges, kinds)?;
     let steps = steps_from(alloc, t.symbol(), &crossing, first)?;
@@ -46,17 +47,16 @@ fn closed_path(
 }
 
 /// The edge of a chamber, with the crossings of two paths for its shift.
-fn net_edge(t: &Connected, numbers: &[u32], first: &Path, second: &Path, chamber: u32) -> NetEdge
-    requires chamber { IsChamber t.now chamber }
-    requires numbers { length numbers.now ≡ t.now.size }
-    requires first { length first.now.leaves.items ≡ t.now.size }
-    requires second { length second.now.leaves.items ≡ t.now.size }
+fn net_edge(symbol: &Symbol, numbers: &[u32], first: &Path, second: &Path, chamber: u32) -> NetEdge
+    requires chamber { IsChamber symbol.now chamber }
+    requires numbers { length numbers.now ≡ symbol.now.size }
+    requires first { length first.now.exits.items ≡ symbol.now.size }
+    requires second { length second.now.exits.items ≡ symbol.now.size }
     ensures from { result.from ≡ item numbers.now chamber }
-    ensures to { result.to ≡ item numbers.now (op t.now Zero chamber) }
-    ensures x { result.x ≡ shift_by t.now first.now.leaves.items chamber }
-    ensures y { result.y ≡ shift_by t.now second.now.leaves.items chamber }
+    ensures to { result.to ≡ item numbers.now (op symbol.now Zero chamber) }
+    ensures x { result.x ≡ shift_by symbol.now first.now.exits.items chamber }
+    ensures y { result.y ≡ shift_by symbol.now second.now.exits.items chamber }
 {
-    let symbol = t.symbol();
     NetEdge {
         from: item(numbers, chamber),
         to: item(numbers, symbol.op(Index::Zero, chamber)),
@@ -68,27 +68,27 @@ fn net_edge(t: &Connected, numbers: &[u32], first: &Path, second: &Path, chamber
 /// The edges of a net, with the crossings of two paths for their shifts.
 fn net_edges(
     alloc: Global,
-    t: &Connected,
+    symbol: &Symbol,
     numbers: &[u32],
     first: &Path,
     second: &Path,
     edges: &[u32],
 ) -> Result<Vec<NetEdge>, Memory>
-    requires edges { AreCells t.now Edge edges.now }
-    requires numbers { length numbers.now ≡ t.now.size }
-    requires first { length first.now.leaves.items ≡ t.now.size }
-    requires second { length second.now.leaves.items ≡ t.now.size }
+    requires symbol { IsSmallSymbol symbol.now }
+    requires edges { AreCells symbol.now Edge edges.now }
+    requires numbers { length numbers.now ≡ symbol.now.size }
+    requires first { length first.now.exits.items ≡ symbol.now.size }
+    requires second { length second.now.exits.items ≡ symbol.now.size }
     ensures many { IfOk result (λ all. length all.items ≡ length edges.now) }
     ensures each { IfOk result (λ all. (vertices : List ℕ) (k : ℕ) (e : NetEdge)
-        → AreVertexNumbers t.now vertices numbers.now → k < length edges.now
-        → IsEdgeOf t.now vertices (shift_by t.now first.now.leaves.items)
-        (shift_by t.now second.now.leaves.items) (slice_index edges.now k)
+        → AreVertexNumbers symbol.now vertices numbers.now → k < length edges.now
+        → IsEdgeOf symbol.now vertices (shift_by symbol.now first.now.exits.items)
+        (shift_by symbol.now second.now.exits.items) (slice_index edges.now k)
         (slice_index_or all.items k e)) }
 {
-    let _symbol = t.symbol();
     let mut all = Vec::with_capacity(alloc, edges.len())?;
     for k in 0..edges.len() {
-        all.push(net_edge(t, numbers, first, second, edges[k]))?;
+        all.push(net_edge(symbol, numbers, first, second, edges[k]))?;
     }
     Ok(all)
 }
@@ -107,14 +107,14 @@ fn net_of(
     requires kinds { AreKindsOf t.now edges.now kinds.now }
     ensures { IfOk result (λ net. IsNet t.now net) }
 {
-    let _symbol = t.symbol();
+    let symbol = t.symbol();
     let left = left_edges(alloc, edges, kinds)?;
     let first = closed_path(alloc, t, edges, kinds, left[0])?;
     let second = closed_path(alloc, t, edges, kinds, left[1])?;
     let numbers = vertex_numbers(alloc, t, vertices)?;
     Ok(Net {
         vertices: vertices.len() as u32,
-        edges: net_edges(alloc, t, &numbers, &first, &second, edges)?,
+        edges: net_edges(alloc, symbol, &numbers, &first, &second, edges)?,
     })
 }
 
@@ -127,6 +127,5 @@ pub fn shifts(alloc: Global, t: &Connected) -> Result<Net, Memory>
     let vertices = cells(alloc, t, Pair::Vertex)?;
     let edges = t.symbol().least_chambers(alloc, Pair::Edge)?;
     let kinds = edge_kinds(alloc, t, &edges)?;
-    let net = net_of(alloc, t, &vertices, &edges, &kinds)?;
-    Ok(net)
+    net_of(alloc, t, &vertices, &edges, &kinds)
 }

@@ -12,16 +12,16 @@ use std::alloc::Global;
 
 /// Goes a step back where it led to the place of a path, and answers the new place. Where it
 /// crossed an edge, the path leaves the tile across this.
-fn back(leaves: &mut Vec<bool>, place: u32, step: Step) -> u32
+fn back(exits: &mut Vec<bool>, place: u32, step: Step) -> u32
     requires low { 1 ≤ place }
-    requires high { place ≤ length leaves.old.items }
-    ensures { IsBack step place result leaves.old.items leaves.new.items }
+    requires high { place ≤ length exits.old.items }
+    ensures { IsBack step place result exits.old.items exits.new.items }
 {
     if step.to != place {
         return place;
     }
     if step.crosses {
-        leaves[place as usize - 1] = true;
+        exits[place as usize - 1] = true;
     }
     step.from
 }
@@ -30,7 +30,7 @@ fn back(leaves: &mut Vec<bool>, place: u32, step: Step) -> u32
 #[derive(Drop)]
 pub(crate) struct Path {
     /// Whether the path leaves the tile of a chamber across the edge of the chamber.
-    pub leaves: Vec<bool>,
+    pub exits: Vec<bool>,
 }
 
 impl Path {
@@ -46,26 +46,26 @@ impl Path {
         requires tree { IsTree t.now first steps.now }
         requires reached { IsReached first steps.now (length steps.now) (across t.now first) }
         ensures shifts { IfOk result (λ path. AreShifts t.now first
-            (shift_by t.now path.leaves.items)) }
-        ensures whole { IfOk result (λ path. length path.leaves.items ≡ t.now.size) }
+            (shift_by t.now path.exits.items)) }
+        ensures whole { IfOk result (λ path. length path.exits.items ≡ t.now.size) }
     {
         let symbol = t.symbol();
-        let mut leaves = vec![in alloc; false; symbol.size() as usize]?;
-        leaves[first as usize - 1] = true;
+        let mut exits = vec![in alloc; false; symbol.size() as usize]?;
+        exits[first as usize - 1] = true;
         let mut place = symbol.op(Index::Zero, symbol.op(Index::Two, first));
         for k in 0..steps.len() {
-            place = back(&mut leaves, place, steps[steps.len() - 1 - k]);
+            place = back(&mut exits, place, steps[steps.len() - 1 - k]);
         }
-        Ok(Path { leaves })
+        Ok(Path { exits })
     }
 
     /// 1 where the path leaves the tile of a chamber across its edge.
     fn mark(&self, chamber: u32) -> i64
         requires low { 1 ≤ chamber }
-        requires high { chamber ≤ length self.now.leaves.items }
-        ensures { result ≡ pos (mark self.now.leaves.items chamber) }
+        requires high { chamber ≤ length self.now.exits.items }
+        ensures { result ≡ pos (mark self.now.exits.items chamber) }
     {
-        if self.leaves[chamber as usize - 1] {
+        if self.exits[chamber as usize - 1] {
             1
         } else {
             0
@@ -75,8 +75,8 @@ impl Path {
     /// The shift of the edge of a chamber, away from the chamber's vertex.
     pub(crate) fn shift(&self, symbol: &Symbol, chamber: u32) -> i64
         requires chamber { IsChamber symbol.now chamber }
-        requires whole { length self.now.leaves.items ≡ symbol.now.size }
-        ensures { result ≡ shift_by symbol.now self.now.leaves.items chamber }
+        requires whole { length self.now.exits.items ≡ symbol.now.size }
+        ensures { result ≡ shift_by symbol.now self.now.exits.items chamber }
     {
         let beyond = symbol.op(Index::Two, chamber);
         let out = self.mark(chamber) + self.mark(beyond);

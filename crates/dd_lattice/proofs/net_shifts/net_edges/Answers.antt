@@ -8,18 +8,18 @@ use Rattle.dd_lattice.proofs.NetLemmas.{edge_of}
 use Rattle.dd_lattice.proofs.net_shifts.net_edges.Goals as goal
 
 pub net_edge-requires-clause-chamber : goal.net_edge-requires-clause-chamber
-net_edge-requires-clause-chamber c = (listed_edge c.args.t.now c.args.edges.now c.requires.edges c.loop-k.k c.loop-k-test.true).0
+net_edge-requires-clause-chamber c = (listed_edge c.args.symbol.now c.args.edges.now c.requires.edges c.loop-k.k c.loop-k-test.true).0
 
 pub loop-k-preserved : goal.loop-k-preserved
 loop-k-preserved c =
-    let t = c.args.t.now in
+    let t = c.args.symbol.now in
     let k = c.loop-k.k in
     let old = c.loop-k.all.items in
     let edge = c.net_edge.result in
     let many = c.loop-k.invariant.many in
     let items = c.in_ok-push.ensures.items in
-    let x = shift_by t c.args.first.now.leaves.items in
-    let y = shift_by t c.args.second.now.leaves.items in
+    let x = shift_by t c.args.first.now.exits.items in
+    let y = shift_by t c.args.second.now.exits.items in
     let told = c.net_edge.ensures in
     record {
       many = ap length items ∙ length_push old edge ∙ ap (λ n. n + 1) many;
@@ -31,7 +31,7 @@ loop-k-preserved c =
           let at : j ≡ k = omega arith in
           subst (λ n. IsEdgeOf t vertices x y (get_or c.args.edges.now n 0) (get_or c.push.new.self.items j e)) (sym at)
           (subst (IsEdgeOf t vertices x y (get_or c.args.edges.now k 0)) (sym (ap (λ xs. get_or xs j e) items ∙ get_or_push old edge e j (omega arith)))
-          (edge_of t c.symbol-symbol.ensures.symbol.symbol.table.involutions vertices c.args.numbers.now numbers x y (get_or c.args.edges.now k 0) (listed_edge t c.args.edges.now c.requires.edges k c.loop-k-test.true).0 edge told.from told.to told.x told.y)))
+          (edge_of t c.requires.symbol.symbol.table.involutions vertices c.args.numbers.now numbers x y (get_or c.args.edges.now k 0) (listed_edge t c.args.edges.now c.requires.edges k c.loop-k-test.true).0 edge told.from told.to told.x told.y)))
           (cases_lt j k);
     }
 

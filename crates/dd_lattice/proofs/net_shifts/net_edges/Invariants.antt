@@ -8,6 +8,6 @@ use Rattle.dd_lattice.proofs.net_shifts.net_edges.Given as goal
 abbrev pub invariant-loop-k : goal.invariant-loop-k
 invariant-loop-k l = record {
   many : length l.all.items ≡ l.k;
-  each : (vertices : List ℕ) (j : ℕ) (e : NetEdge) → AreVertexNumbers l.fn.t vertices l.fn.numbers → j < l.k → j < length l.fn.edges
-      → IsEdgeOf l.fn.t vertices (shift_by l.fn.t l.fn.first.leaves.items) (shift_by l.fn.t l.fn.second.leaves.items) (slice_index l.fn.edges j) (slice_index_or l.all.items j e);
+  each : (vertices : List ℕ) (j : ℕ) (e : NetEdge) → AreVertexNumbers l.fn.symbol vertices l.fn.numbers → j < l.k → j < length l.fn.edges
+      → IsEdgeOf l.fn.symbol vertices (shift_by l.fn.symbol l.fn.first.exits.items) (shift_by l.fn.symbol l.fn.second.exits.items) (slice_index l.fn.edges j) (slice_index_or l.all.items j e);
 }

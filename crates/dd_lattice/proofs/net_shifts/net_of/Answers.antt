@@ -1,6 +1,8 @@
 use Rattle.std.proofs.Common.{map, get_or, sym, subst, arith}
 use Rattle.std.proofs.lemmas.List.{get_or_read}
+use Rattle.dd_model.specs.Symbol.{Symbol}
 use Rattle.dd_cells.specs.declared.cell.Cell.{Cell}
+use Rattle.dd_lattice.specs.NetOf.{IsEdgeOf}
 use Rattle.dd_lattice.specs.Lists.{AreVertexNumbers}
 use Rattle.dd_lattice.specs.Paths.{shift_by}
 use Rattle.dd_lattice.specs.Shifts.{IsLeftEdge, AreShifts}
@@ -42,8 +44,8 @@ returns c =
     let t = c.args.t.now in
     let left = c.in_ok-left.left.items in
     let two = left_two t c.symbol-symbol.ensures.symbol c.requires.torus c.args.edges.now c.requires.edges c.args.kinds.now c.requires.kinds left c.in_ok-left.ensures in
-    let x = shift_by t c.in_ok-first.first.leaves.items in
-    let y = shift_by t c.in_ok-second.second.leaves.items in
+    let x = shift_by t c.in_ok-first.first.exits.items in
+    let y = shift_by t c.in_ok-second.second.exits.items in
     let least = map (λ (v : Cell). v.least) c.args.vertices.now in
     record {
       vertices = least;
@@ -59,5 +61,6 @@ returns c =
       edges = c.args.edges.now;
       are_edges = c.requires.edges;
       many_edges = c.in_ok-net_edges.ensures.many;
-      each = λ k e inside. c.in_ok-net_edges.ensures.each least k e (subst (AreVertexNumbers t least) (sym c.deref.ensures.value) c.in_ok-numbers.ensures) inside;
+      each = λ k e inside. subst (λ (s : Symbol). IsEdgeOf s least (shift_by s c.in_ok-first.first.exits.items) (shift_by s c.in_ok-second.second.exits.items) (get_or c.args.edges.now k 0) (get_or c.in_ok-net_edges.field-0.items k e)) c.symbol-symbol.ensures.same
+          (c.in_ok-net_edges.ensures.each least k e (subst (λ (s : Symbol). AreVertexNumbers s least c.deref.result.now) (sym c.symbol-symbol.ensures.same) (subst (AreVertexNumbers t least) (sym c.deref.ensures.value) c.in_ok-numbers.ensures)) inside);
     }

@@ -20,13 +20,13 @@ pub loop-k-init : goal.loop-k-init
 loop-k-init c inv m many =
     let t = c.args.t.now in
     let roots = has_roots t inv Tile in
-    let items = c.in_ok-leaves.ensures.items_if_clones_equal (λ y e. e) in
-    let whole : length c.in_ok-leaves.leaves.items ≡ t.size = ap length items ∙ length-replicate c.size.result false ∙ c.size.ensures.size ∙ ap (λ (z : Symbol). z.size) c.symbol-symbol.ensures.same in
+    let items = c.in_ok-exits.ensures.items_if_clones_equal (λ y e. e) in
+    let whole : length c.in_ok-exits.exits.items ≡ t.size = ap length items ∙ length-replicate c.size.result false ∙ c.size.ensures.size ∙ ap (λ (z : Symbol). z.size) c.symbol-symbol.ensures.same in
     let place : c.op-place.result ≡ across t c.args.first = c.op-place.ensures.image ∙ ap (op c.symbol-symbol.result.now Zero) c.op.ensures.image ∙ ap (λ (z : Symbol). across z c.args.first) c.symbol-symbol.ensures.same in
     let all : m ≡ length c.args.steps.now = omega arith in
-    subst (λ n. IsOnWay t c.args.first c.args.steps.now roots.root n (set c.in_ok-leaves.leaves.items (c.args.first - 1) true) c.op-place.result) (sym all)
-    (subst (IsOnWay t c.args.first c.args.steps.now roots.root (length c.args.steps.now) (set c.in_ok-leaves.leaves.items (c.args.first - 1) true)) (sym place)
-    (way_start t c.requires.torus roots.root roots.are c.args.first c.args.steps.now c.requires.tree c.in_ok-leaves.leaves.items whole (λ d. ap (λ xs. flag xs d) items ∙ none_set _ (d - 1)) c.requires.reached))
+    subst (λ n. IsOnWay t c.args.first c.args.steps.now roots.root n (set c.in_ok-exits.exits.items (c.args.first - 1) true) c.op-place.result) (sym all)
+    (subst (IsOnWay t c.args.first c.args.steps.now roots.root (length c.args.steps.now) (set c.in_ok-exits.exits.items (c.args.first - 1) true)) (sym place)
+    (way_start t c.requires.torus roots.root roots.are c.args.first c.args.steps.now c.requires.tree c.in_ok-exits.exits.items whole (λ d. ap (λ xs. flag xs d) items ∙ none_set _ (d - 1)) c.requires.reached))
 
 pub back-place-requires-clause-low : goal.back-place-requires-clause-low
 back-place-requires-clause-low c =
@@ -53,8 +53,8 @@ loop-k-preserved c inv m many =
     let place : length steps - 1 - c.loop-k.k ≡ m = omega arith in
     let at : get_or steps m (get_or steps (length steps - 1 - c.loop-k.k) none) ≡ get_or steps (length steps - 1 - c.loop-k.k) none =
     get_or_default steps m (get_or steps (length steps - 1 - c.loop-k.k) none) none inside ∙ ap (λ n. get_or steps n none) (sym place) in
-    way_back t c.requires.torus.symbol (color c.requires.torus.oriented.colors) c.requires.torus.oriented.exchanged roots.root roots.are c.args.first c.args.steps.now c.requires.tree m inside c.loop-k.leaves.items c.loop-k.place way
-    (get_or steps (length steps - 1 - c.loop-k.k) none) at c.back-place.new.leaves.items c.back-place.result c.back-place.ensures
+    way_back t c.requires.torus.symbol (color c.requires.torus.oriented.colors) c.requires.torus.oriented.exchanged roots.root roots.are c.args.first c.args.steps.now c.requires.tree m inside c.loop-k.exits.items c.loop-k.place way
+    (get_or steps (length steps - 1 - c.loop-k.k) none) at c.back-place.new.exits.items c.back-place.result c.back-place.ensures
 
 pub returns-clause-shifts : goal.returns-clause-shifts
 returns-clause-shifts c =
@@ -63,7 +63,7 @@ returns-clause-shifts c =
     let roots = has_roots t inv Tile in
     let end = c.loop-k-test.false in
     let low = c.loop-k.auto.k-end in
-    are_shifts t c.requires.torus roots.root roots.are c.args.first c.args.steps.now c.requires.tree c.requires.left c.loop-k.leaves.items c.loop-k.place (c.loop-k.invariant inv 0 (omega arith))
+    are_shifts t c.requires.torus roots.root roots.are c.args.first c.args.steps.now c.requires.tree c.requires.left c.loop-k.exits.items c.loop-k.place (c.loop-k.invariant inv 0 (omega arith))
 
 pub returns-clause-whole : goal.returns-clause-whole
 returns-clause-whole c =
