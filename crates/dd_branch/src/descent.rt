@@ -176,20 +176,20 @@ impl Descent {
 
     /// Keeps the level before what was put in, or takes that back where it is sure that no member
     /// is under the prefix.
-    fn settle(&mut self, level: Level) -> bool
+    fn settle(&mut self, level: &Level) -> bool
         requires descent { IsDescent self.old }
         requires room { length self.old.levels < length (prefix_of self.old.stem) }
-        ensures kept { OnTrue result (self.new ≡ with_level self.old level) }
-        ensures back { OnFalse result (self.new ≡ taken_back self.old level) }
+        ensures kept { OnTrue result (self.new ≡ with_level self.old level.now) }
+        ensures back { OnFalse result (self.new ≡ taken_back self.old level.now) }
         ensures dead { OnFalse result
             (HasNothingUnder (IsMember self.old.request) (size_of self.old.stem)
             (prefix_of self.old.stem)) }
     {
-        if self.is_dead(&level) {
-            self.take_back(&level);
+        if self.is_dead(level) {
+            self.take_back(level);
             return false;
         }
-        self.levels.push(level);
+        self.levels.push(*level);
         true
     }
 
@@ -208,7 +208,7 @@ impl Descent {
             (prefix_of self.old.stem ++ number ∷ [])) }
     {
         let level = self.level();
-        self.put(number, &level) && self.settle(level)
+        self.put(number, &level) && self.settle(&level)
     }
 
     /// Puts a number at the end of the prefix, and all that are known after it, unless it is sure
@@ -228,7 +228,7 @@ impl Descent {
         if !self.put_all(number, &level) {
             return false;
         }
-        if !self.settle(level) {
+        if !self.settle(&level) {
             return false;
         }
         true

@@ -112,7 +112,8 @@ impl Rows {
         ensures number { HasNumberAt place result (partial_of self.now) }
         ensures within { result ≤ (partial_of self.now).size }
     {
-        self.numbers[place as usize]
+        let place = place as usize;
+        self.numbers[place]
     }
 
     /// The place at which the image of a place leads back; the place itself where no image is known.

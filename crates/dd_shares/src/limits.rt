@@ -70,7 +70,7 @@ impl Census {
         let beside = table.known(pair.first(), chamber);
         let across = table.known(pair.second(), chamber);
         self.fixed += u32::from(beside == chamber) + u32::from(across == chamber);
-        if across < chamber {
+        if beside < chamber || across < chamber {
             return;
         }
         let Some(cell) = WholeCell::from(table, pair, chamber, chamber) else {

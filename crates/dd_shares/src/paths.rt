@@ -95,7 +95,7 @@ impl Path {
         }
     }
 
-    /// Goes along the path from its start, both ways.
+    /// Goes along the path from its start, both ways where it does not come round.
     pub(crate) fn follow(&mut self, table: &Rows)
         requires ready { IsReady table.now }
         requires walked { IsWalked (partial_of table.now) self.old }
@@ -106,7 +106,9 @@ impl Path {
         let first = self.pair.first();
         let second = self.pair.second();
         self.walk(table, first, second);
-        self.walk(table, second, first);
+        if self.is_open || self.is_capped {
+            self.walk(table, second, first);
+        }
     }
 
     /// Whether an image of the path was not known.

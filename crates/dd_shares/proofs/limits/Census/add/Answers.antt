@@ -6,8 +6,8 @@ use Rattle.dd_shares.specs.Units.{share_unit}
 use Rattle.dd_shares.proofs.ClosedLemmas.{whole_skip, whole_more, whole_from_cell, fixed_more, same_flag}
 use Rattle.dd_shares.proofs.limits.Census.add.Goals as goal
 
-pub returns-then-across-chamber-clause-census : goal.returns-then-across-chamber-clause-census
-returns-then-across-chamber-clause-census c q side census =
+pub returns-then-beside-chamber-clause-census : goal.returns-then-beside-chamber-clause-census
+returns-then-beside-chamber-clause-census c q side census =
     let P = partial_of c.args.table.now in
     let p = c.args.pair in
     let old = c.args.self.now in
