@@ -1,8 +1,10 @@
 -- The children of a job under which a member may be.
-use Rattle.std.proofs.Common.{◌≡◌, ℕ, List, ◌++◌, ◌∷◌, [], ap, inr, arith}
+use Rattle.std.proofs.Common.{◌≡◌, ℕ, List, ◌++◌, ◌∷◌, [], length, ◌*◌, ◌<◌, ap, sym, subst, ◌∙◌, inr, ⊎_elim, arith}
+use Rattle.std.specs.List.{Contains}
 use Rattle.dd_model.specs.Symbol.{Symbol}
 use Rattle.dd_model.specs.Wanted.{IsMember}
-use Rattle.dd_model.specs.Jobs.{IsMemberUnder, AreExtensions, extended}
+use Rattle.dd_model.specs.Jobs.{IsMemberUnder, AreExtensions, AreChildren, extended}
+use Rattle.dd_model.proofs.Lists.{Contains-one}
 use Rattle.dd_model.specs.declared.requests.Request.{Request}
 use Rattle.dd_model.specs.declared.jobs.Job.{Job}
 use Rattle.dd_model.specs.Code.{code}
@@ -38,3 +40,20 @@ none_extended q job d k at dead =
 -- nothing that is wanted is under a longer prefix under which no table is
 pub none_where_no_table : (W : Symbol → Type 0) (n : ℕ) (prefix : List ℕ) (k : ℕ) → HasNothingUnder Any n (prefix ++ k ∷ []) → HasNothingUnder W n (prefix ++ k ∷ [])
 none_where_no_table W n prefix k none s under = none s (any_under W n (prefix ++ k ∷ []) s under)
+
+-- the child with the number 0, where there is none else
+pub dead_child : (q : Request) (job : Job) (jobs new : List Job) → length job.prefix < 3 * job.size → jobs ≡ [] → new ≡ jobs ++ extended job 0 ∷ [] → AreExtensions q job jobs → AreChildren q job new
+dead_child q job jobs new short none grown old =
+    let whole : new ≡ extended job 0 ∷ [] = grown ∙ ap (λ js. js ++ extended job 0 ∷ []) none in
+    record {
+      shorter = short;
+      some = λ e. let clash : extended job 0 ∷ [] ≡ [] = sym whole ∙ e in let l : length (extended job 0 ∷ []) ≡ 0 = ap length clash in omega arith;
+      extensions = subst (AreExtensions q job) (sym whole) (record {
+        ascending = (tt, tt);
+        extend = λ child there. (0, sym (Contains-one (extended job 0) child there));
+        complete = λ k. ⊎_elim
+            (λ there. absurd (let low = (subst (λ js. Contains js (extended job k)) none there).1 in omega arith))
+            (λ nothing. inr nothing)
+            (old.complete k);
+      });
+    }

@@ -3,7 +3,7 @@ ghost use Rattle.dd_rack.specs.Hands.{hand_passes, hand_place, HasAllOfHand};
 ghost use Rattle.dd_board.specs.Ledgers.{Counts};
 ghost use Rattle.dd_steal.specs.Worker.{IsLeftWith, IsIdle, held_at_end};
 
-use crate::choice::is_to_split;
+use crate::choice::{is_to_split, is_worth_a_split};
 use crate::ended::Ended;
 use crate::getting::next_ticket;
 use dd_board::{Board, Naming, Seat, Ticket};
@@ -31,14 +31,14 @@ fn do_job<N: Naming, K: Ledger, L: Ledger, S: Ledger, D: Ledger, B: Ledger, R: W
 {
     if is_to_split(ticket.job(), board.waiting(), others) {
         match finder.split(alloc, ticket.job()) {
-            Ok(jobs) => board.split(rt, seat, ticket, jobs),
-            Err(_) => Err(ticket),
+            Ok(jobs) if is_worth_a_split(&jobs) => return board.split(rt, seat, ticket, jobs),
+            Ok(_) => {}
+            Err(_) => return Err(ticket),
         }
-    } else {
-        match finder.find(alloc, ticket.job()) {
-            Ok(list) => board.finish(rt, seat, ticket, list),
-            Err(_) => Err(ticket),
-        }
+    }
+    match finder.find(alloc, ticket.job()) {
+        Ok(list) => board.finish(rt, seat, ticket, list),
+        Err(_) => Err(ticket),
     }
 }
 

@@ -1,6 +1,7 @@
 use Rattle.std.proofs.Common.{◌++◌, ◌∷◌, [], length, vec_len, sym, ap, ◌∙◌, subst}
 use Rattle.dd_model.specs.Jobs.{AreChildren}
-use Rattle.dd_invol.proofs.Extensions.{one_child, some_children, no_items, no_length, some_length}
+use Rattle.dd_invol.proofs.Extensions.{some_children, no_items, no_length, some_length}
+use Rattle.dd_branch.proofs.Splits.{dead_child}
 use Rattle.dd_branch.proofs.search.SearchFinder.split.Goals as goal
 use Rattle.dd_branch.proofs.search.SearchFinder.split.Goals.{then-is_empty+in_ok-child+in_ok-push, else-is_empty}
 
@@ -11,6 +12,6 @@ returns c =
     elim c.if-is_empty.branch [
       | then-is_empty+in_ok-child+in_ok-push w ↦
           let pushed = ap (λ l. l.items) w.jobs-is ∙ w.in_ok-push.ensures.items ∙ ap (λ j. c.in_ok-jobs.jobs.items ++ j ∷ []) w.in_ok-child.ensures in
-          one_child q job c.in_ok-jobs.jobs.items c.if-is_empty.jobs.items c.requires.shorter (no_items c.in_ok-jobs.jobs.items (no_length (vec_len c.in_ok-jobs.jobs) (length c.in_ok-jobs.jobs.items) w.if-is_empty.ensures c.in_ok-jobs.jobs.ok.0)) pushed c.in_ok-jobs.ensures
+          dead_child q job c.in_ok-jobs.jobs.items c.if-is_empty.jobs.items c.requires.shorter (no_items c.in_ok-jobs.jobs.items (no_length (vec_len c.in_ok-jobs.jobs) (length c.in_ok-jobs.jobs.items) w.if-is_empty.ensures c.in_ok-jobs.jobs.ok.0)) pushed c.in_ok-jobs.ensures
       | else-is_empty w ↦ subst (λ l. AreChildren q job l.items) (sym w.jobs-is) (some_children q job c.in_ok-jobs.jobs.items c.requires.shorter (some_length (vec_len c.in_ok-jobs.jobs) (length c.in_ok-jobs.jobs.items) w.if-is_empty.ensures c.in_ok-jobs.jobs.ok.0) c.in_ok-jobs.ensures)
     ]
