@@ -1,5 +1,5 @@
 -- The places of the tables are in one order, so that there is one first wide place.
-use Rattle.std.proofs.Common.{◌≡◌, ◌≢◌, ◌⊎◌, ℕ, ◌<◌, inl, inr, refl, sym, ◌∙◌, ⊎_elim, subst, arith}
+use Rattle.std.proofs.Common.{◌≡◌, ◌≢◌, ◌⊎◌, ℕ, ◌<◌, inl, inr, sym, ◌∙◌, ⊎_elim, subst, arith}
 use Rattle.std.proofs.lemmas.Bool.{cases_eq, cases_order}
 use Rattle.dd_lattice.specs.declared.net.Net.{Net}
 use Rattle.dd_draw.specs.Width.{Place, IsBefore, IsRowBefore, IsFirstWide}

@@ -4,8 +4,8 @@ ghost use Rattle.dd_lattice.specs.Nets.{IsConnectedNet};
 use dd_lattice::{Net, NetEdge};
 use std::alloc::{AllocError, Global};
 
-/// A fan: two edges from vertex 1 to vertex 2, one to each later vertex, and one from each vertex to
-/// the next from vertex 2 on. No edge has a shift.
+/// A fan: two edges from vertex 1 to vertex 2, one to each later vertex, and one from each vertex
+/// to the next from vertex 2 on. No edge has a shift.
 pub(crate) fn fan(alloc: Global, vertices: u32) -> Result<Net, AllocError>
     requires some { 2 ≤ vertices }
     requires few { vertices ≤ 1000 }
