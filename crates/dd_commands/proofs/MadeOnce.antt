@@ -25,7 +25,7 @@ use Rattle.dd_commands.specs.declared.commands.SymbolCommand.{SymbolCommand}
 use Rattle.dd_commands.specs.declared.commands.SymbolCommand.TheVariants.{Lines, Canon, Minimal, Dual, Oriented, Torus, Derived}
 use Rattle.dd_commands.specs.InTurn.{AreInTurn}
 use Rattle.dd_commands.specs.declared.refusals.SymbolFault.{SymbolFault}
-use Rattle.dd_commands.specs.declared.refusals.SymbolFault.TheVariants.{TooManyChambers, BranchingTooLarge, NotFlat}
+use Rattle.dd_commands.specs.declared.refusals.SymbolFault.TheVariants.{TooManyChambers, BranchingTooLarge, NotFlat, TooManyVertices, TooWide}
 use Rattle.dd_commands.specs.declared.refusals.SymbolRefusal.{SymbolRefusal}
 use Rattle.dd_commands.specs.Made.{IsLeastImage, IsLeastCover, IsLeastTorus, IsDerived, IsMade, IsFaultOf, IsFirstFault}
 use Rattle.dd_commands.proofs.InTurnLemmas.{in_turn_unique}
@@ -62,7 +62,7 @@ cover_once s t u readable a b =
     form_once a.cover t u (cover_table s a.cover a.below readable a.is_cover) a.least (subst (λ c. IsLeastForm c u) same b.least)
 
 -- a flat symbol has one torus cover
-torus_once : (s t u : Symbol) → IsReadable s → IsLeastTorus s t → IsLeastTorus s u → t ≡ u
+pub torus_once : (s t u : Symbol) → IsReadable s → IsLeastTorus s t → IsLeastTorus s u → t ≡ u
 torus_once s t u readable a b =
     let size = readable.size in
     let few : s.size ≤ 8192 = omega arith in
@@ -95,14 +95,20 @@ nothing_made Minimal s t (TooManyChambers n) readable fault is = fault
 nothing_made Minimal s t (BranchingTooLarge v) readable fault is =
     too_large_or_small s fault.image is.image fault.map is.map v readable.symbol.symbol.table.involutions fault.first is.is_image is.small.branching
 nothing_made Minimal s t (NotFlat x) readable fault is = fault
+nothing_made Minimal s t (TooManyVertices count) readable fault is = fault
+nothing_made Minimal s t (TooWide step row column) readable fault is = fault
 nothing_made Dual s t why readable fault is = fault
 nothing_made Oriented s t why readable fault is = fault
 nothing_made Torus s t (TooManyChambers n) readable fault is = fault
 nothing_made Torus s t (BranchingTooLarge v) readable fault is = fault
 nothing_made Torus s t (NotFlat x) readable fault is = fault.0 is.flat
+nothing_made Torus s t (TooManyVertices count) readable fault is = fault
+nothing_made Torus s t (TooWide step row column) readable fault is = fault
 nothing_made (Derived operation) s t (TooManyChambers n) readable fault is = let few = is.few in let many = fault.1 in omega arith
 nothing_made (Derived operation) s t (BranchingTooLarge v) readable fault is = fault
 nothing_made (Derived operation) s t (NotFlat x) readable fault is = fault
+nothing_made (Derived operation) s t (TooManyVertices count) readable fault is = fault
+nothing_made (Derived operation) s t (TooWide step row column) readable fault is = fault
 
 -- of symbols of which one has a fault there is no list of what is made
 pub none_all_made : (command : SymbolCommand) (k : ℕ) (ss ts : List Symbol) (r : SymbolRefusal) → AllByRecursion IsReadable ss → IsFirstFault command k ss r → AreInTurn (IsMade command) ss ts → ⊥

@@ -7,9 +7,10 @@ use Rattle.dd_text.specs.declared.faults.FileFault.{FileFault}
 use Rattle.dd_text.specs.declared.faults.Why.TheVariants.{Memory}
 use Rattle.dd_text.specs.FileFaults.{IsFileFault}
 use Rattle.dd_commands.specs.declared.commands.FileCommand.{FileCommand}
-use Rattle.dd_commands.specs.declared.commands.FileCommand.TheVariants.{Symbols, Info}
+use Rattle.dd_commands.specs.declared.commands.FileCommand.TheVariants.{Symbols, Info, Draw}
 use Rattle.dd_commands.specs.declared.commands.SymbolCommand.{SymbolCommand}
 use Rattle.dd_commands.specs.declared.refusals.SymbolRefusal.{SymbolRefusal}
+use Rattle.dd_commands.specs.Drawings.{AreDrawings, IsFirstUndrawn}
 use Rattle.dd_commands.specs.InTurn.{AreInTurn}
 use Rattle.dd_commands.specs.Made.{IsMade, IsFirstFault}
 use Rattle.dd_commands.specs.Info.{IsInfo}
@@ -24,11 +25,13 @@ pub record AreLinesOfMade (command : SymbolCommand) (symbols : List Symbol) (tex
 abbrev pub IsTextOf : FileCommand → List Symbol → List ℕ → Type 0
 IsTextOf (Symbols command) symbols text = AreLinesOfMade command symbols text
 IsTextOf Info symbols text = IsInfo symbols text
+IsTextOf (Draw frame) symbols text = AreDrawings frame symbols text
 
 -- the first symbol of which a command makes nothing
 abbrev pub IsRefusalOf : FileCommand → List Symbol → SymbolRefusal → Type 0
 IsRefusalOf (Symbols command) symbols r = IsFirstFault command 1 symbols r
 IsRefusalOf Info symbols r = ⊥
+IsRefusalOf (Draw frame) symbols r = IsFirstUndrawn frame 1 symbols r
 
 -- what a command writes of the symbols of a file
 pub record IsFileText (command : FileCommand) (bytes text : List ℕ) : Type 0 where

@@ -1,5 +1,6 @@
 pub mod InTurn
 pub mod Made
+pub mod Drawings
 pub mod Facts
 pub mod Totals
 pub mod Info

@@ -15,7 +15,7 @@ use Rattle.dd_template.specs.Named.{table_of_operation}
 use Rattle.dd_commands.specs.declared.commands.SymbolCommand.{SymbolCommand}
 use Rattle.dd_commands.specs.declared.commands.SymbolCommand.TheVariants.{Lines, Canon, Minimal, Dual, Oriented, Torus, Derived}
 use Rattle.dd_commands.specs.declared.refusals.SymbolFault.{SymbolFault}
-use Rattle.dd_commands.specs.declared.refusals.SymbolFault.TheVariants.{TooManyChambers, BranchingTooLarge, NotFlat}
+use Rattle.dd_commands.specs.declared.refusals.SymbolFault.TheVariants.{TooManyChambers, BranchingTooLarge, NotFlat, TooManyVertices, TooWide}
 use Rattle.dd_commands.specs.declared.refusals.SymbolRefusal.{SymbolRefusal}
 
 -- the least form of a minimal image whose branching values are at most 30
@@ -61,18 +61,24 @@ abbrev pub IsTooLong : Table → Symbol → SymbolFault → Type 0
 IsTooLong table s (TooManyChambers n) = (n ≡ s.size) × (1024 < s.size * table.parts)
 IsTooLong table s (BranchingTooLarge v) = ⊥
 IsTooLong table s (NotFlat x) = ⊥
+IsTooLong table s (TooManyVertices count) = ⊥
+IsTooLong table s (TooWide step row column) = ⊥
 
 -- the minimal image has a branching value over 30, and v is the first
 abbrev pub IsTooSharp : Symbol → SymbolFault → Type 0
 IsTooSharp s (TooManyChambers n) = ⊥
 IsTooSharp s (BranchingTooLarge v) = HasTooLarge s v
 IsTooSharp s (NotFlat x) = ⊥
+IsTooSharp s (TooManyVertices count) = ⊥
+IsTooSharp s (TooWide step row column) = ⊥
 
 -- the curvature is not 0, and x is the curvature
 abbrev pub IsCurved : Symbol → SymbolFault → Type 0
 IsCurved s (TooManyChambers n) = ⊥
 IsCurved s (BranchingTooLarge v) = ⊥
 IsCurved s (NotFlat x) = (¬ Flat s) × IsCurvature s x
+IsCurved s (TooManyVertices count) = ⊥
+IsCurved s (TooWide step row column) = ⊥
 
 -- why a command makes nothing of a symbol
 abbrev pub IsFaultOf : SymbolCommand → Symbol → SymbolFault → Type 0

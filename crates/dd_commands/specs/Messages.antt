@@ -2,7 +2,7 @@
 use Rattle.std.specs.Prelude.{ℕ, List, ◌++◌, codes, decimal}
 use Rattle.dd_commands.specs.Facts.{fraction_text}
 use Rattle.dd_commands.specs.declared.refusals.SymbolFault.{SymbolFault}
-use Rattle.dd_commands.specs.declared.refusals.SymbolFault.TheVariants.{TooManyChambers, BranchingTooLarge, NotFlat}
+use Rattle.dd_commands.specs.declared.refusals.SymbolFault.TheVariants.{TooManyChambers, BranchingTooLarge, NotFlat, TooManyVertices, TooWide}
 use Rattle.dd_commands.specs.declared.refusals.SymbolRefusal.{SymbolRefusal}
 
 -- why nothing is made of a symbol
@@ -10,6 +10,9 @@ abbrev pub symbol_fault_text : SymbolFault → List ℕ
 symbol_fault_text (TooManyChambers n) = codes "too many chambers " ++ decimal n
 symbol_fault_text (BranchingTooLarge v) = codes "branching too large " ++ decimal v
 symbol_fault_text (NotFlat x) = codes "not flat " ++ fraction_text x
+symbol_fault_text (TooManyVertices count) = codes "too many vertices " ++ decimal count
+symbol_fault_text (TooWide step row column) =
+    codes "too wide step " ++ (decimal step ++ (codes " row " ++ (decimal row ++ (codes " column " ++ decimal column))))
 
 -- the symbol of a file of which nothing is made
 abbrev pub symbol_refusal_text : SymbolRefusal → List ℕ

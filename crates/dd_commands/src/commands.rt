@@ -1,3 +1,4 @@
+use dd_lattice::Frame;
 use dd_template::Operation;
 
 /// A command that writes a line for each symbol of a file.
@@ -26,4 +27,6 @@ pub enum FileCommand {
     Symbols(SymbolCommand),
     /// What each symbol is.
     Info,
+    /// The net of the torus cover of each symbol, as a drawing in such a cell.
+    Draw(Frame),
 }

@@ -7,6 +7,7 @@ ghost use Rattle.dd_commands.specs.Faults.{IsCommandFault, fault_of_why};
 
 use crate::command_fault::CommandFault;
 use crate::commands::FileCommand;
+use crate::drawing::drawings_of;
 use crate::info::info_of;
 use crate::refusals::SymbolRefusal;
 use crate::stop::Stop;
@@ -59,5 +60,6 @@ fn text_of(
     match command {
         FileCommand::Symbols(command) => lines_of(alloc, command, symbols),
         FileCommand::Info => Ok(info_of(alloc, &symbols)?),
+        FileCommand::Draw(frame) => drawings_of(alloc, frame, &symbols),
     }
 }

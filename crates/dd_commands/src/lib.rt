@@ -3,6 +3,7 @@
 
 mod command_fault;
 mod commands;
+mod drawing;
 mod facts;
 mod file_laws;
 mod file_text;

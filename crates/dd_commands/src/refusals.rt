@@ -22,6 +22,20 @@ pub enum SymbolFault {
         /// The curvature.
         curvature: Fraction,
     },
+    /// The torus cover has over 96 vertices.
+    TooManyVertices {
+        /// The number of its vertices.
+        count: u32,
+    },
+    /// The elimination that places the vertices has a number over 2^62.
+    TooWide {
+        /// The step at which the first such number stands.
+        step: u32,
+        /// Its row.
+        row: u32,
+        /// Its column.
+        column: u32,
+    },
 }
 
 impl fmt::Display for SymbolFault {
@@ -36,6 +50,10 @@ impl fmt::Display for SymbolFault {
             }
             SymbolFault::NotFlat { curvature } => {
                 write!(f, "not flat {}/{}", curvature.num, curvature.den)
+            }
+            SymbolFault::TooManyVertices { count } => write!(f, "too many vertices {count}"),
+            SymbolFault::TooWide { step, row, column } => {
+                write!(f, "too wide step {step} row {row} column {column}")
             }
         }
     }

@@ -120,7 +120,7 @@ fn least_image(alloc: Global, s: &Connected) -> Result<Connected, Stop<SymbolFau
 }
 
 /// The least form of the torus cover.
-fn least_torus(alloc: Global, s: &Connected) -> Result<Connected, Stop<SymbolFault>>
+pub(crate) fn least_torus(alloc: Global, s: &Connected) -> Result<Connected, Stop<SymbolFault>>
     requires { IsReadable s.now }
     ensures torus { IfOk result (λ form. IsLeastTorus s.now form) }
     ensures why { IfErr result (IsStop (IsCurved s.now)) }

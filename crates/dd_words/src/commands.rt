@@ -1,4 +1,5 @@
 use crate::names::Name;
+use dd_lattice::Frame;
 use dd_model::Request;
 use dd_template::Operation;
 
@@ -21,15 +22,6 @@ pub enum FileKind {
     Oriented,
     /// Covers by a torus.
     Torus,
-}
-
-/// The shape of the cell in which a tiling is drawn.
-#[derive(Debug, Clone, Copy, PartialEq, Eq)]
-pub enum Frame {
-    /// A square.
-    Square,
-    /// A regular hexagon.
-    Hex,
 }
 
 /// What the words ask for.

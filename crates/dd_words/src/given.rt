@@ -6,12 +6,12 @@ ghost use Rattle.dd_words.specs.Settings.{given_of};
 ghost use Rattle.dd_words.specs.Values.{IsName};
 ghost use Rattle.dd_words.specs.GivenValues.{IsNumberOr, IsNumberIfGiven, IsNameIfGiven, IsFlagIfGiven, IsSet, IsFramed};
 
-use crate::commands::Frame;
 use crate::fault::WordsFault;
 use crate::names::Name;
 use crate::sets::read_set;
 use crate::settings::{Given, Setting, value_of};
 use crate::values::{is_name, read_number_in};
+use dd_lattice::Frame;
 use dd_model::Allowed;
 use std::alloc::Global;
 

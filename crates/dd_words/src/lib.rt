@@ -15,7 +15,7 @@ mod settings;
 mod values;
 mod verbs;
 
-pub use commands::{Command, FileKind, Frame};
+pub use commands::{Command, FileKind};
 pub use fault::WordsFault;
 pub use laws::{taken_requests_are_valid, words_ask_for_one_command};
 pub use names::Name;

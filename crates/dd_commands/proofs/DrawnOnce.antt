@@ -1,0 +1,104 @@
+-- Drawings are determined, and a symbol that is not drawn has none.
+use Rattle.std.proofs.Common.{◌≡◌, ◌<◌, ◌≤◌, ℕ, zero, suc, ◌+◌, List, [], ◌∷◌, ◌++◌, take, get_or, length, append-nil, inl, inr, refl, sym, ap, ◌∙◌, subst, ⊎_elim, arith}
+use Rattle.std.proofs.lemmas.List.{append_assoc}
+use Rattle.std.specs.List.{AllByRecursion}
+use Rattle.dd_model.specs.Symbol.{Symbol}
+use Rattle.dd_model.specs.Reading.{IsReadable}
+use Rattle.dd_covers.specs.Torus.{IsTorus}
+use Rattle.dd_lattice.specs.NetOf.{IsNet}
+use Rattle.dd_lattice.specs.declared.frame.Frame.{Frame}
+use Rattle.dd_lattice.specs.declared.net.Net.{Net}
+use Rattle.dd_lattice.proofs.NetLemmas.{connected_net}
+use Rattle.dd_lattice.proofs.OneChoice.{one_vertices, one_net}
+use Rattle.dd_draw.specs.Document.{document}
+use Rattle.dd_draw.specs.Placement.{IsPlacement}
+use Rattle.dd_draw.specs.Tables.{place_at}
+use Rattle.dd_commands.proofs.SameNets.{wide_same, place_same, placement_same}
+use Rattle.dd_draw.proofs.Uniqueness.{placement_unique}
+use Rattle.dd_commands.specs.declared.refusals.SymbolFault.{SymbolFault}
+use Rattle.dd_commands.specs.declared.refusals.SymbolFault.TheVariants.{TooManyChambers, BranchingTooLarge, NotFlat, TooManyVertices, TooWide}
+use Rattle.dd_commands.specs.declared.refusals.SymbolRefusal.{SymbolRefusal}
+use Rattle.dd_commands.specs.declared.stop.Stop.{Stop}
+use Rattle.dd_commands.specs.declared.stop.Stop.TheVariants.{Refused, Memory}
+use Rattle.dd_commands.specs.Made.{IsCurved}
+use Rattle.dd_commands.specs.Drawings.{IsTorusNet, IsDrawing, AreDrawings, IsPlaceRefusal, IsUnplaced, IsUndrawn, IsDrawn, IsFirstUndrawn}
+use Rattle.dd_commands.specs.Stops.{IsStop}
+use Rattle.dd_commands.proofs.MadeOnce.{torus_once}
+use Rattle.dd_commands.proofs.TorusForms.{least_torus}
+
+-- two nets of a symbol are nets of one torus
+one_torus : (s : Symbol) (a b : Net) → IsReadable s → (x : IsTorusNet s a) → IsTorusNet s b → IsNet x.torus b
+one_torus s a b readable x y = subst (λ t. IsNet t b) (torus_once s y.torus x.torus readable y.least x.least) y.is_net
+
+same_vertices : (s : Symbol) (a b : Net) → IsReadable s → IsTorusNet s a → IsTorusNet s b → a.vertices ≡ b.vertices
+same_vertices s a b readable x y = one_vertices x.torus a b x.is_net (one_torus s a b readable x y)
+
+same_edges : (s : Symbol) (a b : Net) → IsReadable s → IsTorusNet s a → IsTorusNet s b → a.edges.items ≡ b.edges.items
+same_edges s a b readable x y = one_net x.torus a b (least_torus s x.torus readable x.least) x.is_net (one_torus s a b readable x y)
+
+pub drawing_once : (frame : Frame) (s : Symbol) (one other : List ℕ) → IsReadable s → IsDrawing frame s one → IsDrawing frame s other → one ≡ other
+drawing_once frame s one other readable x y =
+    let many = same_vertices s x.net y.net readable x.is_net y.is_net in
+    let edges = same_edges s x.net y.net readable x.is_net y.is_net in
+    let connected = connected_net y.is_net.torus (least_torus s y.is_net.torus readable y.is_net.least) y.net y.is_net.is_net in
+    let points = placement_unique y.net x.points y.points connected (placement_same x.net y.net many edges x.points x.placed) y.placed in
+    x.is_document ∙ ap (λ es. document frame es x.points) edges ∙ ap (document frame y.net.edges.items) points ∙ sym y.is_document
+
+pub drawings_once : (frame : Frame) (ss : List Symbol) (one other : List ℕ) → AllByRecursion IsReadable ss → AreDrawings frame ss one → AreDrawings frame ss other → one ≡ other
+drawings_once frame [] one other readable x y = x ∙ sym y
+drawings_once frame (s ∷ ss) one other readable x y =
+    x.4 ∙ ap (λ a. a ++ x.1) (drawing_once frame s x.0 y.0 readable.0 x.2 y.2)
+    ∙ ap (λ b. y.0 ++ b) (drawings_once frame ss x.1 y.1 readable.1 x.3 y.3) ∙ sym y.4
+
+-- a symbol that is not placed is not drawn
+not_placed : (frame : Frame) (s : Symbol) (text : List ℕ) (net : Net) (why : SymbolFault) → IsReadable s → IsTorusNet s net → IsPlaceRefusal net why → IsDrawing frame s text → ⊥
+not_placed frame s text net (TooManyChambers n) readable of refusal is = refusal
+not_placed frame s text net (BranchingTooLarge v) readable of refusal is = refusal
+not_placed frame s text net (NotFlat x) readable of refusal is = refusal
+not_placed frame s text net (TooManyVertices count) readable of refusal is =
+    let many = same_vertices s net is.net readable of is.is_net in
+    let over = refusal.0 in
+    let few = is.few in
+    omega (arith, many, over, few)
+not_placed frame s text net (TooWide step row column) readable of refusal is =
+    let many = same_vertices s net is.net readable of is.is_net in
+    let edges = same_edges s net is.net readable of is.is_net in
+    let p = place_at step row column in
+    is.narrow p (place_same net is.net many edges p refusal.1.place) (wide_same net is.net many edges p refusal.1.wide)
+
+not_curved : (frame : Frame) (s : Symbol) (text : List ℕ) (why : SymbolFault) → IsCurved s why → IsDrawing frame s text → ⊥
+not_curved frame s text (TooManyChambers n) curved is = curved
+not_curved frame s text (BranchingTooLarge v) curved is = curved
+not_curved frame s text (NotFlat x) curved is = curved.0 is.is_net.least.flat
+not_curved frame s text (TooManyVertices count) curved is = curved
+not_curved frame s text (TooWide step row column) curved is = curved
+
+undrawn : (frame : Frame) (s : Symbol) (text : List ℕ) (why : SymbolFault) → IsReadable s → IsUndrawn s why → IsDrawing frame s text → ⊥
+undrawn frame s text why readable fault is =
+    ⊎_elim (λ curved. not_curved frame s text why curved is) (λ off. not_placed frame s text off.net why readable off.is_net off.why is) fault
+
+pub none_drawn : (frame : Frame) (k : ℕ) (ss : List Symbol) (text : List ℕ) (r : SymbolRefusal) → AllByRecursion IsReadable ss → IsFirstUndrawn frame k ss r → AreDrawings frame ss text → ⊥
+none_drawn frame k [] text r readable fault is = fault
+none_drawn frame k (s ∷ ss) text r readable (inl here) is = undrawn frame s is.0 r.why readable.0 here.1 is.2
+none_drawn frame k (s ∷ ss) text r readable (inr later) is = none_drawn frame (k + 1) ss is.1 r readable.1 later.1 is.3
+
+-- why a net is not placed is why its symbol is not drawn
+pub stop_of_net : (s : Symbol) (net : Net) (stop : Stop SymbolFault) → IsTorusNet s net → IsStop (IsPlaceRefusal net) stop → IsStop (IsUndrawn s) stop
+stop_of_net s net (Refused why) of is = inr (record { net = net; is_net = of; why = is })
+stop_of_net s net Memory of is = tt
+
+-- one drawing more
+pub drawings_more : (frame : Frame) (ss : List Symbol) (s : Symbol) (text one : List ℕ) → AreDrawings frame ss text → IsDrawing frame s one → AreDrawings frame (ss ++ s ∷ []) (text ++ one)
+drawings_more frame [] s text one is drawing = (one, [], drawing, refl, ap (λ a. a ++ one) is ∙ sym (append-nil one))
+drawings_more frame (r ∷ ss) s text one is drawing =
+    (is.0, is.1 ++ one, is.2, drawings_more frame ss s is.1 one is.3 drawing, ap (λ a. a ++ one) is.4 ∙ append_assoc is.0 is.1 one)
+
+-- after symbols that are drawn comes the first that is not
+pub undrawn_after : (frame : Frame) (k : ℕ) (ss : List Symbol) (text : List ℕ) (i : ℕ) (r : SymbolRefusal) (s : Symbol) → i < length ss → AreDrawings frame (take i ss) text
+    → r.symbol ≡ k + i → IsUndrawn (get_or ss i s) r.why → IsFirstUndrawn frame k ss r
+undrawn_after frame k [] text i r s below is e fault = absurd (omega arith)
+undrawn_after frame k (t ∷ ss) text zero r s below is e fault = inl ((omega arith), fault)
+undrawn_after frame k (t ∷ ss) text (suc i) r s below is e fault =
+    let rest : i < length ss = omega arith in
+    let place : r.symbol ≡ k + 1 + i = omega arith in
+    inr ((is.0, is.2), undrawn_after frame (k + 1) ss is.1 i r s rest is.3 place fault)

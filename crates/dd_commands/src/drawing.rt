@@ -1,0 +1,95 @@
+ghost use Rattle.std.specs.Prelude.{◌≤◌, IfOk, IfErr, OnOk};
+ghost use Rattle.std.specs.List.{AllByRecursion};
+ghost use Rattle.dd_model.specs.Reading.{IsReadable};
+ghost use Rattle.dd_lattice.specs.Nets.{IsConnectedNet};
+ghost use Rattle.dd_draw.specs.Limit.{IsNarrowPoint};
+ghost use Rattle.dd_draw.specs.Placement.{IsPlacement};
+ghost use Rattle.dd_draw.specs.Width.{Place, IsPlaceOf, IsWideAt};
+ghost use Rattle.dd_commands.specs.Drawings.{IsTorusNet, IsPlaceRefusal, IsUndrawn, AddsDrawing, AreDrawings, IsFirstUndrawn};
+ghost use Rattle.dd_commands.specs.Stops.{IsStop};
+
+use crate::refusals::{SymbolFault, SymbolRefusal};
+use crate::stop::Stop;
+use crate::symbol_commands::least_torus;
+use dd_draw::{PlaceFault, Places, place, svg};
+use dd_lattice::{Frame, Net, shifts};
+use dd_symbol::Connected;
+use std::alloc::Global;
+
+/// The net of the least form of the torus cover.
+fn torus_net(alloc: Global, s: &Connected) -> Result<Net, Stop<SymbolFault>>
+    requires { IsReadable s.now }
+    ensures net { IfOk result (λ net. IsTorusNet s.now net) }
+    ensures connected { IfOk result (λ net. IsConnectedNet net) }
+    ensures why { IfErr result (IsStop (IsUndrawn s.now)) }
+{
+    let torus = match least_torus(alloc, s) {
+        Ok(torus) => torus,
+        Err(stop) => return Err(stop),
+    };
+    Ok(shifts(alloc, &torus)?)
+}
+
+/// Where the vertices of a net stand.
+fn places_of(alloc: Global, net: &Net) -> Result<Places, Stop<SymbolFault>>
+    requires { IsConnectedNet net.now }
+    ensures placement { IfOk result (λ places. IsPlacement net.now places.points.items) }
+    ensures few { IfOk result (λ places. net.now.vertices ≤ 96) }
+    ensures narrow { IfOk result (λ places.
+        (p : Place) → IsPlaceOf net.now p → ¬ IsWideAt net.now p) }
+    ensures points { IfOk result (λ places. AllByRecursion IsNarrowPoint places.points.items) }
+    ensures why { IfErr result (IsStop (IsPlaceRefusal net.now)) }
+{
+    match place(alloc, net) {
+        Ok(places) => Ok(places),
+        Err(PlaceFault::TooManyVertices { count }) => {
+            Err(Stop::Refused(SymbolFault::TooManyVertices { count }))
+        }
+        Err(PlaceFault::TooWide { step, row, column }) => {
+            Err(Stop::Refused(SymbolFault::TooWide { step, row, column }))
+        }
+        Err(PlaceFault::Memory) => Err(Stop::Memory),
+    }
+}
+
+/// Appends the drawing of a symbol.
+fn put_drawing(out: &mut Vec<u8>, frame: Frame, s: &Connected) -> Result<(), Stop<SymbolFault>>
+    requires { IsReadable s.now }
+    ensures text { OnOk result (AddsDrawing frame s.now out.old.items out.new.items) }
+    ensures why { IfErr result (IsStop (IsUndrawn s.now)) }
+{
+    let alloc = *out.allocator();
+    let net = torus_net(alloc, s)?;
+    let places = match places_of(alloc, &net) {
+        Ok(places) => places,
+        Err(stop) => return Err(stop),
+    };
+    svg(out, &net, &places, frame)?;
+    Ok(())
+}
+
+/// The drawings of symbols, one after the other.
+pub fn drawings_of(
+    alloc: Global,
+    frame: Frame,
+    symbols: &[Connected],
+) -> Result<Vec<u8>, Stop<SymbolRefusal>>
+    requires { AllByRecursion IsReadable symbols.now }
+    ensures text { IfOk result (λ text. AreDrawings frame symbols.now text.items) }
+    ensures why { IfErr result (IsStop (IsFirstUndrawn frame 1 symbols.now)) }
+{
+    let mut text = Vec::new(alloc);
+    for (before, symbol) in symbols.iter().enumerate() {
+        match put_drawing(&mut text, frame, symbol) {
+            Ok(()) => {}
+            Err(Stop::Refused(why)) => {
+                return Err(Stop::Refused(SymbolRefusal {
+                    symbol: before + 1,
+                    why,
+                }));
+            }
+            Err(Stop::Memory) => return Err(Stop::Memory),
+        }
+    }
+    Ok(text)
+}
