@@ -10,12 +10,12 @@ use Rattle.dd_model.specs.declared.index.Index.{Index}
 use Rattle.dd_model.specs.declared.index.Index.TheVariants.{Zero, One, Two}
 use Rattle.dd_model.specs.declared.pair.Pair.TheVariants.{Edge}
 use Rattle.dd_symbol.specs.Cells.{IsLeastFor}
+use Rattle.dd_symbol.proofs.CellMarks.{least_for_unique}
 use Rattle.dd_lattice.specs.Edges.{IsKindOf}
 use Rattle.dd_lattice.specs.declared.kinds.EdgeKind.TheVariants.{Crossing}
 use Rattle.dd_lattice.specs.Growing.{IsGrowing, IsTaken, IsExtended, HasLooked, is_set}
 use Rattle.dd_lattice.specs.Steps.{flag, on, back, across, AreCrossing, IsCrossingAt, IsStep, IsLedTo, IsReached, IsTree, IsLookedFrom, IsWholeTree}
 use Rattle.dd_lattice.specs.declared.step.Step.{Step}
-use Rattle.dd_lattice.proofs.KindLemmas.{one_least}
 
 -- ## Flags of crossing edges
 
@@ -40,7 +40,7 @@ count_set p xs i inside none some =
     plain ∙ left
 
 pub crossing_at : (t : Symbol) → AreInvolutions t → (flags : List Bool) → AreCrossing t flags → (d l : ℕ) → IsChamber t d → IsLeastFor t Edge d l → flag flags l ≡ true → IsCrossingAt t d
-crossing_at t inv flags are d l h least yes_ e other = subst (λ z. IsKindOf t z Crossing) (one_least t inv Edge d l e h least other) (are.yes l least.is_least yes_)
+crossing_at t inv flags are d l h least yes_ e other = subst (λ z. IsKindOf t z Crossing) (least_for_unique t inv Edge d l e h least other) (are.yes l least.is_least yes_)
 
 pub not_crossing_at : (t : Symbol) (flags : List Bool) → AreCrossing t flags → (d l : ℕ) → IsLeastFor t Edge d l → flag flags l ≡ false → IsCrossingAt t d → ⊥
 not_crossing_at t flags are d l least no_ at = are.no l least.is_least no_ (at l least)

@@ -10,10 +10,10 @@ use Rattle.dd_model.specs.declared.pair.Pair.TheVariants.{Edge}
 use Rattle.dd_model.specs.Symbol.{Symbol, AreInvolutions, IsChamber, Word, op, act}
 use Rattle.dd_model.specs.Cell.{IsWordOf, InCell, IsLeastOfCell, AreCells}
 use Rattle.dd_model.proofs.CellSearch.{least_of_cell_unique}
-use Rattle.dd_model.proofs.CellWalks.{in_cell-sym, in_cell-trans}
 use Rattle.dd_symbol.specs.Cells.{IsLeastFor}
 use Rattle.dd_cells.proofs.CellSums.{has_roots}
 use Rattle.dd_covers.proofs.Nodes.{root_beside}
+use Rattle.dd_symbol.proofs.CellMarks.{least_for_unique}
 use Rattle.dd_lattice.specs.Edges.{IsOfCells, AreCellsJoined, IsForestTo}
 use Rattle.dd_lattice.specs.Forest.{IsFalling, IsLevel, AreInOnePart, AreJoinedAt}
 
@@ -26,16 +26,12 @@ along t inv p g cells (i ∷ w) d h letters = along t inv p g cells w (op t i d)
 pub value_of_cell : (t : Symbol) → AreInvolutions t → (p : Pair) (g : ℕ → ℕ) → IsOfCells t p g → (d e : ℕ) → IsChamber t d → InCell t p d e → g e ≡ g d
 value_of_cell t inv p g cells d e h near = ap g (sym near.leads) ∙ along t inv p g cells near.word d h near.letters
 
-pub one_least : (t : Symbol) → AreInvolutions t → (p : Pair) (d a b : ℕ) → IsChamber t d → IsLeastFor t p d a → IsLeastFor t p d b → a ≡ b
-one_least t inv p d a b h one two =
-    least_of_cell_unique t inv p a b one.is_least two.is_least (in_cell-trans t p a d b (in_cell-sym t inv p d a h one.in_cell) two.in_cell)
-
 -- what holds of the least chambers of two cells that were found holds of any
 pub one_pair : (t : Symbol) → AreInvolutions t → (p : Pair) (d e : ℕ) {f : ℕ} → IsChamber t d → f ≡ e → IsChamber t f → (P : ℕ → ℕ → Type 0) (x y a b : ℕ)
     → IsLeastFor t p d x → IsLeastFor t p e y → IsLeastFor t p d a → IsLeastFor t p e b → P x y → P a b
 one_pair t inv p d e h is there P x y a b least_x least_y least_a least_b holds =
-    subst (P a) (one_least t inv p e y b (subst (IsChamber t) is there) least_y least_b)
-    (subst (λ z. P z y) (one_least t inv p d x a h least_x least_a) holds)
+    subst (P a) (least_for_unique t inv p e y b (subst (IsChamber t) is there) least_y least_b)
+    (subst (λ z. P z y) (least_for_unique t inv p d x a h least_x least_a) holds)
 
 -- ## Ascending edges
 
@@ -109,7 +105,7 @@ module _ (t : Symbol) (inv : AreInvolutions t) (p : Pair) (i : Index) (Counts : 
         let listed : q < length edges = omega arith in
         sym (subst (λ z. h (root z) ≡ h (root (op t i z))) own
         (linked q (root (edge q)) (root (op t i (edge q))) low listed (subst Counts (sym own) counts) (least (edge q) (edge_is q listed).0) (least (op t i (edge q)) ((inv i).within (edge q) (edge_is q listed).0))))) in
-        ap h (one_least t inv p (edge k) a (root (edge k)) chamber least_a (least (edge k) chamber)) ∙ sym same ∙ ap h (one_least t inv p (op t i (edge k)) (root (op t i (edge k))) b beside (least (op t i (edge k)) beside) least_b)
+        ap h (least_for_unique t inv p (edge k) a (root (edge k)) chamber least_a (least (edge k) chamber)) ∙ sym same ∙ ap h (least_for_unique t inv p (op t i (edge k)) (root (op t i (edge k))) b beside (least (op t i (edge k)) beside) least_b)
       where
         least : (d : ℕ) → IsChamber t d → IsLeastFor t p d ((has_roots t inv p).root d)
         least d h = record { in_cell = (has_roots t inv p).are.in_cell d h; is_least = (has_roots t inv p).are.least d h }
@@ -124,8 +120,8 @@ module _ (t : Symbol) (inv : AreInvolutions t) (p : Pair) (i : Index) (Counts : 
           (λ before. forest.linked h (joined.from h level) q x y before listed is least_x least_y)
           (λ last.
           let e : q ≡ k = omega arith in
-          let one = one_least t inv p (edge k) x a chamber (subst (λ z. IsLeastFor t p (edge z) x) e least_x) least_a in
-          let two = one_least t inv p (op t i (edge k)) b y beside least_b (subst (λ z. IsLeastFor t p (op t i (edge z)) y) e least_y) in
+          let one = least_for_unique t inv p (edge k) x a chamber (subst (λ z. IsLeastFor t p (edge z) x) e least_x) least_a in
+          let two = least_for_unique t inv p (op t i (edge k)) b y beside least_b (subst (λ z. IsLeastFor t p (op t i (edge z)) y) e least_y) in
           ap h one ∙ joined.joined h level ∙ ap h two)
           (cases_lt q k);
     }

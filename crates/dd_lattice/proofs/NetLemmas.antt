@@ -15,6 +15,7 @@ use Rattle.dd_model.proofs.CellWalks.{in_cell-refl}
 use Rattle.dd_cells.proofs.CellSums.{has_roots}
 use Rattle.dd_covers.proofs.Nodes.{root_beside}
 use Rattle.dd_covers.specs.Torus.{IsTorus}
+use Rattle.dd_symbol.proofs.CellMarks.{least_for_unique}
 use Rattle.dd_lattice.specs.Edges.{IsKindOf, IsOfCells, AreKindsOf, is_left}
 use Rattle.dd_lattice.specs.Lists.{AreLeftOf, AreVertexNumbers}
 use Rattle.dd_lattice.specs.NetOf.{IsVertexNumber, IsEdgeOf, IsNet}
@@ -25,7 +26,7 @@ use Rattle.dd_lattice.specs.declared.kinds.EdgeKind.TheVariants.{Tree, Crossing,
 use Rattle.dd_lattice.specs.declared.net.Net.{Net}
 use Rattle.dd_lattice.specs.declared.net_edge.NetEdge.{NetEdge}
 use Rattle.dd_lattice.proofs.Around.{vertices_joined}
-use Rattle.dd_lattice.proofs.KindLemmas.{listed_edge, one_least, same_default}
+use Rattle.dd_lattice.proofs.KindLemmas.{listed_edge, same_default}
 use Rattle.dd_lattice.proofs.TorusLaw.{two_left}
 
 -- ## The two edges that are left
@@ -112,7 +113,7 @@ module _ (t : Symbol) (torus : IsTorus t) (net : Net) (is : IsNet t net) where
       let low = told.positive in
       let high = told.within in
       let roots = (has_roots t inv Vertex).are in
-      let same = one_least t inv Vertex d (item is.vertices n) (root d) h told.least (record { in_cell = roots.in_cell d h; is_least = roots.least d h }) in
+      let same = least_for_unique t inv Vertex d (item is.vertices n) (root d) h told.least (record { in_cell = roots.in_cell d h; is_least = roots.least d h }) in
       let at = place_at is.vertices is.are_vertices.ascending (n - 1) (omega arith) in
       let moved = ap (place_in is.vertices) same in
       omega arith

@@ -16,6 +16,7 @@ use Rattle.dd_cells.specs.Orientation.{color}
 use Rattle.dd_covers.proofs.Labels.{labels, linked}
 use Rattle.dd_covers.proofs.Nodes.{root_beside}
 use Rattle.dd_covers.specs.Torus.{IsTorus}
+use Rattle.dd_symbol.proofs.CellMarks.{least_for_unique}
 use Rattle.dd_lattice.specs.Edges.{IsOfCells, IsTreeEdge, IsKindOf, AreKindsOf, is_crossing}
 use Rattle.dd_lattice.specs.NetOf.{IsVertexNumber, IsEdgeOf, IsNet}
 use Rattle.dd_lattice.specs.Shifts.{IsLeftEdge, AreLeft, AreShifts}
@@ -25,7 +26,7 @@ use Rattle.dd_lattice.specs.declared.kinds.EdgeKind.{EdgeKind}
 use Rattle.dd_lattice.specs.declared.kinds.EdgeKind.TheVariants.{Tree, Crossing, Left}
 use Rattle.dd_lattice.proofs.Around.{through_edge}
 use Rattle.dd_lattice.proofs.KindCounts.{links, link_listed, fresh_at}
-use Rattle.dd_lattice.proofs.KindLemmas.{listed_edge, one_least, same_default}
+use Rattle.dd_lattice.proofs.KindLemmas.{listed_edge, same_default}
 use Rattle.dd_lattice.proofs.KindsExist.{kinds_exist}
 use Rattle.dd_lattice.proofs.TileFlows.{even_at}
 use Rattle.dd_lattice.proofs.TileSums.{total, total_both, sum_as}
@@ -195,7 +196,7 @@ one_vertices t net other is are = is.many_vertices ∙ ap (λ (vs : List ℕ). l
 
 one_number : (t : Symbol) → AreInvolutions t → (vs : List ℕ) → AreCells t Vertex vs → (d m n : ℕ) → IsChamber t d → IsVertexNumber t vs d m → IsVertexNumber t vs d n → m ≡ n
 one_number t inv vs cells d m n h a b =
-    let same = one_least t inv Vertex d (item vs m) (item vs n) h a.least b.least in
+    let same = least_for_unique t inv Vertex d (item vs m) (item vs n) h a.least b.least in
     let ma = a.positive in
     let mb = a.within in
     let na = b.positive in

@@ -10,6 +10,7 @@ use Rattle.dd_model.proofs.CellWalks.{in_cell-first, in_cell-refl, in_cell-secon
 use Rattle.dd_cells.proofs.CellSums.{has_roots}
 use Rattle.dd_cells.specs.Orientation.{color}
 use Rattle.dd_covers.specs.Torus.{IsTorus}
+use Rattle.dd_symbol.proofs.CellMarks.{least_for_unique}
 use Rattle.dd_lattice.specs.Edges.{IsOfCells, IsTreeEdge, IsKindOf, AreKindsOf, is_crossing}
 use Rattle.dd_lattice.specs.Steps.{across, IsCrossingAt, IsLedTo, IsReached, IsWholeTree}
 use Rattle.dd_lattice.specs.declared.kinds.EdgeKind.{EdgeKind}
@@ -19,7 +20,7 @@ use Rattle.dd_lattice.proofs.Around.{commute}
 use Rattle.dd_lattice.proofs.ClosedPaths.{reached_color}
 use Rattle.dd_lattice.proofs.Dual.{all_tiles}
 use Rattle.dd_lattice.proofs.KindCounts.{level_by_chosen}
-use Rattle.dd_lattice.proofs.KindLemmas.{listed_edge, one_least}
+use Rattle.dd_lattice.proofs.KindLemmas.{listed_edge}
 use Rattle.dd_lattice.proofs.PathLemmas.{across_back, across_cell, crossing_in_cell}
 use Rattle.dd_lattice.proofs.TreeCounts.{crossing_chosen, crossing_not_chosen}
 
@@ -137,7 +138,7 @@ module _ (t : Symbol) (torus : IsTorus t) (first : ℕ) (steps : List Step) (who
     crossing_there : (q : ℕ) → q < length edges → is_crossing (get_or kinds q Left) ≡ true → IsCrossingAt t (get_or edges q 0)
     crossing_there q inside yes_ e least =
         let here = listed_edge t edges cells q inside in
-        let same = one_least t inv Edge (get_or edges q 0) (get_or edges q 0) e here.0 (record { in_cell = in_cell-refl t Edge (get_or edges q 0); is_least = here }) least in
+        let same = least_for_unique t inv Edge (get_or edges q 0) (get_or edges q 0) e here.0 (record { in_cell = in_cell-refl t Edge (get_or edges q 0); is_least = here }) least in
         subst (λ z. IsKindOf t z Crossing) same (crossing_chosen t inv edges cells kinds are q inside yes_)
 
     everywhere : (d : ℕ) → IsChamber t d → g d ≡ g 1
