@@ -85,7 +85,7 @@ NOT_TAKEN = (
     "--version",
     "resume",
     "resume c --tiles 1",
-    "draw f",
+    "draw f --cell round",
     "exercise 1 1",
 )
 
@@ -114,6 +114,7 @@ REFUSED = (
     ("minimal", "<1.1:2:1 2,2,1 2:30,60>", "symbol 1: branching too large 60"),
     ("torus", "<1.1:1:1,1,1:3,3>", "symbol 1: not flat 1/6"),
     ("torus", "<1.1:1:1,1,1:3,7>", "symbol 1: not flat -1/42"),
+    ("draw", "<1.1:1:1,1,1:4,4><1.2:1:1,1,1:3,7>", "symbol 2: not flat -1/42"),
 )
 
 # Chains of calls under a name: what it holds at first, and for each call its words, how many lines the chain has written before
@@ -137,6 +138,24 @@ TURNED_OCTAGONS = "<1.1:6:4 5 6,4 6 5,5 4 6:4 8,3>\n"
 GREAT_RHOMBS = "<1.1:6:1 2 3 4 5 6,2 5 6,3 4 6:4 6 12,3>\n"
 ONE_SQUARE = "<1.1:8:2 4 6 8,8 3 5 7,6 5 8 7:4,4>\n"
 
+SQUARE_DRAWING = """\
+<svg xmlns="http://www.w3.org/2000/svg" viewBox="-100 -100 1200 1200" fill="none" stroke="black" stroke-width="6">
+<path d="M0 0L1000 0L1000 1000L0 1000Z" stroke="silver"/>
+<path d="M0 0L1000 0"/>
+<path d="M0 0L0 1000"/>
+<circle cx="0" cy="0" r="12" data-at="0/1 0/1"/>
+</svg>
+"""
+TRIANGLE_DRAWING = """\
+<svg xmlns="http://www.w3.org/2000/svg" viewBox="-100 -966 1700 1932" fill="none" stroke="black" stroke-width="6">
+<path d="M0 0L1000 0L1500 866L500 866Z" stroke="silver"/>
+<path d="M0 0L500 -866"/>
+<path d="M0 0L1000 0"/>
+<path d="M0 0L500 866"/>
+<circle cx="0" cy="0" r="12" data-at="0/1 0/1"/>
+</svg>
+"""
+
 # A command, a file and what is written of it.
 FILES = (
     ("lines", "<7.3:3:1 2 3,2 3,3 2:8 4,3>", "<1.1:3:1 2 3,2 3,3 2:8 4,3>\n"),
@@ -155,6 +174,10 @@ FILES = (
     ("oriented", ROTATIONS, ROTATIONS),
     ("oriented", "<1.1:1:1,1,1:3,7>", "<1.1:2:2,2,2:3,7>\n"),
     ("torus", SQUARES, "<1.1:8:2 7 6 8,3 5 7 8,4 6 5 8:4,4>\n"),
+    ("draw", SQUARES, SQUARE_DRAWING),
+    ("draw --cell square", SQUARES * 2, SQUARE_DRAWING * 2),
+    ("draw --cell hex", "<1.1:1:1,1,1:3,6>", TRIANGLE_DRAWING),
+    ("draw", "", ""),
     ("ambo", "<1.1:1:1,1,1:3,6>", TRIHEXAGONS),
     ("truncate", SQUARES, OCTAGONS),
     ("chamfer", "", ""),

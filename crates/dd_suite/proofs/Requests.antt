@@ -6,20 +6,21 @@ use Rattle.dd_words.specs.Grammar.{IsCommand}
 use Rattle.dd_words.proofs.ReadCommands.{one_command}
 use Rattle.dd_words.proofs.Validity.{valid, IsPace, pace as pace_of, resume_pace, lone_pause}
 use Rattle.dd_words.specs.declared.commands.Command.{Command}
-use Rattle.dd_words.specs.declared.commands.Command.TheVariants.{Catalogue, Resume, File}
+use Rattle.dd_words.specs.declared.commands.Command.TheVariants.{Catalogue, Resume, File, Draw as Drawing}
 use Rattle.dd_words.specs.declared.commands.FileKind.{FileKind}
 use Rattle.dd_words.specs.declared.commands.FileKind.TheVariants as kind
 use Rattle.dd_chain.specs.Calls.{Task as ChainTask, Catalogue as First, Resume as Next}
 use Rattle.dd_commands.specs.declared.commands.FileCommand.{FileCommand}
-use Rattle.dd_commands.specs.declared.commands.FileCommand.TheVariants.{Symbols, Info}
+use Rattle.dd_commands.specs.declared.commands.FileCommand.TheVariants.{Symbols, Info, Draw}
+use Rattle.dd_commands.specs.declared.commands.SymbolCommand.{SymbolCommand}
 use Rattle.dd_commands.specs.declared.commands.SymbolCommand.TheVariants.{Lines, Canon, Minimal, Dual, Oriented, Torus, Derived}
 use Rattle.dd_catalogue.specs.declared.pace.Pace.{Pace}
 use Rattle.dd_suite.specs.declared.task.Task.{Task}
 use Rattle.dd_suite.specs.declared.task.Task.TheVariants as task
-use Rattle.dd_suite.specs.Words.{Order, run_command, AskForRun, kind_of, IsOnFile, AreTaken}
+use Rattle.dd_suite.specs.Words.{Order, run_command, AskForRun, kind_of, file_command, IsOnFile, AreTaken}
 use Rattle.dd_suite.specs.Commands.{IsTaskOf, AskForTask}
 
--- the command on files of a kind
+-- what a command on a file asks for, and its file
 command_of : FileKind → FileCommand
 command_of kind.Info = Info
 command_of kind.Lines = Symbols Lines
@@ -30,19 +31,31 @@ command_of (kind.Derived operation) = Symbols (Derived operation)
 command_of kind.Oriented = Symbols Oriented
 command_of kind.Torus = Symbols Torus
 
-back_from_kind : (k : FileCommand) → command_of (kind_of k) ≡ k
-unfolding command_of
-back_from_kind Info = refl
-back_from_kind (Symbols Lines) = refl
-back_from_kind (Symbols Canon) = refl
-back_from_kind (Symbols Minimal) = refl
-back_from_kind (Symbols Dual) = refl
-back_from_kind (Symbols Oriented) = refl
-back_from_kind (Symbols Torus) = refl
-back_from_kind (Symbols (Derived operation)) = refl
+asked_by : Command → Option (FileCommand × List ℕ)
+asked_by (File kind name) = Some (command_of kind, name)
+asked_by (Drawing name frame) = Some (Draw frame, name)
+asked_by other = None
 
-same_kind : (k l : FileCommand) → kind_of k ≡ kind_of l → k ≡ l
-same_kind k l e = sym (back_from_kind k) ∙ ap command_of e ∙ back_from_kind l
+back_from_kind : (made : SymbolCommand) → command_of (kind_of made) ≡ Symbols made
+unfolding command_of
+back_from_kind Lines = refl
+back_from_kind Canon = refl
+back_from_kind Minimal = refl
+back_from_kind Dual = refl
+back_from_kind Oriented = refl
+back_from_kind Torus = refl
+back_from_kind (Derived operation) = refl
+
+back_from_command : (k : FileCommand) (name : List ℕ) → asked_by (file_command k name) ≡ Some (k, name)
+unfolding asked_by command_of
+back_from_command Info name = refl
+back_from_command (Symbols made) name = ap (λ (k : FileCommand). Some (k, name)) (back_from_kind made)
+back_from_command (Draw frame) name = refl
+
+same_asked : (p q : FileCommand × List ℕ) → Some p ≡ Some q → (p.0 ≡ q.0) × (p.1 ≡ q.1)
+same_asked p q e =
+    let same : p ≡ q = cc in
+    (ap (λ (r : FileCommand × List ℕ). r.0) same, ap (λ (r : FileCommand × List ℕ). r.1) same)
 
 -- the run that a command asks for, and nothing for other commands
 order_of : Command → Option Order
@@ -55,9 +68,11 @@ unfolding order_of
 order_told (First q name) workers round pause = refl
 order_told (Next name) workers round pause = refl
 
-no_order : (k : FileCommand) (name : List ℕ) → order_of (File (kind_of k) name) ≡ None
+no_order : (k : FileCommand) (name : List ℕ) → order_of (file_command k name) ≡ None
 unfolding order_of
-no_order k name = refl
+no_order Info name = refl
+no_order (Symbols made) name = refl
+no_order (Draw frame) name = refl
 
 same_some : (a b : Order) → Some a ≡ Some b → a ≡ b
 same_some a b e = cc
@@ -77,10 +92,7 @@ not_both words order k name a b =
 
 pub same_command : (words : List (List ℕ)) (k l : FileCommand) (a b : List ℕ) → IsOnFile words k a → IsOnFile words l b → (k ≡ l) × (a ≡ b)
 same_command words k l a b h i =
-    let e : File (kind_of k) a ≡ File (kind_of l) b = one_command words _ _ h i in
-    let kinds : kind_of k ≡ kind_of l = cc in
-    let names : a ≡ b = cc in
-    (same_kind k l kinds, names)
+    same_asked (k, a) (l, b) (sym (back_from_command k a) ∙ ap asked_by (one_command words _ _ h i) ∙ back_from_command l b)
 
 -- ## Tasks
 
@@ -94,7 +106,7 @@ pub no_task : (words : List (List ℕ)) (c : Command) → IsCommand words c → 
 no_task words c is none (inl (order, a)) =
     let found = run_task c order.task a.workers order.round order.pause (one_command words c _ is a.command) in
     none found.0 found.1
-no_task words c is none (inr (k, name, a)) = none (task.OnFile k name) (one_command words c (File (kind_of k) name) is a)
+no_task words c is none (inr (k, name, a)) = none (task.OnFile k name) (one_command words c (file_command k name) is a)
 
 -- the task of a command is that of its words
 pub task_of_words : (words : List (List ℕ)) (c : Command) (o : Option Task) → IsCommand words c → MatchOption o ((t : Task) → IsTaskOf c t → ⊥) (IsTaskOf c)
@@ -105,7 +117,7 @@ task_of_words words c (Some t) is of = record { command = c; asked = is; task_is
 -- words that no command fits are not taken
 pub none_taken : (words : List (List ℕ)) → ((c : Command) → IsCommand words c → ⊥) → AreTaken words → ⊥
 none_taken words none (inl (order, a)) = none (run_command order.task a.workers order.round order.pause) a.command
-none_taken words none (inr (k, name, a)) = none (File (kind_of k) name) a
+none_taken words none (inr (k, name, a)) = none (file_command k name) a
 
 -- what was read is what the words ask for
 pub asked_of : (words : List (List ℕ)) (o : Option Task) (t u : Task) → MatchOption o (¬ AreTaken words) (AskForTask words) → o ≡ Some t → t ≡ u → AskForTask words u

@@ -5,14 +5,14 @@ use Rattle.dd_words.specs.declared.commands.Command.TheVariants as command
 use Rattle.dd_suite.specs.declared.task.Task.{Task}
 use Rattle.dd_suite.specs.declared.task.Task.TheVariants.{Catalogue, Kept, Resume, OnFile}
 use Rattle.dd_words.specs.Grammar.{IsCommand}
-use Rattle.dd_suite.specs.Words.{kind_of}
+use Rattle.dd_suite.specs.Words.{file_command}
 
 -- the command is that of a task
 abbrev pub IsTaskOf : Command → Task → Type 0
 IsTaskOf c (Catalogue q pace) = (pause : Option ℕ) × (c ≡ command.Catalogue q pace.workers pace.round pause None)
 IsTaskOf c (Kept q name pace pause) = c ≡ command.Catalogue q pace.workers pace.round pause (Some name)
 IsTaskOf c (Resume name pace pause) = c ≡ command.Resume name pace.workers pace.round pause
-IsTaskOf c (OnFile kind name) = c ≡ command.File (kind_of kind) name
+IsTaskOf c (OnFile asked name) = c ≡ file_command asked name
 
 -- the words ask for this task
 pub record AskForTask (words : List (List ℕ)) (task : Task) : Type 0 where

@@ -8,7 +8,8 @@ use Rattle.dd_words.specs.declared.commands.FileKind.{FileKind}
 use Rattle.dd_words.specs.declared.commands.FileKind.TheVariants as kind
 use Rattle.dd_chain.specs.Calls.{Task, Catalogue, Resume}
 use Rattle.dd_commands.specs.declared.commands.FileCommand.{FileCommand}
-use Rattle.dd_commands.specs.declared.commands.FileCommand.TheVariants.{Symbols, Info}
+use Rattle.dd_commands.specs.declared.commands.FileCommand.TheVariants.{Symbols, Info, Draw}
+use Rattle.dd_commands.specs.declared.commands.SymbolCommand.{SymbolCommand}
 use Rattle.dd_commands.specs.declared.commands.SymbolCommand.TheVariants.{Lines, Canon, Minimal, Dual, Oriented, Torus, Derived}
 
 -- A run of a chain as words ask for it: its task, how many jobs go into a round, and after how many lines it is to pause, if it is.
@@ -40,20 +41,25 @@ pub record AskToResume (words : List (List ℕ)) (name : List ℕ) : Type 0 wher
   pub pause : Option ℕ
   pub run : AskForRun words (record { task = Resume name; round = round; pause = pause })
 
--- the words of the commands on files that the program has
-abbrev pub kind_of : FileCommand → FileKind
-kind_of Info = kind.Info
-kind_of (Symbols Lines) = kind.Lines
-kind_of (Symbols Canon) = kind.Canon
-kind_of (Symbols Minimal) = kind.Minimal
-kind_of (Symbols Dual) = kind.Dual
-kind_of (Symbols Oriented) = kind.Oriented
-kind_of (Symbols Torus) = kind.Torus
-kind_of (Symbols (Derived operation)) = kind.Derived operation
+-- what a command makes of each symbol, as words ask for it
+abbrev pub kind_of : SymbolCommand → FileKind
+kind_of Lines = kind.Lines
+kind_of Canon = kind.Canon
+kind_of Minimal = kind.Minimal
+kind_of Dual = kind.Dual
+kind_of Oriented = kind.Oriented
+kind_of Torus = kind.Torus
+kind_of (Derived operation) = kind.Derived operation
+
+-- the commands on the file of a name
+abbrev pub file_command : FileCommand → List ℕ → Command
+file_command Info name = command.File kind.Info name
+file_command (Symbols made) name = command.File (kind_of made) name
+file_command (Draw frame) name = command.Draw name frame
 
 -- the words of a command on the file of a name
 abbrev pub IsOnFile : List (List ℕ) → FileCommand → List ℕ → Type 0
-IsOnFile words asked name = IsCommand words (command.File (kind_of asked) name)
+IsOnFile words asked name = IsCommand words (file_command asked name)
 
 -- the words name a file
 abbrev pub NameFile : List (List ℕ) → Type 0

@@ -1,7 +1,7 @@
-ghost use Rattle.std.specs.Prelude.{◌≡◌, map, IfOk, MatchOption};
+ghost use Rattle.std.specs.Prelude.{◌≡◌, ℕ, List, map, IfOk, MatchOption};
 ghost use Rattle.std.specs.Rc.{rc_str_bytes};
 ghost use Rattle.dd_words.specs.declared.commands.Command.TheVariants as commands;
-ghost use Rattle.dd_suite.specs.Words.{AreTaken, kind_of};
+ghost use Rattle.dd_suite.specs.Words.{AreTaken, file_command};
 ghost use Rattle.dd_suite.specs.Commands.{IsTaskOf, AskForTask};
 ghost use Rattle.dd_suite.specs.declared.task.Task.{Task as Asked};
 
@@ -48,6 +48,7 @@ fn task_of(command: Command) -> Option<Task>
             pause,
         }),
         Command::File { kind, file } => Some(Task::OnFile(command_of(kind), file)),
+        Command::Draw { file, frame } => Some(Task::OnFile(FileCommand::Draw(frame), file)),
         _ => None,
     }
 }
@@ -69,7 +70,7 @@ fn catalogue_of(request: Request, pace: Pace, pause: Option<u32>, name: Option<N
 
 /// The command on files of a kind.
 fn command_of(kind: FileKind) -> FileCommand
-    ensures { kind ≡ kind_of result }
+    ensures { (name : List ℕ) → commands.File kind name ≡ file_command result name }
 {
     match kind {
         FileKind::Info => FileCommand::Info,
