@@ -3,7 +3,7 @@ ghost use Rattle.std.specs.Prelude.{◌*◌, ◌<◌, IsTrue, length};
 use dd_model::Job;
 
 /// So many jobs for each worker are to wait.
-const AHEAD: u64 = 16;
+const AHEAD: u64 = 4;
 
 /// Whether something may be under one of a job's children. Where nothing is under any of them a search
 /// may answer one child alone, with the number 0.
