@@ -139,7 +139,8 @@ curvature_unique s x y is cx cy =
     let some = all_degrees_positive s is in
     fraction_unique x y (pos (2 * reciprocals s) -ℤ pos (s.size * all_degrees s)) (2 * all_degrees s) (omega arith) cx.reduced cy.reduced cx.value cy.value
 
-size_zero : (z : ℤ) → nat_abs z ≡ 0 → z ≡ pos 0
+-- a whole number of size 0 is 0
+pub size_zero : (z : ℤ) → nat_abs z ≡ 0 → z ≡ pos 0
 size_zero z e = omega (arith, ints)
 
 no_factor : (a m : ℕ) → 1 ≤ m → a * m ≡ 0 → a ≡ 0

@@ -13,7 +13,7 @@ use Rattle.dd_lattice.proofs.OneChoice.{one_vertices, one_net}
 use Rattle.dd_draw.specs.Document.{document}
 use Rattle.dd_draw.specs.Placement.{IsPlacement}
 use Rattle.dd_draw.specs.Tables.{place_at}
-use Rattle.dd_commands.proofs.SameNets.{wide_same, place_same, placement_same}
+use Rattle.dd_draw.proofs.SameNets.{wide_same, place_same, placement_same}
 use Rattle.dd_draw.proofs.Uniqueness.{placement_unique}
 use Rattle.dd_commands.specs.declared.refusals.SymbolFault.{SymbolFault}
 use Rattle.dd_commands.specs.declared.refusals.SymbolFault.TheVariants.{TooManyChambers, BranchingTooLarge, NotFlat, TooManyVertices, TooWide}

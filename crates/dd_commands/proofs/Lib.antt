@@ -1,7 +1,6 @@
 pub mod InTurnLemmas
 pub mod MadeOnce
 pub mod TorusForms
-pub mod SameNets
 pub mod DrawnOnce
 pub mod TotalsLemmas
 pub mod TotalsSteps

@@ -1,14 +1,11 @@
 -- Products that are 0, and fractions by their cross products.
-use Rattle.std.proofs.Common.{◌≡◌, ◌≢◌, ℕ, zero, suc, ◌*◌, ◌≤◌, ℤ, pos, negsuc, nat_abs, ◌+ℤ◌, ◌-ℤ◌, ◌*ℤ◌, ◌<ℤ◌, refl, sym, ap, ◌∙◌, subst, arith}
+use Rattle.std.proofs.Common.{◌≡◌, ◌≢◌, ℕ, zero, suc, ◌*◌, ◌≤◌, ℤ, pos, nat_abs, ◌+ℤ◌, ◌-ℤ◌, ◌*ℤ◌, ◌<ℤ◌, refl, sym, ap, ◌∙◌, subst, arith}
 use Rattle.std.proofs.lemmas.Int.{ints, unsigned_abs-mul}
 use Rattle.dd_cells.specs.Fraction.{IsReduced}
 use Rattle.dd_cells.specs.declared.fractions.Fraction.{Fraction}
+use Rattle.dd_cells.proofs.CurvatureLemmas.{size_zero}
 use Rattle.dd_cells.proofs.FractionLemmas.{denominator, fraction_unique}
 use Rattle.dd_draw.proofs.Rings.{at, nat, equal, ◌⊞◌, ◌⊟◌, ◌⊠◌}
-
-pub size_zero : (a : ℤ) → nat_abs a ≡ 0 → a ≡ pos 0
-size_zero (pos n) e = ap pos e
-size_zero (negsuc n) e = absurd (omega arith)
 
 no_product : (m n : ℕ) → m * n ≡ 0 → (n ≡ 0 → ⊥) → m ≡ 0
 no_product zero n e some = refl

@@ -19,3 +19,4 @@ pub mod TableReading
 pub mod Placed
 pub mod Spots
 pub mod PlaceOrder
+pub mod SameNets

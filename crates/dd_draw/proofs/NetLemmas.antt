@@ -1,10 +1,10 @@
 -- Nets that are connected: numbers at the vertices that are balanced without shifts are 0.
 use Rattle.std.proofs.Common.{◌≡◌, ℕ, zero, suc, ◌<◌, ◌≤◌, ◌⊎◌, ℤ, pos, nat_abs, List, [], ◌∷◌, length, get_or, ap, ◌∙◌, arith}
 use Rattle.std.specs.List.{AllByRecursion}
+use Rattle.dd_cells.proofs.CurvatureLemmas.{size_zero}
 use Rattle.dd_lattice.specs.Nets.{IsConnectedNet}
 use Rattle.dd_lattice.specs.declared.net.Net.{Net}
 use Rattle.dd_lattice.specs.declared.net_edge.NetEdge.{NetEdge}
-use Rattle.dd_draw.proofs.Integers.{size_zero}
 use Rattle.dd_draw.proofs.Pulls.{IsInside, IsLevel, level}
 use Rattle.dd_draw.specs.Placement.{pull}
 

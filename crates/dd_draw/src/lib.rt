@@ -18,5 +18,5 @@ pub use drawing::svg;
 pub use laws::{a_connected_net_has_one_placement, a_net_has_one_first_wide_place};
 pub use place_fault::PlaceFault;
 pub use places::Places;
-pub use placing::place;
+pub use placing::{MOST_VERTICES, place};
 pub use point::Point;

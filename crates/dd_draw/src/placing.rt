@@ -18,7 +18,7 @@ use dd_model::Memory;
 use std::alloc::Global;
 
 /// The most vertices of a net that is placed.
-const MOST_VERTICES: u32 = 96;
+pub const MOST_VERTICES: u32 = 96;
 
 /// The points that the last table tells: the first vertex is at the origin, and of each other one
 /// the coordinates stand in the two columns of the shifts.
