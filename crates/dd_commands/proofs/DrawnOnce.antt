@@ -2,16 +2,16 @@
 use Rattle.std.proofs.Common.{◌≡◌, ◌<◌, ◌≤◌, ℕ, zero, suc, ◌+◌, List, [], ◌∷◌, ◌++◌, take, get_or, length, append-nil, inl, inr, refl, sym, ap, ◌∙◌, subst, ⊎_elim, arith}
 use Rattle.std.proofs.lemmas.List.{append_assoc}
 use Rattle.std.specs.List.{AllByRecursion}
+use Rattle.dd_model.specs.declared.pair.Pair.TheVariants.{Vertex}
 use Rattle.dd_model.specs.Symbol.{Symbol}
+use Rattle.dd_model.specs.Cell.{AreCells}
 use Rattle.dd_model.specs.Reading.{IsReadable}
-use Rattle.dd_covers.specs.Torus.{IsTorus}
 use Rattle.dd_lattice.specs.NetOf.{IsNet}
 use Rattle.dd_lattice.specs.declared.frame.Frame.{Frame}
 use Rattle.dd_lattice.specs.declared.net.Net.{Net}
 use Rattle.dd_lattice.proofs.NetLemmas.{connected_net}
 use Rattle.dd_lattice.proofs.OneChoice.{one_vertices, one_net}
 use Rattle.dd_draw.specs.Document.{document}
-use Rattle.dd_draw.specs.Placement.{IsPlacement}
 use Rattle.dd_draw.specs.Tables.{place_at}
 use Rattle.dd_draw.proofs.SameNets.{wide_same, place_same, placement_same}
 use Rattle.dd_draw.proofs.Uniqueness.{placement_unique}
@@ -21,10 +21,10 @@ use Rattle.dd_commands.specs.declared.refusals.SymbolRefusal.{SymbolRefusal}
 use Rattle.dd_commands.specs.declared.stop.Stop.{Stop}
 use Rattle.dd_commands.specs.declared.stop.Stop.TheVariants.{Refused, Memory}
 use Rattle.dd_commands.specs.Made.{IsCurved}
-use Rattle.dd_commands.specs.Drawings.{IsTorusNet, IsDrawing, AreDrawings, IsPlaceRefusal, IsUnplaced, IsUndrawn, IsDrawn, IsFirstUndrawn}
+use Rattle.dd_commands.specs.Drawings.{IsTorusNet, IsDrawing, AreDrawings, IsWideNet, IsCrowded, IsUndrawn, IsFirstUndrawn}
 use Rattle.dd_commands.specs.Stops.{IsStop}
-use Rattle.dd_commands.proofs.MadeOnce.{torus_once}
-use Rattle.dd_commands.proofs.TorusForms.{least_torus}
+use Rattle.dd_commands.proofs.MadeOnce.{torus_cover_once, torus_once}
+use Rattle.dd_commands.proofs.TorusForms.{cover_torus, least_torus, many_vertices}
 
 -- two nets of a symbol are nets of one torus
 one_torus : (s : Symbol) (a b : Net) → IsReadable s → (x : IsTorusNet s a) → IsTorusNet s b → IsNet x.torus b
@@ -50,21 +50,34 @@ drawings_once frame (s ∷ ss) one other readable x y =
     x.4 ∙ ap (λ a. a ++ x.1) (drawing_once frame s x.0 y.0 readable.0 x.2 y.2)
     ∙ ap (λ b. y.0 ++ b) (drawings_once frame ss x.1 y.1 readable.1 x.3 y.3) ∙ sym y.4
 
--- a symbol that is not placed is not drawn
-not_placed : (frame : Frame) (s : Symbol) (text : List ℕ) (net : Net) (why : SymbolFault) → IsReadable s → IsTorusNet s net → IsPlaceRefusal net why → IsDrawing frame s text → ⊥
-not_placed frame s text net (TooManyChambers n) readable of refusal is = refusal
-not_placed frame s text net (BranchingTooLarge v) readable of refusal is = refusal
-not_placed frame s text net (NotFlat x) readable of refusal is = refusal
-not_placed frame s text net (TooManyVertices count) readable of refusal is =
-    let many = same_vertices s net is.net readable of is.is_net in
-    let over = refusal.0 in
-    let few = is.few in
-    omega (arith, many, over, few)
-not_placed frame s text net (TooWide step row column) readable of refusal is =
+-- a symbol whose net has a number that is too wide is not drawn
+not_narrow : (frame : Frame) (s : Symbol) (text : List ℕ) (net : Net) (why : SymbolFault) → IsReadable s → IsTorusNet s net → IsWideNet net why → IsDrawing frame s text → ⊥
+not_narrow frame s text net (TooManyChambers n) readable of wide is = wide
+not_narrow frame s text net (BranchingTooLarge v) readable of wide is = wide
+not_narrow frame s text net (NotFlat x) readable of wide is = wide
+not_narrow frame s text net (TooManyVertices count) readable of wide is = wide
+not_narrow frame s text net (TooWide step row column) readable of wide is =
     let many = same_vertices s net is.net readable of is.is_net in
     let edges = same_edges s net is.net readable of is.is_net in
     let p = place_at step row column in
-    is.narrow p (place_same net is.net many edges p refusal.1.place) (wide_same net is.net many edges p refusal.1.wide)
+    is.narrow p (place_same net is.net many edges p wide.place) (wide_same net is.net many edges p wide.wide)
+
+-- the torus cover of a symbol that is drawn has at most 96 vertices
+not_few : (frame : Frame) (s : Symbol) (text : List ℕ) (why : SymbolFault) → IsReadable s → IsCrowded s why → IsDrawing frame s text → ⊥
+not_few frame s text (TooManyChambers n) readable crowded is = crowded
+not_few frame s text (BranchingTooLarge v) readable crowded is = crowded
+not_few frame s text (NotFlat x) readable crowded is = crowded
+not_few frame s text (TooManyVertices count) readable crowded is =
+    let least = is.is_net.least in
+    let same = torus_cover_once s crowded.cover least.cover crowded.below least.below readable crowded.flat crowded.is_cover least.is_cover in
+    let torus = cover_torus s least.cover least.below readable least.flat least.is_cover in
+    let vertices = subst (λ c. AreCells c Vertex crowded.vertices) same crowded.are_vertices in
+    let many = many_vertices least.cover is.is_net.torus is.net crowded.vertices torus least.least is.is_net.is_net vertices in
+    let told = crowded.many in
+    let over = crowded.over in
+    let few = is.few in
+    omega (arith, many, told, over, few)
+not_few frame s text (TooWide step row column) readable crowded is = crowded
 
 not_curved : (frame : Frame) (s : Symbol) (text : List ℕ) (why : SymbolFault) → IsCurved s why → IsDrawing frame s text → ⊥
 not_curved frame s text (TooManyChambers n) curved is = curved
@@ -75,7 +88,9 @@ not_curved frame s text (TooWide step row column) curved is = curved
 
 undrawn : (frame : Frame) (s : Symbol) (text : List ℕ) (why : SymbolFault) → IsReadable s → IsUndrawn s why → IsDrawing frame s text → ⊥
 undrawn frame s text why readable fault is =
-    ⊎_elim (λ curved. not_curved frame s text why curved is) (λ off. not_placed frame s text off.net why readable off.is_net off.why is) fault
+    ⊎_elim (λ curved. not_curved frame s text why curved is)
+    (λ off. ⊎_elim (λ crowded. not_few frame s text why readable crowded is)
+    (λ h. not_narrow frame s text h.net why readable h.is_net h.wide is) off) fault
 
 pub none_drawn : (frame : Frame) (k : ℕ) (ss : List Symbol) (text : List ℕ) (r : SymbolRefusal) → AllByRecursion IsReadable ss → IsFirstUndrawn frame k ss r → AreDrawings frame ss text → ⊥
 none_drawn frame k [] text r readable fault is = fault
@@ -83,9 +98,14 @@ none_drawn frame k (s ∷ ss) text r readable (inl here) is = undrawn frame s is
 none_drawn frame k (s ∷ ss) text r readable (inr later) is = none_drawn frame (k + 1) ss is.1 r readable.1 later.1 is.3
 
 -- why a net is not placed is why its symbol is not drawn
-pub stop_of_net : (s : Symbol) (net : Net) (stop : Stop SymbolFault) → IsTorusNet s net → IsStop (IsPlaceRefusal net) stop → IsStop (IsUndrawn s) stop
-stop_of_net s net (Refused why) of is = inr (record { net = net; is_net = of; why = is })
-stop_of_net s net Memory of is = tt
+pub stop_of_net : (s : Symbol) (net : Net) (stop : Stop SymbolFault) → IsTorusNet s net → net.vertices ≤ 96 → IsStop (IsWideNet net) stop → IsStop (IsUndrawn s) stop
+stop_of_net s net (Refused why) of few is = inr (inr (record { net = net; is_net = of; few = few; wide = is }))
+stop_of_net s net Memory of few is = tt
+
+-- a symbol that is not flat is not drawn
+pub stop_of_curved : (s : Symbol) (stop : Stop SymbolFault) → IsStop (IsCurved s) stop → IsStop (IsUndrawn s) stop
+stop_of_curved s (Refused why) is = inl is
+stop_of_curved s Memory is = tt
 
 -- one drawing more
 pub drawings_more : (frame : Frame) (ss : List Symbol) (s : Symbol) (text one : List ℕ) → AreDrawings frame ss text → IsDrawing frame s one → AreDrawings frame (ss ++ s ∷ []) (text ++ one)

@@ -1,6 +1,6 @@
 pub mod InTurnLemmas
-pub mod MadeOnce
 pub mod TorusForms
+pub mod MadeOnce
 pub mod DrawnOnce
 pub mod TotalsLemmas
 pub mod TotalsSteps

@@ -3,14 +3,15 @@ use Rattle.std.proofs.Common.{◌≡◌, ◌≤◌, ℕ, ◌+◌, List, [], ◌�
 use Rattle.std.specs.List.{AllByRecursion}
 use Rattle.dd_model.specs.Symbol.{Symbol, IsTable}
 use Rattle.dd_model.specs.Code.{IsLeastForm}
+use Rattle.dd_model.specs.Flat.{Flat}
 use Rattle.dd_model.specs.Reading.{IsReadable}
 use Rattle.dd_model.proofs.Codes.{least_unique}
 use Rattle.dd_model.proofs.Isomorphisms.{Isomorphic-sym, Isomorphic-trans}
 use Rattle.dd_model.proofs.LeastForms.{same_least_forms}
 use Rattle.dd_covers.specs.OrientedCover.{IsOrientedCover}
-use Rattle.dd_covers.specs.TorusCover.{IsTorusCoverOf}
+use Rattle.dd_covers.specs.TorusCover.{IsTorusCover, IsTorusCoverOf}
 use Rattle.dd_covers.proofs.OrientedLemmas.{small_of_two}
-use Rattle.dd_covers.proofs.TorusCovers.{middle_of, torus_above}
+use Rattle.dd_covers.proofs.TorusCovers.{middle_of}
 use Rattle.dd_covers.proofs.Uniqueness.{one_cover}
 use Rattle.dd_quotient.specs.Dual.{dual_of}
 use Rattle.dd_quotient.proofs.DualLemmas.{small_symbol-dual}
@@ -29,6 +30,7 @@ use Rattle.dd_commands.specs.declared.refusals.SymbolFault.TheVariants.{TooManyC
 use Rattle.dd_commands.specs.declared.refusals.SymbolRefusal.{SymbolRefusal}
 use Rattle.dd_commands.specs.Made.{IsLeastImage, IsLeastCover, IsLeastTorus, IsDerived, IsMade, IsFaultOf, IsFirstFault}
 use Rattle.dd_commands.proofs.InTurnLemmas.{in_turn_unique}
+use Rattle.dd_commands.proofs.TorusForms.{cover_torus}
 
 form_once : (s t u : Symbol) → IsTable s → IsLeastForm s t → IsLeastForm s u → t ≡ u
 form_once s t u table a b =
@@ -62,18 +64,21 @@ cover_once s t u readable a b =
     form_once a.cover t u (cover_table s a.cover a.below readable a.is_cover) a.least (subst (λ c. IsLeastForm c u) same b.least)
 
 -- a flat symbol has one torus cover
-pub torus_once : (s t u : Symbol) → IsReadable s → IsLeastTorus s t → IsLeastTorus s u → t ≡ u
-torus_once s t u readable a b =
+-- a flat symbol has one torus cover
+pub torus_cover_once : (s t u : Symbol) (f g : List ℕ) → IsReadable s → Flat s → IsTorusCover s t f → IsTorusCover s u g → t ≡ u
+torus_cover_once s t u f g readable flat x y =
     let size = readable.size in
     let few : s.size ≤ 8192 = omega arith in
-    let x = a.is_cover in
-    let y = b.is_cover in
-    let middle = middle_of s x.middle x.lower readable.symbol few readable.connected a.flat x.oriented in
+    let middle = middle_of s x.middle x.lower readable.symbol few readable.connected flat x.oriented in
     let under : y.middle ≡ x.middle = same_cover s x.middle y.middle x.lower y.lower x.oriented y.oriented in
-    let torus : IsTorusCoverOf x.middle y.sheets b.cover y.upper = subst (λ m. IsTorusCoverOf m y.sheets b.cover y.upper) under y.torus in
-    let same : a.cover ≡ b.cover = one_cover x.middle a.cover b.cover x.sheets y.sheets x.upper y.upper middle.small.symbol middle.connected x.torus torus in
-    let table = (torus_above s a.cover a.below readable.symbol few readable.connected a.flat x).symbol.table in
-    form_once a.cover t u table a.least (subst (λ c. IsLeastForm c u) (sym same) b.least)
+    let torus : IsTorusCoverOf x.middle y.sheets u y.upper = subst (λ m. IsTorusCoverOf m y.sheets u y.upper) under y.torus in
+    one_cover x.middle t u x.sheets y.sheets x.upper y.upper middle.small.symbol middle.connected x.torus torus
+
+pub torus_once : (s t u : Symbol) → IsReadable s → IsLeastTorus s t → IsLeastTorus s u → t ≡ u
+torus_once s t u readable a b =
+    let same = torus_cover_once s a.cover b.cover a.below b.below readable a.flat a.is_cover b.is_cover in
+    let torus = cover_torus s a.cover a.below readable a.flat a.is_cover in
+    form_once a.cover t u torus.symbol.table a.least (subst (λ c. IsLeastForm c u) (sym same) b.least)
 
 derived_once : (table : Table) → IsLawful table → (s t u : Symbol) → IsReadable s → IsDerived table s t → IsDerived table s u → t ≡ u
 derived_once table lawful s t u readable a b = form_once (made table s) t u (made_symbol table s lawful readable.symbol.symbol).table a.least b.least

@@ -1,18 +1,24 @@
 -- What is isomorphic to a torus is one.
-use Rattle.std.proofs.Common.{◌≡◌, ◌≢◌, ℕ, ◌-◌, Bool, not, false, List, map, length, sym, ap, ◌∙◌, arith}
+use Rattle.std.proofs.Common.{◌≡◌, ℕ, ◌-◌, not, false, List, map, length, sym, ap, ◌∙◌, arith}
 use Rattle.std.proofs.lemmas.List.{get_or-map}
-use Rattle.dd_model.specs.declared.index.Index.{Index}
+use Rattle.dd_model.specs.declared.pair.Pair.TheVariants.{Vertex}
 use Rattle.dd_model.specs.Symbol.{Symbol, AreInvolutions, IsChamber, item, op}
 use Rattle.dd_model.specs.Isomorphic.{HaveLengths, IsMorphism, IsIsomorphism}
+use Rattle.dd_model.specs.Cell.{AreCells}
 use Rattle.dd_model.specs.Code.{IsLeastForm}
+use Rattle.dd_model.specs.Flat.{Flat}
 use Rattle.dd_model.specs.Reading.{IsReadable}
 use Rattle.dd_model.proofs.Carried.{branching-along}
 use Rattle.dd_model.proofs.CarriedDegrees.{flat-along}
+use Rattle.dd_model.proofs.CarriedWanted.{cells-along}
 use Rattle.dd_model.proofs.Isomorphisms.{IsIsomorphism-inverse}
 use Rattle.dd_model.proofs.Transport.{involution-along, Connected-along}
 use Rattle.dd_cells.specs.Orientation.{color, IsOriented}
 use Rattle.dd_covers.specs.Torus.{IsTorus}
+use Rattle.dd_covers.specs.TorusCover.{IsTorusCover}
 use Rattle.dd_covers.proofs.TorusCovers.{torus_above}
+use Rattle.dd_lattice.specs.NetOf.{IsNet}
+use Rattle.dd_lattice.specs.declared.net.Net.{Net}
 use Rattle.dd_commands.specs.Made.{IsLeastTorus}
 
 oriented_along : (s t : Symbol) (f : List ℕ) → AreInvolutions s → IsIsomorphism s t f → IsOriented s → IsOriented t
@@ -61,8 +67,18 @@ torus_along s t torus form = record {
     lengths : HaveLengths t
     lengths = let table = form.symbol.table in record { lengths = table.lengths; m01_length = table.m01_length; m12_length = table.m12_length }
 
--- the least form of the torus cover of a symbol that a file may hold is a torus
-pub least_torus : (s t : Symbol) → IsReadable s → IsLeastTorus s t → IsTorus t
-least_torus s t readable a =
+-- the torus cover of a flat symbol that a file may hold is a torus
+pub cover_torus : (s t : Symbol) (f : List ℕ) → IsReadable s → Flat s → IsTorusCover s t f → IsTorus t
+cover_torus s t f readable flat is =
     let size = readable.size in
-    torus_along a.cover t (torus_above s a.cover a.below readable.symbol (omega arith) readable.connected a.flat a.is_cover) a.least
+    torus_above s t f readable.symbol (omega arith) readable.connected flat is
+
+-- and so is its least form
+pub least_torus : (s t : Symbol) → IsReadable s → IsLeastTorus s t → IsTorus t
+least_torus s t readable a = torus_along a.cover t (cover_torus s a.cover a.below readable a.flat a.is_cover) a.least
+
+-- the net of the least form of a torus has as many vertices as the torus
+pub many_vertices : (s t : Symbol) (net : Net) (vertices : List ℕ) → IsTorus s → IsLeastForm s t → IsNet t net → AreCells s Vertex vertices → net.vertices ≡ length vertices
+many_vertices s t net vertices torus form is are =
+    let same = cells-along s t form.renumbering.0 torus.symbol.table.involutions form.renumbering.1 Vertex vertices is.vertices are is.are_vertices in
+    is.many_vertices ∙ sym same

@@ -1,6 +1,10 @@
 -- The drawing of a symbol, and why there is none.
-use Rattle.std.specs.Prelude.{◌≡◌, ◌⊎◌, ℕ, ◌+◌, ◌<◌, ◌≤◌, List, [], ◌∷◌, ◌++◌}
+use Rattle.std.specs.Prelude.{◌≡◌, ◌⊎◌, ℕ, ◌+◌, ◌<◌, ◌≤◌, List, [], ◌∷◌, ◌++◌, length}
+use Rattle.dd_model.specs.declared.pair.Pair.TheVariants.{Vertex}
 use Rattle.dd_model.specs.Symbol.{Symbol}
+use Rattle.dd_model.specs.Flat.{Flat}
+use Rattle.dd_model.specs.Cell.{AreCells}
+use Rattle.dd_covers.specs.TorusCover.{IsTorusCover}
 use Rattle.dd_lattice.specs.NetOf.{IsNet}
 use Rattle.dd_lattice.specs.declared.frame.Frame.{Frame}
 use Rattle.dd_lattice.specs.declared.net.Net.{Net}
@@ -41,23 +45,43 @@ abbrev pub AreDrawings : Frame → List Symbol → List ℕ → Type 0
 AreDrawings frame [] text = text ≡ []
 AreDrawings frame (s ∷ ss) text = (one : List ℕ) × (rest : List ℕ) × IsDrawing frame s one × AreDrawings frame ss rest × (text ≡ one ++ rest)
 
--- Why a net is not placed: it has over 96 vertices, or not, and this is the first place with a number that is too wide.
-abbrev pub IsPlaceRefusal : Net → SymbolFault → Type 0
-IsPlaceRefusal net (TooManyChambers n) = ⊥
-IsPlaceRefusal net (BranchingTooLarge v) = ⊥
-IsPlaceRefusal net (NotFlat x) = ⊥
-IsPlaceRefusal net (TooManyVertices count) = (96 < net.vertices) × (count ≡ net.vertices)
-IsPlaceRefusal net (TooWide step row column) = (net.vertices ≤ 96) × IsFirstWide net (place_at step row column)
+-- the torus cover has so many vertices, over 96; the net of its least form has as many
+pub record HasManyVertices (s : Symbol) (count : ℕ) : Type 0 where
+  pub flat : Flat s
+  pub cover : Symbol
+  pub below : List ℕ
+  pub is_cover : IsTorusCover s cover below
+  pub vertices : List ℕ
+  pub are_vertices : AreCells cover Vertex vertices
+  pub many : count ≡ length vertices
+  pub over : 96 < count
 
--- the net of a symbol is not placed
-pub record IsUnplaced (s : Symbol) (fault : SymbolFault) : Type 0 where
+-- this is the first place of the elimination of a net with a number that is too wide
+abbrev pub IsWideNet : Net → SymbolFault → Type 0
+IsWideNet net (TooManyChambers n) = ⊥
+IsWideNet net (BranchingTooLarge v) = ⊥
+IsWideNet net (NotFlat x) = ⊥
+IsWideNet net (TooManyVertices count) = ⊥
+IsWideNet net (TooWide step row column) = IsFirstWide net (place_at step row column)
+
+-- the net of a symbol has at most 96 vertices, and a number that is too wide
+pub record HasWideNet (s : Symbol) (fault : SymbolFault) : Type 0 where
   pub net : Net
   pub is_net : IsTorusNet s net
-  pub why : IsPlaceRefusal net fault
+  pub few : net.vertices ≤ 96
+  pub wide : IsWideNet net fault
 
--- why a symbol is not drawn
+-- the torus cover of a symbol has too many vertices
+abbrev pub IsCrowded : Symbol → SymbolFault → Type 0
+IsCrowded s (TooManyChambers n) = ⊥
+IsCrowded s (BranchingTooLarge v) = ⊥
+IsCrowded s (NotFlat x) = ⊥
+IsCrowded s (TooManyVertices count) = HasManyVertices s count
+IsCrowded s (TooWide step row column) = ⊥
+
+-- Why a symbol is not drawn: it is not flat, its torus cover has too many vertices, or the net has a number that is too wide.
 abbrev pub IsUndrawn : Symbol → SymbolFault → Type 0
-IsUndrawn s fault = IsCurved s fault ⊎ IsUnplaced s fault
+IsUndrawn s fault = IsCurved s fault ⊎ (IsCrowded s fault ⊎ HasWideNet s fault)
 
 -- a symbol has a drawing
 abbrev pub IsDrawn : Frame → Symbol → Type 0

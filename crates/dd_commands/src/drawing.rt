@@ -5,46 +5,54 @@ ghost use Rattle.dd_lattice.specs.Nets.{IsConnectedNet};
 ghost use Rattle.dd_draw.specs.Limit.{IsNarrowPoint};
 ghost use Rattle.dd_draw.specs.Placement.{IsPlacement};
 ghost use Rattle.dd_draw.specs.Width.{Place, IsPlaceOf, IsWideAt};
-ghost use Rattle.dd_commands.specs.Drawings.{IsTorusNet, IsPlaceRefusal, IsUndrawn, AddsDrawing, AreDrawings, IsFirstUndrawn};
+ghost use Rattle.dd_commands.specs.Drawings.{IsTorusNet, IsWideNet, IsUndrawn, AddsDrawing, AreDrawings, IsFirstUndrawn};
 ghost use Rattle.dd_commands.specs.Stops.{IsStop};
 
 use crate::refusals::{SymbolFault, SymbolRefusal};
 use crate::stop::Stop;
-use crate::symbol_commands::least_torus;
-use dd_draw::{PlaceFault, Places, place, svg};
+use crate::symbol_commands::flat_torus;
+use dd_canon::least_form;
+use dd_cells::count;
+use dd_draw::{MOST_VERTICES, PlaceFault, Places, place, svg};
 use dd_lattice::{Frame, Net, shifts};
+use dd_model::Pair;
 use dd_symbol::Connected;
 use std::alloc::Global;
 
-/// The net of the least form of the torus cover.
+/// The net of the least form of the torus cover. The vertices are counted in the cover, which has as
+/// many, since the least form of a large cover takes long.
 fn torus_net(alloc: Global, s: &Connected) -> Result<Net, Stop<SymbolFault>>
     requires { IsReadable s.now }
     ensures net { IfOk result (λ net. IsTorusNet s.now net) }
     ensures connected { IfOk result (λ net. IsConnectedNet net) }
+    ensures few { IfOk result (λ net. net.vertices ≤ 96) }
     ensures why { IfErr result (IsStop (IsUndrawn s.now)) }
 {
-    let torus = match least_torus(alloc, s) {
-        Ok(torus) => torus,
+    let cover = match flat_torus(alloc, s) {
+        Ok(cover) => cover,
         Err(stop) => return Err(stop),
     };
-    Ok(shifts(alloc, &torus)?)
+    let count = count(&cover.symbol, Pair::Vertex);
+    if count > MOST_VERTICES {
+        return Err(Stop::Refused(SymbolFault::TooManyVertices { count }));
+    }
+    let form = least_form(alloc, &cover.symbol)?;
+    Ok(shifts(alloc, &form)?)
 }
 
 /// Where the vertices of a net stand.
 fn places_of(alloc: Global, net: &Net) -> Result<Places, Stop<SymbolFault>>
-    requires { IsConnectedNet net.now }
+    requires connected { IsConnectedNet net.now }
+    requires few { net.now.vertices ≤ 96 }
     ensures placement { IfOk result (λ places. IsPlacement net.now places.points.items) }
-    ensures few { IfOk result (λ places. net.now.vertices ≤ 96) }
     ensures narrow { IfOk result (λ places.
         (p : Place) → IsPlaceOf net.now p → ¬ IsWideAt net.now p) }
     ensures points { IfOk result (λ places. AllByRecursion IsNarrowPoint places.points.items) }
-    ensures why { IfErr result (IsStop (IsPlaceRefusal net.now)) }
+    ensures why { IfErr result (IsStop (IsWideNet net.now)) }
 {
     match place(alloc, net) {
         Ok(places) => Ok(places),
-        Err(PlaceFault::TooManyVertices { count }) => {
-            Err(Stop::Refused(SymbolFault::TooManyVertices { count }))
-        }
+        Err(PlaceFault::TooManyVertices { .. }) => unreachable!(),
         Err(PlaceFault::TooWide { step, row, column }) => {
             Err(Stop::Refused(SymbolFault::TooWide { step, row, column }))
         }

@@ -1,6 +1,9 @@
 ghost use Rattle.std.specs.Prelude.{IfOk, IfErr};
 ghost use Rattle.std.specs.List.{AllByRecursion};
+ghost use Rattle.dd_model.specs.Flat.{Flat};
 ghost use Rattle.dd_model.specs.Reading.{IsReadable};
+ghost use Rattle.dd_covers.specs.Torus.{IsTorus};
+ghost use Rattle.dd_covers.specs.TorusCover.{IsTorusCover};
 ghost use Rattle.dd_template.specs.Named.{table_of_operation};
 ghost use Rattle.dd_commands.specs.InTurn.{AreInTurn};
 ghost use Rattle.dd_commands.specs.Made.{IsLeastImage, IsLeastTorus, IsDerived, IsTooLong, IsTooSharp, IsCurved, IsMade, IsFaultOf, IsFirstFault};
@@ -11,7 +14,7 @@ use crate::commands::SymbolCommand;
 use crate::refusals::{SymbolFault, SymbolRefusal};
 use crate::stop::Stop;
 use dd_canon::least_form;
-use dd_covers::{TorusFault, oriented, torus};
+use dd_covers::{Cover, TorusFault, oriented, torus};
 use dd_model::Memory;
 use dd_quotient::{MinimalFault, dual, minimal_image};
 use dd_symbol::Connected;
@@ -119,18 +122,32 @@ fn least_image(alloc: Global, s: &Connected) -> Result<Connected, Stop<SymbolFau
     Ok(least_form(alloc, &image)?)
 }
 
+/// The torus cover of a flat symbol.
+pub(crate) fn flat_torus(alloc: Global, s: &Connected) -> Result<Cover, Stop<SymbolFault>>
+    requires { IsReadable s.now }
+    ensures cover { IfOk result (λ cover. IsTorusCover s.now cover.symbol cover.below) }
+    ensures torus { IfOk result (λ cover. IsTorus cover.symbol) }
+    ensures flat { IfOk result (λ _. Flat s.now) }
+    ensures why { IfErr result (IsStop (IsCurved s.now)) }
+{
+    match torus(alloc, s) {
+        Ok(cover) => Ok(cover),
+        Err(TorusFault::NotFlat { curvature }) => {
+            Err(Stop::Refused(SymbolFault::NotFlat { curvature }))
+        }
+        Err(TorusFault::Memory) => Err(Stop::Memory),
+    }
+}
+
 /// The least form of the torus cover.
-pub(crate) fn least_torus(alloc: Global, s: &Connected) -> Result<Connected, Stop<SymbolFault>>
+fn least_torus(alloc: Global, s: &Connected) -> Result<Connected, Stop<SymbolFault>>
     requires { IsReadable s.now }
     ensures torus { IfOk result (λ form. IsLeastTorus s.now form) }
     ensures why { IfErr result (IsStop (IsCurved s.now)) }
 {
-    let cover = match torus(alloc, s) {
+    let cover = match flat_torus(alloc, s) {
         Ok(cover) => cover,
-        Err(TorusFault::NotFlat { curvature }) => {
-            return Err(Stop::Refused(SymbolFault::NotFlat { curvature }));
-        }
-        Err(TorusFault::Memory) => return Err(Stop::Memory),
+        Err(stop) => return Err(stop),
     };
     Ok(least_form(alloc, &cover.symbol)?)
 }

@@ -1,5 +1,30 @@
-use Rattle.dd_commands.proofs.TorusForms.{least_torus}
+use Rattle.std.proofs.Common.{◌≤◌, inl, inr, arith}
+use Rattle.dd_commands.proofs.TorusForms.{torus_along, many_vertices}
 use Rattle.dd_commands.proofs.drawing.torus_net.Goals as goal
 
 pub shifts-requires : goal.shifts-requires
-shifts-requires c = least_torus c.args.s.now c.in-Ok.torus c.requires c.in-Ok.ensures.torus
+shifts-requires c = torus_along c.in-Ok.cover.symbol c.in_ok-form.form c.in-Ok.ensures.torus c.in_ok-form.ensures
+
+pub returns-then-count-gt-MOST_VERTICES-clause-why : goal.returns-then-count-gt-MOST_VERTICES-clause-why
+returns-then-count-gt-MOST_VERTICES-clause-why c =
+    let cells = c.count-count.ensures.exist in
+    inr
+    (inl
+    (record {
+      flat = c.in-Ok.ensures.flat;
+      cover = c.in-Ok.cover.symbol;
+      below = c.in-Ok.cover.below;
+      is_cover = c.in-Ok.ensures.cover;
+      vertices = cells.0;
+      are_vertices = cells.1;
+      many = c.count-count.ensures.cells cells.0 cells.1;
+      over = omega (arith, c.if-count-gt-MOST_VERTICES.true);
+    }))
+
+pub returns-clause-few : goal.returns-clause-few
+returns-clause-few c =
+    let cells = c.count-count.ensures.exist in
+    let count = c.count-count.ensures.cells cells.0 cells.1 in
+    let few : c.count-count.result ≤ 96 = omega (arith, c.if-count-gt-MOST_VERTICES.false) in
+    let many = many_vertices c.in-Ok.cover.symbol c.in_ok-form.form c.in_ok-shifts.field-0 cells.0 c.in-Ok.ensures.torus c.in_ok-form.ensures c.in_ok-shifts.ensures.net cells.1 in
+    omega (arith, many, count, few)
