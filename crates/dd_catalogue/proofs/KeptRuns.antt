@@ -142,16 +142,20 @@ pub rebased : (w : Way) (now : Option (List ℕ)) (page : Page) (f : Machine) (p
     → IsUnderWay (head_way w.start w.jobs (w.base ++ way.lines.written) now p) now page f
 rebased w now page f p way empty opens stands =
     let base = w.base ++ way.lines.written in
-    let between = held_between w.start.request w.start.at p w.jobs f way.members way.from way.held stands in
+    let between = held_between w.start.request w.start.at p w.jobs f way.members way.emitted.from way.emitted.held stands in
     record {
       members = way.members;
-      from = way.from;
-      opened = way.opened;
-      stays = way.stays;
-      gone = way.gone;
-      jobs_are = way.jobs_are;
-      entries_are = way.entries_are;
-      held = way.held;
+      emitted = record {
+        from = way.emitted.from;
+        opened = way.emitted.opened;
+        stays = way.emitted.stays;
+        gone = way.emitted.gone;
+        jobs_are = way.emitted.jobs_are;
+        entries_are = way.emitted.entries_are;
+        held = way.emitted.held;
+        recent = λ s there. inl ((between.members s).0 there).earlier;
+        of_round = none_done (head_way w.start w.jobs base now p) f.entries opens;
+      };
       lines = record {
         written = [];
         appended = appends_nothing now;
@@ -159,8 +163,6 @@ rebased w now page f p way empty opens stands =
         count = way.lines.count;
         bytes = way.lines.bytes ∙ ap length (sym (append-nil base));
       };
-      recent = λ s there. inl ((between.members s).0 there).earlier;
-      of_round = none_done (head_way w.start w.jobs base now p) f.entries opens;
     }
 
 -- a run that has not moved
@@ -175,7 +177,7 @@ head_begun s tells old before held page f begun empty count bytes later same =
       appended = appends_nothing old;
       way = way;
       empty = empty;
-      left = subst (AreJobsFrom s.request s.at) way.jobs_are begun.from;
+      left = subst (AreJobsFrom s.request s.at) way.emitted.jobs_are begun.from;
       kept = λ told. inl (same told, refl);
       put = λ told one. absurd (later one);
     }
@@ -218,11 +220,11 @@ module _ (s : Start) (first : s ≡ first_start s.request) (f : Machine) (begun 
       let p = check.is_check.check.at in
       let way = way_first s known page f s.at begun empty count bytes in
       let stands = check.is_check.stands in
-      let lines = lines_between (head_way s begun.jobs [] known s.at) known page f [] p begun.from way.held way.lines empty stands in
+      let lines = lines_between (head_way s begun.jobs [] known s.at) known page f [] p begun.from way.emitted.held way.lines empty stands in
       record {
         check = check.is_check.check;
         at_is = refl;
-        put = check_put s page f held [] check bytes lines (begun_stop p f.entries (sym way.jobs_are) (subst (λ from. StandsAt from f.entries p) way.stays stands));
+        put = check_put s page f held [] check bytes lines (begun_stop p f.entries (sym way.emitted.jobs_are) (subst (λ from. StandsAt from f.entries p) way.emitted.stays stands));
         all = check.is_check.bytes ∙ bytes;
       }
 
@@ -238,7 +240,7 @@ module _ (s : Start) (first : s ≡ first_start s.request) (f : Machine) (begun 
         appended = appends_nothing old;
         way = way;
         empty = empty;
-        left = jobs_left s.request s.at p begun.jobs [] f.entries begun.from way.jobs_are (subst (λ from. StandsAt from f.entries p) way.stays stands);
+        left = jobs_left s.request s.at p begun.jobs [] f.entries begun.from way.emitted.jobs_are (subst (λ from. StandsAt from f.entries p) way.emitted.stays stands);
         kept = λ told. inr (put told);
         put = λ told one. put told;
       }
@@ -253,11 +255,11 @@ module _ (w : Way) (old now : Option (List ℕ)) (page : Page) (g : Machine) (wa
   -- where the run stands, it may stop
   next_stop : (p : Position) → StandsAt g.from g.entries p → IsStop w.start.request p
   next_stop p stands =
-      let some = gone_some w.jobs way.gone (jobs_of g.entries) way.jobs_are fewer in
+      let some = gone_some w.jobs way.emitted.gone (jobs_of g.entries) way.emitted.jobs_are fewer in
       ⊎_elim
       (λ end. subst (IsStop w.start.request) (sym end) tt)
       (λ job. subst (IsStop w.start.request) (sym job.2) (inl job.1))
-      (stands_at_job w.start.request w.start.at p w.jobs some.1 some.0 g.entries way.from (way.jobs_are ∙ ap (λ gone. gone ++ jobs_of g.entries) some.2) (subst (λ from. StandsAt from g.entries p) way.stays stands))
+      (stands_at_job w.start.request w.start.at p w.jobs some.1 some.0 g.entries way.emitted.from (way.emitted.jobs_are ∙ ap (λ gone. gone ++ jobs_of g.entries) some.2) (subst (λ from. StandsAt from g.entries p) way.emitted.stays stands))
 
   pub next_put : (held : Option (List ℕ)) (check : HoldsCheckAt w.start page g held) → IsKeptPut w.start held (w.base ++ way.lines.written) check.is_check.check.at
   next_put held check =
@@ -266,7 +268,7 @@ module _ (w : Way) (old now : Option (List ℕ)) (page : Page) (g : Machine) (wa
       record {
         check = check.is_check.check;
         at_is = refl;
-        put = check_put w.start page g held (w.base ++ way.lines.written) check way.lines.bytes (lines_between w now page g way.members p way.from way.held way.lines empty stands) (next_stop p stands);
+        put = check_put w.start page g held (w.base ++ way.lines.written) check way.lines.bytes (lines_between w now page g way.members p way.emitted.from way.emitted.held way.lines empty stands) (next_stop p stands);
         all = check.is_check.bytes ∙ way.lines.bytes;
       }
 
@@ -279,7 +281,7 @@ module _ (w : Way) (old now : Option (List ℕ)) (page : Page) (g : Machine) (wa
     appended = Appends_trans old w.known now w.base way.lines.written (w.base ++ way.lines.written) appended way.lines.appended refl;
     way = rebased w now page g p way empty opens stands;
     empty = empty;
-    left = jobs_left w.start.request w.start.at p w.jobs way.gone g.entries way.from way.jobs_are (subst (λ from. StandsAt from g.entries p) way.stays stands);
+    left = jobs_left w.start.request w.start.at p w.jobs way.emitted.gone g.entries way.emitted.from way.emitted.jobs_are (subst (λ from. StandsAt from g.entries p) way.emitted.stays stands);
     kept = λ told. inr (put told);
     put = λ told one. put told;
   }
@@ -373,7 +375,7 @@ module _ (s : Start) (tells : Bool) (old before held now : Option (List ℕ)) (p
   head_whole most pause limit is low none =
       let output = head.base ++ head.way.lines.written in
       let stands : StandsAt f.from f.entries End = subst (λ es. StandsAt f.from es End) (sym none) refl in
-      let lines = lines_between way_at now page f head.way.members End head.way.from head.way.held head.way.lines head.empty stands in
+      let lines = lines_between way_at now page f head.way.members End head.way.emitted.from head.way.emitted.held head.way.lines head.empty stands in
       record {
         output = output;
         is_output = record { appended = head_went.appended; front = head_went.front; finishes = finish_whole s pause limit page.count output is lines low };
@@ -405,7 +407,7 @@ module _ (s : Start) (tells : Bool) (old before held mid : Option (List ℕ)) (p
     pub round_under : IsUnderWay round_way mid page g
     round_under =
         way_round (head_way s head.jobs head.base mid head.since) most mid page f g head.since round opens head.way
-        (λ m there. ⊎_elim (λ before. before) (λ under. absurd (Contains-none under.job under.listed)) (head.way.recent m there))
+        (λ m there. ⊎_elim (λ before. before) (λ under. absurd (Contains-none under.job under.listed)) (head.way.emitted.recent m there))
 
     round_went : (now : Option (List ℕ)) (part : IsPartOut round_way now) → WentOut round_way old now (head.base ++ part.out.written)
     round_went now part = went_out round_way old now part head.appended
@@ -434,7 +436,7 @@ module _ (s : Start) (tells : Bool) (old before held mid : Option (List ℕ)) (p
           let less = fewer_open in
           let one = ap length (waiting_all h.entries ready) in
           let two = ap length (waiting_all f.entries opens) in
-          let all = ap length head.way.jobs_are ∙ length-append head.way.gone (jobs_of f.entries) in
+          let all = ap length head.way.emitted.jobs_are ∙ length-append head.way.emitted.gone (jobs_of f.entries) in
           omega (arith, less, one, two, all)
 
       check_of : (after : Option (List ℕ)) (check : HoldsCheckAt s new h after) → IsKeptPut s after (head.base ++ way.lines.written) check.is_check.check.at
@@ -462,7 +464,7 @@ module _ (s : Start) (tells : Bool) (old before held mid : Option (List ℕ)) (p
           put_all : (after : Option (List ℕ)) → HoldsCheckAt s new h after → PutsCheck s most after (head.base ++ way.lines.written)
           put_all after check =
               let put = check_of after check in
-              let lines = lines_between round_way now new h way.members check.is_check.check.at way.from way.held way.lines empty check.is_check.stands in
+              let lines = lines_between round_way now new h way.members check.is_check.check.at way.emitted.from way.emitted.held way.lines empty check.is_check.stands in
               puts_here s most after (head.base ++ way.lines.written) new.count put.check put.put (subst (λ p. AreLinesBetween s.request s.at p s.lines new.count (head.base ++ way.lines.written)) (sym put.at_is) lines)
 
       pub head_after : (after : Option (List ℕ)) → (tells ≡ true → HoldsCheckAt s new h after) → IsHead s tells old before after now new h

@@ -87,7 +87,7 @@ pub next_round : (w : Way) (most : ℕ) (now : Option (List ℕ)) (page : Page) 
     → (p : Position) × IsUnderWay (record { start = w.start; jobs = w.jobs; base = w.base; known = w.known; since = p; round = take most (jobs_of f.entries) }) now page g
 next_round w most now page f g round opens way =
     let at = stands_somewhere f.from f.entries in
-    let between = held_between w.start.request w.start.at at.0 w.jobs f way.members way.from way.held at.1 in
+    let between = held_between w.start.request w.start.at at.0 w.jobs f way.members way.emitted.from way.emitted.held at.1 in
     (at.0, way_round w most now page f g at.0 round opens way (λ s there. ((between.members s).0 there).earlier))
 
 -- ## What went out

@@ -34,7 +34,8 @@ use Rattle.dd_board.specs.Desk.{AreJobsOf}
 use Rattle.dd_chain.specs.Starts.{Start}
 use Rattle.dd_catalogue.specs.Pages.{AddsAll, KeepsLines, WritesFront, WritesFrontOf}
 use Rattle.dd_catalogue.specs.Rounds.{IsBegun, AreOpen, AreDoneThenOpen, IsRoundDone}
-use Rattle.dd_catalogue.specs.Ways.{Way, AreRecent, AreOfRound, IsUnderWay, IsFull, IsPartOut, IsAny, GoesOn, FillsUp, WritesPart}
+use Rattle.dd_catalogue.specs.Ways.{Way, AreRecent, AreOfRound, HasEmitted, IsUnderWay, IsFull, IsPartOut, IsAny, GoesOn, FillsUp, WritesPart}
+use Rattle.dd_catalogue.specs.Batches.{EmitsMore}
 use Rattle.dd_catalogue.specs.declared.pages.Page.{Page}
 use Rattle.dd_catalogue.proofs.JobsFrom.{from_jobs}
 use Rattle.dd_catalogue.proofs.PageLemmas.{front_kept}
@@ -70,16 +71,18 @@ way_first s known page f p begun empty count bytes =
     let listed : jobs_of f.entries ≡ begun.jobs = ap jobs_of o.entries ∙ jobs_opened 1 begun.jobs in
     record {
       members = [];
-      from = begun.from;
-      opened = o.opened;
-      stays = o.from;
-      gone = [];
-      jobs_are = sym listed;
-      entries_are = subst AreDoneThenOpen (sym o.entries) (open_all (open_entries 1 begun.jobs) (opened_open 1 begun.jobs));
-      held = held_first s.request begun.jobs s.at s.lines f o;
+      emitted = record {
+        from = begun.from;
+        opened = o.opened;
+        stays = o.from;
+        gone = [];
+        jobs_are = sym listed;
+        entries_are = subst AreDoneThenOpen (sym o.entries) (open_all (open_entries 1 begun.jobs) (opened_open 1 begun.jobs));
+        held = held_first s.request begun.jobs s.at s.lines f o;
+        recent = λ m there. absurd (Contains-none m there);
+        of_round = none_done w f.entries (begun_open s f begun);
+      };
       lines = record { written = []; appended = appends_nothing known; lines = empty; count = omega (arith, count); bytes = bytes };
-      recent = λ m there. absurd (Contains-none m there);
-      of_round = none_done w f.entries (begun_open s f begun);
     }
 
 -- a round is done; all that was emitted before it is before where it begins
@@ -88,18 +91,21 @@ pub way_round : (w : Way) (most : ℕ) (now : Option (List ℕ)) (page : Page) (
     → IsUnderWay (record { start = w.start; jobs = w.jobs; base = w.base; known = w.known; since = p; round = take most (jobs_of f.entries) }) now page g
 way_round w most now page f g p round opens way before =
     let after : (A : Type 0) (field : Machine → A) → field g ≡ field (record f { entries = g.entries }) = λ A field. ap field (same_but_entries f g most round) in
+    let been = way.emitted in
     record {
       members = way.members;
-      from = way.from;
-      opened = after ℕ (λ m. m.opened) ∙ way.opened;
-      stays = after Position (λ m. m.from) ∙ way.stays;
-      gone = way.gone;
-      jobs_are = way.jobs_are ∙ ap (λ js. way.gone ++ js) (sym (round_jobs most f g round));
-      entries_are = round_entries most f g round opens;
-      held = held_absorbed w.start.request w.jobs w.start.at f g way.members round.count round.found way.held round.may round.absorbs;
+      emitted = record {
+        from = been.from;
+        opened = after ℕ (λ m. m.opened) ∙ been.opened;
+        stays = after Position (λ m. m.from) ∙ been.stays;
+        gone = been.gone;
+        jobs_are = been.jobs_are ∙ ap (λ js. been.gone ++ js) (sym (round_jobs most f g round));
+        entries_are = round_entries most f g round opens;
+        held = held_absorbed w.start.request w.jobs w.start.at f g way.members round.count round.found been.held round.may round.absorbs;
+        recent = λ s there. inl (before s there);
+        of_round = done_in_round most f g round opens;
+      };
       lines = way.lines;
-      recent = λ s there. inl (before s there);
-      of_round = done_in_round most f g round opens;
     }
   where
     same_but_entries : (f g : Machine) (most : ℕ) (round : IsRoundDone most f g) → g ≡ record f { entries = g.entries }
@@ -112,57 +118,68 @@ first_done es rest k job list is are = ⊎_elim (λ done. done.1) (λ opens. abs
     not_open e = cc
 
 -- what the first entry has is under a job of the round
-module _ (w : Way) (now : Option (List ℕ)) (page : Page) (f : Machine) (way : IsUnderWay w now page f) (list : List Symbol) (first : HasFirst f list) where
+module _ (w : Way) (f : Machine) (ss : List Symbol) (been : HasEmitted w f ss) (list : List Symbol) (first : HasFirst f list) where
   entry_there : Contains f.entries (entry_of first.number first.job (Done list))
   entry_there = subst (λ es. Contains es (entry_of first.number first.job (Done list))) (sym first.entries) (Contains-head (entry_of first.number first.job (Done list)) first.rest)
 
   first_under : (s : Symbol) → Contains list s → IsMemberUnder w.start.request first.job s
-  first_under s there = ((way.held.found (entry_of first.number first.job (Done list)) entry_there list refl).members s).0 there
+  first_under s there = ((been.held.found (entry_of first.number first.job (Done list)) entry_there list refl).members s).0 there
 
-  recent_more : (emitted : List Symbol) → ((s : Symbol) → Contains emitted s → Contains list s) → AreRecent w (way.members ++ emitted)
+  recent_more : (emitted : List Symbol) → ((s : Symbol) → Contains emitted s → Contains list s) → AreRecent w (ss ++ emitted)
   recent_more emitted inside s there =
       ⊎_elim
-      (λ old. way.recent s old)
-      (λ new. inr (record { job = first.job; listed = way.of_round (entry_of first.number first.job (Done list)) entry_there tt; under = first_under s (inside s new) }))
-      (Contains-append_cases way.members emitted s there)
+      (λ old. been.recent s old)
+      (λ new. inr (record { job = first.job; listed = been.of_round (entry_of first.number first.job (Done list)) entry_there tt; under = first_under s (inside s new) }))
+      (Contains-append_cases ss emitted s there)
 
--- the first entry is emitted, and its lines are put to the page
-pub way_next : (w : Way) (before now : Option (List ℕ)) (old new : Page) (f g : Machine) (emitted : List Symbol) → Emits f g emitted → AddsAll before now old new emitted
-    → IsUnderWay w before old f → IsUnderWay w now new g
-way_next w before now old new f g emitted emits adds way =
+-- the first entry is emitted
+pub emits_first : (f g : Machine) (emitted : List Symbol) → Emits f g emitted → EmitsMore f g emitted
+emits_first f g emitted emits w ss been =
     let first = emits.first in
     let rest : g.entries ≡ first.rest = ap (λ (m : Machine). m.entries) emits.after in
     let inside : (s : Symbol) → Contains emitted s → Contains emits.list s = λ s there. (without_there (IsBefore f.from) emits.list emitted s emits.not_before there).0 in
     let jobs : jobs_of f.entries ≡ first.job ∷ jobs_of g.entries = ap jobs_of first.entries ∙ ap (λ es. first.job ∷ jobs_of es) (sym rest) in
     record {
-      members = way.members ++ emitted;
-      from = way.from;
-      opened = ap (λ (m : Machine). m.opened) emits.after ∙ way.opened;
-      stays = ap (λ (m : Machine). m.from) emits.after ∙ way.stays;
-      gone = way.gone ++ first.job ∷ [];
-      jobs_are = way.jobs_are ∙ ap (λ js. way.gone ++ js) jobs ∙ sym (append_assoc way.gone (first.job ∷ []) (jobs_of g.entries));
-      entries_are = subst AreDoneThenOpen (sym rest) (first_done f.entries first.rest first.number first.job emits.list first.entries way.entries_are);
-      held = held_next w.start.request w.jobs w.start.at f g way.members emitted Emit way.held (record { allowed = (emits.list, first); step = emits });
-      lines = adds w.start.lines w.base w.known way.members way.lines;
-      recent = recent_more w before old f way emits.list first emitted inside;
-      of_round = λ e there done. way.of_round e (subst (λ es. Contains es e) (sym first.entries) (Contains-later (entry_of first.number first.job (Done emits.list)) e first.rest (subst (λ es. Contains es e) rest there))) done;
+      from = been.from;
+      opened = ap (λ (m : Machine). m.opened) emits.after ∙ been.opened;
+      stays = ap (λ (m : Machine). m.from) emits.after ∙ been.stays;
+      gone = been.gone ++ first.job ∷ [];
+      jobs_are = been.jobs_are ∙ ap (λ js. been.gone ++ js) jobs ∙ sym (append_assoc been.gone (first.job ∷ []) (jobs_of g.entries));
+      entries_are = subst AreDoneThenOpen (sym rest) (first_done f.entries first.rest first.number first.job emits.list first.entries been.entries_are);
+      held = held_next w.start.request w.jobs w.start.at f g ss emitted Emit been.held (record { allowed = (emits.list, first); step = emits });
+      recent = recent_more w f ss been emits.list first emitted inside;
+      of_round = λ e there done. been.of_round e (subst (λ es. Contains es e) (sym first.entries) (Contains-later (entry_of first.number first.job (Done emits.list)) e first.rest (subst (λ es. Contains es e) rest there))) done;
     }
+
+-- and then others
+pub emits_both : (f g h : Machine) (one more : List Symbol) → EmitsMore f g one → EmitsMore g h more → EmitsMore f h (one ++ more)
+emits_both f g h one more first later w ss been =
+    subst (HasEmitted w h) (append_assoc ss one more) (later w (ss ++ one) (first w ss been))
+
+-- what was emitted, and its lines are put to the page
+pub way_next : (w : Way) (before now : Option (List ℕ)) (old new : Page) (f g : Machine) (emitted : List Symbol) → EmitsMore f g emitted → AddsAll before now old new emitted
+    → IsUnderWay w before old f → IsUnderWay w now new g
+way_next w before now old new f g emitted emits adds way = record {
+  members = way.members ++ emitted;
+  emitted = emits w way.members way.emitted;
+  lines = adds w.start.lines w.base w.known way.members way.lines;
+}
 
 -- the jobs that wait are the same
 pub waiting_emitted : (f g : Machine) (emitted : List Symbol) → Emits f g emitted → open_jobs g.entries ≡ open_jobs f.entries
 waiting_emitted f g emitted emits = ap (λ (m : Machine). open_jobs m.entries) emits.after ∙ sym (ap open_jobs emits.first.entries)
 
--- what went out where the first entry was emitted
-pub way_added : (w : Way) (before now : Option (List ℕ)) (page : Page) (f g : Machine) (emitted : List Symbol) → Emits f g emitted → WritesFrontOf before now page emitted → IsUnderWay w before page f
+-- what went out where members were emitted
+pub way_added : (w : Way) (before now : Option (List ℕ)) (page : Page) (f g : Machine) (emitted : List Symbol) → EmitsMore f g emitted → WritesFrontOf before now page emitted → IsUnderWay w before page f
     → IsPartOut w now
 way_added w before now page f g emitted emits writes way =
-    let inside : (s : Symbol) → Contains emitted s → Contains emits.list s = λ s there. (without_there (IsBefore f.from) emits.list emitted s emits.not_before there).0 in
+    let been = emits w way.members way.emitted in
     record {
       machine = g;
       members = way.members ++ emitted;
-      from = way.from;
-      held = held_next w.start.request w.jobs w.start.at f g way.members emitted Emit way.held (record { allowed = (emits.list, emits.first); step = emits });
-      recent = recent_more w before page f way emits.list emits.first emitted inside;
+      from = been.from;
+      held = been.held;
+      recent = been.recent;
       out = writes w.start.lines w.base w.known way.members way.lines;
     }
 
@@ -171,9 +188,9 @@ abbrev pub way_part : (w : Way) (now : Option (List ℕ)) (page : Page) (f : Mac
 way_part w now page f way = record {
   machine = f;
   members = way.members;
-  from = way.from;
-  held = way.held;
-  recent = way.recent;
+  from = way.emitted.from;
+  held = way.emitted.held;
+  recent = way.emitted.recent;
   out = front_kept w.start.lines w.base w.known now page way.members way.lines;
 }
 
@@ -182,25 +199,17 @@ pub way_written : (w : Way) (before now : Option (List ℕ)) (page : Page) (f : 
 way_written w before now page f writes way = record {
   machine = f;
   members = way.members;
-  from = way.from;
-  held = way.held;
-  recent = way.recent;
+  from = way.emitted.from;
+  held = way.emitted.held;
+  recent = way.emitted.recent;
   out = writes w.start.lines w.base w.known way.members way.lines;
 }
 
 pub way_flushed : (w : Way) (before now : Option (List ℕ)) (old new : Page) (f : Machine) → KeepsLines before now old new → IsUnderWay w before old f → IsUnderWay w now new f
 way_flushed w before now old new f keeps way = record {
   members = way.members;
-  from = way.from;
-  opened = way.opened;
-  stays = way.stays;
-  gone = way.gone;
-  jobs_are = way.jobs_are;
-  entries_are = way.entries_are;
-  held = way.held;
+  emitted = way.emitted;
   lines = keeps w.start.lines w.base w.known way.members way.lines;
-  recent = way.recent;
-  of_round = way.of_round;
 }
 
 -- ## The last lines
@@ -219,20 +228,20 @@ module _ (w : Way) (before now : Option (List ℕ)) (old : Page) (f g : Machine)
       record { list = part.list; done = part.first; later = emitted ++ part.next ∷ part.rest; not_before = part.not_before; more = omega (arith, size, is) }
 
   held_after : IsHeld w.start.request w.jobs w.start.at g (way.members ++ emitted)
-  held_after = held_next w.start.request w.jobs w.start.at f g way.members emitted (Part count) way.held (record { allowed = more; step = part })
+  held_after = held_next w.start.request w.jobs w.start.at f g way.members emitted (Part count) way.emitted.held (record { allowed = more; step = part })
 
   recent_after : AreRecent w (way.members ++ emitted)
-  recent_after = recent_more w before old f way part.list part.first emitted emitted_in
+  recent_after = recent_more w f way.members way.emitted part.list part.first emitted emitted_in
 
   pub part_full : (new : Page) → AddsAll before now old new emitted → new.count ≡ old.count + length emitted → IsFull w now new (old.count + count) g
   part_full new adds size =
       let first = part.first in
-      let under = first_under w before old f way part.list first part.next (inside part.next (Contains-append_right emitted (part.next ∷ part.rest) part.next (Contains-head part.next part.rest))) in
+      let under = first_under w f way.members way.emitted part.list first part.next (inside part.next (Contains-append_right emitted (part.next ∷ part.rest) part.next (Contains-head part.next part.rest))) in
       let entries : g.entries ≡ entry_of first.number first.job (Done part.list) ∷ first.rest = ap (λ (m : Machine). m.entries) part.after ∙ first.entries in
       let from : g.from ≡ at_symbol part.next = ap (λ (m : Machine). m.from) part.after in
       record {
         members = way.members ++ emitted;
-        from = way.from;
+        from = way.emitted.from;
         held = held_after;
         lines = adds w.start.lines w.base w.known way.members way.lines;
         recent = recent_after;
@@ -247,7 +256,7 @@ module _ (w : Way) (before now : Option (List ℕ)) (old : Page) (f g : Machine)
   part_added writes = record {
     machine = g;
     members = way.members ++ emitted;
-    from = way.from;
+    from = way.emitted.from;
     held = held_after;
     recent = recent_after;
     out = writes w.start.lines w.base w.known way.members way.lines;
@@ -288,22 +297,18 @@ full_written w before now page last f writes full = record {
 
 -- ## What the front allows
 
--- there is room to count the lines of the first entry
-pub room_on_way : (now : Option (List ℕ)) (page : Page) (f : Machine) (count : Option ℕ) → IsAny now page f → page.count ≤ 1000000000000000000 → IsSome count
-    → MatchOption count ((list : List Symbol) → ¬ HasFirst f list) (λ n. (n < 2 ^ 64) × ((list : List Symbol) × HasFirst f list × (length list ≡ n))) → HasRoomToEmit f
-room_on_way now page f None any few some first list at = cc
-room_on_way now page f (Some n) any few some (low, first) list at =
-    let opened = any.way.opened in
-    let lines = any.way.held.lines in
+-- the lines that came before can be counted
+pub lines_on_way : (now : Option (List ℕ)) (page : Page) (f : Machine) → IsAny now page f → page.count ≤ 1000000000000000000 → f.lines ≤ 1000000000000000000
+lines_on_way now page f any few =
+    let opened = any.way.emitted.opened in
+    let lines = any.way.emitted.held.lines in
     let count = any.way.lines.count in
-    let same = ap length (one_first f list first.0 at first.1) in
-    let size = first.2 in
-    omega (arith, opened, lines, count, same, size, low, few)
+    omega (arith, opened, lines, count, few)
 
 pub room_to_part : (now : Option (List ℕ)) (page : Page) (f : Machine) (count : ℕ) → IsAny now page f → page.count + count ≤ 1000000000000000000 → HasRoom f (Part count)
 room_to_part now page f count any few =
-    let opened = any.way.opened in
-    let lines = any.way.held.lines in
+    let opened = any.way.emitted.opened in
+    let lines = any.way.emitted.held.lines in
     let size = any.way.lines.count in
     omega (arith, opened, lines, size, few)
 
@@ -315,13 +320,7 @@ few_emitted f g room emitted not emits =
     (λ few. few)
     (cases_lt room (length emitted))
 
--- so the first entry is done
-pub first_on_way : (f : Machine) (count : Option ℕ) → IsSome count → MatchOption count ((list : List Symbol) → ¬ HasFirst f list) (λ n. (n < 2 ^ 64) × ((list : List Symbol) × HasFirst f list × (length list ≡ n)))
-    → ((list : List Symbol) → ¬ HasFirst f list) → ⊥
-first_on_way f None some first none = cc
-first_on_way f (Some n) some (low, first) none = none first.0 first.1
-
--- and where the first entry is not done it has no members
+-- where the first entry is not done it has no members
 pub none_on_way : (f : Machine) (count : Option ℕ) → is_some count ≡ false → MatchOption count ((list : List Symbol) → ¬ HasFirst f list) (λ n. (n < 2 ^ 64) × ((list : List Symbol) × HasFirst f list × (length list ≡ n)))
     → (list : List Symbol) → ¬ HasFirst f list
 none_on_way f None not first = first
@@ -330,7 +329,7 @@ none_on_way f (Some n) not first = cc
 -- the jobs of a run under way are jobs of its request
 pub way_jobs : (w : Way) (now : Option (List ℕ)) (page : Page) (f : Machine) → IsUnderWay w now page f → AreJobsOf w.start.request (jobs_of f.entries)
 way_jobs w now page f way =
-    all_back (IsJobOf w.start.request) way.gone (jobs_of f.entries) (subst (AreJobsOf w.start.request) way.jobs_are (from_jobs w.start.request w.start.at w.jobs way.from))
+    all_back (IsJobOf w.start.request) way.emitted.gone (jobs_of f.entries) (subst (AreJobsOf w.start.request) way.emitted.jobs_are (from_jobs w.start.request w.start.at w.jobs way.emitted.from))
 
 -- ## What was collected is written
 

@@ -36,9 +36,8 @@ AreRecent w ss = (s : Symbol) → Contains ss s → IsBefore w.since s ⊎ IsUnd
 abbrev pub AreOfRound : Way → List Entry → Type 0
 AreOfRound w es = (e : Entry) → Contains es e → IsDone e.state → Contains w.round e.job
 
--- the machine has emitted the members whose lines are written or collected since the start
-pub record IsUnderWay (w : Way) (now : Option (List ℕ)) (page : Page) (f : Machine) : Type 0 where
-  pub members : List Symbol
+-- the machine has emitted these members since the start
+pub record HasEmitted (w : Way) (f : Machine) (members : List Symbol) : Type 0 where
   pub from : AreJobsFrom w.start.request w.start.at w.jobs
   pub opened : f.opened ≡ w.start.lines
   pub stays : f.from ≡ w.start.at
@@ -46,9 +45,14 @@ pub record IsUnderWay (w : Way) (now : Option (List ℕ)) (page : Page) (f : Mac
   pub jobs_are : w.jobs ≡ gone ++ jobs_of f.entries
   pub entries_are : AreDoneThenOpen f.entries
   pub held : IsHeld w.start.request w.jobs w.start.at f members
-  pub lines : HasLines w.start.lines w.base w.known now page members
   pub recent : AreRecent w members
   pub of_round : AreOfRound w f.entries
+
+-- and their lines are written or collected
+pub record IsUnderWay (w : Way) (now : Option (List ℕ)) (page : Page) (f : Machine) : Type 0 where
+  pub members : List Symbol
+  pub emitted : HasEmitted w f members
+  pub lines : HasLines w.start.lines w.base w.known now page members
 
 -- Whatever was under way goes on, up to the first entry that is open.
 pub record GoesOn (before now : Option (List ℕ)) (old new : Page) (f g : Machine) : Type 0 where

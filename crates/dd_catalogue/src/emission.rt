@@ -6,11 +6,15 @@ ghost use Rattle.dd_front.specs.Allowed.{MayPart};
 ghost use Rattle.dd_catalogue.specs.Rounds.{AreOpen};
 ghost use Rattle.dd_catalogue.specs.Ways.{IsAny, GoesOn, FillsUp, WritesPart};
 
+use crate::batches::{give_back, next_batch};
 use crate::pages::Page;
 use crate::rounds::count_at_front;
 use dd_front::{Event, Front};
 use dd_ports::{Sink, SinkFault};
 use std::thread::Threads;
+
+/// How many members make a batch for several threads: the lists of most entries are too short for more than one.
+const BATCH: usize = 8192;
 
 /// Emits the entries at the front that are done, and puts their lines, made by so many threads, to the page. Where there is a line
 /// after the last one that may be written, the front stops at its member, and the answer is false.
@@ -37,16 +41,19 @@ pub fn write_done<R: Threads + Sync, O: Sink>(
     ensures sure { O.sure out.old ≡ true
         → StaysSure Failed (O.faults out.old) (O.faults out.new) (O.sure out.new) result }
 {
+    let alloc = *page.buffer.allocator();
+    let enough = if threads > 1 { BATCH } else { 1 };
     while count_at_front(front).is_some() {
         let room = last - page.count;
         if front.allowed(&Event::Part { count: room }) {
             write_last(rt, threads, room, front, page, out)?;
             return Ok(false);
         }
-        let Some(members) = front.emit() else {
-            unreachable!()
+        let Ok(batch) = next_batch(alloc, enough, room, front) else {
+            return Err(SinkFault::Memory);
         };
-        page.add(rt, threads, members.as_slice(), out)?;
+        page.add(rt, threads, &batch, out)?;
+        give_back(rt, threads, batch);
     }
     Ok(true)
 }

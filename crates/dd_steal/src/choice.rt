@@ -5,10 +5,25 @@ use dd_model::Job;
 /// So many jobs for each worker are to wait.
 const AHEAD: u64 = 4;
 
+/// While fewer than so many for each worker wait, longer jobs are split too.
+const SCARCE: u64 = 2;
+
 /// Whether something may be under one of a job's children. Where nothing is under any of them a search
 /// may answer one child alone, with the number 0.
 pub fn is_worth_a_split(children: &[Job]) -> bool {
     !matches!(children, [only] if only.prefix.as_slice().last() == Some(&0))
+}
+
+/// How many numbers a job may have that is split. Much is under a job of a few numbers; but of the jobs of a large size
+/// one with 18 numbers may have nearly half of the work, and the other workers then have nothing to do at last.
+fn longest_split(waiting: u64, others: usize) -> u64 {
+    if waiting / SCARCE <= others as u64 {
+        30
+    } else if others < 8 {
+        18
+    } else {
+        24
+    }
 }
 
 /// Whether a job is to be split: few jobs wait for as many workers, and the job's prefix is short, so that much may be
@@ -17,9 +32,8 @@ pub fn is_to_split(job: &Job, waiting: u64, others: usize) -> bool
     ensures { IsTrue result → length job.now.prefix < 3 * job.now.size }
 {
     let numbers = job.prefix.as_slice().len() as u64;
-    let depth = if others < 8 { 18 } else { 24 };
     others > 0
-        && numbers < depth
+        && numbers < longest_split(waiting, others)
         && numbers < 3 * job.size as u64
         && waiting / AHEAD <= others as u64
 }

@@ -5,8 +5,12 @@ ghost use Rattle.dd_steal.specs.Worker.{IsLeftWith, held_by, held_after};
 use dd_board::{Board, Naming, Seat, Taken, Ticket};
 use dd_model::Memory;
 use dd_rack::Hand;
+use std::hint;
 use std::sync::Wait;
 use std::sync::ledger::Ledger;
+
+/// How often a worker looks for a job that is open before it is through: some 50 microseconds.
+const LOOKS: u32 = 2000;
 
 // A ticket of another worker's deque: the others are asked in turn.
 fn steal_one<N: Naming, R: Wait>(rt: &R, hand: &mut Hand<N>) -> Option<Ticket<N>>
@@ -44,6 +48,22 @@ fn take_ahead<N: Naming, K: Ledger, L: Ledger, S: Ledger, D: Ledger, B: Ledger, 
     }
 }
 
+// Waits a moment for an open job, since another worker may just be splitting one. A worker that is alone does not.
+fn wait_for_jobs<N: Naming, K: Ledger, L: Ledger, S: Ledger, D: Ledger, B: Ledger>(
+    board: &Board<N, K, L, S, D, B>,
+    others: usize,
+) {
+    if others == 0 {
+        return;
+    }
+    for _ in 0..LOOKS {
+        if board.waiting() > 0 {
+            return;
+        }
+        hint::spin_loop();
+    }
+}
+
 /// The next ticket: the first of the worker's own deque, else that of the first job that is open, else one of another
 /// worker. A worker that has done a job and finds its deque empty takes another job ahead.
 pub fn next_ticket<N: Naming, K: Ledger, L: Ledger, S: Ledger, D: Ledger, B: Ledger, R: Wait>(
@@ -69,6 +89,12 @@ pub fn next_ticket<N: Naming, K: Ledger, L: Ledger, S: Ledger, D: Ledger, B: Led
         if let Some(ticket) = take_ahead(rt, board, seat, hand)? {
             return Ok(Some(ticket));
         }
+    }
+    if board.waiting() == 0 {
+        if let Some(ticket) = steal_one(rt, hand) {
+            return Ok(Some(ticket));
+        }
+        wait_for_jobs(board, hand.others());
     }
     if let Taken::Job(ticket) = board.take(rt, seat)? {
         return Ok(Some(ticket));

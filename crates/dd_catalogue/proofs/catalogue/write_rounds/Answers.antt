@@ -25,7 +25,7 @@ loop-more-init g c =
     )
 
 pub do_round-requires-clause-request : goal.do_round-requires-clause-request
-do_round-requires-clause-request g c κs within = c.loop-more.invariant.0.3.held.request ∙ sym c.requires.request
+do_round-requires-clause-request g c κs within = c.loop-more.invariant.0.3.emitted.held.request ∙ sym c.requires.request
 
 pub do_round-requires-clause-valid : goal.do_round-requires-clause-valid
 do_round-requires-clause-valid g c κs within = subst IsValid (sym c.requires.request) c.requires.valid
@@ -37,10 +37,10 @@ do_round-requires-clause-jobs g c κs within =
     subst (λ q. AreJobsOf q (jobs_of c.loop-more.front.entries)) (sym c.requires.request) (way_jobs w (g.O.Sink.held c.loop-more.out) c.loop-more.page c.loop-more.front at.3)
 
 pub do_round-requires-clause-ascending : goal.do_round-requires-clause-ascending
-do_round-requires-clause-ascending g c κs within = c.loop-more.invariant.0.3.held.go_on.ascending_jobs
+do_round-requires-clause-ascending g c κs within = c.loop-more.invariant.0.3.emitted.held.go_on.ascending_jobs
 
 pub do_round-requires-clause-apart : goal.do_round-requires-clause-apart
-do_round-requires-clause-apart g c κs within = c.loop-more.invariant.0.3.held.go_on.apart
+do_round-requires-clause-apart g c κs within = c.loop-more.invariant.0.3.emitted.held.go_on.apart
 
 pub returns-in_err-flush-clause-output : goal.returns-in_err-flush-clause-output
 returns-in_err-flush-clause-output g c =
@@ -66,7 +66,7 @@ returns-then-not-more-clause-output g c =
     let output = [] ++ way.lines.written in
     let end = rw c.if-not-more.true at c.in-Ok.ensures.round in
     let stands : StandsAt f.from f.entries End = subst (λ es. StandsAt f.from es End) (sym end.none) refl in
-    let lines = lines_between w now c.flush.new.self f way.members End way.from way.held way.lines c.in_ok-flush.ensures.empty stands in
+    let lines = lines_between w now c.flush.new.self f way.members End way.emitted.from way.emitted.held way.lines c.in_ok-flush.ensures.empty stands in
     let low : c.flush.new.self.count ≤ c.limit-limit.result.last = omega (arith, c.flush.ensures.count, c.loop-more.invariant.2) in
     (output, record { appended = went.appended; front = went.front; finishes = finish_whole w.start c.args.run.now.pause c.limit-limit.result c.flush.new.self.count output c.limit-limit.ensures lines low })
 
