@@ -12,3 +12,4 @@ pub mod Descents
 pub mod Splits
 pub mod FirstMembers
 pub mod Emissions
+pub mod LikeNoOther

@@ -13,12 +13,12 @@ ghost use Rattle.dd_branch.specs.Choice.{IsChoice};
 ghost use Rattle.dd_branch.specs.Assignment.{HasLimits, IsAssignment, IsAtRoot, IsMemberUnder, next_place, prefix_of, spent_by, told};
 ghost use Rattle.dd_branch.specs.Entered.{HasBudget, HasEntered, HasForced};
 
+use crate::minimality::is_minimal;
 use crate::places::{Place, add_places, part_of_side};
 use crate::rests::Rests;
 use arrayvec::ArrayVec;
 use dd_canon::is_least_from_ties;
 use dd_model::{Memory, Pair, Request};
-use dd_quotient::is_minimal;
 use dd_symbol::Connected;
 use std::alloc::Global;
 
@@ -38,7 +38,7 @@ pub(crate) struct Assignment {
     /// What the degrees from each place on will have of the budget.
     rests: Rests,
     /// The degrees that are told.
-    pub(crate) degrees: ArrayVec<u8, 72>,
+    pub(crate) degrees: ArrayVec<u32, 72>,
 }
 
 /// Whether a symbol of which all else is known is a member of the catalogue of a request. Most tables
@@ -205,7 +205,7 @@ impl Assignment {
         ensures root { IsAtRoot self.new }
         ensures entered { HasEntered self.old degree self.new }
     {
-        self.degrees.push(degree);
+        self.degrees.push(u32::from(degree));
         self.force();
     }
 
@@ -215,11 +215,8 @@ impl Assignment {
         ensures { IfOk result
             (λ numbers. numbers.items ≡ part self.now.degrees.items from count) }
     {
-        let mut numbers = Vec::with_capacity(self.alloc, count)?;
-        for k in 0..count {
-            numbers.push(u32::from(self.degrees.as_slice()[from + k]))?;
-        }
-        Ok(numbers)
+        let degrees = self.degrees.as_slice();
+        Ok(Vec::from_slice(self.alloc, &degrees[from..from + count])?)
     }
 
     /// The member with the degrees that are told, if there is one. Only its leastness, and what is

@@ -6,6 +6,7 @@ mod descent;
 mod laws;
 mod levels;
 mod members;
+mod minimality;
 mod places;
 mod rests;
 mod search;
