@@ -76,7 +76,7 @@ facts_once s f g is a b =
     let minimal = answer_once (Minimal s) f.minimal g.minimal a.minimal b.minimal in
     λ i. record { chambers = chambers i; tiles = tiles i; vertices = vertices i; edges = edges i; curvature = curvature i; orientation = orientation i; minimal = minimal i }
 
-group_once : (s : Symbol) (g h : List ℕ) → IsSymbol s → IsGroup s g → IsGroup s h → g ≡ h
+pub group_once : (s : Symbol) (g h : List ℕ) → IsSymbol s → IsGroup s g → IsGroup s h → g ≡ h
 group_once s g h is a b = a.text ∙ ap name_text (orbifold_unique s a.orbifold b.orbifold is a.is_orbifold b.is_orbifold) ∙ sym b.text
 
 line_once : (k : ℕ) (s : Symbol) (g h x y : List ℕ) → IsSymbol s → IsInfoLine k s g x → IsInfoLine k s h y → (g ≡ h) × (x ≡ y)

@@ -45,7 +45,7 @@ dual_once : (s t u : Symbol) → IsReadable s → IsLeastForm (dual_of s) t → 
 dual_once s t u readable a b = form_once (dual_of s) t u (small_symbol-dual s readable.symbol).symbol.table a b
 
 -- the oriented cover of a symbol that a file may hold is a table
-cover_table : (s t : Symbol) (below : List ℕ) → IsReadable s → IsOrientedCover s t below → IsTable t
+pub cover_table : (s t : Symbol) (below : List ℕ) → IsReadable s → IsOrientedCover s t below → IsTable t
 cover_table s t below readable (inl own) = subst IsTable (sym own.same) readable.symbol.symbol.table
 cover_table s t below readable (inr twice) =
     let few = readable.size in

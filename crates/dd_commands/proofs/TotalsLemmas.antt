@@ -7,14 +7,14 @@ use Rattle.std.proofs.lemmas.List.{map-append}
 use Rattle.dd_commands.specs.Totals.{times, is_among, first_seen, totals_of, counted}
 
 -- a fact by the two values of a test
-by_test : {P : Type 0} (b : Bool) → (b ≡ true → P) → (b ≡ false → P) → P
+pub by_test : {P : Type 0} (b : Bool) → (b ≡ true → P) → (b ≡ false → P) → P
 by_test true holds fails = holds refl
 by_test false holds fails = fails refl
 
-same_name : (g h : List ℕ) → bytes_eq g h ≡ true → g ≡ h
+pub same_name : (g h : List ℕ) → bytes_eq g h ≡ true → g ≡ h
 same_name g h e = (bytes_eq-Decides g h).0 e
 
-equal_to_itself : (g : List ℕ) → bytes_eq g g ≡ true
+pub equal_to_itself : (g : List ℕ) → bytes_eq g g ≡ true
 equal_to_itself g = (bytes_eq-Decides g g).1 refl
 
 turned_round : (g h : List ℕ) → bytes_eq g h ≡ false → bytes_eq h g ≡ false

@@ -46,12 +46,12 @@ kept_count_below bound test (x ∷ es) n all e = by (test x.0) refl (kept_count_
     by false t h = h (sym (ap (λ b. cond b (Some x.1) (lookup test es)) t) ∙ e)
 
 -- the lines of the entries to a place, and one more
-pub totals_taken : (es : List (List ℕ × ℕ)) (i : ℕ) (e : List ℕ × ℕ) → slice_get es i ≡ Some e
-    → flat_map total_text (take i es) ++ total_text e ≡ flat_map total_text (take (i + 1) es)
-totals_taken es i e at =
+pub totals_taken : (word : List ℕ) (es : List (List ℕ × ℕ)) (i : ℕ) (e : List ℕ × ℕ) → slice_get es i ≡ Some e
+    → flat_map (total_text word) (take i es) ++ total_text word e ≡ flat_map (total_text word) (take (i + 1) es)
+totals_taken word es i e at =
     let inside : i < length es = slice_get_within es i e at in
     let next : i + 1 ≡ suc i = omega arith in
     let taken : take (i + 1) es ≡ take i es ++ e ∷ [] =
     ap (λ j. take j es) next ∙ take-suc es i e inside ∙ ap (λ x. take i es ++ x ∷ []) (get_or_from_slice_get es i e e at) in
-    let line : total_text e ≡ flat_map total_text (e ∷ []) = sym (append-nil (total_text e)) ∙ sym (flat_map-cons total_text e []) in
-    ap (λ t. flat_map total_text (take i es) ++ t) line ∙ sym (flat_map-append total_text (take i es) (e ∷ [])) ∙ ap (flat_map total_text) (sym taken)
+    let line : total_text word e ≡ flat_map (total_text word) (e ∷ []) = sym (append-nil (total_text word e)) ∙ sym (flat_map-cons (total_text word) e []) in
+    ap (λ t. flat_map (total_text word) (take i es) ++ t) line ∙ sym (flat_map-append (total_text word) (take i es) (e ∷ [])) ∙ ap (flat_map (total_text word)) (sym taken)

@@ -23,13 +23,13 @@ first_seen before (g ∷ gs) = cond (is_among g before) (first_seen (g ∷ befor
 abbrev pub totals_of : List (List ℕ) → List (List ℕ × ℕ)
 totals_of names = map (λ g. (g, times g names)) (first_seen [] names)
 
--- the line of a name and its number
-abbrev pub total_text : List ℕ × ℕ → List ℕ
-total_text e = codes "total " ++ (e.0 ++ (codes " " ++ (decimal e.1 ++ codes "\n")))
+-- the line of a name and its number, which begins with a word
+abbrev pub total_text : List ℕ → List ℕ × ℕ → List ℕ
+total_text word e = word ++ (codes " " ++ (e.0 ++ (codes " " ++ (decimal e.1 ++ codes "\n"))))
 
 -- the lines of all names
 abbrev pub totals_text : List (List ℕ) → List ℕ
-totals_text names = flat_map total_text (totals_of names)
+totals_text names = flat_map (total_text (codes "total")) (totals_of names)
 
 -- the names that are counted, and their numbers
 abbrev pub counted_in : Totals → List (List ℕ × ℕ)

@@ -21,12 +21,12 @@ pub fn info_of(alloc: Global, symbols: &[Connected]) -> Result<Vec<u8>, Memory>
         let group = put_info_line(&mut text, before + 1, symbol)?;
         totals.add(group)?;
     }
-    totals.put(&mut text)?;
+    totals.put("total", &mut text)?;
     Ok(text)
 }
 
 /// The name of the group of a symbol.
-fn group_of(alloc: Global, s: &Connected) -> Result<Vec<u8>, Memory>
+pub fn group_of(alloc: Global, s: &Connected) -> Result<Vec<u8>, Memory>
     ensures { IfOk result (λ group. IsGroup s.now group.items) }
 {
     let orbifold = orbifold(alloc, s)?;

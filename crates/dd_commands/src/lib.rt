@@ -21,4 +21,6 @@ pub use file_laws::{
     written_once,
 };
 pub use file_text::text_of_file;
+pub use info::group_of;
 pub use refusals::{SymbolFault, SymbolRefusal};
+pub use totals::Totals;

@@ -37,14 +37,21 @@ impl Totals {
         Ok(())
     }
 
-    /// Appends a line for each name.
-    pub fn put(&self, out: &mut Vec<u8>) -> Result<(), Memory>
-        ensures { OnOk result
-            (out.new.items ≡ out.old.items ++ flat_map total_text (counted_in self.now)) }
+    /// The number of different names.
+    pub fn len(&self) -> usize
+        ensures { result ≡ length (counted_in self.now) }
+    {
+        self.counts.len()
+    }
+
+    /// Appends a line for each name, which begins with a word.
+    pub fn put(&self, word: &str, out: &mut Vec<u8>) -> Result<(), Memory>
+        ensures { OnOk result (out.new.items ≡ out.old.items
+            ++ flat_map (total_text word.now) (counted_in self.now)) }
     {
         for place in 0..self.counts.len() {
             let (name, count) = self.entry_at(place);
-            put_total(out, name, count)?;
+            put_total(out, word, name, count)?;
         }
         Ok(())
     }
@@ -61,13 +68,15 @@ impl Totals {
     }
 }
 
-/// Appends the line of a name and its number.
-fn put_total(out: &mut Vec<u8>, name: &[u8], count: u64) -> Result<(), Memory>
-    ensures { OnOk result (out.new.items ≡ out.old.items ++ total_text (name.now, count)) }
+/// Appends the line of a name and its number, which begins with a word.
+fn put_total(out: &mut Vec<u8>, word: &str, name: &[u8], count: u64) -> Result<(), Memory>
+    ensures { OnOk result
+        (out.new.items ≡ out.old.items ++ total_text word.now (name.now, count)) }
 {
     let alloc = *out.allocator();
     let end = format!(in alloc; " {count}\n")?;
-    out.extend_from_slice(b"total ")?;
+    out.extend_from_slice(word.as_bytes())?;
+    out.extend_from_slice(b" ")?;
     out.extend_from_slice(name)?;
     out.extend_from_slice(end.as_bytes())?;
     Ok(())

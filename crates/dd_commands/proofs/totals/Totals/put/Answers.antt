@@ -9,6 +9,7 @@ loop-place-preserved c =
     let es = counted_in c.args.self.now in
     let i = c.loop-place.place in
     let count = c.entry_at-count.result in
-    c.in_ok-put_total.ensures ∙ ap (λ t. t ++ total_text (count.0.now, count.1)) c.loop-place.invariant
-    ∙ append_assoc c.args.out.now.items (flat_map total_text (take i es)) (total_text (count.0.now, count.1))
-    ∙ ap (λ t. c.args.out.now.items ++ t) (totals_taken es i (count.0.now, count.1) c.entry_at-count.ensures)
+    let line = total_text c.args.word.now in
+    c.in_ok-put_total.ensures ∙ ap (λ t. t ++ line (count.0.now, count.1)) c.loop-place.invariant
+    ∙ append_assoc c.args.out.now.items (flat_map line (take i es)) (line (count.0.now, count.1))
+    ∙ ap (λ t. c.args.out.now.items ++ t) (totals_taken c.args.word.now es i (count.0.now, count.1) c.entry_at-count.ensures)

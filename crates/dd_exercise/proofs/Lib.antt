@@ -1,0 +1,9 @@
+pub mod DrawLemmas
+pub mod SeedLemmas
+pub mod ChangeLemmas
+pub mod CoverLemmas
+pub mod ExchangeLemmas
+pub mod ItemLemmas
+pub mod DifferentLemmas
+pub mod TallyLemmas
+pub mod OneText

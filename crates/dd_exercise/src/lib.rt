@@ -1,0 +1,15 @@
+//! What `exercise` writes: symbols made by the draws of a generator, and what came out.
+#![tactic(auto)]
+
+mod changes;
+mod coverings;
+mod draws;
+mod exercising;
+mod items;
+mod laws;
+mod renumbering;
+mod seeds;
+mod tallies;
+
+pub use exercising::exercise;
+pub use laws::an_exercise_has_one_text;
