@@ -86,7 +86,11 @@ NOT_TAKEN = (
     "resume",
     "resume c --tiles 1",
     "draw f --cell round",
-    "exercise 1 1",
+    "exercise 1",
+    "exercise 1 1 1",
+    "exercise 1 10001",
+    "exercise 2147483648 1",
+    "exercise 1 1 --workers 1",
 )
 
 FIRST_ROUND = "dressline checkpoint 2\nrun 1\nrequest 2 0 0 all\nfaces 3-216\ndegrees 3-216\nlines 3\nbytes 54\nat 2 1 1 2 2 2 1\n"
@@ -196,6 +200,18 @@ FILES = (
         "total 442 1\n",
     ),
 )
+
+# What exercises write, and how one begins that is made twice.
+EXERCISES = (
+    ("exercise 1 1", "made 1\nchambers 36\nclasses 1\ngroup 333 1\n"),
+    ("exercise 00001 -- 0000000001", "made 1\nchambers 36\nclasses 1\ngroup 333 1\n"),
+    ("exercise 1 0", "made 0\nchambers 0\nclasses 0\n"),
+)
+TWICE = ("exercise 2147483647 100", "made 100\nchambers 3278\nclasses 80\n")
+
+# What a draw of an exercise picks: commands on a file.
+CHANGES = ("canon", "dual", "ambo", "truncate", "chamfer")
+COVERS = ("canon", "oriented", "torus")
 
 # Two commands on files that write the same.
 ALIKE = (

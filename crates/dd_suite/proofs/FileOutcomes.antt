@@ -10,7 +10,7 @@ use Rattle.dd_suite.specs.declared.ending.Ending.{Ending}
 use Rattle.dd_suite.specs.declared.ending.Ending.TheVariants.{Done, Usage, Refused, RefusedSymbol, RefusedCheck, Paused, StoreFault, SinkFault, Memory, TooManyLines}
 use Rattle.dd_suite.specs.declared.status.Status.TheVariants as status
 use Rattle.dd_suite.specs.Outside.{Before, After, WritesNothing}
-use Rattle.dd_suite.specs.Words.{IsOnFile}
+use Rattle.dd_suite.specs.Words.{file_command, IsOnFile}
 use Rattle.dd_suite.specs.Held.{IsTextOfHeld}
 use Rattle.dd_suite.specs.Stops.{WritesPart, HasFileCause, EndsOnFile}
 use Rattle.dd_suite.specs.Output.{AppendsOutput, IsFileOutput, IsKnownOutput}
@@ -19,7 +19,7 @@ use Rattle.dd_suite.specs.Cuts.{IsEndOfOwn}
 use Rattle.dd_suite.specs.Endings.{status_of}
 use Rattle.dd_suite.specs.Messages.{IsItsCause}
 use Rattle.dd_suite.proofs.HeldTexts.{some_injective}
-use Rattle.dd_suite.proofs.Requests.{not_both, same_command}
+use Rattle.dd_suite.proofs.Requests.{not_both, same_command, file_or_exercise}
 
 module _ (words : List (List ℕ)) (command : FileCommand) (name : List ℕ) (before : Before) (after : After) (asked : IsOnFile words command name) where
   pub file_known : (ending : Ending) → EndsOnFile command name ending before after → (bytes : List ℕ) → IsKnownOutput words before.tells before.held bytes
@@ -30,7 +30,8 @@ module _ (words : List (List ℕ)) (command : FileCommand) (name : List ℕ) (be
       let same = same_command words file.command command file.name name file.asked asked in
       ends.prefix told bytes
       (subst (λ k. IsTextOfHeld k before.tells (before.held name) bytes) same.0 (subst (λ n. IsTextOfHeld file.command before.tells (before.held n) bytes) same.1 file.text))
-  file_known ending ends bytes (inr (inr (inr none))) = absurd (none.0 (inr (command, name, asked)))
+  file_known ending ends bytes (inr (inr (inr (inl is)))) = absurd (file_or_exercise words command name is.start is.count asked is.asked)
+  file_known ending ends bytes (inr (inr (inr (inr none)))) = absurd (none.0 (file_command command name, asked))
 
   pub file_whole : (ending : Ending) → EndsOnFile command name ending before after → ending ≡ Done → AppendsOutput words before.tells before.held before.written after.written
   file_whole ending ends e =

@@ -5,6 +5,7 @@ pub mod HeldTexts
 pub mod LongFiles
 pub mod FileOutcomes
 pub mod RunOutcomes
+pub mod ExerciseOutcomes
 pub mod Clauses
 pub mod CheckValues
 pub mod RunCalls

@@ -1,12 +1,13 @@
 -- Words ask for one thing at most.
-use Rattle.std.proofs.Common.{◌≡◌, ℕ, List, Option, Some, None, MatchOption, inl, inr, refl, sym, ap, ◌∙◌, subst}
+use Rattle.std.proofs.Common.{◌≡◌, ◌≤◌, ℕ, List, [], ◌∷◌, Option, Some, None, MatchOption, inl, inr, refl, sym, ap, ◌∙◌, subst}
 use Rattle.dd_model.specs.declared.requests.Request.{Request}
 use Rattle.dd_model.specs.Request.{IsValid}
-use Rattle.dd_words.specs.Grammar.{IsCommand}
+use Rattle.dd_words.specs.Grammar.{IsCommand, IsExercise, OnTwo}
+use Rattle.dd_words.specs.Values.{Text}
 use Rattle.dd_words.proofs.ReadCommands.{one_command}
 use Rattle.dd_words.proofs.Validity.{valid, IsPace, pace as pace_of, resume_pace, lone_pause}
 use Rattle.dd_words.specs.declared.commands.Command.{Command}
-use Rattle.dd_words.specs.declared.commands.Command.TheVariants.{Catalogue, Resume, File, Draw as Drawing}
+use Rattle.dd_words.specs.declared.commands.Command.TheVariants.{Catalogue, Resume, File, Exercise, Draw as Drawing}
 use Rattle.dd_words.specs.declared.commands.FileKind.{FileKind}
 use Rattle.dd_words.specs.declared.commands.FileKind.TheVariants as kind
 use Rattle.dd_chain.specs.Calls.{Task as ChainTask, Catalogue as First, Resume as Next}
@@ -17,7 +18,7 @@ use Rattle.dd_commands.specs.declared.commands.SymbolCommand.TheVariants.{Lines,
 use Rattle.dd_catalogue.specs.declared.pace.Pace.{Pace}
 use Rattle.dd_suite.specs.declared.task.Task.{Task}
 use Rattle.dd_suite.specs.declared.task.Task.TheVariants as task
-use Rattle.dd_suite.specs.Words.{Order, run_command, AskForRun, kind_of, file_command, IsOnFile, AreTaken}
+use Rattle.dd_suite.specs.Words.{Order, run_command, AskForRun, kind_of, file_command, IsOnFile, AskToExercise, AreTaken}
 use Rattle.dd_suite.specs.Commands.{IsTaskOf, AskForTask}
 
 -- what a command on a file asks for, and its file
@@ -94,30 +95,30 @@ pub same_command : (words : List (List ℕ)) (k l : FileCommand) (a b : List ℕ
 same_command words k l a b h i =
     same_asked (k, a) (l, b) (sym (back_from_command k a) ∙ ap asked_by (one_command words _ _ h i) ∙ back_from_command l b)
 
+-- those of an exercise are neither
+pub run_or_exercise : (words : List (List ℕ)) (order : Order) (start count : ℕ) → AskForRun words order → AskToExercise words start count → ⊥
+unfolding order_of
+run_or_exercise words order start count a b =
+    none_some order (sym (order_told order.task a.workers order.round order.pause) ∙ ap order_of (one_command words _ _ a.command b))
+
+none_asked : (a : FileCommand × List ℕ) → Some a ≡ None → ⊥
+none_asked a e = cc
+
+pub file_or_exercise : (words : List (List ℕ)) (k : FileCommand) (name : List ℕ) (start count : ℕ) → IsOnFile words k name → AskToExercise words start count → ⊥
+unfolding asked_by
+file_or_exercise words k name start count a b = none_asked (k, name) (sym (back_from_command k name) ∙ ap asked_by (one_command words _ _ a b))
+
+same_numbers : (start count first number : ℕ) → Exercise start count ≡ Exercise first number → (start ≡ first) × (count ≡ number)
+same_numbers start count first number e = (cc, cc)
+
+pub one_exercise : (words : List (List ℕ)) (start count first number : ℕ) → AskToExercise words start count → AskToExercise words first number → (start ≡ first) × (count ≡ number)
+one_exercise words start count first number a b = same_numbers start count first number (one_command words _ _ a b)
+
 -- ## Tasks
-
-run_task : (c : Command) (t : ChainTask) (workers round : ℕ) (pause : Option ℕ) → c ≡ run_command t workers round pause → (u : Task) × IsTaskOf c u
-run_task c (First q None) workers round pause e = (task.Catalogue q (record { workers = workers; round = round }), (pause, e))
-run_task c (First q (Some name)) workers round pause e = (task.Kept q name (record { workers = workers; round = round }) pause, e)
-run_task c (Next name) workers round pause e = (task.Resume name (record { workers = workers; round = round }) pause, e)
-
--- the words of a command without a task are not taken
-pub no_task : (words : List (List ℕ)) (c : Command) → IsCommand words c → ((t : Task) → IsTaskOf c t → ⊥) → AreTaken words → ⊥
-no_task words c is none (inl (order, a)) =
-    let found = run_task c order.task a.workers order.round order.pause (one_command words c _ is a.command) in
-    none found.0 found.1
-no_task words c is none (inr (k, name, a)) = none (task.OnFile k name) (one_command words c (file_command k name) is a)
-
--- the task of a command is that of its words
-pub task_of_words : (words : List (List ℕ)) (c : Command) (o : Option Task) → IsCommand words c → MatchOption o ((t : Task) → IsTaskOf c t → ⊥) (IsTaskOf c)
-    → MatchOption o (¬ AreTaken words) (AskForTask words)
-task_of_words words c None is none = no_task words c is none
-task_of_words words c (Some t) is of = record { command = c; asked = is; task_is = of }
 
 -- words that no command fits are not taken
 pub none_taken : (words : List (List ℕ)) → ((c : Command) → IsCommand words c → ⊥) → AreTaken words → ⊥
-none_taken words none (inl (order, a)) = none (run_command order.task a.workers order.round order.pause) a.command
-none_taken words none (inr (k, name, a)) = none (file_command k name) a
+none_taken words none (c, is) = none c is
 
 -- what was read is what the words ask for
 pub asked_of : (words : List (List ℕ)) (o : Option Task) (t u : Task) → MatchOption o (¬ AreTaken words) (AskForTask words) → o ≡ Some t → t ≡ u → AskForTask words u
@@ -153,3 +154,16 @@ pub resume_asked : (words : List (List ℕ)) (name : List ℕ) (pace : Pace) (pa
 resume_asked words name pace pause is =
     let own : IsCommand words (Resume name pace.workers pace.round pause) = subst (IsCommand words) is.task_is is.asked in
     record { order_asked = record { workers = pace.workers; command = own }; in_range = resume_pace words name pace.workers pace.round pause own }
+
+pub exercise_asked : (words : List (List ℕ)) (start count : ℕ) → AskForTask words (task.Exercise start count) → AskToExercise words start count
+exercise_asked words start count is = subst (IsCommand words) is.task_is is.asked
+
+numbers_in_range : (arguments : List Text) (start count : ℕ) → OnTwo arguments (λ first second. IsExercise first second start count) → (start ≤ 2147483647) × (count ≤ 10000)
+numbers_in_range [] start count is = absurd is
+numbers_in_range (x ∷ []) start count is = absurd is
+numbers_in_range (x ∷ y ∷ []) start count is = (is.start_is.to, is.count_is.to)
+numbers_in_range (x ∷ y ∷ z ∷ zs) start count is = absurd is
+
+-- the numbers of an exercise are in their ranges
+pub exercise_range : (words : List (List ℕ)) (start count : ℕ) → AskToExercise words start count → (start ≤ 2147483647) × (count ≤ 10000)
+exercise_range words start count is = numbers_in_range is.arguments start count is.said

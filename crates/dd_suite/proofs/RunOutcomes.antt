@@ -25,9 +25,9 @@ use Rattle.dd_suite.specs.Outcomes.{EndsRun, StopsRun, IsRunEnding, IsStopEnding
 use Rattle.dd_suite.specs.Output.{AppendsOutput, IsKnownOutput}
 use Rattle.dd_suite.specs.Outside.{Before, After}
 use Rattle.dd_suite.specs.Runs.{Runs, HasRunAs, name_of}
-use Rattle.dd_suite.specs.Words.{Order, AskForRun}
+use Rattle.dd_suite.specs.Words.{Order, run_command, AskForRun}
 use Rattle.dd_suite.proofs.HeldTexts.{some_injective, one_check}
-use Rattle.dd_suite.proofs.Requests.{one_order, not_both}
+use Rattle.dd_suite.proofs.Requests.{one_order, not_both, run_or_exercise}
 use Rattle.dd_suite.proofs.RunEndings.{whole_result, paused_result, cut_result, store_result, not_refused}
 use Rattle.dd_suite.proofs.RunOutputs.{output_of, front_prefix, whole_of_task, rest_written}
 
@@ -47,7 +47,8 @@ module _ (words : List (List ℕ)) (order : Order) (before : Before) (after : Af
       let same : ran.start ≡ next_start is.check = at.2 ∙ ap next_start (one_check before.tells (before.held is.name) at.0 is.check told at.1 is.holds) in
       front_prefix ran.start order.pause before.written after.written ran.result out.0 bytes out.1 (subst (λ (s : Start). IsText s.request s.at s.lines bytes) (sym same) is.text)
   ran_known state ran bytes (inr (inr (inl (told, file)))) = absurd (not_both words order file.command file.name asked file.asked)
-  ran_known state ran bytes (inr (inr (inr none))) = absurd (none.0 (inl (order, asked)))
+  ran_known state ran bytes (inr (inr (inr (inl is)))) = absurd (run_or_exercise words order is.start is.count asked is.asked)
+  ran_known state ran bytes (inr (inr (inr (inr none)))) = absurd (none.0 (run_command order.task asked.workers order.round order.pause, asked.command))
 
   pub ran_whole : (state : Status) → HasRunAs order state before after → state ≡ status.Done → AppendsOutput words before.tells before.held before.written after.written
   ran_whole state ran e =

@@ -8,9 +8,10 @@ use Rattle.dd_check.specs.declared.checkpoint.Checkpoint.{Checkpoint}
 use Rattle.dd_chain.specs.Between.{AreLinesBetween}
 use Rattle.dd_commands.specs.declared.commands.FileCommand.{FileCommand}
 use Rattle.dd_catalogue.specs.Runs.{most_lines}
+use Rattle.dd_exercise.specs.Exercise.{IsExerciseText}
 use Rattle.dd_suite.specs.Beginnings.{HoldsCheck}
 use Rattle.dd_suite.specs.Held.{IsTextOfHeld}
-use Rattle.dd_suite.specs.Words.{AreTaken, AskFor, AskToResume, IsOnFile}
+use Rattle.dd_suite.specs.Words.{AreTaken, AskFor, AskToResume, IsOnFile, AskToExercise}
 
 -- the text of the catalogue that the words ask for, from its beginning
 pub record IsCatalogueText (words : List (List ℕ)) (bytes : List ℕ) : Type 0 where
@@ -43,16 +44,25 @@ pub record IsFileOutput (words : List (List ℕ)) (tells : Bool) (held : List �
   pub asked : IsOnFile words command name
   pub text : IsTextOfHeld command tells (held name) bytes
 
+-- the text of the exercise that the words ask for
+pub record IsExerciseOutput (words : List (List ℕ)) (bytes : List ℕ) : Type 0 where
+  pub start : ℕ
+  pub count : ℕ
+  pub asked : AskToExercise words start count
+  pub text : IsExerciseText start count bytes
+
 -- what words have written after Done: what they ask for, and nothing where they are not taken
 abbrev pub IsOutput : List (List ℕ) → Bool → (List ℕ → Option (List ℕ)) → List ℕ → Type 0
 IsOutput words tells held bytes =
-    IsCatalogueText words bytes ⊎ (AreResumedLines words tells held bytes ⊎ (IsFileOutput words tells held bytes ⊎ ((¬ AreTaken words) × (bytes ≡ []))))
+    IsCatalogueText words bytes
+    ⊎ (AreResumedLines words tells held bytes ⊎ (IsFileOutput words tells held bytes ⊎ (IsExerciseOutput words bytes ⊎ ((¬ AreTaken words) × (bytes ≡ [])))))
 
 -- the text of which words write a prefix, where what a name holds is known since the store tells it
 abbrev pub IsKnownOutput : List (List ℕ) → Bool → (List ℕ → Option (List ℕ)) → List ℕ → Type 0
 IsKnownOutput words tells held bytes =
     IsCatalogueText words bytes
-    ⊎ (((tells ≡ true) × IsResumedText words tells held bytes) ⊎ (((tells ≡ true) × IsFileOutput words tells held bytes) ⊎ ((¬ AreTaken words) × (bytes ≡ []))))
+    ⊎ (((tells ≡ true) × IsResumedText words tells held bytes)
+    ⊎ (((tells ≡ true) × IsFileOutput words tells held bytes) ⊎ (IsExerciseOutput words bytes ⊎ ((¬ AreTaken words) × (bytes ≡ [])))))
 
 -- known bytes grew by the whole output of the words
 pub record AppendsOutput (words : List (List ℕ)) (tells : Bool) (held : List ℕ → Option (List ℕ)) (old new : Option (List ℕ)) : Type 0 where

@@ -1,14 +1,16 @@
--- Why a command on a file ended without its output, and what the words of any command came to.
+-- Why a command on a file, or an exercise, ended without its output, and what the words of any command came to.
 use Rattle.std.specs.Prelude.{◌≡◌, ◌⊎◌, ℕ, List, Option, Bool, true}
+use Rattle.std.specs.Io.KnownBytes.{Appends}
 use Rattle.dd_ports.specs.Causes.{Rose}
 use Rattle.dd_ports.specs.Grows.{GrowsByPrefix}
 use Rattle.dd_commands.specs.declared.commands.FileCommand.{FileCommand}
+use Rattle.dd_exercise.specs.Exercise.{IsExerciseText}
 use Rattle.dd_suite.specs.declared.ending.Ending.{Ending}
 use Rattle.dd_suite.specs.declared.ending.Ending.TheVariants.{Done, Usage, Refused, RefusedSymbol}
 use Rattle.dd_suite.specs.declared.ending.Ending.TheVariants.{StoreFault, SinkFault, Memory}
 use Rattle.dd_suite.specs.Outcomes.{IsRunOutcome}
 use Rattle.dd_suite.specs.Outside.{Before, After, WritesNothing, KeepsNames}
-use Rattle.dd_suite.specs.Words.{Order, AreTaken, AskForRun, IsOnFile}
+use Rattle.dd_suite.specs.Words.{Order, AreTaken, AskForRun, IsOnFile, AskToExercise}
 use Rattle.dd_suite.specs.Held.{HoldsFaulty, HoldsRefused, IsTextOfHeld, AppendsFileText, AppendsPart}
 
 -- a fetch failed and was counted, or the name holds what no file may be, or memory is wanting
@@ -49,6 +51,19 @@ pub record EndsOnFile (command : FileCommand) (name : List ℕ) (ending : Ending
   pub whole : ending ≡ Done → AppendsFileText command before.tells (before.held name) before.written after.written
   pub same : KeepsNames before after
 
+-- known bytes grew by the text of an exercise
+pub record AppendsExercise (start count : ℕ) (old new : Option (List ℕ)) : Type 0 where
+  pub text : List ℕ
+  pub is_text : IsExerciseText start count text
+  pub appended : Appends old new text
+
+-- a prefix of the text of an exercise was written, and after Done the whole; the store is as it was
+pub record EndsExercise (start count : ℕ) (ending : Ending) (before : Before) (after : After) : Type 0 where
+  pub cause : IsWriteEnding ending before.sink_faults after.sink_faults
+  pub prefix : (text : List ℕ) → IsExerciseText start count text → GrowsByPrefix before.written after.written text
+  pub whole : ending ≡ Done → AppendsExercise start count before.written after.written
+  pub same : KeepsNames before after
+
 -- nothing happened
 pub record LeavesAll (before : Before) (after : After) : Type 0 where
   pub nothing : WritesNothing before after
@@ -59,4 +74,5 @@ pub data IsOutcome (words : List (List ℕ)) (ending : Ending) (before : Before)
   untaken : ending ≡ Usage → (¬ AreTaken words) → LeavesAll before after → IsOutcome words ending before after
   unread : ending ≡ Memory → LeavesAll before after → IsOutcome words ending before after
   on_file : (command : FileCommand) (name : List ℕ) → IsOnFile words command name → EndsOnFile command name ending before after → IsOutcome words ending before after
+  of_exercise : (start count : ℕ) → AskToExercise words start count → EndsExercise start count ending before after → IsOutcome words ending before after
   of_run : (order : Order) → AskForRun words order → IsRunOutcome order ending before after → IsOutcome words ending before after

@@ -1,5 +1,5 @@
 -- Which words the program takes, and what they ask for.
-use Rattle.std.specs.Prelude.{ℕ, ◌⊎◌, List, Option}
+use Rattle.std.specs.Prelude.{ℕ, List, Option}
 use Rattle.dd_model.specs.declared.requests.Request.{Request}
 use Rattle.dd_words.specs.Grammar.{IsCommand}
 use Rattle.dd_words.specs.declared.commands.Command.{Command}
@@ -65,6 +65,10 @@ IsOnFile words asked name = IsCommand words (file_command asked name)
 abbrev pub NameFile : List (List ℕ) → Type 0
 NameFile words = (command : FileCommand) × (name : List ℕ) × IsOnFile words command name
 
--- The words are taken: they are those of a command that the program has. Those of other commands are not taken yet.
+-- the words of an exercise
+abbrev pub AskToExercise : List (List ℕ) → ℕ → ℕ → Type 0
+AskToExercise words start count = IsCommand words (command.Exercise start count)
+
+-- the words are taken: they are those of a command
 abbrev pub AreTaken : List (List ℕ) → Type 0
-AreTaken words = ((order : Order) × AskForRun words order) ⊎ NameFile words
+AreTaken words = (c : Command) × IsCommand words c

@@ -43,7 +43,7 @@ fn fetch_file<S: Store>(alloc: Global, name: &str, store: &mut S) -> Result<Vec<
 }
 
 /// Writes a whole text at once.
-fn write_text<O: Sink>(text: &[u8], out: &mut O) -> Ending
+pub fn write_text<O: Sink>(text: &[u8], out: &mut O) -> Ending
     ensures prefix { GrowsByPrefix (O.held out.old) (O.held out.new) text.now }
     ensures whole { result ≡ Ending.Done → Appends (O.held out.old) (O.held out.new) text.now }
     ensures cause { IsWriteEnding result (O.faults out.old) (O.faults out.new) }

@@ -2,6 +2,7 @@
 #![tactic(auto)]
 
 mod ending;
+mod exercise;
 mod fetching;
 mod file;
 mod kept;

@@ -23,4 +23,9 @@ pub enum Task {
     },
     /// A command on the file of a name.
     OnFile(FileCommand, Name),
+    /// So many items of an exercise from a number on.
+    Exercise {
+        start: u32,
+        count: u32,
+    },
 }

@@ -20,6 +20,7 @@ ghost use Rattle.dd_suite.specs.Messages.{TellsOf};
 ghost use Rattle.dd_suite.specs.Stops.{IsOutcome};
 
 use crate::ending::Ending;
+use crate::exercise::write_exercise;
 use crate::file::write_file;
 use crate::kept::write_kept;
 use crate::lone::write_lone;
@@ -199,5 +200,6 @@ fn perform<R: Threads + Wait + Sync, S: Store, O: Sink, G: Gate + Sync>(
             resume(rt, alloc, name.as_str(), pace, pause, gate, store, out)
         }
         Task::OnFile(command, name) => write_file(alloc, command, name.as_str(), store, out),
+        Task::Exercise { start, count } => write_exercise(alloc, start, count, out),
     }
 }

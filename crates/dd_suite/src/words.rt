@@ -3,7 +3,6 @@ ghost use Rattle.std.specs.Rc.{rc_str_bytes};
 ghost use Rattle.dd_words.specs.declared.commands.Command.TheVariants as commands;
 ghost use Rattle.dd_suite.specs.Words.{AreTaken, file_command};
 ghost use Rattle.dd_suite.specs.Commands.{IsTaskOf, AskForTask};
-ghost use Rattle.dd_suite.specs.declared.task.Task.{Task as Asked};
 
 use crate::task::Task;
 use dd_catalogue::Pace;
@@ -19,15 +18,15 @@ pub fn read_task(alloc: Global, words: &[RcStr]) -> Result<Option<Task>, Memory>
         (AskForTask (map rc_str_bytes words.now))) }
 {
     match read_words(alloc, words) {
-        Ok(command) => Ok(task_of(command)),
+        Ok(command) => Ok(Some(task_of(command))),
         Err(WordsFault::NotTaken) => Ok(None),
         Err(WordsFault::Memory) => Err(Memory),
     }
 }
 
-/// The task of a command, and None where the program does not have the command.
-fn task_of(command: Command) -> Option<Task>
-    ensures { MatchOption result ((task : Asked) → IsTaskOf command task → ⊥) (IsTaskOf command) }
+/// The task of a command.
+fn task_of(command: Command) -> Task
+    ensures { IsTaskOf command result }
 {
     match command {
         Command::Catalogue {
@@ -36,20 +35,20 @@ fn task_of(command: Command) -> Option<Task>
             round,
             pause,
             checkpoint,
-        } => Some(catalogue_of(request, Pace { workers, round }, pause, checkpoint)),
+        } => catalogue_of(request, Pace { workers, round }, pause, checkpoint),
         Command::Resume {
             name,
             workers,
             round,
             pause,
-        } => Some(Task::Resume {
+        } => Task::Resume {
             name,
             pace: Pace { workers, round },
             pause,
-        }),
-        Command::File { kind, file } => Some(Task::OnFile(command_of(kind), file)),
-        Command::Draw { file, frame } => Some(Task::OnFile(FileCommand::Draw(frame), file)),
-        _ => None,
+        },
+        Command::File { kind, file } => Task::OnFile(command_of(kind), file),
+        Command::Draw { file, frame } => Task::OnFile(FileCommand::Draw(frame), file),
+        Command::Exercise { start, count } => Task::Exercise { start, count },
     }
 }
 

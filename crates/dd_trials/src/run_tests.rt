@@ -1,4 +1,4 @@
-use crate::running::run_words;
+use crate::running::{run_words, written};
 use dd_ports::{MemorySink, MemoryStore, Store, SureSink, SureStore};
 use dd_suite::Status;
 use std::test::Fail;
@@ -49,5 +49,15 @@ fn stores_that_fail(rt: HostRuntime) -> Result<(), Fail> {
         assert_eq!(rt; out.held(), b"".as_slice());
         assert_eq!(rt; err.held(), b"dressline: store failed\n".as_slice());
     }
+    Ok(())
+}
+
+// One item from the number 1 on: line 9 of the catalogue of two chambers, truncated twice, and the oriented cover of that.
+#[test]
+fn an_exercise(rt: HostRuntime) -> Result<(), Fail> {
+    let alloc = rt.alloc();
+    let out = written(&rt, alloc, &["exercise", "1", "1"], "")?;
+    let text = b"made 1\nchambers 36\nclasses 1\ngroup 333 1\n";
+    assert_eq!(rt; out.held(), text.as_slice());
     Ok(())
 }

@@ -1,12 +1,12 @@
 use Rattle.std.proofs.Common.{ℕ, List, None, Some, map, refl, subst}
 use Rattle.std.specs.Rc.{rc_str_bytes}
 use Rattle.dd_chain.specs.Calls.{Catalogue as First, Resume as Next}
-use Rattle.dd_suite.specs.declared.task.Task.TheVariants.{Catalogue, Kept, Resume, OnFile}
+use Rattle.dd_suite.specs.declared.task.Task.TheVariants.{Catalogue, Kept, Resume, OnFile, Exercise}
 use Rattle.dd_suite.specs.Outcomes.{IsRunOutcome}
 use Rattle.dd_suite.specs.Outside.{Before, After}
-use Rattle.dd_suite.specs.Stops.{EndsOnFile, on_file, of_run}
-use Rattle.dd_suite.specs.Words.{IsOnFile}
-use Rattle.dd_suite.proofs.Requests.{asked_of, file_asked, lone_asked, kept_asked, resume_asked}
+use Rattle.dd_suite.specs.Stops.{EndsOnFile, on_file, of_exercise, of_run}
+use Rattle.dd_suite.specs.Words.{IsOnFile, AskToExercise}
+use Rattle.dd_suite.proofs.Requests.{asked_of, file_asked, lone_asked, kept_asked, resume_asked, exercise_asked, exercise_range}
 use Rattle.dd_suite.proofs.RunCalls.{lone_outcome}
 use Rattle.dd_suite.proofs.top.perform.Goals as goal
 
@@ -141,3 +141,26 @@ returns-in-OnFile-clause-outcome g c =
     on_file command name asked
     (subst (λ (n : List ℕ). EndsOnFile command n c.write_file.result before after) c.as_str-in-OnFile.ensures
     (record { cause = c.write_file.ensures.cause; prefix = c.write_file.ensures.prefix; whole = c.write_file.ensures.whole; same = λ told. (c.write_file.ensures.same told).1 }))
+
+pub write_exercise-requires-clause-start : goal.write_exercise-requires-clause-start
+write_exercise-requires-clause-start g c =
+    let words = map rc_str_bytes c.args.words.now in
+    let start = c.in-Exercise.start in
+    let count = c.in-Exercise.count in
+    (exercise_range words start count (exercise_asked words start count (asked_of words c.in-Ok-Some.field-0 c.in-Ok-Some.task (Exercise start count) c.in-Ok-Some.ensures c.in-Ok-Some.field-0-is c.in-Exercise.is))).0
+
+pub write_exercise-requires-clause-count : goal.write_exercise-requires-clause-count
+write_exercise-requires-clause-count g c =
+    let words = map rc_str_bytes c.args.words.now in
+    let start = c.in-Exercise.start in
+    let count = c.in-Exercise.count in
+    (exercise_range words start count (exercise_asked words start count (asked_of words c.in-Ok-Some.field-0 c.in-Ok-Some.task (Exercise start count) c.in-Ok-Some.ensures c.in-Ok-Some.field-0-is c.in-Exercise.is))).1
+
+pub returns-in-Exercise-clause-outcome : goal.returns-in-Exercise-clause-outcome
+returns-in-Exercise-clause-outcome g c =
+    let words = map rc_str_bytes c.args.words.now in
+    let start = c.in-Exercise.start in
+    let count = c.in-Exercise.count in
+    let asked : AskToExercise words start count = exercise_asked words start count (asked_of words c.in-Ok-Some.field-0 c.in-Ok-Some.task (Exercise start count) c.in-Ok-Some.ensures c.in-Ok-Some.field-0-is c.in-Exercise.is) in
+    of_exercise start count asked
+    (record { cause = c.write_exercise.ensures.cause; prefix = c.write_exercise.ensures.prefix; whole = c.write_exercise.ensures.whole; same = λ told other. refl })
