@@ -1,5 +1,5 @@
 -- Words ask for one thing at most.
-use Rattle.std.proofs.Common.{◌≡◌, ◌≤◌, ℕ, List, [], ◌∷◌, Option, Some, None, MatchOption, inl, inr, refl, sym, ap, ◌∙◌, subst}
+use Rattle.std.proofs.Common.{◌≡◌, ◌≤◌, ℕ, List, [], ◌∷◌, Option, Some, None, MatchOption, refl, sym, ap, ◌∙◌, subst}
 use Rattle.dd_model.specs.declared.requests.Request.{Request}
 use Rattle.dd_model.specs.Request.{IsValid}
 use Rattle.dd_words.specs.Grammar.{IsCommand, IsExercise, OnTwo}
@@ -19,7 +19,7 @@ use Rattle.dd_catalogue.specs.declared.pace.Pace.{Pace}
 use Rattle.dd_suite.specs.declared.task.Task.{Task}
 use Rattle.dd_suite.specs.declared.task.Task.TheVariants as task
 use Rattle.dd_suite.specs.Words.{Order, run_command, AskForRun, kind_of, file_command, IsOnFile, AskToExercise, AreTaken}
-use Rattle.dd_suite.specs.Commands.{IsTaskOf, AskForTask}
+use Rattle.dd_suite.specs.Commands.{AskForTask}
 
 -- what a command on a file asks for, and its file
 command_of : FileKind → FileCommand

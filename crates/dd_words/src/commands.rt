@@ -58,11 +58,11 @@ pub enum Command {
         /// The shape of the cell.
         frame: Frame,
     },
-    /// Tasks that test the program itself.
+    /// Symbols that are made by draws.
     Exercise {
-        /// The number of the first task.
+        /// The number from which the draws are made.
         start: u32,
-        /// The number of tasks.
+        /// How many symbols are made.
         count: u32,
     },
     /// A command on the symbols of a file.

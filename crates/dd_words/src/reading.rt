@@ -18,11 +18,11 @@ use crate::verbs::Verb;
 use std::alloc::Global;
 use std::rc::RcStr;
 
-/// The greatest number of a first task.
+/// The greatest number from which an exercise starts.
 const LAST_START: u32 = 2_147_483_647;
 
-/// The greatest number of tasks.
-const MOST_TASKS: u32 = 10_000;
+/// The most items of an exercise.
+const MOST_ITEMS: u32 = 10_000;
 
 /// The command that the words after the program's name ask for.
 pub fn read_words(alloc: Global, words: &[RcStr]) -> Result<Command, WordsFault>
@@ -170,7 +170,7 @@ fn read_exercise(arguments: &[&str], settings: &[Given<'_>]) -> Result<Command, 
     let Some(start) = read_number_in(start, 0, LAST_START) else {
         return Err(WordsFault::NotTaken);
     };
-    let Some(count) = read_number_in(count, 0, MOST_TASKS) else {
+    let Some(count) = read_number_in(count, 0, MOST_ITEMS) else {
         return Err(WordsFault::NotTaken);
     };
     Ok(Command::Exercise { start, count })
