@@ -106,3 +106,10 @@ int open(const char *path, int flags, ...) {
 int rename(const char *from, const char *to) {
     return CHOSEN("calls") ? failed() : syscall(SYS_renameat2, AT_FDCWD, from, AT_FDCWD, to, 0);
 }
+
+/* The program ends by this call, after which no library is told. */
+void _exit(int status) {
+    end();
+    syscall(SYS_exit_group, status);
+    __builtin_unreachable();
+}
