@@ -104,7 +104,7 @@ REFUSED = (
     ("resume", OLD_FIRST_ROUND.replace("request 2", "request 37"), "checkpoint: range line 3"),
     ("resume", OLD_FIRST_ROUND.replace("2 2 2 1", "1 2 2 2"), "checkpoint: position"),
     ("resume", "d" * 4097, "checkpoint: too long"),
-    ("lines", "<1.1:1:1,1", "file: symbol 1 at 10: unexpected end"),
+    *(("lines", "<1.1:1:1,1,1:3,6>"[:length], f"file: symbol 1 at {length}: unexpected end") for length in range(1, 17)),
     ("lines", "<1.1;1", "file: symbol 1 at 4: stray"),
     ("lines", "<1.1:1234567890:", "file: symbol 1 at 5: number too long"),
     ("lines", "<1.1:1:1,1,1:3,6><1.1:1 3:", "file: symbol 2 at 24: dimension"),
@@ -131,8 +131,12 @@ CHAINS = (
     ("", (PAUSES, ("resume f --pause 1", 1, 2, "paused at 2 lines", 2, 18, "1 1 1 1 6 3"), ("resume f", 2, 18, "", 3, 347, "end"))),
     (FIRST_ROUND, (("resume f --round 2", 3, 18, "", 2, 329, "end"),)),
     (OLD_FIRST_ROUND, (("resume f", 3, 18, "", 2, 329, "end"),)),
+    (OLD_FIRST_ROUND.replace("lines 3", "lines 7"), (("resume f", 7, 22, "", 2, 333, "end"),)),
     (OLD_FIRST_ROUND.replace("lines 3", "lines 0"), (("resume f --pause 1", 0, 1, "paused at 1 lines", 2, 24, "2 1 1 2 2 2 1 3 6 4 4"),)),
 )
+
+# A checkpoint after which no line may be numbered.
+FULL = OLD_FIRST_ROUND.replace("lines 3", "lines 1000000000000000000")
 
 SQUARES = "<1.1:1:1,1,1:4,4>\n"
 OCTAGONS = "<1.1:3:1 2 3,1 3,2 3:4 8,3>\n"
@@ -169,6 +173,7 @@ FILES = (
     ("canon", "<1.1:3:1 2 3,2 3,1 3:8 4,3>", OCTAGONS),
     ("canon", OCTAGONS, OCTAGONS),
     ("canon", "# nothing\n#", ""),
+    ("lines", "", ""),
     ("dual", OCTAGONS, "<1.1:3:1 3,2 3,1 2 3:3,8 4>\n"),
     ("dual", "<1.1:3:2 3,1 3,1 2 3:3,4 8>", OCTAGONS),
     ("minimal", ROTATIONS, SQUARES),

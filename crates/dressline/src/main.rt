@@ -5,6 +5,7 @@ use dd_ports::{FileStore, OpenGate, StdSink};
 use dd_suite::{Status, run};
 use std::alloc::{AllocError, Global};
 use std::env;
+use std::io::ErrorKind;
 use std::process::ExitCode;
 use std::rc::RcStr;
 use std::rt::Env;
@@ -12,8 +13,10 @@ use std::rt::Env;
 /// The words after the program's name. Words that are not UTF-8 are none.
 fn words<R: Env + Alloc<A = Global>>(rt: &R) -> Result<Vec<RcStr>, AllocError> {
     let mut all = Vec::new(rt.alloc());
-    let Ok(args) = env::args(rt) else {
-        return Ok(all);
+    let args = match env::args(rt) {
+        Ok(args) => args,
+        Err(why) if why.kind() == ErrorKind::OutOfMemory => return Err(AllocError),
+        Err(_) => return Ok(all),
     };
     for word in args.skip(1) {
         all.push(RcStr::from_string(word)?)?;
