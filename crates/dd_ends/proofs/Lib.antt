@@ -1,0 +1,5 @@
+pub mod LabelLemmas
+pub mod EndLemmas
+pub mod JoinLemmas
+pub mod EndTotals
+pub mod PassingTables

@@ -1,0 +1,5 @@
+use Rattle.dd_ends.proofs.PassingTables.{path_closed}
+use Rattle.dd_ends.proofs.laws.a_closed_path_has_the_share_of_its_cell.Goals as goal
+
+pub returns : goal.returns
+returns c = path_closed

@@ -1,0 +1,5 @@
+pub mod Labels
+pub mod PathEnd
+pub mod Ends
+pub mod Changes
+pub mod Passing
