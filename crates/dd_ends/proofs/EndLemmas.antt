@@ -10,6 +10,7 @@ use Rattle.dd_model.specs.Cell.{InCell, IsChain}
 use Rattle.dd_model.proofs.Branching.{degree_same}
 use Rattle.dd_model.proofs.CellWalks.{in_cell-refl, in_cell-trans}
 use Rattle.dd_invol.specs.Distinct.{AreDistinct}
+use Rattle.dd_invol.proofs.Orders.{distinct-count_from}
 use Rattle.dd_ends.specs.Ends.{IsInside, AreTables, IsFound, IsPathEnd, ArePathEnds}
 use Rattle.dd_ends.specs.Changes.{IsElsewhere, IsRenewed}
 use Rattle.dd_ends.specs.Labels.{count_label, reshare}
@@ -25,17 +26,13 @@ pub all_from : (Q : ℕ → Type 0) (k n : ℕ) → ((d : ℕ) → k ≤ d → d
 all_from Q k zero each = tt
 all_from Q k (suc n) each = (each k (omega arith) (omega arith), all_from Q (k + 1) n (λ d low high. each d (omega arith) (omega arith)))
 
-distinct_from : (k n : ℕ) → AreDistinct (count_from k n)
-distinct_from k zero = tt
-distinct_from k (suc n) = (all_from (λ y. k ≡ y → ⊥) (k + 1) n (λ d low high same. absurd (omega (arith, low, same))), distinct_from (k + 1) n)
-
 -- all chambers of a label, and a fact of each of them
 pub of_label : (n : ℕ) (label : ℕ → ℕ) (a : ℕ) (Q : ℕ → Type 0) → ((d : ℕ) → IsInside n d → label d ≡ a → Q d) → AllByRecursion Q (labelled label a (count_from 1 n))
 of_label n label a Q each =
     all_labelled Q label a (count_from 1 n) (all_from (λ d. label d ≡ a → Q d) 1 n (λ d low high same. each d (low, omega (arith, high)) same))
 
 pub apart_of_label : (n : ℕ) (label : ℕ → ℕ) (a : ℕ) → AreDistinct (labelled label a (count_from 1 n))
-apart_of_label n label a = distinct_labelled label a (count_from 1 n) (distinct_from 1 n)
+apart_of_label n label a = distinct_labelled label a (count_from 1 n) (distinct-count_from 1 n)
 
 -- ## Cells
 
