@@ -1,0 +1,5 @@
+pub mod Words
+pub mod Runs
+pub mod Making
+pub mod Drives
+pub mod Sentences
