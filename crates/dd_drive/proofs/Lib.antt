@@ -8,3 +8,4 @@ mod Causes
 mod Whole
 mod RunMaking
 mod Going
+mod TurnLemmas

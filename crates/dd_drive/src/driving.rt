@@ -11,8 +11,9 @@ ghost use Rattle.dd_drive.specs.Sentences.{IsItsText, IsItsFront, HasPaused, Has
 ghost use Rattle.dd_drive.specs.Sentences.{HoldsOutOfRange, HasRisen};
 
 use crate::driven::Drive;
-use crate::parts::add_part;
-use crate::running::{run_into, text_to_go_on};
+use crate::turn::Turn;
+use crate::turning::make_turn;
+use crate::words::words_to_go_on;
 use dd_model::Memory;
 use dd_ports::{Gate, MemorySink, MemoryStore};
 use std::alloc::Global;
@@ -61,10 +62,7 @@ pub fn drive<R: Threads + Wait + Sync, G: Gate + Sync>(
         → HoldsOutOfRange (memory_store_held store.new name.now)) }
     ensures usage { IfOk result (λ d. d.status ≢ status.Usage) }
 {
-    let resume = [
-        RcStr::from_str(alloc, "resume")?,
-        RcStr::from_str(alloc, name)?,
-    ];
+    let resume = words_to_go_on(alloc, name)?;
     make_runs(rt, alloc, words, &resume, name, store, sinks, gate)
 }
 
@@ -93,24 +91,21 @@ fn make_runs<R: Threads + Wait + Sync, G: Gate + Sync>(
     let mut joined = Vec::new(alloc);
     let count = sinks.len();
     for k in 0..count {
-        let start = sinks[k].held().len();
-        let status = run_into(rt, alloc, said, store, sinks, k, gate);
-        let output = &sinks[k].held()[start..];
-        let left = if k + 1 < count {
-            text_to_go_on(status, store, name)
-        } else {
-            None
-        };
-        let Some(text) = left else {
-            joined.extend_from_slice(output)?;
-            return Ok(Drive {
-                status,
-                runs: k as u32 + 1,
-                joined,
-            });
-        };
-        number = add_part(alloc, text, number, output, &mut joined)?;
-        said = resume;
+        match make_turn(
+            rt, alloc, said, name, store, sinks, k, number, &mut joined, gate,
+        )? {
+            Turn::Last(status) => {
+                return Ok(Drive {
+                    status,
+                    runs: k as u32 + 1,
+                    joined,
+                });
+            }
+            Turn::Next(next) => {
+                number = next;
+                said = resume;
+            }
+        }
     }
     unreachable!()
 }

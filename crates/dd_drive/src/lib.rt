@@ -5,6 +5,9 @@ mod driven;
 mod driving;
 mod parts;
 mod running;
+mod turn;
+mod turning;
+mod words;
 
 pub use driven::Drive;
 pub use driving::drive;

@@ -1,4 +1,4 @@
-ghost use Rattle.std.specs.Prelude.{◌≡◌, ◌≢◌, ◌⊎◌, ◌<◌, List, None, Some, MatchOption, map, length};
+ghost use Rattle.std.specs.Prelude.{◌≡◌, ◌≢◌, ◌⊎◌, ◌<◌, List, None, Some, MatchOption, false, true, map, length};
 ghost use Rattle.std.specs.Rc.{rc_str_bytes};
 ghost use Rattle.dd_ports.specs.Stores.{memory_store_held};
 ghost use Rattle.dd_suite.specs.Words.{Order, AskForRun};
@@ -32,12 +32,21 @@ pub fn run_into<R: Threads + Wait + Sync, G: Gate + Sync>(
     run(rt, alloc, words, store, &mut sinks[k], &mut err, gate)
 }
 
-/// The text under the name, where a chain goes on after a run with this status.
-pub fn text_to_go_on<'a>(status: Status, store: &'a MemoryStore, name: &str) -> Option<&'a [u8]>
+/// The text under the name, where a chain goes on after a run with this status, if another sink is left.
+pub fn text_to_go_on<'a>(
+    status: Status,
+    more: bool,
+    store: &'a MemoryStore,
+    name: &str,
+) -> Option<&'a [u8]>
     ensures { MatchOption result
-        ((status ≡ Done) ⊎ (memory_store_held store.now name.now ≡ None))
-        (λ text. (status ≢ Done) × (memory_store_held store.now name.now ≡ Some text.now)) }
+        ((status ≡ Done) ⊎ ((more ≡ false) ⊎ (memory_store_held store.now name.now ≡ None)))
+        (λ text. (more ≡ true) × (status ≢ Done)
+            × (memory_store_held store.now name.now ≡ Some text.now)) }
 {
+    if !more {
+        return None;
+    }
     match status {
         Status::Done => None,
         _ => store.held(name),

@@ -51,38 +51,3 @@ fn stores_that_fail(rt: HostRuntime) -> Result<(), Fail> {
     }
     Ok(())
 }
-
-// A file that is refused leaves nothing that is met by the next call over the same store and sink.
-#[test]
-fn a_refused_file_and_another(rt: HostRuntime) -> Result<(), Fail> {
-    let alloc = rt.alloc();
-    let mut store = SureStore::new(alloc);
-    let mut out = MemorySink::new(alloc, Vec::new(alloc), 7);
-    for (file, wanted, text) in [
-        ("<1.1:1:1,1,1:3", Status::Refused, ""),
-        (OTHER, Status::Done, LEAST),
-    ] {
-        store
-            .put("f", file.as_bytes())
-            .expect(&rt, "a store that is sure");
-        let mut err = SureSink::new(alloc);
-        let status = run_words(&rt, alloc, &["canon", "f"], &mut store, &mut out, &mut err)?;
-        assert_eq!(rt; status, wanted);
-        assert_eq!(rt; out.held(), text.as_bytes());
-    }
-    Ok(())
-}
-
-// Words that are not taken, where the stream of errors fails at its first write.
-#[test]
-fn a_stream_of_errors_that_fails(rt: HostRuntime) -> Result<(), Fail> {
-    let alloc = rt.alloc();
-    let mut store = SureStore::new(alloc);
-    let mut out = SureSink::new(alloc);
-    let mut err = MemorySink::new(alloc, vec![in alloc; 1]?, 7);
-    let status = run_words(&rt, alloc, &["catalogue", "37"], &mut store, &mut out, &mut err)?;
-    assert_eq!(rt; status, Status::Usage);
-    assert_eq!(rt; out.held(), b"".as_slice());
-    assert_eq!(rt; err.held(), b"".as_slice());
-    Ok(())
-}

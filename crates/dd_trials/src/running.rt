@@ -6,7 +6,7 @@ use std::rc::RcStr;
 use std::sync::Wait;
 use std::thread::Threads;
 
-pub(crate) fn words_of(alloc: Global, texts: &[&str]) -> Result<Vec<RcStr>, AllocError> {
+fn words_of(alloc: Global, texts: &[&str]) -> Result<Vec<RcStr>, AllocError> {
     let mut words = Vec::new(alloc);
     for text in texts {
         words.push(RcStr::from_string(String::from_str(alloc, text)?)?)?;
@@ -15,13 +15,13 @@ pub(crate) fn words_of(alloc: Global, texts: &[&str]) -> Result<Vec<RcStr>, Allo
 }
 
 /// Runs the program with these words over a store and two sinks, with an open gate.
-pub(crate) fn run_words<R: Threads + Wait + Sync, S: Store, O: Sink, E: Sink>(
+pub(crate) fn run_words<R: Threads + Wait + Sync, S: Store, O: Sink>(
     rt: &R,
     alloc: Global,
     texts: &[&str],
     store: &mut S,
     out: &mut O,
-    err: &mut E,
+    err: &mut SureSink,
 ) -> Result<Status, AllocError> {
     let words = words_of(alloc, texts)?;
     let gate = OpenGate::new();

@@ -5,5 +5,5 @@ use Rattle.dd_drive.proofs.Going.{Going}
 use Rattle.dd_drive.proofs.driving.make_runs.Given as goal
 
 abbrev pub invariant-loop-k : goal.invariant-loop-k
-invariant-loop-k l =
+invariant-loop-k g l =
     Going (map rc_str_bytes l.words) l.name (kept_of l.initial.store) (kept_of l.store) l.initial.sinks l.sinks l.k (map rc_str_bytes l.said) l.number l.joined.items

@@ -1,4 +1,4 @@
-use Rattle.std.proofs.Common.{◌≡◌, ◌+◌, Some, refl, sym, ap, ◌∙◌}
+use Rattle.std.proofs.Common.{◌+◌, Some, refl, sym, ap, ◌∙◌}
 use Rattle.dd_drive.proofs.PartLemmas.{no_part, own_part, other_part}
 use Rattle.dd_drive.proofs.parts.add_part.Goals.{then-is_number, else-is_number}
 use Rattle.dd_drive.proofs.parts.add_part.Goals as goal
