@@ -1,5 +1,5 @@
 -- Why the last call of a chain ended.
-use Rattle.std.proofs.Common.{◌≡◌, ◌≢◌, ◌⊎◌, ℕ, ◌-◌, ◌^◌, ◌<◌, ◌≤◌, List, [], ◌∷◌, true, length, get_or, Option, Some, None, inl, inr, ⊎_elim, refl, sym, ap, ◌∙◌, subst, arith}
+use Rattle.std.proofs.Common.{◌≡◌, ℕ, ◌-◌, ◌<◌, ◌≤◌, List, true, length, get_or, Option, Some, None, inl, inr, ⊎_elim, sym, ap, ◌∙◌, subst, arith}
 use Rattle.std.proofs.lemmas.Bool.{cases_eq}
 use Rattle.std.specs.List.{HoldsAt}
 use Rattle.dd_model.specs.Symbol.{Symbol}
@@ -10,7 +10,6 @@ use Rattle.dd_model.specs.Text.{beginning}
 use Rattle.dd_ports.specs.Causes.{Rose}
 use Rattle.dd_ports.specs.Sinks.{memory_sink_held}
 use Rattle.dd_ports.specs.declared.memory_sink.MemorySink.{MemorySink}
-use Rattle.dd_check.specs.declared.faults.CheckFault.{CheckFault}
 use Rattle.dd_chain.specs.Between.{AreLinesBetween}
 use Rattle.dd_chain.specs.Calls.{Task, Catalogue, Resume}
 use Rattle.dd_chain.specs.Starts.{Start, Starts, StartsAt}
@@ -20,15 +19,14 @@ use Rattle.dd_suite.specs.Arguments.{AreRefused}
 use Rattle.dd_suite.specs.Beginnings.{BeginsAt}
 use Rattle.dd_suite.specs.Chains.{ProgramCall, held_under, call_of}
 use Rattle.dd_suite.specs.Cuts.{Pauses, CutsShort}
-use Rattle.dd_suite.specs.Outside.{Before, After}
+use Rattle.dd_suite.specs.Outside.{Before}
 use Rattle.dd_suite.specs.Runs.{name_of, IsStopped, IsCallOf}
 use Rattle.dd_suite.specs.Words.{Order, AskForRun}
-use Rattle.dd_suite.specs.declared.status.Status.{Status}
 use Rattle.dd_suite.specs.declared.status.Status.TheVariants as status
 use Rattle.dd_suite.proofs.Requests.{one_order, not_both}
 use Rattle.dd_suite.proofs.RunEndings.{not_usage, not_refused}
 use Rattle.dd_drive.specs.Words.{AskToKeep, resume_words}
-use Rattle.dd_drive.specs.Runs.{Kept, before_run, after_run, IsRun}
+use Rattle.dd_drive.specs.Runs.{Kept, IsRun}
 use Rattle.dd_chain.specs.Puts.{IsNextMember}
 use Rattle.dd_drive.specs.Drives.{EndAs}
 use Rattle.dd_drive.specs.Sentences.{HasRisen, HasPaused, HoldsOutOfRange}
@@ -144,7 +142,7 @@ too_many words from to old new p q members is upto e all =
     let rest = h.lines.lines in
     let s = h.start in
     let whole = joined_between q beginning s.at rest.at 0 s.lines most_lines u.bytes h.output u.lines
-        (subst (λ r. AreLinesBetween r s.at rest.at s.lines most_lines h.output) u.request rest.written) in
+    (subst (λ r. AreLinesBetween r s.at rest.at s.lines most_lines h.output) u.request rest.written) in
     more_members q rest.at most_lines _ members whole (subst (λ r. IsNextMember r rest.at) u.request rest.next) all
 
 -- ## The sentences on the last call

@@ -1,19 +1,15 @@
 -- The runs that have been made when the next one begins.
-use Rattle.std.proofs.Common.{◌≡◌, ◌≢◌, ◌⊎◌, ℕ, suc, ◌+◌, ◌<◌, ◌≤◌, List, [], ◌∷◌, ◌++◌, set, get_or, drop, map, length, Option, Some, None, IsSome, MatchOption, inl, inr, refl, sym, ap, ◌∙◌, subst, arith}
+use Rattle.std.proofs.Common.{◌≡◌, ◌≢◌, ◌⊎◌, ℕ, ◌+◌, ◌<◌, ◌≤◌, List, [], ◌∷◌, ◌++◌, set, get_or, map, length, Option, Some, None, IsSome, MatchOption, inl, inr, refl, sym, ap, ◌∙◌, subst, arith}
 use Rattle.std.proofs.lemmas.List.{length-append, length-set}
-use Rattle.std.proofs.Math.Seq.{drop-append_seam}
 use Rattle.std.specs.List.{AllByRecursion}
 use Rattle.dd_model.specs.Text.{beginning}
 use Rattle.dd_model.specs.declared.requests.Request.{Request}
-use Rattle.dd_ports.specs.Sinks.{memory_sink_held}
 use Rattle.dd_ports.specs.declared.memory_sink.MemorySink.{MemorySink}
-use Rattle.dd_check.specs.declared.checkpoint.Checkpoint.{Checkpoint}
 use Rattle.dd_chain.specs.Calls.{Task, Catalogue, Resume}
-use Rattle.dd_chain.specs.Chains.{Leaves, IsPart, IsJoined}
+use Rattle.dd_chain.specs.Chains.{IsPart, IsJoined}
 use Rattle.dd_chain.specs.Starts.{Holds, Start, next_start, Starts, StartsAt}
 use Rattle.dd_chain.proofs.Parts.{starts_once}
 use Rattle.dd_suite.specs.Chains.{ProgramCall, call_of}
-use Rattle.dd_suite.specs.Runs.{name_of}
 use Rattle.dd_suite.specs.Words.{Order, AskForRun}
 use Rattle.dd_suite.specs.declared.status.Status.{Status}
 use Rattle.dd_suite.specs.declared.status.Status.TheVariants.{Done}
@@ -120,8 +116,11 @@ module _ (name : List ℕ) (task : Task) (now to : Kept) (p : ProgramCall) (at :
       let own = own_start task (now.held name) number c.run numbered e in
       inl (c, record { start = own.0; starts = starts_own own.0 own.1; holds = subst (λ h. Holds h c) (sym at.after_is) holds; number = own.2 }, same)
   part_is number part numbered (inr (none, same)) =
-      inr (λ c leaves.
-      none c (subst (λ h. Holds h c) at.after_is leaves.holds) (own_number task (now.held name) number leaves.start c.run numbered (starts_task leaves.start leaves.starts) leaves.number), same)
+      inr (
+        λ c leaves.
+            none c (subst (λ h. Holds h c) at.after_is leaves.holds) (own_number task (now.held name) number leaves.start c.run numbered (starts_task leaves.start leaves.starts) leaves.number),
+        same,
+      )
 
 -- ## One more run
 

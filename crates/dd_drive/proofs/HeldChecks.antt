@@ -1,5 +1,5 @@
 -- What the name of a chain holds is the text of a checkpoint that one of its calls has put.
-use Rattle.std.proofs.Common.{◌≡◌, ◌⊎◌, ℕ, ◌+◌, ◌<◌, ◌≤◌, List, [], ◌∷◌, ◌++◌, take, length, Option, Some, None, inl, inr, ⊎_elim, refl, sym, ap, ◌∙◌, subst, arith}
+use Rattle.std.proofs.Common.{◌≡◌, ◌⊎◌, ℕ, ◌+◌, ◌<◌, List, [], ◌∷◌, ◌++◌, take, length, Option, Some, None, inl, inr, ⊎_elim, refl, sym, ap, ◌∙◌, subst, arith}
 use Rattle.std.proofs.lemmas.List.{length-append}
 use Rattle.std.proofs.lemmas.List.Elements.{Contains-append_cases}
 use Rattle.std.specs.List.{AllByRecursion, Contains}
@@ -21,15 +21,15 @@ use Rattle.dd_branch.proofs.FirstMembers.{begins_with}
 use Rattle.dd_check.specs.declared.checkpoint.Checkpoint.{Checkpoint}
 use Rattle.dd_check.specs.declared.faults.CheckFault.{CheckFault}
 use Rattle.dd_check.specs.Accepted.{IsCheckpointText}
-use Rattle.dd_check.specs.Checks.{IsCheckText, AreCountsInRange}
+use Rattle.dd_check.specs.Checks.{IsCheckText}
 use Rattle.dd_check.specs.Refusals.{HasFault}
 use Rattle.dd_check.proofs.Exclusion.{one_checkpoint, no_fault}
 use Rattle.dd_check.proofs.ShortTexts.{written_reads_back}
 use Rattle.dd_chain.specs.Between.{IsMemberBetween, AreLinesBetween}
-use Rattle.dd_chain.specs.Calls.{Task, Catalogue, Resume, Call}
+use Rattle.dd_chain.specs.Calls.{Catalogue, Resume, Call}
 use Rattle.dd_chain.specs.Clauses.{MeetsClauses}
-use Rattle.dd_chain.specs.Puts.{DoCountsFit, IsStop, IsNextMember, IsAtMember}
-use Rattle.dd_chain.specs.Starts.{Holds, Start, first_start, next_start, Starts, StartsAt}
+use Rattle.dd_chain.specs.Puts.{DoCountsFit, IsStop, IsNextMember}
+use Rattle.dd_chain.specs.Starts.{Holds, Start, next_start, Starts, StartsAt}
 use Rattle.dd_chain.proofs.LinesUpTo.{no_lines, joined_between}
 use Rattle.dd_chain.proofs.ReadingBack.{IsWritten, reads_or_not}
 use Rattle.dd_chain.proofs.Stops.{stop_place, stop_range}

@@ -1,14 +1,14 @@
 -- The last call of a chain: where it began, and the store and the sink that it met.
-use Rattle.std.proofs.Common.{◌≡◌, ◌⊎◌, ℕ, suc, ◌≤◌, List, [], ◌∷◌, map, length, Option, Some, None, inl, inr, refl, sym, ap, ◌∙◌, subst, arith}
+use Rattle.std.proofs.Common.{◌≡◌, ◌⊎◌, ℕ, suc, ◌≤◌, List, [], ◌∷◌, length, None, inl, inr, refl, sym, ap, subst, arith}
 use Rattle.std.specs.List.{HoldsAt}
 use Rattle.dd_model.specs.Request.{IsValid}
 use Rattle.dd_model.specs.declared.requests.Request.{Request}
 use Rattle.dd_ports.specs.declared.memory_sink.MemorySink.{MemorySink}
-use Rattle.dd_chain.specs.Calls.{Task, Catalogue, Resume}
+use Rattle.dd_chain.specs.Calls.{Task, Resume}
 use Rattle.dd_chain.specs.Starts.{Start, Starts, StartsAt}
 use Rattle.dd_suite.specs.Chains.{ProgramCall, call_of}
 use Rattle.dd_suite.specs.declared.status.Status.{Status}
-use Rattle.dd_suite.specs.Words.{Order, AskForRun}
+use Rattle.dd_suite.specs.Words.{AskForRun}
 use Rattle.dd_suite.proofs.ProgramCalls.{program_meets}
 use Rattle.dd_drive.specs.Words.{AskToKeep, resume_words}
 use Rattle.dd_drive.specs.Drives.{EndAs}

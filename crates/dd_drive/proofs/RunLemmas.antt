@@ -1,12 +1,11 @@
 -- Runs that follow each other, and the chain that they are.
-use Rattle.std.proofs.Common.{◌≡◌, ℕ, suc, zero, ◌<◌, List, [], ◌∷◌, ◌++◌, set, get_or, map, length, Option, Some, None, inl, refl, sym, ap, ◌∙◌, subst, arith}
+use Rattle.std.proofs.Common.{◌≡◌, ℕ, ◌<◌, List, [], ◌∷◌, ◌++◌, set, get_or, map, length, Some, None, inl, refl, sym, ap, ◌∙◌, subst, arith}
 use Rattle.std.specs.List.{AllByRecursion}
 use Rattle.dd_model.specs.Request.{IsValid}
-use Rattle.dd_model.specs.declared.requests.Request.{Request}
 use Rattle.dd_ports.specs.declared.memory_sink.MemorySink.{MemorySink}
 use Rattle.dd_words.proofs.Validity.{valid}
 use Rattle.dd_check.specs.declared.checkpoint.Checkpoint.{Checkpoint}
-use Rattle.dd_chain.specs.Calls.{Task, Catalogue, Resume, Call}
+use Rattle.dd_chain.specs.Calls.{Task, Call}
 use Rattle.dd_chain.specs.Chains.{AreResumed, IsChain, HasBegun}
 use Rattle.dd_chain.specs.Starts.{Holds}
 use Rattle.dd_suite.specs.Chains.{ProgramCall, IsProgramCall, held_under, call_of}

@@ -1,5 +1,5 @@
 -- One run of a chain, from the clauses of the top call.
-use Rattle.std.proofs.Common.{◌≡◌, ℕ, ◌++◌, List, [], drop, length, Some, inl, inr, refl, sym, ap, ◌∙◌, subst}
+use Rattle.std.proofs.Common.{◌≡◌, ℕ, ◌++◌, List, [], drop, length, Some, inl, inr, ap, ◌∙◌, subst}
 use Rattle.std.proofs.Math.Seq.{drop-append_seam}
 use Rattle.std.specs.Io.KnownBytes.{Appends}
 use Rattle.dd_ports.specs.Sinks.{memory_sink_held}

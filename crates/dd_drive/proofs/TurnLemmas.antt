@@ -1,5 +1,5 @@
 -- One run of a chain: what it gives, and where the chain is after it.
-use Rattle.std.proofs.Common.{◌≡◌, ◌⊎◌, ℕ, ◌+◌, ◌-◌, ◌<◌, List, get_or, take, drop, length, Option, Result, Ok, Err, OnErr, false, ltb, None, inl, inr, refl, sym, ap, ◌∙◌, subst, arith}
+use Rattle.std.proofs.Common.{◌≡◌, ◌⊎◌, ℕ, ◌+◌, ◌-◌, ◌<◌, List, get_or, take, drop, length, Option, Result, Ok, Err, OnErr, false, ltb, None, inl, inr, ap, ◌∙◌, subst, arith}
 use Rattle.std.proofs.lemmas.Bool.{ltb-false}
 use Rattle.std.proofs.lemmas.List.{get_or-set_same, take_rest}
 use Rattle.dd_ports.specs.Sinks.{memory_sink_held}
@@ -10,9 +10,9 @@ use Rattle.dd_drive.specs.declared.driven.Drive.{Drive}
 use Rattle.dd_drive.specs.Words.{AskToKeep, resume_words}
 use Rattle.dd_drive.specs.Drives.{Drives}
 use Rattle.dd_drive.specs.Making.{RunsInto}
-use Rattle.dd_drive.specs.Runs.{Kept, HaveRun}
+use Rattle.dd_drive.specs.Runs.{Kept}
 use Rattle.dd_drive.specs.Turns.{IsLastTurn, IsNextTurn}
-use Rattle.dd_drive.proofs.Going.{Going, have_run, drives, goes_on}
+use Rattle.dd_drive.proofs.Going.{Going, drives, goes_on}
 use Rattle.dd_drive.proofs.RunMaking.{output_is}
 
 pub on_err : {T E P : Type 0} (r : Result T E) → P → OnErr r P

@@ -1,6 +1,5 @@
 -- What the answer of a drive says of what was written, and of why it ended.
-use Rattle.std.proofs.Common.{◌≡◌, ◌⊎◌, ℕ, List, [], ◌∷◌, map, length, Option, Some, None, inl, inr, ⊎_elim, refl, sym, ap, ◌∙◌, subst}
-use Rattle.dd_model.specs.Symbol.{Symbol}
+use Rattle.std.proofs.Common.{◌≡◌, ◌⊎◌, ℕ, List, [], ◌∷◌, map, Option, Some, None, ⊎_elim, sym, ap, ◌∙◌, subst}
 use Rattle.dd_model.specs.Text.{IsText, beginning}
 use Rattle.dd_model.specs.Wanted.{IsCatalogue}
 use Rattle.dd_model.specs.declared.requests.Request.{Request}
@@ -11,7 +10,7 @@ use Rattle.dd_chain.specs.Chains.{IsJoined}
 use Rattle.dd_chain.specs.Outcomes.{IsFront}
 use Rattle.dd_chain.proofs.Chained.{chain_ends, chain_writes}
 use Rattle.dd_suite.specs.Chains.{ProgramCall, call_of}
-use Rattle.dd_suite.specs.Words.{Order, AskForRun, AskFor}
+use Rattle.dd_suite.specs.Words.{Order, AskFor}
 use Rattle.dd_suite.specs.declared.status.Status.TheVariants as status
 use Rattle.dd_suite.proofs.ProgramCalls.{all_meet}
 use Rattle.dd_suite.proofs.Requests.{one_order}
@@ -47,8 +46,8 @@ module _ (words : List (List ℕ)) (name : List ℕ) (from to : Kept) (olds news
       let meet = all_meet (p ∷ calls) (all_calls words name from to olds news (p ∷ calls) runs) in (
         chain_writes asked.request (Some name) (map call_of (p ∷ calls)) bytes chain.0 meet chain.1 joined,
         λ done.
-        (chain_ends asked.request (Some name) (map call_of (p ∷ calls)) bytes Done chain.0 meet chain.1
-        (chain_ends_as (p ∷ calls) status.Done (subst (EndAs (p ∷ calls)) done ends)) joined).end,
+            (chain_ends asked.request (Some name) (map call_of (p ∷ calls)) bytes Done chain.0 meet chain.1
+            (chain_ends_as (p ∷ calls) status.Done (subst (EndAs (p ∷ calls)) done ends)) joined).end,
       )
 
   pub front_of : IsItsFront words d.joined.items

@@ -92,7 +92,16 @@ fn make_runs<R: Threads + Wait + Sync, G: Gate + Sync>(
     let count = sinks.len();
     for k in 0..count {
         match make_turn(
-            rt, alloc, said, name, store, sinks, k, number, &mut joined, gate,
+            rt,
+            alloc,
+            said,
+            name,
+            store,
+            sinks,
+            k,
+            number,
+            &mut joined,
+            gate,
         )? {
             Turn::Last(status) => {
                 return Ok(Drive {

@@ -42,7 +42,7 @@ pub fn text_to_go_on<'a>(
     ensures { MatchOption result
         ((status ≡ Done) ⊎ ((more ≡ false) ⊎ (memory_store_held store.now name.now ≡ None)))
         (λ text. (more ≡ true) × (status ≢ Done)
-            × (memory_store_held store.now name.now ≡ Some text.now)) }
+        × (memory_store_held store.now name.now ≡ Some text.now)) }
 {
     if !more {
         return None;

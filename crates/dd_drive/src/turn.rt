@@ -1,7 +1,7 @@
 use dd_suite::Status;
 
 /// What comes after a run of a chain.
-#[derive(Drop)]
+#[derive(Clone, Copy)]
 pub enum Turn {
     /// Nothing: the last run ended so.
     Last(Status),

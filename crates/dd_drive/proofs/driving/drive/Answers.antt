@@ -1,12 +1,8 @@
 use Rattle.std.proofs.Common.{[], map, refl}
 use Rattle.std.proofs.lemmas.Result.{IfOk-weaker}
 use Rattle.std.specs.Rc.{rc_str_bytes}
-use Rattle.dd_ports.specs.Causes.{Rose}
-use Rattle.dd_suite.specs.declared.status.Status.TheVariants as status
-use Rattle.dd_drive.specs.declared.driven.Drive.{Drive}
 use Rattle.dd_drive.specs.Drives.{Drives}
-use Rattle.dd_drive.specs.Runs.{kept_of, HaveRun}
-use Rattle.dd_drive.specs.Sentences.{IsItsText, IsItsFront, HasPaused, HasTooMany, HoldsOutOfRange, HasRisen}
+use Rattle.dd_drive.specs.Runs.{kept_of}
 use Rattle.dd_drive.proofs.TurnLemmas.{on_err}
 use Rattle.dd_drive.proofs.Whole.{front_of, whole_of, store_of, sink_of, paused_of, many_of, refused_of, usage_of}
 use Rattle.dd_drive.proofs.driving.drive.Goals as goal

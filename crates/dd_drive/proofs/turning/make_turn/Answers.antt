@@ -1,4 +1,4 @@
-use Rattle.std.proofs.Common.{◌≡◌, ◌++◌, Some, sym, ap, ◌∙◌, subst, map}
+use Rattle.std.proofs.Common.{◌++◌, Some, ap, ◌∙◌, subst, map}
 use Rattle.std.proofs.lemmas.Bool.{ltb-true}
 use Rattle.std.specs.Rc.{rc_str_bytes}
 use Rattle.dd_drive.specs.Making.{IsPartOf}
