@@ -1,0 +1,169 @@
+-- What the name of a chain holds is the text of a checkpoint that one of its calls has put.
+use Rattle.std.proofs.Common.{◌≡◌, ◌⊎◌, ℕ, ◌+◌, ◌<◌, List, [], ◌∷◌, ◌++◌, take, length, Option, Some, None, inl, inr, ⊎_elim, refl, sym, ap, ◌∙◌, subst, arith}
+use Rattle.std.proofs.lemmas.List.{length-append}
+use Rattle.std.proofs.lemmas.List.Elements.{Contains-append_cases}
+use Rattle.std.specs.List.{AllByRecursion, Contains}
+use Rattle.dd_model.specs.Symbol.{Symbol}
+use Rattle.dd_model.specs.Request.{IsValid}
+use Rattle.dd_model.specs.Code.{IsBelow}
+use Rattle.dd_model.specs.Text.{beginning}
+use Rattle.dd_model.specs.Wanted.{IsCatalogue, IsMember}
+use Rattle.dd_model.specs.Position.{IsBefore}
+use Rattle.dd_model.specs.declared.jobs.Job.{Job}
+use Rattle.dd_model.specs.declared.jobs.Position.{Position}
+use Rattle.dd_model.specs.declared.jobs.Position.TheVariants.{At, End}
+use Rattle.dd_model.specs.declared.requests.Request.{Request}
+use Rattle.dd_model.proofs.Lists.{all_from_members}
+use Rattle.dd_model.proofs.Orders.{not_below_itself}
+use Rattle.dd_model.proofs.Positions.{before_or_not, below_over, below_symbol}
+use Rattle.dd_model.proofs.Texts.{nothing_before}
+use Rattle.dd_branch.proofs.FirstMembers.{begins_with}
+use Rattle.dd_check.specs.declared.checkpoint.Checkpoint.{Checkpoint}
+use Rattle.dd_check.specs.declared.faults.CheckFault.{CheckFault}
+use Rattle.dd_check.specs.Accepted.{IsCheckpointText}
+use Rattle.dd_check.specs.Checks.{IsCheckText}
+use Rattle.dd_check.specs.Refusals.{HasFault}
+use Rattle.dd_check.proofs.Exclusion.{one_checkpoint, no_fault}
+use Rattle.dd_check.proofs.ShortTexts.{written_reads_back}
+use Rattle.dd_chain.specs.Between.{IsMemberBetween, AreLinesBetween}
+use Rattle.dd_chain.specs.Calls.{Catalogue, Resume, Call}
+use Rattle.dd_chain.specs.Clauses.{MeetsClauses}
+use Rattle.dd_chain.specs.Puts.{DoCountsFit, IsStop, IsNextMember}
+use Rattle.dd_chain.specs.Starts.{Holds, Start, next_start, Starts, StartsAt}
+use Rattle.dd_chain.proofs.LinesUpTo.{no_lines, joined_between}
+use Rattle.dd_chain.proofs.ReadingBack.{IsWritten, reads_or_not}
+use Rattle.dd_chain.proofs.Stops.{stop_place, stop_range}
+use Rattle.dd_drive.specs.Sentences.{HoldsOutOfRange}
+
+-- a run of the request begins after so many lines as there are before its position
+pub record IsUpTo (q : Request) (s : Start) : Type 0 where
+  pub request : s.request ≡ q
+  pub bytes : List ℕ
+  pub lines : AreLinesBetween q beginning s.at 0 s.lines bytes
+
+-- the text of a checkpoint that a call of the chain has put
+pub record HoldsPut (q : Request) (held : Option (List ℕ)) : Type 0 where
+  pub check : Checkpoint
+  pub text : List ℕ
+  pub held_is : held ≡ Some text
+  pub is_text : IsCheckText check text
+  pub fit : DoCountsFit check
+  pub stop : IsStop q check.at
+  pub upto : IsUpTo q (next_start check)
+
+-- nothing, or such a text
+abbrev pub IsHeld : Request → Option (List ℕ) → Type 0
+IsHeld q held = (held ≡ None) ⊎ HoldsPut q held
+
+same_text : (x y : List ℕ) → Some x ≡ Some y → x ≡ y
+same_text x y e = cc
+
+none_some : (x : List ℕ) → None ≡ Some x → ⊥
+none_some x e = cc
+
+written : (q : Request) (held : Option (List ℕ)) → IsValid q → (p : HoldsPut q held) → IsWritten p.check p.text
+written q held valid p =
+    let own : IsValid p.check.request = subst IsValid (sym p.upto.request) valid in
+    let stop : IsStop p.check.request p.check.at = subst (λ r. IsStop r p.check.at) (sym p.upto.request) p.stop in
+    record { check = p.is_text; fit = p.fit; valid = own; range = stop_range p.check.request own p.check.at stop; place = stop_place p.check.request p.check.at stop }
+
+-- a checkpoint text that is held is the one that was put
+same_check : (q : Request) (held : Option (List ℕ)) (c : Checkpoint) → IsValid q → (p : HoldsPut q held) → Holds held c → p.check ≡ c
+same_check q held c valid p is =
+    let accepted : IsCheckpointText p.text c = subst (λ t. IsCheckpointText t c) (same_text is.text p.text (sym is.held_is ∙ p.held_is)) is.accepted in
+    ⊎_elim
+    (λ own. one_checkpoint p.text p.check c own accepted)
+    (λ never. absurd (never c accepted))
+    (reads_or_not p.check p.text (written q held valid p))
+
+pub starts_first : (q : Request) (name : List ℕ) (held : Option (List ℕ)) (s : Start) → Starts (Catalogue q (Some name)) held s → IsUpTo q s
+starts_first q name held s starts = subst (IsUpTo q) (sym starts) (record { request = refl; bytes = []; lines = no_lines q beginning 0 })
+
+pub starts_later : (q : Request) (name : List ℕ) (held : Option (List ℕ)) (s : Start) → IsValid q → IsHeld q held → Starts (Resume name) held s → IsUpTo q s
+starts_later q name held s valid (inl none) starts = absurd (none_some starts.1.text (sym none ∙ starts.1.held_is))
+starts_later q name held s valid (inr p) starts =
+    let same : next_start p.check ≡ s = ap next_start (same_check q held starts.0 valid p starts.1) ∙ sym starts.2 in
+    subst (IsUpTo q) same p.upto
+
+-- after a call the name holds what it held, or what the call has put
+pub held_after_call : (q : Request) (call : Call) → MeetsClauses call → ((s : Start) → StartsAt call s → IsUpTo q s) → IsHeld q call.before → IsHeld q call.after
+held_after_call q call meets upto held =
+    ⊎_elim
+    (λ same. subst (IsHeld q) (sym same) held)
+    (λ puts.
+    let s = puts.start in
+    let c = puts.check in
+    let u = upto s puts.starts in
+    let put = puts.put in
+    inr (record {
+      check = c;
+      text = put.text;
+      held_is = put.held;
+      is_text = put.is_text;
+      fit = put.fit;
+      stop = subst (λ r. IsStop r c.at) u.request put.stop;
+      upto = record {
+        request = put.request ∙ u.request;
+        bytes = u.bytes ++ take c.bytes call.output;
+        lines = joined_between q beginning s.at c.at 0 s.lines c.lines u.bytes (take c.bytes call.output) u.lines
+            (subst (λ r. AreLinesBetween r s.at c.at s.lines c.lines (take c.bytes call.output)) u.request put.written);
+      };
+    }))
+    meets.held
+
+-- where what is held has a fault as a checkpoint, a number is out of range
+pub out_of_range : (q : Request) (held : Option (List ℕ)) (bytes : List ℕ) (fault : CheckFault) → IsValid q → IsHeld q held → held ≡ Some bytes → HasFault bytes fault → HoldsOutOfRange held
+out_of_range q held bytes fault valid (inl none) is faulty = absurd (none_some bytes (sym none ∙ is))
+out_of_range q held bytes fault valid (inr p) is faulty =
+    let w = written q held valid p in
+    record {
+      check = p.check;
+      text = p.text;
+      held_is = p.held_is;
+      is_text = p.is_text;
+      out = λ counts.
+          no_fault p.text p.check fault (written_reads_back p.check p.text w.check counts w.valid w.range w.place)
+          (subst (λ t. HasFault t fault) (same_text bytes p.text (sym is ∙ p.held_is)) faulty);
+    }
+
+-- ## Where lines are left
+
+not_empty : (rest : List Symbol) (s : Symbol) → Contains rest s → 0 < length rest
+not_empty [] s there = absurd (let low = there.1 in omega (arith, low))
+not_empty (r ∷ rest) s there = omega arith
+
+-- where one more member follows, there are more members than lines before it
+pub more_members : (q : Request) (at : Position) (l : ℕ) (bytes : List ℕ) (members : List Symbol) → AreLinesBetween q beginning at 0 l bytes → IsNextMember q at → IsCatalogue q members → l < length members
+more_members q End l bytes members lines next is = absurd next
+more_members q (At job) l bytes members lines next is =
+    let all : length members ≡ length lines.members + length parts.0 = ap (λ ss. length ss) parts.1 ∙ length-append lines.members parts.0 in
+    let count = lines.count in
+    let rest = some in
+    omega (arith, rest, all, count)
+  where
+    inside : (s : Symbol) → Contains lines.members s → IsMemberBetween q beginning (At job) s
+    inside s there = (lines.between.members s).0 there
+
+    after : (s : Symbol) → IsMember q s → Contains lines.members s ⊎ AllByRecursion (λ m. IsBelow m s) lines.members
+    after s member =
+        ⊎_elim
+        (λ before. inl ((lines.between.members s).1 (record { member = member; later = nothing_before s member.wanted.symbol; earlier = before })))
+        (λ not. inr (all_from_members (λ m. IsBelow m s) lines.members (λ m there.
+        let p = inside m there in
+        below_over (At job) m s p.member.wanted.symbol.table member.wanted.symbol.table p.earlier not)))
+        (before_or_not (At job) s)
+
+    parts : (rest : List Symbol) × (members ≡ lines.members ++ rest)
+    parts =
+        begins_with lines.members members lines.between.ascending is.ascending
+        (λ s there. (is.members s).1 (inside s there).member) (λ s there. after s ((is.members s).0 there))
+
+    not_among : Contains lines.members next.next → ⊥
+    not_among early = not_below_itself next.next (below_symbol next.next next.next (subst (λ (j : Job). IsBefore (At j) next.next) next.job_is (inside next.next early).earlier))
+
+    some : 0 < length parts.0
+    some =
+        ⊎_elim
+        (λ early. absurd (not_among early))
+        (λ late. not_empty parts.0 next.next late)
+        (Contains-append_cases lines.members parts.0 next.next (subst (λ ss. Contains ss next.next) parts.1 ((is.members next.next).1 next.member)))

@@ -1,0 +1,11 @@
+mod ResumeWords
+mod CallLists
+mod RunLemmas
+mod PartLemmas
+mod HeldChecks
+mod LastCalls
+mod Causes
+mod Whole
+mod RunMaking
+mod Going
+mod TurnLemmas

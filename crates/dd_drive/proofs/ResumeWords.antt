@@ -1,0 +1,45 @@
+-- Where words keep a checkpoint under a name, the words that go on from it are taken.
+use Rattle.std.proofs.Common.{ℕ, List, [], ◌∷◌, Option, Some, None, inl, refl}
+use Rattle.dd_model.specs.declared.requests.Request.{Request}
+use Rattle.dd_words.specs.Given.{Given}
+use Rattle.dd_words.specs.Grammar.{IsSaid, IsCommand}
+use Rattle.dd_words.specs.Layout.{IsPlain, argument, nothing}
+use Rattle.dd_words.specs.Values.{IsName}
+use Rattle.dd_words.specs.declared.commands.Command.TheVariants as command
+use Rattle.dd_chain.specs.Calls.{Catalogue, Resume}
+use Rattle.dd_suite.specs.Words.{Order, AskForRun}
+use Rattle.dd_drive.specs.Words.{AskToKeep, resume_words}
+
+-- what is asked for by the words that go on from the name
+abbrev pub resume_order : List ℕ → Order
+resume_order name = record { task = Resume name; round = 64; pause = None }
+
+abbrev pub first_order : {words : List (List ℕ)} {name : List ℕ} → AskToKeep words name → Order
+first_order {words} {name} asked = record { task = Catalogue asked.request (Some name); round = asked.round; pause = asked.pause }
+
+plain : (name : List ℕ) → IsName name → IsPlain name
+plain [] is = absurd is
+plain (byte ∷ bytes) is = is
+
+-- a name under which a checkpoint is kept is a name
+kept_name : (xs : List (List ℕ)) (given : List Given) (q : Request) (workers round : ℕ) (pause : Option ℕ) (name : List ℕ)
+    → IsSaid (command.Catalogue q workers round pause (Some name)) xs given → IsName name
+kept_name [] given q workers round pause name is = absurd is
+kept_name (x ∷ []) given q workers round pause name is = is.checkpoint_is.1
+kept_name (x ∷ y ∷ xs) given q workers round pause name is = absurd is
+
+resumed : (name : List ℕ) → IsName name → IsCommand (resume_words name) (command.Resume name 1 64 None)
+resumed name is = record {
+  rest = name ∷ [];
+  arguments = name ∷ [];
+  settings = [];
+  first = refl;
+  laid = record { layout = argument name nothing; fits = (plain name is, tt); words_are = refl; arguments_are = refl; settings_are = refl };
+  single = tt;
+  said = record { same = refl; is_name = is; run = record { workers_are = inl (tt, refl); round_is = inl (tt, refl); pause_is = tt } };
+}
+
+pub resume_asked : (words : List (List ℕ)) (name : List ℕ) → AskToKeep words name → AskForRun (resume_words name) (resume_order name)
+resume_asked words name asked =
+    let c = asked.run.command in
+    record { workers = 1; command = resumed name (kept_name c.arguments c.settings asked.request asked.run.workers asked.round asked.pause name c.said) }
