@@ -21,6 +21,19 @@ use std::alloc::Global;
 use std::sync::Wait;
 use std::thread::Threads;
 
+/// How many workers a job may keep busy by its parts. More threads than that would be started for nothing.
+const WORKERS_A_JOB: u32 = 8;
+
+/// How many of the workers a round of so many jobs has use for.
+fn useful_workers(workers: u32, jobs: usize) -> u32
+    requires some { 1 ≤ workers }
+    requires jobs { 1 ≤ jobs }
+    ensures some { 1 ≤ result }
+    ensures few { result ≤ workers }
+{
+    workers.min(WORKERS_A_JOB * jobs.min(64) as u32)
+}
+
 /// The jobs that are not wholly before a position.
 fn jobs_from(mut jobs: Vec<Job>, at: &Position) -> Vec<Job>
     ensures { IsWithout (IsWhollyBefore at.now) jobs.items result.items }
@@ -71,7 +84,8 @@ pub fn do_round<R: Threads + Wait + Sync, F: Finder + Sync, G: Gate + Sync>(
     if jobs.is_empty() {
         return Ok(false);
     }
-    let entries = run_round(rt, alloc, finder, gate, jobs, pace.workers)?;
+    let workers = useful_workers(pace.workers, jobs.len());
+    let entries = run_round(rt, alloc, finder, gate, jobs, workers)?;
     front.absorb(entries)?;
     Ok(true)
 }

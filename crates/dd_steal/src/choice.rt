@@ -8,6 +8,9 @@ const AHEAD: u64 = 4;
 /// While fewer than so many for each worker wait, longer jobs are split too.
 const SCARCE: u64 = 2;
 
+/// In tables of at least so many chambers a job of a few numbers may have more under it than all other jobs of its round.
+const LARGE: u32 = 16;
+
 /// Whether something may be under one of a job's children. Where nothing is under any of them a search
 /// may answer one child alone, with the number 0.
 pub fn is_worth_a_split(children: &[Job]) -> bool {
@@ -16,24 +19,25 @@ pub fn is_worth_a_split(children: &[Job]) -> bool {
 
 /// How many numbers a job may have that is split. Much is under a job of a few numbers; but of the jobs of a large size
 /// one with 18 numbers may have nearly half of the work, and the other workers then have nothing to do at last.
-fn longest_split(waiting: u64, others: usize) -> u64 {
-    if waiting / SCARCE <= others as u64 {
+fn longest_split(size: u32, waiting: u64, others: u64) -> u64 {
+    if waiting / SCARCE <= others {
         30
-    } else if others < 8 {
-        18
+    } else if waiting / AHEAD <= others {
+        if others < 8 { 18 } else { 24 }
+    } else if size >= LARGE {
+        15
     } else {
-        24
+        0
     }
 }
 
-/// Whether a job is to be split: few jobs wait for as many workers, and the job's prefix is short, so that much may be
-/// under it. A worker that is alone splits none.
+/// Whether a job is to be split: its prefix is short, so that much may be under it, and the more so the fewer jobs wait
+/// for as many workers. A worker that is alone splits none.
 pub fn is_to_split(job: &Job, waiting: u64, others: usize) -> bool
     ensures { IsTrue result → length job.now.prefix < 3 * job.now.size }
 {
     let numbers = job.prefix.as_slice().len() as u64;
     others > 0
-        && numbers < longest_split(waiting, others)
+        && numbers < longest_split(job.size, waiting, others as u64)
         && numbers < 3 * job.size as u64
-        && waiting / AHEAD <= others as u64
 }
