@@ -7,4 +7,4 @@ mod Steps
 pub mod Chained
 mod Found
 pub mod Rests
-mod Lone
+pub mod Lone

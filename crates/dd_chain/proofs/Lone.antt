@@ -12,7 +12,7 @@ use Rattle.dd_chain.specs.Starts.{first_start}
 use Rattle.dd_chain.specs.Clauses.{MeetsClauses}
 use Rattle.dd_chain.proofs.Rests.{text_is_rest}
 
-none_asked : (lines : ℕ) → None ≡ Some lines → ⊥
+pub none_asked : (lines : ℕ) → None ≡ Some lines → ⊥
 none_asked lines e = cc
 
 no_name : (q r : Request) (name : Text) → Catalogue q None ≡ Catalogue r (Some name) → ⊥

@@ -1,6 +1,5 @@
 -- Why the last call of a chain ended.
-use Rattle.std.proofs.Common.{◌≡◌, ℕ, ◌-◌, ◌<◌, ◌≤◌, List, true, length, get_or, Option, Some, None, inl, inr, ⊎_elim, sym, ap, ◌∙◌, subst, arith}
-use Rattle.std.proofs.lemmas.Bool.{cases_eq}
+use Rattle.std.proofs.Common.{◌≡◌, ℕ, ◌-◌, ◌<◌, ◌≤◌, List, true, length, get_or, Option, Some, inl, inr, sym, ap, ◌∙◌, subst, arith}
 use Rattle.std.specs.List.{HoldsAt}
 use Rattle.dd_model.specs.Symbol.{Symbol}
 use Rattle.dd_model.specs.Wanted.{IsCatalogue}
@@ -11,19 +10,21 @@ use Rattle.dd_ports.specs.Causes.{Rose}
 use Rattle.dd_ports.specs.Sinks.{memory_sink_held}
 use Rattle.dd_ports.specs.declared.memory_sink.MemorySink.{MemorySink}
 use Rattle.dd_chain.specs.Between.{AreLinesBetween}
-use Rattle.dd_chain.specs.Calls.{Task, Catalogue, Resume}
-use Rattle.dd_chain.specs.Starts.{Start, Starts, StartsAt}
+use Rattle.dd_chain.specs.Calls.{Catalogue, Resume}
+use Rattle.dd_chain.specs.Starts.{Start, StartsAt}
 use Rattle.dd_chain.proofs.LinesUpTo.{joined_between}
+use Rattle.dd_chain.proofs.Lone.{none_asked}
 use Rattle.dd_catalogue.specs.Runs.{most_lines}
 use Rattle.dd_suite.specs.Arguments.{AreRefused}
 use Rattle.dd_suite.specs.Beginnings.{BeginsAt}
-use Rattle.dd_suite.specs.Chains.{ProgramCall, held_under, call_of}
+use Rattle.dd_suite.specs.Chains.{ProgramCall, call_of}
 use Rattle.dd_suite.specs.Cuts.{Pauses, CutsShort}
-use Rattle.dd_suite.specs.Outside.{Before}
-use Rattle.dd_suite.specs.Runs.{name_of, IsStopped, IsCallOf}
+use Rattle.dd_suite.specs.Runs.{IsStopped, IsCallOf}
 use Rattle.dd_suite.specs.Words.{Order, AskForRun}
 use Rattle.dd_suite.specs.declared.status.Status.TheVariants as status
+use Rattle.dd_suite.proofs.ProgramCalls.{begun}
 use Rattle.dd_suite.proofs.Requests.{one_order, not_both}
+use Rattle.dd_suite.proofs.RunCalls.{rose_earlier}
 use Rattle.dd_suite.proofs.RunEndings.{not_usage, not_refused}
 use Rattle.dd_drive.specs.Words.{AskToKeep, resume_words}
 use Rattle.dd_drive.specs.Runs.{Kept, IsRun}
@@ -33,14 +34,6 @@ use Rattle.dd_drive.specs.Sentences.{HasRisen, HasPaused, HoldsOutOfRange}
 use Rattle.dd_drive.proofs.HeldChecks.{IsUpTo, IsHeld, out_of_range, more_members}
 use Rattle.dd_drive.proofs.LastCalls.{IsLast, IsOnly}
 use Rattle.dd_drive.proofs.ResumeWords.{resume_order, first_order}
-
-rose_earlier : (a b c : ℕ) → a ≤ b → Rose b c → Rose a c
-rose_earlier a b c le (inl up) = inl (omega (arith, le, up))
-rose_earlier a b c le (inr stuck) =
-    ⊎_elim
-    (λ same. subst (λ z. Rose z c) (sym same) (inr stuck))
-    (λ differ. let at = stuck.0 in let kept = stuck.1 in inl (omega (arith, at, kept, le, differ)))
-    (cases_eq a b)
 
 -- ## What a run says of its ending
 
@@ -79,9 +72,6 @@ module _ (words : List (List ℕ)) (from to : Kept) (old new : MemorySink) (p : 
 
 -- ## Calls that go on from the name
 
-no_lines_asked : (lines : ℕ) → None ≡ Some lines → ⊥
-no_lines_asked lines e = cc
-
 one_name : (a b : List ℕ) → Resume a ≡ Resume b → a ≡ b
 one_name a b e = cc
 
@@ -93,7 +83,7 @@ module _ (name : List ℕ) (asked : AskForRun (resume_words name) (resume_order 
   resume_not_paused e =
       let h = run_pauses (resume_words name) from to old new p is e in
       let same : h.order ≡ resume_order name = one_order (resume_words name) h.order (resume_order name) h.asked asked in
-      no_lines_asked h.lines.pause_is.lines (sym (ap (λ (o : Order). o.pause) same) ∙ h.lines.pause_is.asked)
+      none_asked h.lines.pause_is.lines (sym (ap (λ (o : Order). o.pause) same) ∙ h.lines.pause_is.asked)
 
   -- the text that the name holds has a fault
   pub resume_refused : (q : Request) → IsValid q → IsHeld q (from.held name) → p.status ≡ status.Refused → HoldsOutOfRange (to.held name)
@@ -127,10 +117,6 @@ first_refused words name asked from to old new p is e = go (is.cause.refused e)
         (subst (λ ws. AskForRun ws (record { task = Resume check.name; round = check.asked.round; pause = check.asked.pause })) is.words_are check.asked.run)))
 
 -- ## Lines that are too many
-
-begun : (task : Task) (before : Before) (s : Start) → before.tells ≡ true → BeginsAt task before.tells before.held s → Starts task (held_under (name_of task) before.held) s
-begun (Catalogue q name) before s told begins = begins
-begun (Resume name) before s told begins = (begins.0, record { text = begins.1.bytes; held_is = begins.1.fetched told; accepted = begins.1.accepted }, begins.2)
 
 pub too_many : (words : List (List ℕ)) (from to : Kept) (old new : MemorySink) (p : ProgramCall) (q : Request) (members : List Symbol) → IsRun words from to old new p
     → ((s : Start) → StartsAt (call_of p) s → IsUpTo q s) → p.status ≡ status.TooManyLines → IsCatalogue q members → most_lines < length members

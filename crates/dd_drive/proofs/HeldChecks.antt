@@ -33,6 +33,7 @@ use Rattle.dd_chain.specs.Starts.{Holds, Start, next_start, Starts, StartsAt}
 use Rattle.dd_chain.proofs.LinesUpTo.{no_lines, joined_between}
 use Rattle.dd_chain.proofs.ReadingBack.{IsWritten, reads_or_not}
 use Rattle.dd_chain.proofs.Stops.{stop_place, stop_range}
+use Rattle.dd_suite.proofs.HeldTexts.{some_injective}
 use Rattle.dd_drive.specs.Sentences.{HoldsOutOfRange}
 
 -- a run of the request begins after so many lines as there are before its position
@@ -54,9 +55,6 @@ pub record HoldsPut (q : Request) (held : Option (List ℕ)) : Type 0 where
 -- nothing, or such a text
 abbrev pub IsHeld : Request → Option (List ℕ) → Type 0
 IsHeld q held = (held ≡ None) ⊎ HoldsPut q held
-
-same_text : (x y : List ℕ) → Some x ≡ Some y → x ≡ y
-same_text x y e = cc
 
 none_some : (x : List ℕ) → None ≡ Some x → ⊥
 none_some x e = cc
@@ -123,7 +121,7 @@ out_of_range q held bytes fault valid (inr p) is faulty =
       is_text = p.is_text;
       out = λ counts.
           no_fault p.text p.check fault (written_reads_back p.check p.text w.check counts w.valid w.range w.place)
-          (subst (λ t. HasFault t fault) (same_text bytes p.text (sym is ∙ p.held_is)) faulty);
+          (subst (λ t. HasFault t fault) (some_injective bytes p.text (sym is ∙ p.held_is)) faulty);
     }
 
 -- ## Where lines are left

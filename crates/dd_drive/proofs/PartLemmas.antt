@@ -8,14 +8,12 @@ use Rattle.dd_check.specs.Refusals.{HasFault}
 use Rattle.dd_check.proofs.Exclusion.{no_fault}
 use Rattle.dd_chain.specs.Starts.{Holds}
 use Rattle.dd_chain.proofs.Parts.{one_held}
+use Rattle.dd_suite.proofs.HeldTexts.{some_injective}
 use Rattle.dd_drive.specs.Making.{IsPartOf}
-
-same_text : (x y : List ℕ) → Some x ≡ Some y → x ≡ y
-same_text x y e = cc
 
 -- a text with a fault is no checkpoint text
 pub no_check : (text : List ℕ) (fault : CheckFault) → HasFault text fault → (c : Checkpoint) → Holds (Some text) c → ⊥
-no_check text fault faulty c is = no_fault text c fault (subst (λ t. IsCheckpointText t c) (same_text is.text text (sym is.held_is)) is.accepted) faulty
+no_check text fault faulty c is = no_fault text c fault (subst (λ t. IsCheckpointText t c) (some_injective is.text text (sym is.held_is)) is.accepted) faulty
 
 module _ (number : Option ℕ) (text output old new : List ℕ) where
   -- nothing is appended

@@ -147,7 +147,8 @@ same_output None b xs ys some h i = absurd (cc)
 same_output (Some old) None xs ys some h i = absurd h
 same_output (Some old) (Some new) xs ys some h i = append_cancel_left old xs ys (sym h ∙ i)
 
-begun : (task : Task) (before : Before) (s : Start) → before.tells ≡ true → BeginsAt task before.tells before.held s → Starts task (held_under (name_of task) before.held) s
+-- where a call begins, told by what the name holds
+pub begun : (task : Task) (before : Before) (s : Start) → before.tells ≡ true → BeginsAt task before.tells before.held s → Starts task (held_under (name_of task) before.held) s
 begun (Catalogue q name) before s told begins = begins
 begun (Resume name) before s told begins = (begins.0, record { text = begins.1.bytes; held_is = begins.1.fetched told; accepted = begins.1.accepted }, begins.2)
 

@@ -60,7 +60,8 @@ pub resumed_outcome : (c : Checkpoint) (name : List ℕ) (round : ℕ) (pause : 
 resumed_outcome c name round pause ending before after holds ends =
     inl (record { ran = record { start = next_start c; begins = (c, holds, refl); result = ends.result; status_is = ends.status_is; runs = ends.run }; cause = ends.cause })
 
-rose_earlier : (a b c : ℕ) → a ≤ b → Rose b c → Rose a c
+-- what rose since a later time rose since an earlier one
+pub rose_earlier : (a b c : ℕ) → a ≤ b → Rose b c → Rose a c
 rose_earlier a b c le (inl up) = inl (omega arith)
 rose_earlier a b c le (inr stuck) =
     ⊎_elim
