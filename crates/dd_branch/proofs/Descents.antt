@@ -14,21 +14,30 @@ use Rattle.dd_model.specs.declared.requests.Request.{Request}
 use Rattle.dd_model.specs.declared.jobs.Job.{Job}
 use Rattle.dd_invol.specs.Under.{IsUnder, HasNothingUnder, AreUnder, Appends}
 use Rattle.dd_invol.specs.Table.{HasNoTable, IsTableOf}
-use Rattle.dd_invol.specs.Rows.{partial_of, unwound}
-use Rattle.dd_invol.specs.Stem.{Any, IsStem, HasAbsorbed, prefix_of, size_of, cut_to}
+use Rattle.dd_invol.specs.Rows.{partial_of, depth_of, unwound, HasNumberAt}
+use Rattle.dd_invol.specs.Stem.{Any, IsStem, HasAbsorbed, prefix_of, size_of, cut_to, shortened}
 use Rattle.dd_invol.proofs.Absorbing.{absorbed_under}
 use Rattle.dd_invol.proofs.Stems.{any_under}
-use Rattle.dd_invol.proofs.Prefixes.{none_under}
+use Rattle.dd_invol.proofs.Places.{code_at}
+use Rattle.dd_invol.proofs.Prefixes.{none_under, shortened as shortened_under}
+use Rattle.dd_invol.specs.declared.rows.Rows.{Rows}
 use Rattle.dd_invol.specs.declared.stem.Stem.{Stem}
 use Rattle.dd_invol.proofs.Follows.{member_orderly}
 use Rattle.dd_invol.proofs.TableFronts.{front_same, front_begins}
 use Rattle.dd_branch.specs.Members.{AreMembersWith}
-use Rattle.dd_shares.specs.Kept.{AreKept, rolled_back}
-use Rattle.dd_branch.specs.Descent.{Descending, IsDescent, GoesBack, HasDescended, taken_back, with_level, without_last, shorter}
-use Rattle.dd_branch.specs.declared.levels.Level.{Level}
+use Rattle.dd_shares.specs.Shares.{IsSought}
+use Rattle.dd_ends.specs.Kept.{AreKept, with_sides}
+use Rattle.dd_ends.specs.declared.sides.Sides.{Sides}
+use Rattle.dd_ends.proofs.GrowthLemmas.{kept_of_longer}
+use Rattle.dd_branch.specs.Descent.{Descending, IsDescent, HasDescended, with_level, with_paths, without_last, shorter}
+use Rattle.dd_branch.specs.declared.level.Level.{Level}
+
+-- the search with what it had at a level
+abbrev pub at_level : Descending → Level → Descending
+at_level d level = record { request = d.request; stem = cut_to d.stem level.numbers level.rows; shares = with_sides d.shares level.sides; levels = d.levels }
 
 -- the search without its last level is what it was at that level
-pub shorter_levelled : (d : Descending) (level : Level) → shorter (with_level d level) ≡ taken_back d level
+pub shorter_levelled : (d : Descending) (level : Level) → shorter (with_level d level) ≡ at_level d level
 shorter_levelled d level =
     let levels = d.levels ++ level ∷ [] in
     let size : length levels ≡ length d.levels + 1 = length-append d.levels (level ∷ []) in
@@ -36,38 +45,60 @@ shorter_levelled d level =
     let got : slice_get levels (length levels - 1) ≡ Some level =
     ap (slice_get levels) last ∙ slice_get-get_or levels (length d.levels) level (omega arith) ∙ ap Some (get_or-append_seam d.levels level [] level) in
     let front : take (length levels - 1) levels ≡ d.levels = ap (λ k. take k levels) last ∙ take_at d.levels (level ∷ []) (length d.levels) refl in
-    let back : without_last (Some level) (with_level d level) ≡ taken_back d level = λ i. record (taken_back d level) { levels = front i } in
+    let back : without_last (Some level) (with_level d level) ≡ at_level d level = λ i. record (at_level d level) { levels = front i } in
     ap (λ o. without_last o (with_level d level)) got ∙ back
+
+-- a number that was put in, and what was absorbed after it
+pub record IsPut (number : ℕ) (old mid new : Stem) : Type 0 where
+  pub size : size_of mid ≡ size_of old
+  pub longer : prefix_of mid ≡ prefix_of old ++ number ∷ []
+  pub undone : shortened mid (depth_of old.rows) ≡ old
+  pub stem : IsStem new
+  pub absorbed : HasAbsorbed mid new
+
+-- such a stem is cut back to what it was
+pub cut_back : (number : ℕ) (old mid new : Stem) → IsPut number old mid new → cut_to new (length (prefix_of old)) (depth_of old.rows) ≡ old
+cut_back number old mid new put =
+    let k = length (prefix_of old) in
+    let size : length (prefix_of mid) ≡ k + 1 = ap length put.longer ∙ length-append (prefix_of old) (number ∷ []) in
+    let front : take k (prefix_of new) ≡ prefix_of old =
+    sym (take-take k (length (prefix_of mid)) (prefix_of new) (omega arith)) ∙ ap (take k) put.absorbed.front ∙ ap (take k) put.longer ∙ take_at (prefix_of old) (number ∷ []) k refl in
+    let rows : unwound new.rows (depth_of old.rows) ≡ old.rows = ap (λ r. unwound r (depth_of old.rows)) put.absorbed.rows ∙ ap (λ (s : Stem). s.rows) put.undone in
+    λ i. record { rows = rows i; prefix = front i }
+
+-- the level tells how much the search has
+pub record IsLevelOf (d : Descending) (level : Level) : Type 0 where
+  pub numbers : level.numbers ≡ length (prefix_of d.stem)
+  pub rows : level.rows ≡ depth_of d.stem.rows
+  pub sides : level.sides ≡ d.shares.sides
 
 -- the search with another stem
 abbrev pub with_stem : Descending → Stem → Descending
 with_stem d stem = record { request = d.request; stem = stem; shares = d.shares; levels = d.levels }
 
--- and what was absorbed with it
-pub absorbed_back : (old mid : Descending) (stem : Stem) → HasAbsorbed mid.stem stem → length (prefix_of old.stem) ≤ length (prefix_of mid.stem) → GoesBack old mid → GoesBack old (with_stem mid stem)
-absorbed_back old mid stem absorbed longer back level is =
-    let numbers = is.numbers in
-    let front : take level.numbers (prefix_of stem) ≡ take level.numbers (prefix_of mid.stem) =
-    sym (take-take level.numbers (length (prefix_of mid.stem)) (prefix_of stem) (omega arith)) ∙ ap (take level.numbers) absorbed.front in
-    let one : cut_to stem level.numbers level.rows ≡ cut_to mid.stem level.numbers level.rows = λ i. record { rows = unwound (absorbed.rows i) level.rows; prefix = front i } in
-    ap (λ t. record { request = mid.request; stem = t; shares = rolled_back mid.shares level.shares; levels = mid.levels }) one ∙ back level is
+-- whatever paths are joined after a number is put in, the search goes back to what it was
+pub goes_back : (number : ℕ) (old : Descending) (mid stem : Stem) (level : Level) → IsPut number old.stem mid stem → IsLevelOf old level → (sides : Sides)
+    → shorter (with_paths (with_level (with_stem old stem) level) sides) ≡ old
+goes_back number old mid stem level put is sides =
+    let cut : cut_to stem level.numbers level.rows ≡ old.stem = ap (λ k. cut_to stem k level.rows) is.numbers ∙ ap (cut_to stem (length (prefix_of old.stem))) is.rows ∙ cut_back number old.stem mid stem put in
+    let paths = is.sides in
+    shorter_levelled (with_paths (with_stem old stem) sides) level ∙ (λ i. record { request = old.request; stem = cut i; shares = with_sides old.shares (paths i); levels = old.levels })
 
-pub absorbed_descent : (mid : Descending) (stem : Stem) → IsDescent mid → IsStem stem → HasAbsorbed mid.stem stem → IsDescent (with_stem mid stem)
-absorbed_descent mid stem is grown absorbed =
-    let longer = absorbed.longer in
+-- the search with a number put in
+pub put_descent : (number : ℕ) (old : Descending) (mid stem : Stem) (levels : List Level) → IsDescent old → IsPut number old.stem mid stem → length levels ≤ length old.levels + 1
+    → IsDescent (record { request = old.request; stem = stem; shares = old.shares; levels = levels })
+put_descent number old mid stem levels is put few =
+    let count : length (prefix_of mid) ≡ length (prefix_of old.stem) + 1 = ap length put.longer ∙ length-append (prefix_of old.stem) (number ∷ []) in
+    let longer = put.absorbed.longer in
     let room = is.room in
+    let kept : AreKept (partial_of mid.rows) old.shares = kept_of_longer old.stem.rows mid.rows old.shares put.size (ap (λ (s : Stem). s.rows) put.undone) is.kept in
     record {
       valid = is.valid;
-      stem = grown;
-      kept = subst (λ r. AreKept (partial_of r) mid.shares) (sym absorbed.rows) is.kept;
+      stem = put.stem;
+      kept = subst (λ r. AreKept (partial_of r) old.shares) (sym put.absorbed.rows) kept;
       same_request = is.same_request;
       room = omega arith;
     }
-
-pub levelled_descent : (d : Descending) (level : Level) → IsDescent d → length d.levels < length (prefix_of d.stem) → IsDescent (with_level d level)
-levelled_descent d level is low =
-    let size = length-append d.levels (level ∷ []) in
-    record { valid = is.valid; stem = is.stem; kept = is.kept; same_request = is.same_request; room = omega arith }
 
 begins_front : (xs ys : List ℕ) (k : ℕ) → Begins xs ys → Begins (take k xs) ys
 begins_front xs ys zero b = tt
@@ -87,38 +118,50 @@ same_absorbed W old new absorbed s = (
   absorbed_under W old new absorbed s,
 )
 
--- a number that was put in, and what was absorbed after it
-pub has_descended : (old mid : Descending) (stem : Stem) (number : ℕ) (level : Level) → mid.request ≡ old.request → size_of mid.stem ≡ size_of old.stem → prefix_of mid.stem ≡ prefix_of old.stem ++ number ∷ []
-    → IsStem stem → HasAbsorbed mid.stem stem → HasDescended number old (with_level (with_stem mid stem) level)
-has_descended old mid stem number level request size longer is absorbed =
-    let count : length (prefix_of mid.stem) ≡ length (prefix_of old.stem) + 1 = ap length longer ∙ length-append (prefix_of old.stem) (number ∷ []) in
-    let more = absorbed.longer in
-    let short = is.short in
-    let rows : size_of stem ≡ size_of mid.stem = ap (λ r. r.size) absorbed.rows in
+pub has_descended : (number : ℕ) (old new : Descending) (mid : Stem) → new.request ≡ old.request → IsPut number old.stem mid new.stem → HasDescended number old new
+has_descended number old new mid request put =
+    let count : length (prefix_of mid) ≡ length (prefix_of old.stem) + 1 = ap length put.longer ∙ length-append (prefix_of old.stem) (number ∷ []) in
+    let more = put.absorbed.longer in
+    let is = put.stem.short in
+    let rows : size_of new.stem ≡ size_of mid = ap (λ r. r.size) put.absorbed.rows in
+    let size = put.size in
     record {
       same_request = request;
-      same_size = rows ∙ size;
+      same_size = rows ∙ put.size;
       longer = omega arith;
       short = omega arith;
       same = record {
         same = λ s.
             let W = IsMember old.request in
-            let one : IsUnder W (size_of mid.stem) (prefix_of stem) s ↔ IsUnder W (size_of mid.stem) (prefix_of mid.stem) s = same_absorbed W mid.stem stem absorbed s in
-            let two = subst (λ n. IsUnder W n (prefix_of stem) s ↔ IsUnder W n (prefix_of mid.stem) s) size one in
-            subst (λ xs. IsUnder W (size_of old.stem) (prefix_of stem) s ↔ IsUnder W (size_of old.stem) xs s) longer two;
+            let one : IsUnder W (size_of mid) (prefix_of new.stem) s ↔ IsUnder W (size_of mid) (prefix_of mid) s = same_absorbed W mid new.stem put.absorbed s in
+            let two = subst (λ n. IsUnder W n (prefix_of new.stem) s ↔ IsUnder W n (prefix_of mid) s) put.size one in
+            subst (λ xs. IsUnder W (size_of old.stem) (prefix_of new.stem) s ↔ IsUnder W (size_of old.stem) xs s) put.longer two;
       };
     }
 
--- where nothing is under what was absorbed, nothing is under the number
-pub none_descended : (old mid : Descending) (stem : Stem) (number : ℕ) → mid.request ≡ old.request → size_of mid.stem ≡ size_of old.stem → prefix_of mid.stem ≡ prefix_of old.stem ++ number ∷ []
-    → HasAbsorbed mid.stem stem → HasNothingUnder (IsMember mid.request) (size_of stem) (prefix_of stem) → HasNothingUnder (IsMember old.request) (size_of old.stem) (prefix_of old.stem ++ number ∷ [])
-none_descended old mid stem number request size longer absorbed none =
-    let rows : size_of stem ≡ size_of mid.stem = ap (λ r. r.size) absorbed.rows in
-    let here : HasNothingUnder (IsMember mid.request) (size_of mid.stem) (prefix_of mid.stem) = λ s under.
-    none s (subst (λ n. IsUnder (IsMember mid.request) n (prefix_of stem) s) (sym rows) (absorbed_under (IsMember mid.request) mid.stem stem absorbed s under)) in
-    let one = subst (λ xs. HasNothingUnder (IsMember mid.request) (size_of mid.stem) xs) longer here in
-    let two = subst (λ n. HasNothingUnder (IsMember mid.request) n (prefix_of old.stem ++ number ∷ [])) size one in
-    subst (λ q. HasNothingUnder (IsMember q) (size_of old.stem) (prefix_of old.stem ++ number ∷ [])) request two
+-- the same where no table is under it
+pub none_absorbed : (W : Symbol → Type 0) (number : ℕ) (old mid new : Stem) → IsPut number old mid new → HasNothingUnder Any (size_of new) (prefix_of new) → HasNothingUnder W (size_of old) (prefix_of old ++ number ∷ [])
+none_absorbed W number old mid new put none =
+    let rows : size_of new ≡ size_of mid = ap (λ r. r.size) put.absorbed.rows in
+    let one = subst (λ n. HasNothingUnder Any n (prefix_of new)) rows none in
+    let two : HasNothingUnder Any (size_of mid) (prefix_of mid) = λ s under. one s (absorbed_under Any mid new put.absorbed s under) in
+    let three = subst (λ n. HasNothingUnder Any n (prefix_of mid)) put.size two in
+    let four = subst (HasNothingUnder Any (size_of old)) put.longer three in
+    λ s under. four s (any_under W (size_of old) (prefix_of old ++ number ∷ []) s under)
+
+-- where no symbol with a number at the next place is sought, no member is under the prefix with it
+pub none_with_number : (d : Descending) (rows : Rows) (t number : ℕ) → IsDescent d → rows ≡ d.stem.rows → t ≡ length (prefix_of d.stem) → length (prefix_of d.stem) < 3 * size_of d.stem
+    → ((s : Symbol) → IsSought d.shares.classes.request (partial_of rows) s → HasNumberAt t number s → ⊥) → HasNothingUnder (IsMember d.request) (size_of d.stem) (prefix_of d.stem ++ number ∷ [])
+none_with_number d rows t number is same at low none s under =
+    let q = d.request in
+    let stem = d.stem in
+    let before = shortened_under (IsMember q) (size_of stem) (prefix_of stem) number s under in
+    let size = under.size in
+    let next : HasNumberAt (length (prefix_of stem)) number s = sym (code_at s (length (prefix_of stem)) (omega arith)) ∙ before.1 in
+    let sought : IsSought q (partial_of stem.rows) s =
+    record { wanted = under.wanted.wanted; completes = is.stem.follows s (any_under (IsMember q) (size_of stem) (prefix_of stem) s before.0) } in
+    let asked = subst (λ r. IsSought r (partial_of stem.rows) s) (sym is.same_request) sought in
+    none s (subst (λ r. IsSought d.shares.classes.request (partial_of r) s) (sym same) asked) (subst (λ u. HasNumberAt u number s) (sym at) next)
 
 -- no member is under a prefix where none is under its front
 pub no_member_under_front : (W : Symbol → Type 0) (n k : ℕ) (prefix : List ℕ) → HasNothingUnder W n (take k prefix) → HasNothingUnder W n prefix

@@ -6,13 +6,14 @@ use Rattle.std.specs.declared.option.Option.TheVariants.{None, Some}
 use Rattle.dd_model.specs.Request.{IsValid}
 use Rattle.dd_model.specs.Wanted.{IsMember}
 use Rattle.dd_model.specs.declared.requests.Request.{Request}
-use Rattle.dd_invol.specs.Rows.{partial_of, depth_of}
+use Rattle.dd_invol.specs.Rows.{partial_of}
 use Rattle.dd_invol.specs.Search.{GoesOn}
 use Rattle.dd_invol.specs.Stem.{IsStem, prefix_of, size_of, cut_to}
 use Rattle.dd_invol.specs.declared.stem.Stem.{Stem}
-use Rattle.dd_shares.specs.Kept.{AreKept, mark_of, rolled_back}
-use Rattle.dd_shares.specs.declared.shares.Shares.{Shares}
-use Rattle.dd_branch.specs.declared.levels.Level.{Level}
+use Rattle.dd_ends.specs.Kept.{AreKept, with_sides}
+use Rattle.dd_ends.specs.declared.shares.Shares.{Shares}
+use Rattle.dd_ends.specs.declared.sides.Sides.{Sides}
+use Rattle.dd_branch.specs.declared.level.Level.{Level}
 
 -- what is asked, how far the search has come, the shares of its table, and what each number put in
 pub record Descending : Type 0 where
@@ -21,23 +22,13 @@ pub record Descending : Type 0 where
   pub shares : Shares
   pub levels : List Level
 
--- the search with what it had at a level
-abbrev pub taken_back : Descending → Level → Descending
-taken_back d level = record { request = d.request; stem = cut_to d.stem level.numbers level.rows; shares = rolled_back d.shares level.shares; levels = d.levels }
-
 -- the search with a level more
 abbrev pub with_level : Descending → Level → Descending
 with_level d level = record d { levels = d.levels ++ level ∷ [] }
 
--- the level tells how much the search has
-pub record IsLevelOf (d : Descending) (level : Level) : Type 0 where
-  pub numbers : level.numbers ≡ length (prefix_of d.stem)
-  pub rows : level.rows ≡ depth_of d.stem.rows
-  pub shares : level.shares ≡ mark_of d.shares
-
--- a search goes back to what it was
-abbrev pub GoesBack : Descending → Descending → Type 0
-GoesBack old new = (level : Level) → IsLevelOf old level → taken_back new level ≡ old
+-- the search with other paths of its table
+abbrev pub with_paths : Descending → Sides → Descending
+with_paths d sides = record { request = d.request; stem = d.stem; shares = with_sides d.shares sides; levels = d.levels }
 
 -- the search as it was before its last number
 abbrev pub without_last : Option Level → Descending → Descending
@@ -45,7 +36,7 @@ without_last None d = d
 without_last (Some level) d = record {
   request = d.request;
   stem = cut_to d.stem level.numbers level.rows;
-  shares = rolled_back d.shares level.shares;
+  shares = with_sides d.shares level.sides;
   levels = take (length d.levels - 1) d.levels;
 }
 
@@ -57,7 +48,7 @@ pub record IsDescent (d : Descending) : Type 0 where
   pub valid : IsValid d.request
   pub stem : IsStem d.stem
   pub kept : AreKept (partial_of d.stem.rows) d.shares
-  pub same_request : d.shares.request ≡ d.request
+  pub same_request : d.shares.classes.request ≡ d.request
   pub room : length d.levels ≤ length (prefix_of d.stem)
 
 -- the search with a number more at the end of its prefix, and with what follows from it

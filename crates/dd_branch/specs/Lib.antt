@@ -5,5 +5,6 @@ pub mod Rests
 pub mod Assignment
 pub mod Entered
 pub mod Members
+pub mod Levels
 pub mod Descent
 pub mod Parts

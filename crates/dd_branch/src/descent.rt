@@ -1,30 +1,29 @@
-ghost use Rattle.std.specs.Prelude.{◌≡◌, ℕ, ◌*◌, ◌+◌, ◌≤◌, ◌<◌, [], ◌∷◌, ◌++◌, IsTrue, length};
+ghost use Rattle.std.specs.Prelude.{◌≡◌, ℕ, ◌*◌, ◌+◌, ◌≤◌, ◌<◌, [], ◌∷◌, ◌++◌, IsTrue, IfOk, length};
 ghost use Rattle.std.specs.Bool.{OnTrue, OnFalse};
 ghost use Rattle.dd_model.specs.Request.{IsValid};
 ghost use Rattle.dd_model.specs.Wanted.{IsMember};
 ghost use Rattle.dd_invol.specs.Under.{HasNothingUnder};
 
-use crate::levels::Level;
+use crate::levels::Levels;
 use crate::members::add_degrees;
-use arrayvec::ArrayVec;
+use dd_ends::{PathShares, Shares};
 use dd_invol::{CollectingSearch, PrefixSearch, Starts, Stem, Table, can_follow};
 use dd_model::{Memory, Request};
-use dd_shares::{Ends, Shares, parity_rules_out};
+use dd_shares::parity_rules_out;
 use dd_symbol::Connected;
 use std::alloc::Global;
 use std::marker::Model;
 
 /// A search for the members of one size of a catalogue: a prefix with its table, the shares of the
-/// table's chambers, and what each number put in. It grows and is shortened in place, and no call
-/// but `add` allocates.
+/// table's paths, and what there was before each number. It grows and is shortened in place, and no
+/// call but `add` allocates.
 #[derive(Drop)]
 pub struct Descent {
     alloc: Global,
     request: Request,
     stem: Stem,
     shares: Shares,
-    ends: Ends,
-    levels: ArrayVec<Level, 108>,
+    levels: Levels,
     starts: Starts,
 }
 
@@ -37,122 +36,70 @@ impl Model for Descent {
       request = a.request;
       stem = a.stem;
       shares = a.shares;
-      levels = a.levels.items;
+      levels = a.levels;
     } };
 }
 
 impl Descent {
-    ghost use Rattle.dd_invol.specs.Rows.{IsReady};
+    ghost use Rattle.dd_invol.specs.Rows.{IsReady, depth_of};
     ghost use Rattle.dd_invol.specs.Stem.{prefix_of, size_of};
-    ghost use Rattle.dd_branch.specs.Descent.{IsDescent, IsLevelOf, GoesBack, HasDescended, shorter, taken_back, with_level};
+    ghost use Rattle.dd_branch.specs.Descent.{IsDescent, HasDescended, shorter, with_paths};
+    ghost use Rattle.dd_ends.specs.declared.sides.Sides.{Sides};
 
-    /// The search from the empty prefix, with the ends of a table of which nothing is known.
-    pub fn new(alloc: Global, request: &Request, ends: &Ends, size: u8) -> Descent
+    /// The search from the empty prefix, with the shares that the request allows.
+    pub fn new(
+        alloc: Global,
+        request: &Request,
+        classes: &PathShares,
+        size: u8,
+    ) -> Result<Descent, Memory>
         requires valid { IsValid request.now }
+        requires asked { classes.now.request ≡ request.now }
         requires size { (1 ≤ size) × (size ≤ 36) }
-        ensures descent { IsDescent result }
-        ensures request { result.request ≡ request.now }
-        ensures size { size_of result.stem ≡ size }
-        ensures empty { prefix_of result.stem ≡ [] }
+        ensures descent { IfOk result (λ descent. IsDescent descent) }
+        ensures request { IfOk result (λ descent. descent.request ≡ request.now) }
+        ensures size { IfOk result (λ descent. size_of descent.stem ≡ size) }
+        ensures empty { IfOk result (λ descent. prefix_of descent.stem ≡ []) }
     {
-        Descent {
+        let levels = Levels::new(alloc)?;
+        Ok(Descent {
             alloc,
             request: *request,
             stem: Stem::new(size),
-            shares: Shares::start(request, size),
-            ends: *ends,
-            levels: ArrayVec::new(),
+            shares: Shares::start(classes, size),
+            levels,
             starts: Starts::new(size),
-        }
+        })
     }
 
-    /// How much there is.
-    fn level(&self) -> Level
-        ensures { IsLevelOf self.now result }
+    /// Whether the shares tell, before a number is put in, that no member is under the prefix with it.
+    fn shares_refuse(&self, number: u8) -> bool
+        requires descent { IsDescent self.now }
+        requires room { length (prefix_of self.now.stem) < 3 * size_of self.now.stem }
+        ensures { IsTrue result
+            → HasNothingUnder (IsMember self.now.request) (size_of self.now.stem)
+            (prefix_of self.now.stem ++ number ∷ []) }
     {
-        Level {
-            numbers: self.stem.prefix().len(),
-            rows: self.stem.mark(),
-            shares: self.shares.mark(),
-            starts: self.starts.mark(),
-        }
+        let place = self.stem.prefix().len() as u8;
+        number <= self.stem.size()
+            && self
+                .shares
+                .rules_out_number(self.stem.rows(), place, number)
     }
 
-    /// Takes away what was put in, joined, exchanged and moved after a level.
-    fn take_back(&mut self, level: &Level)
-        requires { IsReady self.old.stem.rows }
-        ensures { self.new ≡ taken_back self.old level.now }
-    {
-        self.ends.undo(self.stem.rows(), level.rows);
-        self.drop_after(level);
-    }
-
-    /// The same, where the ends are those of the level.
-    fn drop_after(&mut self, level: &Level)
-        requires { IsReady self.old.stem.rows }
-        ensures { self.new ≡ taken_back self.old level.now }
-    {
-        self.stem.cut(level.numbers, level.rows);
-        self.shares.undo(level.shares);
-        self.starts.undo(level.starts);
-    }
-
-    /// Whether it is sure that no member is under the prefix, which has grown since a level: its
-    /// size is odd and s0 moves chamber 1, the next chamber was not met, the shares are too small,
-    /// or another numbering has a smaller code.
-    fn is_dead(&mut self, level: &Level) -> bool
-        requires { IsDescent self.old }
-        ensures same { self.new ≡ self.old }
-        ensures dead { IsTrue result
-            → HasNothingUnder (IsMember self.old.request) (size_of self.old.stem)
-            (prefix_of self.old.stem) }
-    {
-        parity_rules_out(self.stem.rows())
-            || self.stem.is_stuck()
-            || self.shares.rules_out(&self.ends, self.stem.rows())
-            || self.starts.any_beats(&self.stem, level.numbers, level.rows)
-    }
-
-    /// Puts a number at the end of the prefix, and exchanges shares, unless commuting forbids it or the
-    /// shares become too small. The level is that of the search.
-    fn put(&mut self, number: u8, level: &Level) -> bool
+    /// Puts a number at the end of the prefix, and all that are known after it, with a level for
+    /// what there was, unless commuting forbids the number or the next chamber is then one that was
+    /// not met.
+    fn put(&mut self, number: u8, numbers: usize, rows: usize) -> bool
         requires descent { IsDescent self.old }
-        requires level { IsLevelOf self.old level.now }
-        requires room { length (prefix_of self.old.stem) < 3 * size_of self.old.stem }
-        ensures descent { IsDescent self.new }
-        ensures request { self.new.request ≡ self.old.request }
-        ensures size { size_of self.new.stem ≡ size_of self.old.stem }
-        ensures levels { self.new.levels ≡ self.old.levels }
-        ensures longer { OnTrue result
-            (prefix_of self.new.stem ≡ prefix_of self.old.stem ++ number ∷ []) }
-        ensures back { OnTrue result (GoesBack self.old self.new) }
-        ensures same { OnFalse result (self.new ≡ self.old) }
-        ensures dead { OnFalse result
-            (HasNothingUnder (IsMember self.old.request) (size_of self.old.stem)
-            (prefix_of self.old.stem ++ number ∷ [])) }
-    {
-        if !self.stem.put(number) {
-            return false;
-        }
-        let rows = self.stem.rows();
-        if self.shares.learn(&mut self.ends, rows, level.rows) {
-            self.drop_after(level);
-            return false;
-        }
-        true
-    }
-
-    /// Puts a number at the end of the prefix, and all that are known after it, and exchanges shares,
-    /// unless commuting forbids it, the next chamber is then one that was not met, or the shares become
-    /// too small. The level is that of the search.
-    fn put_all(&mut self, number: u8, level: &Level) -> bool
-        requires descent { IsDescent self.old }
-        requires level { IsLevelOf self.old level.now }
+        requires numbers { numbers ≡ length (prefix_of self.old.stem) }
+        requires rows { rows ≡ depth_of self.old.stem.rows }
         requires room { length (prefix_of self.old.stem) < 3 * size_of self.old.stem }
         ensures descent { OnTrue result (IsDescent self.new) }
-        ensures levels { self.new.levels ≡ self.old.levels }
         ensures alive { OnTrue result (HasDescended number self.old self.new) }
-        ensures back { OnTrue result (GoesBack self.old self.new) }
+        ensures some { OnTrue result (1 ≤ length self.new.levels) }
+        ensures undone { OnTrue result ((sides : Sides)
+            → shorter (with_paths self.new sides) ≡ self.old) }
         ensures same { OnFalse result (self.new ≡ self.old) }
         ensures dead { OnFalse result
             (HasNothingUnder (IsMember self.old.request) (size_of self.old.stem)
@@ -163,38 +110,70 @@ impl Descent {
         }
         self.stem.absorb();
         if self.stem.is_stuck() {
-            self.drop_after(level);
+            self.stem.cut(numbers, rows);
             return false;
         }
-        let rows = self.stem.rows();
-        if self.shares.learn(&mut self.ends, rows, level.rows) {
-            self.drop_after(level);
-            return false;
-        }
+        let starts = self.starts.mark();
+        self.levels.push(numbers, rows, self.shares.sides(), starts);
         true
     }
 
-    /// Keeps the level before what was put in, or takes that back where it is sure that no member
-    /// is under the prefix.
-    fn settle(&mut self, level: &Level) -> bool
-        requires descent { IsDescent self.old }
-        requires room { length self.old.levels < length (prefix_of self.old.stem) }
-        ensures kept { OnTrue result (self.new ≡ with_level self.old level.now) }
-        ensures back { OnFalse result (self.new ≡ taken_back self.old level.now) }
-        ensures dead { OnFalse result
-            (HasNothingUnder (IsMember self.old.request) (size_of self.old.stem)
-            (prefix_of self.old.stem)) }
+    /// Joins the paths that what was put into the table after a mark joins. True where it is sure
+    /// that no member is under the prefix.
+    fn learn(&mut self, rows: usize) -> bool
+        requires { IsDescent self.old }
+        ensures descent { IsDescent self.new }
+        ensures paths { self.new ≡ with_paths self.old self.new.shares.sides }
+        ensures dead { IsTrue result
+            → HasNothingUnder (IsMember self.old.request) (size_of self.old.stem)
+            (prefix_of self.old.stem) }
     {
-        if self.is_dead(level) {
-            self.take_back(level);
-            return false;
-        }
-        self.levels.push(*level);
-        true
+        self.shares.learn(self.stem.rows(), rows)
+    }
+
+    /// Whether it is sure that no member is under the prefix, which has grown since there were so
+    /// many numbers and so many images: its size is odd and s0 moves chamber 1, the shares are too
+    /// small, or another numbering has a smaller code.
+    fn is_cut(&mut self, numbers: usize, rows: usize) -> bool
+        requires { IsDescent self.old }
+        ensures same { self.new ≡ self.old }
+        ensures dead { IsTrue result
+            → HasNothingUnder (IsMember self.old.request) (size_of self.old.stem)
+            (prefix_of self.old.stem) }
+    {
+        parity_rules_out(self.stem.rows())
+            || self.shares.rules_out(self.stem.rows())
+            || self.starts.any_beats(&self.stem, numbers, rows)
+    }
+
+    /// Joins the paths that have met since there were so many numbers and so many images. True where
+    /// it is sure that no member is under the prefix.
+    fn is_dead(&mut self, numbers: usize, rows: usize) -> bool
+        requires { IsDescent self.old }
+        ensures descent { IsDescent self.new }
+        ensures paths { self.new ≡ with_paths self.old self.new.shares.sides }
+        ensures dead { IsTrue result
+            → HasNothingUnder (IsMember self.old.request) (size_of self.old.stem)
+            (prefix_of self.old.stem) }
+    {
+        self.learn(rows) || self.is_cut(numbers, rows)
+    }
+
+    /// Goes back to the last level.
+    fn drop_level(&mut self)
+        requires ready { IsReady self.old.stem.rows }
+        requires some { 1 ≤ length self.old.levels }
+        ensures { self.new ≡ shorter self.old }
+    {
+        let level = self.levels.last();
+        self.stem.cut(level.numbers, level.rows);
+        self.shares.put_back(&level.sides);
+        self.starts.undo(level.starts);
+        self.levels.drop_last();
     }
 
     /// Puts a number at the end of the prefix, unless it is sure that no member is under the longer
-    /// one.
+    /// one. No level is kept.
     fn grow(&mut self, number: u8) -> bool
         requires descent { IsDescent self.old }
         requires room { length (prefix_of self.old.stem) < 3 * size_of self.old.stem }
@@ -207,8 +186,12 @@ impl Descent {
             (HasNothingUnder (IsMember self.old.request) (size_of self.old.stem)
             (prefix_of self.old.stem ++ number ∷ [])) }
     {
-        let level = self.level();
-        self.put(number, &level) && self.settle(&level)
+        let numbers = self.stem.prefix().len();
+        let rows = self.stem.mark();
+        if !self.stem.put(number) {
+            return false;
+        }
+        !self.is_dead(numbers, rows)
     }
 
     /// Puts a number at the end of the prefix, and all that are known after it, unless it is sure
@@ -224,11 +207,16 @@ impl Descent {
             (HasNothingUnder (IsMember self.old.request) (size_of self.old.stem)
             (prefix_of self.old.stem ++ number ∷ [])) }
     {
-        let level = self.level();
-        if !self.put_all(number, &level) {
+        if self.shares_refuse(number) {
             return false;
         }
-        if !self.settle(&level) {
+        let numbers = self.stem.prefix().len();
+        let rows = self.stem.mark();
+        if !self.put(number, numbers, rows) {
+            return false;
+        }
+        if self.is_dead(numbers, rows) {
+            self.drop_level();
             return false;
         }
         true
@@ -314,8 +302,8 @@ impl PrefixSearch for Descent {
     }
 
     fn leave(&mut self, _mark: usize) {
-        if let Some(level) = self.levels.pop() {
-            self.take_back(&level);
+        if self.levels.len() > 0 {
+            self.drop_level();
         }
     }
 }

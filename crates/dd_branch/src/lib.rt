@@ -4,6 +4,7 @@
 mod assignment;
 mod descent;
 mod laws;
+mod level;
 mod levels;
 mod members;
 mod minimality;

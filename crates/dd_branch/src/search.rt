@@ -5,19 +5,20 @@ ghost use Rattle.dd_model.specs.Wanted.{IsMember};
 ghost use Rattle.dd_invol.specs.Under.{AreUnder, Appends};
 
 use crate::descent::Descent;
+use dd_ends::PathShares;
 use dd_front::Finder;
 use dd_invol::{child, find, may_have_tables};
 use dd_model::{Job, Memory, Request};
-use dd_shares::Ends;
 use dd_symbol::Connected;
 use std::alloc::Global;
 
-/// The search for the members of the catalogue of a request, job by job, with the ends from which
-/// each job begins.
+/// The search for the members of the catalogue of a request, job by job, with the shares that the
+/// request allows.
 #[derive(Drop)]
 pub struct Search {
     request: Request,
-    ends: Ends,
+    classes: PathShares,
+    ghost same_request: { classes.request ≡ request },
 }
 
 impl Search {
@@ -27,7 +28,7 @@ impl Search {
     {
         Search {
             request: *request,
-            ends: Ends::start(request),
+            classes: PathShares::of(request),
         }
     }
 
@@ -41,7 +42,7 @@ impl Search {
             (AreUnder (IsMember self.now.request) job.now.size job.now.prefix)
             list.old.items list.new.items) }
     {
-        let mut descent = Descent::new(alloc, &self.request, &self.ends, job.size as u8);
+        let mut descent = Descent::new(alloc, &self.request, &self.classes, job.size as u8)?;
         if !descent.reach(job.prefix.as_slice()) {
             return Ok(());
         }
@@ -58,7 +59,7 @@ impl Search {
         ensures { IfOk result (λ jobs. AreExtensions self.now.request job.now jobs.items) }
     {
         let mut jobs = Vec::new(alloc);
-        let mut descent = Descent::new(alloc, &self.request, &self.ends, job.size as u8);
+        let mut descent = Descent::new(alloc, &self.request, &self.classes, job.size as u8)?;
         if !descent.reach(job.prefix.as_slice()) {
             return Ok(jobs);
         }

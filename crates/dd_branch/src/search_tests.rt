@@ -3,10 +3,10 @@ ghost use Rattle.dd_branch.specs.Descent.{IsDescent};
 
 use crate::tests::{asked, have_codes};
 use crate::{Descent, Search};
+use dd_ends::PathShares;
 use dd_front::Finder;
 use dd_invol::PrefixSearch;
 use dd_model::{Job, Prefix, Request};
-use dd_shares::Ends;
 use dd_symbol::Connected;
 use std::alloc::Global;
 use std::test::Fail;
@@ -103,20 +103,21 @@ fn count_nodes(descent: &mut Descent) -> u64
 }
 
 /// How many numbers a search for the members of a size puts in, where there are no limits.
-fn nodes_of(alloc: Global, size: u8) -> u64 {
+fn nodes_of(alloc: Global, size: u8) -> Result<u64, Fail> {
     let request = asked();
     if !request.is_valid() || size == 0 || size > 36 {
-        return 0;
+        return Ok(0);
     }
-    let mut descent = Descent::new(alloc, &request, &Ends::start(&request), size);
-    count_nodes(&mut descent)
+    let classes = PathShares::of(&request);
+    let mut descent = Descent::new(alloc, &request, &classes, size)?;
+    Ok(count_nodes(&mut descent))
 }
 
 /// No contract says that a search turns back where nothing is under its prefix.
 #[test]
 fn a_search_turns_back_in_time(rt: HostRuntime) -> Result<(), Fail> {
     for (size, expected) in [(6, 252), (8, 879), (10, 2630), (12, 8548)] {
-        assert_eq!(rt; nodes_of(rt.alloc(), size), expected);
+        assert_eq!(rt; nodes_of(rt.alloc(), size)?, expected);
     }
     Ok(())
 }

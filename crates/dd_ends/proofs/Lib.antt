@@ -3,3 +3,15 @@ pub mod EndLemmas
 pub mod JoinLemmas
 pub mod EndTotals
 pub mod PassingTables
+pub mod RoomLemmas
+pub mod ClassLemmas
+pub mod PutLemmas
+pub mod SideLemmas
+pub mod WriteLemmas
+pub mod SumLemmas
+pub mod KeptLemmas
+pub mod GrowthLemmas
+pub mod CellLemmas
+pub mod StartLemmas
+pub mod FilledLemmas
+pub mod LinkLemmas

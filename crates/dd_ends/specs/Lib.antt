@@ -3,3 +3,7 @@ pub mod PathEnd
 pub mod Ends
 pub mod Changes
 pub mod Passing
+pub mod Classes
+pub mod Sides
+pub mod Kept
+pub mod Census

@@ -2,11 +2,12 @@ ghost use Rattle.std.specs.Prelude.{◌≡◌, ◌*◌, ◌<◌, ◌≤◌};
 ghost use Rattle.dd_invol.specs.Rows.{partial_of, IsReady};
 ghost use Rattle.dd_invol.specs.Stem.{IsStem};
 ghost use Rattle.dd_invol.specs.Visit.{IsVisiting};
-ghost use Rattle.dd_shares.specs.Kept.{AreKept};
+ghost use Rattle.dd_ends.specs.Kept.{AreKept};
 
+use dd_ends::{PathShares, Shares};
 use dd_invol::{Rows, Stem, Visit};
 use dd_model::{Allowed, Request};
-use dd_shares::{Ends, Shares, parity_rules_out};
+use dd_shares::parity_rules_out;
 use std::test::Fail;
 
 /// Requests for at most so many classes of tiles, with degrees from a least one on.
@@ -29,8 +30,8 @@ fn is_empty(tiles: u32, least: u32, size: u8) -> bool
     requires size { (1 ≤ size) × (size ≤ 36) }
 {
     let rows = Rows::empty(size);
-    let request = asked(tiles, least);
-    Shares::start(&request, size).rules_out(&Ends::start(&request), &rows)
+    let classes = PathShares::of(&asked(tiles, least));
+    Shares::start(&classes, size).rules_out(&rows)
 }
 
 #[test]
@@ -46,60 +47,61 @@ fn a_tile_has_at_most_twelve_chambers(rt: HostRuntime) -> Result<(), Fail> {
 
 /// Puts a number in at a place of a code, and learns from it; false where that cannot be, or where
 /// the shares are then too small.
-fn put(rows: &mut Rows, shares: &mut Shares, ends: &mut Ends, place: u8, number: u8) -> bool
+fn put(rows: &mut Rows, shares: &mut Shares, place: u8, number: u8) -> bool
     requires ready { IsReady rows.old }
     requires place { place < 3 * (partial_of rows.old).size }
     requires kept { AreKept (partial_of rows.old) shares.old }
     ensures ready { IsReady rows.new }
     ensures size { (partial_of rows.new).size ≡ (partial_of rows.old).size }
     ensures kept { AreKept (partial_of rows.new) shares.new }
+    ensures classes { shares.new.classes ≡ shares.old.classes }
 {
     let mark = rows.mark();
     if !rows.put(place, number) {
         return false;
     }
-    !shares.learn(ends, rows, mark)
+    !shares.learn(rows, mark)
 }
 
-/// What is answered before a chain of five chambers is put in, while it is open, when it is closed,
-/// and when its shares are taken back.
-fn answers() -> [bool; 5] {
+/// What is answered before a chain of five chambers is put in, while it is open, of the number that
+/// closes it, when it is closed, and when the paths are put back.
+fn answers() -> [bool; 6] {
+    let empty = Rows::empty(6);
     let mut rows = Rows::empty(6);
-    let mut shares = Shares::start(&asked(0, 4), 6);
-    let mut ends = Ends::start(&asked(0, 4));
-    let mark = shares.mark();
-    let before = shares.rules_out(&ends, &rows);
-    let one = put(&mut rows, &mut shares, &mut ends, 0, 2);
-    let two = put(&mut rows, &mut shares, &mut ends, 4, 3);
-    let three = put(&mut rows, &mut shares, &mut ends, 6, 4);
-    let four = put(&mut rows, &mut shares, &mut ends, 10, 5);
+    let mut shares = Shares::start(&PathShares::of(&asked(0, 4)), 6);
+    let sides = *shares.sides();
+    let before = shares.rules_out(&rows);
+    let one = put(&mut rows, &mut shares, 0, 2);
+    let two = put(&mut rows, &mut shares, 4, 3);
+    let three = put(&mut rows, &mut shares, 6, 4);
+    let four = put(&mut rows, &mut shares, 10, 5);
     let put_in = one && two && three && four;
-    let open = shares.rules_out(&ends, &rows);
-    let capped = put(&mut rows, &mut shares, &mut ends, 12, 5);
-    shares.undo(mark);
-    let end = shares.mark();
-    [before, put_in, open, capped, end == mark]
+    let open = shares.rules_out(&rows);
+    let told = shares.rules_out_number(&rows, 12, 5);
+    let capped = put(&mut rows, &mut shares, 12, 5);
+    shares.put_back(&sides);
+    [before, put_in, open, told, capped, shares.rules_out(&empty)]
 }
 
 #[test]
 fn a_long_chain_exceeds(rt: HostRuntime) -> Result<(), Fail> {
-    let [before, put_in, open, capped, back] = answers();
+    let [before, put_in, open, told, capped, back] = answers();
     assert!(rt; !before);
     assert!(rt; put_in);
     assert!(rt; !open);
+    assert!(rt; told);
     assert!(rt; !capped);
-    assert!(rt; back);
+    assert!(rt; !back);
     Ok(())
 }
 
 /// Whether nothing with three chambers is sought, where chamber 1 is a whole tile.
 fn is_empty_with_a_tile(tiles: u32) -> bool {
     let mut rows = Rows::empty(3);
-    let mut shares = Shares::start(&asked(tiles, 3), 3);
-    let mut ends = Ends::start(&asked(tiles, 3));
-    put(&mut rows, &mut shares, &mut ends, 0, 1)
-        && put(&mut rows, &mut shares, &mut ends, 1, 1)
-        && shares.rules_out(&ends, &rows)
+    let mut shares = Shares::start(&PathShares::of(&asked(tiles, 3)), 3);
+    put(&mut rows, &mut shares, 0, 1)
+        && put(&mut rows, &mut shares, 1, 1)
+        && shares.rules_out(&rows)
 }
 
 #[test]
@@ -118,12 +120,10 @@ fn answers_for_pentagons() -> [bool; 3] {
     let mut request = asked(0, 3);
     request.faces = faces;
     let mut rows = Rows::empty(20);
-    let mut shares = Shares::start(&request, 20);
-    let mut ends = Ends::start(&request);
-    let before = shares.rules_out(&ends, &rows);
-    let put_in = put(&mut rows, &mut shares, &mut ends, 0, 2)
-        && put(&mut rows, &mut shares, &mut ends, 1, 1);
-    [before, put_in, put(&mut rows, &mut shares, &mut ends, 4, 2)]
+    let mut shares = Shares::start(&PathShares::of(&request), 20);
+    let before = shares.rules_out(&rows);
+    let put_in = put(&mut rows, &mut shares, 0, 2) && put(&mut rows, &mut shares, 1, 1);
+    [before, put_in, put(&mut rows, &mut shares, 4, 2)]
 }
 
 #[test]
@@ -140,9 +140,8 @@ fn is_empty_with_a_chain(size: u8) -> bool
     requires { (1 ≤ size) × (size ≤ 36) }
 {
     let mut rows = Rows::empty(size);
-    let mut shares = Shares::start(&asked(1, 3), size);
-    let mut ends = Ends::start(&asked(1, 3));
-    put(&mut rows, &mut shares, &mut ends, 0, 1) && shares.rules_out(&ends, &rows)
+    let mut shares = Shares::start(&PathShares::of(&asked(1, 3)), size);
+    put(&mut rows, &mut shares, 0, 1) && shares.rules_out(&rows)
 }
 
 #[test]
@@ -166,13 +165,7 @@ fn odd_sizes_have_fixed_chambers(rt: HostRuntime) -> Result<(), Fail> {
 
 /// How many numbers a search puts in under a stem that no test refuses, without those that follow
 /// from others. The stem's last number was put in after a mark.
-fn count_nodes(
-    stem: &mut Stem,
-    visit: &mut Visit,
-    shares: &mut Shares,
-    ends: &mut Ends,
-    mark: usize,
-) -> u64
+fn count_nodes(stem: &mut Stem, visit: &mut Visit, shares: &mut Shares, mark: usize) -> u64
     requires stem { IsStem stem.old }
     requires visiting { IsVisiting visit.old }
     requires kept { AreKept (partial_of stem.old.rows) shares.old }
@@ -180,38 +173,34 @@ fn count_nodes(
     ensures visiting { IsVisiting visit.new }
     ensures shares { shares.new ≡ shares.old }
 {
-    let back = shares.mark();
-    if shares.learn(ends, stem.rows(), mark) {
-        shares.undo(back);
+    let sides = *shares.sides();
+    if shares.learn(stem.rows(), mark) {
+        shares.put_back(&sides);
         return 0;
     }
-    if shares.rules_out(ends, stem.rows()) {
-        ends.undo(stem.rows(), mark);
-        shares.undo(back);
+    if shares.rules_out(stem.rows()) {
+        shares.put_back(&sides);
         return 0;
     }
     if parity_rules_out(stem.rows()) {
-        ends.undo(stem.rows(), mark);
-        shares.undo(back);
+        shares.put_back(&sides);
         return 0;
     }
     let here = stem.mark();
     let mut count = u64::from(here > mark);
     if stem.is_whole() {
-        ends.undo(stem.rows(), mark);
-        shares.undo(back);
+        shares.put_back(&sides);
         return count;
     }
     let mut k = 0;
     while let Some(number) = stem.next_from(k) {
         if stem.enter(number, visit) {
-            count = count_nodes(stem, visit, shares, ends, here).saturating_add(count);
+            count = count_nodes(stem, visit, shares, here).saturating_add(count);
             stem.leave(here);
         }
         k = number + 1;
     }
-    ends.undo(stem.rows(), mark);
-    shares.undo(back);
+    shares.put_back(&sides);
     count
 }
 
@@ -221,9 +210,8 @@ fn nodes_of(tiles: u32, size: u8) -> u64
 {
     let mut stem = Stem::new(size);
     let mut visit = Visit::new();
-    let mut shares = Shares::start(&asked(tiles, 3), size);
-    let mut ends = Ends::start(&asked(tiles, 3));
-    count_nodes(&mut stem, &mut visit, &mut shares, &mut ends, 0)
+    let mut shares = Shares::start(&PathShares::of(&asked(tiles, 3)), size);
+    count_nodes(&mut stem, &mut visit, &mut shares, 0)
 }
 
 #[test]

@@ -1,20 +1,13 @@
 -- A table that is filled knows what it knew before.
-use Rattle.std.proofs.Common.{◌≡◌, ◌≢◌, ℕ, zero, suc, ◌-◌, ◌⊎◌, List, [], ◌∷◌, get_or, set, refl, sym, ap, ◌∙◌, subst, inl, inr, ⊎_elim}
+use Rattle.std.proofs.Common.{◌≡◌, ◌≢◌, ℕ, zero, suc, ◌-◌, ◌⊎◌, List, [], ◌∷◌, get_or, set, refl, sym, ◌∙◌, subst, inl, inr, ⊎_elim}
 use Rattle.std.proofs.lemmas.Bool.{cases_lt}
 use Rattle.dd_model.specs.declared.index.Index.{Index}
-use Rattle.dd_model.specs.declared.pair.Pair.TheVariants.{Tile, Vertex}
 use Rattle.dd_model.specs.Symbol.{Symbol, op}
 use Rattle.dd_model.specs.Partial.{Completes}
 use Rattle.dd_invol.specs.Places.{place, back_of}
 use Rattle.dd_invol.specs.declared.rows.Rows.{Rows}
 use Rattle.dd_invol.specs.Rows.{partial_of, depth_of, cleared, last_of, popped, unwind, unwound}
-use Rattle.dd_invol.specs.Stem.{size_of, shortened}
-use Rattle.dd_invol.specs.declared.stem.Stem.{Stem}
 use Rattle.dd_invol.proofs.RowsLemmas.{op_partial, op_past}
-use Rattle.dd_shares.specs.Kept.{AreKept}
-use Rattle.dd_shares.specs.declared.shares.Shares.{Shares}
-use Rattle.dd_shares.specs.Units.{share_unit}
-use Rattle.dd_shares.proofs.Bounds.{shares_of_larger}
 
 -- a list with a place set to zero
 zero_or_same : (xs : List ℕ) (t u : ℕ) → (get_or (set xs t 0) u 0 ≡ get_or xs u 0) ⊎ (get_or (set xs t 0) u 0 ≡ 0)
@@ -25,7 +18,7 @@ zero_or_same (x ∷ xs) (suc t) zero = inl refl
 zero_or_same (x ∷ xs) (suc t) (suc u) = zero_or_same xs t u
 
 -- the same with two places
-cleared_or_same : (xs : List ℕ) (t u : ℕ) → (get_or (cleared xs t) u 0 ≡ get_or xs u 0) ⊎ (get_or (cleared xs t) u 0 ≡ 0)
+pub cleared_or_same : (xs : List ℕ) (t u : ℕ) → (get_or (cleared xs t) u 0 ≡ get_or xs u 0) ⊎ (get_or (cleared xs t) u 0 ≡ 0)
 cleared_or_same xs t u = ⊎_elim
     (λ second. ⊎_elim (λ first. inl (second ∙ first)) (λ none. inr (second ∙ none)) (zero_or_same xs t u))
     (λ none. inr none)
@@ -52,24 +45,6 @@ completes_unwind : (k : ℕ) (r : Rows) (s : Symbol) → Completes (partial_of r
 completes_unwind zero r s full = full
 completes_unwind (suc k) r s full = completes_unwind k (popped r) s (completes_popped r s full)
 
--- The shares of a table are shares of each table that it is filled to.
-pub kept_of_longer : (old new : Rows) (shares : Shares) → new.size ≡ old.size → unwound new (depth_of old) ≡ old → AreKept (partial_of old) shares → AreKept (partial_of new) shares
-kept_of_longer old new shares same undone kept =
-    let more : (s : Symbol) → Completes (partial_of new) s → Completes (partial_of old) s =
-    λ s full. subst (λ r. Completes (partial_of r) s) undone (completes_unwind (depth_of new - depth_of old) new s full) in
-    record {
-      tiles = record {
-        shares = shares_of_larger shares.request (partial_of old) (partial_of new) Tile share_unit shares.tiles.shares same more kept.tiles.shares;
-        total = kept.tiles.total;
-        small = kept.tiles.small;
-      };
-      vertices = record {
-        shares = shares_of_larger shares.request (partial_of old) (partial_of new) Vertex share_unit shares.vertices.shares same more kept.vertices.shares;
-        total = kept.vertices.total;
-        small = kept.vertices.small;
-      };
-    }
-
--- The shares of a stem are shares of each stem with more numbers.
-pub kept_of_longer_stem : (old new : Stem) (shares : Shares) → size_of new ≡ size_of old → shortened new (depth_of old.rows) ≡ old → AreKept (partial_of old.rows) shares → AreKept (partial_of new.rows) shares
-kept_of_longer_stem old new shares same undone kept = kept_of_longer old.rows new.rows shares same (ap (λ (s : Stem). s.rows) undone) kept
+-- What completes a table completes each one that it was filled from.
+pub completes_shorter : (old new : Rows) → unwound new (depth_of old) ≡ old → (s : Symbol) → Completes (partial_of new) s → Completes (partial_of old) s
+completes_shorter old new undone s full = subst (λ r. Completes (partial_of r) s) undone (completes_unwind (depth_of new - depth_of old) new s full)

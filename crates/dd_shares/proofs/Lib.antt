@@ -2,11 +2,8 @@ pub mod Rotation
 pub mod OddSizes
 pub mod FlatBound
 pub mod CountBound
-pub mod PathLemmas
-pub mod Walks
 pub mod TurnLemmas
 pub mod Bounds
-pub mod SideLemmas
 pub mod GrowthLemmas
 pub mod ClosedLemmas
-pub mod Reduced
+pub mod WholeShares

@@ -16,9 +16,9 @@ pub(crate) struct Turn {
 /// A cell whose images are all known: how many turns lead back to a chamber of it, and whether it
 /// is a chain.
 #[derive(Clone, Copy, Drop)]
-pub(crate) struct WholeCell {
-    pub(crate) turns: u8,
-    pub(crate) is_chain: bool,
+pub struct WholeCell {
+    pub turns: u8,
+    pub is_chain: bool,
 }
 
 impl Turn {
@@ -48,7 +48,7 @@ impl Turn {
 impl WholeCell {
     /// The cell of a chamber; None where an image is not known, or some chamber of the cell is less
     /// than a lowest one.
-    pub(crate) fn from(table: &Rows, pair: Pair, start: u8, lowest: u8) -> Option<WholeCell>
+    pub fn from(table: &Rows, pair: Pair, start: u8, lowest: u8) -> Option<WholeCell>
         requires ready { IsReady table.now }
         requires low { 1 ≤ start }
         requires high { start ≤ (partial_of table.now).size }
@@ -72,7 +72,7 @@ impl WholeCell {
     }
 
     /// The number of its chambers.
-    pub(crate) fn chambers(&self) -> u8
+    pub fn chambers(&self) -> u8
         requires { self.now.turns ≤ 36 }
         ensures chain { IsTrue self.now.is_chain → result ≡ self.now.turns }
         ensures cycle { (IsTrue self.now.is_chain → ⊥) → result ≡ 2 * self.now.turns }
@@ -86,7 +86,7 @@ impl WholeCell {
     }
 
     /// 1 where it is a chain.
-    pub(crate) fn chains(&self) -> u32
+    pub fn chains(&self) -> u32
         ensures chain { IsTrue self.now.is_chain → result ≡ 1 }
         ensures small { result ≤ 1 }
     {

@@ -11,17 +11,8 @@ ghost use Rattle.dd_model.specs.declared.index.Index.TheVariants.{Zero};
 ghost use Rattle.dd_model.specs.declared.pair.Pair.{Pair};
 ghost use Rattle.dd_model.specs.declared.pair.Pair.TheVariants.{Tile, Vertex};
 ghost use Rattle.dd_invol.specs.Distinct.{AreDistinct};
-ghost use Rattle.dd_invol.specs.Rows.{partial_of, depth_of, unwound};
-ghost use Rattle.dd_invol.specs.declared.rows.Rows.{Rows};
-ghost use Rattle.dd_model.specs.declared.requests.Request.{Request};
-ghost use Rattle.dd_model.specs.Wanted.{AtMost, Wanted};
 ghost use Rattle.dd_cells.specs.Cells.{AreMembers};
-ghost use Rattle.dd_shares.specs.Census.{IsCensus, HasRoom};
 ghost use Rattle.dd_shares.specs.Closed.{fixed_flags};
-ghost use Rattle.dd_shares.specs.Shares.{IsSought};
-ghost use Rattle.dd_shares.specs.declared.limits.Census.{Census};
-ghost use Rattle.dd_shares.specs.Kept.{AreKept};
-ghost use Rattle.dd_shares.specs.declared.shares.Shares.{Shares};
 
 /// A cell has at most twice as many chambers as its degree, and a chain at most as many.
 pub fn a_cell_has_at_most_two_chambers_for_each_turn()
@@ -56,13 +47,6 @@ pub fn odd_tables_have_fixed_chambers()
         → op s Zero 1 ≤ 1 }
 {}
 
-/// The shares of a table are shares of each table that it is filled to.
-pub fn shares_stay_while_a_table_is_filled()
-    ensures { (old new : Rows) (shares : Shares) → new.size ≡ old.size
-        → unwound new (depth_of old) ≡ old
-        → AreKept (partial_of old) shares → AreKept (partial_of new) shares }
-{}
-
 /// A cell has no fixed flags or two, where a flag is a chamber with an involution of the pair that
 /// fixes it. Twice what a cell adds to the sum of 1/m and the number of its fixed flags are at most
 /// 4 together, in parts of any number that is divided by the degrees.
@@ -75,16 +59,4 @@ pub fn fixed_flags_halve_a_cell()
         → IsChamber s d → AreMembers s p d members
         → 2 * sum_by (λ x. whole / degree s p x) members
         + whole * sum_by (fixed_flags s p) members ≤ 4 * whole }
-{}
-
-/// What a census tells of the cells of a pair holds of each sought symbol, where a request sets a
-/// limit: no more cells are whole than the limit, each chamber is in a whole cell where as many
-/// are, and the sum of 1/m is at most what whole cells add, 1 for each further chain and 2 for each
-/// further cycle.
-pub fn whole_cells_count()
-    ensures { (q : Request) (partial : Symbol) (p : Pair) (c : Census) (limit : ℕ)
-        → (p ≡ Tile) ⊎ (p ≡ Vertex)
-        → ((s : Symbol) → Wanted q s → AtMost s p limit) → 1 ≤ limit
-        → IsCensus q partial p partial.size c
-        → (s : Symbol) → IsSought q partial s → HasRoom s p c limit }
 {}

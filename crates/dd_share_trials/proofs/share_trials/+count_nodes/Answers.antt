@@ -4,9 +4,8 @@ use Rattle.dd_invol.specs.Rows.{partial_of, depth_of}
 use Rattle.dd_invol.specs.Stem.{prefix_of, size_of, shortened}
 use Rattle.dd_invol.specs.Visit.{IsVisiting}
 use Rattle.dd_invol.specs.declared.stem.Stem.{Stem}
-use Rattle.dd_shares.specs.Kept.{AreKept}
-use Rattle.dd_shares.specs.declared.shares.Shares.{Shares}
-use Rattle.dd_shares.proofs.GrowthLemmas.{kept_of_longer_stem}
+use Rattle.dd_ends.specs.Kept.{AreKept}
+use Rattle.dd_ends.proofs.GrowthLemmas.{kept_of_longer}
 use Rattle.dd_share_trials.proofs.share_trials.+count_nodes.Goals as goal
 use Rattle.dd_share_trials.proofs.share_trials.+count_nodes.Goals.{then-enter, else-enter}
 
@@ -20,7 +19,7 @@ count_nodes-requires t c =
     let more : length (prefix_of c.enter.new.self) ≡ length (prefix_of c.args.stem.now) + 1 =
     ap length entered.longer ∙ length_push (prefix_of c.loop-number.stem) c.in-Some.number ∙ ap (λ (s : Stem). length (prefix_of s) + 1) i.same in
     let short = i.short in
-    (omega (arith, size, more, short), (entered.stem, (entered.visiting, kept_of_longer_stem c.loop-number.stem c.enter.new.self shares entered.size entered.undone kept)))
+    (omega (arith, size, more, short), (entered.stem, (entered.visiting, kept_of_longer c.loop-number.stem.rows c.enter.new.self.rows shares entered.size (ap (λ (s : Stem). s.rows) entered.undone) kept)))
 
 pub loop-number-preserved : goal.loop-number-preserved
 loop-number-preserved t c =

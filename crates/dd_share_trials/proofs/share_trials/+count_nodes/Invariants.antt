@@ -2,7 +2,7 @@ use Rattle.std.proofs.Common.{◌≡◌, ◌-◌, ◌*◌, ◌<◌, ◌≤◌, l
 use Rattle.dd_invol.specs.Rows.{partial_of, depth_of}
 use Rattle.dd_invol.specs.Stem.{IsStem, prefix_of, size_of}
 use Rattle.dd_invol.specs.Visit.{IsVisiting}
-use Rattle.dd_shares.specs.Kept.{AreKept}
+use Rattle.dd_ends.specs.Kept.{AreKept}
 use Rattle.dd_share_trials.proofs.share_trials.+count_nodes.Given as goal
 
 abbrev pub decreases-count_nodes : goal.decreases-count_nodes

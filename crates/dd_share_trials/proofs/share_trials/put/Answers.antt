@@ -1,4 +1,4 @@
-use Rattle.dd_shares.proofs.GrowthLemmas.{kept_of_longer}
+use Rattle.dd_ends.proofs.GrowthLemmas.{kept_of_longer}
 use Rattle.dd_share_trials.proofs.share_trials.put.Goals as goal
 
 pub learn-requires-clause-kept : goal.learn-requires-clause-kept

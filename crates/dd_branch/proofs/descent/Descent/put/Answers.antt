@@ -1,22 +1,57 @@
-use Rattle.std.proofs.Common.{[], ◌∷◌, ◌++◌, sym, ap, subst}
-use Rattle.dd_invol.specs.Rows.{partial_of}
-use Rattle.dd_invol.specs.Stem.{Any, prefix_of, size_of}
-use Rattle.dd_invol.specs.Under.{IsUnder}
-use Rattle.dd_invol.specs.declared.stem.Stem.{Stem}
-use Rattle.dd_shares.specs.Kept.{AreKept}
-use Rattle.dd_shares.proofs.GrowthLemmas.{kept_of_longer}
-use Rattle.dd_branch.specs.Descent.{Descending}
+use Rattle.std.proofs.Common.{◌≡◌, ◌+◌, List, [], ◌∷◌, ◌++◌, length, length-append, refl, sym, ap, ◌∙◌, subst, arith}
+use Rattle.dd_model.specs.Wanted.{IsMember}
+use Rattle.dd_invol.specs.Rows.{depth_of}
+use Rattle.dd_invol.specs.Stem.{prefix_of, size_of}
+use Rattle.dd_invol.specs.Under.{HasNothingUnder}
+use Rattle.dd_ends.specs.Kept.{with_sides}
+use Rattle.dd_branch.specs.Descent.{Descending, IsDescent, HasDescended, shorter}
+use Rattle.dd_branch.specs.declared.level.Level.{Level}
+use Rattle.dd_branch.proofs.Descents.{IsPut, IsLevelOf, goes_back, has_descended, none_absorbed, put_descent}
+use Rattle.dd_branch.proofs.Splits.{none_where_no_table}
 use Rattle.dd_branch.proofs.descent.Descent.put.Goals as goal
 
-pub learn-requires-clause-kept : goal.learn-requires-clause-kept
-learn-requires-clause-kept c =
-    let stem = c.self.inside.stem in
-    let shares = c.self.inside.shares in
-    let kept = subst (λ (d : Descending). AreKept (partial_of d.stem.rows) d.shares) (sym c.self.view_is) c.requires.descent.kept in
-    let back = ap (λ (s : Stem). s.rows) c.if-not-put.ensures.undone in
-    subst (λ r. AreKept (partial_of r) shares) (sym c.rows-rows.ensures) (kept_of_longer stem.rows c.put.new.self.rows shares c.if-not-put.ensures.size back kept)
-
 pub returns-then-not-put-clause-dead : goal.returns-then-not-put-clause-dead
-returns-then-not-put-clause-dead c s under =
-    let any : IsUnder Any (size_of c.args.self.now.stem) (prefix_of c.args.self.now.stem ++ c.args.number ∷ []) s = record { orderly = under.orderly; wanted = tt; size = under.size; begins = under.begins } in
-    c.if-not-put.ensures.dead s (subst (λ (d : Descending). IsUnder Any (size_of d.stem) (prefix_of d.stem ++ c.args.number ∷ []) s) (sym c.self.view_is) any)
+returns-then-not-put-clause-dead c =
+    let stem = c.self.inside.stem in
+    subst (λ (d : Descending). HasNothingUnder (IsMember d.request) (size_of d.stem) (prefix_of d.stem ++ c.args.number ∷ [])) c.self.view_is
+    (none_where_no_table (IsMember c.self.inside.request) (size_of stem) (prefix_of stem) c.args.number c.if-not-put.ensures.dead)
+
+pub returns-then-is_stuck-clause-dead : goal.returns-then-is_stuck-clause-dead
+returns-then-is_stuck-clause-dead c =
+    let stem = c.self.inside.stem in
+    let told = c.if-not-put.ensures in
+    let put : IsPut c.args.number stem c.put.new.self c.absorb.new.self = record { size = told.size; longer = told.longer; undone = told.undone; stem = c.absorb.ensures.stem; absorbed = c.absorb.ensures.absorbed } in
+    subst (λ (d : Descending). HasNothingUnder (IsMember d.request) (size_of d.stem) (prefix_of d.stem ++ c.args.number ∷ [])) c.self.view_is
+    (none_absorbed (IsMember c.self.inside.request) c.args.number stem c.put.new.self c.absorb.new.self put (c.is_stuck.ensures c.if-is_stuck.true))
+
+pub returns-clause-alive : goal.returns-clause-alive
+returns-clause-alive c =
+    let old : Descending = record { request = c.self.inside.request; stem = c.self.inside.stem; shares = c.self.inside.shares; levels = c.self.inside.levels } in
+    let new : Descending = record old { stem = c.absorb.new.self; levels = c.push.new.self } in
+    let told = c.if-not-put.ensures in
+    let put : IsPut c.args.number old.stem c.put.new.self c.absorb.new.self = record { size = told.size; longer = told.longer; undone = told.undone; stem = c.absorb.ensures.stem; absorbed = c.absorb.ensures.absorbed } in
+    subst (λ d. HasDescended c.args.number d new) c.self.view_is (has_descended c.args.number old new c.put.new.self refl put)
+
+pub returns-clause-undone : goal.returns-clause-undone
+returns-clause-undone c sides =
+    let old : Descending = record { request = c.self.inside.request; stem = c.self.inside.stem; shares = c.self.inside.shares; levels = c.self.inside.levels } in
+    let level : Level = record { numbers = c.args.numbers; rows = c.args.rows; sides = c.sides.result.now; starts = c.mark-starts.result } in
+    let told = c.if-not-put.ensures in
+    let put : IsPut c.args.number old.stem c.put.new.self c.absorb.new.self = record { size = told.size; longer = told.longer; undone = told.undone; stem = c.absorb.ensures.stem; absorbed = c.absorb.ensures.absorbed } in
+    let is : IsLevelOf old level = record {
+      numbers = c.requires.numbers ∙ ap (λ (d : Descending). length (prefix_of d.stem)) (sym c.self.view_is);
+      rows = c.requires.rows ∙ ap (λ (d : Descending). depth_of d.stem.rows) (sym c.self.view_is);
+      sides = c.sides.ensures;
+    } in
+    let pushed = ap (λ (levels : List Level). shorter (record { request = old.request; stem = c.absorb.new.self; shares = with_sides old.shares sides; levels = levels })) c.push.ensures in
+    pushed ∙ goes_back c.args.number old c.put.new.self c.absorb.new.self level put is sides ∙ c.self.view_is
+
+pub returns-clause-descent : goal.returns-clause-descent
+returns-clause-descent c =
+    let old : Descending = record { request = c.self.inside.request; stem = c.self.inside.stem; shares = c.self.inside.shares; levels = c.self.inside.levels } in
+    let is : IsDescent old = subst IsDescent (sym c.self.view_is) c.requires.descent in
+    let level : Level = record { numbers = c.args.numbers; rows = c.args.rows; sides = c.sides.result.now; starts = c.mark-starts.result } in
+    let told = c.if-not-put.ensures in
+    let put : IsPut c.args.number old.stem c.put.new.self c.absorb.new.self = record { size = told.size; longer = told.longer; undone = told.undone; stem = c.absorb.ensures.stem; absorbed = c.absorb.ensures.absorbed } in
+    let count : length c.push.new.self ≡ length old.levels + 1 = ap length c.push.ensures ∙ length-append old.levels (level ∷ []) in
+    put_descent c.args.number old c.put.new.self c.absorb.new.self c.push.new.self is put (omega arith)

@@ -11,7 +11,7 @@ returns-then-not-reach c =
     let q = c.args.self.now.request in
     let job = c.args.job.now in
     subst (AreExtensions q job) (sym c.new-jobs.ensures.items)
-    (extensions_dead q job (dead_job q job c.new-descent.result c.as_slice.result.now c.new-descent.ensures.request c.new-descent.ensures.size c.as_slice.ensures c.if-not-reach.ensures.dead))
+    (extensions_dead q job (dead_job q job c.in_ok-descent.descent c.as_slice.result.now c.in_ok-descent.ensures.request c.in_ok-descent.ensures.size c.as_slice.ensures c.if-not-reach.ensures.dead))
 
 pub loop-k-init : goal.loop-k-init
 loop-k-init c =
@@ -20,7 +20,7 @@ loop-k-init c =
     let told = c.if-not-reach.ensures in
     record {
       jobs = subst (AreExtensionsBelow q job 1) (sym c.new-jobs.ensures.items) (extensions_first q job c.requires.shorter);
-      reached = record { is = told.descent; request = told.request ∙ c.new-descent.ensures.request; size = told.size ∙ c.new-descent.ensures.size; prefix = told.prefix ∙ c.as_slice.ensures };
+      reached = record { is = told.descent; request = told.request ∙ c.in_ok-descent.ensures.request; size = told.size ∙ c.in_ok-descent.ensures.size; prefix = told.prefix ∙ c.as_slice.ensures };
     }
 
 pub loop-k-preserved : goal.loop-k-preserved

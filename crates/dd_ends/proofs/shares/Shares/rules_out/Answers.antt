@@ -1,0 +1,29 @@
+use Rattle.std.proofs.Common.{◌+◌, ◌*◌, ◌<◌, subst}
+use Rattle.dd_model.specs.declared.pair.Pair.TheVariants.{Tile, Vertex}
+use Rattle.dd_invol.specs.Rows.{partial_of}
+use Rattle.dd_shares.specs.Shares.{IsTotal}
+use Rattle.dd_shares.specs.Units.{share_unit}
+use Rattle.dd_shares.proofs.Bounds.{too_small}
+use Rattle.dd_ends.proofs.SumLemmas.{total_small}
+use Rattle.dd_ends.proofs.shares.Shares.rules_out.Goals as goal
+
+pub may_exceed-requires-clause-tiles : goal.may_exceed-requires-clause-tiles
+may_exceed-requires-clause-tiles c =
+    let shares = c.args.self.now in
+    total_small shares.classes.tiles (partial_of c.args.table.now) shares.sides.tiles c.requires.kept.tiles c.requires.ready.small
+
+pub may_exceed-requires-clause-vertices : goal.may_exceed-requires-clause-vertices
+may_exceed-requires-clause-vertices c =
+    let shares = c.args.self.now in
+    total_small shares.classes.vertices (partial_of c.args.table.now) shares.sides.vertices c.requires.kept.vertices c.requires.ready.small
+
+pub returns : goal.returns
+returns c small s sought =
+    let t = c.args.self.now.classes in
+    let P = partial_of c.args.table.now in
+    let A = c.limited-tiles.result in
+    let B = c.limited-vertices.result in
+    too_small t.request P share_unit A B
+    (subst (λ q. IsTotal q P Tile share_unit A) t.tiles_asked (subst (λ p. IsTotal t.tiles.request P p share_unit A) t.tiles_pair c.limited-tiles.ensures.total))
+    (subst (λ q. IsTotal q P Vertex share_unit B) t.vertices_asked (subst (λ p. IsTotal t.vertices.request P p share_unit B) t.vertices_pair c.limited-vertices.ensures.total))
+    (subst (λ n. 2 * (A + B) < n * share_unit) c.size-2.ensures (c.is_too_small.ensures small)) s sought

@@ -1,0 +1,38 @@
+use Rattle.std.proofs.Common.{◌≡◌, ◌*◌, length-set, set, true, get_or, refl, sym, ap, ◌∙◌, subst, arith}
+use Rattle.dd_ends.specs.Passing.{AreEndsOf}
+use Rattle.dd_ends.specs.Sides.{class_weight}
+use Rattle.dd_ends.proofs.PassingTables.{chambers_alone}
+use Rattle.dd_ends.proofs.StartLemmas.{IsOwn, alone_of_own, own_more, own_none}
+use Rattle.dd_ends.proofs.WriteLemmas.{view}
+use Rattle.dd_ends.proofs.side.Side.start.Goals as goal
+
+pub loop-k-init : goal.loop-k-init
+loop-k-init c = record { whole = refl; own = own_none c.args.shares.now c.none-ends.result 74 c.none-ends.ensures }
+
+pub loop-k-preserved : goal.loop-k-preserved
+loop-k-preserved c =
+    let xs = c.loop-k.ends in
+    let i = c.loop-k.invariant in
+    let test = c.loop-k-test.true in
+    let size = c.requires in
+    let first = c.from.ensures in
+    let second = c.from-in-loop-k.ensures in record {
+      whole = length-set (set xs c.from.result _) c.from-in-loop-k.result _ ∙ length-set xs c.from.result _ ∙ i.whole;
+      own = own_more c.args.shares.now xs c.loop-k.k c.from.result c.from-in-loop-k.result _ _ i.whole (omega (arith, test, size)) first second
+          (sym second) c.of-class.ensures (sym first) c.of-class.ensures i.own;
+    }
+
+pub returns : goal.returns
+returns c P same =
+    let t = c.args.shares.now in
+    let v = get_or t.open_paths 1 0 in
+    let done = c.loop-k-test.false in
+    let end = c.loop-k.auto.k-end in
+    let all : c.loop-k.k ≡ P.size = omega (arith, done, end, same) in
+    let ends = view t c.loop-k.ends in
+    let weight : c.weight.result ≡ class_weight t 1 = c.weight.ensures ∙ ap (class_weight t) c.of-class.ensures in
+    let one : class_weight t 1 ≡ v = omega arith in
+    let total : c.from-2.result * c.weight.result ≡ P.size * v = ap (λ n. n * c.weight.result) (c.from-2.ensures ∙ sym same) ∙ ap (λ w. P.size * w) (weight ∙ one) in
+    subst (AreEndsOf t.request P (λ _. true) t.pair ends) (sym total)
+    (chambers_alone t.request P (λ _. true) t.pair ends v (t.are_open.each 1 (omega arith) (omega arith))
+    (λ x live. alone_of_own t P.size ends x (subst (λ k. IsOwn t k ends x) all (c.loop-k.invariant.own x live))))

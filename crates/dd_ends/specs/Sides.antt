@@ -1,0 +1,54 @@
+-- The ends of the paths of a pair as they are kept.
+use Rattle.std.specs.Prelude.{◌≡◌, ℕ, ◌⊎◌, ◌*◌, ◌/◌, ◌%◌, ◌≤◌, Bool, true, leb, get_or, slice_get}
+use Rattle.std.specs.declared.option.Option.{Option}
+use Rattle.std.specs.declared.option.Option.TheVariants.{None, Some}
+use Rattle.dd_model.specs.declared.index.Index.{Index}
+use Rattle.dd_model.specs.declared.pair.Pair.{Pair}
+use Rattle.dd_model.specs.Symbol.{Symbol, first, second, op}
+use Rattle.dd_ends.specs.Passing.{AreEndsOf}
+use Rattle.dd_ends.specs.PathEnd.{PathEnd}
+use Rattle.dd_ends.specs.declared.class_shares.ClassShares.{ClassShares}
+use Rattle.dd_ends.specs.declared.end.End.{End}
+use Rattle.dd_ends.specs.declared.side.Side.{Side}
+
+-- an end of a path of a class, with the other one
+abbrev pub path_end : ClassShares → ℕ → ℕ → PathEnd
+path_end t other class = record { other = other; chambers = class % 64; is_capped = leb 64 class; share = get_or t.open_paths class 0 }
+
+-- what the chambers of a path of a class have together
+abbrev pub class_weight : ClassShares → ℕ → ℕ
+class_weight t class = class % 64 * get_or t.open_paths class 0
+
+-- what stands at a flag
+abbrev pub end_of : ClassShares → Option End → PathEnd
+end_of t None = path_end t 0 0
+end_of t (Some e) = path_end t e.other e.class.number
+
+-- the ends of all paths
+abbrev pub ends_of : ClassShares → Side → ℕ → PathEnd
+ends_of t side x = end_of t (slice_get side.ends x)
+
+-- the ends of the paths of a pair in all completions of a partial table that pass a test, and the sum of all shares
+abbrev pub IsSideOf : ClassShares → Symbol → (Symbol → Bool) → Side → Type 0
+IsSideOf t partial test side = AreEndsOf t.request partial test t.pair (ends_of t side) side.total
+
+-- the same in all completions
+abbrev pub IsSide : ClassShares → Symbol → Side → Type 0
+IsSide t partial side = IsSideOf t partial (λ _. true) side
+
+-- the same in all completions of some table that is not too large
+pub record IsSideOfSome (t : ClassShares) (side : Side) : Type 0 where
+  pub partial : Symbol
+  pub small : partial.size ≤ 36
+  pub kept : IsSide t partial side
+
+-- a sum of shares of all chambers in the completions that pass a test
+pub record IsSumOf (t : ClassShares) (partial : Symbol) (test : Symbol → Bool) (total : ℕ) : Type 0 where
+  pub ends : ℕ → PathEnd
+  pub are : AreEndsOf t.request partial test t.pair ends total
+
+-- In all of some tables an involution of the pair leads from the chamber of a flag to that of another.
+pub record IsJoin (C : Symbol → Type 0) (p : Pair) (x y : ℕ) : Type 0 where
+  pub letter : Index
+  pub of_pair : (letter ≡ first p) ⊎ (letter ≡ second p)
+  pub leads : (s : Symbol) → C s → op s letter (x / 2) ≡ y / 2

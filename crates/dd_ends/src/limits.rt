@@ -1,0 +1,129 @@
+ghost use Rattle.std.specs.Prelude.{◌≡◌, ◌⊎◌, ◌+◌, ◌*◌, ◌≤◌, ◌<◌};
+ghost use Rattle.dd_model.specs.Symbol.{Symbol as Tiling};
+ghost use Rattle.dd_model.specs.Wanted.{AtMost, Wanted};
+ghost use Rattle.dd_model.specs.declared.pair.Pair.TheVariants.{Tile, Vertex};
+ghost use Rattle.dd_invol.specs.Rows.{partial_of, IsReady};
+ghost use Rattle.dd_shares.specs.Shares.{BoundsReciprocals, IsTotal};
+ghost use Rattle.dd_shares.specs.Units.{share_unit};
+ghost use Rattle.dd_ends.specs.Sides.{IsSide};
+
+use crate::class_shares::ClassShares;
+use crate::side::Side;
+use dd_invol::Rows;
+use dd_model::{Pair, Request};
+use dd_shares::{SHARE_UNIT, WholeCell};
+
+/// At most so many cells of a pair are asked for; 0 sets no limit.
+fn limit_of(request: &Request, pair: Pair) -> u32
+    ensures { 1 ≤ result → (s : Tiling) → Wanted request.now s → AtMost s pair result }
+{
+    match pair {
+        Pair::Tile => request.tiles,
+        Pair::Vertex => request.vertices,
+        Pair::Edge => 0,
+    }
+}
+
+/// What a table tells of the cells of a pair: the cells that are whole, how many of them are
+/// chains, their chambers, what they add at most, and how often an involution of the pair is known
+/// to fix a chamber.
+#[derive(Drop)]
+pub(crate) struct Census {
+    cells: u32,
+    chains: u32,
+    chambers: u32,
+    most: u64,
+    fixed: u32,
+}
+
+impl Census {
+    ghost use Rattle.dd_ends.specs.Census.{IsCensus, IsSmall, HasRoom};
+
+    /// What no chambers tell.
+    fn none() -> Census
+        ensures census { (q : Request) (partial : Tiling) (p : Pair)
+            → IsCensus q partial p 0 result }
+        ensures small { IsSmall 0 result }
+    {
+        Census {
+            cells: 0,
+            chains: 0,
+            chambers: 0,
+            most: 0,
+            fixed: 0,
+        }
+    }
+
+    /// With what the chamber after k tells, and its cell, where the chamber is the least of a whole
+    /// one.
+    fn add(&mut self, shares: &ClassShares, table: &Rows, k: u8)
+        requires ready { IsReady table.now }
+        requires pair { (shares.now.pair ≡ Tile) ⊎ (shares.now.pair ≡ Vertex) }
+        requires low { k < (partial_of table.now).size }
+        requires small { IsSmall k self.old }
+        ensures census { IsCensus shares.now.request (partial_of table.now) shares.now.pair k self.old
+            → IsCensus shares.now.request (partial_of table.now) shares.now.pair (k + 1) self.new }
+        ensures small { IsSmall (k + 1) self.new }
+    {
+        let chamber = k + 1;
+        let beside = table.known(shares.pair.first(), chamber);
+        let across = table.known(shares.pair.second(), chamber);
+        self.fixed += u32::from(beside == chamber) + u32::from(across == chamber);
+        if beside < chamber || across < chamber {
+            return;
+        }
+        let Some(cell) = WholeCell::from(table, shares.pair, chamber, chamber) else {
+            return;
+        };
+        let chambers = cell.chambers();
+        self.cells += 1;
+        self.chains += cell.chains();
+        self.chambers += u32::from(chambers);
+        self.most += u64::from(chambers) * shares.whole(cell.turns);
+    }
+
+    /// What all cells add at most, where there are no more than a limit.
+    fn bound(&self, limit: u32, size: u8) -> u64
+        requires small { IsSmall 36 self.now }
+        requires limit { limit ≤ 36 }
+        ensures { (s : Tiling) (p : Pair) → s.size ≡ size → HasRoom s p self.now limit
+            → BoundsReciprocals s p result }
+    {
+        if self.cells > limit {
+            return 0;
+        }
+        let left = limit - self.cells;
+        if left == 0 && self.chambers < u32::from(size) {
+            return 0;
+        }
+        let chains = (self.fixed + 1) / 2;
+        if chains > self.chains + left {
+            return 0;
+        }
+        self.most + u64::from(self.chains + 2 * left - chains) * SHARE_UNIT
+    }
+}
+
+impl Side {
+    /// The total of a pair, or less where a request sets a limit: whole cells add what they add, a
+    /// further chain at most SHARE_UNIT, and a further cycle at most twice that.
+    pub(crate) fn limited(&self, shares: &ClassShares, table: &Rows) -> u64
+        requires ready { IsReady table.now }
+        requires pair { (shares.now.pair ≡ Tile) ⊎ (shares.now.pair ≡ Vertex) }
+        requires kept { IsSide shares.now (partial_of table.now) self.now }
+        ensures total { IsTotal shares.now.request (partial_of table.now) shares.now.pair share_unit
+            result }
+        ensures small { result ≤ 36 * share_unit }
+    {
+        let limit = limit_of(&shares.request, shares.pair);
+        if limit == 0 || limit > 36 {
+            return self.total;
+        }
+        let mut census = Census::none();
+        for k in 0..table.size() {
+            census.add(shares, table, k);
+        }
+        let total = census.bound(limit, table.size());
+        total.min(self.total)
+    }
+}
