@@ -68,7 +68,7 @@ written q held valid p =
 -- a checkpoint text that is held is the one that was put
 same_check : (q : Request) (held : Option (List ℕ)) (c : Checkpoint) → IsValid q → (p : HoldsPut q held) → Holds held c → p.check ≡ c
 same_check q held c valid p is =
-    let accepted : IsCheckpointText p.text c = subst (λ t. IsCheckpointText t c) (same_text is.text p.text (sym is.held_is ∙ p.held_is)) is.accepted in
+    let accepted : IsCheckpointText p.text c = subst (λ t. IsCheckpointText t c) (some_injective is.text p.text (sym is.held_is ∙ p.held_is)) is.accepted in
     ⊎_elim
     (λ own. one_checkpoint p.text p.check c own accepted)
     (λ never. absurd (never c accepted))
