@@ -204,23 +204,38 @@ fn count_nodes(stem: &mut Stem, visit: &mut Visit, shares: &mut Shares, mark: us
     count
 }
 
-/// How many numbers a search for a size puts in.
-fn nodes_of(tiles: u32, size: u8) -> u64
-    requires { (1 ≤ size) × (size ≤ 36) }
+/// How many numbers a search for a size puts in, where degrees are asked for from a least one on.
+fn nodes_of(tiles: u32, least: u32, size: u8) -> u64
+    requires least { (1 ≤ least) × (least ≤ 36) }
+    requires size { (1 ≤ size) × (size ≤ 36) }
 {
     let mut stem = Stem::new(size);
     let mut visit = Visit::new();
-    let mut shares = Shares::start(&PathShares::of(&asked(tiles, 3)), size);
+    let mut shares = Shares::start(&PathShares::of(&asked(tiles, least)), size);
     count_nodes(&mut stem, &mut visit, &mut shares, 0)
+}
+
+/// How many it puts in for all sizes up to one.
+fn nodes_up_to(tiles: u32, least: u32, size: u8) -> u64
+    requires least { (1 ≤ least) × (least ≤ 36) }
+    requires size { size ≤ 36 }
+{
+    let mut count = 0u64;
+    for k in 0..size {
+        count = count.saturating_add(nodes_of(tiles, least, k + 1));
+    }
+    count
 }
 
 #[test]
 fn a_search_turns_back_in_time(rt: HostRuntime) -> Result<(), Fail> {
-    assert_eq!(rt; nodes_of(0, 6), 296);
-    assert_eq!(rt; nodes_of(0, 8), 999);
-    assert_eq!(rt; nodes_of(0, 10), 3019);
-    assert_eq!(rt; nodes_of(1, 12), 121);
-    assert_eq!(rt; nodes_of(2, 10), 1285);
-    assert_eq!(rt; nodes_of(1, 13), 0);
+    assert_eq!(rt; nodes_of(0, 3, 6), 296);
+    assert_eq!(rt; nodes_of(0, 3, 8), 999);
+    assert_eq!(rt; nodes_of(0, 3, 10), 3019);
+    assert_eq!(rt; nodes_of(0, 3, 12), 9716);
+    assert_eq!(rt; nodes_of(1, 3, 12), 121);
+    assert_eq!(rt; nodes_of(1, 3, 13), 0);
+    assert_eq!(rt; nodes_up_to(2, 3, 12), 5820);
+    assert_eq!(rt; nodes_up_to(0, 1, 9), 4784);
     Ok(())
 }

@@ -14,6 +14,6 @@ rules_out-requires-clause-kept c =
     let start = c.start-shares.result in
     let classes : c.put-capped.new.shares.classes ≡ start.classes =
     c.put-capped.ensures.classes ∙ c.put-four.ensures.classes ∙ c.put-three.ensures.classes ∙ c.put-two.ensures.classes ∙ c.put-one.ensures.classes in
-    let back : c.put_back.new.self ≡ start = c.put_back.ensures ∙ (λ i. record { classes = classes i; sides = c.sides-sides.ensures i }) in
+    let back : c.put_back.new.self ≡ start = c.put_back.ensures ∙ (λ i. record { classes = classes i; sides = c.sides.ensures i }) in
     let none = c.empty-empty in
     subst (AreKept (partial_of none.result)) (sym back) (c.start-shares.ensures.kept (partial_of none.result) none.ensures.size)
