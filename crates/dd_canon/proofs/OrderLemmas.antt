@@ -20,11 +20,6 @@ drop_step xs ys k x y hx hy is it =
     ∙ ap (λ z. ordering_then (nat_cmp z (get_or ys k 0)) (slice_cmp nat_cmp (drop (k + 1) xs) (drop (k + 1) ys))) here
     ∙ ap (λ z. ordering_then (nat_cmp x z) (slice_cmp nat_cmp (drop (k + 1) xs) (drop (k + 1) ys))) there
 
-pub then_first : (a b : Ordering) → is_ne a ≡ true → a ≡ ordering_then a b
-then_first Less b e = refl
-then_first Equal b e = cc
-then_first Greater b e = refl
-
 pub then_second : (a b : Ordering) → is_ne a ≡ false → ordering_then a b ≡ b
 then_second Less b e = cc
 then_second Equal b e = refl
@@ -39,11 +34,6 @@ pub less_of : (o : Ordering) → is_lt o ≡ true → o ≡ Less
 less_of Less e = refl
 less_of Equal e = cc
 less_of Greater e = cc
-
-pub equal_of : (o : Ordering) → is_ne o ≡ false → o ≡ Equal
-equal_of Less e = cc
-equal_of Equal e = refl
-equal_of Greater e = cc
 
 pub less_not_greater : (o : Ordering) → is_lt o ≡ true → o ≢ Greater
 less_not_greater Less e g = cc

@@ -17,8 +17,8 @@ use Rattle.dd_model.proofs.Exchanges.{length-table, item-table}
 use Rattle.dd_model.proofs.Transport.{degree-along}
 use Rattle.dd_canon.proofs.Traversals.{numbers_undone, extends_itself}
 use Rattle.dd_canon.specs.Standing.{IsStanding, IsOngoing, IsWhole, degree_list}
-use Rattle.dd_model.proofs.Orders.{compared_in_parts}
-use Rattle.dd_canon.proofs.OrderLemmas.{drop_step, then_first}
+use Rattle.dd_model.proofs.Orders.{compared_in_parts, then_first}
+use Rattle.dd_canon.proofs.OrderLemmas.{drop_step}
 
 pub length-degree_list : (s : Symbol) (p : Pair) → length (degree_list s p) ≡ s.size
 length-degree_list s p = length-table (degree s p) s.size

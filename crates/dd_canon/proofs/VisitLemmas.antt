@@ -9,7 +9,7 @@ use Rattle.dd_model.specs.Symbol.{Symbol, AreInvolutions, item, op}
 use Rattle.dd_model.specs.FirstVisit.{rows}
 use Rattle.dd_canon.specs.Traversal.{IsVisit, IsTraversal}
 use Rattle.dd_canon.proofs.Traversals.{still_numbered, advance, close, falls_behind, begin}
-use Rattle.dd_canon.specs.Standing.{IsStep, IsStanding, IsOngoing}
+use Rattle.dd_canon.specs.Standing.{IsMetAndCompared, IsStep, IsStanding, IsOngoing}
 use Rattle.dd_canon.proofs.OrderLemmas.{greater_of}
 
 pub begun : (s b : Symbol) (start : ℕ) (order number : List ℕ) → b.size ≡ s.size → order ≡ start ∷ [] → IsVisit s.size order number
@@ -46,6 +46,13 @@ last_row s b start order number k o tr last first =
     let none : s.size - k ≡ 0 = omega arith in
     let done : IsTraversal s b order number (k + 1) (λ u. []) o = subst (λ n. IsTraversal s b order number (k + 1) (λ u. rows u (k + 1) n) o) none tr in
     inr (subst (λ j. IsTraversal s b order number (j + 1) (λ u. []) o) last done, first)
+
+-- the image of a chamber that was read before, beside that of the form
+pub image_met : (s b : Symbol) (i : Index) (k d x y : ℕ) (so_far : Ordering) (order order' number' : List ℕ) (o : Ordering) → x ≡ op s i d → d ≡ item order k → y ≡ op b i k
+    → IsMetAndCompared x y so_far order order' number' o → IsStep s b i k so_far order order' number' o
+image_met s b i k d x y so_far order order' number' o image there own met =
+    subst (λ z. IsMetAndCompared z (op b i k) so_far order order' number' o) (image ∙ ap (op s i) there)
+    (subst (λ z. IsMetAndCompared x z so_far order order' number' o) own met)
 
 -- one image more
 pub step_on : (s b : Symbol) (order number order' number' : List ℕ) (k : ℕ) (i : Index) (rest : Symbol → List ℕ) (so_far o : Ordering) → AreInvolutions s

@@ -22,11 +22,15 @@ pub record IsReady (s : Symbol) (v : Visit) : Type 0 where
   pub visit : IsVisit s.size v.order.items v.number.items
   pub room : s.size ≤ vec_capacity v.order
 
--- one image is met and compared
-pub record IsStep (s b : Symbol) (i : Index) (k : ℕ) (so_far : Ordering) (order order' number' : List ℕ) (o : Ordering) : Type 0 where
+-- a chamber is met, and its number compared with another one after what stands before it
+pub record IsMetAndCompared (image own : ℕ) (so_far : Ordering) (order order' number' : List ℕ) (o : Ordering) : Type 0 where
   pub number : ℕ
-  pub meeting : IsMeeting order order' number' (op s i (item order k)) number
-  pub verdict : o ≡ ordering_then so_far (nat_cmp number (op b i k))
+  pub meeting : IsMeeting order order' number' image number
+  pub verdict : o ≡ ordering_then so_far (nat_cmp number own)
+
+-- the image of chamber k of an order is met, and compared with that of chamber k
+abbrev pub IsStep : Symbol → Symbol → Index → ℕ → Ordering → List ℕ → List ℕ → List ℕ → Ordering → Type 0
+IsStep s b i k so_far order order' number' o = IsMetAndCompared (op s i (item order k)) (op b i k) so_far order order' number' o
 
 -- the numbering by first visits from the start stands to b as o says
 pub record IsStanding (s b : Symbol) (start : ℕ) (o : Ordering) : Type 0 where

@@ -7,7 +7,7 @@ ghost use Rattle.dd_model.specs.FirstVisit.{rows};
 ghost use Rattle.dd_canon.specs.Traversal.{IsVisit, IsMeeting, IsExtension, IsTraversal};
 
 use crate::steps::Steps;
-use dd_model::{Index, Memory, Pair};
+use dd_model::{Memory, Pair};
 use dd_symbol::{Connected, Symbol};
 use std::alloc::Global;
 use std::cmp::Ordering;
@@ -22,7 +22,7 @@ pub(crate) struct Visit {
 }
 
 impl Visit {
-    ghost use Rattle.dd_canon.specs.Standing.{IsReady, IsStep, IsStanding, IsOngoing, IsWhole, degree_list};
+    ghost use Rattle.dd_canon.specs.Standing.{IsReady, IsMetAndCompared, IsStanding, IsOngoing, IsWhole, degree_list};
 
     /// Room for the chambers of a symbol, of which none has a number.
     pub(crate) fn new(alloc: Global, s: &Connected) -> Result<Visit, Memory>
@@ -88,29 +88,24 @@ impl Visit {
         self.add(s, chamber)
     }
 
-    /// The number of an image, compared after what stands before it.
+    /// The number of an image, compared with another number after what stands before it.
     fn step<L: Ledger>(
         &mut self,
         s: &Connected,
-        form: &Symbol,
-        i: Index,
-        k: u32,
+        image: u32,
+        own: u32,
         so_far: Ordering,
         steps: &mut Steps<L>,
     ) -> Ordering
         requires ready { IsReady s.now self.old }
-        requires low { 1 ≤ k }
-        requires high { k ≤ length self.old.order.items }
-        requires chamber { IsChamber form.now k }
+        requires image { IsChamber s.now image }
         ensures ready { IsReady s.now self.new }
-        ensures step { IsStep s.now form.now i k so_far
+        ensures step { IsMetAndCompared image own so_far
             self.old.order.items self.new.order.items self.new.number.items result }
         ensures count { steps.new ≡ steps.old + 1 }
     {
-        let image = s.symbol().op(i, self.chamber(k));
         let number = self.meet(s, image);
-        let own = steps.compare(number, form.op(i, k));
-        so_far.then(own)
+        so_far.then(steps.compare(number, own))
     }
 
     /// The three images of the chamber with number k, as long as they do not fall behind.
@@ -135,15 +130,17 @@ impl Visit {
             (λ u. rows u (k + 1) (s.now.size - k)) result }
         ensures count { steps.new ≤ steps.old + 3 }
     {
-        let zero = self.step(s, form, Index::Zero, k, so_far, steps);
+        let images = s.symbol().images(self.chamber(k));
+        let own = form.images(k);
+        let zero = self.step(s, images[0], own[0], so_far, steps);
         if zero.is_gt() {
             return zero;
         }
-        let one = self.step(s, form, Index::One, k, zero, steps);
+        let one = self.step(s, images[1], own[1], zero, steps);
         if one.is_gt() {
             return one;
         }
-        self.step(s, form, Index::Two, k, one, steps)
+        self.step(s, images[2], own[2], one, steps)
     }
 
     /// The rows of all chambers, as long as they do not fall behind.

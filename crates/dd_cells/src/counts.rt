@@ -10,7 +10,7 @@ use dd_symbol::{Connected, Symbol};
 
 /// A smaller chamber of the cell of a chamber; None where that is the least of its cell. The walk through the cell ends at
 /// a smaller chamber.
-pub fn smaller_in_cell(symbol: &Symbol, pair: Pair, chamber: u32) -> Option<u32>
+fn smaller_in_cell(symbol: &Symbol, pair: Pair, chamber: u32) -> Option<u32>
     requires { IsChamber symbol.now chamber }
     ensures { MatchOption result (IsLeastOfCell symbol.now pair chamber)
         (λ smaller. IsSmallerInCell symbol.now pair chamber smaller) }

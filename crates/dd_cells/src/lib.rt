@@ -13,7 +13,7 @@ mod orientations;
 
 pub use cell::Cell;
 pub use colorings::orientation;
-pub use counts::{count, euler, has_at_most, smaller_in_cell};
+pub use counts::{count, euler, has_at_most};
 pub use curvatures::{COMMON_MULTIPLE, curvature, is_flat};
 pub use fractions::Fraction;
 pub use laws::{

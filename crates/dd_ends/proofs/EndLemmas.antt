@@ -7,7 +7,7 @@ use Rattle.dd_model.specs.declared.requests.Request.{Request}
 use Rattle.dd_model.specs.Symbol.{Symbol, IsSymbol, IsChamber, degree}
 use Rattle.dd_model.specs.Code.{count_from}
 use Rattle.dd_model.specs.Cell.{InCell, IsChain}
-use Rattle.dd_model.proofs.Branching.{degree_same}
+use Rattle.dd_model.proofs.Branching.{degree-along_cell}
 use Rattle.dd_model.proofs.CellWalks.{in_cell-refl, in_cell-trans}
 use Rattle.dd_invol.specs.Distinct.{AreDistinct}
 use Rattle.dd_invol.proofs.Orders.{distinct-count_from}
@@ -41,9 +41,6 @@ inside_whole n s size d h = (h.0, let high = h.1 in omega (arith, high, size))
 
 pub chain-along : (s : Symbol) → (p : Pair) (d e : ℕ) → InCell s p e d → IsChain s p d → IsChain s p e
 chain-along s p d e there chain = record { chamber = chain.chamber; in_cell = in_cell-trans s p e d chain.chamber there chain.in_cell; fixed = chain.fixed }
-
-pub degree-along : (s : Symbol) → IsSymbol s → (p : Pair) (d e : ℕ) → IsChamber s d → InCell s p d e → degree s p e ≡ degree s p d
-degree-along s is p d e h near = ap (degree s p) (sym near.leads) ∙ degree_same s is p near.word d h near.letters
 
 halved : (k m : ℕ) → k ≤ 2 * m → (k + 1) / 2 ≤ m
 halved k m h = grind arith
@@ -92,7 +89,7 @@ ends_renewed q C n p old new total more x v full are live right low sum each =
           (λ same.
           let here = reshare_same are.shared a v (label d) same in
           let near = are.joined (x / 2) d own.inside h (sym same) s sought.1 in
-          let deg = degree-along s sought.0.symbol p (x / 2) d (inside_whole n s (full s sought.1).1 (x / 2) own.inside) near in
+          let deg = degree-along_cell s sought.0.symbol p (x / 2) d (inside_whole n s (full s sought.1).1 (x / 2) own.inside) near in
           subst (λ g. share_unit ≤ g * degree s p d) (sym here) (subst (λ m. share_unit ≤ v * m) (sym deg) (right s sought)))
           (λ away. subst (λ g. share_unit ≤ g * degree s p d) (sym (reshare_other are.shared a v (label d) away)) (are.shares d h s sought))
           (cases_eq (label d) a);

@@ -15,7 +15,8 @@ use Rattle.dd_shares.specs.Shares.{IsAllowed}
 use Rattle.dd_shares.specs.Units.{share_unit}
 use Rattle.dd_ends.specs.PathEnd.{PathEnd}
 use Rattle.dd_shares.proofs.Bounds.{wanted_allowed}
-use Rattle.dd_ends.proofs.EndLemmas.{inside_whole, chain-along, degree-along, label_degree, label_degree_of_chain}
+use Rattle.dd_model.proofs.Branching.{degree-along_cell}
+use Rattle.dd_ends.proofs.EndLemmas.{inside_whole, chain-along, label_degree, label_degree_of_chain}
 use Rattle.dd_ends.proofs.LabelLemmas.{label_along, relabel_same, relabel_other, reshare_same, reshare_other, count_joined, count_stays, sum_joined}
 
 module _ (q : Request) (C : Symbol → Type 0) (n : ℕ) (p : Pair) (full : AreTables C n) (old new : ℕ → PathEnd) (total x y : ℕ) (are : ArePathEnds q C n p old total)
@@ -113,7 +114,7 @@ module _ (q : Request) (C : Symbol → Type 0) (n : ℕ) (p : Pair) (full : AreT
       shares = λ d h s sought. ⊎_elim
           (λ same.
           let hx = inside_whole n s (full s sought.1).1 (x / 2) (are.each x live).inside in
-          let deg = degree-along s sought.0.symbol p (x / 2) d hx (near_x d h same s sought.1) in
+          let deg = degree-along_cell s sought.0.symbol p (x / 2) d hx (near_x d h same s sought.1) in
           let up = bound s sought in
           subst (λ g. share_unit ≤ g * degree s p d) (sym (reshare_same are.shared a v (after d) same)) (subst (λ m. share_unit ≤ v * m) (sym deg) up))
           (λ away.

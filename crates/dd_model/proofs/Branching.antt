@@ -38,6 +38,9 @@ degree_same s is p (i ∷ w) d h letters =
     (λ e. ap (λ j. degree s p (op s j d)) e ∙ has.along_second)
     letters.0
 
+pub degree-along_cell : (s : Symbol) → IsSymbol s → (p : Pair) (d e : ℕ) → IsChamber s d → InCell s p d e → degree s p e ≡ degree s p d
+degree-along_cell s is p d e h there = ap (degree s p) (sym there.leads) ∙ degree_same s is p there.word d h there.letters
+
 -- chambers of one cell have one least number of turns
 pub turns-along : (s : Symbol) → AreInvolutions s → (p : Pair) (d e r : ℕ) → IsChamber s d → InCell s p d e → IsLeastTurns s p d r → IsLeastTurns s p e r
 turns-along s inv p d e r h there turns = record {

@@ -1,10 +1,10 @@
 -- The orders of numbers, of lists of numbers and of symbols: nothing is below itself.
-use Rattle.std.proofs.Common.{◌≡◌, ℕ, ◌<◌, List, [], ◌∷◌, ◌++◌, length, refl, sym, ap, ◌∙◌, subst, ⊎_elim, arith}
+use Rattle.std.proofs.Common.{◌≡◌, ℕ, true, false, ◌<◌, List, [], ◌∷◌, ◌++◌, length, refl, sym, ap, ◌∙◌, subst, ⊎_elim, arith}
 use Rattle.std.proofs.lemmas.Bool.{cases_lt, cases_eq}
 use Rattle.std.proofs.lemmas.Cmp.{tied_itself}
 use Rattle.std.specs.Cmp.{IsTotalOrder, nat_cmp_is, nat_cmp_total, on_total, then_total}
 use Rattle.std.specs.Cmp.Lexicographic.{slice_cmp, nat_list_cmp_total}
-use Rattle.std.specs.Ordering.{nat_cmp, ordering_then}
+use Rattle.std.specs.Ordering.{nat_cmp, ordering_then, is_ne}
 use Rattle.std.specs.declared.cmp.Ordering.{Ordering}
 use Rattle.std.specs.declared.cmp.Ordering.TheVariants.{Less, Equal, Greater}
 use Rattle.dd_model.specs.Symbol.{Symbol}
@@ -44,6 +44,17 @@ list_not_below_itself = not_less_than_itself (slice_cmp nat_cmp) nat_list_cmp_to
 
 pub list_not_below_both : (xs ys : List ℕ) → slice_cmp nat_cmp xs ys ≡ Less → slice_cmp nat_cmp ys xs ≡ Less → ⊥
 list_not_below_both = not_less_both (slice_cmp nat_cmp) nat_list_cmp_total
+
+-- an order that decides is that of both, and one that does not is equal
+pub then_first : (a b : Ordering) → is_ne a ≡ true → a ≡ ordering_then a b
+then_first Less b e = refl
+then_first Equal b e = cc
+then_first Greater b e = refl
+
+pub equal_of : (o : Ordering) → is_ne o ≡ false → o ≡ Equal
+equal_of Less e = cc
+equal_of Equal e = refl
+equal_of Greater e = cc
 
 -- an order of three parts, however they are grouped
 pub then_assoc : (a b c : Ordering) → ordering_then (ordering_then a b) c ≡ ordering_then a (ordering_then b c)

@@ -4,18 +4,17 @@ use Rattle.std.specs.Result.{IsErrAnd}
 use Rattle.std.specs.Global.{Global}
 use Rattle.std.specs.Prelude.{Vec}
 use Rattle.std.proofs.lemmas.List.{get_or-map}
-use Rattle.dd_model.specs.declared.pair.Pair.{Pair}
 use Rattle.dd_model.specs.declared.pair.Pair.TheVariants.{Edge}
-use Rattle.dd_model.specs.Symbol.{Symbol, IsSymbol, AreInvolutions, IsChamber, op, degree}
+use Rattle.dd_model.specs.Symbol.{Symbol, AreInvolutions, IsChamber, op}
 use Rattle.dd_model.specs.Connected.{IsReached}
-use Rattle.dd_model.specs.Cell.{InCell, turned}
+use Rattle.dd_model.specs.Cell.{turned}
 use Rattle.dd_symbol.specs.Building.{listed, lists, given, IsConnectedSymbol, IsAccepted}
 use Rattle.dd_symbol.specs.Images.{with_degrees}
 use Rattle.dd_symbol.specs.Refusals.{HasSize, IsRowsFault, IsInvolutionsFault, IsFault, IsRefused}
 use Rattle.dd_symbol.specs.declared.refusals.Refusal.{Refusal}
 use Rattle.dd_symbol.specs.declared.refusals.Refusal.TheVariants.{Empty, TooManyChambers, OpRange, NotInvolution, NotCommuting, NotConnected, DegreeZero, DegreeVaries, NotMultiple, BranchingTooLarge, Memory}
 use Rattle.dd_symbol.proofs.DegreeLemmas.{multiple-from_turns}
-use Rattle.dd_model.proofs.Branching.{degree_same}
+use Rattle.dd_model.proofs.Branching.{degree-along_cell}
 use Rattle.dd_model.specs.declared.index.Index.{Index}
 use Rattle.dd_model.proofs.AllIndices.{index_at_place}
 use Rattle.dd_model.specs.declared.index.Index.TheVariants.{Zero, One, Two}
@@ -39,7 +38,7 @@ within-same s t h i within d c =
 involutive-same : (s t : Symbol) → HaveSameInvolutions s t → (i : Index) → IsInvolutive s i → IsInvolutive t i
 involutive-same s t h i is d c = twice-same s t h i d ∙ is d (chamber-same s t h d c)
 
-pub commuting-same : (s t : Symbol) → HaveSameInvolutions s t → AtAll s (Commutes s) → AtAll t (Commutes t)
+commuting-same : (s t : Symbol) → HaveSameInvolutions s t → AtAll s (Commutes s) → AtAll t (Commutes t)
 commuting-same s t h all d c = turned-same s t h Edge 2 d ∙ all d (chamber-same s t h d c)
 
 index_all : (P Q : Index → Type 0) → ((i : Index) → P i → Q i) → (i : Index) → IndexBefore P i → IndexBefore Q i
@@ -135,10 +134,6 @@ fault_of_involutions s t h (DegreeVaries p d) fault = absurd fault
 fault_of_involutions s t h (NotMultiple p d r m) fault = absurd fault
 fault_of_involutions s t h (BranchingTooLarge p d v) fault = absurd fault
 fault_of_involutions s t h Memory fault = tt
-
--- a symbol has one degree on each cell
-degree-along_cell : (s : Symbol) → IsSymbol s → (p : Pair) (d e : ℕ) → IsChamber s d → InCell s p d e → degree s p e ≡ degree s p d
-degree-along_cell s is p d e h there = ap (degree s p) (sym there.leads) ∙ degree_same s is p there.word d h there.letters
 
 -- lists with a fault are no connected symbol
 pub no_symbol : (s : Symbol) (why : Refusal) → IsFault s why → why ≢ Memory → IsConnectedSymbol s → ⊥

@@ -11,8 +11,8 @@ use Rattle.dd_model.proofs.Transport.{HaveLengths, IsSymbol-along, degree-along,
 use Rattle.dd_model.specs.Small.{IsSmallSymbol}
 use Rattle.dd_symbol.specs.Maps.{AreInverse, IsCarried}
 use Rattle.dd_symbol.specs.Rows.{HasRows}
-use Rattle.dd_symbol.specs.Images.{of_rows, with_degrees, AreThreeInvolutions}
-use Rattle.dd_symbol.proofs.TableLemmas.{op-rows, three_of_rows}
+use Rattle.dd_symbol.specs.Images.{of_code, with_degrees, AreThreeInvolutions}
+use Rattle.dd_symbol.proofs.TableLemmas.{op-rows, three_of_code}
 
 pub isomorphism : (s t : Symbol) (f g : List ℕ) → AreInvolutions s → AreInverse s.size f g → t.size ≡ s.size
     → ((i : Index) (e : ℕ) → IsChamber s e → op t i e ≡ item f (op s i (item g e)))
@@ -54,7 +54,7 @@ carried_involutions s t f g inv maps is i = record {
   inside d h = maps.right.within d h.0 (old d h).1
 
 -- the rows that a map carries
-pub carried_rows : (s : Symbol) (f g xs : List ℕ) (n : ℕ) → n ≡ s.size → HasRows (λ i e. item f (op s i (item g e))) s.size xs → IsCarried s (of_rows n xs) f g
+pub carried_rows : (s : Symbol) (f g xs : List ℕ) (n : ℕ) → n ≡ s.size → HasRows (λ i e. item f (op s i (item g e))) s.size xs → IsCarried s (of_code n xs) f g
 carried_rows s f g xs n size rows = record {
   size = size;
   images = λ i e h. op-rows (λ j x. item f (op s j (item g x))) n xs (subst (λ k. HasRows (λ j x. item f (op s j (item g x))) k xs) (sym size) rows) i e h.0
@@ -62,20 +62,10 @@ carried_rows s f g xs n size rows = record {
 }
 
 pub three_carried : (s : Symbol) (f g xs : List ℕ) (n : ℕ) → AreThreeInvolutions s → AreInverse s.size f g → n ≡ s.size
-    → HasRows (λ i e. item f (op s i (item g e))) s.size xs → AreThreeInvolutions (of_rows n xs)
+    → HasRows (λ i e. item f (op s i (item g e))) s.size xs → AreThreeInvolutions (of_code n xs)
 three_carried s f g xs n three maps size rows =
-    three_of_rows n xs (let small = three.small in omega arith)
-    (carried_involutions s (of_rows n xs) f g three.involutions maps (carried_rows s f g xs n size rows))
-
-pub carried_with : (s u : Symbol) (f g m01 m12 : List ℕ) → IsCarried s u f g → IsCarried (with_degrees s m01 m12) u f g
-carried_with s u f g m01 m12 is = record {
-  size = is.size;
-  images = λ i e h. elim i as (λ j. op u j e ≡ item f (op (with_degrees s m01 m12) j (item g e))) [
-    | Zero ↦ is.images Zero e h
-    | One ↦ is.images One e h
-    | Two ↦ is.images Two e h
-  ];
-}
+    three_of_code n xs (let small = three.small in omega arith)
+    (carried_involutions s (of_code n xs) f g three.involutions maps (carried_rows s f g xs n size rows))
 
 -- a symbol with the involutions that a map carries, and the degrees in the order of the map back
 pub isomorphism-carried : (s u : Symbol) (f g m01 m12 : List ℕ) → AreInvolutions s → AreInverse s.size f g → IsCarried s u f g

@@ -1,11 +1,11 @@
 -- What is told of cells is the same for symbols with the same involutions.
-use Rattle.std.proofs.Common.{ℕ, List, inl, inr, ⊎_elim, sym, ◌∙◌}
+use Rattle.std.proofs.Common.{ℕ, List, inl, inr, ⊎_elim, ◌∙◌}
 use Rattle.dd_model.specs.declared.pair.Pair.{Pair}
 use Rattle.dd_model.specs.Symbol.{Symbol, first, second}
 use Rattle.dd_model.specs.Cell.{IsChain, IsLeastOfCell, AreCells}
 use Rattle.dd_model.specs.Involutions.{HaveSameInvolutions}
 use Rattle.dd_model.proofs.SameInvolutions.{op-same, same-sym, chamber-same, in_cell-same, least_turns-same}
-use Rattle.dd_symbol.specs.Cells.{IsLeastFor, AreLeast, IsKindOf, IsShapeOf}
+use Rattle.dd_symbol.specs.Cells.{IsLeastFor, IsKindOf, IsShapeOf}
 use Rattle.dd_symbol.specs.declared.kind.Kind.{Kind}
 use Rattle.dd_symbol.specs.declared.kind.Kind.TheVariants.{Cycle, Chain}
 use Rattle.dd_symbol.specs.declared.shapes.CellShape.{CellShape}
@@ -18,12 +18,6 @@ least_of_cell-same s t h p d (c, least) = (
 
 least_for-same : (s t : Symbol) → HaveSameInvolutions s t → (p : Pair) (d l : ℕ) → IsLeastFor s p d l → IsLeastFor t p d l
 least_for-same s t h p d l is = record { in_cell = in_cell-same s t h p d l is.in_cell; is_least = least_of_cell-same s t h p l is.is_least }
-
-pub are_least-same : (s t : Symbol) → HaveSameInvolutions s t → (p : Pair) (least : List ℕ) → AreLeast s p least → AreLeast t p least
-are_least-same s t h p least are = record {
-  whole = are.whole ∙ sym h.size;
-  each = λ d c. least_for-same s t h p d _ (are.each d (chamber-same s t h d c));
-}
 
 pub are_cells-same : (s t : Symbol) → HaveSameInvolutions s t → (p : Pair) (ds : List ℕ) → AreCells s p ds → AreCells t p ds
 are_cells-same s t h p ds are = record {

@@ -1,21 +1,16 @@
 -- Rows and the involutions of them give each other back.
-use Rattle.std.proofs.Common.{◌≡◌, ◌↔◌, Bool, IsTrue, ℕ, zero, suc, ◌+◌, ◌-◌, ◌*◌, ◌<◌, ◌≤◌, List, [], ◌∷◌, ◌++◌, length, get_or, take, drop, refl, sym, ap, ◌∙◌, subst, ⊎_elim, arith}
-use Rattle.std.proofs.lemmas.List.{get_or-map, length-map, take_all, length-append, length_push, drop_more, get_or_append_left, get_or_push}
+use Rattle.std.proofs.Common.{◌≡◌, ℕ, zero, suc, ◌+◌, ◌-◌, ◌*◌, ◌<◌, ◌≤◌, List, [], ◌∷◌, ◌++◌, length, get_or, take, drop, refl, sym, ap, ◌∙◌, subst, ⊎_elim, arith}
+use Rattle.std.proofs.Math.Seq.{drop-append-add}
+use Rattle.std.proofs.lemmas.List.{get_or-map, length-map, take_all, take_at, drop_all, drop_at, take-append-drop, append_assoc, length-take-le, get_or-take, length-append, length_push, drop_more, get_or_append_left, get_or_push}
 use Rattle.std.proofs.lemmas.Bool.{cases_lt}
 use Rattle.std.specs.List.{flat_map}
-use Rattle.std.specs.Ordering.{nat_cmp, ordering_then}
-use Rattle.std.specs.Cmp.Lexicographic.{slice_cmp}
-use Rattle.std.specs.FinMap.{nat_cmp-IsAntisymmetric}
-use Rattle.std.specs.declared.cmp.Ordering.{Ordering}
-use Rattle.std.specs.declared.cmp.Ordering.TheVariants.{Less, Equal, Greater}
 use Rattle.dd_model.specs.declared.index.Index.{Index}
 use Rattle.dd_model.specs.declared.index.Index.TheVariants.{Zero, One, Two}
 use Rattle.dd_model.specs.Symbol.{Symbol, AreInvolutions, IsChamber, item, op, operation}
-use Rattle.dd_model.specs.Code.{count_from, images, all_images, code, code_cmp}
+use Rattle.dd_model.specs.Code.{count_from, images, all_images, code}
 use Rattle.dd_model.proofs.CountFrom.{length-count_from, get_or-count_from}
 use Rattle.dd_model.proofs.Codes.{same_items, length-flat_images}
-use Rattle.dd_model.proofs.Orders.{compared_in_parts}
-use Rattle.dd_symbol.specs.Images.{column, of_rows, with_degrees, AreThreeInvolutions}
+use Rattle.dd_symbol.specs.Images.{column, of_rows, of_code, with_degrees, AreThreeInvolutions}
 use Rattle.dd_symbol.specs.Table.{symbol_of}
 use Rattle.dd_symbol.specs.declared.table.Table.{Table}
 use Rattle.dd_model.specs.Involutions.{HaveSameInvolutions}
@@ -54,20 +49,9 @@ lengths n xs i = elim i as (λ j. length (operation (of_rows n xs) j) ≡ n) [
 pub with_same : (s : Symbol) (m01 m12 : List ℕ) → HaveSameInvolutions s (with_degrees s m01 m12)
 with_same s m01 m12 = record { size = refl; s0 = refl; s1 = refl; s2 = refl }
 
--- tables have the involutions of their symbols
-pub same_of_tables : (s t : Table) (test : Bool) → IsTrue test ↔ HaveSameInvolutions t.involutions s.involutions → IsTrue test ↔ HaveSameInvolutions (symbol_of t) (symbol_of s)
-same_of_tables s t test says = (
-  (λ h. let same = says.0 h in record { size = same.size; s0 = same.s0; s1 = same.s1; s2 = same.s2 }),
-  (λ same. says.1 (record { size = same.size; s0 = same.s0; s1 = same.s1; s2 = same.s2 })),
-)
-
 pub table_lengths : (t : Table) → HaveLengths (symbol_of t)
 table_lengths t = record {
-  lengths = λ i. elim i as (λ j. length (operation (symbol_of t) j) ≡ t.involutions.size) [
-    | Zero ↦ t.three.lengths Zero
-    | One ↦ t.three.lengths One
-    | Two ↦ t.three.lengths Two
-  ];
+  lengths = t.three.lengths;
   m01_length = t.tiles;
   m12_length = t.vertices;
 }
@@ -83,16 +67,33 @@ length-code_of t =
     let vertices = t.vertices in
     omega arith
 
-pub table_involutions : (t : Table) → AreInvolutions (symbol_of t)
-table_involutions t = involutions-same t.involutions (symbol_of t) (with_same t.involutions t.m01.items t.m12.items) t.three.involutions
-
 pub image_within : (s t : Symbol) → AreThreeInvolutions s → s ≡ t → (i : Index) (d r : ℕ) → IsChamber t d → r ≡ op s i d → IsChamber t r
 image_within s t is same i d r h image =
     let there : IsChamber s (op s i d) = (is.involutions i).within d (subst (λ u. IsChamber u d) (sym same) h) in
     subst (IsChamber t) (sym image) (subst (λ u. IsChamber u (op s i d)) same there)
 
-pub three_of_rows : (n : ℕ) (xs : List ℕ) → n ≤ 16384 → AreInvolutions (of_rows n xs) → AreThreeInvolutions (of_rows n xs)
-three_of_rows n xs small inv = record { small = small; lengths = lengths n xs; involutions = inv }
+pub three_of_code : (n : ℕ) (xs : List ℕ) → n ≤ 16384 → AreInvolutions (of_code n xs) → AreThreeInvolutions (of_code n xs)
+three_of_code n xs small inv = record {
+  small = small;
+  lengths = λ i. elim i as (λ j. length (operation (of_code n xs) j) ≡ n) [
+    | Zero ↦ lengths n xs Zero
+    | One ↦ lengths n xs One
+    | Two ↦ lengths n xs Two
+  ];
+  involutions = inv;
+}
+
+-- involutions with other degrees are three involutions
+three_with : (s : Symbol) (m01 m12 : List ℕ) → AreThreeInvolutions s → AreThreeInvolutions (with_degrees s m01 m12)
+three_with s m01 m12 three = record {
+  small = three.small;
+  lengths = λ i. elim i as (λ j. length (operation (with_degrees s m01 m12) j) ≡ s.size) [
+    | Zero ↦ three.lengths Zero
+    | One ↦ three.lengths One
+    | Two ↦ three.lengths Two
+  ];
+  involutions = involutions-same s (with_degrees s m01 m12) (with_same s m01 m12) three.involutions;
+}
 
 -- ## The images of rows
 
@@ -129,29 +130,101 @@ rows_from n xs long k (suc m) e =
     ∙ sym (ap (take (suc (suc (suc (3 * m))))) (three_more xs k (omega arith)))
     ∙ sym (ap (λ j. take j (drop (3 * k) xs)) more)
 
--- the images of rows are those rows
-pub images-of_rows : (n : ℕ) (xs : List ℕ) → length xs ≡ 3 * n → all_images (of_rows n xs) ≡ xs
-images-of_rows n xs e = rows_from n xs (omega arith) 0 n (omega arith) ∙ take_all (3 * n) xs (omega arith)
+-- the images of rows are the rows in front
+images_in_front : (n : ℕ) (xs : List ℕ) → 3 * n ≤ length xs → all_images (of_rows n xs) ≡ take (3 * n) xs
+images_in_front n xs long = rows_from n xs long 0 n (omega arith)
 
--- rows are equal exactly where they are of the same involutions
-pub same_from_rows : (n m : ℕ) (xs ys : List ℕ) → length xs ≡ 3 * n → length ys ≡ 3 * m → xs ≡ ys → HaveSameInvolutions (of_rows m ys) (of_rows n xs)
-same_from_rows n m xs ys lx ly e =
-    let lengths_agree = ap length e in
-    let size : n ≡ m = omega arith in
-    let whole : of_rows n xs ≡ of_rows m ys = ap (λ k. of_rows k xs) size ∙ ap (of_rows m) e in
-    record { size = size; s0 = ap (λ s. s.s0) whole; s1 = ap (λ s. s.s1) whole; s2 = ap (λ s. s.s2) whole }
+-- rows that begin alike have the same images
+column_in_front : (n : ℕ) (xs ys : List ℕ) → take (3 * n) xs ≡ take (3 * n) ys → (i : ℕ) → i < 3 → column xs i n ≡ column ys i n
+column_in_front n xs ys front i low =
+    same_items (column xs i n) (column ys i n) n (length-column xs i n) (length-column ys i n) (λ d first last.
+    item-column xs i n d first (omega arith)
+    ∙ sym (get_or-take (3 * n) xs (3 * (d - 1) + i) 0 (omega arith))
+    ∙ ap (λ zs. get_or zs (3 * (d - 1) + i) 0) front
+    ∙ get_or-take (3 * n) ys (3 * (d - 1) + i) 0 (omega arith)
+    ∙ sym (item-column ys i n d first (omega arith)))
 
-pub rows_from_same : (n m : ℕ) (xs ys : List ℕ) → length xs ≡ 3 * n → length ys ≡ 3 * m → HaveSameInvolutions (of_rows m ys) (of_rows n xs) → xs ≡ ys
-rows_from_same n m xs ys lx ly same =
+-- rows begin alike exactly where they are of the same involutions
+pub same_from_front : (n m : ℕ) (xs ys : List ℕ) → n ≡ m → take (3 * n) xs ≡ take (3 * n) ys → HaveSameInvolutions (of_code m ys) (of_code n xs)
+same_from_front n m xs ys size front = record {
+  size = size;
+  s0 = column_in_front n xs ys front 0 (omega arith) ∙ ap (column ys 0) size;
+  s1 = column_in_front n xs ys front 1 (omega arith) ∙ ap (column ys 1) size;
+  s2 = column_in_front n xs ys front 2 (omega arith) ∙ ap (column ys 2) size;
+}
+
+pub front_from_same : (n m : ℕ) (xs ys : List ℕ) → 3 * n ≤ length xs → 3 * m ≤ length ys → HaveSameInvolutions (of_code m ys) (of_code n xs)
+    → take (3 * n) xs ≡ take (3 * n) ys
+front_from_same n m xs ys long long' same =
+    let size : m ≡ n = sym same.size in
     let images : all_images (of_rows n xs) ≡ all_images (of_rows m ys) =
     λ i. all_images (record { size = same.size i; s0 = same.s0 i; s1 = same.s1 i; s2 = same.s2 i; m01 = []; m12 = [] }) in
-    sym (images-of_rows n xs lx) ∙ images ∙ images-of_rows m ys ly
+    sym (images_in_front n xs long) ∙ images ∙ images_in_front m ys long' ∙ ap (λ k. take (3 * k) ys) size
+
+-- ## Degrees behind rows
+
+drop_twice : (m n : ℕ) (xs : List ℕ) → m ≤ length xs → drop (m + n) xs ≡ drop n (drop m xs)
+drop_twice m n xs long =
+    let front : length (take m xs) ≡ m = length-take-le m xs long in
+    let place : m + n ≡ length (take m xs) + n = omega arith in
+    ap (λ k. drop k xs) place
+    ∙ ap (drop (length (take m xs) + n)) (sym (take-append-drop m xs))
+    ∙ drop-append-add (take m xs) (drop m xs) n
+
+-- the code of the symbol of some numbers are those numbers
+pub code-of_code : (n : ℕ) (xs : List ℕ) → 3 * n ≤ length xs → code (of_code n xs) ≡ xs
+code-of_code n xs long =
+    let behind = drop (3 * n) xs in
+    ap (λ ys. ys ++ take n behind ++ drop (3 * n + n) xs) (images_in_front n xs long)
+    ∙ ap (λ ys. take (3 * n) xs ++ take n behind ++ ys) (drop_twice (3 * n) n xs long)
+    ∙ append_assoc (take (3 * n) xs) (take n behind) (drop n behind)
+    ∙ ap (λ ys. take (3 * n) xs ++ ys) (take-append-drop n behind)
+    ∙ take-append-drop (3 * n) xs
+
+pub code_kept : (n : ℕ) (xs : List ℕ) (s : Symbol) → 3 * n ≤ length xs → of_code n xs ≡ s → code s ≡ xs
+code_kept n xs s long is = ap code (sym is) ∙ code-of_code n xs long
+
+-- where nothing follows the rows, there are no degrees
+pub of_code-of_rows : (n : ℕ) (xs : List ℕ) → length xs ≡ 3 * n → of_code n xs ≡ of_rows n xs
+of_code-of_rows n xs whole =
+    let tiles : take n (drop (3 * n) xs) ≡ [] = ap (take n) (drop_all (3 * n) xs (omega arith)) ∙ take_all n [] (omega arith) in
+    ap (λ ms. with_degrees (of_rows n xs) ms (drop (3 * n + n) xs)) tiles
+    ∙ ap (with_degrees (of_rows n xs) []) (drop_all (3 * n + n) xs (omega arith))
+
+-- rows with other degrees behind them
+of_code-with_degrees : (n : ℕ) (xs m01 m12 : List ℕ) → 3 * n ≤ length xs → length m01 ≡ n
+    → of_code n ((take (3 * n) xs ++ m01) ++ m12) ≡ with_degrees (of_code n xs) m01 m12
+of_code-with_degrees n xs m01 m12 long size =
+    let rows = take (3 * n) xs in
+    let ys = (rows ++ m01) ++ m12 in
+    let front : length rows ≡ 3 * n = length-take-le (3 * n) xs long in
+    let grouped : ys ≡ rows ++ (m01 ++ m12) = append_assoc rows m01 m12 in
+    let same : take (3 * n) ys ≡ rows = ap (take (3 * n)) grouped ∙ take_at rows (m01 ++ m12) (3 * n) front in
+    let tiles : take n (drop (3 * n) ys) ≡ m01 =
+    ap (λ zs. take n (drop (3 * n) zs)) grouped ∙ ap (take n) (drop_at rows (m01 ++ m12) (3 * n) front) ∙ take_at m01 m12 n size in
+    let vertices : drop (3 * n + n) ys ≡ m12 = drop_at (rows ++ m01) m12 (3 * n + n) (length-append rows m01 ∙ omega arith) in
+    let e0 = column_in_front n ys xs same 0 (omega arith) in
+    let e1 = column_in_front n ys xs same 1 (omega arith) in
+    let e2 = column_in_front n ys xs same 2 (omega arith) in
+    λ x. record { size = n; s0 = e0 x; s1 = e1 x; s2 = e2 x; m01 = tiles x; m12 = vertices x }
+
+pub followed_by : (n : ℕ) (xs ys m01 m12 : List ℕ) (s : Symbol) → 3 * n ≤ length xs → of_code n xs ≡ s → length m01 ≡ s.size
+    → ys ≡ (take (3 * n) xs ++ m01) ++ m12 → of_code n ys ≡ with_degrees s m01 m12
+followed_by n xs ys m01 m12 s long is size made =
+    ap (of_code n) made
+    ∙ of_code-with_degrees n xs m01 m12 long (size ∙ ap (λ t. t.size) (sym is))
+    ∙ ap (λ t. with_degrees t m01 m12) is
+
+pub three_followed_by : (n : ℕ) (xs ys m01 m12 : List ℕ) (s : Symbol) → 3 * n ≤ length xs → of_code n xs ≡ s → length m01 ≡ s.size
+    → ys ≡ (take (3 * n) xs ++ m01) ++ m12 → AreThreeInvolutions (of_code n xs) → AreThreeInvolutions (of_code n ys)
+three_followed_by n xs ys m01 m12 s long is size made three =
+    subst AreThreeInvolutions (sym (followed_by n xs ys m01 m12 s long is size made)) (three_with s m01 m12 (subst AreThreeInvolutions is three))
 
 -- ## The involutions of rows
 
-pub op-rows : (h : Index → ℕ → ℕ) (n : ℕ) (xs : List ℕ) → HasRows h n xs → (i : Index) (d : ℕ) → 1 ≤ d → d ≤ n → op (of_rows n xs) i d ≡ h i d
+pub op-rows : (h : Index → ℕ → ℕ) (n : ℕ) (xs : List ℕ) → HasRows h n xs → (i : Index) (d : ℕ) → 1 ≤ d → d ≤ n → op (of_code n xs) i d ≡ h i d
 op-rows h n xs rows i d low high =
-    elim i as (λ j. op (of_rows n xs) j d ≡ h j d) [
+    elim i as (λ j. op (of_code n xs) j d ≡ h j d) [
       | Zero ↦ item-first xs n d low high ∙ rows.zero d low high
       | One ↦ item-column xs 1 n d low high ∙ rows.one d low high
       | Two ↦ item-column xs 2 n d low high ∙ rows.two d low high
@@ -159,43 +232,16 @@ op-rows h n xs rows i d low high =
 
 -- the involutions of three lists
 pub listed-from_rows : (s0 s1 s2 xs : List ℕ) → length s1 ≡ length s0 → length s2 ≡ length s0 → HasRows (op (listed s0 s1 s2 [] [])) (length s0) xs
-    → of_rows (length s0) xs ≡ listed s0 s1 s2 [] []
+    → of_code (length s0) xs ≡ listed s0 s1 s2 [] []
 listed-from_rows s0 s1 s2 xs l1 l2 rows =
     let n = length s0 in
-    let at : (i : Index) (d : ℕ) → 1 ≤ d → d < 1 + n → op (of_rows n xs) i d ≡ op (listed s0 s1 s2 [] []) i d
+    let at : (i : Index) (d : ℕ) → 1 ≤ d → d < 1 + n → op (of_code n xs) i d ≡ op (listed s0 s1 s2 [] []) i d
     = λ i d low high. op-rows (op (listed s0 s1 s2 [] [])) n xs rows i d low (omega arith) in
     let e0 : column xs 0 n ≡ s0 = same_items (column xs 0 n) s0 n (length-column xs 0 n) refl (at Zero) in
     let e1 : column xs 1 n ≡ s1 = same_items (column xs 1 n) s1 n (length-column xs 1 n) l1 (at One) in
     let e2 : column xs 2 n ≡ s2 = same_items (column xs 2 n) s2 n (length-column xs 2 n) l2 (at Two) in
-    λ x. record { size = n; s0 = e0 x; s1 = e1 x; s2 = e2 x; m01 = []; m12 = [] }
-
--- ## Codes in parts
-
-pub same_size : (a b : ℕ) → nat_cmp a b ≡ Equal → a ≡ b
-same_size a b e = nat_cmp-IsAntisymmetric a b e
-
--- symbols of one size are compared by their images, and then by their degrees
-codes_compared : (s t : Symbol) → HaveLengths s → HaveLengths t → s.size ≡ t.size
-    → slice_cmp nat_cmp (code s) (code t) ≡ ordering_then (ordering_then (slice_cmp nat_cmp (all_images s) (all_images t)) (slice_cmp nat_cmp s.m01 t.m01)) (slice_cmp nat_cmp s.m12 t.m12)
-codes_compared s t a b same =
-    let ia = length-flat_images s 1 s.size in
-    let ib = length-flat_images t 1 t.size in
-    let la = length-append (all_images s) s.m01 in
-    let lb = length-append (all_images t) t.m01 in
-    let ma = a.m01_length in
-    let mb = b.m01_length in
-    compared_in_parts (all_images s ++ s.m01) (all_images t ++ t.m01) s.m12 t.m12 (omega arith)
-    ∙ ap (λ o. ordering_then o (slice_cmp nat_cmp s.m12 t.m12)) (compared_in_parts (all_images s) (all_images t) s.m01 t.m01 (omega arith))
-
--- the same whatever the sizes are
-pub compared_by_parts : (s t : Symbol) → HaveLengths s → HaveLengths t
-    → code_cmp s t ≡ ordering_then (ordering_then (ordering_then (nat_cmp s.size t.size) (slice_cmp nat_cmp (all_images s) (all_images t))) (slice_cmp nat_cmp s.m01 t.m01)) (slice_cmp nat_cmp s.m12 t.m12)
-compared_by_parts s t a b = by_size (nat_cmp s.size t.size) refl where
-  by_size : (o : Ordering) → nat_cmp s.size t.size ≡ o
-      → code_cmp s t ≡ ordering_then (ordering_then (ordering_then (nat_cmp s.size t.size) (slice_cmp nat_cmp (all_images s) (all_images t))) (slice_cmp nat_cmp s.m01 t.m01)) (slice_cmp nat_cmp s.m12 t.m12)
-  by_size Less e = rw e refl
-  by_size Greater e = rw e refl
-  by_size Equal e = rw e (codes_compared s t a b (same_size s.size t.size e))
+    let lists : of_rows n xs ≡ listed s0 s1 s2 [] [] = λ x. record { size = n; s0 = e0 x; s1 = e1 x; s2 = e2 x; m01 = []; m12 = [] } in
+    of_code-of_rows n xs rows.rows ∙ lists
 
 -- ## One row more
 

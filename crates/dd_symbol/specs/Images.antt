@@ -1,5 +1,5 @@
 -- Involutions as they are kept.
-use Rattle.std.specs.Prelude.{◌≡◌, ℕ, ◌+◌, ◌*◌, ◌≤◌, List, [], length, map, slice_index}
+use Rattle.std.specs.Prelude.{◌≡◌, ℕ, ◌+◌, ◌*◌, ◌≤◌, List, [], length, map, take, drop, slice_index}
 use Rattle.dd_model.specs.declared.index.Index.{Index}
 use Rattle.dd_model.specs.Symbol.{Symbol, AreInvolutions, operation}
 use Rattle.dd_model.specs.Code.{count_from}
@@ -17,9 +17,13 @@ of_rows n rows = record { size = n; s0 = column rows 0 n; s1 = column rows 1 n; 
 abbrev pub with_degrees : Symbol → List ℕ → List ℕ → Symbol
 with_degrees s m01 m12 = record { size = s.size; s0 = s.s0; s1 = s.s1; s2 = s.s2; m01 = m01; m12 = m12 }
 
+-- n chambers of which these numbers are the code
+abbrev pub of_code : ℕ → List ℕ → Symbol
+of_code n xs = with_degrees (of_rows n xs) (take n (drop (3 * n) xs)) (drop (3 * n + n) xs)
+
 -- what rows say of a tiling
 abbrev pub rows_of : Rows → Symbol
-rows_of r = of_rows r.size r.numbers.items
+rows_of r = of_code r.size r.numbers
 
 -- three involutions of at most 16,384 chambers, an image of each chamber in each list
 pub record AreThreeInvolutions (s : Symbol) : Type 0 where

@@ -1,3 +1,4 @@
+pub mod Numbers
 pub mod Images
 pub mod Table
 pub mod Rows

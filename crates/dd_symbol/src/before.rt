@@ -1,4 +1,4 @@
-ghost use Rattle.std.specs.Prelude.{◌≡◌, ◌<◌, ◌↔◌, IsTrue, length, slice_index};
+ghost use Rattle.std.specs.Prelude.{◌↔◌, IsTrue};
 ghost use Rattle.dd_model.specs.Code.{code};
 ghost use Rattle.dd_model.specs.Lists.{IsSmallerWhereTheyDiffer};
 
@@ -9,22 +9,6 @@ impl Table {
     ghost use Rattle.dd_symbol.specs.Table.{symbol_of};
     ghost use Rattle.dd_model.specs.Position.{IsBefore};
 
-    /// The number at a place of the code.
-    fn number_at(&self, place: usize) -> u32
-        requires { place < length (code (symbol_of self.now)) }
-        ensures { result ≡ slice_index (code (symbol_of self.now)) place }
-    {
-        let rows = self.involutions.rows();
-        let size = self.m01.len();
-        if place < rows.len() {
-            rows[place]
-        } else if place < rows.len() + size {
-            self.m01[place - rows.len()]
-        } else {
-            self.m12[place - rows.len() - size]
-        }
-    }
-
     /// Whether the code is smaller at the first place that it shares with a list and where they
     /// differ.
     fn is_smaller_where_they_differ(&self, others: &[u8]) -> bool
@@ -32,7 +16,7 @@ impl Table {
     {
         let shared = others.len().min(5 * self.size() as usize);
         for k in 0..shared {
-            let own = self.number_at(k);
+            let own = self.involutions.number_at(k);
             let other = u32::from(others[k]);
             if own != other {
                 return own < other;

@@ -60,9 +60,7 @@ pub fn build_on(
         return Err(Refusal::Empty);
     }
     let table = Table {
-        involutions,
-        m01,
-        m12,
+        involutions: involutions.followed_by(alloc, &m01, &m12)?,
     };
     table.check(alloc)?;
     Ok(Connected::from_symbol(Symbol::from_table(table)))
@@ -86,9 +84,7 @@ pub fn build_fitting(
         (IsBuilt (with_degrees involutions m01.items m12.items))) }
 {
     let table = Table {
-        involutions,
-        m01,
-        m12,
+        involutions: involutions.followed_by(alloc, &m01, &m12)?,
     };
     match table.check_involutions(alloc) {
         Ok(()) => Ok(Some(Connected::from_symbol(Symbol::from_table(table)))),

@@ -56,16 +56,16 @@ impl Connected {
         })
     }
 
-    /// The symbol with these involutions and other degrees, which are known to be those of a symbol
-    /// with branching values of at most 30. Nothing is tested.
+    /// The symbol with these involutions and other degrees of at most 255, which are known to be
+    /// those of a symbol with branching values of at most 30. Nothing is tested.
     pub fn with_known_degrees(
         &self,
         alloc: Global,
-        m01: Vec<u32>,
-        m12: Vec<u32>,
+        m01: &[u8],
+        m12: &[u8],
     ) -> Result<Connected, Memory>
-        requires { IsSmallSymbol (with_degrees self.now m01.items m12.items) }
-        ensures { IfOk result (λ it. it ≡ with_degrees self.now m01.items m12.items) }
+        requires { IsSmallSymbol (with_degrees self.now m01.now m12.now) }
+        ensures { IfOk result (λ it. it ≡ with_degrees self.now m01.now m12.now) }
     {
         Ok(Connected {
             symbol: self.symbol.with_known_degrees(alloc, m01, m12)?,

@@ -65,7 +65,7 @@ impl Table {
         ensures why { IfErr result (λ why. IsFault (symbol_of self.now) why) }
     {
         let m = self.degree(pair, chamber);
-        let r = self.period(pair, chamber);
+        let r = self.involutions.period(pair, chamber);
         if m % r != 0 {
             return Err(Refusal::NotMultiple {
                 pair,
@@ -145,8 +145,8 @@ impl Table {
     {
         self.check_positive(Pair::Tile)?;
         self.check_positive(Pair::Vertex)?;
-        let tiles = self.least_of_cells(alloc, Pair::Tile)?;
-        let vertices = self.least_of_cells(alloc, Pair::Vertex)?;
+        let tiles = self.involutions.least_of_cells(alloc, Pair::Tile)?;
+        let vertices = self.involutions.least_of_cells(alloc, Pair::Vertex)?;
         self.check_constant(Pair::Tile, &tiles)?;
         self.check_constant(Pair::Vertex, &vertices)?;
         self.check_multiples(Pair::Tile, &tiles)?;

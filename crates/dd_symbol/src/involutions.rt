@@ -1,16 +1,19 @@
-ghost use Rattle.std.specs.Prelude.{◌≡◌, ◌↔◌, ◌≤◌, ◌*◌, [], length, IsTrue, IfOk, IfErr, OnOk};
+ghost use Rattle.std.specs.Prelude.{◌≡◌, ◌↔◌, ◌≤◌, ◌<◌, ◌*◌, [], length, slice_index, IsTrue, IfOk, IfErr, OnOk, MatchOption};
 ghost use Rattle.dd_symbol.specs.Building.{listed};
 ghost use Rattle.dd_symbol.specs.Rows.{HasRows};
 ghost use Rattle.dd_model.specs.Symbol.{op};
 
+use crate::numbers::Numbers;
 use crate::refusals::Refusal;
 use crate::rows::Rows;
-use dd_model::{Index, Memory, Pair};
+use dd_model::{Code, Index, Memory, Pair};
 use std::alloc::Global;
+use std::cmp::Ordering;
 use std::marker::Model;
 
 /// Three involutions of the chambers 1 to n, n at most 16,384. They are kept as rows of the three
-/// images of each chamber, which is the order of codes.
+/// images of each chamber, which is the order of codes. Where they belong to a symbol, its degrees
+/// follow.
 #[derive(Drop)]
 pub struct Involutions {
     pub(crate) rows: Rows,
@@ -27,41 +30,51 @@ impl Model for Involutions {
     ghost invariant = { λ a. AreThreeInvolutions (rows_of a.rows) };
 }
 
-/// The images of three lists, chamber by chamber.
-fn interleaved(alloc: Global, s0: &[u32], s1: &[u32], s2: &[u32]) -> Result<Vec<u32>, Memory>
+/// The images of three lists, chamber by chamber, with room for degrees.
+fn interleaved(alloc: Global, s0: &[u32], s1: &[u32], s2: &[u32]) -> Result<Numbers, Memory>
     requires ones { length s1.now ≡ length s0.now }
     requires twos { length s2.now ≡ length s0.now }
     requires small { length s0.now ≤ 16384 }
     ensures { IfOk result (λ numbers.
-        HasRows (op (listed s0.now s1.now s2.now [] [])) (length s0.now) numbers.items) }
+        HasRows (op (listed s0.now s1.now s2.now [] [])) (length s0.now) numbers) }
 {
-    let mut numbers = Vec::with_capacity(alloc, 3 * s0.len())?;
+    let mut numbers = Numbers::with_room(alloc, 5 * s0.len())?;
     for k in 0..s0.len() {
-        numbers.push(s0[k])?;
-        numbers.push(s1[k])?;
-        numbers.push(s2[k])?;
+        numbers.push(alloc, s0[k])?;
+        numbers.push(alloc, s1[k])?;
+        numbers.push(alloc, s2[k])?;
     }
     Ok(numbers)
 }
 
 impl Involutions {
-    ghost use Rattle.dd_symbol.specs.Images.{of_rows, AreThreeInvolutions};
-    ghost use Rattle.dd_symbol.specs.Refusals.{IsRowsFault, IsInvolutionsFault};
-    ghost use Rattle.dd_model.specs.Symbol.{AreInvolutions, IsChamber, act, turn};
-    ghost use Rattle.dd_model.specs.Code.{all_images};
+    ghost use Rattle.std.specs.Ordering.{nat_cmp};
+    ghost use Rattle.std.specs.Cmp.Lexicographic.{slice_cmp};
+    ghost use Rattle.dd_symbol.specs.Images.{of_rows, with_degrees, AreThreeInvolutions};
+    ghost use Rattle.dd_symbol.specs.Refusals.{IsInvolutionsFault};
+    ghost use Rattle.dd_model.specs.Symbol.{AreInvolutions, IsChamber, act, item, turn};
+    ghost use Rattle.dd_model.specs.Code.{code, images};
     ghost use Rattle.dd_model.specs.Involutions.{HaveSameInvolutions};
 
     /// The involutions with these images, s0, s1 and s2 of chamber 1, then those of chamber 2 and so
-    /// on; else the first cause why they are none.
-    pub fn from_rows(numbers: Vec<u32>, size: u32) -> Result<Involutions, Refusal>
-        requires length { length numbers.items ≡ 3 * size }
+    /// on; None where they are no involutions.
+    pub fn from_bytes(
+        alloc: Global,
+        images: &[u8],
+        size: u32,
+    ) -> Result<Option<Involutions>, Memory>
+        requires length { length images.now ≡ 3 * size }
         requires small { size ≤ 16384 }
-        ensures same { IfOk result (λ it. it ≡ of_rows size numbers.items) }
-        ensures why { IfErr result (λ why. IsRowsFault (of_rows size numbers.items) why) }
+        ensures { IfOk result (λ found. MatchOption found
+            (AreInvolutions (of_rows size images.now) → ⊥) (λ it. it ≡ of_rows size images.now)) }
     {
+        let mut numbers = Numbers::with_room(alloc, 5 * size as usize)?;
+        numbers.extend_bytes(images)?;
         let rows = Rows { numbers, size };
-        rows.check()?;
-        Ok(Involutions { rows })
+        match rows.check() {
+            Ok(()) => Ok(Some(Involutions { rows })),
+            Err(_) => Ok(None),
+        }
     }
 
     /// The involutions with these lists of images; else the first cause why they are none.
@@ -77,7 +90,11 @@ impl Involutions {
         ensures same { IfOk result (λ it. it ≡ listed s0.now s1.now s2.now [] []) }
         ensures why { IfErr result (λ why. IsInvolutionsFault (listed s0.now s1.now s2.now [] []) why) }
     {
-        Involutions::from_rows(interleaved(alloc, s0, s1, s2)?, s0.len() as u32)
+        let numbers = interleaved(alloc, s0, s1, s2)?;
+        let size = s0.len() as u32;
+        let rows = Rows { numbers, size };
+        rows.check()?;
+        Ok(Involutions { rows })
     }
 
     /// The involutions with these lists of images, which are known to be those of some.
@@ -118,28 +135,115 @@ impl Involutions {
         self.rows.image(i, chamber)
     }
 
-    /// The images of all chambers in the order of codes: s0, s1 and s2 of chamber 1, and so on.
-    pub fn rows(&self) -> &[u32]
-        ensures { result.now ≡ all_images self.now }
+    /// The three images of a chamber.
+    pub(crate) fn images(&self, chamber: u32) -> [u32; 3]
+        requires { IsChamber self.now chamber }
+        ensures { result ≡ images self.now chamber }
     {
-        self.rows.numbers.as_slice()
+        self.rows.images(chamber)
+    }
+
+    /// The degree of the tile at a chamber, where degrees follow.
+    pub(crate) fn tile(&self, chamber: u32) -> u32
+        requires low { 1 ≤ chamber }
+        requires high { chamber ≤ length self.now.m01 }
+        ensures { result ≡ item self.now.m01 chamber }
+    {
+        self.rows
+            .numbers
+            .get(3 * self.rows.size as usize + chamber as usize - 1)
+    }
+
+    /// The degree of the vertex at a chamber, where degrees follow.
+    pub(crate) fn vertex(&self, chamber: u32) -> u32
+        requires low { 1 ≤ chamber }
+        requires high { chamber ≤ length self.now.m12 }
+        ensures { result ≡ item self.now.m12 chamber }
+    {
+        self.rows
+            .numbers
+            .get(4 * self.rows.size as usize + chamber as usize - 1)
+    }
+
+    /// The number at a place of the code.
+    pub(crate) fn number_at(&self, place: usize) -> u32
+        requires { place < length (code self.now) }
+        ensures { result ≡ slice_index (code self.now) place }
+    {
+        self.rows.numbers.get(place)
+    }
+
+    /// A copy of the code.
+    pub(crate) fn code(&self, alloc: Global) -> Result<Code, Memory>
+        ensures { IfOk result (λ numbers. numbers ≡ code self.now) }
+    {
+        Ok(Code::from_vec(self.rows.numbers.words(alloc)?))
+    }
+
+    /// By code, where there are as many chambers and degrees.
+    pub(crate) fn cmp_code(&self, other: &Involutions) -> Ordering
+        requires { length (code self.now) ≡ length (code other.now) }
+        ensures { result ≡ slice_cmp nat_cmp (code self.now) (code other.now) }
+    {
+        self.rows.numbers.cmp(&other.rows.numbers)
     }
 
     /// Whether these are the same three involutions of as many chambers.
     pub(crate) fn is_same(&self, other: &Involutions) -> bool
         ensures { IsTrue result ↔ HaveSameInvolutions other.now self.now }
     {
-        self.rows.numbers.as_slice() == other.rows.numbers.as_slice()
+        self.rows.size == other.rows.size
+            && self
+                .rows
+                .numbers
+                .has_front_of(&other.rows.numbers, 3 * self.rows.size as usize)
     }
 
     /// Equal involutions.
     pub fn try_copy(&self, alloc: Global) -> Result<Involutions, Memory>
         ensures { IfOk result (λ copy. copy ≡ self.now) }
     {
-        let numbers = Vec::from_slice(alloc, &self.rows.numbers)?;
         Ok(Involutions {
             rows: Rows {
-                numbers,
+                numbers: self.rows.numbers.try_copy(alloc)?,
+                size: self.rows.size,
+            },
+        })
+    }
+
+    /// The same involutions, followed by degrees.
+    pub(crate) fn followed_by(
+        self,
+        alloc: Global,
+        m01: &[u32],
+        m12: &[u32],
+    ) -> Result<Involutions, Memory>
+        requires tiles { length m01.now ≡ self.size }
+        ensures { IfOk result (λ it. it ≡ with_degrees self m01.now m12.now) }
+    {
+        let Rows { mut numbers, size } = self.rows;
+        numbers.truncate(3 * size as usize);
+        numbers.extend(alloc, m01)?;
+        numbers.extend(alloc, m12)?;
+        Ok(Involutions {
+            rows: Rows { numbers, size },
+        })
+    }
+
+    /// A copy of the involutions, followed by degrees that fit in bytes.
+    pub(crate) fn copy_with(
+        &self,
+        alloc: Global,
+        m01: &[u8],
+        m12: &[u8],
+    ) -> Result<Involutions, Memory>
+        requires tiles { length m01.now ≡ self.now.size }
+        ensures { IfOk result (λ it. it ≡ with_degrees self.now m01.now m12.now) }
+    {
+        let images = 3 * self.rows.size as usize;
+        Ok(Involutions {
+            rows: Rows {
+                numbers: self.rows.numbers.front_with(alloc, images, m01, m12)?,
                 size: self.rows.size,
             },
         })

@@ -9,6 +9,7 @@ mod degrees;
 mod involutions;
 mod kind;
 mod maps;
+mod numbers;
 mod range_checks;
 mod refusals;
 mod renumbering;

@@ -2,6 +2,7 @@ ghost use Rattle.std.specs.Prelude.{◌≡◌, ℕ, ◌≤◌, List, [], map, le
 
 use crate::involutions::Involutions;
 use crate::maps::item;
+use crate::numbers::Numbers;
 use crate::rows::Rows;
 use crate::table::Table;
 use dd_model::{Index, Memory, Pair};
@@ -23,16 +24,22 @@ impl Involutions {
     }
 
     /// Appends the images of all chambers in the numbers that a map gives.
-    fn push_images(&self, numbers: &mut Vec<u32>, map: &[u32], back: &[u32]) -> Result<(), Memory>
+    fn push_images(
+        &self,
+        alloc: Global,
+        numbers: &mut Numbers,
+        map: &[u32],
+        back: &[u32],
+    ) -> Result<(), Memory>
         requires maps { AreInverse self.now.size map.now back.now }
-        requires none { numbers.old.items ≡ [] }
+        requires none { numbers.old ≡ [] }
         ensures { OnOk result (HasRows (λ i e. item map.now (op self.now i (item back.now e)))
-            self.now.size numbers.new.items) }
+            self.now.size numbers.new) }
     {
         for k in 0..self.size() {
-            numbers.push(self.carried(Index::Zero, map, back, k + 1))?;
-            numbers.push(self.carried(Index::One, map, back, k + 1))?;
-            numbers.push(self.carried(Index::Two, map, back, k + 1))?;
+            numbers.push(alloc, self.carried(Index::Zero, map, back, k + 1))?;
+            numbers.push(alloc, self.carried(Index::One, map, back, k + 1))?;
+            numbers.push(alloc, self.carried(Index::Two, map, back, k + 1))?;
         }
         Ok(())
     }
@@ -43,8 +50,8 @@ impl Involutions {
         ensures carried { IfOk result (λ it. IsCarried self.now it map.now back.now) }
         ensures three { IfOk result (λ it. AreThreeInvolutions it) }
     {
-        let mut numbers = Vec::with_capacity(alloc, 3 * self.size() as usize)?;
-        self.push_images(&mut numbers, map, back)?;
+        let mut numbers = Numbers::with_room(alloc, 5 * self.size() as usize)?;
+        self.push_images(alloc, &mut numbers, map, back)?;
         Ok(Involutions {
             rows: Rows {
                 numbers,
@@ -90,9 +97,7 @@ impl Table {
         let m01 = self.degrees_in(alloc, Pair::Tile, back)?;
         let m12 = self.degrees_in(alloc, Pair::Vertex, back)?;
         Ok(Table {
-            involutions,
-            m01,
-            m12,
+            involutions: involutions.followed_by(alloc, &m01, &m12)?,
         })
     }
 }

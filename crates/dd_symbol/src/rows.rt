@@ -1,19 +1,22 @@
-ghost use Rattle.std.specs.Prelude.{◌≡◌, ◌<◌, ◌*◌, ◌↔◌, IsTrue, length};
+ghost use Rattle.std.specs.Prelude.{◌≡◌, ◌<◌, ◌≤◌, ◌*◌, ◌↔◌, IsTrue, length};
 
+use crate::numbers::Numbers;
 use dd_model::Index;
 
 /// The images of the chambers 1 to n, three for each, of which no more is known than their number.
+/// After them may come degrees.
 #[derive(Drop)]
 pub(crate) struct Rows {
-    pub(crate) numbers: Vec<u32>,
+    pub(crate) numbers: Numbers,
     pub(crate) size: u32,
-    ghost length: { length numbers.items ≡ 3 * size },
+    ghost length: { 3 * size ≤ length numbers },
     ghost small: { size < 16385 },
 }
 
 impl Rows {
     ghost use Rattle.dd_symbol.specs.Images.{rows_of};
     ghost use Rattle.dd_model.specs.Symbol.{IsChamber, op};
+    ghost use Rattle.dd_model.specs.Code.{images};
 
     /// The number of chambers, at most 16,384.
     pub(crate) fn size(&self) -> u32
@@ -37,9 +40,17 @@ impl Rows {
     {
         let row = 3 * (chamber as usize - 1);
         match i {
-            Index::Zero => self.numbers[row],
-            Index::One => self.numbers[row + 1],
-            Index::Two => self.numbers[row + 2],
+            Index::Zero => self.numbers.get(row),
+            Index::One => self.numbers.get(row + 1),
+            Index::Two => self.numbers.get(row + 2),
         }
+    }
+
+    /// The three images of a chamber.
+    pub(crate) fn images(&self, chamber: u32) -> [u32; 3]
+        requires { IsChamber (rows_of self.now) chamber }
+        ensures { result ≡ images (rows_of self.now) chamber }
+    {
+        self.numbers.three_from(3 * (chamber as usize - 1))
     }
 }

@@ -32,7 +32,7 @@ impl Model for Symbol {
 impl Symbol {
     ghost use Rattle.dd_model.specs.Symbol.{IsChamber, op, degree};
     ghost use Rattle.dd_model.specs.Cell.{IsBranching, AreCells};
-    ghost use Rattle.dd_model.specs.Code.{code};
+    ghost use Rattle.dd_model.specs.Code.{code, images};
     ghost use Rattle.dd_model.specs.Involutions.{HaveSameInvolutions};
     ghost use Rattle.dd_model.specs.Position.{IsBefore};
     ghost use Rattle.dd_symbol.specs.Table.{symbol_of};
@@ -64,6 +64,14 @@ impl Symbol {
         ensures chamber { IsChamber self.now result }
     {
         self.table.involutions.op(i, chamber)
+    }
+
+    /// The images of a chamber under s0, s1 and s2.
+    pub fn images(&self, chamber: u32) -> [u32; 3]
+        requires { IsChamber self.now chamber }
+        ensures { result ≡ images self.now chamber }
+    {
+        self.table.involutions.images(chamber)
     }
 
     /// The degree of the tile at a chamber.
@@ -140,19 +148,15 @@ impl Symbol {
     pub(crate) fn with_known_degrees(
         &self,
         alloc: Global,
-        m01: Vec<u32>,
-        m12: Vec<u32>,
+        m01: &[u8],
+        m12: &[u8],
     ) -> Result<Symbol, Memory>
-        requires { IsSmallSymbol (with_degrees self.now m01.items m12.items) }
-        ensures { IfOk result (λ it. it ≡ with_degrees self.now m01.items m12.items) }
+        requires { IsSmallSymbol (with_degrees self.now m01.now m12.now) }
+        ensures { IfOk result (λ it. it ≡ with_degrees self.now m01.now m12.now) }
     {
-        let involutions = self.table.involutions.try_copy(alloc)?;
+        let involutions = self.table.involutions.copy_with(alloc, m01, m12)?;
         Ok(Symbol {
-            table: Table {
-                involutions,
-                m01,
-                m12,
-            },
+            table: Table { involutions },
         })
     }
 

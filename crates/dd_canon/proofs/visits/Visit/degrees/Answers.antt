@@ -3,7 +3,8 @@ use Rattle.std.specs.Ordering.{nat_cmp}
 use Rattle.std.specs.Cmp.Lexicographic.{slice_cmp}
 use Rattle.dd_model.specs.Symbol.{Symbol, item, degree}
 use Rattle.dd_canon.specs.Standing.{degree_list}
-use Rattle.dd_canon.proofs.OrderLemmas.{then_first, then_second}
+use Rattle.dd_canon.proofs.OrderLemmas.{then_second}
+use Rattle.dd_model.proofs.Orders.{then_first}
 use Rattle.dd_canon.proofs.StandingLemmas.{degree_step, degree_end}
 use Rattle.dd_canon.proofs.visits.Visit.degrees.Goals as goal
 

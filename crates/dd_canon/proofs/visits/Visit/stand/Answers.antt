@@ -3,7 +3,8 @@ use Rattle.dd_model.specs.declared.pair.Pair.TheVariants.{Tile, Vertex}
 use Rattle.dd_model.specs.Symbol.{Symbol, IsTable, item}
 use Rattle.dd_canon.proofs.Traversals.{done_all}
 use Rattle.dd_canon.specs.Standing.{IsOngoing, IsStanding}
-use Rattle.dd_canon.proofs.OrderLemmas.{equal_of, equal_not_greater}
+use Rattle.dd_canon.proofs.OrderLemmas.{equal_not_greater}
+use Rattle.dd_model.proofs.Orders.{equal_of}
 use Rattle.dd_canon.proofs.VisitLemmas.{begun}
 use Rattle.dd_canon.proofs.StandingLemmas.{AreCompared, rows_decide, not_fallen, m01_decides, m12_decides, whole}
 use Rattle.dd_canon.proofs.visits.Visit.stand.Goals as goal

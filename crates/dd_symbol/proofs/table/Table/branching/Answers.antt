@@ -2,11 +2,10 @@ use Rattle.std.proofs.Common.{◌/◌, subst, sym}
 use Rattle.dd_model.specs.Cell.{IsBranching}
 use Rattle.dd_symbol.specs.Table.{symbol_of}
 use Rattle.dd_symbol.proofs.DegreeLemmas.{branching-by_period}
-use Rattle.dd_symbol.proofs.TableLemmas.{table_involutions}
 use Rattle.dd_symbol.proofs.table.Table.branching.Goals as goal
 
 pub returns : goal.returns
 returns c =
     let s = symbol_of c.args.self.now in
     subst (λ m. IsBranching s c.args.pair c.args.chamber (m / c.period.result)) (sym c.degree.ensures)
-    (branching-by_period s (table_involutions c.args.self.now) c.args.pair c.args.chamber c.period.result c.requires.chamber c.period.ensures c.requires.multiple)
+    (branching-by_period s c.args.self.now.three.involutions c.args.pair c.args.chamber c.period.result c.requires.chamber c.period.ensures.period c.requires.multiple)

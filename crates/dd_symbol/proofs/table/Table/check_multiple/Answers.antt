@@ -11,11 +11,11 @@ returns-then-m-r-ne0-clause-why c = record {
   constant = c.requires.constant;
   before = c.requires.before;
   degree = c.degree-m.ensures;
-  turns = IsLeastTurns-from_period (symbol_of c.args.self.now) c.requires.table.involutions c.args.pair c.args.chamber c.period-r.result c.requires.chamber c.period-r.ensures;
+  turns = IsLeastTurns-from_period (symbol_of c.args.self.now) c.requires.table.involutions c.args.pair c.args.chamber c.period-r.result c.requires.chamber c.period-r.ensures.period;
   first = record { chamber = c.requires.chamber; fails = c.if-m-r-ne0.true; before = c.requires.earlier };
 }
 
 pub returns-clause-multiple : goal.returns-clause-multiple
 returns-clause-multiple c =
-    multiple-from_period (symbol_of c.args.self.now) c.requires.table.involutions c.args.pair c.args.chamber c.period-r.result c.requires.chamber c.period-r.ensures
+    multiple-from_period (symbol_of c.args.self.now) c.requires.table.involutions c.args.pair c.args.chamber c.period-r.result c.requires.chamber c.period-r.ensures.period
     (ap (λ m. m % c.period-r.result) (sym c.degree-m.ensures) ∙ c.if-m-r-ne0.false)

@@ -1,0 +1,233 @@
+ghost use Rattle.std.specs.Prelude.{◌≡◌, ◌+◌, ◌<◌, ◌≤◌, ◌↔◌, ◌++◌, ◌∷◌, [], take, length, slice_index, IsTrue, IfOk, OnOk};
+ghost use Rattle.std.specs.Ordering.{nat_cmp};
+ghost use Rattle.std.specs.Cmp.Lexicographic.{slice_cmp};
+
+use dd_model::Memory;
+use std::alloc::Global;
+use std::cmp::Ordering;
+use std::marker::Model;
+
+/// The two forms in which numbers are kept.
+#[derive(Drop)]
+enum Held {
+    Bytes(Vec<u8>),
+    Words(Vec<u32>),
+}
+
+/// A list of numbers, which is kept in bytes up to the first number over 255.
+#[derive(Drop)]
+pub(crate) struct Numbers {
+    held: Held,
+}
+
+impl Model for Numbers {
+    ghost use Rattle.std.specs.Prelude.{ℕ, List};
+    ghost use Rattle.dd_symbol.specs.Numbers.{held_items};
+
+    ghost Value = { List ℕ };
+
+    ghost view = { λ a. held_items a.held };
+}
+
+/// Appends bytes to words.
+fn add_bytes(words: &mut Vec<u32>, bytes: &[u8]) -> Result<(), Memory>
+    ensures { OnOk result (words.new.items ≡ words.old.items ++ bytes.now) }
+{
+    for byte in bytes {
+        words.push(u32::from(*byte))?;
+    }
+    Ok(())
+}
+
+impl Numbers {
+    /// No numbers, with room for some in bytes.
+    pub(crate) fn with_room(alloc: Global, room: usize) -> Result<Numbers, Memory>
+        ensures { IfOk result (λ it. it ≡ []) }
+    {
+        Ok(Numbers {
+            held: Held::Bytes(Vec::with_capacity(alloc, room)?),
+        })
+    }
+
+    /// How many there are.
+    pub(crate) fn len(&self) -> usize
+        ensures { result ≡ length self.now }
+    {
+        match &self.held {
+            Held::Bytes(bytes) => bytes.len(),
+            Held::Words(words) => words.len(),
+        }
+    }
+
+    /// The number at a place, counted from 0.
+    pub(crate) fn get(&self, place: usize) -> u32
+        requires { place < length self.now }
+        ensures { result ≡ slice_index self.now place }
+    {
+        match &self.held {
+            Held::Bytes(bytes) => u32::from(bytes[place]),
+            Held::Words(words) => words[place],
+        }
+    }
+
+    /// The number at a place, and the two after it.
+    pub(crate) fn three_from(&self, place: usize) -> [u32; 3]
+        requires { place + 2 < length self.now }
+        ensures { result ≡ slice_index self.now place ∷ slice_index self.now (place + 1)
+            ∷ slice_index self.now (place + 2) ∷ [] }
+    {
+        match &self.held {
+            Held::Bytes(bytes) => [
+                u32::from(bytes[place]),
+                u32::from(bytes[place + 1]),
+                u32::from(bytes[place + 2]),
+            ],
+            Held::Words(words) => [words[place], words[place + 1], words[place + 2]],
+        }
+    }
+
+    /// A copy in words.
+    pub(crate) fn words(&self, alloc: Global) -> Result<Vec<u32>, Memory>
+        ensures { IfOk result (λ words. words.items ≡ self.now) }
+    {
+        let mut all = Vec::with_capacity(alloc, self.len())?;
+        match &self.held {
+            Held::Bytes(bytes) => add_bytes(&mut all, bytes)?,
+            Held::Words(words) => all.extend_from_slice(words)?,
+        }
+        Ok(all)
+    }
+
+    /// Appends a number that does not fit in a byte.
+    fn push_word(&mut self, alloc: Global, number: u32) -> Result<(), Memory>
+        ensures { OnOk result (self.new ≡ self.old ++ number ∷ []) }
+    {
+        let mut words = self.words(alloc)?;
+        words.push(number)?;
+        *self = Numbers {
+            held: Held::Words(words),
+        };
+        Ok(())
+    }
+
+    /// Appends a number.
+    pub(crate) fn push(&mut self, alloc: Global, number: u32) -> Result<(), Memory>
+        ensures { OnOk result (self.new ≡ self.old ++ number ∷ []) }
+    {
+        match &mut self.held {
+            Held::Words(words) => {
+                words.push(number)?;
+                Ok(())
+            }
+            Held::Bytes(bytes) => match u8::try_from(number) {
+                Ok(byte) => {
+                    bytes.push(byte)?;
+                    Ok(())
+                }
+                Err(_) => self.push_word(alloc, number),
+            },
+        }
+    }
+
+    /// Appends bytes.
+    pub(crate) fn extend_bytes(&mut self, bytes: &[u8]) -> Result<(), Memory>
+        ensures { OnOk result (self.new ≡ self.old ++ bytes.now) }
+    {
+        match &mut self.held {
+            Held::Bytes(own) => own.extend_from_slice(bytes)?,
+            Held::Words(words) => add_bytes(words, bytes)?,
+        }
+        Ok(())
+    }
+
+    /// Appends numbers.
+    pub(crate) fn extend(&mut self, alloc: Global, numbers: &[u32]) -> Result<(), Memory>
+        ensures { OnOk result (self.new ≡ self.old ++ numbers.now) }
+    {
+        for number in numbers {
+            self.push(alloc, *number)?;
+        }
+        Ok(())
+    }
+
+    /// Keeps the first numbers alone.
+    pub(crate) fn truncate(&mut self, count: usize)
+        ensures { self.new ≡ take count self.old }
+    {
+        match &mut self.held {
+            Held::Bytes(bytes) => bytes.truncate(count),
+            Held::Words(words) => words.truncate(count),
+        }
+    }
+
+    /// The first numbers, and then the bytes of two lists.
+    pub(crate) fn front_with(
+        &self,
+        alloc: Global,
+        count: usize,
+        first: &[u8],
+        second: &[u8],
+    ) -> Result<Numbers, Memory>
+        requires { count ≤ length self.now }
+        ensures { IfOk result (λ it. it ≡ (take count self.now ++ first.now) ++ second.now) }
+    {
+        let room = count
+            .saturating_add(first.len())
+            .saturating_add(second.len());
+        let held = match &self.held {
+            Held::Bytes(own) => {
+                let mut all = Vec::with_capacity(alloc, room)?;
+                all.extend_from_slice(&own[..count])?;
+                all.extend_from_slice(first)?;
+                all.extend_from_slice(second)?;
+                Held::Bytes(all)
+            }
+            Held::Words(own) => {
+                let mut all = Vec::with_capacity(alloc, room)?;
+                all.extend_from_slice(&own[..count])?;
+                add_bytes(&mut all, first)?;
+                add_bytes(&mut all, second)?;
+                Held::Words(all)
+            }
+        };
+        Ok(Numbers { held })
+    }
+
+    /// The same numbers.
+    pub(crate) fn try_copy(&self, alloc: Global) -> Result<Numbers, Memory>
+        ensures { IfOk result (λ copy. copy ≡ self.now) }
+    {
+        self.front_with(alloc, self.len(), &[], &[])
+    }
+
+    /// Whether the first numbers of two lists are equal.
+    pub(crate) fn has_front_of(&self, other: &Numbers, count: usize) -> bool
+        requires own { count ≤ length self.now }
+        requires other { count ≤ length other.now }
+        ensures { IsTrue result ↔ take count self.now ≡ take count other.now }
+    {
+        if let (Held::Bytes(own), Held::Bytes(others)) = (&self.held, &other.held) {
+            return own[..count] == others[..count];
+        }
+        for place in 0..count {
+            if self.get(place) != other.get(place) {
+                return false;
+            }
+        }
+        true
+    }
+
+    /// By the first place where they differ.
+    pub(crate) fn cmp(&self, other: &Numbers) -> Ordering
+        requires { length self.now ≡ length other.now }
+        ensures { result ≡ slice_cmp nat_cmp self.now other.now }
+    {
+        for place in 0..self.len() {
+            let order = self.get(place).cmp(&other.get(place));
+            if order.is_ne() {
+                return order;
+            }
+        }
+        Ordering::Equal
+    }
+}
