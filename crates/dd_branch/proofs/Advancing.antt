@@ -259,18 +259,16 @@ part_of_value a v is room =
     ap (λ w. (next_place a).sides * (12 / w)) (quotient_is v (next_place a).turns (v * (next_place a).turns) some refl)
 
 -- the budget that is left
-pub budget_more : (a b : Assignment) (v sum : ℕ) → IsAssignment a → told a < 2 * a.table.size → HasBudget a sum → HasEntered a (v * (next_place a).turns) b
-    → 6 * a.table.size ≤ sum + (next_place a).sides * (12 / v) + get_or a.rests.most (told a + 1) 0 → sum + (next_place a).sides * (12 / v) + get_or a.rests.least (told a + 1) 0 ≤ 6 * a.table.size
-    → HasBudget b (sum + (next_place a).sides * (12 / v))
-budget_more a b v sum is room budget entered enough fits =
+pub budget_more : (a b : Assignment) (v n : ℕ) → IsAssignment a → told a < 2 * a.table.size → n ≡ spent_by a + (next_place a).sides * (12 / v) → HasEntered a (v * (next_place a).turns) b
+    → 6 * a.table.size ≤ n + get_or a.rests.most (told a + 1) 0 → n + get_or a.rests.least (told a + 1) 0 ≤ 6 * a.table.size → HasBudget b n
+budget_more a b v n is room so_far entered enough fits =
     let part = part_of_value a v is room in
     let size = ap (λ (x : Assignment). x.table.size) entered.back in
-    let had = budget.spent in
     let spends = entered.spent in
     let most = entered.most in
     let least = entered.least in
     record {
-      spent = omega (arith, part, had, spends);
+      spent = omega (arith, part, so_far, spends);
       enough = omega (arith, size, most, enough);
       room = omega (arith, size, least, fits);
     }
@@ -315,22 +313,21 @@ next_choice a is room s under P tile vertex =
     (cases_lt (told a) a.table.size)
 
 -- with a branching value the budget is met
-pub budget_of_member : (a : Assignment) (v sum : ℕ) → IsAssignment a → told a < 2 * a.table.size → HasBudget a sum → (s : Symbol) → IsMemberUnder a (prefix_of a) s → next_number (prefix_of a) s ≡ v * (next_place a).turns
-    → (6 * a.table.size ≤ sum + (next_place a).sides * (12 / v) + get_or a.rests.most (told a + 1) 0) × (sum + (next_place a).sides * (12 / v) + get_or a.rests.least (told a + 1) 0 ≤ 6 * a.table.size)
-budget_of_member a v sum is room budget s under next =
+pub budget_of_member : (a : Assignment) (v n : ℕ) → IsAssignment a → told a < 2 * a.table.size → n ≡ spent_by a + (next_place a).sides * (12 / v) → (s : Symbol) → IsMemberUnder a (prefix_of a) s → next_number (prefix_of a) s ≡ v * (next_place a).turns
+    → (6 * a.table.size ≤ n + get_or a.rests.most (told a + 1) 0) × (n + get_or a.rests.least (told a + 1) 0 ≤ 6 * a.table.size)
+budget_of_member a v n is room so_far s under next =
     let has = spends a is s under in
     let part = part_of_value a v is room in
     let degree : degree_at s (told a) ≡ v * (next_place a).turns = sym (next_degree a is s under) ∙ next in
     let here = ap (twelfths (next_place a)) degree in
     let upto = has.upto in
-    let had = budget.spent in
     let e : suc (told a) ≡ told a + 1 = omega arith in
     let most = has.most (suc (told a)) (omega (arith, room)) in
     let least = has.least (suc (told a)) (omega (arith, room)) in
     let step = spent_next a.places.items (degree_at s) (told a) in
     let at_most = ap (λ j. get_or a.rests.most j 0) e in
     let at_least = ap (λ j. get_or a.rests.least j 0) e in
-    (omega (arith, part, here, upto, had, step, most, at_most), omega (arith, part, here, upto, had, step, least, at_least))
+    (omega (arith, part, here, upto, so_far, step, most, at_most), omega (arith, part, here, upto, so_far, step, least, at_least))
 
 -- two branching values of one degree
 pub same_value : (set : Allowed) (r v m : ℕ) → 1 ≤ r → (c : IsChoice set r m) → m ≡ v * r → c.value ≡ v
@@ -352,9 +349,6 @@ part_small a v is room =
     let few = (sound_next a is (told a) no_place room).sides in
     let up = part_at_most (next_place a).sides v in
     omega (arith, up, few)
-
-pub spent_small : (a : Assignment) (sum : ℕ) → IsAssignment a → HasBudget a sum → sum ≤ 216
-spent_small a sum is budget = let room = budget.room in let few = is.table.small in omega (arith, room, few)
 
 pub none_if_five : (a : Assignment) (v : ℕ) → IsAssignment a → told a < 2 * a.table.size → v ≡ 5 → (s : Symbol) → IsMemberUnder a (prefix_of a) s → next_number (prefix_of a) s ≡ v * (next_place a).turns → ⊥
 none_if_five a v is room five s under next =
@@ -482,10 +476,10 @@ all_values a v is room end old new more =
     more
 
 -- where too much is left with a branching value, there are no more
-pub no_more_values : (a : Assignment) (v sum : ℕ) → IsAssignment a → told a < 2 * a.table.size → HasBudget a sum → 1 ≤ v
-    → sum + (next_place a).sides * (12 / v) + get_or a.rests.most (told a + 1) 0 < 6 * a.table.size → (old new : List Symbol)
+pub no_more_values : (a : Assignment) (v n : ℕ) → IsAssignment a → told a < 2 * a.table.size → n ≡ spent_by a + (next_place a).sides * (12 / v) → 1 ≤ v
+    → n + get_or a.rests.most (told a + 1) 0 < 6 * a.table.size → (old new : List Symbol)
     → Appends (AreUnderBefore (IsMember a.request) a.table.size (prefix_of a) (v * (next_place a).turns)) old new → Appends (AreUnder (IsMember a.request) a.table.size (prefix_of a)) old new
-no_more_values a v sum is room budget some short old new more =
+no_more_values a v n is room so_far some short old new more =
     let r = (next_place a).turns in
     let turns = (sound_next a is (told a) no_place room).some in
     appends_all (IsMember a.request) a.table.size (prefix_of a) (v * r) old new
@@ -498,9 +492,9 @@ no_more_values a v sum is room budget some short old new more =
     let up_one = next_up next.value r in
     omega (arith, up, up_one, e, turns))
     (λ high.
-    let enough = (budget_of_member a next.value sum is room budget s under e).0 in
+    let enough = (budget_of_member a next.value (spent_by a + (next_place a).sides * (12 / next.value)) is room refl s under e).0 in
     let falls = part_falls (next_place a).sides v next.value some high in
-    absurd (omega (arith, enough, falls, short)))
+    absurd (omega (arith, enough, falls, short, so_far)))
     (cases_lt next.value v))
     more
 

@@ -1,7 +1,7 @@
 -- The symbol of a table of which all degrees are told.
-use Rattle.std.proofs.Common.{◌≡◌, ℕ, ◌+◌, ◌-◌, ◌*◌, ◌<◌, ◌≤◌, IsTrue, List, [], ◌∷◌, ◌++◌, length, get_or, take, drop, refl, sym, ap, ◌∙◌, subst, arith}
+use Rattle.std.proofs.Common.{◌≡◌, ℕ, ◌+◌, ◌-◌, ◌*◌, IsTrue, List, [], ◌∷◌, ◌++◌, length, get_or, take, drop, refl, sym, ap, ◌∙◌, subst, arith}
 use Rattle.std.proofs.Math.Seq.{take-append_seam}
-use Rattle.std.proofs.lemmas.List.{append_assoc, ext_get_or, get_or_append_left, get_or-append_right, get_or-drop, get_or-take, length-drop, length-take-le, take_all, take-append-drop}
+use Rattle.std.proofs.lemmas.List.{append_assoc, ext_get_or, get_or_append_left, get_or-append_right, get_or-drop, get_or-take, length-drop, length-take-le, take-append-drop}
 use Rattle.dd_model.specs.declared.pair.Pair.TheVariants.{Tile, Vertex}
 use Rattle.dd_model.specs.Symbol.{Symbol, IsTable}
 use Rattle.std.specs.List.{Contains}
@@ -20,7 +20,6 @@ use Rattle.dd_symbol.proofs.TableLemmas.{with_same}
 use Rattle.dd_canon.specs.Ties.{IsLeastFrom}
 use Rattle.dd_invol.proofs.TiedTables.{least_of_ties}
 use Rattle.dd_invol.proofs.Follows.{member_orderly}
-use Rattle.dd_branch.specs.Parts.{part}
 use Rattle.dd_branch.specs.Assignment.{IsAssignment, IsMemberUnder, degree_at, prefix_of, spent_by, told}
 use Rattle.dd_branch.specs.Budget.{no_place, spent}
 use Rattle.dd_branch.specs.declared.assignment.Assignment.{Assignment}
@@ -30,27 +29,11 @@ use Rattle.dd_branch.proofs.Chosen.{AreDegrees, ArePlacesOf, AreToldOf, choice_e
 
 -- the symbol
 abbrev pub leaf : Assignment → Symbol
-leaf a = with_degrees a.table (part a.degrees.items 0 a.table.size) (part a.degrees.items a.table.size a.table.size)
-
-pub part_is : (xs : List ℕ) (k n : ℕ) → take n (drop k xs) ≡ part xs k n
-unfolding part
-part_is xs k n = refl
-
-length-part : (xs : List ℕ) (k n : ℕ) → k + n ≤ length xs → length (part xs k n) ≡ n
-unfolding part
-length-part xs k n e = length-take-le n (drop k xs) (let l = length-drop k xs in omega (arith, e, l))
-
-get_or-part : (xs : List ℕ) (k n j : ℕ) → j < n → get_or (part xs k n) j 0 ≡ get_or xs (k + j) 0
-unfolding part
-get_or-part xs k n j low = get_or-take n (drop k xs) j 0 low ∙ get_or-drop k xs j 0
+leaf a = with_degrees a.table (take a.table.size a.degrees.items) (drop a.table.size a.degrees.items)
 
 -- the degrees, one list after the other
-parts : (n : ℕ) (xs : List ℕ) → length xs ≡ 2 * n → part xs 0 n ++ part xs n n ≡ xs
-unfolding part
-parts n xs e = ap (λ ys. take n xs ++ ys) (take_all n (drop n xs) (let l = length-drop n xs in omega (arith, l, e))) ∙ take-append-drop n xs
-
-degrees_are : (a : Assignment) → told a ≡ 2 * a.table.size → (leaf a).m01 ++ (leaf a).m12 ≡ a.degrees.items
-degrees_are a whole = parts a.table.size a.degrees.items whole
+degrees_are : (a : Assignment) → (leaf a).m01 ++ (leaf a).m12 ≡ a.degrees.items
+degrees_are a = take-append-drop a.table.size a.degrees.items
 
 leaf_table : (a : Assignment) → IsAssignment a → told a ≡ 2 * a.table.size → IsTable (leaf a)
 leaf_table a is whole =
@@ -58,8 +41,8 @@ leaf_table a is whole =
     record {
       chambers = table.chambers;
       lengths = table.lengths;
-      m01_length = length-part a.degrees.items 0 a.table.size (omega (arith, whole));
-      m12_length = length-part a.degrees.items a.table.size a.table.size (omega (arith, whole));
+      m01_length = length-take-le a.table.size a.degrees.items (omega (arith, whole));
+      m12_length = let rest = length-drop a.table.size a.degrees.items in omega (arith, rest, whole);
       involutions = involutions-same a.table (leaf a) (with_same a.table (leaf a).m01 (leaf a).m12) table.involutions;
     }
 
@@ -70,7 +53,7 @@ leaf_degrees a is whole =
     let places = a.places.items in
     let table = leaf_table a is whole in
     let inv = is.table.symbol.table.involutions in
-    let joined = degrees_are a whole in
+    let joined = degrees_are a in
     let tiles : AreToldOf a.request.faces 0 n places (degree_at (leaf a)) =
     subst (λ xs. AreToldOf a.request.faces 0 n places (λ j. get_or xs j 0)) (sym joined) (record {
       same = λ k j at low. (is.each j no_place (omega (arith, at, low, whole))).same;
@@ -85,7 +68,7 @@ leaf_degrees a is whole =
     let vertex_places : ArePlacesOf a.table a.request.degrees Vertex n n places = λ k j at low. vertex_place a.request a.table places is.places n k j refl at low in
     record {
       lengths = record { lengths = table.lengths; m01_length = table.m01_length; m12_length = table.m12_length };
-      same = with_same a.table (part ds 0 n) (part ds n n);
+      same = with_same a.table (take n ds) (drop n ds);
       chosen = record {
         tiles = record {
           place = tile_places;
@@ -111,7 +94,7 @@ code_of_leaf a is whole =
     let t = a.table in
     let front : take (3 * t.size) (code t) ≡ all_images t =
     ap (λ n. take n (code t)) (sym (length-flat_images t 1 t.size)) ∙ ap (take (length (all_images t))) (append_assoc (all_images t) t.m01 t.m12) ∙ take-append_seam (all_images t) (t.m01 ++ t.m12) in
-    append_assoc (all_images t) (leaf a).m01 (leaf a).m12 ∙ ap (λ xs. all_images t ++ xs) (degrees_are a whole) ∙ ap (λ xs. xs ++ a.degrees.items) (sym front)
+    append_assoc (all_images t) (leaf a).m01 (leaf a).m12 ∙ ap (λ xs. all_images t ++ xs) (degrees_are a) ∙ ap (λ xs. xs ++ a.degrees.items) (sym front)
 
 -- the leaf is the member under the prefix, if it is minimal where that is asked for, and least
 pub leaf_is_member : (a : Assignment) → IsAssignment a → told a ≡ 2 * a.table.size → spent_by a ≡ 6 * a.table.size → (IsTrue a.request.minimal → Minimal (leaf a)) → Least (leaf a) → IsMemberUnder a (prefix_of a) (leaf a)
@@ -120,7 +103,7 @@ leaf_is_member a is whole flat minimal least =
     let places = a.places.items in
     let are = leaf_degrees a is whole in
     let spends : spent places (degree_at (leaf a)) 0 (2 * n) ≡ 6 * n =
-    ap (λ xs. spent places (λ j. get_or xs j 0) 0 (2 * n)) (degrees_are a whole) ∙ ap (spent places (λ j. get_or a.degrees.items j 0) 0) (sym whole) ∙ flat in
+    ap (λ xs. spent places (λ j. get_or xs j 0) 0 (2 * n)) (degrees_are a) ∙ ap (spent places (λ j. get_or a.degrees.items j 0) 0) (sym whole) ∙ flat in
     let wanted = wanted_of_degrees a.request a.table (leaf a) places is.table is.limits are ((flat_if_spent a.request a.table (leaf a) places (small_of_degrees a.request a.table (leaf a) places is.table are).symbol are.same are.chosen).0 spends) minimal in
     let member : IsMember a.request (leaf a) = record { wanted = wanted; least = least } in
     record {
@@ -129,9 +112,6 @@ leaf_is_member a is whole flat minimal least =
       size = refl;
       begins = subst (Begins (prefix_of a)) (sym (code_of_leaf a is whole)) (begins_itself (prefix_of a));
     }
-
-plus_none : (k : ℕ) → k ≡ 0 + k
-plus_none k = omega arith
 
 -- and there is no other
 pub under_leaf : (a : Assignment) → IsAssignment a → told a ≡ 2 * a.table.size → (s : Symbol) → IsMemberUnder a (prefix_of a) s → s ≡ leaf a
@@ -143,21 +123,21 @@ under_leaf a is whole s under =
     let size = under.size in
     let long01 = table.m01_length in
     let long12 = table.m12_length in
-    let own01 = length-part ds 0 n (omega (arith, whole)) in
-    let own12 = length-part ds n n (omega (arith, whole)) in
-    let m01 : s.m01 ≡ part ds 0 n = ext_get_or 0 s.m01 (part ds 0 n) (omega (arith, long01, own01, size)) (λ k low.
-    sym (get_or_append_left s.m01 s.m12 0 k low) ∙ told_degree a is s under k (omega (arith, low, long01, size, whole)) ∙ ap (λ j. get_or ds j 0) (plus_none k) ∙ sym (get_or-part ds 0 n k (omega (arith, low, long01, size)))) in
-    let m12 : s.m12 ≡ part ds n n = ext_get_or 0 s.m12 (part ds n n) (omega (arith, long12, own12, size)) (λ k low.
+    let own01 = length-take-le n ds (omega (arith, whole)) in
+    let own12 = length-drop n ds in
+    let m01 : s.m01 ≡ take n ds = ext_get_or 0 s.m01 (take n ds) (omega (arith, long01, own01, size)) (λ k low.
+    sym (get_or_append_left s.m01 s.m12 0 k low) ∙ told_degree a is s under k (omega (arith, low, long01, size, whole)) ∙ sym (get_or-take n ds k 0 (omega (arith, low, long01, size)))) in
+    let m12 : s.m12 ≡ drop n ds = ext_get_or 0 s.m12 (drop n ds) (omega (arith, long12, own12, size, whole)) (λ k low.
     let back : n + k - n ≡ k = omega arith in
     sym (get_or-append_right s.m01 s.m12 n (n + k) 0 (long01 ∙ size) (omega arith) ∙ ap (λ j. get_or s.m12 j 0) back)
-    ∙ told_degree a is s under (n + k) (omega (arith, low, long12, size, whole)) ∙ sym (get_or-part ds n n k (omega (arith, low, long12, size)))) in
+    ∙ told_degree a is s under (n + k) (omega (arith, low, long12, size, whole)) ∙ sym (get_or-drop n ds k 0)) in
     λ i. record { size = same.size i; s0 = same.s0 i; s1 = same.s1 i; s2 = same.s2 i; m01 = m01 i; m12 = m12 i }
 
--- the symbol of two parts
-pub leaf_is : (a : Assignment) (m01 m12 : List ℕ) (n : ℕ) → n ≡ a.table.size → m01 ≡ part a.degrees.items 0 n → m12 ≡ part a.degrees.items n n → with_degrees a.table m01 m12 ≡ leaf a
-leaf_is a m01 m12 n size tiles vertices =
-    ap (λ xs. with_degrees a.table xs m12) (tiles ∙ ap (part a.degrees.items 0) size)
-    ∙ ap (with_degrees a.table (part a.degrees.items 0 a.table.size)) (vertices ∙ ap (λ k. part a.degrees.items k k) size)
+-- the symbol of the two parts of the degrees
+pub leaf_is : (a : Assignment) (all m01 m12 : List ℕ) (n : ℕ) → all ≡ a.degrees.items → n ≡ a.table.size → m01 ≡ take n all → m12 ≡ drop n all → with_degrees a.table m01 m12 ≡ leaf a
+leaf_is a all m01 m12 n own size tiles vertices =
+    ap (λ xs. with_degrees a.table xs m12) (tiles ∙ ap (take n) own ∙ ap (λ k. take k a.degrees.items) size)
+    ∙ ap (with_degrees a.table (take a.table.size a.degrees.items)) (vertices ∙ ap (drop n) own ∙ ap (λ k. drop k a.degrees.items) size)
 
 -- the member under a whole prefix is the only one
 pub appends_leaf : (a : Assignment) → IsAssignment a → told a ≡ 2 * a.table.size → (old new : List Symbol) (c : Symbol) → IsMemberUnder a (prefix_of a) c → new ≡ old ++ c ∷ [] → Appends (AreUnder (IsMember a.request) a.table.size (prefix_of a)) old new

@@ -7,4 +7,3 @@ pub mod Entered
 pub mod Members
 pub mod Levels
 pub mod Descent
-pub mod Parts

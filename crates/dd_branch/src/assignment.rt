@@ -8,7 +8,6 @@ ghost use Rattle.dd_model.specs.Minimal.{Minimal};
 ghost use Rattle.dd_model.specs.Wanted.{IsMember};
 ghost use Rattle.dd_invol.specs.Table.{IsBareTable};
 ghost use Rattle.dd_invol.specs.Under.{next_number, AreUnder, Appends};
-ghost use Rattle.dd_branch.specs.Parts.{part};
 ghost use Rattle.dd_branch.specs.Choice.{IsChoice};
 ghost use Rattle.dd_branch.specs.Assignment.{HasLimits, IsAssignment, IsAtRoot, IsMemberUnder, next_place, prefix_of, spent_by, told};
 ghost use Rattle.dd_branch.specs.Entered.{HasBudget, HasEntered, HasForced};
@@ -38,7 +37,7 @@ pub(crate) struct Assignment {
     /// What the degrees from each place on will have of the budget.
     rests: Rests,
     /// The degrees that are told.
-    pub(crate) degrees: ArrayVec<u32, 72>,
+    pub(crate) degrees: ArrayVec<u8, 72>,
 }
 
 /// Whether a symbol of which all else is known is a member of the catalogue of a request. Most tables
@@ -129,27 +128,26 @@ impl Assignment {
         sum + self.rests.most[place] >= whole && sum + self.rests.least[place] <= whole
     }
 
-    /// Whether a branching value of the next cell, and so each greater one, leaves too much of the budget.
-    fn leaves_too_much(&self, sum: u16, value: u8) -> bool
+    /// Whether too much of the budget is left where so much of it is spent up to the next cell, as it
+    /// is then with each greater branching value of that cell.
+    pub(crate) fn leaves_too_much(&self, spent: u16) -> bool
         requires ready { IsAssignment self.now }
         requires room { told self.now < 2 * self.now.table.size }
-        requires small { sum ≤ 4096 }
-        requires value { (1 ≤ value) × (value ≤ 6) }
-        ensures { IsTrue result → sum + (next_place self.now).sides * (12 / value)
-            + slice_index self.now.rests.most (told self.now + 1) < 6 * self.now.table.size }
+        requires small { spent ≤ 4096 }
+        ensures { IsTrue result
+            ↔ (spent + slice_index self.now.rests.most (told self.now + 1) < 6 * self.now.table.size) }
     {
-        let place = self.next_place();
-        let sum = sum + u16::from(place.sides * part_of_side(value));
-        sum + self.rests.most[self.degrees.len() + 1] < 6 * self.size() as u16
+        spent + self.rests.most[self.degrees.len() + 1] < 6 * self.size() as u16
     }
 
-    /// Whether a degree of so many turns times a branching value may come next.
-    pub(crate) fn may_stand(&self, sum: u16, value: u8) -> bool
+    /// Whether a degree of so many turns times a branching value may come next, by the sets and by
+    /// what is spent with it.
+    pub(crate) fn may_stand(&self, spent: u16, value: u8) -> bool
         requires ready { IsAssignment self.now }
         requires room { told self.now < 2 * self.now.table.size }
-        requires root { IsAtRoot self.now }
-        requires budget { HasBudget self.now sum }
+        requires small { spent ≤ 4096 }
         requires value { (1 ≤ value) × (value ≤ 6) }
+        requires spent { spent ≡ spent_by self.now + (next_place self.now).sides * (12 / value) }
         ensures dead { OnFalse result ((s : Tiling) → IsMemberUnder self.now (prefix_of self.now) s
             → next_number (prefix_of self.now) s ≡ value * (next_place self.now).turns → ⊥) }
         ensures tile { OnTrue result (told self.now < self.now.table.size
@@ -158,21 +156,15 @@ impl Assignment {
         ensures vertex { OnTrue result (self.now.table.size ≤ told self.now
             → IsChoice self.now.request.degrees (next_place self.now).turns
             (value * (next_place self.now).turns)) }
-        ensures enough { OnTrue result (6 * self.now.table.size
-            ≤ sum + (next_place self.now).sides * (12 / value)
-            + slice_index self.now.rests.most (told self.now + 1)) }
-        ensures room { OnTrue result (sum + (next_place self.now).sides * (12 / value)
-            + slice_index self.now.rests.least (told self.now + 1) ≤ 6 * self.now.table.size) }
+        ensures room { OnTrue result (spent + slice_index self.now.rests.least (told self.now + 1)
+            ≤ 6 * self.now.table.size) }
     {
         let place = self.next_place();
-        if value == 5 || !self.allows(value * place.turns) {
+        let least = self.rests.least[self.degrees.len() + 1];
+        if value == 5 || spent + least > 6 * self.size() as u16 {
             return false;
         }
-        let sum = sum + u16::from(place.sides * part_of_side(value));
-        if !self.has_budget(sum, self.degrees.len() + 1) {
-            return false;
-        }
-        true
+        self.allows(value * place.turns)
     }
 
     /// Tells the degrees that follow from those told, up to the least chamber of another cell.
@@ -205,18 +197,8 @@ impl Assignment {
         ensures root { IsAtRoot self.new }
         ensures entered { HasEntered self.old degree self.new }
     {
-        self.degrees.push(u32::from(degree));
+        self.degrees.push(degree);
         self.force();
-    }
-
-    /// Some of the degrees that are told, from a place on.
-    fn part(&self, from: usize, count: usize) -> Result<Vec<u32>, Memory>
-        requires { from + count ≤ told self.now }
-        ensures { IfOk result
-            (λ numbers. numbers.items ≡ part self.now.degrees.items from count) }
-    {
-        let degrees = self.degrees.as_slice();
-        Ok(Vec::from_slice(self.alloc, &degrees[from..from + count])?)
     }
 
     /// The member with the degrees that are told, if there is one. Only its leastness, and what is
@@ -229,9 +211,7 @@ impl Assignment {
             ((s : Tiling) → IsMemberUnder self.now (prefix_of self.now) s → ⊥)
             (λ c. IsMemberUnder self.now (prefix_of self.now) c)) }
     {
-        let size = self.size();
-        let m01 = self.part(0, size)?;
-        let m12 = self.part(size, size)?;
+        let (m01, m12) = self.degrees.as_slice().split_at(self.size());
         let symbol = self.table.with_known_degrees(self.alloc, m01, m12)?;
         if is_asked(self.alloc, &self.request, &self.ties, &symbol)? {
             return Ok(Some(symbol));
@@ -270,13 +250,13 @@ impl Assignment {
         }
         let place = self.next_place();
         for value in 1..7u8 {
-            if self.leaves_too_much(sum, value) {
+            let spent = sum + u16::from(place.sides * part_of_side(value));
+            if self.leaves_too_much(spent) {
                 return Ok(());
             }
-            if self.may_stand(sum, value) {
+            if self.may_stand(spent, value) {
                 self.enter(value * place.turns);
-                let part = u16::from(place.sides * part_of_side(value));
-                self.add_members(sum + part, list)?;
+                self.add_members(spent, list)?;
                 self.degrees.truncate(next);
             }
         }

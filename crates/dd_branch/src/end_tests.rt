@@ -4,6 +4,7 @@ ghost use Rattle.dd_branch.specs.Entered.{HasBudget};
 
 use crate::assignment::Assignment;
 use crate::members::{degrees, has_limits};
+use crate::places::part_of_side;
 use dd_canon::tied_starts;
 use dd_invol::{Table, opening, tables_under};
 use dd_model::{Allowed, Job, Request};
@@ -36,10 +37,13 @@ fn count_ends(search: &mut Assignment, sum: u16) -> u64
     let place = search.next_place();
     let mut count = 0u64;
     for value in 1..7u8 {
-        if search.may_stand(sum, value) {
+        let spent = sum + u16::from(place.sides * part_of_side(value));
+        if search.leaves_too_much(spent) {
+            return count;
+        }
+        if search.may_stand(spent, value) {
             search.enter(value * place.turns);
-            let part = u16::from(place.sides * (12 / value));
-            count = count.saturating_add(count_ends(search, sum + part));
+            count = count.saturating_add(count_ends(search, spent));
             search.degrees.truncate(next);
         }
     }

@@ -1,13 +1,13 @@
-ghost use Rattle.std.specs.Prelude.{◌≡◌, ℕ, ◌+◌, ◌*◌, ◌/◌, ◌≤◌, ◌<◌, length, slice_index_or};
+ghost use Rattle.std.specs.Prelude.{◌≡◌, ℕ, ◌+◌, ◌*◌, ◌/◌, ◌≤◌, ◌<◌, IfSome, length, slice_index_or};
 ghost use Rattle.dd_model.specs.Symbol.{IsChamber};
+ghost use Rattle.dd_cells.specs.Cells.{IsSmallerInCell};
 ghost use Rattle.dd_branch.specs.Choice.{IsChoice};
 ghost use Rattle.dd_branch.specs.Place.{HasPlaces, HasSides, IsPlaceOf};
 ghost use Rattle.dd_branch.specs.declared.places.Place.{Place as Known};
 
 use arrayvec::ArrayVec;
-use dd_cells::smaller_in_cell;
 use dd_model::{Allowed, Pair};
-use dd_symbol::{CellShape, Connected, Kind};
+use dd_symbol::{CellShape, Connected, Kind, Symbol};
 
 /// What a table tells of one degree. The degrees of a table have places, those of the tiles at the
 /// chambers 1 to n first, and then those of the vertices. The budget is counted in twelfths.
@@ -69,7 +69,7 @@ fn most_part(set: &Allowed, turns: u8, sides: u8) -> u8
     0
 }
 
-/// What a table tells of the degree of a pair at the least chamber of a cell, where chamber 1 has the place `first`.
+/// What a table tells of the degree of a pair at a chamber whose cell is walked, where chamber 1 has the place `first`.
 fn place_of(table: &Connected, set: &Allowed, pair: Pair, first: u8, chamber: u32) -> Place
     requires small { table.now.size ≤ 36 }
     requires first { first ≤ 36 }
@@ -105,8 +105,25 @@ fn beside(place: &Place) -> Place
     }
 }
 
+/// A smaller chamber beside a chamber in its cell, if there is one. Most that are not the least of
+/// their cells have one.
+fn smaller_neighbor(symbol: &Symbol, pair: Pair, chamber: u32) -> Option<u32>
+    requires { IsChamber symbol.now chamber }
+    ensures { IfSome result (λ smaller. IsSmallerInCell symbol.now pair chamber smaller) }
+{
+    let first = symbol.op(pair.first(), chamber);
+    if first < chamber {
+        return Some(first);
+    }
+    let second = symbol.op(pair.second(), chamber);
+    if second < chamber {
+        return Some(second);
+    }
+    None
+}
+
 /// What a table tells of the degree of a pair at a chamber, where that of the smaller chambers is at the places from `first`
-/// on. A cell is walked at its least chamber alone.
+/// on. A cell is walked only where no neighbor is smaller.
 fn following_place(
     places: &[Place],
     table: &Connected,
@@ -123,7 +140,7 @@ fn following_place(
         first (k + 1) (slice_index_or places.now (first + k) x) }
     ensures { IsPlaceOf table.now set.now pair first chamber result }
 {
-    match smaller_in_cell(table.symbol(), pair, chamber) {
+    match smaller_neighbor(table.symbol(), pair, chamber) {
         Some(smaller) => beside(&places[first as usize + smaller as usize - 1]),
         None => place_of(table, set, pair, first, chamber),
     }

@@ -15,15 +15,12 @@ use Rattle.dd_symbol.specs.Images.{of_rows, with_degrees}
 use Rattle.dd_symbol.specs.Conditions.{AreConnected}
 use Rattle.dd_model.specs.Small.{IsSmallSymbol}
 use Rattle.dd_symbol.specs.Cells.{ArePeriods}
-use Rattle.dd_symbol.specs.Refusals.{IsRowsFault}
-use Rattle.dd_symbol.specs.declared.refusals.Refusal.{Refusal}
-use Rattle.dd_symbol.proofs.RefusalLemmas.{no_rows_fault}
 
 -- numbers that are no rows of involutions begin no code
-pub no_table : (n : ℕ) (numbers : List ℕ) (why : Refusal) → length numbers ≡ 3 * n → IsRowsFault (of_rows n numbers) why → HasNoTable n numbers
-no_table n numbers why whole fault s is connected commuting size begins =
+pub no_table : (n : ℕ) (numbers : List ℕ) → length numbers ≡ 3 * n → (AreInvolutions (of_rows n numbers) → ⊥) → HasNoTable n numbers
+no_table n numbers whole none s is connected commuting size begins =
     let same = told_same s n numbers [] [] is size whole begins in
-    no_rows_fault (of_rows n numbers) why (involutions-same s (of_rows n numbers) (record { size = same.size; s0 = same.s0; s1 = same.s1; s2 = same.s2 }) is.involutions) fault
+    none (involutions-same s (of_rows n numbers) (record { size = same.size; s0 = same.s0; s1 = same.s1; s2 = same.s2 }) is.involutions)
 
 -- ## The symbol that is built
 
@@ -40,10 +37,6 @@ pub record HaveBothPeriods (n : ℕ) (numbers m01 m12 : List ℕ) : Type 0 where
 pub both_periods : (n : ℕ) (numbers m01 m12 : List ℕ) (it : Symbol) → it ≡ of_rows n numbers → ArePeriods it Tile m01 → ArePeriods it Vertex m12 → HaveBothPeriods n numbers m01 m12
 both_periods n numbers m01 m12 it same tiles vertices =
     record { tiles = subst (λ s. ArePeriods s Tile m01) same tiles; vertices = subst (λ s. ArePeriods s Vertex m12) same vertices }
-
--- the numbers and the size that were handed on
-pub same_rows : (n m : ℕ) (numbers wide : List ℕ) (it : Symbol) → it ≡ of_rows m wide → m ≡ n → wide ≡ numbers → it ≡ of_rows n numbers
-same_rows n m numbers wide it is size rows = is ∙ ap (λ k. of_rows k wide) size ∙ ap (of_rows n) rows
 
 told_tiles : (n : ℕ) (numbers m01 m12 : List ℕ) → HaveBothPeriods n numbers m01 m12 → HasPeriods (told n numbers m01 m12) Tile
 told_tiles n numbers m01 m12 both = record {

@@ -5,17 +5,6 @@ use dd_symbol::{Connected, Involutions, build_fitting};
 use std::alloc::Global;
 use std::marker::Model;
 
-/// The numbers, wide enough for images of larger tables.
-fn widened(alloc: Global, numbers: &[u8]) -> Result<Vec<u32>, Memory>
-    ensures { IfOk result (λ wide. wide.items ≡ numbers.now) }
-{
-    let mut wide = Vec::with_capacity(alloc, numbers.len())?;
-    for number in numbers {
-        wide.push(u32::from(*number))?;
-    }
-    Ok(wide)
-}
-
 /// Three whole involutions of one size, connected, with s0 s2 = s2 s0. They are kept as the symbol
 /// with them of which all branching values are 1.
 #[derive(Drop)]
@@ -48,8 +37,7 @@ impl Table {
             (λ found. MatchOption found (HasNoTable size numbers.now)
             (λ table. IsTableOf size numbers.now table)) }
     {
-        let rows = widened(alloc, numbers)?;
-        let Ok(involutions) = Involutions::from_rows(rows, u32::from(size)) else {
+        let Some(involutions) = Involutions::from_bytes(alloc, numbers, u32::from(size))? else {
             return Ok(None);
         };
         let m01 = involutions.periods(alloc, Pair::Tile)?;

@@ -1,4 +1,5 @@
-use Rattle.std.proofs.Common.{◌≡◌, ◌+◌, ◌*◌, ◌/◌, ◌<◌, refl, sym, ap, ◌∙◌, subst, arith}
+use Rattle.std.proofs.Common.{◌≡◌, ◌+◌, ◌*◌, ◌/◌, ◌<◌, ◌≤◌, get_or, refl, sym, ap, ◌∙◌, subst, ⊎_elim, arith}
+use Rattle.std.proofs.lemmas.Bool.{cases_lt}
 use Rattle.dd_branch.specs.Assignment.{IsAssignment, IsAtRoot, next_place, shortened, told}
 use Rattle.dd_branch.specs.Entered.{HasBudget, HasEntered}
 use Rattle.dd_branch.specs.Choice.{IsChoice}
@@ -21,12 +22,6 @@ pub may_stand-requires-clause-room : goal.may_stand-requires-clause-room
 may_stand-requires-clause-room t c =
     subst (λ (x : Assignment). told x < 2 * x.table.size) (sym c.loop-value.invariant.same)
     (room_here c.args.search.now c.len-next.result c.len.result c.requires.ready c.if-next-len.false c.len-next.ensures.value c.len.ensures.value)
-
-pub may_stand-requires-clause-root : goal.may_stand-requires-clause-root
-may_stand-requires-clause-root t c = subst IsAtRoot (sym c.loop-value.invariant.same) c.requires.root
-
-pub may_stand-requires-clause-budget : goal.may_stand-requires-clause-budget
-may_stand-requires-clause-budget t c = subst (λ x. HasBudget x c.args.sum) (sym c.loop-value.invariant.same) c.requires.budget
 
 pub overflow_mul-value : goal.overflow_mul-value
 overflow_mul-value t c =
@@ -64,26 +59,31 @@ overflow_mul-place t c =
     let room = room_here a c.len-next.result c.len.result c.requires.ready c.if-next-len.false c.len-next.ensures.value c.len.ensures.value in
     let small = part_small a c.loop-value.value c.requires.ready room in
     let same = ap (λ (x : Place). x.sides * (12 / c.loop-value.value)) c.next_place-place.ensures in
-    omega (arith, small, same)
+    let side = ap (λ k. c.next_place-place.result.sides * k) c.part_of_side.ensures in
+    omega (arith, small, same, side)
 
 pub count_ends-requires : goal.count_ends-requires
 count_ends-requires t c =
     let a = c.args.search.now in
     let b = c.enter.new.self in
+    let x = c.loop-value.search in
     let v = c.loop-value.value in
+    let n = c.args.sum + c.from.result in
     let same = c.loop-value.invariant.same in
-    let place : c.next_place-place.result ≡ next_place c.loop-value.search = c.next_place-place.ensures ∙ ap next_place (sym same) in
+    let place : c.next_place-place.result ≡ next_place x = c.next_place-place.ensures ∙ ap next_place (sym same) in
     let room = room_here a c.len-next.result c.len.result c.requires.ready c.if-next-len.false c.len-next.ensures.value c.len.ensures.value in
     let is = subst IsAssignment (sym same) c.requires.ready in
-    let room' = subst (λ (x : Assignment). told x < 2 * x.table.size) (sym same) room in
-    let budget = subst (λ x. HasBudget x c.args.sum) (sym same) c.requires.budget in
-    let entered = subst (λ (x : Place). HasEntered c.loop-value.search (v * x.turns) b) place c.enter.ensures.entered in
-    let part : c.from-part.result ≡ (next_place c.loop-value.search).sides * (12 / v) = c.from-part.ensures ∙ ap (λ (x : Place). x.sides * (12 / v)) place in
-    let more = budget_more c.loop-value.search b v c.args.sum is room' budget entered c.if-may_stand.ensures.enough c.if-may_stand.ensures.room in
+    let room' = subst (λ (y : Assignment). told y < 2 * y.table.size) (sym same) room in
+    let entered = subst (λ (y : Place). HasEntered x (v * y.turns) b) place c.enter.ensures.entered in
+    let part : c.from.result ≡ (next_place x).sides * (12 / v) = c.from.ensures ∙ ap (λ k. c.next_place-place.result.sides * k) c.part_of_side.ensures ∙ ap (λ (y : Place). y.sides * (12 / v)) place in
+    let had = (subst (λ y. HasBudget y c.args.sum) (sym same) c.requires.budget).spent in
+    let enough : 6 * x.table.size ≤ n + get_or x.rests.most (told x + 1) 0 =
+    ⊎_elim (λ low. absurd (let yes' = c.leaves_too_much.ensures.1 low in let no' = c.if-leaves_too_much.false in cc)) (λ high. high) (cases_lt (n + get_or x.rests.most (told x + 1) 0) (6 * x.table.size)) in
+    let more = budget_more x b v n is room' (omega (arith, part, had)) entered enough c.if-may_stand.ensures.room in
     let longer = entered.longer in
-    let size = ap (λ (x : Assignment). x.table.size) (entered.back ∙ same) in
+    let size = ap (λ (y : Assignment). y.table.size) (entered.back ∙ same) in
     let start = ap told same in
-    (omega (arith, longer, size, start, room), (c.enter.ensures.ready, (c.enter.ensures.root, subst (λ p. HasBudget b (c.args.sum + p)) (sym part) more)))
+    (omega (arith, longer, size, start, room), (c.enter.ensures.ready, (c.enter.ensures.root, more)))
 
 pub loop-value-preserved : goal.loop-value-preserved
 loop-value-preserved t c =

@@ -6,7 +6,7 @@ use Rattle.dd_branch.proofs.places.following_place.Goals as goal
 use Rattle.dd_branch.proofs.places.following_place.Goals.{In-Some}
 
 found : (c : In-Some) → IsSmallerInCell c.args.table.now c.args.pair c.args.chamber c.in-Some.smaller
-found c = subst (λ t. IsSmallerInCell t c.args.pair c.args.chamber c.in-Some.smaller) c.symbol.ensures.same (rw c.in-Some.is at c.smaller_in_cell.ensures)
+found c = subst (λ t. IsSmallerInCell t c.args.pair c.args.chamber c.in-Some.smaller) c.symbol.ensures.same (rw c.in-Some.is at c.smaller_neighbor.ensures)
 
 pub overflow_sub-first : goal.overflow_sub-first
 overflow_sub-first c =
@@ -16,7 +16,7 @@ overflow_sub-first c =
 
 pub bounds-places-first : goal.bounds-places-first
 bounds-places-first c =
-    let is = subst (λ t. IsSmallerInCell t c.args.pair c.args.chamber c.in-Some.smaller) c.symbol.ensures.same (rw c.in-Some.is at c.smaller_in_cell.ensures) in
+    let is = subst (λ t. IsSmallerInCell t c.args.pair c.args.chamber c.in-Some.smaller) c.symbol.ensures.same (rw c.in-Some.is at c.smaller_neighbor.ensures) in
     let near = smaller_chamber c.args.table.now c.symbol.ensures.symbol.symbol.table.involutions c.args.pair c.args.chamber c.in-Some.smaller c.requires.chamber is in
     let low = near.0 in
     let smaller = is.smaller in
@@ -24,7 +24,7 @@ bounds-places-first c =
 
 pub returns-in-Some : goal.returns-in-Some
 returns-in-Some c =
-    let is = subst (λ t. IsSmallerInCell t c.args.pair c.args.chamber c.in-Some.smaller) c.symbol.ensures.same (rw c.in-Some.is at c.smaller_in_cell.ensures) in
+    let is = subst (λ t. IsSmallerInCell t c.args.pair c.args.chamber c.in-Some.smaller) c.symbol.ensures.same (rw c.in-Some.is at c.smaller_neighbor.ensures) in
     let near = smaller_chamber c.args.table.now c.symbol.ensures.symbol.symbol.table.involutions c.args.pair c.args.chamber c.in-Some.smaller c.requires.chamber is in
     let e = c.in-Some.smaller in
     place_beside c.args.table.now c.symbol.ensures.symbol.symbol.table.involutions c.args.set.now c.args.pair c.args.first c.args.chamber e

@@ -12,7 +12,7 @@ use Rattle.dd_branch.proofs.assignment.Assignment.member.Goals as goal
 pub with_known_degrees-requires : goal.with_known_degrees-requires
 with_known_degrees-requires c =
     let a = c.args.self.now in
-    subst IsSmallSymbol (sym (leaf_is a c.in_ok-m01.m01.items c.in_ok-m12.m12.items c.size-size.result c.size-size.ensures c.in_ok-m01.ensures c.in_ok-m12.ensures)) (leaf_small a c.requires.ready c.requires.whole)
+    subst IsSmallSymbol (sym (leaf_is a c.as_slice.result.now c.split_at.result.0.now c.split_at.result.1.now c.size.result c.as_slice.ensures.value c.size.ensures c.split_at.ensures.front c.split_at.ensures.back)) (leaf_small a c.requires.ready c.requires.whole)
 
 pub is_asked-requires : goal.is_asked-requires
 is_asked-requires c d there =
@@ -24,7 +24,7 @@ is_asked-requires c d there =
 pub returns-then-branch : goal.returns-then-branch
 returns-then-branch c =
     let a = c.args.self.now in
-    let same = c.in_ok-symbol.ensures ∙ leaf_is a c.in_ok-m01.m01.items c.in_ok-m12.m12.items c.size-size.result c.size-size.ensures c.in_ok-m01.ensures c.in_ok-m12.ensures in
+    let same = c.in_ok-symbol.ensures ∙ leaf_is a c.as_slice.result.now c.split_at.result.0.now c.split_at.result.1.now c.size.result c.as_slice.ensures.value c.size.ensures c.split_at.ensures.front c.split_at.ensures.back in
     let asked = c.in_ok-is_asked.ensures.0 c.if-branch.true in
     let ties = c.args.self.now.ties.items in
     let least = subst (IsLeastFrom c.in_ok-symbol.symbol) c.deref.ensures.value asked.0 in
@@ -35,7 +35,7 @@ pub returns : goal.returns
 returns c s under =
     let a = c.args.self.now in
     let same = under_leaf a c.requires.ready c.requires.whole s under
-    ∙ sym (c.in_ok-symbol.ensures ∙ leaf_is a c.in_ok-m01.m01.items c.in_ok-m12.m12.items c.size-size.result c.size-size.ensures c.in_ok-m01.ensures c.in_ok-m12.ensures) in
+    ∙ sym (c.in_ok-symbol.ensures ∙ leaf_is a c.as_slice.result.now c.split_at.result.0.now c.split_at.result.1.now c.size.result c.as_slice.ensures.value c.size.ensures c.split_at.ensures.front c.split_at.ensures.back) in
     let member = under.wanted in
     let own = ties_of_least s a.ties.items member.wanted.symbol (λ d there. let h = c.requires.ready.ties.chambers d there in let size = under.size in (h.0, let high = h.1 in omega (arith, high, size))) member.least in
     let yes' = c.in_ok-is_asked.ensures.1 (subst (IsLeastFrom c.in_ok-symbol.symbol) (sym c.deref.ensures.value) (subst (λ u. IsLeastFrom u a.ties.items) same own), subst (λ u. IsTrue a.request.minimal → Minimal u) same member.wanted.minimal) in
