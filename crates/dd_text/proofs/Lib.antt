@@ -4,7 +4,8 @@ pub mod LinesAdded
 pub mod NextPart
 pub mod ShapeParts
 pub mod SizeParts
-pub mod FaultMakers
+pub mod Digits
+mod FaultMakers
 pub mod HeadReads
 pub mod SizeReads
 pub mod ListReads

@@ -1,5 +1,5 @@
-ghost use Rattle.std.specs.Prelude.{◌≡◌, ◌++◌, ◌≤◌, List, Bool, decimal, codes, length, map, OnOk, OnErr, All};
-ghost use Rattle.dd_model.specs.Line.{IsLine, spaced, told_images};
+ghost use Rattle.std.specs.Prelude.{◌≡◌, ◌++◌, ◌+◌, ◌<◌, ◌≤◌, List, Bool, decimal, codes, length, map, OnOk, OnErr, All};
+ghost use Rattle.dd_model.specs.Line.{IsLine, after_space, spaced, told_images};
 ghost use Rattle.dd_model.specs.Symbol.{IsChamber, degree};
 ghost use Rattle.dd_model.specs.Text.{AreLines};
 ghost use Rattle.dd_text.specs.Writing.{next_number, AddsLine, AddsLines, IsLonger};
@@ -118,7 +118,9 @@ fn put_images(out: &mut Vec<u8>, symbol: &Symbol, i: Index) -> Result<(), Memory
     Ok(())
 }
 
-/// Appends the degrees of a pair at some chambers.
+/// Appends the degrees of a pair at some chambers. It is inlined where the pair is known, so that the
+/// pair is not tested again for each chamber.
+#[inline(always)]
 fn put_degrees(
     out: &mut Vec<u8>,
     symbol: &Symbol,
@@ -139,14 +141,40 @@ fn put_degrees(
 }
 
 /// Appends a number of a list, after a space where the list has begun.
+#[inline(always)]
 fn put_next(out: &mut Vec<u8>, begun: bool, number: u32) -> Result<(), Memory>
     ensures next { OnOk result (out.new.items ≡ out.old.items ++ next_number begun number) }
     ensures longer { IsLonger out.old.items out.new.items }
 {
     if begun {
-        out.push(b' ')?;
+        return put_spaced(out, number);
     }
     put_number(out, number)
+}
+
+/// Appends a space and a number in decimal, at once where it has one or two digits, as most have.
+#[inline(always)]
+fn put_spaced(out: &mut Vec<u8>, number: u32) -> Result<(), Memory>
+    ensures number { OnOk result (out.new.items ≡ out.old.items ++ after_space number) }
+    ensures longer { IsLonger out.old.items out.new.items }
+{
+    if number < 10 {
+        return put_bytes(out, &[b' ', digit(number)]);
+    }
+    if number < 100 {
+        return put_bytes(out, &[b' ', digit(number / 10), digit(number % 10)]);
+    }
+    out.push(b' ')?;
+    put_number(out, number)
+}
+
+/// The digit of a number below 10.
+#[inline(always)]
+fn digit(number: u32) -> u8
+    requires { number < 10 }
+    ensures { result ≡ 48 + number }
+{
+    b'0' + number as u8
 }
 
 /// Appends the number of a line in decimal.
@@ -158,13 +186,16 @@ pub(crate) fn put_ordinal(out: &mut Vec<u8>, k: u128) -> Result<(), Memory>
     put_bytes(out, digits.format(k).as_bytes())
 }
 
-/// Appends a number in decimal. Most are of one digit.
+/// Appends a number in decimal. Most are of one digit or two.
 pub(crate) fn put_number(out: &mut Vec<u8>, number: u32) -> Result<(), Memory>
     ensures number { OnOk result (out.new.items ≡ out.old.items ++ decimal number) }
     ensures longer { IsLonger out.old.items out.new.items }
 {
     if number < 10 {
-        return Ok(out.push(b'0' + number as u8)?);
+        return Ok(out.push(digit(number))?);
+    }
+    if number < 100 {
+        return put_bytes(out, &[digit(number / 10), digit(number % 10)]);
     }
     let mut digits = Buffer::new();
     put_bytes(out, digits.format(number).as_bytes())
