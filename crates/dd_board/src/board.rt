@@ -22,12 +22,13 @@ use std::sync::ledger::Ledger;
 use std::sync::{Mutex, Wait};
 
 /// The desk of a round behind a lock, with a seat for each of its workers. The type parameters
-/// name the round and the five ledgers of its calls. How many jobs wait is also counted beside the
-/// lock, as a hint that no clause reads.
+/// name the round and the five ledgers of its calls. How many jobs wait, and how many are just being
+/// split, is also counted beside the lock, as hints that no clause reads.
 #[derive(Drop)]
 pub struct Board<N: Naming, K: Ledger, L: Ledger, S: Ledger, D: Ledger, B: Ledger> {
     counted: Mutex<Counted<N, K, L, S, D, B>>,
     waiting: AtomicU64,
+    splitting: AtomicU64,
 }
 
 impl<N: Naming, K: Ledger, L: Ledger, S: Ledger, D: Ledger, B: Ledger> Board<N, K, L, S, D, B> {
@@ -68,6 +69,7 @@ impl<N: Naming, K: Ledger, L: Ledger, S: Ledger, D: Ledger, B: Ledger> Board<N, 
         let board = Board {
             counted: Mutex::new(Counted { desk, books }),
             waiting,
+            splitting: AtomicU64::new(0),
         };
         Ok((board, seats))
     }
@@ -86,6 +88,21 @@ impl<N: Naming, K: Ledger, L: Ledger, S: Ledger, D: Ledger, B: Ledger> Board<N, 
     /// About how many jobs are open. Nothing rests on it: others may take and split meanwhile.
     pub fn waiting(&self) -> u64 {
         self.waiting.load(Ordering::SeqCst)
+    }
+
+    /// Tells the other workers that a job is being split, so that there may soon be more to do.
+    pub fn begin_split(&self) {
+        self.splitting.fetch_add(1, Ordering::SeqCst);
+    }
+
+    /// Tells them that this is over.
+    pub fn end_split(&self) {
+        self.splitting.fetch_sub(1, Ordering::SeqCst);
+    }
+
+    /// Whether some worker is just splitting a job. Nothing rests on it.
+    pub fn is_splitting(&self) -> bool {
+        self.splitting.load(Ordering::SeqCst) > 0
     }
 
     /// Puts the jobs in the place of the ticket's. `Err` comes for want of memory alone, and has

@@ -9,8 +9,11 @@ use std::hint;
 use std::sync::Wait;
 use std::sync::ledger::Ledger;
 
-/// How often a worker looks for a job that is open before it is through: some 50 microseconds.
+/// How often a worker looks for a job that is open, while none is just being split, before it is through: some 50 microseconds.
 const LOOKS: u32 = 2000;
+
+/// How often it looks at all: some seconds.
+const MOST_LOOKS: u32 = 100_000_000;
 
 // A ticket of another worker's deque: the others are asked in turn.
 fn steal_one<N: Naming, R: Wait>(rt: &R, hand: &mut Hand<N>) -> Option<Ticket<N>>
@@ -48,7 +51,7 @@ fn take_ahead<N: Naming, K: Ledger, L: Ledger, S: Ledger, D: Ledger, B: Ledger, 
     }
 }
 
-// Waits a moment for an open job, since another worker may just be splitting one. A worker that is alone does not.
+// Waits for an open job while another worker is just splitting one, and a moment longer. A worker that is alone does not.
 fn wait_for_jobs<N: Naming, K: Ledger, L: Ledger, S: Ledger, D: Ledger, B: Ledger>(
     board: &Board<N, K, L, S, D, B>,
     others: usize,
@@ -56,10 +59,12 @@ fn wait_for_jobs<N: Naming, K: Ledger, L: Ledger, S: Ledger, D: Ledger, B: Ledge
     if others == 0 {
         return;
     }
-    for _ in 0..LOOKS {
-        if board.waiting() > 0 {
+    let mut looks = 0;
+    for _ in 0..MOST_LOOKS {
+        if board.waiting() > 0 || looks >= LOOKS {
             return;
         }
+        looks = if board.is_splitting() { 0 } else { looks + 1 };
         hint::spin_loop();
     }
 }

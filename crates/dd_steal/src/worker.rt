@@ -1,4 +1,4 @@
-ghost use Rattle.std.specs.Prelude.{◌≡◌, ◌⊎◌, ◌<◌, MatchResult};
+ghost use Rattle.std.specs.Prelude.{◌≡◌, ◌⊎◌, ◌*◌, ◌<◌, MatchOption, MatchResult, length};
 ghost use Rattle.dd_rack.specs.Hands.{hand_passes, hand_place, HasAllOfHand};
 ghost use Rattle.dd_board.specs.Ledgers.{Counts};
 ghost use Rattle.dd_steal.specs.Worker.{IsLeftWith, IsIdle, held_at_end};
@@ -13,6 +13,32 @@ use dd_rack::Hand;
 use std::alloc::Global;
 use std::sync::Wait;
 use std::sync::ledger::Ledger;
+
+// Splits a job, and answers its ticket where that is not worth it. `Err` comes for want of memory alone, and has the ticket.
+fn split_job<N: Naming, K: Ledger, L: Ledger, S: Ledger, D: Ledger, B: Ledger, R: Wait, F: Finder>(
+    rt: &R,
+    alloc: Global,
+    finder: &F,
+    board: &Board<N, K, L, S, D, B>,
+    seat: &mut Seat<K, L, S, D, B>,
+    ticket: Ticket<N>,
+) -> Result<Option<Ticket<N>>, Ticket<N>>
+    requires request { F.request finder.now ≡ N.request }
+    requires shorter { length ticket.job.prefix < 3 * ticket.job.size }
+    ensures counts { MatchResult result
+        (λ left. MatchOption left (Counts seat.old seat.new 0 0 1 0 0)
+        (λ back. (back ≡ ticket) × Counts seat.old seat.new 0 0 0 0 0))
+        (λ back. (back ≡ ticket) × Counts seat.old seat.new 0 0 0 0 0) }
+{
+    match finder.split(alloc, ticket.job()) {
+        Ok(jobs) if is_worth_a_split(&jobs) => {
+            board.split(rt, seat, ticket, jobs)?;
+            Ok(None)
+        }
+        Ok(_) => Ok(Some(ticket)),
+        Err(_) => Err(ticket),
+    }
+}
 
 // Does a job: finds what is under it, or splits it. `Err` comes for want of memory alone, and has the ticket.
 fn do_job<N: Naming, K: Ledger, L: Ledger, S: Ledger, D: Ledger, B: Ledger, R: Wait, F: Finder>(
@@ -29,11 +55,14 @@ fn do_job<N: Naming, K: Ledger, L: Ledger, S: Ledger, D: Ledger, B: Ledger, R: W
         (λ _. Counts seat.old seat.new 0 0 1 0 0 ⊎ Counts seat.old seat.new 0 0 0 1 0)
         (λ back. (back ≡ ticket) × Counts seat.old seat.new 0 0 0 0 0) }
 {
+    let mut ticket = ticket;
     if is_to_split(ticket.job(), board.waiting(), others) {
-        match finder.split(alloc, ticket.job()) {
-            Ok(jobs) if is_worth_a_split(&jobs) => return board.split(rt, seat, ticket, jobs),
-            Ok(_) => {}
-            Err(_) => return Err(ticket),
+        board.begin_split();
+        let left = split_job(rt, alloc, finder, board, seat, ticket);
+        board.end_split();
+        match left? {
+            None => return Ok(()),
+            Some(back) => ticket = back,
         }
     }
     match finder.find(alloc, ticket.job()) {
