@@ -4,8 +4,8 @@ use Rattle.std.proofs.Math.Nat.{mul-le-mul_right}
 use Rattle.std.proofs.Math.Seq.{take-append_seam, take-length}
 use Rattle.std.proofs.lemmas.Bool.{cases_lt}
 use Rattle.std.proofs.lemmas.List.{append_assoc, length_push, get_or_default, get_or_push, get_or_append_left, take-append-le, take-take}
+use Rattle.std.specs.Int.{bit_at}
 use Rattle.dd_model.specs.declared.allowed.Allowed.{Allowed}
-use Rattle.dd_model.specs.Allowed.{IsIn}
 use Rattle.dd_model.specs.declared.pair.Pair.TheVariants.{Tile, Vertex}
 use Rattle.dd_model.specs.Symbol.{Symbol}
 use Rattle.dd_model.specs.Code.{code}
@@ -14,15 +14,15 @@ use Rattle.dd_invol.specs.Under.{Appends, AreUnder, AreUnderBefore, SkipsTo, nex
 use Rattle.dd_invol.proofs.Prefixes.{appends_all, appends_first, appends_next, extended, shortened as prefix_shortened}
 use Rattle.dd_cells.proofs.ReciprocalSums.{quotient_is}
 use Rattle.dd_branch.specs.Budget.{no_place, spent, twelfths}
-use Rattle.dd_branch.specs.Choice.{IsChoice}
+use Rattle.dd_branch.specs.Choice.{HasValues, IsChoice}
 use Rattle.dd_branch.specs.Assignment.{IsAssignment, IsAtRoot, IsMemberUnder, IsTold, degree_at, next_place, prefix_of, shortened, spent_by, told}
 use Rattle.dd_branch.specs.Entered.{HasBudget, HasEntered, HasForced}
 use Rattle.dd_branch.specs.declared.assignment.Assignment.{Assignment}
 use Rattle.dd_branch.specs.declared.places.Place.{Place}
 use Rattle.dd_branch.proofs.Assigned.{length-prefix, next_degree, same_of_under, told_degree}
-use Rattle.dd_branch.proofs.Budgets.{AllAreChosen, flat_if_spent, spent_at_least, spent_at_most, spent_next, spent_same}
+use Rattle.dd_branch.proofs.Budgets.{AllAreChosen, flat_if_spent, spent_as_told, spent_at_least, spent_at_most, spent_next, spent_same}
 use Rattle.dd_branch.proofs.Chosen.{IsSound, all_bounded, constant_at, sound_places, wanted_chosen}
-use Rattle.dd_branch.proofs.Choices.{IsValue, is_crystallographic, part_at_most, part_falls, value_of}
+use Rattle.dd_branch.proofs.Choices.{IsValue, part_at_most, part_falls, value_of, value_told}
 
 -- the assignment with other degrees
 abbrev pub with_list : Assignment → List ℕ → Assignment
@@ -52,12 +52,11 @@ rest_small a is (suc d) j end =
     let sound = sound_next a is j no_place (omega (arith, end)) in
     let few = sound.sides in
     let up = sound.most in
-    let down = sound.least in
     let most = is.rests.each_most j no_place (omega (arith, end, count)) in
     let least = is.rests.each_least j no_place (omega (arith, end, count)) in
     let b_most = before.0 in
     let b_least = before.1 in
-    (omega (arith, most, up, few, b_most), omega (arith, least, down, few, b_least))
+    (omega (arith, most, up, few, b_most), omega (arith, least, few, b_least))
 
 pub rests_small : (a : Assignment) → IsAssignment a → (j : ℕ) → j ≤ 2 * a.table.size → (get_or a.rests.most j 0 ≤ 1728) × (get_or a.rests.least j 0 ≤ 1728)
 rests_small a is j low =
@@ -167,13 +166,12 @@ forced_none a = record {
 
 -- a place that is no least chamber's adds nothing
 adds_nothing : (a : Assignment) (m : ℕ) → IsAssignment a → told a < 2 * a.table.size → (next_place a).root ≢ told a
-    → (twelfths (next_place a) m ≡ 0) × ((next_place a).most ≡ 0) × ((next_place a).least ≡ 0)
+    → (twelfths (next_place a) m ≡ 0) × ((next_place a).most ≡ 0) × ((next_place a).sides ≡ 0)
 adds_nothing a m is room other =
     let sound = sound_next a is (told a) no_place room in
     let none = sound.follows other in
     let most = sound.most in
-    let least = sound.least in
-    (ap (λ n. n * (12 / (m / (next_place a).turns))) none ∙ omega arith, omega (arith, none, most), omega (arith, none, least))
+    (ap (λ n. n * (12 / (m / (next_place a).turns))) none ∙ omega arith, omega (arith, none, most), none)
 
 -- the next degree of each member is that of the least chamber of the cell
 forced_number : (a : Assignment) → IsAssignment a → told a < 2 * a.table.size → (next_place a).root ≢ told a → (s : Symbol) → IsMemberUnder a (prefix_of a) s → next_number (prefix_of a) s ≡ get_or a.degrees.items (next_place a).root 0
@@ -281,6 +279,7 @@ pub record Spends (a : Assignment) (s : Symbol) : Type 0 where
   pub upto : spent a.places.items (degree_at s) 0 (told a) ≡ spent_by a
   pub most : (k : ℕ) → k ≤ 2 * a.table.size → 6 * a.table.size ≤ spent a.places.items (degree_at s) 0 k + get_or a.rests.most k 0
   pub least : (k : ℕ) → k ≤ 2 * a.table.size → spent a.places.items (degree_at s) 0 k + get_or a.rests.least k 0 ≤ 6 * a.table.size
+  pub surplus : (k e : ℕ) → k ≤ 2 * a.table.size → spent a.places.items (degree_at s) 0 k + get_or a.rests.least k 0 + e ≡ 6 * a.table.size → e < 64 → bit_at (get_or a.rests.surplus k 0) e ≡ 1
 
 pub spends : (a : Assignment) → IsAssignment a → (s : Symbol) → IsMemberUnder a (prefix_of a) s → Spends a s
 spends a is s under =
@@ -297,6 +296,7 @@ spends a is s under =
       upto = spent_same places (degree_at s) (λ j. get_or a.degrees.items j 0) (told a) (λ j low. told_degree a is s under j low);
       most = λ k low. let up = spent_at_most places a.rests (degree_at s) is.rests bounded (length places - k) k (omega (arith, low, count)) in omega (arith, up, whole);
       least = λ k low. let down = spent_at_least places a.rests (degree_at s) is.rests bounded (length places - k) k (omega (arith, low, count)) in omega (arith, down, whole);
+      surplus = λ k e low all. spent_as_told places a.rests (degree_at s) is.rests bounded (length places - k) k e (omega (arith, low, count)) (all ∙ sym whole);
     }
 
 -- the next degree of a member is a choice
@@ -312,9 +312,15 @@ next_choice a is room s under P tile vertex =
     (λ late. vertex late (subst (IsChoice a.request.degrees (next_place a).turns) next (all.vertices.choice (told a - s.size) (told a) (omega (arith, late, size)) (omega (arith, late, room, size)))))
     (cases_lt (told a) a.table.size)
 
--- with a branching value the budget is met
+-- the later degrees may have what is left of the budget
+pub record MeetsBudget (a : Assignment) (n : ℕ) : Type 0 where
+  pub enough : 6 * a.table.size ≤ n + get_or a.rests.most (told a + 1) 0
+  pub room : n + get_or a.rests.least (told a + 1) 0 ≤ 6 * a.table.size
+  pub surplus : (e : ℕ) → n + get_or a.rests.least (told a + 1) 0 + e ≡ 6 * a.table.size → e < 64 → bit_at (get_or a.rests.surplus (told a + 1) 0) e ≡ 1
+
+-- with the branching value of a member it is so
 pub budget_of_member : (a : Assignment) (v n : ℕ) → IsAssignment a → told a < 2 * a.table.size → n ≡ spent_by a + (next_place a).sides * (12 / v) → (s : Symbol) → IsMemberUnder a (prefix_of a) s → next_number (prefix_of a) s ≡ v * (next_place a).turns
-    → (6 * a.table.size ≤ n + get_or a.rests.most (told a + 1) 0) × (n + get_or a.rests.least (told a + 1) 0 ≤ 6 * a.table.size)
+    → MeetsBudget a n
 budget_of_member a v n is room so_far s under next =
     let has = spends a is s under in
     let part = part_of_value a v is room in
@@ -327,7 +333,12 @@ budget_of_member a v n is room so_far s under next =
     let step = spent_next a.places.items (degree_at s) (told a) in
     let at_most = ap (λ j. get_or a.rests.most j 0) e in
     let at_least = ap (λ j. get_or a.rests.least j 0) e in
-    (omega (arith, part, here, upto, so_far, step, most, at_most), omega (arith, part, here, upto, so_far, step, least, at_least))
+    record {
+      enough = omega (arith, part, here, upto, so_far, step, most, at_most);
+      room = omega (arith, part, here, upto, so_far, step, least, at_least);
+      surplus = λ rest all small. ap (λ j. bit_at (get_or a.rests.surplus j 0) rest) (sym e)
+          ∙ has.surplus (suc (told a)) rest (omega (arith, room)) (omega (arith, part, here, upto, so_far, step, at_least, all)) small;
+    }
 
 -- two branching values of one degree
 pub same_value : (set : Allowed) (r v m : ℕ) → 1 ≤ r → (c : IsChoice set r m) → m ≡ v * r → c.value ≡ v
@@ -350,23 +361,25 @@ part_small a v is room =
     let up = part_at_most (next_place a).sides v in
     omega (arith, up, few)
 
-pub none_if_five : (a : Assignment) (v : ℕ) → IsAssignment a → told a < 2 * a.table.size → v ≡ 5 → (s : Symbol) → IsMemberUnder a (prefix_of a) s → next_number (prefix_of a) s ≡ v * (next_place a).turns → ⊥
-none_if_five a v is room five s under next =
+-- the branching values of the next place
+pub tile_values : (a : Assignment) → IsAssignment a → told a < a.table.size → HasValues a.request.faces (next_place a).turns (next_place a).values
+tile_values a is low = (is.places.tiles (told a) no_place low).values
+
+pub vertex_values : (a : Assignment) → IsAssignment a → told a < 2 * a.table.size → a.table.size ≤ told a → HasValues a.request.degrees (next_place a).turns (next_place a).values
+vertex_values a is room high =
+    let at : a.table.size + (told a - a.table.size) ≡ told a = omega (arith, high) in
+    subst (λ j. let x = get_or a.places.items j no_place in HasValues a.request.degrees x.turns x.values) at
+    (is.places.vertices (told a - a.table.size) no_place (omega (arith, high, room))).values
+
+-- the branching value of a member is one of them
+pub value_allowed : (a : Assignment) (v : ℕ) → IsAssignment a → told a < 2 * a.table.size → (s : Symbol) → IsMemberUnder a (prefix_of a) s → next_number (prefix_of a) s ≡ v * (next_place a).turns → bit_at (next_place a).values v ≡ 1
+value_allowed a v is room s under next =
+    let x = next_place a in
     let some = (sound_next a is (told a) no_place room).some in
-    next_choice a is room s under ⊥
-    (λ low c. (value_of c.value c.crystallographic).other (same_value a.request.faces (next_place a).turns v (next_number (prefix_of a) s) some c next ∙ five))
-    (λ high c. (value_of c.value c.crystallographic).other (same_value a.request.degrees (next_place a).turns v (next_number (prefix_of a) s) some c next ∙ five))
-
-pub none_if_refused : (a : Assignment) (v : ℕ) → IsAssignment a → told a < 2 * a.table.size → (told a < a.table.size → IsIn a.request.faces (v * (next_place a).turns) → ⊥) → (a.table.size ≤ told a → IsIn a.request.degrees (v * (next_place a).turns) → ⊥)
-    → (s : Symbol) → IsMemberUnder a (prefix_of a) s → next_number (prefix_of a) s ≡ v * (next_place a).turns → ⊥
-none_if_refused a v is room tile vertex s under next =
-    next_choice a is room s under ⊥
-    (λ low c. tile low (subst (IsIn a.request.faces) next c.allowed))
-    (λ high c. vertex high (subst (IsIn a.request.degrees) next c.allowed))
-
--- a branching value that is allowed
-pub choice_of_value : (set : Allowed) (r v m : ℕ) → 1 ≤ v → v ≤ 6 → v ≢ 5 → m ≡ v * r → IsIn set m → IsChoice set r (v * r)
-choice_of_value set r v m low high other is allowed = record { value = v; crystallographic = is_crystallographic v low high other; product = refl; allowed = subst (IsIn set) is allowed }
+    let m = next_number (prefix_of a) s in
+    next_choice a is room s under (bit_at x.values v ≡ 1)
+    (λ low c. ap (bit_at x.values) (sym (same_value a.request.faces x.turns v m some c next)) ∙ value_told a.request.faces x.turns x.values m (tile_values a is low) c)
+    (λ high c. ap (bit_at x.values) (sym (same_value a.request.degrees x.turns v m some c next)) ∙ value_told a.request.degrees x.turns x.values m (vertex_values a is room high) c)
 
 -- ## One value after another
 
@@ -492,7 +505,7 @@ no_more_values a v n is room so_far some short old new more =
     let up_one = next_up next.value r in
     omega (arith, up, up_one, e, turns))
     (λ high.
-    let enough = (budget_of_member a next.value (spent_by a + (next_place a).sides * (12 / next.value)) is room refl s under e).0 in
+    let enough = (budget_of_member a next.value (spent_by a + (next_place a).sides * (12 / next.value)) is room refl s under e).enough in
     let falls = part_falls (next_place a).sides v next.value some high in
     absurd (omega (arith, enough, falls, short, so_far)))
     (cases_lt next.value v))

@@ -30,8 +30,8 @@ use Rattle.dd_branch.specs.Budget.{no_place, twelfths}
 use Rattle.dd_branch.specs.Choice.{IsChoice}
 use Rattle.dd_branch.specs.Place.{ArePlaces, IsPlaceOf}
 use Rattle.dd_branch.specs.declared.places.Place.{Place}
-use Rattle.dd_branch.proofs.Budgets.{AreBounded, AreChosen, AllAreChosen, part_of_choice, shape_at}
-use Rattle.dd_branch.proofs.Choices.{value_of}
+use Rattle.dd_branch.proofs.Budgets.{AreBounded, AreChosen, AllAreChosen, HasPart, part_of_choice, shape_at}
+use Rattle.dd_branch.proofs.Choices.{value_of, value_told}
 
 -- ## Where degrees stand
 
@@ -101,7 +101,7 @@ wanted_chosen q t s places are wanted same =
 -- ## Bounds
 
 bounded_at : (t s : Symbol) → HaveSameInvolutions t s → (p : Pair) (set : Allowed) (first : ℕ) (places : List Place) → AreChosen t s p set first places → (k j : ℕ) → j ≡ first + k → k < s.size
-    → (twelfths (get_or places j no_place) (degree_at s j) ≤ (get_or places j no_place).most) × ((get_or places j no_place).least ≤ twelfths (get_or places j no_place) (degree_at s j))
+    → (twelfths (get_or places j no_place) (degree_at s j) ≤ (get_or places j no_place).most) × HasPart (get_or places j no_place) (twelfths (get_or places j no_place) (degree_at s j))
 bounded_at t s same p set first places all k j at low =
     let x = get_or places j no_place in
     let place = all.place k j at low in
@@ -109,18 +109,18 @@ bounded_at t s same p set first places all k j at low =
     let some : 1 ≤ x.turns = let a = place.turns in let b = (shape_at t s same p set first (k + 1) x place).turns.positive in omega (arith, a, b) in
     let part = part_of_choice set x (degree_at s j) some c in
     let most = place.bounds.most (degree_at s j) c in
-    let least = place.bounds.least (degree_at s j) c in
-    (omega (arith, part, most), omega (arith, part, least))
+    let value = value_of c.value c.crystallographic in
+    (omega (arith, part, most), record { value = c.value; low = value.low; high = value.high; allowed = value_told set x.turns x.values (degree_at s j) place.values c; is = part })
 
 -- all parts are within the bounds of their places
 pub all_bounded : (q : Request) (t s : Symbol) (places : List Place) → ArePlaces q t places → HaveSameInvolutions t s → AllAreChosen q t s places → AreBounded places (degree_at s)
 all_bounded q t s places are same all = record {
   most = λ j low. (both j low).0;
-  least = λ j low. (both j low).1;
+  parts = λ j low. (both j low).1;
 }
   where
     both : (j : ℕ) → j < length places
-        → (twelfths (get_or places j no_place) (degree_at s j) ≤ (get_or places j no_place).most) × ((get_or places j no_place).least ≤ twelfths (get_or places j no_place) (degree_at s j))
+        → (twelfths (get_or places j no_place) (degree_at s j) ≤ (get_or places j no_place).most) × HasPart (get_or places j no_place) (twelfths (get_or places j no_place) (degree_at s j))
     both j low =
         let size = same.size in
         let count = are.count in
@@ -326,7 +326,6 @@ pub record IsSound (j : ℕ) (x : Place) : Type 0 where
   pub few : x.turns ≤ 36
   pub sides : x.sides ≤ 2
   pub most : x.most ≤ x.sides * 12
-  pub least : x.least ≤ x.sides * 12
   pub follows : x.root ≢ j → x.sides ≡ 0
 
 sound_place : (t : Symbol) → AreInvolutions t → (p : Pair) (set : Allowed) (first k j : ℕ) (x : Place) → j ≡ first + k → IsPlaceOf t set p first (k + 1) x → k < t.size → IsSound j x
@@ -344,7 +343,6 @@ sound_place t inv p set first k j x at place low =
       few = place.few;
       sides = place.bounds.sides;
       most = place.bounds.most_small;
-      least = place.bounds.least_small;
       follows = λ other. ⊎_elim (λ own. absurd (other (let e = own.0 in omega (arith, e, root, at)))) (λ none. none.1) place.sides;
     }
 

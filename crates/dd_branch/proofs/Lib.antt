@@ -3,6 +3,7 @@ pub mod Choices
 pub mod Budgets
 pub mod Chosen
 pub mod Assigned
+mod Bits
 pub mod Leaves
 pub mod RestSums
 pub mod Advancing

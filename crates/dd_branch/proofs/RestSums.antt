@@ -1,7 +1,9 @@
 -- Sums over the places from each one on, made from the last place to the first.
-use Rattle.std.proofs.Common.{◌≡◌, ℕ, ◌+◌, ◌-◌, ◌*◌, ◌<◌, ◌≤◌, List, length, get_or, set, replicate, sym, ap, ◌∙◌, ⊎_elim, arith}
+use Rattle.std.proofs.Common.{◌≡◌, ℕ, ◌+◌, ◌-◌, ◌*◌, ◌<◌, ◌≤◌, List, length, get_or, set, replicate, sym, ap, ◌∙◌, subst, ⊎_elim, arith}
 use Rattle.std.proofs.lemmas.Bool.{cases_lt}
 use Rattle.std.proofs.lemmas.List.{get_or-set_same, get_or-set_other, get_or_default, get_or-replicate}
+use Rattle.std.specs.Int.{bit_at}
+use Rattle.dd_branch.specs.Rests.{HasSurplusWith}
 use Rattle.dd_branch.specs.declared.places.Place.{Place}
 
 pub none_yet : (n : ℕ) → n ≤ 72 → get_or {A = ℕ} (replicate 73 0) n 0 ≡ 0
@@ -48,3 +50,29 @@ still_small f places d sums k y is some inside room each before =
     let same : get_or sums (k - 1 + 1) 0 ≡ get_or sums k 0 = ap (λ i. get_or sums i 0) back in
     let one = each (k - 1) d (omega (arith, some, inside)) in
     omega (arith, here, same, one, is, before, some, inside)
+
+-- ## What there may be beyond the least
+
+pub still_none : (places : List Place) (bits : List ℕ) (k y : ℕ) → 0 < k → k ≤ length places → bit_at (get_or bits (length places) 0) 0 ≡ 1 → bit_at (get_or (set bits (k - 1) y) (length places) 0) 0 ≡ 1
+still_none places bits k y some inside before = ap (λ n. bit_at n 0) (get_or-set_other bits (k - 1) (length places) y 0 (λ e. omega (arith, e, some, inside))) ∙ before
+
+-- the bits with those of one more place in front
+pub surplus_more : (places : List Place) (d : Place) (bits : List ℕ) (k y : ℕ) → 0 < k → k ≤ length places → length places < length bits → HasSurplusWith (get_or places (k - 1) d) (get_or bits (k - 1 + 1) 0) y
+    → ((j : ℕ) (x : Place) → k ≤ j → j < length places → HasSurplusWith (get_or places j x) (get_or bits (j + 1) 0) (get_or bits j 0))
+    → (j : ℕ) (x : Place) → k - 1 ≤ j → j < length places → HasSurplusWith (get_or places j x) (get_or (set bits (k - 1) y) (j + 1) 0) (get_or (set bits (k - 1) y) j 0)
+surplus_more places d bits k y some inside room here before j x low high =
+    let next : get_or (set bits (k - 1) y) (j + 1) 0 ≡ get_or bits (j + 1) 0 = get_or-set_other bits (k - 1) (j + 1) y 0 (λ e. omega (arith, e, low)) in
+    ⊎_elim
+    (λ early.
+    let at : k - 1 ≡ j = omega (arith, early, low) in
+    let own : get_or (set bits (k - 1) y) j 0 ≡ y = ap (λ i. get_or (set bits (k - 1) y) i 0) (sym at) ∙ get_or-set_same bits (k - 1) y 0 (omega (arith, some, inside, room)) in
+    let later : get_or (set bits (k - 1) y) (j + 1) 0 ≡ get_or bits (k - 1 + 1) 0 = next ∙ ap (λ i. get_or bits (i + 1) 0) (sym at) in
+    let place : get_or places j x ≡ get_or places (k - 1) d = get_or_default places j x d high ∙ ap (λ i. get_or places i d) (sym at) in
+    subst (λ p. HasSurplusWith p (get_or (set bits (k - 1) y) (j + 1) 0) (get_or (set bits (k - 1) y) j 0)) (sym place)
+    (subst (λ n. HasSurplusWith (get_or places (k - 1) d) n (get_or (set bits (k - 1) y) j 0)) (sym later)
+    (subst (HasSurplusWith (get_or places (k - 1) d) (get_or bits (k - 1 + 1) 0)) (sym own) here)))
+    (λ late.
+    let own : get_or (set bits (k - 1) y) j 0 ≡ get_or bits j 0 = get_or-set_other bits (k - 1) j y 0 (λ e. omega (arith, e, late, some)) in
+    subst (λ n. HasSurplusWith (get_or places j x) n (get_or (set bits (k - 1) y) j 0)) (sym next)
+    (subst (HasSurplusWith (get_or places j x) (get_or bits (j + 1) 0)) (sym own) (before j x late high)))
+    (cases_lt j k)

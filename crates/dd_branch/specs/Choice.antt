@@ -1,5 +1,6 @@
 -- The degrees that a cell may have.
-use Rattle.std.specs.Prelude.{◌≡◌, ℕ, ◌*◌, ◌≤◌}
+use Rattle.std.specs.Prelude.{◌≡◌, ◌↔◌, ℕ, ◌*◌}
+use Rattle.std.specs.Int.{bit_at}
 use Rattle.dd_model.specs.Allowed.{IsIn}
 use Rattle.dd_model.specs.Wanted.{IsCrystallographic}
 use Rattle.dd_model.specs.declared.allowed.Allowed.{Allowed}
@@ -11,6 +12,6 @@ pub record IsChoice (set : Allowed) (r m : ℕ) : Type 0 where
   pub product : m ≡ value * r
   pub allowed : IsIn set m
 
--- no choice has a smaller branching value
-abbrev pub HasNoneBelow : Allowed → ℕ → ℕ → Type 0
-HasNoneBelow set r v = (m : ℕ) (c : IsChoice set r m) → v ≤ c.value
+-- the bits of the branching values of flat symbols that a set allows a cell with r turns
+abbrev pub HasValues : Allowed → ℕ → ℕ → Type 0
+HasValues set r values = (v : ℕ) → bit_at values v ≡ 1 ↔ IsCrystallographic v × IsIn set (v * r)

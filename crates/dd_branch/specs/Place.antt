@@ -9,7 +9,7 @@ use Rattle.dd_symbol.specs.Cells.{IsShapeOf}
 use Rattle.dd_symbol.specs.declared.kind.Kind.{Kind}
 use Rattle.dd_symbol.specs.declared.kind.Kind.TheVariants.{Cycle, Chain}
 use Rattle.dd_symbol.specs.declared.shapes.CellShape.{CellShape}
-use Rattle.dd_branch.specs.Choice.{IsChoice}
+use Rattle.dd_branch.specs.Choice.{HasValues, IsChoice}
 use Rattle.dd_branch.specs.declared.places.Place.{Place}
 
 -- how many chambers a cell has for each turn
@@ -24,10 +24,8 @@ HasSides shape d sides = ((shape.least ≡ d) × (sides ≡ sides_of shape.kind)
 -- bounds of the parts of all degrees that may stand at a place
 pub record AreBounds (set : Allowed) (x : Place) : Type 0 where
   pub most : (m : ℕ) (c : IsChoice set x.turns m) → x.sides * (12 / c.value) ≤ x.most
-  pub least : (m : ℕ) (c : IsChoice set x.turns m) → x.least ≤ x.sides * (12 / c.value)
   pub sides : x.sides ≤ 2
   pub most_small : x.most ≤ x.sides * 12
-  pub least_small : x.least ≤ x.sides * 12
 
 -- What is said of the degree of a pair at a chamber d. Chamber 1 has the place that is handed in.
 pub record IsPlaceOf (t : Symbol) (set : Allowed) (p : Pair) (first d : ℕ) (x : Place) : Type 0 where
@@ -37,6 +35,7 @@ pub record IsPlaceOf (t : Symbol) (set : Allowed) (p : Pair) (first d : ℕ) (x 
   pub turns : x.turns ≡ shape.r
   pub few : x.turns ≤ 36
   pub sides : HasSides shape d x.sides
+  pub values : HasValues set x.turns x.values
   pub bounds : AreBounds set x
 
 -- A pair's places were added to a list, those of the first m chambers.

@@ -1,7 +1,6 @@
 ghost use Rattle.std.specs.Prelude.{◌≡◌, ℕ, ◌*◌, ◌/◌, ◌+◌, ◌≤◌, ◌<◌, [], ◌∷◌, ◌++◌, ◌↔◌, IsTrue, IfOk, OnOk, MatchOption, length, slice_index};
 ghost use Rattle.std.specs.Bool.{OnTrue, OnFalse};
 ghost use Rattle.dd_model.specs.Symbol.{Symbol as Tiling, IsChamber};
-ghost use Rattle.dd_model.specs.Allowed.{IsIn};
 ghost use Rattle.std.specs.List.{Contains};
 ghost use Rattle.dd_canon.specs.Ties.{AreTies, IsLeastFrom};
 ghost use Rattle.dd_model.specs.Minimal.{Minimal};
@@ -101,20 +100,6 @@ impl Assignment {
         self.places.as_slice()[self.degrees.len()]
     }
 
-    /// Whether the set of its pair has a degree.
-    fn allows(&self, degree: u8) -> bool
-        requires { IsAssignment self.now }
-        ensures tile { told self.now < self.now.table.size
-            → (IsTrue result ↔ IsIn self.now.request.faces degree) }
-        ensures vertex { self.now.table.size ≤ told self.now
-            → (IsTrue result ↔ IsIn self.now.request.degrees degree) }
-    {
-        if self.degrees.len() < self.size() {
-            return self.request.faces.has(u32::from(degree));
-        }
-        self.request.degrees.has(u32::from(degree))
-    }
-
     /// Whether the budget can be spent where so much of it is spent before a place.
     pub(crate) fn has_budget(&self, sum: u16, place: usize) -> bool
         requires ready { IsAssignment self.now }
@@ -140,8 +125,8 @@ impl Assignment {
         spent + self.rests.most[self.degrees.len() + 1] < 6 * self.size() as u16
     }
 
-    /// Whether a degree of so many turns times a branching value may come next, by the sets and by
-    /// what is spent with it.
+    /// Whether a degree of so many turns times a branching value may come next: its set allows it, and the later degrees
+    /// may have what is left of the budget.
     pub(crate) fn may_stand(&self, spent: u16, value: u8) -> bool
         requires ready { IsAssignment self.now }
         requires room { told self.now < 2 * self.now.table.size }
@@ -159,12 +144,16 @@ impl Assignment {
         ensures room { OnTrue result (spent + slice_index self.now.rests.least (told self.now + 1)
             ≤ 6 * self.now.table.size) }
     {
-        let place = self.next_place();
-        let least = self.rests.least[self.degrees.len() + 1];
-        if value == 5 || spent + least > 6 * self.size() as u16 {
+        if !self.next_place().allows(value) {
             return false;
         }
-        self.allows(value * place.turns)
+        let later = self.degrees.len() + 1;
+        let whole = 6 * self.size() as u16;
+        let low = spent + self.rests.least[later];
+        if low > whole {
+            return false;
+        }
+        self.rests.may_exceed_by(later, whole - low)
     }
 
     /// Tells the degrees that follow from those told, up to the least chamber of another cell.

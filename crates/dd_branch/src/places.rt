@@ -1,7 +1,8 @@
-ghost use Rattle.std.specs.Prelude.{◌≡◌, ℕ, ◌+◌, ◌*◌, ◌/◌, ◌≤◌, ◌<◌, IfSome, length, slice_index_or};
+ghost use Rattle.std.specs.Prelude.{◌≡◌, ◌↔◌, ℕ, ◌+◌, ◌*◌, ◌/◌, ◌≤◌, ◌<◌, IsTrue, IfSome, length, slice_index_or};
+ghost use Rattle.std.specs.Int.{bit_at};
 ghost use Rattle.dd_model.specs.Symbol.{IsChamber};
 ghost use Rattle.dd_cells.specs.Cells.{IsSmallerInCell};
-ghost use Rattle.dd_branch.specs.Choice.{IsChoice};
+ghost use Rattle.dd_branch.specs.Choice.{HasValues};
 ghost use Rattle.dd_branch.specs.Place.{HasPlaces, HasSides, IsPlaceOf};
 ghost use Rattle.dd_branch.specs.declared.places.Place.{Place as Known};
 
@@ -21,8 +22,18 @@ pub(crate) struct Place {
     pub(crate) sides: u8,
     /// At least what the degree will have of the budget.
     pub(crate) most: u8,
-    /// At most what the degree will have of the budget.
-    pub(crate) least: u8,
+    /// The branching values that its set allows, as bits.
+    pub(crate) values: u8,
+}
+
+impl Place {
+    /// Whether a branching value is one of the place.
+    pub(crate) fn allows(&self, value: u8) -> bool
+        requires { value < 8 }
+        ensures { IsTrue result ↔ bit_at self.now.values value ≡ 1 }
+    {
+        (self.values >> value) & 1 == 1
+    }
 }
 
 /// How many chambers a cell has for each turn, at its least chamber.
@@ -54,16 +65,29 @@ pub(crate) fn part_of_side(value: u8) -> u8
     }
 }
 
+/// The branching values that a set allows a cell with so many turns, as bits.
+fn values_of(set: &Allowed, turns: u8) -> u8
+    requires { turns ≤ 36 }
+    ensures { HasValues set.now turns result }
+{
+    let mut values = 0;
+    for value in 1..7u8 {
+        if value != 5 && set.has(u32::from(value * turns)) {
+            values |= 1 << value;
+        }
+    }
+    values
+}
+
 /// The most that a degree has of the budget: that with the least branching value.
-fn most_part(set: &Allowed, turns: u8, sides: u8) -> u8
-    requires turns { turns ≤ 36 }
+fn most_part(values: u8, sides: u8) -> u8
     requires sides { sides ≤ 2 }
-    ensures most { (m : ℕ) (c : IsChoice set.now turns m) → sides * (12 / c.value) ≤ result }
+    ensures most { (v : ℕ) → 1 ≤ v → v ≤ 6 → bit_at values v ≡ 1 → sides * (12 / v) ≤ result }
     ensures small { result ≤ sides * 12 }
 {
     for value in 1..7u8 {
-        if value != 5 && set.has(u32::from(value * turns)) {
-            return sides * (12 / value);
+        if (values >> value) & 1 == 1 {
+            return sides * part_of_side(value);
         }
     }
     0
@@ -79,12 +103,13 @@ fn place_of(table: &Connected, set: &Allowed, pair: Pair, first: u8, chamber: u3
     let shape = table.symbol().cell(pair, chamber);
     let turns = shape.r as u8;
     let sides = sides_of(&shape, chamber);
+    let values = values_of(set, turns);
     Place {
         root: first + (shape.least - 1) as u8,
         turns,
         sides,
-        most: most_part(set, turns, sides),
-        least: 2 * sides,
+        most: most_part(values, sides),
+        values,
     }
 }
 
@@ -94,14 +119,14 @@ fn beside(place: &Place) -> Place
     ensures turns { result.turns ≡ place.now.turns }
     ensures sides { result.sides ≡ 0 }
     ensures most { result.most ≡ 0 }
-    ensures least { result.least ≡ 0 }
+    ensures values { result.values ≡ place.now.values }
 {
     Place {
         root: place.root,
         turns: place.turns,
         sides: 0,
         most: 0,
-        least: 0,
+        values: place.values,
     }
 }
 

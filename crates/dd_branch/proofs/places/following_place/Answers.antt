@@ -30,4 +30,4 @@ returns-in-Some c =
     place_beside c.args.table.now c.symbol.ensures.symbol.symbol.table.involutions c.args.set.now c.args.pair c.args.first c.args.chamber e
     (slice_index_or c.args.places.now (c.args.first + e - 1) no_place) c.beside.result c.requires.chamber is
     (told_before c.args.table.now c.args.set.now c.args.pair c.args.first c.args.chamber e c.args.places.now no_place near.0 is.smaller c.requires.places)
-    c.beside.ensures.root c.beside.ensures.turns c.beside.ensures.sides c.beside.ensures.most c.beside.ensures.least
+    c.beside.ensures.root c.beside.ensures.turns c.beside.ensures.sides c.beside.ensures.most c.beside.ensures.values

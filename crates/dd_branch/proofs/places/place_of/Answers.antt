@@ -1,7 +1,7 @@
 use Rattle.std.proofs.Common.{◌≤◌, refl, subst, arith}
 use Rattle.dd_symbol.specs.Cells.{IsShapeOf}
 use Rattle.dd_branch.proofs.Beginnings.{few_turns_of}
-use Rattle.dd_branch.proofs.Choices.{part_of_six}
+use Rattle.dd_branch.proofs.Choices.{value_of, value_told}
 use Rattle.dd_branch.proofs.places.place_of.Goals as goal
 use Rattle.dd_branch.proofs.places.place_of.Goals.{After-cell-shape}
 
@@ -14,8 +14,8 @@ few c = few_turns_of c.args.table.now c.symbol.ensures.symbol.symbol.table.invol
 pub overflow_cast-turns : goal.overflow_cast-turns
 overflow_cast-turns c = let low = few c in omega (arith, low)
 
-pub most_part-requires-clause-turns : goal.most_part-requires-clause-turns
-most_part-requires-clause-turns c =
+pub values_of-values-requires : goal.values_of-values-requires
+values_of-values-requires c =
     few_turns_of c.args.table.now c.symbol.ensures.symbol.symbol.table.involutions c.args.pair c.args.chamber c.cell-shape.result c.requires.chamber c.requires.small
     (subst (λ u. IsShapeOf u c.args.pair c.args.chamber c.cell-shape.result) c.symbol.ensures.same c.cell-shape.ensures)
 
@@ -31,11 +31,12 @@ returns c =
       turns = refl;
       few = few_turns_of c.args.table.now c.symbol.ensures.symbol.symbol.table.involutions c.args.pair c.args.chamber c.cell-shape.result c.requires.chamber c.requires.small shape;
       sides = c.sides_of-sides.ensures.sides;
+      values = c.values_of-values.ensures;
       bounds = record {
-        most = c.most_part.ensures.most;
-        least = λ m choice. part_of_six c.sides_of-sides.result choice.value choice.crystallographic;
+        most = λ m choice.
+            let value = value_of choice.value choice.crystallographic in
+            c.most_part.ensures.most choice.value value.low value.high (value_told c.args.set.now c.cell-shape.result.r c.values_of-values.result m c.values_of-values.ensures choice);
         sides = sides;
         most_small = c.most_part.ensures.small;
-        least_small = omega arith;
       };
     }

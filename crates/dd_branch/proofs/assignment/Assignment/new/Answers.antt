@@ -23,8 +23,8 @@ sound c j x low =
 pub of-requires-clause-most : goal.of-requires-clause-most
 of-requires-clause-most c j x low = let s = sound c j x low in let few = s.sides in let up = s.most in omega (arith, few, up)
 
-pub of-requires-clause-least : goal.of-requires-clause-least
-of-requires-clause-least c j x low = let s = sound c j x low in let few = s.sides in let up = s.least in omega (arith, few, up)
+pub of-requires-clause-sides : goal.of-requires-clause-sides
+of-requires-clause-sides c j x low = (sound c j x low).sides
 
 ready : (c : After-new) → IsAssignment (record { alloc = c.args.alloc; request = c.args.q.now; table = c.args.table; ties = c.args.ties; places = c.add_places-2.new.places; rests = c.of.result; degrees = c.new.result })
 ready c =
