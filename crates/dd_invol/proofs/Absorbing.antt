@@ -1,5 +1,5 @@
 -- A prefix that grows by the numbers that are known already.
-use Rattle.std.proofs.Common.{◌≡◌, ◌≢◌, ℕ, ◌+◌, ◌*◌, ◌<◌, [], ◌∷◌, ◌++◌, length, take, refl, sym, ap, ◌∙◌, subst, arith}
+use Rattle.std.proofs.Common.{◌≡◌, ◌≢◌, ℕ, ◌+◌, ◌*◌, ◌<◌, ◌≤◌, [], ◌∷◌, ◌++◌, length, get_or, take, refl, sym, ap, ◌∙◌, subst, arith}
 use Rattle.std.proofs.lemmas.List.{length_push, take_all, take-append-le}
 use Rattle.dd_model.specs.Symbol.{Symbol}
 use Rattle.dd_model.specs.Lists.{Begins}
@@ -9,7 +9,7 @@ use Rattle.dd_invol.specs.Under.{IsUnder, Follows}
 use Rattle.dd_invol.specs.Stem.{Any, IsStem, HasAbsorbed, prefix_of, size_of}
 use Rattle.dd_invol.specs.declared.stem.Stem.{Stem}
 use Rattle.dd_invol.proofs.Prefixes.{extended, shortened}
-use Rattle.dd_invol.proofs.Stems.{known_next}
+use Rattle.dd_invol.proofs.Stems.{each_longer, known_next}
 
 pub absorbed_none : (stem : Stem) → HasAbsorbed stem stem
 absorbed_none stem = record {
@@ -34,10 +34,15 @@ known_put_stem mid new e is put =
     let count : length (prefix_of new) ≡ length (prefix_of mid) + 1 = ap length put.longer ∙ length_push (prefix_of mid) e in
     let front : Follows Any (size_of mid) (prefix_of mid ++ e ∷ []) (partial_of mid.rows) = λ s under. is.follows s (shortened Any (size_of mid) (prefix_of mid) e s under).0 in
     let one = subst (λ xs. Follows Any (size_of mid) xs (partial_of mid.rows)) (sym put.longer) front in
+    let some = put.some in
     record {
       ready = subst IsReady (sym put.rows) is.ready;
       short = omega arith;
       follows = subst (λ r. Follows Any r.size (prefix_of new) (partial_of r)) (sym put.rows) one;
+      told = each_longer (λ u x. HasNumberAt u x (partial_of new.rows)) (prefix_of mid) (prefix_of new) e put.longer
+          (λ u before. subst (λ r. HasNumberAt u (get_or (prefix_of mid) u 0) (partial_of r)) (sym put.rows) (is.told u before))
+          (subst (λ r. HasNumberAt (length (prefix_of mid)) e (partial_of r)) (sym put.rows) put.known);
+      positive = each_longer (λ u x. 1 ≤ x) (prefix_of mid) (prefix_of new) e put.longer is.positive (omega arith);
     }
 
 pub absorbed_more : (old mid new : Stem) (e : ℕ) → IsStem mid → HasAbsorbed old mid → IsKnownPut mid new e → HasAbsorbed old new

@@ -7,6 +7,7 @@ pub mod Leastness
 pub mod RowsLemmas
 pub mod Filling
 pub mod Traversing
+pub mod Passing
 pub mod Follows
 pub mod Growth
 pub mod MostLemmas
@@ -24,3 +25,4 @@ pub mod WalkLemmas
 pub mod WalkOrder
 pub mod BareTables
 pub mod TiedTables
+pub mod WholeStems

@@ -8,7 +8,7 @@ use Rattle.dd_model.specs.Code.{count_from, images, code, all_images}
 use Rattle.dd_invol.specs.Places.{index_at}
 use Rattle.dd_model.proofs.Codes.{length-flat_images}
 
-images_at : (s : Symbol) (k n t : ℕ) → t < 3 * n → get_or (flat_map (images s) (count_from k n)) t 0 ≡ op s (index_at (t % 3)) (k + t / 3)
+pub images_at : (s : Symbol) (k n t : ℕ) → t < 3 * n → get_or (flat_map (images s) (count_from k n)) t 0 ≡ op s (index_at (t % 3)) (k + t / 3)
 images_at s k zero t low = absurd (omega arith)
 images_at s k (suc n) zero low = let e : k + 0 / 3 ≡ k = omega arith in ap (op s Zero) (sym e)
 images_at s k (suc n) (suc zero) low = let e : k + 1 / 3 ≡ k = omega arith in ap (op s One) (sym e)

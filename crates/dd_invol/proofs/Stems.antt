@@ -1,16 +1,17 @@
 -- A stem that grows and is shortened again.
-use Rattle.std.proofs.Common.{◌≡◌, ◌≢◌, ℕ, zero, suc, ◌+◌, ◌-◌, ◌*◌, ◌/◌, ◌%◌, ◌<◌, ◌≤◌, ◌⊎◌, max, List, [], ◌∷◌, ◌++◌, length, take, refl, sym, ap, ◌∙◌, subst, inl, inr, ⊎_elim, arith}
+use Rattle.std.proofs.Common.{◌≡◌, ◌≢◌, ℕ, zero, suc, ◌+◌, ◌-◌, ◌*◌, ◌/◌, ◌%◌, ◌<◌, ◌≤◌, ◌⊎◌, max, List, [], ◌∷◌, ◌++◌, length, get_or, take, refl, sym, ap, ◌∙◌, subst, inl, inr, ⊎_elim, arith}
 use Rattle.std.proofs.lemmas.Bool.{cases_lt}
-use Rattle.std.proofs.lemmas.List.{length_push, take-take, take_at}
+use Rattle.std.proofs.lemmas.List.{get_or_append_left, get_or_push, length_push, take-take, take_at}
 use Rattle.dd_model.specs.declared.index.Index.{Index}
 use Rattle.dd_model.specs.Symbol.{Symbol, op}
 use Rattle.dd_invol.specs.Places.{index_at}
 use Rattle.dd_invol.specs.FirstVisit.{greatest}
-use Rattle.dd_invol.specs.Rows.{partial_of, depth_of, IsReady, Learns}
+use Rattle.dd_invol.specs.Rows.{partial_of, depth_of, IsReady, HasNumberAt, Learns}
 use Rattle.dd_invol.specs.Under.{IsUnder, HasNoNumberFrom, SkipsTo, Follows, next_number}
 use Rattle.dd_invol.specs.Stem.{Any, prefix_of, size_of, shortened, IsStem}
 use Rattle.dd_invol.specs.declared.stem.Stem.{Stem}
 use Rattle.dd_invol.proofs.Places.{code_at, chamber_at}
+use Rattle.dd_invol.proofs.Filling.{still_known}
 use Rattle.dd_invol.proofs.Follows.{Puts, follows_put, follows_none}
 use Rattle.dd_model.specs.Code.{code}
 use Rattle.dd_invol.proofs.CodeFronts.{leads_out}
@@ -25,6 +26,19 @@ pub record IsGrown (old new : Stem) (k : ℕ) : Type 0 where
   pub learns : Learns (Puts (length (prefix_of old)) k) old.rows new.rows
   pub ready : IsReady new.rows
   pub longer : prefix_of new ≡ prefix_of old ++ k ∷ []
+  pub told : HasNumberAt (length (prefix_of old)) k (partial_of new.rows)
+  pub positive : 1 ≤ k
+
+-- what holds of each number of a list, and of one that is put at its end
+pub each_longer : (P : ℕ → ℕ → Type 0) (xs ys : List ℕ) (k : ℕ) → ys ≡ xs ++ k ∷ [] → ((u : ℕ) → u < length xs → P u (get_or xs u 0)) → P (length xs) k → (u : ℕ) → u < length ys → P u (get_or ys u 0)
+each_longer P xs ys k longer old new u low =
+    let count : length ys ≡ length xs + 1 = ap length longer ∙ length_push xs k in
+    ⊎_elim
+    (λ early. subst (P u) (sym (ap (λ zs. get_or zs u 0) longer ∙ get_or_append_left xs (k ∷ []) 0 u early)) (old u early))
+    (λ late.
+    let here : length xs ≡ u = omega arith in
+    subst (P u) (sym (ap (λ zs. get_or zs u 0) longer ∙ get_or_push xs k 0 u here)) (subst (λ v. P v k) here new))
+    (cases_lt u (length xs))
 
 pub grown_stem : (old new : Stem) (k : ℕ) → IsStem old → length (prefix_of old) < 3 * size_of old → IsGrown old new k → IsStem new
 grown_stem old new k is low grown =
@@ -37,6 +51,10 @@ grown_stem old new k is low grown =
           let a = follows_put Any (size_of old) (prefix_of old) k (length (prefix_of old)) old.rows new.rows refl low is.follows grown.learns in
           let b = subst (λ xs. Follows Any (size_of old) xs (partial_of new.rows)) (sym grown.longer) a in
           subst (λ n. Follows Any n (prefix_of new) (partial_of new.rows)) (sym size) b;
+      told = each_longer (λ u e. HasNumberAt u e (partial_of new.rows)) (prefix_of old) (prefix_of new) k grown.longer
+          (λ u before. still_known (Puts (length (prefix_of old)) k) old.rows new.rows (index_at (u % 3)) (1 + u / 3) (get_or (prefix_of old) u 0) grown.learns (is.positive u before) (is.told u before))
+          grown.told;
+      positive = each_longer (λ u e. 1 ≤ e) (prefix_of old) (prefix_of new) k grown.longer is.positive grown.positive;
     }
 
 pub grown_shortened : (old new : Stem) (k : ℕ) → IsGrown old new k → shortened new (depth_of old.rows) ≡ old
@@ -154,6 +172,8 @@ empty_stem stem ready empty nothing =
       ready = ready;
       short = omega arith;
       follows = subst (λ xs. Follows Any (size_of stem) xs (partial_of stem.rows)) (sym empty) (follows_none Any (size_of stem) (partial_of stem.rows) refl nothing);
+      told = λ k low. absurd (omega arith);
+      positive = λ k low. absurd (omega arith);
     }
 
 greatest_take : (xs : List ℕ) (j : ℕ) → greatest (take j xs) ≤ greatest xs

@@ -1,5 +1,5 @@
 -- A traversal of a partial table from some chamber, beside a prefix.
-use Rattle.std.proofs.Common.{◌≡◌, ◌≢◌, ℕ, ◌+◌, ◌-◌, ◌/◌, ◌%◌, ◌<◌, ◌≤◌, List, [], length, get_or, replicate, sym, ap, ◌∙◌, subst, inl, ⊎_elim, arith}
+use Rattle.std.proofs.Common.{◌≡◌, ◌≢◌, ℕ, ◌+◌, ◌-◌, ◌/◌, ◌%◌, ◌<◌, ◌≤◌, List, [], ◌∷◌, length, get_or, replicate, sym, ap, ◌∙◌, subst, inl, ⊎_elim, arith}
 use Rattle.std.proofs.lemmas.Bool.{cases_lt}
 use Rattle.std.proofs.lemmas.List.Folds.{sum_by-replicate}
 use Rattle.std.specs.List.{sum_by}
@@ -47,6 +47,15 @@ inside_met n xs ys number d x m old h = record {
       let here : x - 1 ≡ k = omega arith in
       subst (λ e. (1 ≤ e) × (e ≤ n)) (sym (sym (ap (λ j. get_or ys j 0) here) ∙ m.at)) h)
       (cases_lt k (length xs));
+}
+
+-- the start alone
+pub inside_begun : (n start : ℕ) (order : List ℕ) → order ≡ start ∷ [] → (1 ≤ start) × (start ≤ n) → AreInside n order
+inside_begun n start order begun h = record {
+  inside = λ k low.
+      let count : length order ≡ 1 = ap length begun in
+      let here : 0 ≡ k = omega arith in
+      subst (λ j. (1 ≤ get_or order j 0) × (get_or order j 0 ≤ n)) here (subst (λ xs. (1 ≤ get_or xs 0 0) × (get_or xs 0 0 ≤ n)) (sym begun) h);
 }
 
 -- different chambers, as each has its number

@@ -6,6 +6,7 @@ pub mod FirstVisit
 pub mod Mosts
 pub mod Distinct
 pub mod Beaten
+pub mod Passed
 pub mod Rows
 pub mod Visit
 pub mod Stem
@@ -13,4 +14,5 @@ pub mod Growth
 pub mod Opening
 pub mod Children
 pub mod Table
+pub mod Ties
 pub mod Walk

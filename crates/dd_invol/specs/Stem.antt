@@ -1,9 +1,9 @@
 -- A prefix of the codes of tables, with the partial table that follows from it.
-use Rattle.std.specs.Prelude.{◌≡◌, ℕ, ◌-◌, ◌*◌, ◌≤◌, List, length, take}
+use Rattle.std.specs.Prelude.{◌≡◌, ℕ, ◌-◌, ◌*◌, ◌<◌, ◌≤◌, List, length, take, slice_index}
 use Rattle.dd_model.specs.Symbol.{Symbol}
 use Rattle.dd_model.specs.Lists.{Begins}
 use Rattle.dd_model.specs.Code.{code}
-use Rattle.dd_invol.specs.Rows.{partial_of, unwound, IsReady}
+use Rattle.dd_invol.specs.Rows.{partial_of, unwound, IsReady, HasNumberAt}
 use Rattle.dd_invol.specs.Under.{IsUnder, Follows}
 use Rattle.dd_invol.specs.declared.stem.Stem.{Stem}
 
@@ -27,11 +27,13 @@ cut_to stem count mark = record { rows = unwound stem.rows mark; prefix = take c
 abbrev pub shortened : Stem → ℕ → Stem
 shortened stem mark = cut_to stem (length stem.prefix - 1) mark
 
--- Each orderly table whose code begins with the prefix completes the table.
+-- Each orderly table whose code begins with the prefix completes the table, and the numbers of the prefix are images in it.
 pub record IsStem (stem : Stem) : Type 0 where
   pub ready : IsReady stem.rows
   pub short : length (prefix_of stem) ≤ 3 * size_of stem
   pub follows : Follows Any (size_of stem) (prefix_of stem) (partial_of stem.rows)
+  pub told : (k : ℕ) → k < length (prefix_of stem) → HasNumberAt k (slice_index (prefix_of stem) k) (partial_of stem.rows)
+  pub positive : (k : ℕ) → k < length (prefix_of stem) → 1 ≤ slice_index (prefix_of stem) k
 
 -- The prefix has grown by numbers that follow from it.
 pub record HasAbsorbed (old new : Stem) : Type 0 where

@@ -14,6 +14,7 @@ mod starts;
 mod stem;
 mod table;
 mod tables;
+mod ties;
 mod traversal;
 mod walk;
 

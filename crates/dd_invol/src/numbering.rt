@@ -1,5 +1,6 @@
 ghost use Rattle.std.specs.Prelude.{◌≡◌, ◌↔◌, ℕ, ◌+◌, ◌*◌, ◌%◌, ◌^◌, [], ◌∷◌, ◌++◌, ◌≤◌, ◌<◌, IsTrue, length};
 ghost use Rattle.std.specs.List.{Contains};
+ghost use Rattle.dd_model.specs.FirstVisit.{Grows};
 ghost use Rattle.dd_invol.specs.FirstVisit.{greatest, FitsAt, CanFollow, IsFirstVisitPrefix};
 
 /// The greatest of 1 and some numbers.
@@ -11,6 +12,20 @@ pub fn greatest(numbers: &[u8]) -> u8
         most = most.max(*number);
     }
     most
+}
+
+/// Whether each number is at most one more than the greatest of 1 and the numbers before it.
+pub(crate) fn grows(numbers: &[u8]) -> bool
+    ensures { IsTrue result ↔ Grows 1 numbers.now }
+{
+    let mut most = 1u8;
+    for number in numbers {
+        if number.saturating_sub(1) > most {
+            return false;
+        }
+        most = most.max(*number);
+    }
+    true
 }
 
 /// Whether a new number fits one at an earlier place of the same involution.

@@ -234,6 +234,7 @@ impl Rows {
         ensures learnt { OnTrue result
             (Learns (λ s. Commutes s × HasNumberAt place number s) self.old self.new) }
         ensures told { OnTrue result (HasNumberAt place number (partial_of self.new)) }
+        ensures positive { OnTrue result (1 ≤ number) }
         ensures same { OnFalse result (self.new ≡ self.old) }
         ensures clash { OnFalse result
             (Excludes (λ s. Commutes s × HasNumberAt place number s) self.old) }

@@ -2,6 +2,7 @@ ghost use Rattle.std.specs.Prelude.{◌≡◌, ℕ, ◌+◌, ◌-◌, ◌/◌, �
 ghost use Rattle.dd_model.specs.Symbol.{item};
 ghost use Rattle.dd_canon.specs.Traversal.{IsMeeting};
 ghost use Rattle.dd_invol.specs.Beaten.{IsBeaten};
+ghost use Rattle.dd_invol.specs.Passed.{IsPassed};
 ghost use Rattle.dd_invol.specs.Rows.{partial_of, IsReady};
 ghost use Rattle.dd_invol.specs.Visit.{IsVisiting};
 
@@ -107,6 +108,7 @@ pub(crate) fn stand(rows: &Rows, prefix: &[u8], start: u8, visit: &mut Visit) ->
     requires short { length prefix.now ≤ 108 }
     ensures visiting { IsVisiting visit.new }
     ensures beaten { result ≡ Standing.Smaller → IsBeaten (partial_of rows.now) prefix.now }
+    ensures larger { result ≡ Standing.Larger → IsPassed (partial_of rows.now) prefix.now start }
 {
     visit.begin(start);
     let mut row = 0;

@@ -1,0 +1,56 @@
+use Rattle.std.proofs.Common.{◌≡◌, ℕ, ◌+◌, ◌∷◌, ◌++◌, [], List, sym, ap, ◌∙◌, subst, arith}
+use Rattle.dd_model.specs.FirstVisit.{Grows}
+use Rattle.dd_invol.specs.Beaten.{IsBeaten}
+use Rattle.dd_invol.specs.Passed.{IsPassed}
+use Rattle.dd_invol.specs.Rows.{partial_of}
+use Rattle.dd_invol.specs.Stem.{Any, prefix_of, size_of}
+use Rattle.dd_invol.specs.declared.rows.Rows.{Rows}
+use Rattle.dd_invol.specs.declared.stem.Stem.{Stem}
+use Rattle.dd_invol.proofs.Leastness.{none_under_beaten}
+use Rattle.dd_invol.proofs.WholeStems.{AreOpenTo, none_without_growth, open_passed, open_more, ties_of_open}
+use Rattle.dd_invol.proofs.stem.Stem.ties.Goals as goal
+use Rattle.dd_invol.proofs.stem.Stem.ties.Goals.{in-Larger, in-Open+in_ok-push-in-Open}
+
+-- what is said of the rows and the numbers of a stem
+of_stem : (P : Rows → List ℕ → Type 0) (stem : Stem) (rows : Rows) (numbers : List ℕ) → rows ≡ stem.rows → numbers ≡ prefix_of stem → P rows numbers → P stem.rows (prefix_of stem)
+of_stem P stem rows numbers same equal is = subst (P stem.rows) equal (subst (λ r. P r numbers) same is)
+
+pub returns-then-not-grows : goal.returns-then-not-grows
+returns-then-not-grows c =
+    none_without_growth c.args.self.now c.requires.whole (λ grows. let test = c.grows.ensures.1 (subst (Grows 1) (sym c.prefix.ensures) grows) in let fails = c.if-not-grows.true in cc)
+
+pub returns-in-Smaller : goal.returns-in-Smaller
+returns-in-Smaller c =
+    let stem = c.args.self.now in
+    none_under_beaten Any (size_of stem) (prefix_of stem) (partial_of stem.rows) c.requires.stem.follows c.requires.stem.short
+    (of_stem (λ r xs. IsBeaten (partial_of r) xs) stem c.rows.result.now c.prefix-in-loop-k.result.now c.rows.ensures c.prefix-in-loop-k.ensures (c.stand.ensures.beaten c.in-Smaller.is))
+
+pub loop-k-preserved : goal.loop-k-preserved
+loop-k-preserved c =
+    let stem = c.args.self.now in
+    let P = partial_of stem.rows in
+    let k = c.loop-k.k in
+    let old = c.loop-k.invariant.starts in
+    record {
+      visiting = c.stand.ensures.visiting;
+      starts = elim c.match-stand.branch [
+        | in-Larger w ↦
+            let passed = of_stem (λ r xs. IsPassed (partial_of r) xs (k + 1)) stem c.rows.result.now c.prefix-in-loop-k.result.now c.rows.ensures c.prefix-in-loop-k.ensures (c.stand.ensures.larger w.in-Larger.is) in
+            subst (λ v. AreOpenTo P (prefix_of stem) (k + 1) v.items) (sym w.ties-is) (open_passed P (prefix_of stem) c.loop-k.ties.items k old passed)
+        | in-Open+in_ok-push-in-Open w ↦
+            let longer : c.match-stand.ties.items ≡ c.loop-k.ties.items ++ (k + 1) ∷ [] = ap (λ v. v.items) w.ties-is ∙ w.in_ok-push-in-Open.ensures.items in
+            let size = c.size-k-end.ensures in
+            let test = c.loop-k-test.true in
+            open_more P (prefix_of stem) c.loop-k.ties.items c.match-stand.ties.items k old (omega arith) longer
+      ];
+    }
+
+pub returns : goal.returns
+returns c =
+    let stem = c.args.self.now in
+    let positive = c.requires.stem.ready.positive in
+    let size = c.size-k-end.ensures in
+    let test = c.loop-k-test.false in
+    let end = c.loop-k.auto.k-end in
+    let grows = subst (Grows 1) c.prefix.ensures (c.grows.ensures.0 c.if-not-grows.false) in
+    ties_of_open stem c.loop-k.ties.items c.requires.stem c.requires.whole grows (subst (λ k. AreOpenTo (partial_of stem.rows) (prefix_of stem) k c.loop-k.ties.items) (omega arith) c.loop-k.invariant.starts)

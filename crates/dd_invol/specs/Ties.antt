@@ -1,0 +1,9 @@
+-- From which chambers the numberings of all tables with the same images may have the tables' own codes.
+use Rattle.std.specs.Prelude.{ℕ, List}
+use Rattle.dd_model.specs.Symbol.{Symbol}
+use Rattle.dd_canon.specs.Ties.{AreTies}
+use Rattle.dd_invol.specs.Table.{IsTableOf}
+
+-- each table of n chambers whose code begins with the numbers has these ties
+pub record AreTiesOf (n : ℕ) (numbers ds : List ℕ) : Type 0 where
+  pub ties : (t : Symbol) → IsTableOf n numbers t → AreTies t ds
