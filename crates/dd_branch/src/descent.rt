@@ -5,7 +5,7 @@ ghost use Rattle.dd_model.specs.Wanted.{IsMember};
 ghost use Rattle.dd_invol.specs.Under.{HasNothingUnder};
 
 use crate::levels::Levels;
-use crate::members::add_degrees;
+use crate::members::add_tied;
 use dd_ends::{PathShares, Shares};
 use dd_invol::{CollectingSearch, PrefixSearch, Starts, Stem, Table, can_follow};
 use dd_model::{Memory, Request};
@@ -310,11 +310,14 @@ impl PrefixSearch for Descent {
 
 impl CollectingSearch for Descent {
     fn add(&mut self, list: &mut Vec<Connected>) -> Result<(), Memory> {
+        let Some(ties) = self.stem.ties(self.alloc)? else {
+            return Ok(());
+        };
         let found = Table::of(self.alloc, self.stem.size(), self.stem.prefix())?;
         let Some(table) = found else {
             return Ok(());
         };
-        add_degrees(self.alloc, table, &self.request, list)
+        add_tied(self.alloc, table, ties, &self.request, list)
     }
 }
 

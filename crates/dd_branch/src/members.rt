@@ -1,4 +1,5 @@
 ghost use Rattle.std.specs.Prelude.{◌↔◌, IsTrue, IfOk, OnOk};
+ghost use Rattle.dd_canon.specs.Ties.{AreTies};
 ghost use Rattle.dd_invol.specs.Under.{Appends};
 ghost use Rattle.dd_branch.specs.Assignment.{HasLimits};
 ghost use Rattle.dd_branch.specs.Members.{AreMembersWith};
@@ -21,6 +22,25 @@ pub(crate) fn has_limits(t: &Connected, q: &Request) -> bool
         && has_at_most(t, Pair::Vertex, q.vertices)
 }
 
+/// Adds all members of a request's catalogue that have the involutions of a table, ascending. The
+/// chambers from which the table may be numbered as it stands are known.
+pub(crate) fn add_tied(
+    alloc: Global,
+    t: Table,
+    ties: Vec<u32>,
+    q: &Request,
+    list: &mut Vec<Connected>,
+) -> Result<(), Memory>
+    requires { AreTies t ties.items }
+    ensures { OnOk result (Appends (AreMembersWith q.now t) list.old.items list.new.items) }
+{
+    let table = t.into_symbol();
+    if !has_limits(&table, q) {
+        return Ok(());
+    }
+    Assignment::new(alloc, table, ties, q).add_all(list)
+}
+
 /// Adds all members of a request's catalogue that have the involutions of a table, ascending.
 pub fn add_degrees(
     alloc: Global,
@@ -30,14 +50,10 @@ pub fn add_degrees(
 ) -> Result<(), Memory>
     ensures { OnOk result (Appends (AreMembersWith q.now t) list.old.items list.new.items) }
 {
-    let table = t.into_symbol();
-    if !has_limits(&table, q) {
-        return Ok(());
-    }
-    let Some(ties) = tied_starts(alloc, &table)? else {
+    let Some(ties) = tied_starts(alloc, t.symbol())? else {
         return Ok(());
     };
-    Assignment::new(alloc, table, ties, q).add_all(list)
+    add_tied(alloc, t, ties, q, list)
 }
 
 /// All members of a request's catalogue that have the involutions of a table, ascending.

@@ -1,25 +1,12 @@
-use Rattle.std.proofs.Common.{MatchOption, sym, ◌∙◌, subst}
-use Rattle.std.proofs.lemmas.Result.{on_ok_weaker}
+use Rattle.std.proofs.Common.{MatchOption, subst}
 use Rattle.dd_model.specs.Code.{Least}
 use Rattle.dd_canon.specs.Ties.{AreTies}
-use Rattle.dd_branch.specs.Assignment.{HasLimits}
-use Rattle.dd_branch.proofs.Beginnings.{members_with, none_without_limits, none_without_ties}
+use Rattle.dd_invol.specs.Table.{IsBareTable}
+use Rattle.dd_branch.proofs.Beginnings.{none_without_ties}
 use Rattle.dd_branch.proofs.members.add_degrees.Goals as goal
-
-pub returns-then-not-has_limits : goal.returns-then-not-has_limits
-returns-then-not-has_limits c =
-    none_without_limits c.args.q.now c.args.t c.args.list.now.items (λ limits.
-    let yes' = c.has_limits.ensures.1 (subst (HasLimits c.args.q.now) (sym c.into_symbol-table.ensures.same) limits) in
-    let no' = c.if-not-has_limits.true in cc)
 
 pub returns-in_default : goal.returns-in_default
 returns-in_default c =
-    let table = c.into_symbol-table.result in
+    let table = c.symbol.result.now in
     let none = subst (λ f. MatchOption f (Least table → ⊥) (λ ties. AreTies table ties.items)) c.in_default.is c.in_ok-ties.ensures in
-    none_without_ties c.args.q.now c.args.t c.args.list.now.items c.into_symbol-table.ensures.table (subst (λ t. Least t → ⊥) c.into_symbol-table.ensures.same none)
-
-pub returns : goal.returns
-returns c =
-    on_ok_weaker c.add_all.result
-    (members_with c.args.q.now c.args.t c.new.result c.new.ensures.ready c.new.ensures.request (c.new.ensures.table ∙ c.into_symbol-table.ensures.same) c.new.ensures.none c.args.list.now.items c.add_all.new.list.items)
-    c.add_all.ensures
+    none_without_ties c.args.q.now c.args.t c.args.list.now.items c.symbol.ensures.table (subst (λ t. Least t → ⊥) c.symbol.ensures.same none)

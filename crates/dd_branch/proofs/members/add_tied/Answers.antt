@@ -1,0 +1,18 @@
+use Rattle.std.proofs.Common.{sym, ◌∙◌, subst}
+use Rattle.std.proofs.lemmas.Result.{on_ok_weaker}
+use Rattle.dd_canon.specs.Ties.{AreTies}
+use Rattle.dd_branch.specs.Assignment.{HasLimits}
+use Rattle.dd_branch.proofs.Beginnings.{members_with, none_without_limits}
+use Rattle.dd_branch.proofs.members.add_tied.Goals as goal
+
+pub returns-then-not-has_limits : goal.returns-then-not-has_limits
+returns-then-not-has_limits c =
+    none_without_limits c.args.q.now c.args.t c.args.list.now.items (λ limits.
+    let yes' = c.has_limits.ensures.1 (subst (HasLimits c.args.q.now) (sym c.into_symbol-table.ensures.same) limits) in
+    let no' = c.if-not-has_limits.true in cc)
+
+pub returns : goal.returns
+returns c =
+    on_ok_weaker c.add_all.result
+    (members_with c.args.q.now c.args.t c.new.result c.new.ensures.ready c.new.ensures.request (c.new.ensures.table ∙ c.into_symbol-table.ensures.same) c.new.ensures.none c.args.list.now.items c.add_all.new.list.items)
+    c.add_all.ensures
