@@ -20,8 +20,14 @@ use std::sync::ledger::Ledger;
 use std::thread;
 use std::thread::Threads;
 
-/// How many tickets a worker may put into its deque.
-const ROOM: u32 = 4096;
+/// How many tickets a worker may put into its deque: one for each job of the round. A deque's room is all taken at once, and a
+/// round may be short.
+fn room_for(jobs: usize) -> u32
+    ensures low { 1 ≤ result }
+    ensures high { result ≤ 4096 }
+{
+    jobs.clamp(1, 4096) as u32
+}
 
 /// Does the jobs of a round by so many workers. Each entry that comes back is done with what is under its job. The jobs
 /// of the entries are parts of the round's jobs, of each at least one, and in order they have all that is under these.
@@ -92,8 +98,9 @@ fn run_named<
     ensures { IfOk result (λ entries. ComeFrom N.request N.jobs entries.items) }
 {
     let request = finder.request();
+    let room = room_for(jobs.len());
     let (board, seats) = Board::<N, K, L, S, D, B>::open(alloc, &request, jobs, workers, blanks)?;
-    let (_, hands) = Rack::<N>::open(alloc, workers, ROOM)?;
+    let (_, hands) = Rack::<N>::open(alloc, workers, room)?;
     let mut crew = crew_of(alloc, seats, hands)?;
     let shared = &board;
     thread::for_each_mut(
