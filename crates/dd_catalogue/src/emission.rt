@@ -14,7 +14,7 @@ use dd_ports::{Sink, SinkFault};
 use std::thread::Threads;
 
 /// How many members make a batch for several threads: the lists of most entries are too short for more than one.
-const BATCH: usize = 8192;
+const BATCH: usize = 65_536;
 
 /// Emits the entries at the front that are done, and puts their lines, made by so many threads, to the page. Where there is a line
 /// after the last one that may be written, the front stops at its member, and the answer is false.
