@@ -17,7 +17,7 @@ use crate::copies::copy_of;
 use crate::looking::{has_out_with, place_of_first};
 use crate::naming::Naming;
 use crate::ticket::{Taken, Ticket};
-use dd_front::{Entry, Event, Front, JobList, Members, has_out};
+use dd_front::{Entry, Event, Front, JobList, Members};
 use dd_model::{Job, Memory, Request};
 use dd_symbol::Connected;
 use std::alloc::Global;
@@ -149,7 +149,7 @@ impl<N: Naming> Desk<N> {
             ticket.now.entry result }
         ensures request { self.now.machine.request ≡ N.request }
     {
-        if has_out_with(self.entries(), ticket.entry, &ticket.job) {
+        if has_out_with(&self.front, ticket.entry, &ticket.job) {
             ticket.entry
         } else {
             0
@@ -176,11 +176,7 @@ impl<N: Naming> Desk<N> {
     fn number_out(&self, entry: u64) -> u64
         ensures { IsNumberWhere (HasState self.now.machine entry Out) entry result }
     {
-        if has_out(self.entries(), entry) {
-            entry
-        } else {
-            0
-        }
+        if self.front.has_out(entry) { entry } else { 0 }
     }
 
     // Books that an entry becomes open ones for these jobs.

@@ -4,7 +4,7 @@ ghost use Rattle.dd_model.specs.declared.jobs.Position.TheVariants.{At, End};
 ghost use Rattle.dd_front.specs.Machine.{entry_of};
 ghost use Rattle.dd_board.specs.Desk.{first_place};
 
-use dd_front::{Entry, State};
+use dd_front::{Entry, Front, State};
 use dd_model::{Job, Memory, Position};
 
 /// Whether two jobs are equal.
@@ -14,13 +14,21 @@ fn is_same(job: &Job, other: &Job) -> bool
     job.size == other.size && job.prefix.as_slice() == other.prefix.as_slice()
 }
 
-/// Whether the entry of a number is out with this job.
-pub fn has_out_with(entries: &[Entry], number: u64, job: &Job) -> bool
-    ensures { IsTrue result ↔ Contains entries.now (entry_of number job.now State.Out) }
+/// Whether an entry is out with this job.
+fn is_out_with(entry: &Entry, job: &Job) -> bool
+    ensures { IsTrue result ↔ ((entry.now.job ≡ job.now) × (entry.now.state ≡ State.Out)) }
 {
-    entries.iter().any(|entry| entry.number == number
-        && entry.state.is_out()
-        && is_same(&entry.job, job))
+    entry.state.is_out() && is_same(&entry.job, job)
+}
+
+/// Whether the entry of a number is out with this job.
+pub fn has_out_with(front: &Front, number: u64, job: &Job) -> bool
+    ensures { IsTrue result ↔ Contains front.now.entries (entry_of number job.now State.Out) }
+{
+    match front.entry(number) {
+        Some(entry) => is_out_with(entry, job),
+        None => false,
+    }
 }
 
 /// Where a round begins.

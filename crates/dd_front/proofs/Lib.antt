@@ -1,4 +1,4 @@
-mod Placed
+pub mod Placed
 pub mod Replaced
 mod Kept
 mod Firsts

@@ -1,6 +1,6 @@
 -- Places in a list of entries.
 use Rattle.std.specs.Prelude.{◌≡◌, ◌≢◌, ℕ, zero, suc, List, [], ◌∷◌}
-use Rattle.std.specs.List.{AllByRecursion}
+use Rattle.std.specs.List.{AllByRecursion, Contains}
 use Rattle.dd_front.specs.declared.entry.Entry.{Entry}
 use Rattle.dd_front.specs.declared.entry.State.{State}
 use Rattle.dd_front.specs.Machine.{entry_of}
@@ -14,6 +14,12 @@ IsPlaceOf k (e ∷ es) (suc i) = (e.number ≢ k) × IsPlaceOf k es i
 -- no entry has number k
 abbrev pub HasNoneOf : ℕ → List Entry → Type 0
 HasNoneOf k es = AllByRecursion (λ e. e.number ≢ k) es
+
+-- the entry has number k, and no other one has
+pub record IsEntryOf (k : ℕ) (es : List Entry) (e : Entry) : Type 0 where
+  pub stands : Contains es e
+  pub number : e.number ≡ k
+  pub only : (d : Entry) → Contains es d → d.number ≡ k → d ≡ e
 
 -- the entries with the one at a place in another state
 abbrev pub with_state_at : ℕ → State → List Entry → List Entry

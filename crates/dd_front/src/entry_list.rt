@@ -1,8 +1,8 @@
-ghost use Rattle.std.specs.Prelude.{◌≡◌, ◌≢◌, ◌+◌, ◌<◌, ◌≤◌, ◌^◌, length, IfOk, OnOk, OnErr, MatchOption};
+ghost use Rattle.std.specs.Prelude.{◌≡◌, ◌≢◌, ◌↔◌, ◌+◌, ◌<◌, ◌≤◌, ◌^◌, length, IsTrue, IfOk, OnOk, OnErr, MatchOption};
 
 use crate::entry::{Entry, State};
-use crate::listing::{listed, place_of};
-use crate::looking::{first_open, shut_after};
+use crate::listing::listed;
+use crate::looking::{first_open, place_near, shut_after};
 use crate::members::Members;
 use dd_model::{Job, Memory};
 use std::alloc::Global;
@@ -34,11 +34,12 @@ impl Model for EntryList {
 }
 
 impl EntryList {
-    ghost use Rattle.dd_front.specs.Machine.{open_entries};
-    ghost use Rattle.std.specs.List.{AllByRecursion, splice};
+    ghost use Rattle.dd_model.specs.declared.jobs.Job.{Job as Part};
+    ghost use Rattle.dd_front.specs.Machine.{entry_of, open_entries};
+    ghost use Rattle.std.specs.List.{AllByRecursion, Contains, splice};
     ghost use Rattle.dd_front.specs.Rounds.{IsFirstOpen};
     ghost use Rattle.dd_front.specs.Numbers.{HaveOwnNumbers, AreBelow};
-    ghost use Rattle.dd_front.specs.Places.{with_state_at};
+    ghost use Rattle.dd_front.specs.Places.{IsPlaceOf, HasNoneOf, IsEntryOf, with_state_at};
     ghost use Rattle.dd_front.specs.Joining.{done_with};
     ghost use Rattle.dd_front.specs.Step.{with_state, split_entries};
     ghost use Rattle.dd_front.specs.Taken.{BeginsDone, BeginsNotDone};
@@ -83,6 +84,47 @@ impl EntryList {
         first_open(&self.all[self.gone + self.shut..])
     }
 
+    /// The place of the entry of a number, counted from 0. Mostly it is that of the first open
+    /// entry or of one that was taken lately, and these stand side by side.
+    fn place_of(&self, number: u64) -> Option<usize>
+        ensures place { MatchOption result (HasNoneOf number self.now)
+            (IsPlaceOf number self.now) }
+        ensures numbers { HaveOwnNumbers self.now }
+    {
+        place_near(self.as_slice(), number, self.shut)
+    }
+
+    /// The entry of a number.
+    pub fn get(&self, number: u64) -> Option<&Entry>
+        ensures { MatchOption result (HasNoneOf number self.now)
+            (λ entry. IsEntryOf number self.now entry.now) }
+    {
+        let place = self.place_of(number)?;
+        Some(&self.as_slice()[place])
+    }
+
+    /// Whether the entry of a number is open.
+    pub fn has_open(&self, number: u64) -> bool
+        ensures { IsTrue result
+            ↔ ((job : Part) × Contains self.now (entry_of number job State.Open)) }
+    {
+        match self.get(number) {
+            Some(entry) => entry.state.is_open(),
+            None => false,
+        }
+    }
+
+    /// Whether the entry of a number is out.
+    pub fn has_out(&self, number: u64) -> bool
+        ensures { IsTrue result
+            ↔ ((job : Part) × Contains self.now (entry_of number job State.Out)) }
+    {
+        match self.get(number) {
+            Some(entry) => entry.state.is_out(),
+            None => false,
+        }
+    }
+
     /// Gives the entry at a place, counted from 0, another state.
     pub fn put_state(&mut self, place: usize, state: State)
         requires { place < length self.old }
@@ -97,7 +139,7 @@ impl EntryList {
     pub fn set_state(&mut self, number: u64, state: State)
         ensures { self.new ≡ with_state number state self.old }
     {
-        if let Some(place) = place_of(self.as_slice(), number) {
+        if let Some(place) = self.place_of(number) {
             self.put_state(place, state);
         }
     }
@@ -143,7 +185,7 @@ impl EntryList {
         ensures numbers { HaveOwnNumbers self.old }
         ensures same { OnErr result (self.new ≡ self.old) }
     {
-        match place_of(self.as_slice(), number) {
+        match self.place_of(number) {
             Some(place) => self.replace(place, listed(alloc, next, jobs)?),
             None => Ok(()),
         }

@@ -7,7 +7,7 @@ use crate::entry::{Entry, State};
 use crate::entry_list::EntryList;
 use crate::event::Event;
 use crate::listing::{copies_of, position_of};
-use crate::looking::{count_before, first_list, has_open, has_out};
+use crate::looking::{count_before, first_list};
 use dd_model::{Job, Memory, Position, Request};
 use std::alloc::Global;
 use std::marker::Model;
@@ -52,7 +52,8 @@ impl Model for Front {
 impl Front {
     ghost use Rattle.dd_front.specs.Machine.{IsOpened, StandsAt};
     ghost use Rattle.std.specs.List.{AllByRecursion};
-    ghost use Rattle.dd_front.specs.Allowed.{IsPermitted};
+    ghost use Rattle.dd_front.specs.Allowed.{HasState, IsPermitted};
+    ghost use Rattle.dd_front.specs.Places.{HasNoneOf, IsEntryOf};
     ghost use Rattle.dd_front.specs.Rounds.{IsFirstOpen};
 
     /// A front with these jobs, all open, that goes on from a position after so many lines.
@@ -92,10 +93,10 @@ impl Front {
     {
         let entries = self.entries.as_slice();
         match event {
-            Event::Take { entry, .. } => has_open(entries, *entry),
+            Event::Take { entry, .. } => self.entries.has_open(*entry),
             Event::Look { .. } => self.entries.first_open().is_none(),
             Event::Split { entry, .. } | Event::Finish { entry, .. } | Event::Back { entry, .. } =>
-                *entry == 0 || has_out(entries, *entry),
+                *entry == 0 || self.has_out(*entry),
             Event::Emit => first_list(entries).is_some(),
             Event::Part { count } => match first_list(entries) {
                 Some(list) => {
@@ -121,6 +122,21 @@ impl Front {
         ensures { result.now ≡ self.now.entries }
     {
         self.entries.as_slice()
+    }
+
+    /// The entry of a number.
+    pub fn entry(&self, number: u64) -> Option<&Entry>
+        ensures { MatchOption result (HasNoneOf number self.now.entries)
+            (λ entry. IsEntryOf number self.now.entries entry.now) }
+    {
+        self.entries.get(number)
+    }
+
+    /// Whether the entry of a number is out.
+    pub fn has_out(&self, number: u64) -> bool
+        ensures { IsTrue result ↔ HasState self.now number State.Out }
+    {
+        self.entries.has_out(number)
     }
 
     /// The entries in order, without the front.

@@ -27,5 +27,4 @@ pub use laws::{
     a_machine_is_held_at_its_opening, a_machine_stands_at_one_position, a_run_covers_its_opening,
     absorbing_keeps_what_is_held, an_event_keeps_what_is_held, what_is_held_is_covered,
 };
-pub use looking::has_out;
 pub use members::Members;

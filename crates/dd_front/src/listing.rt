@@ -1,5 +1,4 @@
-ghost use Rattle.std.specs.Prelude.{◌≡◌, ◌+◌, ◌<◌, ◌^◌, ◌==◌, length, IfOk};
-ghost use Rattle.std.specs.List.{position};
+ghost use Rattle.std.specs.Prelude.{◌≡◌, ◌+◌, ◌<◌, ◌^◌, length, IfOk};
 ghost use Rattle.dd_front.specs.Machine.{open_entries, StandsAt};
 
 use crate::entry::{Entry, State};
@@ -22,13 +21,6 @@ pub fn listed(alloc: Global, first: u64, jobs: Vec<Job>) -> Result<Vec<Entry>, M
         number += 1;
     }
     Ok(entries)
-}
-
-/// The place of the first entry of a number, counted from 0.
-pub fn place_of(entries: &[Entry], number: u64) -> Option<usize>
-    ensures { result ≡ position (λ e. e.number == number) entries.now }
-{
-    entries.iter().position(|entry| entry.number == number)
 }
 
 /// Copies of jobs.

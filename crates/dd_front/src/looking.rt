@@ -1,14 +1,13 @@
-ghost use Rattle.std.specs.Prelude.{◌≡◌, ◌≢◌, ◌↔◌, ◌≤◌, ◌+◌, ◌<◌, ◌^◌, List, length, drop, IsTrue, MatchOption};
-ghost use Rattle.std.specs.List.{Contains, AllByRecursion};
+ghost use Rattle.std.specs.Prelude.{◌≡◌, ◌≢◌, ◌≤◌, ◌<◌, List, length, drop, MatchOption};
+ghost use Rattle.std.specs.List.{AllByRecursion};
 ghost use Rattle.dd_model.specs.Symbol.{IsSymbol};
 ghost use Rattle.dd_model.specs.Lists.{IsWithout};
 ghost use Rattle.dd_model.specs.Position.{IsBefore};
 ghost use Rattle.dd_model.specs.Wanted.{IsAscending};
-ghost use Rattle.dd_model.specs.declared.jobs.Job.{Job as Part};
 ghost use Rattle.dd_front.specs.declared.entry.Entry.{Entry as Row};
-ghost use Rattle.dd_front.specs.Machine.{entry_of};
 ghost use Rattle.dd_front.specs.Rounds.{IsFirstOpen};
-ghost use Rattle.dd_front.specs.Places.{with_state_at};
+ghost use Rattle.dd_front.specs.Numbers.{HaveOwnNumbers};
+ghost use Rattle.dd_front.specs.Places.{HasNoneOf, IsPlaceOf, with_state_at};
 ghost use Rattle.dd_front.specs.Shut.{IsShutTo};
 ghost use Rattle.dd_front.specs.Taken.{BeginsDone, BeginsNotDone};
 
@@ -17,24 +16,22 @@ use crate::members::Members;
 use dd_model::Position;
 use dd_symbol::Connected;
 
-/// Whether the entry of a number is open.
-pub fn has_open(entries: &[Entry], number: u64) -> bool
-    ensures { IsTrue result
-        ↔ ((job : Part) × Contains entries.now (entry_of number job State.Open)) }
+/// The place of the entry of a number, counted from 0. It is looked for on both sides of a place,
+/// the nearest entries first, so that one which stands near is found at once in a long list.
+pub fn place_near(entries: &[Entry], number: u64, near: usize) -> Option<usize>
+    requires own { HaveOwnNumbers entries.now }
+    requires near { near ≤ length entries.now }
+    ensures { MatchOption result (HasNoneOf number entries.now) (IsPlaceOf number entries.now) }
 {
-    entries
-        .iter()
-        .any(|entry| entry.number == number && entry.state.is_open())
-}
-
-/// Whether the entry of a number is out.
-pub fn has_out(entries: &[Entry], number: u64) -> bool
-    ensures { IsTrue result
-        ↔ ((job : Part) × Contains entries.now (entry_of number job State.Out)) }
-{
-    entries
-        .iter()
-        .any(|entry| entry.number == number && entry.state.is_out())
+    for step in 0..entries.len() {
+        if step < near && entries[near - step - 1].number == number {
+            return Some(near - step - 1);
+        }
+        if step < entries.len() - near && entries[near + step].number == number {
+            return Some(near + step);
+        }
+    }
+    None
 }
 
 /// The first open entry.

@@ -14,8 +14,8 @@ use Rattle.dd_front.proofs.front.Front.allowed.Goals as goal
 pub returns-in-Take : goal.returns-in-Take
 returns-in-Take c =
     let f = c.args.self.now in
-    let es = c.as_slice-entries.ensures.entries ∙ ap (λ m. m.entries) c.self.view_is in
-    subst (λ e. IsTrue c.has_open.result ↔ IsPermitted f e) (sym c.in-Take.is) (state_told f c.in-Take.entry Open c.as_slice-entries.result.now c.has_open.result es c.has_open.ensures)
+    let told = state_told f c.in-Take.entry Open c.self.inside.entries c.has_open.result (ap (λ m. m.entries) c.self.view_is) c.has_open.ensures in
+    subst (λ e. IsTrue c.has_open.result ↔ IsPermitted f e) (sym c.in-Take.is) told
 
 pub returns-in-Look : goal.returns-in-Look
 returns-in-Look c =
