@@ -8,7 +8,7 @@ use Rattle.dd_ports.specs.Grows.{GrowsByPrefix}
 use Rattle.std.proofs.lemmas.List.{append-nil}
 use Rattle.dd_ports.proofs.Growth.{Appends_trans}
 use Rattle.dd_text.specs.Writing.{AddsLines}
-use Rattle.dd_catalogue.specs.Pages.{AddsAll, HasLines, IsFrontOut, WritesFrontOf}
+use Rattle.dd_catalogue.specs.Pages.{HasLines, IsFrontOut}
 use Rattle.dd_catalogue.specs.declared.pages.Page.{Page}
 
 -- nothing more was written
@@ -74,46 +74,3 @@ lines_put k base start now old new ss more added count bytes has =
       count = omega (arith, count, old_count, size);
       bytes = bytes ∙ has.bytes;
     }
-
--- ## Part by part
-
--- the lines of all of these symbols but the last ones are there
-pub record HasAdded (before now : Option (List ℕ)) (old new : Page) (all rest : List Symbol) : Type 0 where
-  pub done : List Symbol
-  pub parts : all ≡ done ++ rest
-  pub adds : AddsAll before now old new done
-  pub count : new.count ≡ old.count + length done
-
-pub none_added : (now : Option (List ℕ)) (page : Page) (all : List Symbol) → HasAdded now now page page all all
-none_added now page all = record {
-  done = [];
-  parts = refl;
-  adds = λ k base start ss has. subst (HasLines k base start now page) (sym (append-nil ss)) has;
-  count = omega arith;
-}
-
-pub added_more : (before mid now : Option (List ℕ)) (old part new : Page) (all rest xs later : List Symbol) → HasAdded before mid old part all rest → rest ≡ xs ++ later → AddsAll mid now part new xs → new.count ≡ part.count + length xs
-    → HasAdded before now old new all later
-added_more before mid now old part new all rest xs later had split adds count =
-    let both = length-append had.done xs in
-    let so_far = had.count in
-    record {
-      done = had.done ++ xs;
-      parts = had.parts ∙ ap (λ ys. had.done ++ ys) split ∙ sym (append_assoc had.done xs later);
-      adds = λ k base start ss has. subst (HasLines k base start now new) (append_assoc ss had.done xs) (adds k base start (ss ++ had.done) (had.adds k base start ss has));
-      count = omega (arith, both, so_far, count);
-    }
-
--- where a part fails, a front of all lines went out
-pub added_front : (before mid now : Option (List ℕ)) (old part : Page) (all rest xs later : List Symbol) → HasAdded before mid old part all rest → rest ≡ xs ++ later → WritesFrontOf mid now part xs → WritesFrontOf before now old all
-added_front before mid now old part all rest xs later had split front k base start ss has =
-    let out = front_of_more k base start now ((ss ++ had.done) ++ xs) later (front k base start (ss ++ had.done) (had.adds k base start ss has)) in
-    let whole : ((ss ++ had.done) ++ xs) ++ later ≡ ss ++ all =
-    append_assoc (ss ++ had.done) xs later ∙ ap (λ ys. (ss ++ had.done) ++ ys) (sym split) ∙ append_assoc ss had.done rest ∙ ap (λ ys. ss ++ ys) (sym had.parts) in
-    subst (IsFrontOut k base start now) whole out
-
--- and where none is left, all lines are there
-pub added_all : (before now : Option (List ℕ)) (old new : Page) (all rest : List Symbol) → HasAdded before now old new all rest → rest ≡ [] → AddsAll before now old new all
-added_all before now old new all rest had none =
-    let same : all ≡ had.done = had.parts ∙ ap (λ ys. had.done ++ ys) none ∙ append-nil had.done in
-    subst (AddsAll before now old new) (sym same) had.adds

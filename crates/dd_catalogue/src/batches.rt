@@ -14,9 +14,6 @@ use std::alloc::Global;
 use std::thread;
 use std::thread::Threads;
 
-/// How many members make a batch for several threads: the lists of most entries are too short for more than one.
-pub(crate) const BATCH: usize = 65_536;
-
 /// How many members are given back by one thread at least, so that it is worth its start.
 const FEWEST: usize = 1024;
 

@@ -6,12 +6,15 @@ ghost use Rattle.dd_front.specs.Allowed.{MayPart};
 ghost use Rattle.dd_catalogue.specs.Rounds.{AreOpen};
 ghost use Rattle.dd_catalogue.specs.Ways.{IsAny, GoesOn, FillsUp, WritesPart};
 
-use crate::batches::{BATCH, give_back, next_batch};
+use crate::batches::{give_back, next_batch};
 use crate::pages::Page;
 use crate::rounds::count_at_front;
 use dd_front::{Event, Front};
 use dd_ports::{Sink, SinkFault};
 use std::thread::Threads;
+
+/// How many members make a batch for several threads: the lists of most entries are too short for more than one.
+const BATCH: usize = 65_536;
 
 /// Emits the entries at the front that are done, and puts their lines, made by so many threads, to the page. Where there is a line
 /// after the last one that may be written, the front stops at its member, and the answer is false.

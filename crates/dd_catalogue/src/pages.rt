@@ -3,7 +3,6 @@ ghost use Rattle.dd_ports.specs.declared.sink.SinkFault.TheVariants.{Failed};
 ghost use Rattle.dd_ports.specs.Causes.{HasCause, StaysSure};
 ghost use Rattle.dd_catalogue.specs.Pages.{KeepsLines, AddsAll, WritesFront, WritesFrontOf};
 
-use crate::batches::BATCH;
 use crate::lines::put_lines_by;
 use dd_model::Memory;
 use dd_ports::{Sink, SinkFault, write_all_of};
@@ -13,16 +12,6 @@ use std::thread::Threads;
 
 /// How many bytes are collected before they are written.
 const FULL: usize = 65_536;
-
-/// How many members' lines one thread collects before it looks whether there are enough: they have about as many bytes.
-const PART: usize = 512;
-
-/// How many members have their lines made at once by so many threads: with several, so many that their start is worth it.
-fn part_size(threads: u32) -> usize
-    ensures { 1 ≤ result }
-{
-    if threads > 1 { BATCH } else { PART }
-}
 
 /// Lines that are collected to be written at once, the number of the last one, and how many bytes were written.
 #[derive(Drop)]
@@ -102,8 +91,8 @@ impl Page {
         Ok(())
     }
 
-    /// Collects the next lines, made at once by so many threads, and writes them where there are enough.
-    fn add_part<R: Threads + Sync, O: Sink>(
+    /// Collects the next lines, made by so many threads, and writes them once there are enough.
+    pub(crate) fn add<R: Threads + Sync, O: Sink>(
         &mut self,
         rt: &R,
         threads: u32,
@@ -124,33 +113,5 @@ impl Page {
             return Err(SinkFault::Memory);
         };
         self.flush_if_full(out)
-    }
-
-    /// Collects the next lines, made by so many threads, and writes them whenever there are enough.
-    pub(crate) fn add<R: Threads + Sync, O: Sink>(
-        &mut self,
-        rt: &R,
-        threads: u32,
-        members: &[Connected],
-        out: &mut O,
-    ) -> Result<(), SinkFault>
-        requires threads { 1 ≤ threads }
-        requires few { self.old.count + length members.now ≤ 1000000000000000000 }
-        ensures all { OnOk result
-            (AddsAll (O.held out.old) (O.held out.new) self.old self.new members.now) }
-        ensures count { OnOk result (self.new.count ≡ self.old.count + length members.now) }
-        ensures front { WritesFrontOf (O.held out.old) (O.held out.new) self.old members.now }
-        ensures cause { HasCause Failed (O.faults out.old) (O.faults out.new) result }
-        ensures sure { O.sure out.old ≡ true
-            → StaysSure Failed (O.faults out.old) (O.faults out.new) (O.sure out.new) result }
-    {
-        let size = part_size(threads);
-        let mut rest = members;
-        while rest.len() > size {
-            let (part, later) = rest.split_at(size);
-            self.add_part(rt, threads, part, out)?;
-            rest = later;
-        }
-        self.add_part(rt, threads, rest, out)
     }
 }
