@@ -3,6 +3,7 @@ pub mod EndLemmas
 pub mod JoinLemmas
 pub mod EndTotals
 pub mod PassingTables
+pub mod CensusLemmas
 pub mod RoomLemmas
 pub mod ClassLemmas
 pub mod PutLemmas

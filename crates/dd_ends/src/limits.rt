@@ -1,9 +1,10 @@
-ghost use Rattle.std.specs.Prelude.{◌≡◌, ◌⊎◌, ◌+◌, ◌*◌, ◌≤◌, ◌<◌};
+ghost use Rattle.std.specs.Bool.{OnTrue, OnFalse};
+ghost use Rattle.std.specs.Prelude.{◌≡◌, ◌⊎◌, ◌+◌, ◌*◌, ◌≤◌, ◌<◌, IfSome, IfNone};
 ghost use Rattle.dd_model.specs.Symbol.{Symbol as Tiling};
 ghost use Rattle.dd_model.specs.Wanted.{AtMost, Wanted};
 ghost use Rattle.dd_model.specs.declared.pair.Pair.TheVariants.{Tile, Vertex};
 ghost use Rattle.dd_invol.specs.Rows.{partial_of, IsReady};
-ghost use Rattle.dd_shares.specs.Shares.{BoundsReciprocals, IsTotal};
+ghost use Rattle.dd_shares.specs.Shares.{BoundsReciprocals, IsSought, IsTotal};
 ghost use Rattle.dd_shares.specs.Units.{share_unit};
 ghost use Rattle.dd_ends.specs.Sides.{IsSide};
 
@@ -82,48 +83,81 @@ impl Census {
         self.most += u64::from(chambers) * shares.whole(cell.turns);
     }
 
-    /// What all cells add at most, where there are no more than a limit.
-    fn bound(&self, limit: u32, size: u8) -> u64
+    /// Whether there are more cells than a limit allows: more are whole, or as many are and leave
+    /// chambers over.
+    fn exceeds(&self, limit: u32, size: u8) -> bool
+        ensures over { OnTrue result ((s : Tiling) (p : Pair) → s.size ≡ size
+            → ¬ HasRoom s p self.now limit) }
+        ensures within { OnFalse result (self.now.cells ≤ limit) }
+    {
+        self.cells > limit || self.cells == limit && self.chambers < u32::from(size)
+    }
+
+    /// What some chambers tell, up to the first that tells of more cells than a limit allows. For
+    /// each of them how many come before it is given, as bits.
+    fn of(shares: &ClassShares, table: &Rows, mut marked: u64, limit: u32) -> Census
+        requires ready { IsReady table.now }
+        requires pair { (shares.now.pair ≡ Tile) ⊎ (shares.now.pair ≡ Vertex) }
+        ensures census { IsCensus shares.now.request (partial_of table.now) shares.now.pair
+            (partial_of table.now).size result }
+        ensures small { IsSmall 36 result }
+    {
+        let mut census = Census::none();
+        let mut seen = 0;
+        while marked != 0 && !census.exceeds(limit, table.size()) {
+            let k = marked.trailing_zeros() as u8;
+            marked &= marked - 1;
+            if seen <= k && k < table.size() {
+                census.add(shares, table, k);
+                seen = k + 1;
+            }
+        }
+        census
+    }
+
+    /// What all cells add at most; None where there are more than a limit allows.
+    fn bound(&self, limit: u32, size: u8) -> Option<u64>
         requires small { IsSmall 36 self.now }
         requires limit { limit ≤ 36 }
-        ensures { (s : Tiling) (p : Pair) → s.size ≡ size → HasRoom s p self.now limit
-            → BoundsReciprocals s p result }
+        ensures none { IfNone result ((s : Tiling) (p : Pair) → s.size ≡ size
+            → ¬ HasRoom s p self.now limit) }
+        ensures some { IfSome result (λ most. (s : Tiling) (p : Pair) → s.size ≡ size
+            → HasRoom s p self.now limit → BoundsReciprocals s p most) }
     {
-        if self.cells > limit {
-            return 0;
+        if self.exceeds(limit, size) {
+            return None;
         }
         let left = limit - self.cells;
-        if left == 0 && self.chambers < u32::from(size) {
-            return 0;
-        }
         let chains = (self.fixed + 1) / 2;
         if chains > self.chains + left {
-            return 0;
+            return None;
         }
-        self.most + u64::from(self.chains + 2 * left - chains) * SHARE_UNIT
+        Some(self.most + u64::from(self.chains + 2 * left - chains) * SHARE_UNIT)
     }
 }
 
 impl Side {
     /// The total of a pair, or less where a request sets a limit: whole cells add what they add, a
-    /// further chain at most SHARE_UNIT, and a further cycle at most twice that.
-    pub(crate) fn limited(&self, shares: &ClassShares, table: &Rows) -> u64
+    /// further chain at most SHARE_UNIT, and a further cycle at most twice that. None where there
+    /// are more cells than the limit allows.
+    pub(crate) fn limited(&self, shares: &ClassShares, table: &Rows) -> Option<u64>
         requires ready { IsReady table.now }
         requires pair { (shares.now.pair ≡ Tile) ⊎ (shares.now.pair ≡ Vertex) }
         requires kept { IsSide shares.now (partial_of table.now) self.now }
-        ensures total { IsTotal shares.now.request (partial_of table.now) shares.now.pair share_unit
-            result }
-        ensures small { result ≤ 36 * share_unit }
+        ensures none { IfNone result ((s : Tiling)
+            → ¬ IsSought shares.now.request (partial_of table.now) s) }
+        ensures total { IfSome result (IsTotal shares.now.request (partial_of table.now)
+            shares.now.pair share_unit) }
+        ensures small { IfSome result (λ total. total ≤ 36 * share_unit) }
     {
         let limit = limit_of(&shares.request, shares.pair);
         if limit == 0 || limit > 36 {
-            return self.total;
+            return Some(self.total);
         }
-        let mut census = Census::none();
-        for k in 0..table.size() {
-            census.add(shares, table, k);
-        }
-        let total = census.bound(limit, table.size());
-        total.min(self.total)
+        let census = Census::of(shares, table, self.counts.marked(), limit);
+        let Some(bound) = census.bound(limit, table.size()) else {
+            return None;
+        };
+        Some(bound.min(self.total))
     }
 }

@@ -103,7 +103,7 @@ impl Shares {
     }
 
     /// Whether it is sure that no wanted symbol completes the table: the shares are too small, where
-    /// the limits of the request are looked at, too.
+    /// the limits of the request are looked at, too, or there are more cells than these allow.
     pub fn rules_out(&self, table: &Rows) -> bool
         requires ready { IsReady table.now }
         requires kept { AreKept (partial_of table.now) self.now }
@@ -116,12 +116,17 @@ impl Shares {
         if !self.may_exceed(table.size()) {
             return false;
         }
-        let tiles = self.sides.tiles.limited(&self.classes.tiles, table);
-        let vertices = self.sides.vertices.limited(&self.classes.vertices, table);
+        let Some(tiles) = self.sides.tiles.limited(&self.classes.tiles, table) else {
+            return true;
+        };
+        let Some(vertices) = self.sides.vertices.limited(&self.classes.vertices, table) else {
+            return true;
+        };
         is_too_small(tiles, vertices, table.size())
     }
 
-    /// Whether the counts tell that the limits of the request make the totals too small.
+    /// Whether the counts tell that there are more cells than the limits of the request allow, or
+    /// that these make the totals too small.
     fn may_exceed(&self, size: u8) -> bool
         requires tiles { self.now.sides.tiles.total ≤ 36 * share_unit }
         requires vertices { self.now.sides.vertices.total ≤ 36 * share_unit }
@@ -130,8 +135,12 @@ impl Shares {
         if request.tiles == 0 && request.vertices == 0 {
             return false;
         }
-        let tiles = self.sides.tiles.counts.bound(request.tiles, size);
-        let vertices = self.sides.vertices.counts.bound(request.vertices, size);
+        let Some(tiles) = self.sides.tiles.counts.bound(request.tiles, size) else {
+            return true;
+        };
+        let Some(vertices) = self.sides.vertices.counts.bound(request.vertices, size) else {
+            return true;
+        };
         is_too_small(
             tiles.min(self.sides.tiles.total),
             vertices.min(self.sides.vertices.total),

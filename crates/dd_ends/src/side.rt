@@ -179,6 +179,7 @@ impl Side {
         self.total += u64::from(end.class.chambers()) * share;
         self.ends[usize::from(x)] = End::none();
         self.ends[usize::from(end.other)] = End::none();
+        self.counts.mark(cell.least);
         self.counts.close(end.class, share);
         share != 0
     }
@@ -201,6 +202,7 @@ impl Side {
             return true;
         }
         if x == y {
+            self.counts.mark(x / 2);
             if one.class.is_capped() {
                 return self.close(shares, table, x);
             }

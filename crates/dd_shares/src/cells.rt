@@ -6,19 +6,22 @@ ghost use Rattle.dd_shares.specs.Turning.{IsTurn, IsWholeCell};
 use dd_invol::Rows;
 use dd_model::Pair;
 
-/// Where one turn leads, and whether one of its two steps stays in its place.
+/// Where one turn leads, whether one of its two steps stays in its place, and the lesser of the two
+/// chambers to which they lead.
 #[derive(Clone, Copy, Drop)]
 pub(crate) struct Turn {
     chamber: u8,
     fixes: bool,
+    least: u8,
 }
 
-/// A cell whose images are all known: how many turns lead back to a chamber of it, and whether it
-/// is a chain.
+/// A cell whose images are all known: how many turns lead back to a chamber of it, whether it is a
+/// chain, and its least chamber.
 #[derive(Clone, Copy, Drop)]
 pub struct WholeCell {
     pub turns: u8,
     pub is_chain: bool,
+    pub least: u8,
 }
 
 impl Turn {
@@ -41,6 +44,7 @@ impl Turn {
         Some(Turn {
             chamber: next,
             fixes: beside == chamber || next == beside,
+            least: beside.min(next),
         })
     }
 }
@@ -57,15 +61,21 @@ impl WholeCell {
     {
         let mut chamber = start;
         let mut is_chain = false;
+        let mut least = start;
         for done in 0..36 {
             let Some(turn) = Turn::from(table, pair, chamber, lowest) else {
                 return None;
             };
             is_chain = is_chain || turn.fixes;
+            least = least.min(turn.least);
             chamber = turn.chamber;
             if chamber == start {
                 let turns = done + 1;
-                return Some(WholeCell { turns, is_chain });
+                return Some(WholeCell {
+                    turns,
+                    is_chain,
+                    least,
+                });
             }
         }
         None

@@ -21,9 +21,9 @@ pub returns : goal.returns
 returns c small s sought =
     let t = c.args.self.now.classes in
     let P = partial_of c.args.table.now in
-    let A = c.limited-tiles.result in
-    let B = c.limited-vertices.result in
+    let A = c.in-Some.tiles in
+    let B = c.in-Some-limited.vertices in
     too_small t.request P share_unit A B
-    (subst (λ q. IsTotal q P Tile share_unit A) t.tiles_asked (subst (λ p. IsTotal t.tiles.request P p share_unit A) t.tiles_pair c.limited-tiles.ensures.total))
-    (subst (λ q. IsTotal q P Vertex share_unit B) t.vertices_asked (subst (λ p. IsTotal t.vertices.request P p share_unit B) t.vertices_pair c.limited-vertices.ensures.total))
+    (subst (λ q. IsTotal q P Tile share_unit A) t.tiles_asked (subst (λ p. IsTotal t.tiles.request P p share_unit A) t.tiles_pair c.in-Some.ensures.total))
+    (subst (λ q. IsTotal q P Vertex share_unit B) t.vertices_asked (subst (λ p. IsTotal t.vertices.request P p share_unit B) t.vertices_pair c.in-Some-limited.ensures.total))
     (subst (λ n. 2 * (A + B) < n * share_unit) c.size-2.ensures (c.is_too_small.ensures small)) s sought

@@ -29,6 +29,15 @@ returns-then-limit-eq0-clause-total c =
 pub returns-then-limit-eq0-clause-small : goal.returns-then-limit-eq0-clause-small
 returns-then-limit-eq0-clause-small c = total_small c.args.shares.now c.args.table.now c.args.self.now c.requires.ready c.requires.kept
 
+pub returns-in_default-clause-none : goal.returns-in_default-clause-none
+returns-in_default-clause-none c s sought =
+    let t = c.args.shares.now in
+    let P = partial_of c.args.table.now in
+    let none = c.if-limit-eq0.false in
+    let some : 1 ≤ c.limit_of-limit.result = omega (arith, none) in
+    c.in_default.ensures.none s t.pair (sought.completes.size ∙ sym c.size.ensures)
+    (has_room t.request P t.pair c.of-census.result c.limit_of-limit.result c.requires.pair (c.limit_of-limit.ensures some) some c.of-census.ensures.census s sought)
+
 pub returns-clause-total : goal.returns-clause-total
 returns-clause-total c s sought =
     let t = c.args.shares.now in
@@ -37,24 +46,14 @@ returns-clause-total c s sought =
     let P = partial_of c.args.table.now in
     let none = c.if-limit-eq0.false in
     let some : 1 ≤ c.limit_of-limit.result = omega (arith, none) in
-    let test = c.loop-k-test.false in
-    let end = c.loop-k.auto.k-end in
-    let size = c.size-k-end.ensures in
-    let all : c.loop-k.k ≡ P.size = omega (arith, test, end, size) in
-    let census : IsCensus q P t.pair P.size c.loop-k.census = subst (λ n. IsCensus q P t.pair n c.loop-k.census) all c.loop-k.invariant.census in
-    let bound = c.bound-total.ensures s t.pair (sought.completes.size ∙ sym c.size.ensures)
-    (has_room q P t.pair c.loop-k.census c.limit_of-limit.result c.requires.pair (c.limit_of-limit.ensures some) some census s sought) in
+    let census = c.of-census.result in
+    let bound = c.in-Some.ensures.some s t.pair (sought.completes.size ∙ sym c.size.ensures)
+    (has_room q P t.pair census c.limit_of-limit.result c.requires.pair (c.limit_of-limit.ensures some) some c.of-census.ensures.census s sought) in
     let kept = total_bounds q P (λ _. true) t.pair (ends_of t side) side.total c.requires.pair (λ s full. refl) c.requires.kept s sought in
-    subst (BoundsReciprocals s t.pair) (sym c.min.ensures) (bounds_least s t.pair c.bound-total.result side.total bound kept)
+    subst (BoundsReciprocals s t.pair) (sym c.min.ensures) (bounds_least s t.pair c.in-Some.bound side.total bound kept)
 
 pub returns-clause-small : goal.returns-clause-small
 returns-clause-small c =
     let small = total_small c.args.shares.now c.args.table.now c.args.self.now c.requires.ready c.requires.kept in
     let least = c.min.ensures in
     omega (arith, small, least)
-
-pub loop-k-preserved : goal.loop-k-preserved
-loop-k-preserved c = record {
-  census = c.add.ensures.census c.loop-k.invariant.census;
-  small = c.add.ensures.small;
-}
