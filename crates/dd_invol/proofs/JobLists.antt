@@ -13,7 +13,7 @@ use Rattle.dd_model.specs.declared.jobs.Job.{Job}
 use Rattle.dd_model.specs.declared.requests.Request.{Request}
 use Rattle.dd_invol.specs.FirstVisit.{IsFirstVisitPrefix, CanFollow}
 use Rattle.dd_model.specs.Jobs.{IsJobBelow, AreAscendingJobs}
-use Rattle.dd_model.proofs.Lists.{Contains-one, all_from_members}
+use Rattle.dd_model.proofs.Lists.{Contains-none, Contains-one, all_from_members}
 use Rattle.dd_model.proofs.Orders.{nat_cmp-same}
 use Rattle.dd_invol.specs.Opening.{IsOpening, IsJobUnder, AreJobsUnder}
 use Rattle.dd_invol.specs.Under.{Appends}
@@ -83,6 +83,16 @@ jobs_more n end prefix k js ks low part more = record {
   );
 }
 
+-- the next number of a job can follow
+next_can : (n end : ℕ) (prefix : List ℕ) (k : ℕ) (job : Job) → length prefix < end → IsJobUnder n end prefix job → get_or job.prefix (length prefix) 0 ≡ k → CanFollow n prefix k
+next_can n end prefix k job low under next =
+    let numbers = under.numbers in
+    let longer = longer_under n end prefix k job low under next in
+    let size = length_push prefix k in
+    let front : take (length (prefix ++ k ∷ [])) job.prefix ≡ prefix ++ k ∷ [] = begins_take (prefix ++ k ∷ []) job.prefix longer.begins in
+    let first = first_front n job.prefix (length (prefix ++ k ∷ [])) under.first_visit (omega arith) in
+    (first_less n prefix k (subst (IsFirstVisitPrefix n) front first)).1
+
 jobs_skip : (n end : ℕ) (prefix : List ℕ) (k : ℕ) (js : List Job) → length prefix < end → (CanFollow n prefix k → ⊥) → AreJobsBefore n end prefix k js → AreJobsBefore n end prefix (k + 1) js
 jobs_skip n end prefix k js low cannot part = record {
   ascending = part.ascending;
@@ -92,25 +102,18 @@ jobs_skip n end prefix k js low cannot part = record {
       under.0,
       ⊎_elim
           (λ early. early)
-          (λ late.
-          let less = under.1 in
-          let numbers = under.0.numbers in
-          let longer = longer_under n end prefix k job low under.0 (omega arith) in
-          let size = length_push prefix k in
-          let front : take (length (prefix ++ k ∷ [])) job.prefix ≡ prefix ++ k ∷ [] = begins_take (prefix ++ k ∷ []) job.prefix longer.begins in
-          let first = first_front n job.prefix (length (prefix ++ k ∷ [])) under.0.first_visit (omega arith) in
-          absurd (cannot (first_less n prefix k (subst (IsFirstVisitPrefix n) front first)).1))
+          (λ late. let less = under.1 in absurd (cannot (next_can n end prefix k job low under.0 (omega arith))))
           (cases_lt (get_or job.prefix (length prefix) 0) k),
     )),
   );
 }
 
-jobs_all : (n end : ℕ) (prefix : List ℕ) (js : List Job) → length prefix < end → AreJobsBefore n end prefix (n + 1) js → AreJobsUnder n end prefix js
-jobs_all n end prefix js low part = record {
+jobs_all : (n end : ℕ) (prefix : List ℕ) (k : ℕ) (js : List Job) → length prefix < end → ((j : ℕ) → CanFollow n prefix j → j < k) → AreJobsBefore n end prefix k js → AreJobsUnder n end prefix js
+jobs_all n end prefix k js low beyond part = record {
   ascending = part.ascending;
   members = λ job. (
     (λ there. ((part.members job).0 there).0),
-    (λ under. (part.members job).1 (under, let inside = number_inside n end prefix job low under in let most = inside.1 in omega arith)),
+    (λ under. (part.members job).1 (under, beyond (get_or job.prefix (length prefix) 0) (next_can n end prefix (get_or job.prefix (length prefix) 0) job low under refl))),
   );
 }
 
@@ -138,6 +141,19 @@ none_more : {A : Type 0} (xs : List A) → xs ≡ xs ++ []
 none_more [] = refl
 none_more (x ∷ xs) = ap (λ ys. x ∷ ys) (none_more xs)
 
+pub adds_none : (n end : ℕ) (prefix : List ℕ) (old : List Job) → length prefix < end → Appends (AreJobsBefore n end prefix 1) old old
+adds_none n end prefix old low = record {
+  list = [];
+  grown = none_more old;
+  holds = record {
+    ascending = tt;
+    members = λ job. (
+      (λ there. absurd (Contains-none job there)),
+      (λ under. let inside = number_inside n end prefix job low under.0 in let some = inside.0 in let less = under.1 in absurd (omega (arith, some, less))),
+    );
+  };
+}
+
 pub adds_more : (n end : ℕ) (prefix : List ℕ) (k : ℕ) (old mid new : List Job) → length prefix < end → Appends (AreJobsBefore n end prefix k) old mid → Appends (AreJobsUnder n end (prefix ++ k ∷ [])) mid new
     → Appends (AreJobsBefore n end prefix (k + 1)) old new
 adds_more n end prefix k old mid new low a b = record {
@@ -149,8 +165,10 @@ adds_more n end prefix k old mid new low a b = record {
 pub adds_skip : (n end : ℕ) (prefix : List ℕ) (k : ℕ) (old mid : List Job) → length prefix < end → (CanFollow n prefix k → ⊥) → Appends (AreJobsBefore n end prefix k) old mid → Appends (AreJobsBefore n end prefix (k + 1)) old mid
 adds_skip n end prefix k old mid low cannot a = record { list = a.list; grown = a.grown; holds = jobs_skip n end prefix k a.list low cannot a.holds }
 
-pub adds_all : (n end : ℕ) (prefix : List ℕ) (old new : List Job) → length prefix < end → Appends (AreJobsBefore n end prefix (n + 1)) old new → Appends (AreJobsUnder n end prefix) old new
-adds_all n end prefix old new low a = record { list = a.list; grown = a.grown; holds = jobs_all n end prefix a.list low a.holds }
+-- no number from k on can follow
+pub adds_all : (n end : ℕ) (prefix : List ℕ) (k : ℕ) (old new : List Job) → length prefix < end → ((j : ℕ) → CanFollow n prefix j → j < k)
+    → Appends (AreJobsBefore n end prefix k) old new → Appends (AreJobsUnder n end prefix) old new
+adds_all n end prefix k old new low beyond a = record { list = a.list; grown = a.grown; holds = jobs_all n end prefix k a.list low beyond a.holds }
 
 pub adds_whole : (n end : ℕ) (prefix : List ℕ) (job : Job) (old : List Job) → length prefix ≡ end → IsFirstVisitPrefix n prefix → job.size ≡ n → job.prefix ≡ prefix → Appends (AreJobsUnder n end prefix) old (old ++ job ∷ [])
 adds_whole n end prefix job old whole first size is = record { list = job ∷ []; grown = refl; holds = jobs_whole n end prefix job whole first size is }

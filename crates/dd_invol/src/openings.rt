@@ -4,7 +4,7 @@ ghost use Rattle.dd_invol.specs.FirstVisit.{IsFirstVisitPrefix};
 ghost use Rattle.dd_invol.specs.Opening.{IsOpeningJob, IsOpening, AreJobsUnder};
 ghost use Rattle.dd_invol.specs.Under.{Appends};
 
-use crate::numbering::{can_follow, is_first_visit};
+use crate::numbering::{can_follow, greatest, is_first_visit};
 use arrayvec::ArrayVec;
 use dd_model::{Job, Memory, Prefix, Request};
 use std::alloc::Global;
@@ -32,7 +32,8 @@ fn add_jobs(
         jobs.push(Job { size, prefix })?;
         return Ok(());
     }
-    for k in 0..size as u8 {
+    let most = size.min(u32::from(greatest(prefix)) + 1) as u8;
+    for k in 0..most {
         let number = k + 1;
         if can_follow(size, prefix, number) {
             prefix.push(number);

@@ -1,10 +1,10 @@
-use Rattle.std.proofs.Common.{rules, ◌≡◌, ℕ, IsTrue, false, List, ◌+◌, ◌-◌, ◌*◌, ◌++◌, ◌∷◌, [], min, length, take, refl, sym, ap, ◌∙◌, subst, arith}
+use Rattle.std.proofs.Common.{rules, ◌≡◌, ℕ, IsTrue, false, List, ◌+◌, ◌-◌, ◌*◌, ◌≤◌, ◌<◌, ◌++◌, ◌∷◌, [], min, length, take, refl, sym, ap, ◌∙◌, subst, arith}
 use Rattle.std.proofs.lemmas.List.{take_at, length_push}
-use Rattle.dd_invol.specs.FirstVisit.{IsFirstVisitPrefix, CanFollow}
+use Rattle.dd_invol.specs.FirstVisit.{IsFirstVisitPrefix, CanFollow, greatest}
 use Rattle.dd_invol.specs.Opening.{AreJobsUnder}
 use Rattle.dd_invol.specs.Under.{Appends}
 use Rattle.dd_invol.proofs.FirstVisits.{first_more}
-use Rattle.dd_invol.proofs.JobLists.{AreJobsBefore, adds_more, adds_skip, adds_all, adds_whole}
+use Rattle.dd_invol.proofs.JobLists.{AreJobsBefore, adds_none, adds_more, adds_skip, adds_all, adds_whole}
 use Rattle.dd_invol.proofs.openings.+add_jobs.Goals as goal
 use Rattle.dd_invol.proofs.openings.+add_jobs.Goals.{then-can_follow+in_ok-add_jobs, else-can_follow}
 
@@ -68,6 +68,23 @@ returns-clause-jobs t c =
     let xs = c.args.prefix.now.items in
     let n = c.args.size in
     let i = c.loop-k.invariant in
-    let last : c.loop-k.k ≡ n = omega arith in
-    adds_all n (min (3 * n) 9) xs c.args.jobs.now.items c.loop-k.jobs.items i.short
-    (subst (λ k. Appends (AreJobsBefore n (min (3 * n) 9) xs (k + 1)) c.args.jobs.now.items c.loop-k.jobs.items) last i.jobs)
+    adds_all n (min (3 * n) 9) xs (c.loop-k.k + 1) c.args.jobs.now.items c.loop-k.jobs.items i.short
+    (λ j can.
+    let small = can.small in
+    let next : j ≤ greatest xs + 1 = can.next in
+    let past = c.loop-k-test.false in
+    let end = c.loop-k.auto.k-end in
+    let most = c.min-most.ensures in
+    let one = c.from.ensures in
+    let great : c.greatest.result ≡ greatest xs = c.greatest.ensures ∙ ap greatest c.deref-2.ensures.0 in
+    omega (arith, small, next, past, end, most, one, great))
+    i.jobs
+
+pub loop-k-init : goal.loop-k-init
+loop-k-init t c =
+    let xs = c.args.prefix.now.items in
+    let n = c.args.size in
+    let within = c.requires.short in
+    let other = c.if-len-end.false in
+    let short : length xs < min (3 * n) 9 = omega arith in
+    record { same = refl; short = short; jobs = adds_none n (min (3 * n) 9) xs c.args.jobs.now.items short }
