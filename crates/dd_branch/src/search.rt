@@ -1,6 +1,7 @@
-ghost use Rattle.std.specs.Prelude.{◌≡◌, ◌*◌, ◌≤◌, ◌<◌, IfOk, OnOk, length};
+ghost use Rattle.std.specs.Bool.{OnFalse};
+ghost use Rattle.std.specs.Prelude.{◌≡◌, ◌*◌, ◌≤◌, ◌<◌, [], IfOk, OnOk, length};
 ghost use Rattle.dd_model.specs.Request.{IsValid};
-ghost use Rattle.dd_model.specs.Jobs.{IsJobOf, AreExtensions};
+ghost use Rattle.dd_model.specs.Jobs.{IsJobOf, AreExtensions, AreMembersUnder};
 ghost use Rattle.dd_model.specs.Wanted.{IsMember};
 ghost use Rattle.dd_invol.specs.Under.{AreUnder, Appends};
 
@@ -50,6 +51,18 @@ impl Search {
         Ok(())
     }
 
+    /// Whether the search comes as far as to a job. Where it does not, no member is under it.
+    #[inline(never)]
+    fn reaches(&self, alloc: Global, job: &Job) -> Result<bool, Memory>
+        requires valid { IsValid self.now.request }
+        requires job { IsJobOf self.now.request job.now }
+        ensures { IfOk result (λ may. OnFalse may
+            (AreMembersUnder self.now.request job.now [])) }
+    {
+        let mut descent = Descent::new(alloc, &self.request, &self.classes, job.size as u8)?;
+        Ok(descent.reach(job.prefix.as_slice()))
+    }
+
     /// The jobs with one number more under which a member may be. The search goes down to the job
     /// once, and looks one number further for each of them.
     fn extensions(&self, alloc: Global, job: &Job) -> Result<Vec<Job>, Memory>
@@ -78,6 +91,13 @@ impl Finder for Search {
 
     fn request(&self) -> Request {
         self.request
+    }
+
+    fn may_find(&self, alloc: Global, job: &Job) -> Result<bool, Memory> {
+        if !may_have_tables(job) {
+            return Ok(false);
+        }
+        self.reaches(alloc, job)
     }
 
     fn find(&self, alloc: Global, job: &Job) -> Result<Vec<Connected>, Memory> {

@@ -1,4 +1,5 @@
-ghost use Rattle.std.specs.Prelude.{◌≡◌, ◌*◌, ◌<◌, IfOk, length};
+ghost use Rattle.std.specs.Bool.{OnFalse};
+ghost use Rattle.std.specs.Prelude.{◌≡◌, ◌*◌, ◌<◌, [], IfOk, length};
 ghost use Rattle.dd_model.specs.Request.{IsValid};
 ghost use Rattle.dd_model.specs.Jobs.{IsJobOf, AreMembersUnder, AreChildren};
 ghost use Rattle.dd_model.specs.declared.requests.Request.{Request as Asked};
@@ -15,6 +16,14 @@ pub trait Finder {
     /// What is asked for.
     fn request(&self) -> Request
         ensures { result ≡ request self.now };
+
+    /// Whether a member may be under a job; false where it is sure that none is. It is sooner told
+    /// than the members are found.
+    fn may_find(&self, alloc: Global, job: &Job) -> Result<bool, Memory>
+        requires valid { IsValid (request self.now) }
+        requires job { IsJobOf (request self.now) job.now }
+        ensures { IfOk result (λ may. OnFalse may
+            (AreMembersUnder (request self.now) job.now [])) };
 
     /// The members of the catalogue under a job, ascending.
     fn find(&self, alloc: Global, job: &Job) -> Result<Vec<Connected>, Memory>

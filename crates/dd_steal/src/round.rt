@@ -29,7 +29,31 @@ fn room_for(jobs: usize) -> u32
     jobs.clamp(1, 4096) as u32
 }
 
-/// Does the jobs of a round by so many workers. Each entry that comes back is done with what is under its job. The jobs
+/// How many workers do a round that may have so many: one where nothing is under its jobs. That is
+/// sooner seen than a thread is started, and in many rounds of a large size it is so.
+fn crew_size<F: Finder>(
+    alloc: Global,
+    finder: &F,
+    jobs: &[Job],
+    workers: u32,
+) -> Result<u32, Memory>
+    requires workers { 1 ≤ workers }
+    requires valid { IsValid (F.request finder.now) }
+    requires all { AreJobsOf (F.request finder.now) jobs.now }
+    ensures { IfOk result (λ size. (1 ≤ size) × (size ≤ workers)) }
+{
+    if workers == 1 {
+        return Ok(1);
+    }
+    for job in jobs {
+        if finder.may_find(alloc, job)? {
+            return Ok(workers);
+        }
+    }
+    Ok(1)
+}
+
+/// Does the jobs of a round by at most so many workers. Each entry that comes back is done with what is under its job. The jobs
 /// of the entries are parts of the round's jobs, of each at least one, and in order they have all that is under these.
 /// `Err` comes for want of memory alone.
 pub fn run_round<R: Threads + Wait + Sync, F: Finder + Sync, G: Gate + Sync>(
@@ -47,6 +71,7 @@ pub fn run_round<R: Threads + Wait + Sync, F: Finder + Sync, G: Gate + Sync>(
     requires all { AreJobsOf (F.request finder.now) jobs.items }
     ensures { IfOk result (λ entries. ComeFrom (F.request finder.now) jobs.items entries.items) }
 {
+    let workers = crew_size(alloc, finder, &jobs, workers)?;
     run_named::<Brand, Brand, Brand, Brand, Brand, Brand, R, F, G>(
         rt,
         alloc,
