@@ -33,6 +33,23 @@ fn found(alloc: Global, job: &Job) -> Result<Vec<Connected>, Fail> {
     Ok(Search::new(&request).find(alloc, job)?)
 }
 
+/// Whether a member of at most two chambers may be under a job.
+fn may_find(alloc: Global, job: &Job) -> Result<bool, Fail> {
+    let request = asked_of_two();
+    let fits = job.prefix.as_slice().len() as u64 <= 3 * job.size as u64;
+    if !request.is_valid() || job.size == 0 || job.size > request.chambers || !fits {
+        return Ok(false);
+    }
+    Ok(Search::new(&request).may_find(alloc, job)?)
+}
+
+#[test]
+fn a_job_without_its_second_chamber_is_dead(rt: HostRuntime) -> Result<(), Fail> {
+    assert!(rt; may_find(rt.alloc(), &job(rt.alloc(), 2, &[1, 1, 2])?)?);
+    assert!(rt; !may_find(rt.alloc(), &job(rt.alloc(), 2, &[1, 1, 1])?)?);
+    Ok(())
+}
+
 #[test]
 fn one_chamber_is_found(rt: HostRuntime) -> Result<(), Fail> {
     let symbols = found(rt.alloc(), &job(rt.alloc(), 1, &[1, 1, 1])?)?;

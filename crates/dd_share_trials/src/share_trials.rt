@@ -96,9 +96,11 @@ fn a_long_chain_exceeds(rt: HostRuntime) -> Result<(), Fail> {
 }
 
 /// Whether nothing with three chambers is sought, where chamber 1 is a whole tile.
-fn is_empty_with_a_tile(tiles: u32) -> bool {
+fn is_empty_with_a_tile(tiles: u32, least: u32) -> bool
+    requires { (1 ≤ least) × (least ≤ 36) }
+{
     let mut rows = Rows::empty(3);
-    let mut shares = Shares::start(&PathShares::of(&asked(tiles, 3)), 3);
+    let mut shares = Shares::start(&PathShares::of(&asked(tiles, least)), 3);
     put(&mut rows, &mut shares, 0, 1)
         && put(&mut rows, &mut shares, 1, 1)
         && shares.rules_out(&rows)
@@ -106,9 +108,11 @@ fn is_empty_with_a_tile(tiles: u32) -> bool {
 
 #[test]
 fn a_whole_tile_leaves_no_room(rt: HostRuntime) -> Result<(), Fail> {
-    assert!(rt; is_empty_with_a_tile(1));
-    assert!(rt; !is_empty_with_a_tile(2));
-    assert!(rt; !is_empty_with_a_tile(0));
+    assert!(rt; is_empty_with_a_tile(1, 3));
+    assert!(rt; !is_empty_with_a_tile(2, 3));
+    assert!(rt; is_empty_with_a_tile(1, 1));
+    assert!(rt; !is_empty_with_a_tile(2, 1));
+    assert!(rt; !is_empty_with_a_tile(0, 3));
     Ok(())
 }
 

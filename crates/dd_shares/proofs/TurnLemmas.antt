@@ -1,13 +1,14 @@
 -- Turns along known images are turns of each completion.
-use Rattle.std.proofs.Common.{◌≡◌, ℕ, zero, suc, ◌<◌, ◌≤◌, ◌⊎◌, ◌↔◌, Bool, IsTrue, true, false, refl, sym, ap, ◌∙◌, subst, inl, inr, ⊎_elim, arith}
-use Rattle.std.proofs.lemmas.Bool.{cases_eq}
+use Rattle.std.proofs.Common.{◌≡◌, ℕ, zero, suc, min, ◌<◌, ◌≤◌, ◌⊎◌, ◌↔◌, Bool, IsTrue, true, false, refl, sym, ap, ◌∙◌, subst, inl, inr, ⊎_elim, arith}
+use Rattle.std.proofs.lemmas.Bool.{cases_eq, cases_lt}
 use Rattle.dd_model.specs.declared.pair.Pair.{Pair}
 use Rattle.dd_model.specs.Symbol.{Symbol, AreInvolutions, IsChamber, first, second, turn, op, act}
 use Rattle.dd_model.specs.Cell.{InCell, IsChain, turned, IsPeriod}
 use Rattle.dd_model.specs.Partial.{Completes}
-use Rattle.dd_model.proofs.CellWalks.{met_from_in_cell, in_cell-first, in_cell-turned, period_from_first_return}
+use Rattle.dd_model.proofs.CellWalks.{met_from_in_cell, in_cell-trans, in_cell-first, in_cell-turned, period_from_first_return}
 use Rattle.dd_model.proofs.Turns.{turned-last, turned_within}
-use Rattle.dd_shares.specs.Turning.{IsFixedAt, IsTurn, AreTurns, IsWholeCell}
+use Rattle.dd_model.proofs.Transport.{in_cell_within}
+use Rattle.dd_shares.specs.Turning.{IsFixedAt, IsTurn, AreTurns, IsLeastMet, IsWholeCell}
 use Rattle.dd_shares.specs.declared.cells.Turn.{Turn}
 use Rattle.dd_shares.specs.declared.cells.WholeCell.{WholeCell}
 
@@ -98,6 +99,42 @@ one_more_turn P p d lowest k x met now t low turns is either other = record {
   fixed = λ s full. fixed_too P p d lowest k x met now t s full low turns is either;
 }
 
+-- ## The least chamber
+
+min_of : (Q : ℕ → Type 0) (a b : ℕ) → Q a → Q b → Q (min a b)
+min_of Q a b qa qb = ⊎_elim
+    (λ less. let e : a ≡ min a b = omega (arith, less) in subst Q e qa)
+    (λ more. let e : b ≡ min a b = omega (arith, more) in subst Q e qb)
+    (cases_lt a b)
+
+pub none_met : (P : Symbol) (p : Pair) (d : ℕ) → IsLeastMet P p d 0 d d
+none_met P p d = record {
+  here = omega arith;
+  in_cell = λ s full. in_cell-turned s p d 0;
+  above = λ s full k few. absurd (omega (arith, few));
+}
+
+pub one_more_met : (P : Symbol) (p : Pair) (d lowest k x : ℕ) (met : Bool) (t : Turn) (least now : ℕ) → 1 ≤ lowest → AreTurns P p d lowest k x met → IsTurn P p x lowest t
+    → now ≡ min (min least t.beside) t.chamber → IsLeastMet P p d k x least → IsLeastMet P p d (suc k) t.chamber now
+one_more_met P p d lowest k x met t least now low turns is same known = record {
+  here = omega (arith, same);
+  in_cell = λ s full.
+      let at = turns.leads s full in
+      let beside : op s (first p) (turned s p k d) ≡ t.beside = ap (op s (first p)) at ∙ beside_too P p x lowest t s full low is ∙ is.told in
+      subst (InCell s p d) (sym same)
+      (min_of (InCell s p d) (min least t.beside) t.chamber
+      (min_of (InCell s p d) least t.beside (known.in_cell s full)
+      (subst (InCell s p d) beside (in_cell-first s p d (turned s p k d) (in_cell-turned s p d k))))
+      (subst (InCell s p d) (last_turn P p d lowest k x met t s full low turns is) (in_cell-turned s p d (suc k))));
+  above = λ s full.
+      let at = turns.leads s full in
+      let beside : op s (first p) (turned s p k d) ≡ t.beside = ap (op s (first p)) at ∙ beside_too P p x lowest t s full low is ∙ is.told in
+      let before = known.here in
+      up_to_last (λ j. (now ≤ turned s p j d) × (now ≤ op s (first p) (turned s p j d))) k
+      (λ j few. let both = known.above s full j few in (omega (arith, same, both.0), omega (arith, same, both.1)))
+      (omega (arith, same, at, before), omega (arith, same, beside));
+}
+
 -- ## Back at the start
 
 -- a turn before r that has a fixed chamber
@@ -150,8 +187,8 @@ above_cell s inv p d r lowest h period above e there =
     ⊎_elim (λ here. omega (arith, both.0, here)) (λ beside. omega (arith, both.1, beside)) met.place
 
 pub whole_from_turns : (P : Symbol) (p : Pair) (d lowest k x : ℕ) (met : Bool) (t : Turn) (cell : WholeCell) → 1 ≤ lowest → 1 ≤ d → d ≤ P.size → AreTurns P p d lowest k x met → IsTurn P p x lowest t
-    → IsTrue cell.is_chain ↔ (IsTrue met ⊎ IsTrue t.fixes) → t.chamber ≡ d → cell.turns ≡ suc k → k < 36 → IsWholeCell P p d lowest cell
-whole_from_turns P p d lowest k x met t cell low some inside turns is either back count few =
+    → IsTrue cell.is_chain ↔ (IsTrue met ⊎ IsTrue t.fixes) → IsLeastMet P p d (suc k) t.chamber cell.least → t.chamber ≡ d → cell.turns ≡ suc k → k < 36 → IsWholeCell P p d lowest cell
+whole_from_turns P p d lowest k x met t cell low some inside turns is either known back count few =
     let now = cell.is_chain in
     let chamber : (s : Symbol) → Completes P s → IsChamber s d = λ s full. let size = full.size in (some, omega (arith, size, inside)) in
     let round : (s : Symbol) → Completes P s → IsPeriod s p d (suc k) = λ s full.
@@ -168,6 +205,15 @@ whole_from_turns P p d lowest k x met t cell low some inside turns is either bac
             fixed_too P p d lowest k x met now t s full low turns is either at.turns at.below at.fixed,
       );
       above = λ s full. above_cell s full.table.involutions p d (suc k) lowest (chamber s full) (round s full) (above_too P p d lowest k x met t s full low turns is);
+      least = λ s full.
+          let there = known.in_cell s full in (
+            (
+              in_cell_within s full.table.involutions p d cell.least (chamber s full) there,
+              λ e inside_. above_cell s full.table.involutions p d (suc k) cell.least (chamber s full) (round s full) (known.above s full)
+                  e (in_cell-trans s p d cell.least e there inside_),
+            ),
+            there,
+          );
     }
 
 -- ## One of two

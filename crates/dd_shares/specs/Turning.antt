@@ -2,7 +2,7 @@
 use Rattle.std.specs.Prelude.{◌≡◌, ◌⊎◌, ◌↔◌, ℕ, ◌<◌, ◌≤◌, Bool, IsTrue}
 use Rattle.dd_model.specs.declared.pair.Pair.{Pair}
 use Rattle.dd_model.specs.Symbol.{Symbol, first, second, op}
-use Rattle.dd_model.specs.Cell.{InCell, IsChain, turned, IsPeriod}
+use Rattle.dd_model.specs.Cell.{InCell, IsChain, IsLeastOfCell, turned, IsPeriod}
 use Rattle.dd_model.specs.Partial.{Completes}
 use Rattle.dd_shares.specs.declared.cells.Turn.{Turn}
 use Rattle.dd_shares.specs.declared.cells.WholeCell.{WholeCell}
@@ -13,6 +13,7 @@ IsFixedAt s p x = (op s (first p) x ≡ x) ⊎ (op s (second p) (op s (first p) 
 
 -- one turn along images that are no less than some number
 pub record IsTurn (partial : Symbol) (p : Pair) (x lowest : ℕ) (t : Turn) : Type 0 where
+  pub told : op partial (first p) x ≡ t.beside
   pub beside : lowest ≤ op partial (first p) x
   pub next : lowest ≤ t.chamber
   pub leads : op partial (second p) (op partial (first p) x) ≡ t.chamber
@@ -29,10 +30,17 @@ pub record AreTurns (partial : Symbol) (p : Pair) (d lowest turns x : ℕ) (met 
   pub chain : IsTrue met → (s : Symbol) → Completes partial s → IsChain s p d
   pub fixed : (s : Symbol) → Completes partial s → (k : ℕ) → k < turns → IsFixedAt s p (turned s p k d) → IsTrue met
 
--- In each completion the cell of d has these turns and this kind, and no chamber of it is less than some number.
+-- The least chamber that some turns from d as far as to x met.
+pub record IsLeastMet (partial : Symbol) (p : Pair) (d turns x least : ℕ) : Type 0 where
+  pub here : least ≤ x
+  pub in_cell : (s : Symbol) → Completes partial s → InCell s p d least
+  pub above : (s : Symbol) → Completes partial s → (k : ℕ) → k < turns → (least ≤ turned s p k d) × (least ≤ op s (first p) (turned s p k d))
+
+-- In each completion the cell of d has these turns, this kind and this least chamber, which is no less than some number.
 pub record IsWholeCell (partial : Symbol) (p : Pair) (d lowest : ℕ) (cell : WholeCell) : Type 0 where
   pub some : 1 ≤ cell.turns
   pub small : cell.turns ≤ 36
   pub period : (s : Symbol) → Completes partial s → IsPeriod s p d cell.turns
   pub kind : (s : Symbol) → Completes partial s → IsTrue cell.is_chain ↔ IsChain s p d
   pub above : (s : Symbol) → Completes partial s → (e : ℕ) → InCell s p d e → lowest ≤ e
+  pub least : (s : Symbol) → Completes partial s → IsLeastOfCell s p cell.least × InCell s p d cell.least

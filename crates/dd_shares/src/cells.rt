@@ -6,13 +6,12 @@ ghost use Rattle.dd_shares.specs.Turning.{IsTurn, IsWholeCell};
 use dd_invol::Rows;
 use dd_model::Pair;
 
-/// Where one turn leads, whether one of its two steps stays in its place, and the lesser of the two
-/// chambers to which they lead.
+/// The two chambers to which the steps of one turn lead, and whether one of them stays in its place.
 #[derive(Clone, Copy, Drop)]
 pub(crate) struct Turn {
+    beside: u8,
     chamber: u8,
     fixes: bool,
-    least: u8,
 }
 
 /// A cell whose images are all known: how many turns lead back to a chamber of it, whether it is a
@@ -42,9 +41,9 @@ impl Turn {
             return None;
         }
         Some(Turn {
+            beside,
             chamber: next,
             fixes: beside == chamber || next == beside,
-            least: beside.min(next),
         })
     }
 }
@@ -67,7 +66,7 @@ impl WholeCell {
                 return None;
             };
             is_chain = is_chain || turn.fixes;
-            least = least.min(turn.least);
+            least = least.min(turn.beside).min(turn.chamber);
             chamber = turn.chamber;
             if chamber == start {
                 let turns = done + 1;

@@ -1,7 +1,7 @@
-use Rattle.std.proofs.Common.{◌≡◌, ◌↔◌, ◌⊎◌, suc, ◌+◌, IsTrue, ◌∙◌, subst, arith}
+use Rattle.std.proofs.Common.{min, ◌≡◌, ◌↔◌, ◌⊎◌, suc, ◌+◌, IsTrue, ap, ◌∙◌, subst, arith}
 use Rattle.dd_invol.specs.Rows.{partial_of}
-use Rattle.dd_shares.specs.Turning.{AreTurns}
-use Rattle.dd_shares.proofs.TurnLemmas.{no_turns, one_more_turn, whole_from_turns, either_first, either_second}
+use Rattle.dd_shares.specs.Turning.{AreTurns, IsLeastMet}
+use Rattle.dd_shares.proofs.TurnLemmas.{no_turns, one_more_turn, none_met, one_more_met, whole_from_turns, either_first, either_second}
 use Rattle.dd_shares.proofs.cells.WholeCell.from.Goals as goal
 use Rattle.dd_shares.proofs.cells.WholeCell.from.Goals.{then-is_chain, else-is_chain}
 
@@ -11,6 +11,7 @@ loop-done-init c =
     let small = c.requires.ready.small in
     record {
       turns = no_turns (partial_of c.args.table.now) c.args.pair c.args.start c.args.lowest c.requires.lowest.1;
+      least = none_met (partial_of c.args.table.now) c.args.pair c.args.start;
       low = c.requires.low;
       high = omega (arith, high, small);
     }
@@ -26,7 +27,10 @@ returns-then-chamber-start c =
       | else-is_chain w ↦ either_second c.loop-done.is_chain c.in-Some.turn.fixes c.if-is_chain.is_chain w.if-is_chain.false w.is_chain-is
     ] in
     whole_from_turns P c.args.pair c.args.start c.args.lowest c.loop-done.done c.loop-done.chamber c.loop-done.is_chain c.in-Some.turn _
-    c.requires.lowest.0 c.requires.low c.requires.high i.turns c.in-Some.ensures joined c.if-chamber-start.true (omega arith) (omega (arith, test))
+    c.requires.lowest.0 c.requires.low c.requires.high i.turns c.in-Some.ensures joined
+    (one_more_met P c.args.pair c.args.start c.args.lowest c.loop-done.done c.loop-done.chamber c.loop-done.is_chain c.in-Some.turn c.loop-done.least c.min-least.result
+    c.requires.lowest.0 i.turns c.in-Some.ensures (c.min-least.ensures ∙ ap (λ n. min n c.in-Some.turn.chamber) c.min.ensures) i.least)
+    c.if-chamber-start.true (omega arith) (omega (arith, test))
 
 pub loop-done-preserved : goal.loop-done-preserved
 loop-done-preserved c =
@@ -48,6 +52,9 @@ loop-done-preserved c =
       turns = subst (λ n. AreTurns P c.args.pair c.args.start c.args.lowest n t.chamber c.if-is_chain.is_chain) e
           (one_more_turn P c.args.pair c.args.start c.args.lowest c.loop-done.done c.loop-done.chamber c.loop-done.is_chain c.if-is_chain.is_chain t
           low i.turns one joined c.if-chamber-start.false);
+      least = subst (λ n. IsLeastMet P c.args.pair c.args.start n t.chamber c.min-least.result) e
+          (one_more_met P c.args.pair c.args.start c.args.lowest c.loop-done.done c.loop-done.chamber c.loop-done.is_chain t c.loop-done.least c.min-least.result low i.turns one
+          (c.min-least.ensures ∙ ap (λ n. min n t.chamber) c.min.ensures) i.least);
       low = omega (arith, low, next);
       high = omega (arith, within, small);
     }
