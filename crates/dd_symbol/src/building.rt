@@ -95,6 +95,23 @@ pub fn build_fitting(
     }
 }
 
+/// The connected symbol with these involutions and degrees, which are known to be those of one with
+/// branching values of at most 30. Nothing is tested.
+pub fn build_known(
+    alloc: Global,
+    involutions: Involutions,
+    m01: &[u32],
+    m12: &[u32],
+) -> Result<Connected, Memory>
+    requires { IsConnectedSymbol (with_degrees involutions m01.now m12.now) }
+    ensures { IfOk result (λ it. it ≡ with_degrees involutions m01.now m12.now) }
+{
+    let table = Table {
+        involutions: involutions.followed_by(alloc, m01, m12)?,
+    };
+    Ok(Connected::from_symbol(Symbol::from_table(table)))
+}
+
 /// The connected symbol with these lists, if they have at most `limit` chambers and are one with
 /// branching values of at most 30; else the first cause why not.
 pub fn build(

@@ -68,13 +68,23 @@ impl Involutions {
         ensures { IfOk result (λ found. MatchOption found
             (AreInvolutions (of_rows size images.now) → ⊥) (λ it. it ≡ of_rows size images.now)) }
     {
-        let mut numbers = Numbers::with_room(alloc, 5 * size as usize)?;
-        numbers.extend_bytes(images)?;
-        let rows = Rows { numbers, size };
+        let rows = Rows::from_bytes(alloc, images, size)?;
         match rows.check() {
             Ok(()) => Ok(Some(Involutions { rows })),
             Err(_) => Ok(None),
         }
+    }
+
+    /// The involutions with these images, in the same order, which are known to be those of some.
+    pub fn from_known_bytes(alloc: Global, images: &[u8], size: u32) -> Result<Involutions, Memory>
+        requires length { length images.now ≡ 3 * size }
+        requires small { size ≤ 16384 }
+        requires involutions { AreInvolutions (of_rows size images.now) }
+        ensures { IfOk result (λ it. it ≡ of_rows size images.now) }
+    {
+        Ok(Involutions {
+            rows: Rows::from_bytes(alloc, images, size)?,
+        })
     }
 
     /// The involutions with these lists of images; else the first cause why they are none.

@@ -19,7 +19,7 @@ mod symbol;
 mod table;
 mod walk;
 
-pub use building::{build, build_fitting, build_on};
+pub use building::{build, build_fitting, build_known, build_on};
 pub use connected::Connected;
 pub use involutions::Involutions;
 pub use kind::Kind;

@@ -1,7 +1,8 @@
-ghost use Rattle.std.specs.Prelude.{◌≡◌, ◌<◌, ◌≤◌, ◌*◌, ◌↔◌, IsTrue, length};
+ghost use Rattle.std.specs.Prelude.{◌≡◌, ◌<◌, ◌≤◌, ◌*◌, ◌↔◌, IsTrue, IfOk, length};
 
 use crate::numbers::Numbers;
-use dd_model::Index;
+use dd_model::{Index, Memory};
+use std::alloc::Global;
 
 /// The images of the chambers 1 to n, three for each, of which no more is known than their number.
 /// After them may come degrees.
@@ -14,9 +15,21 @@ pub(crate) struct Rows {
 }
 
 impl Rows {
-    ghost use Rattle.dd_symbol.specs.Images.{rows_of};
+    ghost use Rattle.dd_symbol.specs.Images.{rows_of, of_rows};
     ghost use Rattle.dd_model.specs.Symbol.{IsChamber, op};
     ghost use Rattle.dd_model.specs.Code.{images};
+
+    /// The rows with these images, s0, s1 and s2 of chamber 1, then those of chamber 2 and so on, and
+    /// with room for degrees.
+    pub(crate) fn from_bytes(alloc: Global, images: &[u8], size: u32) -> Result<Rows, Memory>
+        requires length { length images.now ≡ 3 * size }
+        requires small { size ≤ 16384 }
+        ensures { IfOk result (λ rows. rows_of rows ≡ of_rows size images.now) }
+    {
+        let mut numbers = Numbers::with_room(alloc, 5 * size as usize)?;
+        numbers.extend_bytes(images)?;
+        Ok(Rows { numbers, size })
+    }
 
     /// The number of chambers, at most 16,384.
     pub(crate) fn size(&self) -> u32
