@@ -5,6 +5,7 @@ use Rattle.dd_model.specs.Symbol.{Symbol}
 use Rattle.dd_model.specs.Lists.{Begins}
 use Rattle.dd_model.specs.Code.{code}
 use Rattle.dd_invol.specs.Rows.{partial_of, IsReady, HasNumberAt}
+use Rattle.dd_invol.specs.Commuting.{IsCommuting}
 use Rattle.dd_invol.specs.Under.{IsUnder, Follows}
 use Rattle.dd_invol.specs.Stem.{Any, IsStem, HasAbsorbed, prefix_of, size_of}
 use Rattle.dd_invol.specs.declared.stem.Stem.{Stem}
@@ -37,6 +38,7 @@ known_put_stem mid new e is put =
     let some = put.some in
     record {
       ready = subst IsReady (sym put.rows) is.ready;
+      commuting = subst (λ r. IsCommuting (partial_of r)) (sym put.rows) is.commuting;
       short = omega arith;
       follows = subst (λ r. Follows Any r.size (prefix_of new) (partial_of r)) (sym put.rows) one;
       told = each_longer (λ u x. HasNumberAt u x (partial_of new.rows)) (prefix_of mid) (prefix_of new) e put.longer

@@ -35,7 +35,7 @@ le_greatest (x ∷ xs) zero low = omega arith
 le_greatest (x ∷ xs) (suc t) low = let rest = le_greatest xs t (omega arith) in omega arith
 
 -- Where numbers grow by at most one, each one up to the greatest stands among them.
-stands : (m : ℕ) (xs : List ℕ) (v : ℕ) → 1 ≤ m → Grows m xs → m < v → v ≤ max m (greatest xs) → Contains xs v
+pub stands : (m : ℕ) (xs : List ℕ) (v : ℕ) → 1 ≤ m → Grows m xs → m < v → v ≤ max m (greatest xs) → Contains xs v
 stands m [] v pos grows low high = absurd (omega arith)
 stands m (x ∷ xs) v pos grows low high =
     let first = grows.0 in
@@ -44,7 +44,7 @@ stands m (x ∷ xs) v pos grows low high =
     (λ other. Contains-later x v xs (stands (max m x) xs v (omega arith) grows.1 (omega arith) (omega arith)))
     (cases_eq x v)
 
-grows_take : (m : ℕ) (xs : List ℕ) (k : ℕ) → Grows m xs → Grows m (take k xs)
+pub grows_take : (m : ℕ) (xs : List ℕ) (k : ℕ) → Grows m xs → Grows m (take k xs)
 grows_take m xs zero grows = tt
 grows_take m [] (suc k) grows = tt
 grows_take m (x ∷ xs) (suc k) grows = (grows.0, grows_take (max m x) xs k grows.1)

@@ -6,6 +6,7 @@ pub mod Orders
 pub mod Leastness
 pub mod RowsLemmas
 pub mod Filling
+pub mod Commuting
 pub mod Traversing
 pub mod Passing
 pub mod Follows
@@ -25,4 +26,5 @@ pub mod WalkLemmas
 pub mod WalkOrder
 pub mod BareTables
 pub mod TiedTables
+pub mod WholeTables
 pub mod WholeStems

@@ -292,7 +292,7 @@ put_back r r' t b e d is =
     let below = put_low r r' t b e d is in
     ap (λ xs. get_or xs b 0) is.numbers ∙ pair_second r.numbers t b e d (omega arith)
 
-put_else : (r r' : Rows) (t b e d u : ℕ) → IsPut r r' t b e d → u ≢ t → u ≢ b → get_or r'.numbers u 0 ≡ get_or r.numbers u 0
+pub put_else : (r r' : Rows) (t b e d u : ℕ) → IsPut r r' t b e d → u ≢ t → u ≢ b → get_or r'.numbers u 0 ≡ get_or r.numbers u 0
 put_else r r' t b e d u is first second = ap (λ xs. get_or xs u 0) is.numbers ∙ pair_other r.numbers t b u e d first second
 
 cleared_put : (r r' : Rows) (t b e d : ℕ) → IsPut r r' t b e d → set (set r'.numbers t 0) b 0 ≡ r.numbers

@@ -3,10 +3,12 @@ use Rattle.std.proofs.Common.{◌≡◌, ◌≢◌, ℕ, zero, suc, ◌+◌, ◌
 use Rattle.std.proofs.lemmas.Bool.{cases_lt}
 use Rattle.std.proofs.lemmas.List.{get_or_append_left, get_or_push, length_push, take-take, take_at}
 use Rattle.dd_model.specs.declared.index.Index.{Index}
+use Rattle.dd_model.specs.declared.index.Index.TheVariants.{Zero}
 use Rattle.dd_model.specs.Symbol.{Symbol, op}
 use Rattle.dd_invol.specs.Places.{index_at}
 use Rattle.dd_invol.specs.FirstVisit.{greatest}
 use Rattle.dd_invol.specs.Rows.{partial_of, depth_of, IsReady, HasNumberAt, Learns}
+use Rattle.dd_invol.specs.Commuting.{IsCommuting}
 use Rattle.dd_invol.specs.Under.{IsUnder, HasNoNumberFrom, SkipsTo, Follows, next_number}
 use Rattle.dd_invol.specs.Stem.{Any, prefix_of, size_of, shortened, IsStem}
 use Rattle.dd_invol.specs.declared.stem.Stem.{Stem}
@@ -25,6 +27,7 @@ any_under W n prefix s under = record { wanted = tt; orderly = under.orderly; si
 pub record IsGrown (old new : Stem) (k : ℕ) : Type 0 where
   pub learns : Learns (Puts (length (prefix_of old)) k) old.rows new.rows
   pub ready : IsReady new.rows
+  pub commuting : IsCommuting (partial_of old.rows) → IsCommuting (partial_of new.rows)
   pub longer : prefix_of new ≡ prefix_of old ++ k ∷ []
   pub told : HasNumberAt (length (prefix_of old)) k (partial_of new.rows)
   pub positive : 1 ≤ k
@@ -46,6 +49,7 @@ grown_stem old new k is low grown =
     let size = grown.learns.size in
     record {
       ready = grown.ready;
+      commuting = grown.commuting is.commuting;
       short = omega arith;
       follows =
           let a = follows_put Any (size_of old) (prefix_of old) k (length (prefix_of old)) old.rows new.rows refl low is.follows grown.learns in
@@ -170,6 +174,7 @@ empty_stem stem ready empty nothing =
     let count : length (prefix_of stem) ≡ 0 = ap length empty in
     record {
       ready = ready;
+      commuting = record { at = λ d low some. absurd (some (nothing Zero d)) };
       short = omega arith;
       follows = subst (λ xs. Follows Any (size_of stem) xs (partial_of stem.rows)) (sym empty) (follows_none Any (size_of stem) (partial_of stem.rows) refl nothing);
       told = λ k low. absurd (omega arith);

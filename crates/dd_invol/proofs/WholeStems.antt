@@ -1,6 +1,7 @@
 -- The starts of a stem of which all images are told.
-use Rattle.std.proofs.Common.{◌≡◌, ◌≢◌, ℕ, zero, suc, ◌+◌, ◌-◌, ◌*◌, ◌≤◌, ◌⊎◌, List, [], ◌∷◌, ◌++◌, length, get_or, refl, sym, ◌∙◌, subst, inl, inr, ⊎_elim, arith}
+use Rattle.std.proofs.Common.{◌≡◌, ◌≢◌, ℕ, zero, suc, ◌+◌, ◌-◌, ◌*◌, ◌≤◌, ◌⊎◌, List, [], ◌∷◌, ◌++◌, length, get_or, take, refl, sym, ap, ◌∙◌, subst, inl, inr, ⊎_elim, arith}
 use Rattle.std.proofs.lemmas.Bool.{cases_lt}
+use Rattle.std.proofs.lemmas.List.{take-take}
 use Rattle.std.proofs.lemmas.List.Elements.{Contains-append_left, Contains-push, Contains-push_cases}
 use Rattle.std.specs.List.{Contains}
 use Rattle.dd_model.specs.declared.index.Index.{Index}
@@ -12,6 +13,7 @@ use Rattle.dd_model.specs.FirstVisit.{Grows}
 use Rattle.dd_model.specs.Partial.{Completes}
 use Rattle.dd_model.proofs.Ascending.{begins_at}
 use Rattle.dd_model.proofs.LeastForms.{least_first_visit}
+use Rattle.dd_invol.specs.FirstVisit.{AreMet, greatest}
 use Rattle.dd_invol.specs.Places.{place}
 use Rattle.dd_invol.specs.Rows.{partial_of, IsReady}
 use Rattle.dd_invol.specs.Under.{HasNothingUnder}
@@ -20,19 +22,16 @@ use Rattle.dd_invol.specs.Stem.{Any, IsStem, prefix_of, size_of}
 use Rattle.dd_invol.specs.Ties.{AreTiesOf}
 use Rattle.dd_invol.specs.declared.rows.Rows.{Rows}
 use Rattle.dd_invol.specs.declared.stem.Stem.{Stem}
-use Rattle.dd_invol.proofs.CodeFronts.{image_at}
+use Rattle.dd_invol.proofs.CodeFronts.{image_at, leads_out}
+use Rattle.dd_invol.proofs.Commuting.{op_small}
 use Rattle.dd_invol.proofs.Filling.{from_place}
-use Rattle.dd_invol.proofs.RowsLemmas.{leads_back, op_partial, op_past}
+use Rattle.dd_invol.proofs.Growth.{begins_take}
+use Rattle.dd_invol.proofs.RowsLemmas.{leads_back, op_past}
 use Rattle.dd_invol.proofs.TableFronts.{place_inside}
 use Rattle.dd_invol.proofs.WalkLemmas.{front_is}
+use Rattle.dd_invol.proofs.WholeTables.{table_of_stem}
 
 -- ## The table of a whole stem
-
-op_small : (r : Rows) (i : Index) (d : ℕ) → IsReady r → op (partial_of r) i d ≤ r.size
-op_small r i d ready = ⊎_elim
-    (λ low. subst (λ e. e ≤ r.size) (sym (op_partial r.size r.numbers i d low)) (ready.within (place i d)))
-    (λ past. subst (λ e. e ≤ r.size) (sym (op_past r.size r.numbers i d past)) (omega arith))
-    (cases_lt (d - 1) 36)
 
 -- Only the chambers have images.
 has_image_inside : (r : Rows) (i : Index) (d : ℕ) → IsReady r → 1 ≤ d → op (partial_of r) i d ≢ 0 → d ≤ r.size
@@ -74,6 +73,20 @@ none_without_growth stem whole fails s under =
     let is = under.orderly in
     fails (subst (Grows 1) (front_is s (prefix_of stem) (omega arith) under.begins) (least_first_visit s is.table is.connected is.least))
 
+-- Nothing is under a whole prefix with a chamber that is not met before its own images come.
+pub none_unmet_before : (stem : Stem) → length (prefix_of stem) ≡ 3 * size_of stem → (AreMet (size_of stem) (prefix_of stem) → ⊥) → HasNothingUnder Any (size_of stem) (prefix_of stem)
+none_unmet_before stem whole fails s under =
+    let xs = prefix_of stem in
+    let size = under.size in
+    fails (record {
+      met = λ k low high.
+          let front : take (3 * k) (code s) ≡ take (3 * k) xs =
+          sym (take-take (3 * k) (length xs) (code s) (omega arith)) ∙ ap (take (3 * k)) (begins_take xs (code s) under.begins) in
+          let same : greatest (take (3 * k) (code s)) ≡ greatest (take (3 * k) xs) = ap greatest front in
+          let out = leads_out s under.orderly k low (omega arith) in
+          omega arith;
+    })
+
 -- ## The starts one by one
 
 -- Of the starts from 2 to k those are listed of which it is not sure that the numbering is larger.
@@ -105,9 +118,11 @@ open_more partial prefix ds new k old inside longer =
     }
 
 -- the ties of each table with these images
-pub ties_of_open : (stem : Stem) (ds : List ℕ) → IsStem stem → length (prefix_of stem) ≡ 3 * size_of stem → Grows 1 (prefix_of stem) → AreOpenTo (partial_of stem.rows) (prefix_of stem) (size_of stem) ds
+pub ties_of_open : (stem : Stem) (ds : List ℕ) → IsStem stem → length (prefix_of stem) ≡ 3 * size_of stem → Grows 1 (prefix_of stem) → AreMet (size_of stem) (prefix_of stem)
+    → AreOpenTo (partial_of stem.rows) (prefix_of stem) (size_of stem) ds
     → AreTiesOf (size_of stem) (prefix_of stem) ds
-ties_of_open stem ds is whole grows open_ = record {
+ties_of_open stem ds is whole grows met open_ = record {
+  some = table_of_stem stem is whole grows met;
   ties = λ t of.
       let size = of.size in
       let table = of.bare.symbol.table in

@@ -45,3 +45,7 @@ pub record CanFollow (n : ℕ) (prefix : List ℕ) (k : ℕ) : Type 0 where
   pub next : k ≤ greatest prefix + 1
   pub fits : (u : ℕ) → u < length prefix → u % 3 ≡ length prefix % 3 → FitsAt prefix k (length prefix) u
   pub reached : (m : ℕ) → 1 ≤ m → m < n → length prefix + 1 ≡ 3 * m → Contains (prefix ++ k ∷ []) (m + 1)
+
+-- each chamber but 1 is met among the images of the chambers before it
+pub record AreMet (n : ℕ) (numbers : List ℕ) : Type 0 where
+  pub met : (k : ℕ) → 1 ≤ k → k < n → k + 1 ≤ greatest (take (3 * k) numbers)

@@ -8,6 +8,7 @@ pub mod Distinct
 pub mod Beaten
 pub mod Passed
 pub mod Rows
+pub mod Commuting
 pub mod Visit
 pub mod Stem
 pub mod Growth

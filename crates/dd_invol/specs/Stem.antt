@@ -4,6 +4,7 @@ use Rattle.dd_model.specs.Symbol.{Symbol}
 use Rattle.dd_model.specs.Lists.{Begins}
 use Rattle.dd_model.specs.Code.{code}
 use Rattle.dd_invol.specs.Rows.{partial_of, unwound, IsReady, HasNumberAt}
+use Rattle.dd_invol.specs.Commuting.{IsCommuting}
 use Rattle.dd_invol.specs.Under.{IsUnder, Follows}
 use Rattle.dd_invol.specs.declared.stem.Stem.{Stem}
 
@@ -27,9 +28,11 @@ cut_to stem count mark = record { rows = unwound stem.rows mark; prefix = take c
 abbrev pub shortened : Stem → ℕ → Stem
 shortened stem mark = cut_to stem (length stem.prefix - 1) mark
 
--- Each orderly table whose code begins with the prefix completes the table, and the numbers of the prefix are images in it.
+-- Each orderly table whose code begins with the prefix completes the table, and the numbers of the prefix are images in it. What
+-- is known of s0 and s2 commutes.
 pub record IsStem (stem : Stem) : Type 0 where
   pub ready : IsReady stem.rows
+  pub commuting : IsCommuting (partial_of stem.rows)
   pub short : length (prefix_of stem) ≤ 3 * size_of stem
   pub follows : Follows Any (size_of stem) (prefix_of stem) (partial_of stem.rows)
   pub told : (k : ℕ) → k < length (prefix_of stem) → HasNumberAt k (slice_index (prefix_of stem) k) (partial_of stem.rows)

@@ -25,6 +25,15 @@ pub record IsBareTable (s : Symbol) : Type 0 where
 abbrev pub HasNoTable : ℕ → List ℕ → Type 0
 HasNoTable n numbers = (s : Symbol) → IsTable s → Connected s → ((d : ℕ) → IsChamber s d → HasDegree s Edge d) → s.size ≡ n → Begins numbers (code s) → ⊥
 
+-- The numbers are the images of a connected table of n chambers in which s0 s2 s0 s2 moves no chamber.
+pub record HasTable (n : ℕ) (numbers : List ℕ) : Type 0 where
+  pub table : Symbol
+  pub is_table : IsTable table
+  pub connected : Connected table
+  pub commuting : (d : ℕ) → IsChamber table d → HasDegree table Edge d
+  pub size : table.size ≡ n
+  pub begins : Begins numbers (code table)
+
 -- a table of n chambers whose code begins with the numbers
 pub record IsTableOf (n : ℕ) (numbers : List ℕ) (t : Symbol) : Type 0 where
   pub bare : IsBareTable t

@@ -1,4 +1,4 @@
-ghost use Rattle.std.specs.Prelude.{◌≡◌, ◌<◌, [], ◌∷◌, ◌++◌, length, take};
+ghost use Rattle.std.specs.Prelude.{◌≡◌, ◌<◌, ◌≤◌, [], ◌∷◌, ◌++◌, length, take};
 ghost use Rattle.dd_invol.specs.FirstVisit.{greatest};
 
 use std::marker::Model;
@@ -54,6 +54,14 @@ impl Numbers {
         ensures { result ≡ greatest self.now }
     {
         self.mosts[self.count as usize]
+    }
+
+    /// The greatest of 1 and the first `count` numbers.
+    pub(crate) fn greatest_of(&self, count: usize) -> u8
+        requires { count ≤ length self.now }
+        ensures { result ≡ greatest (take count self.now) }
+    {
+        self.mosts[count]
     }
 
     /// Puts a number at the end.

@@ -68,6 +68,7 @@ pub struct Rows {
 
 impl Rows {
     ghost use Rattle.dd_invol.specs.Rows.{partial_of, depth_of, unwound, IsReady, HasNumberAt, Learns, Excludes, Commutes};
+    ghost use Rattle.dd_invol.specs.Commuting.{CommutesAt, IsCommuting, KeepsCommuting, KeepsOthers};
 
     /// Rows in which nothing is known.
     pub fn empty(size: u8) -> Rows
@@ -182,6 +183,8 @@ impl Rows {
         ensures ready { IsReady self.new }
         ensures learnt { OnTrue result (Learns (λ s. op s i chamber ≡ image) self.old self.new) }
         ensures told { OnTrue result (op (partial_of self.new) i chamber ≡ image) }
+        ensures others { OnTrue result
+            (KeepsOthers i chamber image (partial_of self.old) (partial_of self.new)) }
         ensures same { OnFalse result (self.new ≡ self.old) }
         ensures clash { OnFalse result (Excludes (λ s. op s i chamber ≡ image) self.old) }
     {
@@ -207,6 +210,9 @@ impl Rows {
         requires chamber { (1 ≤ chamber) × (chamber ≤ (partial_of self.old).size) }
         ensures ready { IsReady self.new }
         ensures learnt { OnTrue result (Learns Commutes self.old self.new) }
+        ensures commutes { OnTrue result (CommutesAt (partial_of self.new) chamber) }
+        ensures kept { OnTrue result
+            (KeepsCommuting (partial_of self.old) (partial_of self.new)) }
         ensures same { OnFalse result (self.new ≡ self.old) }
         ensures clash { OnFalse result (Excludes Commutes self.old) }
     {
@@ -235,6 +241,8 @@ impl Rows {
             (Learns (λ s. Commutes s × HasNumberAt place number s) self.old self.new) }
         ensures told { OnTrue result (HasNumberAt place number (partial_of self.new)) }
         ensures positive { OnTrue result (1 ≤ number) }
+        ensures commuting { OnTrue result (IsCommuting (partial_of self.old)
+            → IsCommuting (partial_of self.new)) }
         ensures same { OnFalse result (self.new ≡ self.old) }
         ensures clash { OnFalse result
             (Excludes (λ s. Commutes s × HasNumberAt place number s) self.old) }

@@ -1,6 +1,7 @@
 ghost use Rattle.std.specs.Prelude.{◌≡◌, ◌≢◌, ℕ, ◌+◌, [], ◌∷◌, ◌++◌, ◌*◌, ◌≤◌, ◌<◌, ◌↔◌, IsTrue, MatchOption, length};
 ghost use Rattle.std.specs.Bool.{OnTrue, OnFalse};
 ghost use Rattle.dd_model.specs.Symbol.{op};
+ghost use Rattle.dd_invol.specs.FirstVisit.{AreMet};
 ghost use Rattle.dd_invol.specs.Rows.{partial_of, depth_of, IsReady};
 ghost use Rattle.dd_invol.specs.Visit.{IsVisiting};
 ghost use Rattle.dd_invol.specs.Under.{HasNothingUnder, HasNoNumberFrom, SkipsTo};
@@ -150,6 +151,19 @@ impl Stem {
             return false;
         }
         1 + self.prefix.len() / 3 > self.prefix.greatest() as usize
+    }
+
+    /// Whether each chamber but 1 is met among the images of the chambers before it.
+    pub(crate) fn meets_all(&self) -> bool
+        requires { length (prefix_of self.now) ≡ 3 * size_of self.now }
+        ensures { IsTrue result ↔ AreMet (size_of self.now) (prefix_of self.now) }
+    {
+        for k in 1..self.rows.size() {
+            if self.prefix.greatest_of(3 * k as usize) <= k {
+                return false;
+            }
+        }
+        true
     }
 
     /// How the traversal from a chamber stands to the prefix. Where it reads smaller, nothing is

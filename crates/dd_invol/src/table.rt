@@ -1,7 +1,8 @@
 ghost use Rattle.std.specs.Prelude.{◌≡◌, ℕ, ◌*◌, ◌≤◌, IfOk, MatchOption, length};
 
+use crate::stem::Stem;
 use dd_model::{Index, Memory, Pair};
-use dd_symbol::{Connected, Involutions, build_fitting};
+use dd_symbol::{Connected, Involutions, build_fitting, build_known};
 use std::alloc::Global;
 use std::marker::Model;
 
@@ -78,5 +79,27 @@ impl Table {
         ensures table { IsBareTable self }
     {
         self.symbol
+    }
+}
+
+impl Stem {
+    ghost use Rattle.dd_invol.specs.Stem.{IsStem, prefix_of, size_of};
+    ghost use Rattle.dd_invol.specs.Table.{HasTable, IsTableOf};
+
+    /// The table of all images, which are known to be those of one. Nothing is tested.
+    pub fn table(&self, alloc: Global) -> Result<Table, Memory>
+        requires stem { IsStem self.now }
+        requires whole { length (prefix_of self.now) ≡ 3 * size_of self.now }
+        requires some { HasTable (size_of self.now) (prefix_of self.now) }
+        ensures { IfOk result
+            (λ table. IsTableOf (size_of self.now) (prefix_of self.now) table) }
+    {
+        let size = u32::from(self.size());
+        let involutions = Involutions::from_known_bytes(alloc, self.prefix(), size)?;
+        let m01 = involutions.periods(alloc, Pair::Tile)?;
+        let m12 = involutions.periods(alloc, Pair::Vertex)?;
+        Ok(Table {
+            symbol: build_known(alloc, involutions, &m01, &m12)?,
+        })
     }
 }

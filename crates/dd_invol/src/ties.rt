@@ -11,8 +11,8 @@ use std::alloc::Global;
 
 impl Stem {
     /// The chambers but 1 from which the numbering of the whole table may have the same code; None
-    /// where the numbering from some chamber has a smaller one, or where the chambers do not come
-    /// in the order of their first visits.
+    /// where the numbering from some chamber has a smaller one, where the chambers do not come in the
+    /// order of their first visits, or where not all of them are connected.
     pub fn ties(&self, alloc: Global) -> Result<Option<Vec<u32>>, Memory>
         requires stem { IsStem self.now }
         requires whole { length (prefix_of self.now) ≡ 3 * size_of self.now }
@@ -20,7 +20,7 @@ impl Stem {
             (HasNothingUnder Any (size_of self.now) (prefix_of self.now))
             (λ ties. AreTiesOf (size_of self.now) (prefix_of self.now) ties.items)) }
     {
-        if !grows(self.prefix()) {
+        if !grows(self.prefix()) || !self.meets_all() {
             return Ok(None);
         }
         let mut ties = Vec::new(alloc);

@@ -5,6 +5,7 @@ use Rattle.dd_invol.specs.Places.{back_of, bits_of}
 use Rattle.dd_invol.specs.Rows.{partial_of}
 use Rattle.dd_invol.specs.declared.rows.Rows.{Rows}
 use Rattle.dd_invol.proofs.RowsLemmas.{IsPut, HasBoth, back_is_place, chamber_of_place, flipped_by, known_excludes, put_learns, put_ready, put_told, room_left, told_at}
+use Rattle.dd_invol.proofs.Commuting.{put_others}
 use Rattle.dd_invol.proofs.Filling.{at_place, back_again, chamber_too, from_place, learns_from}
 use Rattle.dd_invol.proofs.rows.Rows.join.Goals as goal
 use Rattle.dd_invol.proofs.rows.Rows.join.Goals.{then-known-ne0-via-then-known-ne0, then-known-ne0-via-else-known-ne0+then-self-back-ne0}
@@ -89,3 +90,8 @@ returns-clause-learnt c =
 pub returns-clause-told : goal.returns-clause-told
 returns-clause-told c =
     from_place (partial_of (rows_after c)) c.args.i c.args.chamber c.args.image c.place_of-place.result c.place_of-place.ensures.place (put_told c.args.self.now (rows_after c) _ _ _ _ (put_of c))
+
+pub returns-clause-others : goal.returns-clause-others
+returns-clause-others c =
+    put_others c.args.self.now (rows_after c) c.args.i c.args.chamber c.args.image _ _ (put_of c) c.place_of-place.ensures.place c.place_of-back.ensures.place
+    c.requires.chamber.0 c.requires.image.0

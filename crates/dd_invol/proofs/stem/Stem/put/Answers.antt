@@ -18,6 +18,7 @@ grown_of c =
     record {
       learns = subst (λ t. Learns (Puts t c.args.number) c.args.self.now.rows c.put.new.self) c.len-place.ensures put.learnt;
       ready = c.put.ensures.ready;
+      commuting = put.commuting;
       longer = c.push.ensures;
       told = subst (λ t. HasNumberAt t c.args.number (partial_of c.put.new.self)) c.len-place.ensures put.told;
       positive = put.positive;

@@ -7,17 +7,21 @@ use Rattle.dd_invol.specs.Stem.{Any, prefix_of, size_of}
 use Rattle.dd_invol.specs.declared.rows.Rows.{Rows}
 use Rattle.dd_invol.specs.declared.stem.Stem.{Stem}
 use Rattle.dd_invol.proofs.Leastness.{none_under_beaten}
-use Rattle.dd_invol.proofs.WholeStems.{AreOpenTo, none_without_growth, open_passed, open_more, ties_of_open}
+use Rattle.dd_invol.proofs.WholeStems.{AreOpenTo, none_without_growth, none_unmet_before, open_passed, open_more, ties_of_open}
 use Rattle.dd_invol.proofs.stem.Stem.ties.Goals as goal
-use Rattle.dd_invol.proofs.stem.Stem.ties.Goals.{in-Larger, in-Open+in_ok-push-in-Open}
+use Rattle.dd_invol.proofs.stem.Stem.ties.Goals.{then-not-grows-via-then-not-grows, then-not-grows-via-else-not-grows+then-not-meets_all, in-Larger, in-Open+in_ok-push-in-Open}
 
 -- what is said of the rows and the numbers of a stem
 of_stem : (P : Rows → List ℕ → Type 0) (stem : Stem) (rows : Rows) (numbers : List ℕ) → rows ≡ stem.rows → numbers ≡ prefix_of stem → P rows numbers → P stem.rows (prefix_of stem)
 of_stem P stem rows numbers same equal is = subst (P stem.rows) equal (subst (λ r. P r numbers) same is)
 
 pub returns-then-not-grows : goal.returns-then-not-grows
-returns-then-not-grows c =
-    none_without_growth c.args.self.now c.requires.whole (λ grows. let test = c.grows.ensures.1 (subst (Grows 1) (sym c.prefix.ensures) grows) in let fails = c.if-not-grows.true in cc)
+returns-then-not-grows c = elim c.then-not-grows.branch [
+  | then-not-grows-via-then-not-grows w ↦
+      none_without_growth c.args.self.now c.requires.whole (λ grows. let test = c.grows.ensures.1 (subst (Grows 1) (sym c.prefix.ensures) grows) in let fails = w.if-not-grows.true in cc)
+  | then-not-grows-via-else-not-grows+then-not-meets_all w ↦
+      none_unmet_before c.args.self.now c.requires.whole (λ met. let test = w.meets_all.ensures.1 met in let fails = w.if-not-meets_all.true in cc)
+]
 
 pub returns-in-Smaller : goal.returns-in-Smaller
 returns-in-Smaller c =
@@ -53,4 +57,5 @@ returns c =
     let test = c.loop-k-test.false in
     let end = c.loop-k.auto.k-end in
     let grows = subst (Grows 1) c.prefix.ensures (c.grows.ensures.0 c.if-not-grows.false) in
-    ties_of_open stem c.loop-k.ties.items c.requires.stem c.requires.whole grows (subst (λ k. AreOpenTo (partial_of stem.rows) (prefix_of stem) k c.loop-k.ties.items) (omega arith) c.loop-k.invariant.starts)
+    let met = c.meets_all.ensures.0 c.if-not-meets_all.false in
+    ties_of_open stem c.loop-k.ties.items c.requires.stem c.requires.whole grows met (subst (λ k. AreOpenTo (partial_of stem.rows) (prefix_of stem) k c.loop-k.ties.items) (omega arith) c.loop-k.invariant.starts)
