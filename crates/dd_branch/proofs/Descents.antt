@@ -13,7 +13,7 @@ use Rattle.dd_model.specs.Jobs.{IsMemberUnder, AreMembersUnder}
 use Rattle.dd_model.specs.declared.requests.Request.{Request}
 use Rattle.dd_model.specs.declared.jobs.Job.{Job}
 use Rattle.dd_invol.specs.Under.{IsUnder, HasNothingUnder, AreUnder, Appends}
-use Rattle.dd_invol.specs.Table.{HasNoTable, IsTableOf}
+use Rattle.dd_invol.specs.Table.{IsTableOf}
 use Rattle.dd_invol.specs.Rows.{partial_of, depth_of, unwound, HasNumberAt}
 use Rattle.dd_invol.specs.Stem.{Any, IsStem, HasAbsorbed, prefix_of, size_of, cut_to, shortened}
 use Rattle.dd_invol.proofs.Absorbing.{absorbed_under}
@@ -189,10 +189,6 @@ pub appends_carried : (q : Request) (n : ℕ) (prefix : List ℕ) (t : Symbol) (
     → Appends (AreMembersWith q t) old new → Appends (AreUnder (IsMember q) n prefix) old new
 appends_carried q n prefix t old new of whole added =
     record { list = added.list; grown = added.grown; holds = carried_under q n prefix t added.list of whole added.holds }
-
--- no member is under numbers that are those of no table
-pub none_without_table : (q : Request) (n : ℕ) (prefix : List ℕ) → HasNoTable n prefix → HasNothingUnder (IsMember q) n prefix
-none_without_table q n prefix none s under = none s under.orderly.table under.orderly.connected under.orderly.commuting under.size under.begins
 
 -- the members under a job are what is under its prefix
 pub members_under : (q : Request) (job : Job) (ss : List Symbol) → AreUnder (IsMember q) job.size job.prefix ss → AreMembersUnder q job ss

@@ -7,7 +7,7 @@ ghost use Rattle.dd_invol.specs.Under.{HasNothingUnder};
 use crate::levels::Levels;
 use crate::members::add_tied;
 use dd_ends::{PathShares, Shares};
-use dd_invol::{CollectingSearch, PrefixSearch, Starts, Stem, Table, can_follow};
+use dd_invol::{CollectingSearch, PrefixSearch, Starts, Stem, can_follow};
 use dd_model::{Memory, Request};
 use dd_shares::parity_rules_out;
 use dd_symbol::Connected;
@@ -313,10 +313,7 @@ impl CollectingSearch for Descent {
         let Some(ties) = self.stem.ties(self.alloc)? else {
             return Ok(());
         };
-        let found = Table::of(self.alloc, self.stem.size(), self.stem.prefix())?;
-        let Some(table) = found else {
-            return Ok(());
-        };
+        let table = self.stem.table(self.alloc)?;
         add_tied(self.alloc, table, ties, &self.request, list)
     }
 }

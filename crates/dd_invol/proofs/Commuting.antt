@@ -1,7 +1,6 @@
 -- What is known of s0 and s2 commutes round an image that is put in.
-use Rattle.std.proofs.Common.{◌≡◌, ◌≢◌, ℕ, ◌-◌, ◌/◌, ◌%◌, ◌≤◌, Bool, true, false, refl, sym, ap, ◌∙◌, subst, ⊎_elim, arith}
+use Rattle.std.proofs.Common.{◌≡◌, ◌≢◌, ℕ, ◌-◌, ◌/◌, ◌%◌, ◌≤◌, refl, sym, ap, ◌∙◌, subst, ⊎_elim, arith}
 use Rattle.std.proofs.lemmas.Bool.{cases_lt, cases_eq}
-use Rattle.std.specs.Bool.{OnTrue}
 use Rattle.dd_model.specs.declared.index.Index.{Index}
 use Rattle.dd_model.specs.declared.index.Index.TheVariants.{Zero, One, Two}
 use Rattle.dd_model.specs.Symbol.{Symbol, op}
@@ -10,10 +9,6 @@ use Rattle.dd_invol.specs.Commuting.{CommuteAt, CommutesAt, IsCommuting, KeepsCo
 use Rattle.dd_invol.specs.Rows.{partial_of, IsReady, Learns}
 use Rattle.dd_invol.specs.declared.rows.Rows.{Rows}
 use Rattle.dd_invol.proofs.RowsLemmas.{IsPut, chamber_of_place, index_of_place, leads_back, op_partial, op_past, put_else}
-
-pub on_true_all : (b : Bool) (P Q R S : Type 0) → (P → Q → R → S) → OnTrue b P → OnTrue b Q → OnTrue b R → OnTrue b S
-on_true_all true P Q R S f p q r = f p q r
-on_true_all false P Q R S f p q r = p
 
 -- ## Images that lead back
 

@@ -1,4 +1,5 @@
-use Rattle.std.proofs.Common.{[], ◌∷◌, ◌++◌, sym, subst, arith}
+use Rattle.std.proofs.Common.{◌≡◌, [], ◌∷◌, ◌++◌, not, sym, ap, ◌∙◌, subst, arith}
+use Rattle.std.proofs.lemmas.Bool.{OnTrue_from, OnFalse_from, not-false}
 use Rattle.dd_model.specs.Wanted.{IsMember}
 use Rattle.dd_invol.specs.Stem.{prefix_of, size_of}
 use Rattle.dd_invol.specs.Under.{HasNothingUnder}
@@ -22,3 +23,33 @@ is_dead-requires c =
     let put : IsPut c.args.number old.stem c.put.new.self c.put.new.self =
     record { size = told.size; longer = told.longer; undone = told.undone; stem = told.stem; absorbed = absorbed_none c.put.new.self } in
     put_descent c.args.number old c.put.new.self c.put.new.self old.levels is put (omega arith)
+
+pub returns-clause-descent : goal.returns-clause-descent
+returns-clause-descent c = OnTrue_from (not c.is_dead.result) (IsDescent c.is_dead.new.self) (λ lives. c.is_dead.ensures.descent)
+
+pub returns-clause-request : goal.returns-clause-request
+returns-clause-request c =
+    OnTrue_from (not c.is_dead.result) (c.is_dead.new.self.request ≡ c.args.self.now.request)
+    (λ lives. ap (λ (d : Descending). d.request) (c.is_dead.ensures.paths) ∙ ap (λ (d : Descending). d.request) c.self.view_is)
+
+pub returns-clause-size : goal.returns-clause-size
+returns-clause-size c =
+    OnTrue_from (not c.is_dead.result) (size_of c.is_dead.new.self.stem ≡ size_of c.args.self.now.stem)
+    (λ lives. ap (λ (d : Descending). size_of d.stem) (c.is_dead.ensures.paths) ∙ c.if-not-put.ensures.size ∙ ap (λ (d : Descending). size_of d.stem) c.self.view_is)
+
+pub returns-clause-longer : goal.returns-clause-longer
+returns-clause-longer c =
+    OnTrue_from (not c.is_dead.result) (prefix_of c.is_dead.new.self.stem ≡ prefix_of c.args.self.now.stem ++ c.args.number ∷ [])
+    (λ lives. ap (λ (d : Descending). prefix_of d.stem) (c.is_dead.ensures.paths) ∙ c.if-not-put.ensures.longer
+    ∙ ap (λ (d : Descending). prefix_of d.stem ++ c.args.number ∷ []) c.self.view_is)
+
+pub returns-clause-dead : goal.returns-clause-dead
+returns-clause-dead c =
+    let q = c.self.inside.request in
+    let stem = c.self.inside.stem in
+    OnFalse_from (not c.is_dead.result) (HasNothingUnder (IsMember c.args.self.now.request) (size_of c.args.self.now.stem) (prefix_of c.args.self.now.stem ++ c.args.number ∷ []))
+    (λ dead.
+    let none = c.is_dead.ensures.dead (not-false c.is_dead.result dead) in
+    let sized = subst (λ n. HasNothingUnder (IsMember q) n (prefix_of c.put.new.self)) c.if-not-put.ensures.size none in
+    subst (λ (d : Descending). HasNothingUnder (IsMember d.request) (size_of d.stem) (prefix_of d.stem ++ c.args.number ∷ [])) c.self.view_is
+    (subst (HasNothingUnder (IsMember q) (size_of stem)) c.if-not-put.ensures.longer sized))
