@@ -25,6 +25,7 @@ use Rattle.dd_chain.specs.Between.{AreLinesBetween}
 use Rattle.dd_chain.specs.Clauses.{HasWork}
 use Rattle.dd_chain.specs.Puts.{IsPut, IsStop, IsNextMember}
 use Rattle.dd_chain.specs.Starts.{Start, first_start}
+use Rattle.dd_catalogue.specs.Pages.{IsEmpty}
 use Rattle.dd_catalogue.specs.Rounds.{AreJobsFrom, IsBegun, AreOpen, IsRoundDone}
 use Rattle.dd_catalogue.specs.Ways.{Way, IsUnderWay, IsFull, IsPartOut}
 use Rattle.dd_catalogue.specs.Runs.{IsLimit, IsPause, IsBeforePause, Finishes}
@@ -60,7 +61,7 @@ pub record IsHead (s : Start) (tells : Bool) (old before held now : Option (List
   pub since : Position
   pub appended : Appends old now base
   pub way : IsUnderWay (head_way s jobs base now since) now page f
-  pub empty : page.buffer.items ≡ []
+  pub empty : IsEmpty page
   pub left : AreJobsFrom s.request since (jobs_of f.entries)
   pub kept : tells ≡ true → IsKept s before held base since
   pub put : tells ≡ true → s.number ≡ 1 → IsKeptPut s held base since
@@ -138,7 +139,7 @@ left_name s most pause before held base z output p result is rounds kept first f
 -- ## Heads
 
 -- between two rounds a run goes on from all that it has written
-pub rebased : (w : Way) (now : Option (List ℕ)) (page : Page) (f : Machine) (p : Position) (way : IsUnderWay w now page f) → page.buffer.items ≡ [] → AreOpen f.entries → StandsAt f.from f.entries p
+pub rebased : (w : Way) (now : Option (List ℕ)) (page : Page) (f : Machine) (p : Position) (way : IsUnderWay w now page f) → IsEmpty page → AreOpen f.entries → StandsAt f.from f.entries p
     → IsUnderWay (head_way w.start w.jobs (w.base ++ way.lines.written) now p) now page f
 rebased w now page f p way empty opens stands =
     let base = w.base ++ way.lines.written in
@@ -159,14 +160,16 @@ rebased w now page f p way empty opens stands =
       lines = record {
         written = [];
         appended = appends_nothing now;
-        lines = subst (λ xs. AreLines w.start.lines way.members (xs ++ page.buffer.items)) (sym (append-nil base)) way.lines.lines;
+        made = way.lines.made;
+        parts = way.lines.parts;
+        lines = subst (λ xs. AreLines w.start.lines way.lines.made (xs ++ page.buffer.items)) (sym (append-nil base)) way.lines.lines;
         count = way.lines.count;
         bytes = way.lines.bytes ∙ ap length (sym (append-nil base));
       };
     }
 
 -- a run that has not moved
-pub head_begun : (s : Start) (tells : Bool) (old before held : Option (List ℕ)) (page : Page) (f : Machine) → IsBegun s f → page.buffer.items ≡ [] → page.count ≡ s.lines → page.bytes ≡ 0 → (¬ (s.number ≡ 1))
+pub head_begun : (s : Start) (tells : Bool) (old before held : Option (List ℕ)) (page : Page) (f : Machine) → IsBegun s f → IsEmpty page → page.count ≡ s.lines → page.bytes ≡ 0 → (¬ (s.number ≡ 1))
     → (tells ≡ true → held ≡ before) → IsHead s tells old before held old page f
 head_begun s tells old before held page f begun empty count bytes later same =
     let way = way_first s old page f s.at begun empty count bytes in
@@ -214,7 +217,7 @@ module _ (s : Start) (first : s ≡ first_start s.request) (f : Machine) (begun 
           subst (IsOpeningJob s.request) (first_is e.job size (sym (same_when_whole e.job.prefix (1 ∷ 1 ∷ 1 ∷ []) within.1 three))) opening
 
   -- what the first checkpoint of a chain tells
-  pub first_put : (page : Page) (held known : Option (List ℕ)) (check : HoldsCheckAt s page f held) → page.buffer.items ≡ [] → page.count ≡ s.lines → page.bytes ≡ 0
+  pub first_put : (page : Page) (held known : Option (List ℕ)) (check : HoldsCheckAt s page f held) → IsEmpty page → page.count ≡ s.lines → page.bytes ≡ 0
       → IsKeptPut s held [] check.is_check.check.at
   first_put page held known check empty count bytes =
       let p = check.is_check.check.at in
@@ -229,7 +232,7 @@ module _ (s : Start) (first : s ≡ first_start s.request) (f : Machine) (begun 
       }
 
   -- a chain that has put its first checkpoint
-  pub head_put : (tells : Bool) (old before held : Option (List ℕ)) (page : Page) (p : Position) → StandsAt f.from f.entries p → (tells ≡ true → IsKeptPut s held [] p) → page.buffer.items ≡ []
+  pub head_put : (tells : Bool) (old before held : Option (List ℕ)) (page : Page) (p : Position) → StandsAt f.from f.entries p → (tells ≡ true → IsKeptPut s held [] p) → IsEmpty page
       → page.count ≡ s.lines → page.bytes ≡ 0 → IsHead s tells old before held old page f
   head_put tells old before held page p stands put empty count bytes =
       let way = way_first s old page f p begun empty count bytes in
@@ -251,7 +254,7 @@ gone_some : (jobs gone js : List Job) → jobs ≡ gone ++ js → length js < le
 gone_some jobs [] js parts fewer = let size = ap length parts in absurd (omega (arith, size, fewer))
 gone_some jobs (d ∷ ds) js parts fewer = (d, ds, refl)
 
-module _ (w : Way) (old now : Option (List ℕ)) (page : Page) (g : Machine) (way : IsUnderWay w now page g) (empty : page.buffer.items ≡ []) (fewer : length (jobs_of g.entries) < length w.jobs) (appended : Appends old w.known w.base) where
+module _ (w : Way) (old now : Option (List ℕ)) (page : Page) (g : Machine) (way : IsUnderWay w now page g) (empty : IsEmpty page) (fewer : length (jobs_of g.entries) < length w.jobs) (appended : Appends old w.known w.base) where
   -- where the run stands, it may stop
   next_stop : (p : Position) → StandsAt g.from g.entries p → IsStop w.start.request p
   next_stop p stands =
@@ -306,7 +309,7 @@ nothing_done s most pause old before tells fault = record {
   left = λ told. record { held = inl (record { same = refl; of_round = none_shown s most s.at }); first = λ one worked. absurd (not_worked [] fault (Err fault) refl refl worked); finish = tt };
 }
 
-module _ (s : Start) (f : Machine) (begun : IsBegun s f) (page : Page) (empty : page.buffer.items ≡ []) (count : page.count ≡ s.lines) (bytes : page.bytes ≡ 0) (first : s.number ≡ 1 → s ≡ first_start s.request) where
+module _ (s : Start) (f : Machine) (begun : IsBegun s f) (page : Page) (empty : IsEmpty page) (count : page.count ≡ s.lines) (bytes : page.bytes ≡ 0) (first : s.number ≡ 1 → s ≡ first_start s.request) where
   -- the first checkpoint could not be put
   pub first_failed : (most : ℕ) (pause : Option ℕ) (old before after : Option (List ℕ)) (tells : Bool) (fault : RunFault) → (tells ≡ true → SavesFirst s page f before after (Err fault))
       → HasRun s most pause old old tells before after (Err fault)
@@ -427,7 +430,7 @@ module _ (s : Start) (tells : Bool) (old before held mid : Option (List ℕ)) (p
         }
 
     -- all its lines were written
-    module _ (now : Option (List ℕ)) (new : Page) (h : Machine) (way : IsUnderWay round_way now new h) (empty : new.buffer.items ≡ []) (ready : AreOpen h.entries) (waiting : open_jobs h.entries ≡ open_jobs g.entries) where
+    module _ (now : Option (List ℕ)) (new : Page) (h : Machine) (way : IsUnderWay round_way now new h) (empty : IsEmpty new) (ready : AreOpen h.entries) (waiting : open_jobs h.entries ≡ open_jobs g.entries) where
       pub fewer_open : length (open_jobs h.entries) < length (open_jobs f.entries)
       fewer_open = subst (λ (js : List Job). length js < length (open_jobs f.entries)) (sym waiting) (fewer_wait most f g round opens)
 
@@ -477,7 +480,7 @@ module _ (s : Start) (tells : Bool) (old before held mid : Option (List ℕ)) (p
           ready
 
     -- it came to the last line
-    module _ (now : Option (List ℕ)) (new : Page) (h : Machine) (limit : Limit) (full : IsFull round_way now new limit.last h) (empty : new.buffer.items ≡ []) (pause : Option ℕ) (is : IsLimit s.lines pause limit) where
+    module _ (now : Option (List ℕ)) (new : Page) (h : Machine) (limit : Limit) (full : IsFull round_way now new limit.last h) (empty : IsEmpty new) (pause : Option ℕ) (is : IsLimit s.lines pause limit) where
       abbrev full_output : List ℕ
       full_output = head.base ++ full.lines.written
 

@@ -30,7 +30,8 @@ use Rattle.dd_ports.proofs.Growth.{Appends_trans}
 use Rattle.dd_chain.specs.Between.{AreMembersBetween, AreLinesBetween, IsNoEarlier}
 use Rattle.dd_chain.specs.Starts.{Start}
 use Rattle.dd_chain.proofs.Rests.{text_is_rest}
-use Rattle.dd_catalogue.specs.Pages.{HasLines, IsFrontOut}
+use Rattle.dd_catalogue.specs.Pages.{HasLines, IsEmpty, IsFrontOut}
+use Rattle.dd_catalogue.proofs.PageLemmas.{all_written}
 use Rattle.dd_catalogue.specs.Rounds.{AreJobsFrom, AreOpen, IsRoundDone}
 use Rattle.dd_catalogue.specs.Ways.{Way, IsUnderWay, IsFull, IsPartOut}
 use Rattle.dd_catalogue.specs.Runs.{IsPause, IsBeforePause, IsLimit, WritesRest, WritesUpTo, Finishes}
@@ -145,14 +146,14 @@ went_out w old now part before = record {
 
 -- where nothing is collected, what was written are the lines up to where the machine stands
 pub lines_between : (w : Way) (now : Option (List ℕ)) (page : Page) (f : Machine) (members : List Symbol) (p : Position) → AreJobsFrom w.start.request w.start.at w.jobs
-    → IsHeld w.start.request w.jobs w.start.at f members → (has : HasLines w.start.lines w.base w.known now page members) → page.buffer.items ≡ [] → StandsAt f.from f.entries p
+    → IsHeld w.start.request w.jobs w.start.at f members → (has : HasLines w.start.lines w.base w.known now page members) → IsEmpty page → StandsAt f.from f.entries p
     → AreLinesBetween w.start.request w.start.at p w.start.lines page.count (w.base ++ has.written)
 lines_between w now page f members p from held has empty stands = record {
   members = members;
   between = held_between w.start.request w.start.at p w.jobs f members from held stands;
   no_earlier = held_no_earlier w.start.request w.start.at p w.jobs f members held stands;
   count = has.count;
-  lines = subst (AreLines w.start.lines members) (ap (λ xs. (w.base ++ has.written) ++ xs) empty ∙ append-nil (w.base ++ has.written)) has.lines;
+  lines = all_written w.start.lines w.base w.known now page members empty has;
 }
 
 -- a member whose line is in the lines up to a position, in whole or in part, is before it
@@ -200,7 +201,7 @@ finish_full s pause limit output is lines = go limit.pauses is
     go false p = record { before_pause = subst (IsBeforePause s.lines pause) p.most p; lines = subst (λ n. WritesUpTo s n output) p.most lines }
 
 -- a machine that is full has written the lines up to the last one, and there is one more
-pub full_lines : (w : Way) (now : Option (List ℕ)) (page : Page) (last : ℕ) (f : Machine) (full : IsFull w now page last f) → page.buffer.items ≡ [] → WritesUpTo w.start last (w.base ++ full.lines.written)
+pub full_lines : (w : Way) (now : Option (List ℕ)) (page : Page) (last : ℕ) (f : Machine) (full : IsFull w now page last f) → IsEmpty page → WritesUpTo w.start last (w.base ++ full.lines.written)
 full_lines w now page last f full empty = record {
   at = at_symbol full.next;
   written = subst (λ n. AreLinesBetween w.start.request w.start.at (at_symbol full.next) w.start.lines n (w.base ++ full.lines.written)) full.count

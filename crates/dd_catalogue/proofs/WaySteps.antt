@@ -1,5 +1,5 @@
 -- The writing of a catalogue, round by round.
-use Rattle.std.proofs.Common.{◌≡◌, ℕ, Bool, true, false, ◌+◌, ◌<◌, ◌≤◌, ◌^◌, List, [], ◌∷◌, ◌++◌, Option, Some, None, IsSome, MatchOption, length, length-append, take, inl, inr, ⊎_elim, refl, sym, ap, ◌∙◌, subst, arith, append_assoc}
+use Rattle.std.proofs.Common.{◌≡◌, ℕ, Bool, true, false, ◌+◌, ◌<◌, ◌≤◌, ◌^◌, List, [], ◌∷◌, ◌++◌, Option, Some, None, MatchOption, length, length-append, take, inl, inr, ⊎_elim, refl, sym, ap, ◌∙◌, subst, arith, append_assoc}
 use Rattle.std.proofs.lemmas.Bool.{cases_lt}
 use Rattle.std.proofs.lemmas.List.{append-nil}
 use Rattle.std.proofs.lemmas.List.Elements.{Contains-append_cases, Contains-append_left, Contains-append_right}
@@ -22,20 +22,18 @@ use Rattle.dd_front.specs.Allowed.{HasFirst, MayPart}
 use Rattle.dd_front.specs.Held.{IsHeld}
 use Rattle.dd_front.specs.Joining.{IsDone}
 use Rattle.dd_front.specs.Machine.{Machine, StandsAt, entry_of, open_entries, jobs_of}
-use Rattle.dd_front.specs.Room.{HasRoom, HasRoomToEmit}
+use Rattle.dd_front.specs.Room.{HasRoom}
 use Rattle.dd_front.specs.Rounds.{open_jobs}
 use Rattle.dd_front.specs.Step.{Emits, EmitsPart, at_symbol}
 use Rattle.dd_front.proofs.Absorbing.{held_absorbed, all_back}
 use Rattle.dd_front.proofs.Entries.{jobs_opened}
 use Rattle.dd_front.proofs.Events.{held_next}
-use Rattle.dd_front.proofs.Telling.{one_first}
 use Rattle.dd_front.proofs.Holding.{held_first}
 use Rattle.dd_board.specs.Desk.{AreJobsOf}
 use Rattle.dd_chain.specs.Starts.{Start}
-use Rattle.dd_catalogue.specs.Pages.{AddsAll, KeepsLines, WritesFront, WritesFrontOf}
+use Rattle.dd_catalogue.specs.Pages.{IsEmpty, AddsAll, KeepsLines, WritesFront, WritesFrontOf}
 use Rattle.dd_catalogue.specs.Rounds.{IsBegun, AreOpen, AreDoneThenOpen, IsRoundDone}
-use Rattle.dd_catalogue.specs.Ways.{Way, AreRecent, AreOfRound, HasEmitted, IsUnderWay, IsFull, IsPartOut, IsAny, GoesOn, FillsUp, WritesPart}
-use Rattle.dd_catalogue.specs.Batches.{EmitsMore}
+use Rattle.dd_catalogue.specs.Ways.{Way, AreRecent, AreOfRound, HasEmitted, EmitsMore, IsUnderWay, IsFull, IsPartOut, IsAny, GoesOn, FillsUp, WritesPart}
 use Rattle.dd_catalogue.specs.declared.pages.Page.{Page}
 use Rattle.dd_catalogue.proofs.JobsFrom.{from_jobs}
 use Rattle.dd_catalogue.proofs.PageLemmas.{front_kept}
@@ -63,7 +61,7 @@ pub begun_open : (s : Start) (f : Machine) → IsBegun s f → AreOpen f.entries
 begun_open s f begun = subst AreOpen (sym begun.opened.entries) (opened_open 1 begun.jobs)
 
 -- no job is done yet
-abbrev pub way_first : (s : Start) (known : Option (List ℕ)) (page : Page) (f : Machine) (p : Position) (begun : IsBegun s f) → page.buffer.items ≡ [] → page.count ≡ s.lines → page.bytes ≡ 0
+abbrev pub way_first : (s : Start) (known : Option (List ℕ)) (page : Page) (f : Machine) (p : Position) (begun : IsBegun s f) → IsEmpty page → page.count ≡ s.lines → page.bytes ≡ 0
     → IsUnderWay (record { start = s; jobs = begun.jobs; base = []; known = known; since = p; round = [] }) known page f
 way_first s known page f p begun empty count bytes =
     let o = begun.opened in
@@ -82,7 +80,7 @@ way_first s known page f p begun empty count bytes =
         recent = λ m there. absurd (Contains-none m there);
         of_round = none_done w f.entries (begun_open s f begun);
       };
-      lines = record { written = []; appended = appends_nothing known; lines = empty; count = omega (arith, count); bytes = bytes };
+      lines = record { written = []; appended = appends_nothing known; made = []; parts = sym empty.waiting; lines = empty.buffer; count = omega (arith, count); bytes = bytes };
     }
 
 -- a round is done; all that was emitted before it is before where it begins
@@ -150,11 +148,6 @@ emits_first f g emitted emits w ss been =
       recent = recent_more w f ss been emits.list first emitted inside;
       of_round = λ e there done. been.of_round e (subst (λ es. Contains es e) (sym first.entries) (Contains-later (entry_of first.number first.job (Done emits.list)) e first.rest (subst (λ es. Contains es e) rest there))) done;
     }
-
--- and then others
-pub emits_both : (f g h : Machine) (one more : List Symbol) → EmitsMore f g one → EmitsMore g h more → EmitsMore f h (one ++ more)
-emits_both f g h one more first later w ss been =
-    subst (HasEmitted w h) (append_assoc ss one more) (later w (ss ++ one) (first w ss been))
 
 -- what was emitted, and its lines are put to the page
 pub way_next : (w : Way) (before now : Option (List ℕ)) (old new : Page) (f g : Machine) (emitted : List Symbol) → EmitsMore f g emitted → AddsAll before now old new emitted

@@ -1,7 +1,6 @@
 pub mod Pages
 pub mod Rounds
 pub mod Ways
-pub mod Batches
 pub mod Runs
 pub mod Outputs
 pub mod Saves

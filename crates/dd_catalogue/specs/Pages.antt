@@ -1,18 +1,25 @@
 -- The lines of a catalogue on their way out.
-use Rattle.std.specs.Prelude.{◌≡◌, ℕ, ◌+◌, List, ◌++◌, Option, length}
+use Rattle.std.specs.Prelude.{◌≡◌, ℕ, ◌+◌, List, [], ◌++◌, Option, length}
 use Rattle.std.specs.Io.KnownBytes.{Appends}
 use Rattle.dd_model.specs.Symbol.{Symbol}
 use Rattle.dd_model.specs.Text.{AreLines}
 use Rattle.dd_catalogue.specs.declared.pages.Page.{Page}
 
--- Since the start, known bytes grew by a text that makes, after what was written before and with what is collected, the lines of
--- these symbols, numbered from k + 1 on.
+-- Since the start, known bytes grew by a text that makes, after what was written before and with what is collected, the lines of the
+-- first of these symbols, numbered from k + 1 on; the others wait.
 pub record HasLines (k : ℕ) (base : List ℕ) (start now : Option (List ℕ)) (page : Page) (ss : List Symbol) : Type 0 where
   pub written : List ℕ
   pub appended : Appends start now written
-  pub lines : AreLines k ss ((base ++ written) ++ page.buffer.items)
+  pub made : List Symbol
+  pub parts : ss ≡ made ++ page.waiting.items
+  pub lines : AreLines k made ((base ++ written) ++ page.buffer.items)
   pub count : page.count ≡ k + length ss
   pub bytes : page.bytes ≡ length (base ++ written)
+
+-- no member waits, and nothing is collected
+pub record IsEmpty (page : Page) : Type 0 where
+  pub waiting : page.waiting.items ≡ []
+  pub buffer : page.buffer.items ≡ []
 
 -- Whatever a page had the lines of, it has still.
 abbrev pub KeepsLines : Option (List ℕ) → Option (List ℕ) → Page → Page → Type 0

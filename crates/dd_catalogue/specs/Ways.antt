@@ -48,7 +48,11 @@ pub record HasEmitted (w : Way) (f : Machine) (members : List Symbol) : Type 0 w
   pub recent : AreRecent w members
   pub of_round : AreOfRound w f.entries
 
--- and their lines are written or collected
+-- Whatever a machine has emitted, it has emitted these members besides.
+abbrev pub EmitsMore : Machine → Machine → List Symbol → Type 0
+EmitsMore f g more = (w : Way) (ss : List Symbol) → HasEmitted w f ss → HasEmitted w g (ss ++ more)
+
+-- and their lines are written, collected or still to be made
 pub record IsUnderWay (w : Way) (now : Option (List ℕ)) (page : Page) (f : Machine) : Type 0 where
   pub members : List Symbol
   pub emitted : HasEmitted w f members

@@ -1,9 +1,10 @@
-ghost use Rattle.std.specs.Prelude.{◌≡◌, ◌≤◌, ℕ, List, [], true};
+ghost use Rattle.std.specs.Prelude.{◌≡◌, ◌≤◌, ℕ, List, true};
 ghost use Rattle.dd_model.specs.Request.{IsValid};
 ghost use Rattle.dd_model.specs.Position.{IsPosition};
 ghost use Rattle.dd_ports.specs.declared.sink.SinkFault.TheVariants.{Failed};
 ghost use Rattle.dd_ports.specs.Causes.{HasCause, StaysSure};
 ghost use Rattle.dd_catalogue.specs.Runs.{start_of};
+ghost use Rattle.dd_catalogue.specs.Pages.{IsEmpty};
 ghost use Rattle.dd_catalogue.specs.Rounds.{IsBegun};
 ghost use Rattle.dd_catalogue.specs.Outputs.{IsOutput};
 
@@ -64,7 +65,7 @@ fn write_rounds<R: Threads + Wait + Sync, F: Finder + Sync, G: Gate + Sync, O: S
     requires workers { (1 ≤ run.now.pace.workers) × (run.now.pace.workers ≤ 64) }
     requires round { 1 ≤ run.now.pace.round }
     requires begun { IsBegun (start_of run.now) front.old }
-    requires empty { page.old.buffer.items ≡ [] }
+    requires empty { IsEmpty page.old }
     requires count { page.old.count ≡ run.now.lines }
     requires bytes { page.old.bytes ≡ 0 }
     ensures output { (output : List ℕ) × IsOutput (start_of run.now) run.now.pause
@@ -76,11 +77,11 @@ fn write_rounds<R: Threads + Wait + Sync, F: Finder + Sync, G: Gate + Sync, O: S
     let limit = run.limit();
     while let Ok(more) = do_round(rt, alloc, finder, gate, run.pace, front) {
         if !more {
-            page.flush(out)?;
+            page.flush(rt, run.pace.workers, out)?;
             return Ok(Finish::Whole);
         }
         if !write_done(rt, run.pace.workers, limit.last, front, page, out)? {
-            page.flush(out)?;
+            page.flush(rt, run.pace.workers, out)?;
             return Ok(limit.finish());
         }
     }

@@ -1,4 +1,4 @@
-ghost use Rattle.std.specs.Prelude.{◌≡◌, ◌≤◌, [], if◌then◌else◌, IfOk, OnOk, MatchBool, true};
+ghost use Rattle.std.specs.Prelude.{◌≡◌, ◌≤◌, if◌then◌else◌, IfOk, OnOk, MatchBool, true};
 ghost use Rattle.std.specs.Bool.{OnTrue, OnFalse};
 ghost use Rattle.dd_model.specs.Request.{IsValid};
 ghost use Rattle.dd_model.specs.Position.{IsPosition};
@@ -7,6 +7,7 @@ ghost use Rattle.dd_ports.specs.Causes.{HasCause, StaysSure};
 ghost use Rattle.dd_ports.specs.Texts.{SameOthers};
 ghost use Rattle.dd_chain.specs.Starts.{first_start};
 ghost use Rattle.dd_catalogue.specs.declared.fault.RunFault.TheVariants.{Store as StoreFailed, Sink as SinkFailed};
+ghost use Rattle.dd_catalogue.specs.Pages.{IsEmpty};
 ghost use Rattle.dd_catalogue.specs.Rounds.{IsBegun, AreOpen};
 ghost use Rattle.dd_catalogue.specs.Ways.{IsAny, GoesOn, FillsUp, WritesPart};
 ghost use Rattle.dd_catalogue.specs.Runs.{start_of};
@@ -88,7 +89,7 @@ fn keep_rounds<R: Threads + Wait + Sync, F: Finder + Sync, G: Gate + Sync, S: St
     requires workers { (1 ≤ run.now.pace.workers) × (run.now.pace.workers ≤ 64) }
     requires round { 1 ≤ run.now.pace.round }
     requires begun { IsBegun (start_of run.now) front.old }
-    requires empty { page.old.buffer.items ≡ [] }
+    requires empty { IsEmpty page.old }
     requires count { page.old.count ≡ run.now.lines }
     requires bytes { page.old.bytes ≡ 0 }
     ensures run { HasRun (start_of run.now) run.now.pace.round run.now.pause
@@ -135,7 +136,7 @@ fn write_round<R: Threads + Sync, O: Sink>(
         (GoesOn (O.held out.old) (O.held out.new) page.old page.new front.old front.new)) }
     ensures opened { IfOk result (λ all. OnTrue all (AreOpen front.new.entries)) }
     ensures room { IfOk result (λ all. OnTrue all (page.new.count ≤ last)) }
-    ensures empty { OnOk result (page.new.buffer.items ≡ []) }
+    ensures empty { OnOk result (IsEmpty page.new) }
     ensures full { IfOk result (λ all. OnFalse all
         (FillsUp (O.held out.old) (O.held out.new) page.old page.new last front.old front.new)) }
     ensures part { WritesPart (O.held out.old) (O.held out.new) page.old front.old }
@@ -168,7 +169,7 @@ fn write_and_flush<R: Threads + Sync, O: Sink>(
         (GoesOn (O.held out.old) (O.held out.new) page.old page.new front.old front.new)) }
     ensures opened { IfOk result (λ all. OnTrue all (AreOpen front.new.entries)) }
     ensures room { IfOk result (λ all. OnTrue all (page.new.count ≤ last)) }
-    ensures empty { OnOk result (page.new.buffer.items ≡ []) }
+    ensures empty { OnOk result (IsEmpty page.new) }
     ensures full { IfOk result (λ all. OnFalse all
         (FillsUp (O.held out.old) (O.held out.new) page.old page.new last front.old front.new)) }
     ensures part { WritesPart (O.held out.old) (O.held out.new) page.old front.old }
@@ -177,7 +178,7 @@ fn write_and_flush<R: Threads + Sync, O: Sink>(
         → StaysSure Failed (O.faults out.old) (O.faults out.new) (O.sure out.new) result }
 {
     let all = write_done(rt, threads, last, front, page, out)?;
-    page.flush(out)?;
+    page.flush(rt, threads, out)?;
     Ok(all)
 }
 

@@ -1,20 +1,35 @@
-ghost use Rattle.std.specs.Prelude.{◌≡◌, ◌+◌, ◌≤◌, IfOk, OnOk, true};
+ghost use Rattle.std.specs.Prelude.{◌≡◌, ◌+◌, ◌≤◌, List, IfOk, OnOk, true};
 ghost use Rattle.std.specs.Bool.{OnTrue, OnFalse};
 ghost use Rattle.dd_ports.specs.declared.sink.SinkFault.TheVariants.{Failed};
 ghost use Rattle.dd_ports.specs.Causes.{HasCause, StaysSure};
-ghost use Rattle.dd_front.specs.Allowed.{MayPart};
+ghost use Rattle.dd_model.specs.Symbol.{Symbol};
+ghost use Rattle.dd_front.specs.declared.event.Event.TheVariants.{Part};
+ghost use Rattle.dd_front.specs.Allowed.{HasFirst, MayPart};
+ghost use Rattle.dd_front.specs.Room.{HasRoom, HasRoomToEmit};
+ghost use Rattle.dd_front.specs.Step.{Emits, EmitsPart};
 ghost use Rattle.dd_catalogue.specs.Rounds.{AreOpen};
 ghost use Rattle.dd_catalogue.specs.Ways.{IsAny, GoesOn, FillsUp, WritesPart};
 
-use crate::batches::{give_back, next_batch};
 use crate::pages::Page;
 use crate::rounds::count_at_front;
 use dd_front::{Event, Front};
+use dd_model::Memory;
 use dd_ports::{Sink, SinkFault};
+use dd_symbol::Connected;
+use std::alloc::Global;
 use std::thread::Threads;
 
-/// How many members make a batch for several threads: the lists of most entries are too short for more than one.
-const BATCH: usize = 65_536;
+/// Takes the first entry, which is done, off the front, with its members.
+fn next_list(alloc: Global, front: &mut Front) -> Result<Vec<Connected>, Memory>
+    requires first { (list : List Symbol) × HasFirst front.old list }
+    requires room { HasRoomToEmit front.old }
+    ensures { IfOk result (λ list. Emits front.old front.new list.items) }
+{
+    let Some(members) = front.emit() else {
+        unreachable!()
+    };
+    members.into_vec(alloc)
+}
 
 /// Emits the entries at the front that are done, and puts their lines, made by so many threads, to the page. Where there is a line
 /// after the last one that may be written, the front stops at its member, and the answer is false.
@@ -42,20 +57,27 @@ pub fn write_done<R: Threads + Sync, O: Sink>(
         → StaysSure Failed (O.faults out.old) (O.faults out.new) (O.sure out.new) result }
 {
     let alloc = *page.buffer.allocator();
-    let enough = if threads > 1 { BATCH } else { 1 };
     while count_at_front(front).is_some() {
         let room = last - page.count;
         if front.allowed(&Event::Part { count: room }) {
             write_last(rt, threads, room, front, page, out)?;
             return Ok(false);
         }
-        let Ok(batch) = next_batch(alloc, enough, room, front) else {
+        let Ok(list) = next_list(alloc, front) else {
             return Err(SinkFault::Memory);
         };
-        page.add(rt, threads, &batch, out)?;
-        give_back(rt, threads, batch);
+        page.add(rt, threads, list, out)?;
     }
     Ok(true)
+}
+
+/// The first so many members of the first entry, after which there is one more, from where the front goes on.
+fn next_part(alloc: Global, count: u64, front: &mut Front) -> Result<Vec<Connected>, Memory>
+    requires allowed { MayPart front.old count }
+    requires room { HasRoom front.old (Part count) }
+    ensures { IfOk result (λ list. EmitsPart front.old count front.new list.items) }
+{
+    front.part(count)?.into_vec(alloc)
 }
 
 /// Emits so many members of the first entry, after which there is one more, and puts their lines to the page.
@@ -78,9 +100,10 @@ fn write_last<R: Threads + Sync, O: Sink>(
     ensures sure { O.sure out.old ≡ true
         → StaysSure Failed (O.faults out.old) (O.faults out.new) (O.sure out.new) result }
 {
-    let Ok(members) = front.part(count) else {
+    let alloc = *page.buffer.allocator();
+    let Ok(list) = next_part(alloc, count, front) else {
         return Err(SinkFault::Memory);
     };
-    page.add(rt, threads, members.as_slice(), out)?;
+    page.add(rt, threads, list, out)?;
     Ok(())
 }

@@ -1,12 +1,12 @@
 //! The writing of a catalogue: runs from a position on, their rounds on workers, pages of lines, and the checkpoints that runs keep.
 #![tactic(auto)]
 
-mod batches;
 mod catalogue;
 mod chain;
 mod emission;
 mod fault;
 mod finish;
+mod giving_back;
 mod limit;
 mod lines;
 mod pace;

@@ -10,7 +10,7 @@ use std::thread;
 use std::thread::Threads;
 
 /// How many lines a thread makes at least, so that it is worth its start.
-const FEWEST: usize = 256;
+const FEWEST: usize = 2048;
 
 /// The lines of some symbols, numbered from `before + 1` on.
 fn lines_of(alloc: Global, before: u64, symbols: &[Connected]) -> Result<Vec<u8>, Memory>

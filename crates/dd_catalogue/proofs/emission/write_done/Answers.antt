@@ -1,10 +1,7 @@
-use Rattle.std.proofs.Common.{◌≡◌, ◌+◌, ◌-◌, length, sym, ◌∙◌, subst, arith, refl}
-use Rattle.std.specs.Prelude.{List}
-use Rattle.dd_model.specs.Symbol.{Symbol}
-use Rattle.dd_catalogue.specs.Pages.{AddsAll, WritesFrontOf}
+use Rattle.std.proofs.Common.{◌≡◌, ◌+◌, ◌-◌, sym, ◌∙◌, subst, arith, refl}
 use Rattle.dd_catalogue.specs.Ways.{IsAny, IsFull}
-use Rattle.dd_catalogue.proofs.WaySteps.{way_next, lines_on_way, none_on_way, way_part, way_added}
-use Rattle.dd_catalogue.proofs.BatchSteps.{next_there}
+use Rattle.dd_catalogue.proofs.WaySteps.{emits_first, few_emitted, waiting_emitted, way_next, lines_on_way, none_on_way, way_part, way_added}
+use Rattle.dd_catalogue.proofs.FirstLists.{first_there, room_for_first, fewer_emitted}
 use Rattle.dd_catalogue.proofs.RoundEntries.{rest_open}
 use Rattle.dd_catalogue.proofs.emission.write_done.Goals as goal
 
@@ -16,16 +13,23 @@ write_last-requires-clause-any g c κs within =
     let r = c.requires.any in
     record { any = r.any; way = c.loop-alloc.invariant.0.way r.any r.way }
 
-pub next_batch-requires-clause-next : goal.next_batch-requires-clause-next
-next_batch-requires-clause-next g c =
-    next_there c.loop-alloc.front (c.args.last - c.loop-alloc.page.count) c.count_at_front.result (sym c.is_some.ensures ∙ c.loop-alloc-test.true) c.count_at_front.ensures
-    (λ may. let wrong = c.if-allowed.ensures.1 may in cc)
+pub next_list-requires-clause-first : goal.next_list-requires-clause-first
+next_list-requires-clause-first g c =
+    let short = first_there c.loop-alloc.front c.count_at_front.result (sym c.is_some.ensures ∙ c.loop-alloc-test.true) c.count_at_front.ensures in
+    (short.list, short.first)
 
-pub next_batch-requires-clause-lines : goal.next_batch-requires-clause-lines
-next_batch-requires-clause-lines g c =
+pub next_list-requires-clause-room : goal.next_list-requires-clause-room
+next_list-requires-clause-room g c =
     let r = c.requires.any in
     let any : IsAny (g.O.Sink.held c.loop-alloc.out) c.loop-alloc.page c.loop-alloc.front = record { any = r.any; way = c.loop-alloc.invariant.0.way r.any r.way } in
-    lines_on_way (g.O.Sink.held c.loop-alloc.out) c.loop-alloc.page c.loop-alloc.front any (omega (arith, c.loop-alloc.invariant.1, c.requires.last))
+    let short = first_there c.loop-alloc.front c.count_at_front.result (sym c.is_some.ensures ∙ c.loop-alloc-test.true) c.count_at_front.ensures in
+    let lines = lines_on_way (g.O.Sink.held c.loop-alloc.out) c.loop-alloc.page c.loop-alloc.front any (omega (arith, c.loop-alloc.invariant.1, c.requires.last)) in
+    room_for_first c.loop-alloc.front short (omega (arith, lines))
+
+pub add-requires-clause-few : goal.add-requires-clause-few
+add-requires-clause-few g c =
+    let few = few_emitted c.loop-alloc.front c.next_list.new.front (c.args.last - c.loop-alloc.page.count) c.in-Ok.list.items (λ may. let wrong = c.if-allowed.ensures.1 may in cc) c.in-Ok.ensures in
+    omega (arith, few, c.loop-alloc.invariant.1, c.requires.last)
 
 pub returns-in_err-write_last-clause-part : goal.returns-in_err-write_last-clause-part
 returns-in_err-write_last-clause-part g c w way = c.write_last.ensures.part w (c.loop-alloc.invariant.0.way w way)
@@ -55,24 +59,28 @@ pub returns-in_err-add-clause-part : goal.returns-in_err-add-clause-part
 returns-in_err-add-clause-part g c w way =
     let before = g.O.Sink.held c.loop-alloc.out in
     let now = g.O.Sink.held c.add.new.out in
-    way_added w before now c.loop-alloc.page c.loop-alloc.front c.next_batch.new.front c.in-Ok.batch.items c.in-Ok.ensures.emits
-    (subst (WritesFrontOf before now c.loop-alloc.page) c.deref.ensures.value c.add.ensures.front) (c.loop-alloc.invariant.0.way w way)
+    let list = c.in-Ok.list.items in
+    way_added w before now c.loop-alloc.page c.loop-alloc.front c.next_list.new.front list (emits_first c.loop-alloc.front c.next_list.new.front list c.in-Ok.ensures) c.add.ensures.front (c.loop-alloc.invariant.0.way w way)
 
 pub loop-alloc-preserved : goal.loop-alloc-preserved
 loop-alloc-preserved g c =
     let before = g.O.Sink.held c.loop-alloc.out in
     let now = g.O.Sink.held c.add.new.out in
     let f = c.loop-alloc.front in
-    let batch = c.in-Ok.batch.items in
-    let adds = subst (AddsAll before now c.loop-alloc.page c.add.new.self) c.deref.ensures.value c.in_ok-add.ensures.all in
-    let count = subst (λ (ss : List Symbol). c.add.new.self.count ≡ c.loop-alloc.page.count + length ss) c.deref.ensures.value c.in_ok-add.ensures.count in
-    let few = c.in-Ok.ensures.few in
+    let h = c.next_list.new.front in
+    let list = c.in-Ok.list.items in
+    let emits = c.in-Ok.ensures in
+    let count = c.in_ok-add.ensures.count in
+    let few = few_emitted f h (c.args.last - c.loop-alloc.page.count) list (λ may. let wrong = c.if-allowed.ensures.1 may in cc) emits in
     let ih = c.loop-alloc.invariant in (
       record {
-        way = λ w way. way_next w before now c.loop-alloc.page c.add.new.self f c.next_batch.new.front batch c.in-Ok.ensures.emits adds (ih.0.way w way);
-        waiting = c.in-Ok.ensures.waiting ∙ ih.0.waiting;
+        way = λ w way. way_next w before now c.loop-alloc.page c.add.new.self f h list (emits_first f h list emits) c.in_ok-add.ensures.all (ih.0.way w way);
+        waiting = waiting_emitted f h list emits ∙ ih.0.waiting;
       },
       omega (arith, count, few, ih.1),
       omega (arith, c.add.ensures.cause.later, ih.2),
       λ s. let sure = ih.3 s in let next = c.add.ensures.sure sure.0 in (next.sure, next.count ∙ sure.1),
     )
+
+pub loop-alloc-smaller : goal.loop-alloc-smaller
+loop-alloc-smaller g c = fewer_emitted c.loop-alloc.front c.next_list.new.front c.in-Ok.list.items c.in-Ok.ensures
