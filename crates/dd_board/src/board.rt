@@ -22,12 +22,13 @@ use std::sync::ledger::Ledger;
 use std::sync::{Mutex, Wait};
 
 /// The desk of a round behind a lock, with a seat for each of its workers. The type parameters
-/// name the round and the five ledgers of its calls. How many jobs wait, and how many are just being
-/// split, is also counted beside the lock, as hints that no clause reads.
+/// name the round and the five ledgers of its calls. How many jobs wait, how many are out, and how
+/// many are just being split, is also counted beside the lock, as hints that no clause reads.
 #[derive(Drop)]
 pub struct Board<N: Naming, K: Ledger, L: Ledger, S: Ledger, D: Ledger, B: Ledger> {
     counted: Mutex<Counted<N, K, L, S, D, B>>,
     waiting: AtomicU64,
+    out: AtomicU64,
     splitting: AtomicU64,
 }
 
@@ -69,6 +70,7 @@ impl<N: Naming, K: Ledger, L: Ledger, S: Ledger, D: Ledger, B: Ledger> Board<N, 
         let board = Board {
             counted: Mutex::new(Counted { desk, books }),
             waiting,
+            out: AtomicU64::new(0),
             splitting: AtomicU64::new(0),
         };
         Ok((board, seats))
@@ -80,6 +82,7 @@ impl<N: Naming, K: Ledger, L: Ledger, S: Ledger, D: Ledger, B: Ledger> Board<N, 
     {
         let taken = self.counted.lock(rt).take(seat)?;
         if matches!(&taken, Taken::Job(_)) {
+            self.out.fetch_add(1, Ordering::SeqCst);
             self.waiting.fetch_sub(1, Ordering::SeqCst);
         }
         Ok(taken)
@@ -88,6 +91,11 @@ impl<N: Naming, K: Ledger, L: Ledger, S: Ledger, D: Ledger, B: Ledger> Board<N, 
     /// About how many jobs are open. Nothing rests on it: others may take and split meanwhile.
     pub fn waiting(&self) -> u64 {
         self.waiting.load(Ordering::SeqCst)
+    }
+
+    /// Whether some job is out, so that there may be more to do. Nothing rests on it.
+    pub fn has_out(&self) -> bool {
+        self.out.load(Ordering::SeqCst) > 0
     }
 
     /// Tells the other workers that a job is being split, so that there may soon be more to do.
@@ -121,6 +129,7 @@ impl<N: Naming, K: Ledger, L: Ledger, S: Ledger, D: Ledger, B: Ledger> Board<N, 
         let count = jobs.len() as u64;
         self.counted.lock(rt).split(seat, ticket, jobs)?;
         self.waiting.fetch_add(count, Ordering::SeqCst);
+        self.out.fetch_sub(1, Ordering::SeqCst);
         Ok(())
     }
 
@@ -137,7 +146,9 @@ impl<N: Naming, K: Ledger, L: Ledger, S: Ledger, D: Ledger, B: Ledger> Board<N, 
         ensures counts { CountsFinish seat.old seat.new result }
         ensures ticket { IfErr result (λ back. back ≡ ticket) }
     {
-        self.counted.lock(rt).finish(seat, ticket, list)
+        self.counted.lock(rt).finish(seat, ticket, list)?;
+        self.out.fetch_sub(1, Ordering::SeqCst);
+        Ok(())
     }
 
     /// Makes the ticket's entry open again. `Err` comes for want of memory alone, and has the
@@ -153,6 +164,7 @@ impl<N: Naming, K: Ledger, L: Ledger, S: Ledger, D: Ledger, B: Ledger> Board<N, 
     {
         self.counted.lock(rt).back(seat, ticket)?;
         self.waiting.fetch_add(1, Ordering::SeqCst);
+        self.out.fetch_sub(1, Ordering::SeqCst);
         Ok(())
     }
 

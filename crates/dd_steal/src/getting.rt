@@ -51,7 +51,8 @@ fn take_ahead<N: Naming, K: Ledger, L: Ledger, S: Ledger, D: Ledger, B: Ledger, 
     }
 }
 
-// Waits for an open job while another worker is just splitting one, and a moment longer. A worker that is alone does not.
+// Waits for an open job while another worker is just splitting one, and a moment longer. Where no job is out none can come, and a
+// worker that is alone does not wait.
 fn wait_for_jobs<N: Naming, K: Ledger, L: Ledger, S: Ledger, D: Ledger, B: Ledger>(
     board: &Board<N, K, L, S, D, B>,
     others: usize,
@@ -61,7 +62,7 @@ fn wait_for_jobs<N: Naming, K: Ledger, L: Ledger, S: Ledger, D: Ledger, B: Ledge
     }
     let mut looks = 0;
     for _ in 0..MOST_LOOKS {
-        if board.waiting() > 0 || looks >= LOOKS {
+        if board.waiting() > 0 || looks >= LOOKS || !board.has_out() {
             return;
         }
         looks = if board.is_splitting() { 0 } else { looks + 1 };
