@@ -1,10 +1,9 @@
 -- A path of which the ends meet is a whole cell.
-use Rattle.std.proofs.Common.{◌≡◌, ℕ, ◌*◌, ◌/◌, ◌%◌, ◌<◌, ◌≤◌, ◌⊎◌, ◌↔◌, IsTrue, refl, sym, ap, ◌∙◌, subst, inl, inr, ⊎_elim, arith}
+use Rattle.std.proofs.Common.{◌≡◌, ℕ, ◌*◌, ◌/◌, ◌%◌, ◌≤◌, ◌⊎◌, ◌↔◌, IsTrue, sym, ap, ◌∙◌, ⊎_elim, arith}
 use Rattle.dd_model.specs.declared.pair.Pair.{Pair}
 use Rattle.dd_model.specs.declared.pair.Pair.TheVariants.{Tile, Vertex}
 use Rattle.dd_model.specs.declared.requests.Request.{Request}
 use Rattle.dd_model.specs.Symbol.{Symbol, IsChamber, degree}
-use Rattle.dd_model.specs.Cell.{IsChain}
 use Rattle.dd_model.specs.Code.{count_from}
 use Rattle.dd_shares.specs.Units.{share_unit}
 use Rattle.dd_ends.specs.Classes.{IsClosedShare}

@@ -1,4 +1,4 @@
-use Rattle.std.proofs.Common.{rules, ◌≡◌, ◌+◌, ◌*◌, ◌%◌, ◌≤◌, length, true, refl, sym, ap, ◌∙◌, subst, arith}
+use Rattle.std.proofs.Common.{rules, ◌≡◌, ◌*◌, ◌%◌, ◌≤◌, length, true, refl, sym, ap, ◌∙◌, subst, arith}
 use Rattle.dd_ends.proofs.KeptLemmas.{live_end, capped_kept}
 use Rattle.dd_ends.proofs.SideLemmas.{right_capped}
 use Rattle.dd_ends.proofs.SumLemmas.{total_small, weight_within, few_in_path}

@@ -1,4 +1,4 @@
-use Rattle.std.proofs.Common.{rules, ◌≡◌, ◌+◌, ◌*◌, ◌%◌, ◌≤◌, Some, length, slice_get, true, refl, sym, ap, ◌∙◌, subst, arith}
+use Rattle.std.proofs.Common.{rules, ◌≡◌, ◌*◌, ◌%◌, ◌≤◌, length, true, refl, sym, ap, ◌∙◌, subst, arith}
 use Rattle.dd_ends.specs.PathEnd.{PathEnd}
 use Rattle.dd_ends.specs.Sides.{end_of}
 use Rattle.dd_ends.proofs.KeptLemmas.{live_end, closed_kept}

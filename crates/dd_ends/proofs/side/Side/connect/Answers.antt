@@ -1,7 +1,6 @@
-use Rattle.std.proofs.Common.{rules, ◌≡◌, ℕ, ◌+◌, ◌*◌, ◌%◌, ◌<◌, ◌≤◌, List, Some, length, slice_get, true, false, refl, sym, ap, ◌∙◌, subst, arith}
-use Rattle.dd_shares.specs.Units.{share_unit}
+use Rattle.std.proofs.Common.{rules, ◌≡◌, ℕ, ◌+◌, ◌*◌, ◌%◌, ◌≤◌, List, Some, length, slice_get, true, false, refl, sym, ap, ◌∙◌, arith}
 use Rattle.dd_ends.specs.PathEnd.{PathEnd}
-use Rattle.dd_ends.specs.Sides.{end_of, class_weight}
+use Rattle.dd_ends.specs.Sides.{end_of}
 use Rattle.dd_ends.specs.declared.class_shares.ClassShares.{ClassShares}
 use Rattle.dd_ends.specs.declared.end.End.{End}
 use Rattle.dd_ends.proofs.ClassLemmas.{class_of_both}

@@ -1,5 +1,4 @@
 use Rattle.std.proofs.Common.{◌/◌, true, sym, subst}
-use Rattle.dd_invol.specs.Rows.{partial_of}
 use Rattle.dd_ends.specs.Passing.{Passes}
 use Rattle.dd_ends.specs.Sides.{IsJoin}
 use Rattle.dd_ends.proofs.SumLemmas.{none_with_share}

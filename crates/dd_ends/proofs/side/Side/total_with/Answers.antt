@@ -1,6 +1,4 @@
-use Rattle.std.proofs.Common.{◌≡◌, ℕ, ◌+◌, ◌*◌, ◌%◌, ◌≤◌, ◌⊎◌, List, Some, slice_get, true, false, sym, ap, ◌∙◌, subst, arith}
-use Rattle.dd_model.specs.declared.pair.Pair.TheVariants.{Tile, Vertex}
-use Rattle.dd_shares.specs.Units.{share_unit}
+use Rattle.std.proofs.Common.{◌≡◌, ℕ, ◌+◌, ◌*◌, ◌%◌, ◌≤◌, List, Some, slice_get, false, sym, ap, ◌∙◌, subst, arith}
 use Rattle.dd_ends.specs.Passing.{Passes}
 use Rattle.dd_ends.specs.Sides.{IsJoin, class_weight}
 use Rattle.dd_ends.specs.declared.class_shares.ClassShares.{ClassShares}

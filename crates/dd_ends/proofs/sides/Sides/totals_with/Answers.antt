@@ -1,4 +1,4 @@
-use Rattle.std.proofs.Common.{sym, ap, ◌∙◌, inl, inr, arith}
+use Rattle.std.proofs.Common.{sym, ap, ◌∙◌, arith}
 use Rattle.dd_model.specs.Symbol.{first, second}
 use Rattle.dd_ends.specs.Passing.{Passes}
 use Rattle.dd_ends.proofs.LinkLemmas.{join_of_image}
