@@ -5,18 +5,17 @@ use dd_invol::Rows;
 use dd_model::Pair;
 use dd_shares::{SHARE_UNIT, WholeCell};
 
-/// The whole cells of a pair, their chambers, what they add at most, the paths with one fixed end, and
-/// after which numbers of chambers a census has to look, as bits: at the least chambers of whole
-/// cells, and at those that an involution fixes. Where a cell has become whole of which the least
-/// chamber was not looked for, some chamber of it is kept in the same way. They only tell when a
-/// census is worth its time and where it has to look, and no clause reads them.
+/// The whole cells of a pair, their chambers, what they add at most, the paths with one fixed end, the
+/// chambers that an involution is known to fix, and a chamber of each whole cell. Of these chambers it
+/// is told how many come before them, as bits. All this only tells when a census is worth its time
+/// and where it has to look, and no clause reads it.
 #[derive(Clone, Copy, Drop)]
 pub(crate) struct Counts {
     cells: u32,
     chambers: u32,
     most: u64,
     fixed_ends: u32,
-    marked: u64,
+    fixed: u64,
     closed: u64,
 }
 
@@ -33,38 +32,32 @@ impl Counts {
             chambers: 0,
             most: 0,
             fixed_ends: 0,
-            marked: 0,
+            fixed: 0,
             closed: 0,
         }
     }
 
     /// For each chamber at which a census has to look, how many come before it, as bits.
-    pub(crate) fn marked(&self) -> u64 {
-        self.marked
-    }
-
-    /// Lets a census look at the least chambers of the cells that have become whole. Where there is no
-    /// limit, there is no census.
-    pub(crate) fn mark_least(&mut self, table: &Rows, pair: Pair, limit: u32)
+    pub(crate) fn marked(&self, table: &Rows, pair: Pair) -> u64
         requires { IsReady table.now }
     {
-        if limit == 0 {
-            return;
-        }
-        while self.closed != 0 {
-            let k = self.closed.trailing_zeros() as u8;
-            self.closed &= self.closed - 1;
+        let mut marked = self.fixed;
+        let mut closed = self.closed;
+        while closed != 0 {
+            let k = closed.trailing_zeros() as u8;
+            closed &= closed - 1;
             if k < table.size() {
                 if let Some(cell) = WholeCell::from(table, pair, k + 1, 1) {
-                    self.marked |= bit(cell.least);
+                    marked |= bit(cell.least);
                 }
             }
         }
+        marked
     }
 
     /// After a chamber at the end of a path was fixed.
     pub(crate) fn cap(&mut self, class: Class, chamber: u8, share: u64) {
-        self.marked |= bit(chamber);
+        self.fixed |= bit(chamber);
         if class.is_capped() {
             self.fixed_ends = self.fixed_ends.wrapping_sub(1);
             self.close(class.chambers(), chamber, share);

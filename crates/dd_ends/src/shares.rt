@@ -10,7 +10,6 @@ use crate::path_shares::PathShares;
 use crate::side::Side;
 use crate::sides::Sides;
 use dd_invol::Rows;
-use dd_model::Pair;
 use dd_shares::SHARE_UNIT;
 
 /// Two shares for each chamber of a table that a search fills, one for each pair. The share of a
@@ -86,23 +85,7 @@ impl Shares {
                 return true;
             }
         }
-        self.mark_least(table);
         self.are_too_small(table)
-    }
-
-    /// Lets a census look at the cells that have become whole.
-    fn mark_least(&mut self, table: &Rows)
-        requires ready { IsReady table.now }
-        ensures kept { (partial : Tiling) → AreKept partial self.old → AreKept partial self.new }
-        ensures classes { self.new.classes ≡ self.old.classes }
-    {
-        let tiles = self.classes.request.tiles;
-        let vertices = self.classes.request.vertices;
-        self.sides.tiles.counts.mark_least(table, Pair::Tile, tiles);
-        self.sides
-            .vertices
-            .counts
-            .mark_least(table, Pair::Vertex, vertices);
     }
 
     /// Whether the totals are too small.
