@@ -153,25 +153,25 @@ impl Side {
     }
 
     /// Joins the two ends of a path, which closes it. Tells the share of its chambers.
-    fn close(&mut self, shares: &ClassShares, x: u8, y: u8) -> u64
+    fn close(&mut self, shares: &ClassShares, x: u8, mate: u8) -> u64
         requires pair { (shares.now.pair ≡ Tile) ⊎ (shares.now.pair ≡ Vertex) }
-        requires flag { x < 74 }
+        requires first { x < 74 }
+        requires second { mate < 74 }
         requires some { IsSideOfSome shares.now self.old }
         requires live { 1 ≤ (ends_of shares.now self.old x).chambers }
-        requires apart { y ≢ x }
-        requires other { y ≡ (ends_of shares.now self.old x).other }
-        ensures side { (partial : Tiling) → IsJoin (Passes partial (λ _. true)) shares.now.pair x y
+        requires apart { mate ≢ x }
+        requires other { mate ≡ (ends_of shares.now self.old x).other }
+        ensures side { (partial : Tiling) → IsJoin (Passes partial (λ _. true)) shares.now.pair x mate
             → IsSide shares.now partial self.old → IsSide shares.now partial self.new }
-        ensures share { (partial : Tiling) → IsJoin (Passes partial (λ _. true)) shares.now.pair x y
+        ensures share { (partial : Tiling) → IsJoin (Passes partial (λ _. true)) shares.now.pair x mate
             → IsSide shares.now partial self.old
             → IsShare shares.now.request partial shares.now.pair share_unit (x / 2) result }
     {
-        let end = self.end(x);
-        let class = end.class;
+        let class = self.end(x).class;
         let share = shares.closed(class);
         self.total = self.total_after(shares.weight(class), class.chambers(), share);
         self.ends[usize::from(x)] = End::none();
-        self.ends[usize::from(end.other)] = End::none();
+        self.ends[usize::from(mate)] = End::none();
         self.counts.close(class.chambers(), x / 2, share);
         share
     }

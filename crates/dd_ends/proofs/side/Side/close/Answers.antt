@@ -15,7 +15,7 @@ total_after-self-requires-clause-had c =
     let has = c.requires.some in
     let t = c.args.shares.now in
     subst (λ w. w ≤ c.args.self.now.total) (sym c.weight.ensures)
-    (weight_within t has.partial c.args.self.now has.kept (live_end t c.args.self.now.ends c.args.x c.end-end.result c.end-end.ensures c.requires.live))
+    (weight_within t has.partial c.args.self.now has.kept (live_end t c.args.self.now.ends c.args.x c.end.result c.end.ensures c.requires.live))
 
 pub returns-clause-side : goal.returns-clause-side
 returns-clause-side c P join kept =
@@ -24,14 +24,15 @@ returns-clause-side c P join kept =
     let xs = c.args.self.now.ends in
     let v = c.closed-share.result in
     let long : length xs ≡ 74 = search rules in
-    let end = live_end t xs c.args.x c.end-end.result c.end-end.ensures c.requires.live in
+    let end = live_end t xs c.args.x c.end.result c.end.ensures c.requires.live in
     let few = few_in_path t has.partial c.args.self.now has.kept end has.small in
+    let other = c.requires.other ∙ ap (λ (e : PathEnd). e.other) (ap (end_of t) c.end.ensures) in
     let sum = c.total_after-self.ensures in
     let had = c.weight.ensures in
-    let all : c.chambers.result * v ≡ c.end-end.result.class.number % 64 * v = ap (λ k. k * v) c.chambers.ensures in
-    closed_kept t c.requires.pair P (λ _. true) xs c.args.self.now.total c.total_after-self.result kept long c.args.x c.end-end.result c.requires.flag end few
-    c.args.y v c.from.result c.from-2.result c.none.result c.none-2.result
-    (sym (c.requires.other ∙ ap (λ (e : PathEnd). e.other) (ap (end_of t) c.end-end.ensures))) c.requires.apart c.from.ensures c.from-2.ensures c.none.ensures c.none-2.ensures
+    let all : c.chambers.result * v ≡ c.end.result.class.number % 64 * v = ap (λ k. k * v) c.chambers.ensures in
+    closed_kept t c.requires.pair P (λ _. true) xs c.args.self.now.total c.total_after-self.result kept long c.args.x c.end.result c.requires.first end few
+    c.args.mate v c.from.result c.from-2.result c.none.result c.none-2.result
+    (sym other) c.requires.apart c.from.ensures (c.from-2.ensures ∙ other) c.none.ensures c.none-2.ensures
     join c.closed-share.ensures (omega (arith, sum, had, all))
 
 pub returns-clause-share : goal.returns-clause-share
@@ -39,7 +40,7 @@ returns-clause-share c P join kept s sought =
     let has = c.requires.some in
     let t = c.args.shares.now in
     let side = c.args.self.now in
-    let end = live_end t side.ends c.args.x c.end-end.result c.end-end.ensures c.requires.live in
-    right_closed t c.requires.pair P (λ _. true) (view t side.ends) side.total side.total kept end c.args.y join
-    (sym (c.requires.other ∙ ap (λ (e : PathEnd). e.other) (ap (end_of t) c.end-end.ensures))) c.requires.apart c.closed-share.result c.closed-share.ensures
+    let end = live_end t side.ends c.args.x c.end.result c.end.ensures c.requires.live in
+    right_closed t c.requires.pair P (λ _. true) (view t side.ends) side.total side.total kept end c.args.mate join
+    (sym (c.requires.other ∙ ap (λ (e : PathEnd). e.other) (ap (end_of t) c.end.ensures))) c.requires.apart c.closed-share.result c.closed-share.ensures
     (few_in_path t has.partial side has.kept end has.small) s sought.wanted (record { completes = sought.completes; passed = refl })
