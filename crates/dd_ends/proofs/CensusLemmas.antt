@@ -1,5 +1,5 @@
 -- A census of the first chambers is one of more.
-use Rattle.std.proofs.Common.{◌≡◌, ℕ, zero, suc, ◌+◌, ◌*◌, ◌≤◌, arith}
+use Rattle.std.proofs.Common.{ℕ, zero, suc, ◌+◌, ◌≤◌, arith}
 use Rattle.std.proofs.lemmas.List.Sums.{sum_by-cons}
 use Rattle.std.specs.List.{sum_by}
 use Rattle.dd_model.specs.declared.pair.Pair.{Pair}
@@ -7,7 +7,6 @@ use Rattle.dd_model.specs.declared.requests.Request.{Request}
 use Rattle.dd_model.specs.Symbol.{Symbol}
 use Rattle.dd_model.specs.Code.{count_from}
 use Rattle.dd_shares.specs.Closed.{fixed_flags}
-use Rattle.dd_shares.specs.Units.{share_unit}
 use Rattle.dd_ends.specs.Census.{IsCensus, IsSmall}
 use Rattle.dd_ends.specs.declared.limits.Census.{Census}
 

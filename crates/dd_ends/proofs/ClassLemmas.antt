@@ -18,6 +18,7 @@ pub record IsClassOfBoth (a b c : ℕ) : Type 0 where
   pub chambers : c % 64 ≡ a % 64 + b % 64
   pub small : c < 128
   pub capped : 64 ≤ c → (64 ≤ a) ⊎ (64 ≤ b)
+  pub stays : (64 ≤ a) ⊎ (64 ≤ b) → 64 ≤ c
 
 both_low : (a b : ℕ) → a % 64 + b % 64 < 64 → a + b < 128 → IsClassOfBoth a b (a + b)
 both_low a b few low = record {
@@ -27,6 +28,7 @@ both_low a b few low = record {
       (λ under. inr (omega (arith, few, high, under)))
       (λ over. inl over)
       (cases_lt a 64);
+  stays = λ either. ⊎_elim (λ high. omega (arith, high)) (λ high. omega (arith, high)) either;
 }
 
 both_high : (a b : ℕ) → a < 128 → b < 128 → a % 64 + b % 64 < 64 → 128 ≤ a + b → IsClassOfBoth a b (a + b - 64)
@@ -34,6 +36,7 @@ both_high a b small also few high = record {
   chambers = omega (arith, few, high, small, also);
   small = omega (arith, few, high, small, also);
   capped = λ _. inl (omega (arith, few, high, small, also));
+  stays = λ _. omega (arith, high);
 }
 
 pub class_of_both : (a b : ℕ) → a < 128 → b < 128 → a % 64 + b % 64 < 64 → IsClassOfBoth a b (joined_class a b)

@@ -1,22 +1,23 @@
 -- Ends of paths that are joined.
-use Rattle.std.proofs.Common.{◌≡◌, ℕ, zero, suc, ◌+◌, ◌*◌, ◌/◌, ◌<◌, ◌≤◌, ◌⊎◌, IsTrue, [], ◌∷◌, sym, ap, ◌∙◌, subst, inl, inr, ⊎_elim, arith}
+use Rattle.std.proofs.Common.{◌≡◌, ℕ, zero, suc, ◌+◌, ◌*◌, ◌/◌, ◌<◌, ◌≤◌, ◌⊎◌, ◌%◌, IsTrue, [], ◌∷◌, refl, sym, ap, ◌∙◌, subst, inl, inr, ⊎_elim, arith}
 use Rattle.std.proofs.lemmas.Bool.{cases_eq}
 use Rattle.std.specs.List.{AllByRecursion}
 use Rattle.dd_model.specs.declared.pair.Pair.{Pair}
 use Rattle.dd_model.specs.declared.requests.Request.{Request}
-use Rattle.dd_model.specs.Symbol.{Symbol, IsSymbol, IsChamber, degree}
+use Rattle.dd_model.specs.Symbol.{Symbol, IsSymbol, IsChamber, op, degree}
 use Rattle.dd_model.specs.Code.{count_from}
 use Rattle.dd_model.specs.Cell.{InCell, IsChain}
 use Rattle.dd_model.proofs.Branching.{degree-along_cell}
 use Rattle.dd_model.proofs.CellWalks.{in_cell-refl, in_cell-trans}
 use Rattle.dd_invol.specs.Distinct.{AreDistinct}
 use Rattle.dd_invol.proofs.Orders.{distinct-count_from}
-use Rattle.dd_ends.specs.Ends.{IsInside, AreTables, IsFound, IsPathEnd, ArePathEnds}
+use Rattle.dd_ends.specs.Ends.{IsInside, AreTables, IsFound, IsWithin, IsOpenAt, IsPathEnd, ArePathEnds, led}
 use Rattle.dd_ends.specs.Changes.{IsElsewhere, IsRenewed}
 use Rattle.dd_ends.specs.Labels.{count_label, reshare}
 use Rattle.dd_shares.specs.Units.{share_unit}
 use Rattle.dd_ends.specs.PathEnd.{PathEnd}
 use Rattle.dd_ends.proofs.LabelLemmas.{reshare_same, reshare_other, sum_reshared, length-labelled, all_labelled, distinct_labelled, labelled}
+use Rattle.dd_ends.proofs.WithinLemmas.{letter_in_pair, within_first}
 use Rattle.dd_shares.proofs.Rotation.{cell_bound, chain_bound}
 
 -- ## Lists of chambers
@@ -69,13 +70,24 @@ label_degree_of_chain n s p label a d is size h chain near =
     let all = length-labelled label a (count_from 1 n) in
     omega (arith, bound, all)
 
+-- a cell of which a flag is fixed is a chain
+pub chain_of_fixed : (s : Symbol) (p : Pair) (x : ℕ) → led s p x ≡ x / 2 → IsChain s p (x / 2)
+chain_of_fixed s p x fixed = record {
+  chamber = x / 2;
+  in_cell = in_cell-refl s p (x / 2);
+  fixed = ⊎_elim
+      (λ e. inl (subst (λ j. op s j (x / 2) ≡ x / 2) e fixed))
+      (λ e. inr (subst (λ j. op s j (x / 2) ≡ x / 2) e fixed))
+      (letter_in_pair p (x % 2));
+}
+
 -- ## One path that has another share
 
 -- all stays the same with another share of one label
 pub ends_renewed : (q : Request) (C : Symbol → Type 0) (n : ℕ) (p : Pair) (old new : ℕ → PathEnd) (total more x v : ℕ) → AreTables C n → ArePathEnds q C n p old total → 1 ≤ (old x).chambers
     → ((s : Symbol) → IsFound q C s → share_unit ≤ v * degree s p (x / 2)) → v ≤ share_unit
     → more + (old x).chambers * (old x).share ≡ total + (old x).chambers * v
-    → ((z : ℕ) → 1 ≤ (new z).chambers → ((z ≡ (old x).other) × (IsRenewed old x v (new z) × (IsTrue (new z).is_capped → (s : Symbol) → C s → IsChain s p (x / 2)))) ⊎ IsElsewhere old new x z)
+    → ((z : ℕ) → 1 ≤ (new z).chambers → ((z ≡ (old x).other) × (IsRenewed old x v (new z) × ((s : Symbol) → C s → led s p x ≡ x / 2))) ⊎ IsElsewhere old new x z)
     → ArePathEnds q C n p new more
 ends_renewed q C n p old new total more x v full are live right low sum each =
     let own = are.each x live in
@@ -107,8 +119,8 @@ ends_renewed q C n p old new total more x v full are live right low sum each =
       each = λ z now. ⊎_elim (λ is. at_other z is.0 is.1.0 is.1.1) (λ is. at_same z now is.same is.not_this is.not_other) (each z now);
     }
   where
-    at_other : (z : ℕ) → z ≡ (old x).other → IsRenewed old x v (new z) → (IsTrue (new z).is_capped → (s : Symbol) → C s → IsChain s p (x / 2)) → IsPathEnd C n p are.label (reshare are.shared (are.label (x / 2)) v) new z
-    at_other z at is chain =
+    at_other : (z : ℕ) → z ≡ (old x).other → IsRenewed old x v (new z) → ((s : Symbol) → C s → led s p x ≡ x / 2) → IsPathEnd C n p are.label (reshare are.shared (are.label (x / 2)) v) new z
+    at_other z at is fixed =
         let own = are.each x live in
         let label = are.label in
         let a = label (x / 2) in
@@ -117,12 +129,19 @@ ends_renewed q C n p old new total more x v full are live right low sum each =
           inside = inside;
           count = is.chambers ∙ own.count ∙ ap (λ l. count_label label l (count_from 1 n)) (sym mine);
           told = is.share ∙ sym (reshare_same are.shared a v (label (z / 2)) mine);
-          capped = λ yes s c. chain-along s p (x / 2) (z / 2) (are.joined (z / 2) (x / 2) inside own.inside mine s c) (chain yes s c);
+          capped = λ yes s c. chain-along s p (x / 2) (z / 2) (are.joined (z / 2) (x / 2) inside own.inside mine s c) (chain_of_fixed s p x (fixed s c));
           other = (subst (λ y. IsInside n (y / 2)) (sym is.other) own.inside, ap (λ y. label (y / 2)) is.other ∙ sym mine);
           alone = λ w now same. ⊎_elim
               (λ it. inl (it.0 ∙ sym at))
               (λ it. absurd (⊎_elim it.not_this it.not_other (own.alone w (subst (λ e. 1 ≤ e.chambers) it.same now) (same ∙ mine))))
               (each w now);
+          closed = λ w h same. ⊎_elim
+              (λ loose. ⊎_elim
+              (λ here. inr (within_first C n p full label (new z).is_capped x x own.inside (λ _ _. refl) fixed refl (λ no _. no is.capped) w here))
+              (λ there. inl (inl (there.0 ∙ sym at)))
+              loose)
+              (λ on. inr (record { same = on.same; moved = λ no. absurd (no is.capped) }))
+              (own.closed w h (same ∙ mine));
         }
 
     at_same : (z : ℕ) → 1 ≤ (new z).chambers → new z ≡ old z → (z ≡ x → ⊥) → (z ≡ (old x).other → ⊥) → IsPathEnd C n p are.label (reshare are.shared (are.label (x / 2)) v) new z
@@ -142,4 +161,5 @@ ends_renewed q C n p old new total more x v full are live right low sum each =
               (λ it. absurd (away (sym is ∙ ap (λ y. label (y / 2)) it.0 ∙ own.other.1)))
               (λ it. ⊎_elim (λ e. inl e) (λ e. inr (e ∙ ap (λ (e : PathEnd). e.other) (sym same))) (end.alone w (subst (λ e. 1 ≤ e.chambers) it.same yet) is))
               (each w yet);
+          closed = λ w h is. subst (λ (e : PathEnd). IsOpenAt z e w ⊎ IsWithin C p label e.is_capped w) (sym same) (end.closed w h is);
         }

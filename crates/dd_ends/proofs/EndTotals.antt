@@ -8,9 +8,9 @@ use Rattle.std.specs.List.{sum_by}
 use Rattle.dd_model.specs.declared.pair.Pair.{Pair}
 use Rattle.dd_model.specs.declared.pair.Pair.TheVariants.{Tile, Vertex}
 use Rattle.dd_model.specs.declared.requests.Request.{Request}
-use Rattle.dd_model.specs.Symbol.{Symbol, op, degree}
+use Rattle.dd_model.specs.Symbol.{Symbol, degree}
 use Rattle.dd_model.specs.Code.{chambers, count_from}
-use Rattle.dd_model.specs.Cell.{InCell, IsChain}
+use Rattle.dd_model.specs.Cell.{InCell}
 use Rattle.dd_model.specs.Partial.{Completes}
 use Rattle.dd_model.proofs.CellWalks.{in_cell-refl}
 use Rattle.dd_model.proofs.CountFrom.{length-count_from, item-map-count_from}
@@ -21,7 +21,7 @@ use Rattle.dd_shares.specs.Shares.{AreShares, IsTotal}
 use Rattle.dd_shares.specs.Units.{share_unit}
 use Rattle.dd_ends.specs.PathEnd.{PathEnd}
 use Rattle.dd_shares.proofs.Bounds.{total_of_shares, wanted_allowed}
-use Rattle.dd_ends.proofs.EndLemmas.{inside_whole, label_degree_of_chain}
+use Rattle.dd_ends.proofs.EndLemmas.{inside_whole, chain_of_fixed, label_degree_of_chain}
 
 -- The ends of some tables are ends of fewer.
 pub fewer_tables : (q : Request) (C D : Symbol → Type 0) (n : ℕ) (p : Pair) (ends : ℕ → PathEnd) (total : ℕ) → ((s : Symbol) → D s → C s) → ArePathEnds q C n p ends total → ArePathEnds q D n p ends total
@@ -39,6 +39,10 @@ fewer_tables q C D n p ends total more are = record {
     capped = λ yes s c. end.capped yes s (more s c);
     other = end.other;
     alone = end.alone;
+    closed = λ z h same. ⊎_elim
+        (λ loose. inl loose)
+        (λ on. inr (record { same = λ s c. on.same s (more s c); moved = λ loose s c. on.moved loose s (more s c) }))
+        (end.closed z h same);
   };
 }
 
@@ -58,15 +62,6 @@ total_of_ends q P p ends total which are =
 
 -- ## A chamber that is fixed
 
--- a path with a fixed end is a chain
-pub fixed_chain : (C : Symbol → Type 0) (p : Pair) (ends : ℕ → PathEnd) (x : ℕ) → IsFixedEnd C p ends x → (s : Symbol) → C s → IsChain s p (x / 2)
-fixed_chain C p ends x end s c =
-    let here = end.fixed s c in record {
-      chamber = x / 2;
-      in_cell = in_cell-refl s p (x / 2);
-      fixed = ⊎_elim (λ e. inl (subst (λ j. op s j (x / 2) ≡ x / 2) e here)) (λ e. inr (subst (λ j. op s j (x / 2) ≡ x / 2) e here)) end.of_pair;
-    }
-
 -- a share that is right for each degree that the chain has room for
 pub fixed_share : (q : Request) (C : Symbol → Type 0) (n : ℕ) (p : Pair) (ends : ℕ → PathEnd) (total x k v : ℕ) → AreTables C n → ArePathEnds q C n p ends total → IsFixedEnd C p ends x
     → k ≤ (ends x).chambers → IsShareFrom q p k v → (s : Symbol) → IsFound q C s → share_unit ≤ v * degree s p (x / 2)
@@ -74,7 +69,7 @@ fixed_share q C n p ends total x k v full are end few from s found =
     let own = are.each x end.is_end in
     let c = found.1 in
     let size = (full s c).1 in
-    let bound = label_degree_of_chain n s p are.label (are.label (x / 2)) (x / 2) found.0.symbol size own.inside (fixed_chain C p ends x end s c) (λ e h same. are.joined (x / 2) e own.inside h (sym same) s c) in
+    let bound = label_degree_of_chain n s p are.label (are.label (x / 2)) (x / 2) found.0.symbol size own.inside (chain_of_fixed s p x (end.fixed s c)) (λ e h same. are.joined (x / 2) e own.inside h (sym same) s c) in
     let count = own.count in
     from.right (degree s p (x / 2)) (wanted_allowed q s p (x / 2) found.0 (inside_whole n s size (x / 2) own.inside)) (omega (arith, few, count, bound))
 
@@ -127,5 +122,6 @@ ends_alone q C n p ends v low right each = record {
     capped = λ yes s c. absurd (is.not_capped yes);
     other = (subst (IsInside n) (sym is.other) is.inside, is.other);
     alone = λ z _ same. is.both z same;
+    closed = λ z h same. inl (⊎_elim (λ at. inl at) (λ at. inr (at, is.not_capped)) (is.both z same));
   };
 }

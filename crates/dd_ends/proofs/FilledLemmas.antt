@@ -2,11 +2,13 @@
 use Rattle.std.proofs.Common.{◌≡◌, ◌≢◌, ℕ, zero, suc, ◌+◌, ◌-◌, ◌/◌, ◌%◌, ◌<◌, List, length, length-drop, get_or, take, drop, refl, sym, ap, ◌∙◌, subst, ⊎_elim, arith}
 use Rattle.std.proofs.lemmas.List.{get_or-take, get_or-drop, length-take-le}
 use Rattle.dd_model.specs.Partial.{Completes}
-use Rattle.dd_model.specs.Symbol.{Symbol}
+use Rattle.dd_model.specs.Symbol.{Symbol, op}
 use Rattle.dd_invol.specs.Places.{index_at}
 use Rattle.dd_invol.specs.Rows.{partial_of, last_of, popped, unwind, HasNumberAt, IsReady}
 use Rattle.dd_invol.specs.declared.rows.Rows.{Rows}
 use Rattle.dd_invol.proofs.RowsLemmas.{told_at}
+use Rattle.dd_ends.specs.Kept.{IsImage}
+use Rattle.dd_ends.specs.declared.link.Link.{Link}
 use Rattle.dd_shares.proofs.GrowthLemmas.{cleared_or_same}
 
 -- what was put in last, some steps back
@@ -47,3 +49,10 @@ filled_number r ready mark k n places is low told =
     let same : get_or places k 0 ≡ get_or r.trail.items (mark + k) 0 = ap (λ xs. get_or xs k 0) is ∙ get_or-drop mark r.trail.items k 0 in
     number_of_all r (get_or places k 0) n (subst (λ t. t < 108) (sym same) (ready.inside (mark + k) below))
     (subst (λ t. get_or r.numbers t 0 ≢ 0) (sym same) (filled_known r ready (mark + k) below)) told
+
+-- the image of such a number
+pub filled_image : (r : Rows) → IsReady r → (mark k n : ℕ) (places : List ℕ) → places ≡ drop mark r.trail.items → k < length places → HasNumberAt (get_or places k 0) n (partial_of r)
+    → (link : Link) → link.index ≡ index_at (get_or places k 0 % 3) → link.chamber ≡ 1 + get_or places k 0 / 3 → link.image ≡ n → IsImage (Completes (partial_of r)) link
+filled_image r ready mark k n places is low told link index chamber image s full =
+    ap (λ i. op s i link.chamber) index ∙ ap (op s (index_at (get_or places k 0 % 3))) chamber
+    ∙ filled_number r ready mark k n places is low told s full ∙ sym image

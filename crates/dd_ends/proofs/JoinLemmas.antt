@@ -1,27 +1,30 @@
 -- Two paths that are joined.
-use Rattle.std.proofs.Common.{◌≡◌, ℕ, ◌+◌, ◌*◌, ◌/◌, ◌≤◌, ◌⊎◌, IsTrue, refl, sym, ap, ◌∙◌, subst, inl, inr, ⊎_elim, arith}
+use Rattle.std.proofs.Common.{◌≡◌, ℕ, ◌+◌, ◌*◌, ◌/◌, ◌%◌, ◌≤◌, ◌⊎◌, Bool, IsTrue, refl, sym, ap, ◌∙◌, subst, inl, inr, ⊎_elim, arith}
 use Rattle.std.proofs.lemmas.Bool.{cases_eq}
-use Rattle.dd_model.specs.declared.index.Index.{Index}
 use Rattle.dd_model.specs.declared.pair.Pair.{Pair}
 use Rattle.dd_model.specs.declared.requests.Request.{Request}
-use Rattle.dd_model.specs.Symbol.{Symbol, first, second, op, degree}
+use Rattle.dd_model.specs.Symbol.{Symbol, IsChamber, degree}
 use Rattle.dd_model.specs.Code.{count_from}
 use Rattle.dd_model.specs.Cell.{InCell, IsChain}
 use Rattle.dd_model.proofs.CellWalks.{in_cell-refl, in_cell-trans, in_cell-sym, in_cell-letter}
-use Rattle.dd_ends.specs.Ends.{IsInside, AreTables, IsFound, IsPathEnd, ArePathEnds}
+use Rattle.dd_ends.specs.Ends.{IsInside, AreTables, IsFound, IsWithin, IsOpenAt, IsPathEnd, ArePathEnds, letter_of, led}
 use Rattle.dd_ends.specs.Changes.{HasTurns, IsJoined, AreJoined}
 use Rattle.dd_ends.specs.Labels.{count_label, relabel, reshare}
+use Rattle.dd_ends.specs.Classes.{IsClosedShare}
+use Rattle.dd_model.specs.declared.pair.Pair.TheVariants.{Tile, Vertex}
 use Rattle.dd_shares.specs.Shares.{IsAllowed}
 use Rattle.dd_shares.specs.Units.{share_unit}
 use Rattle.dd_ends.specs.PathEnd.{PathEnd}
 use Rattle.dd_shares.proofs.Bounds.{wanted_allowed}
 use Rattle.dd_model.proofs.Branching.{degree-along_cell}
+use Rattle.dd_ends.proofs.ClosedLabels.{IsClosedLabel, share_of_closed}
+use Rattle.dd_ends.proofs.WithinLemmas.{letter_in_pair, within_first, within_second}
 use Rattle.dd_ends.proofs.EndLemmas.{inside_whole, chain-along, label_degree, label_degree_of_chain}
 use Rattle.dd_ends.proofs.LabelLemmas.{label_along, relabel_same, relabel_other, reshare_same, reshare_other, count_joined, count_stays, sum_joined}
 
 module _ (q : Request) (C : Symbol → Type 0) (n : ℕ) (p : Pair) (full : AreTables C n) (old new : ℕ → PathEnd) (total x y : ℕ) (are : ArePathEnds q C n p old total)
     (live : 1 ≤ (old x).chambers) (living : 1 ≤ (old y).chambers) (others : y ≡ x → ⊥) (no_end : y ≡ (old x).other → ⊥)
-    (i : Index) (letter : (i ≡ first p) ⊎ (i ≡ second p)) (link : (s : Symbol) → C s → op s i (x / 2) ≡ y / 2) where
+    (side : (s : Symbol) → C s → y % 2 ≡ x % 2) (link : (s : Symbol) → C s → led s p x ≡ y / 2) where
   a : ℕ
   a = are.label (x / 2)
 
@@ -38,7 +41,7 @@ module _ (q : Request) (C : Symbol → Type 0) (n : ℕ) (p : Pair) (full : AreT
 
   -- the chambers of the two flags are in one cell
   beside : (s : Symbol) → C s → InCell s p (x / 2) (y / 2)
-  beside s c = subst (InCell s p (x / 2)) (link s c) (in_cell-letter s p (x / 2) (x / 2) i letter (in_cell-refl s p (x / 2)))
+  beside s c = subst (InCell s p (x / 2)) (link s c) (in_cell-letter s p (x / 2) (x / 2) (letter_of p (x % 2)) (letter_in_pair p (x % 2)) (in_cell-refl s p (x / 2)))
 
   -- a chamber with either label is in the cell of x
   near_x : (d : ℕ) → IsInside n d → after d ≡ a → (s : Symbol) → C s → InCell s p (x / 2) d
@@ -80,6 +83,62 @@ module _ (q : Request) (C : Symbol → Type 0) (n : ℕ) (p : Pair) (full : AreT
       let two = (are.each y living).count in
       let both = count_joined are.label a b apart (count_from 1 n) in
       omega (arith, one, two, both)
+
+  -- ## The flags of the two paths
+
+  -- a flag of them is another end that is not told to be fixed, or leads to one of their chambers
+  within_both : (is_capped : Bool) → (IsTrue (old x).is_capped ⊎ IsTrue (old y).is_capped → IsTrue is_capped) → (z : ℕ) → IsInside n (z / 2) → after (z / 2) ≡ a
+      → (((z ≡ (old x).other) × (IsTrue (old x).is_capped → ⊥)) ⊎ ((z ≡ (old y).other) × (IsTrue (old y).is_capped → ⊥))) ⊎ IsWithin C p after is_capped z
+  unfolding a b after
+  within_both is_capped either z h same = ⊎_elim
+      (λ is_b. ⊎_elim
+      (λ loose. ⊎_elim
+      (λ at. inr (within_second C n p full after is_capped x y (are.each x live).inside side link both (λ _. others) z at))
+      (λ at. inl (inr at))
+      loose)
+      (λ on. inr (record { same = λ s c. relabelled on.same s c; moved = λ no. on.moved (λ yes. no (either (inr yes))) }))
+      ((are.each y living).closed z h is_b))
+      (λ not_b. ⊎_elim
+      (λ loose. ⊎_elim
+      (λ at. inr (within_first C n p full after is_capped x y (are.each x live).inside side link both (λ _. others) z at))
+      (λ at. inl (inl at))
+      loose)
+      (λ on. inr (record { same = λ s c. relabelled on.same s c; moved = λ no. on.moved (λ yes. no (either (inl yes))) }))
+      ((are.each x live).closed z h (sym (relabel_other are.label a b (z / 2) not_b) ∙ same)))
+      (cases_eq (are.label (z / 2)) b)
+    where
+      both : after (y / 2) ≡ after (x / 2)
+      both = relabel_same are.label a b (y / 2) refl ∙ sym (relabel_other are.label a b (x / 2) apart)
+
+      relabelled : ((s : Symbol) → C s → are.label (led s p z) ≡ are.label (z / 2)) → (s : Symbol) → C s → after (led s p z) ≡ after (z / 2)
+      relabelled same s c = label_along are.label a b (led s p z) (z / 2) (same s c)
+
+  -- where both other ends are fixed, the two paths are a whole cell
+  closed_both : IsTrue (old x).is_capped → IsTrue (old y).is_capped → (s : Symbol) → C s → IsClosedLabel s p after (x / 2)
+  unfolding a b after
+  closed_both one other s c = record {
+    chamber = inside_whole n s (full s c).1 (x / 2) (are.each x live).inside;
+    near = λ e h same. near_x e (inside_table s c e h) (same ∙ here) s c;
+    flags = λ z h same. ⊎_elim
+        (λ loose. absurd (⊎_elim (λ at. at.1 one) (λ at. at.1 other) loose))
+        (λ on. on.same s c ∙ same)
+        (within_both (old x).is_capped (λ _. one) z (inside_table s c (z / 2) h) (same ∙ here));
+  }
+    where
+      here : after (x / 2) ≡ a
+      here = relabel_other are.label a b (x / 2) apart
+
+      inside_table : (s : Symbol) → C s → (e : ℕ) → IsChamber s e → IsInside n e
+      inside_table s c e h = (h.0, let high = h.1 in let size = (full s c).1 in omega (arith, high, size))
+
+  -- a share that is right for that cell
+  pub closed_both_share : (c v : ℕ) → (p ≡ Tile) ⊎ (p ≡ Vertex) → IsTrue (old x).is_capped → IsTrue (old y).is_capped → IsClosedShare q p c v
+      → c % 64 ≡ (old x).chambers + (old y).chambers → c % 64 ≤ 36 → 64 ≤ c → (s : Symbol) → IsFound q C s → share_unit ≤ v * degree s p (x / 2)
+  unfolding a b after
+  closed_both_share c v which one other share chambers few high s sought =
+      share_of_closed q s p after (x / 2) c v which sought.0 (closed_both one other s sought.1) share
+      (chambers ∙ count ∙ ap (λ l. count_label after l (count_from 1 n)) (sym (relabel_other are.label a b (x / 2) apart)) ∙ ap (λ m. count_label after (after (x / 2)) (count_from 1 m)) (sym (full s sought.1).1))
+      few (λ _. chain (inl one) s sought.1) (λ low. absurd (omega (arith, low, high)))
 
   -- the degree of the joined path is at least half of its chambers, and at least as many where a chamber is fixed
   joined_degree : (k : ℕ) → HasTurns old x y k
@@ -140,11 +199,13 @@ module _ (q : Request) (C : Symbol → Type 0) (n : ℕ) (p : Pair) (full : AreT
           let was = are.adds in
           omega (arith, all, one, two, three, was, sums);
       each = λ z now. ⊎_elim
-          (λ is. at_end z (old y).other is.1 (subst (λ u. IsInside n (u / 2)) (sym is.0) (are.each x live).other.0) (label_x z is.0) ((are.each y living).other.0) (label_y (old y).other refl)
-          (λ w. ends_of w z (old y).other (λ e. inl (e ∙ sym is.0)) (λ e. inr e)))
+          (λ is. at_end z (old y).other is.1.1 (subst (λ u. IsInside n (u / 2)) (sym is.0) (are.each x live).other.0) (label_x z is.0) ((are.each y living).other.0) (label_y (old y).other refl)
+          (λ w. ends_of w z (old y).other (λ e. inl (e ∙ sym is.0)) (λ e. inr e))
+          (λ w loose. ⊎_elim (λ at. inl (at.0 ∙ sym is.0)) (λ at. inr (at.0 ∙ sym is.1.1.other, λ yes. ⊎_elim is.1.0 at.1 (is.1.1.capped.0 yes))) loose))
           (λ or. ⊎_elim
-          (λ is. at_end z (old x).other is.1 (subst (λ u. IsInside n (u / 2)) (sym is.0) (are.each y living).other.0) (label_y z is.0) ((are.each x live).other.0) (label_x (old x).other refl)
-          (λ w. ends_of w z (old x).other (λ e. inr e) (λ e. inl (e ∙ sym is.0))))
+          (λ is. at_end z (old x).other is.1.1 (subst (λ u. IsInside n (u / 2)) (sym is.0) (are.each y living).other.0) (label_y z is.0) ((are.each x live).other.0) (label_x (old x).other refl)
+          (λ w. ends_of w z (old x).other (λ e. inr e) (λ e. inl (e ∙ sym is.0)))
+          (λ w loose. ⊎_elim (λ at. inr (at.0 ∙ sym is.1.1.other, λ yes. ⊎_elim at.1 is.1.0 (is.1.1.capped.0 yes))) (λ at. inl (at.0 ∙ sym is.0)) loose))
           (λ is. at_same z now is.0.same is.0.not_this is.0.not_other is.1.not_this is.1.not_other)
           or)
           (each z now);
@@ -175,17 +236,20 @@ module _ (q : Request) (C : Symbol → Type 0) (n : ℕ) (p : Pair) (full : AreT
             (each w now)
 
         at_end : (z mate : ℕ) → IsJoined old x y v mate (new z) → IsInside n (z / 2) → after (z / 2) ≡ a → IsInside n (mate / 2) → after (mate / 2) ≡ a
-            → ((w : ℕ) → 1 ≤ (new w).chambers → after (w / 2) ≡ a → (w ≡ z) ⊎ (w ≡ mate)) → IsPathEnd C n p after (reshare are.shared a v) new z
-        at_end z mate is inside mine inside_mate mates alone = record {
+            → ((w : ℕ) → 1 ≤ (new w).chambers → after (w / 2) ≡ a → (w ≡ z) ⊎ (w ≡ mate))
+            → ((w : ℕ) → ((w ≡ (old x).other) × (IsTrue (old x).is_capped → ⊥)) ⊎ ((w ≡ (old y).other) × (IsTrue (old y).is_capped → ⊥)) → IsOpenAt z (new z) w)
+            → IsPathEnd C n p after (reshare are.shared a v) new z
+        at_end z mate is inside mine inside_mate mates alone opens = record {
           inside = inside;
           count = is.chambers ∙ count ∙ ap (λ l. count_label after l (count_from 1 n)) (sym mine);
           told = is.share ∙ sym (reshare_same are.shared a v (after (z / 2)) mine);
           capped = λ yes s c.
               chain-along s p (x / 2) (z / 2)
               (in_cell-sym s (full s c).0.involutions p (x / 2) (z / 2) (inside_whole n s (full s c).1 (x / 2) (are.each x live).inside) (near_x (z / 2) inside mine s c))
-              (chain (is.capped yes) s c);
+              (chain (is.capped.0 yes) s c);
           other = (subst (λ u. IsInside n (u / 2)) (sym is.other) inside_mate, ap (λ u. after (u / 2)) is.other ∙ mates ∙ sym mine);
           alone = λ w now same. ⊎_elim (λ e. inl e) (λ e. inr (e ∙ sym is.other)) (alone w now (same ∙ mine));
+          closed = λ w h same. ⊎_elim (λ loose. inl (opens w loose)) (λ on. inr on) (within_both (new z).is_capped is.capped.1 w h (same ∙ mine));
         }
 
         at_same : (z : ℕ) → 1 ≤ (new z).chambers → new z ≡ old z → (z ≡ x → ⊥) → (z ≡ (old x).other → ⊥) → (z ≡ y → ⊥) → (z ≡ (old y).other → ⊥) → IsPathEnd C n p after (reshare are.shared a v) new z
@@ -213,6 +277,14 @@ module _ (q : Request) (C : Symbol → Type 0) (n : ℕ) (p : Pair) (full : AreT
                   ⊎_elim (λ e. inl e) (λ e. inr (e ∙ ap (λ (e : PathEnd). e.other) (sym same))) (end.alone w (subst (λ (e : PathEnd). 1 ≤ e.chambers) it.0.same yet) (sym own ∙ is ∙ mine)))
                   or)
                   (each w yet);
+              closed = λ w h is.
+                  let away_w : after (w / 2) ≡ a → ⊥ = λ at. away (sym is ∙ at) in
+                  let own : after (w / 2) ≡ are.label (w / 2) = relabel_other are.label a b (w / 2) (λ is_b. away_w (relabel_same are.label a b (w / 2) is_b)) in
+                  subst (λ (e : PathEnd). IsOpenAt z e w ⊎ IsWithin C p after e.is_capped w) (sym same)
+                  (⊎_elim
+                  (λ loose. inl loose)
+                  (λ on. inr (record { same = λ s c. relabel_along (on.same s c); moved = on.moved }))
+                  (end.closed w h (sym own ∙ is ∙ mine)));
             }
           where
             relabel_along : {d e : ℕ} → are.label d ≡ are.label e → after d ≡ after e

@@ -3,7 +3,7 @@ use Rattle.std.proofs.Common.{◌≡◌, ℕ, zero, suc, ◌+◌, ◌*◌, ◌�
 use Rattle.std.proofs.lemmas.Bool.{cases_eq, eq-eqb, ne_eqb}
 use Rattle.std.proofs.lemmas.List.Sums.{sum_by-cons}
 use Rattle.std.specs.Prelude.{cond, nat_eq}
-use Rattle.std.specs.List.{AllByRecursion, sum_by}
+use Rattle.std.specs.List.{AllByRecursion, filter, sum_by}
 use Rattle.dd_invol.specs.Distinct.{AreDistinct}
 use Rattle.dd_ends.specs.Labels.{count_label, relabel, reshare}
 
@@ -202,6 +202,12 @@ length-labelled f a (d ∷ ds) =
     by_case : (t : Bool) (d : ℕ) (es : List ℕ) → length (cond t (d ∷ es) es) ≡ cond t 1 0 + length es
     by_case true d es = omega arith
     by_case false d es = omega arith
+
+-- they are a filter of these chambers
+pub filtered : (f : ℕ → ℕ) (a : ℕ) (ds : List ℕ) → filter (λ d. nat_eq (f d) a) ds ≡ labelled f a ds
+unfolding labelled
+filtered f a [] = refl
+filtered f a (d ∷ ds) = ap (λ es. cond (nat_eq (f d) a) (d ∷ es) es) (filtered f a ds)
 
 -- what holds of each chamber with the label holds of those
 pub all_labelled : (P : ℕ → Type 0) (f : ℕ → ℕ) (a : ℕ) (ds : List ℕ) → AllByRecursion (λ d. f d ≡ a → P d) ds → AllByRecursion P (labelled f a ds)

@@ -1,6 +1,9 @@
 pub mod LabelLemmas
+pub mod WithinLemmas
+pub mod ClosedLabels
 pub mod EndLemmas
 pub mod JoinLemmas
+pub mod ClosingLemmas
 pub mod EndTotals
 pub mod PassingTables
 pub mod CensusLemmas
@@ -12,7 +15,6 @@ pub mod WriteLemmas
 pub mod SumLemmas
 pub mod KeptLemmas
 pub mod GrowthLemmas
-pub mod CellLemmas
 pub mod StartLemmas
 pub mod FilledLemmas
 pub mod LinkLemmas

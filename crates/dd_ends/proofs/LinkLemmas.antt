@@ -1,8 +1,8 @@
 -- Images that join paths, and totals that are too small.
-use Rattle.std.proofs.Common.{◌≡◌, ℕ, ◌+◌, ◌*◌, ◌/◌, ◌<◌, ◌≤◌, ◌⊎◌, Bool, sym, ap, ◌∙◌, subst, arith}
+use Rattle.std.proofs.Common.{◌≡◌, ℕ, ◌+◌, ◌*◌, ◌/◌, ◌%◌, ◌<◌, ◌≤◌, Bool, sym, ap, ◌∙◌, subst, arith}
 use Rattle.std.specs.List.{sum_by}
 use Rattle.dd_model.specs.Code.{chambers, count_from}
-use Rattle.dd_model.specs.Symbol.{Symbol, IsChamber, first, second, op}
+use Rattle.dd_model.specs.Symbol.{Symbol, IsChamber, op}
 use Rattle.dd_model.specs.Wanted.{Wanted}
 use Rattle.dd_model.specs.declared.index.Index.{Index}
 use Rattle.dd_model.specs.declared.pair.Pair.{Pair}
@@ -10,19 +10,24 @@ use Rattle.dd_model.specs.declared.pair.Pair.TheVariants.{Tile, Vertex}
 use Rattle.dd_model.specs.declared.requests.Request.{Request}
 use Rattle.dd_shares.specs.Units.{share_unit}
 use Rattle.dd_shares.proofs.FlatBound.{share_bound_at}
-use Rattle.dd_ends.specs.Ends.{IsInside}
+use Rattle.dd_ends.specs.Ends.{IsInside, letter_of}
 use Rattle.dd_ends.specs.Passing.{Passes, AreEndsOf}
 use Rattle.dd_ends.specs.PathEnd.{PathEnd}
 use Rattle.dd_ends.specs.Sides.{IsJoin, IsSumOf}
 use Rattle.dd_ends.specs.declared.class_shares.ClassShares.{ClassShares}
 
 -- an image joins the flags of its two chambers
-pub join_of_image : (C : Symbol → Type 0) (p : Pair) (i : Index) (x y d e side : ℕ) → (i ≡ first p) ⊎ (i ≡ second p) → side ≤ 1 → x ≡ 2 * d + side → y ≡ 2 * e + side
+pub join_of_image : (C : Symbol → Type 0) (p : Pair) (i : Index) (x y d e side : ℕ) → i ≡ letter_of p side → side ≤ 1 → x ≡ 2 * d + side → y ≡ 2 * e + side
     → ((s : Symbol) → C s → op s i d ≡ e) → IsJoin C p x y
-join_of_image C p i x y d e side of_pair low from to image =
+join_of_image C p i x y d e side letter low from to image =
     let here : x / 2 ≡ d = omega (arith, low, from) in
     let there : y / 2 ≡ e = omega (arith, low, to) in
-    record { letter = i; of_pair = of_pair; leads = λ s c. ap (op s i) here ∙ image s c ∙ sym there }
+    let even : x % 2 ≡ side = omega (arith, low, from) in
+    let odd : y % 2 ≡ side = omega (arith, low, to) in
+    record {
+      side = λ s c. odd ∙ sym even;
+      leads = λ s c. ap (λ k. op s (letter_of p k) (x / 2)) even ∙ ap (λ j. op s j (x / 2)) (sym letter) ∙ ap (op s i) here ∙ image s c ∙ sym there;
+    }
 
 -- No wanted symbol is among the tables that pass a test where the sums of shares are too small.
 none_where_small : (q : Request) (P : Symbol) (test : Symbol → Bool) (ends other : ℕ → PathEnd) (A B : ℕ) → AreEndsOf q P test Tile ends A → AreEndsOf q P test Vertex other B

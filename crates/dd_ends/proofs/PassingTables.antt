@@ -1,5 +1,5 @@
 -- What becomes of ends of paths in all tables that complete a partial one and pass a test.
-use Rattle.std.proofs.Common.{◌≡◌, ◌≢◌, ℕ, ◌+◌, ◌*◌, ◌/◌, ◌≤◌, ◌⊎◌, Bool, IsTrue, length, sym, ap, ◌∙◌, subst, inl, inr, ⊎_elim, arith}
+use Rattle.std.proofs.Common.{◌≡◌, ◌≢◌, ℕ, ◌+◌, ◌*◌, ◌/◌, ◌%◌, ◌≤◌, ◌⊎◌, ◌↔◌, Bool, IsTrue, length, sym, ap, ◌∙◌, subst, inl, inr, ⊎_elim, arith}
 use Rattle.dd_model.specs.declared.pair.Pair.{Pair}
 use Rattle.dd_model.specs.declared.pair.Pair.TheVariants.{Tile, Vertex}
 use Rattle.dd_model.specs.declared.requests.Request.{Request}
@@ -12,43 +12,76 @@ use Rattle.dd_shares.specs.Shares.{IsTotal}
 use Rattle.dd_shares.specs.Units.{share_unit}
 use Rattle.dd_shares.proofs.Bounds.{wanted_allowed}
 use Rattle.dd_ends.specs.Changes.{IsShareFrom, IsLink, HasTurns, AreJoined, IsFixedEnd, AreFixed, AreClosed, IsAlone}
+use Rattle.dd_ends.specs.Classes.{IsClosedShare}
 use Rattle.dd_ends.specs.Ends.{AreTables, ArePathEnds}
 use Rattle.dd_ends.specs.Labels.{count_label}
 use Rattle.dd_ends.specs.Passing.{Passes, AreEndsOf}
 use Rattle.dd_ends.specs.PathEnd.{PathEnd, weight}
 use Rattle.dd_ends.proofs.EndLemmas.{all_from, inside_whole, degree_from_one, ends_renewed}
-use Rattle.dd_ends.proofs.EndTotals.{fewer_tables, total_of_ends, fixed_chain, fixed_share, ends_alone}
-use Rattle.dd_ends.proofs.JoinLemmas.{joined_share, ends_joined}
+use Rattle.dd_ends.proofs.ClosingLemmas.{DoMeet, closed_path_share}
+use Rattle.dd_ends.proofs.EndTotals.{fewer_tables, total_of_ends, fixed_share, ends_alone}
+use Rattle.dd_ends.proofs.JoinLemmas.{joined_share, closed_both_share, ends_joined}
 use Rattle.dd_ends.proofs.LabelLemmas.{part_of_sum, parts_of_sum, sum_bound}
+
+-- a share that is right for the chamber of a flag in all wanted tables that pass the test
+abbrev pub AreRight : Request → Symbol → (Symbol → Bool) → Pair → ℕ → ℕ → Type 0
+AreRight q P test p x v = (s : Symbol) → Wanted q s → Passes P test s → share_unit ≤ v * degree s p (x / 2)
 
 passing_tables : (P : Symbol) (test : Symbol → Bool) → AreTables (Passes P test) P.size
 passing_tables P test s is = (is.completes.table, is.completes.size)
 
+-- ## Shares that are right after a change
+
+module _ (q : Request) (P : Symbol) (test : Symbol → Bool) (p : Pair) (old : ℕ → PathEnd) (total : ℕ) (are : AreEndsOf q P test p old total) where
+  -- for each degree that a joined path has room for
+  pub linked_right : (x y k v : ℕ) → IsLink (Passes P test) p old x y → HasTurns old x y k → IsShareFrom q p k v → AreRight q P test p x v
+  linked_right x y k v link turns from s wanted is =
+      joined_share q (Passes P test) P.size p (passing_tables P test) old old total x y are link.first_end link.second_end link.apart link.no_other link.side link.leads v k turns from.right s (wanted, is)
+
+  -- for the cell of two paths of which the other ends are fixed
+  pub linked_closed : (x y c v : ℕ) → (p ≡ Tile) ⊎ (p ≡ Vertex) → IsLink (Passes P test) p old x y → IsTrue (old x).is_capped → IsTrue (old y).is_capped → IsClosedShare q p c v
+      → c % 64 ≡ (old x).chambers + (old y).chambers → c % 64 ≤ 36 → 64 ≤ c → AreRight q P test p x v
+  linked_closed x y c v which link one other share count few high s wanted is =
+      closed_both_share q (Passes P test) P.size p (passing_tables P test) old old total x y are link.first_end link.second_end link.apart link.no_other link.side link.leads c v which one other share
+      count few high s (wanted, is)
+
+  -- for each degree that a chain has room for
+  pub fixed_right : (x k v : ℕ) → IsFixedEnd (Passes P test) p old x → k ≤ (old x).chambers → IsShareFrom q p k v → AreRight q P test p x v
+  fixed_right x k v end few from s wanted is = fixed_share q (Passes P test) P.size p old total x k v (passing_tables P test) are end few from s (wanted, is)
+
+  -- for the cell of a path of which the ends meet
+  pub met_right : (x y c v : ℕ) → (p ≡ Tile) ⊎ (p ≡ Vertex) → DoMeet (Passes P test) p old x y → IsClosedShare q p c v → c % 64 ≡ (old x).chambers → c % 64 ≤ 36
+      → IsTrue (old x).is_capped ↔ (64 ≤ c) → AreRight q P test p x v
+  met_right x y c v which meet share count few kind s wanted is =
+      closed_path_share q (Passes P test) P.size p (passing_tables P test) old total x y are meet c v which share count few kind s (wanted, is)
+
 -- ## Changes
 
-pub paths_joined : (q : Request) (P : Symbol) (test : Symbol → Bool) (p : Pair) (old new : ℕ → PathEnd) (total more x y k v : ℕ) → AreEndsOf q P test p old total
-    → IsLink (Passes P test) p old x y → HasTurns old x y k → IsShareFrom q p k v → AreJoined old new x y v
-    → more + (weight (old x) + weight (old y)) ≡ total + ((old x).chambers + (old y).chambers) * v → AreEndsOf q P test p new more
-paths_joined q P test p old new total more x y k v are link turns from each sums =
-    let C = Passes P test in
-    let full = passing_tables P test in
-    let right = joined_share q C P.size p full old new total x y are link.first_end link.second_end link.apart link.no_other link.letter link.of_pair link.leads v k turns from.right in
-    ends_joined q C P.size p full old new total x y are link.first_end link.second_end link.apart link.no_other link.letter link.of_pair link.leads v more right from.small sums each
+module _ (q : Request) (P : Symbol) (test : Symbol → Bool) (p : Pair) (old new : ℕ → PathEnd) (total more : ℕ) (are : AreEndsOf q P test p old total) where
+  pub paths_linked : (x y v : ℕ) → IsLink (Passes P test) p old x y → AreRight q P test p x v → v ≤ share_unit → AreJoined old new x y v
+      → more + (weight (old x) + weight (old y)) ≡ total + ((old x).chambers + (old y).chambers) * v → AreEndsOf q P test p new more
+  paths_linked x y v link right small each sums =
+      ends_joined q (Passes P test) P.size p (passing_tables P test) old new total x y are link.first_end link.second_end link.apart link.no_other link.side link.leads
+      v more (λ s found. right s found.0 found.1) small sums each
 
-pub path_fixed : (q : Request) (P : Symbol) (test : Symbol → Bool) (p : Pair) (old new : ℕ → PathEnd) (total more x k v : ℕ) → AreEndsOf q P test p old total
-    → IsFixedEnd (Passes P test) p old x → k ≤ (old x).chambers → IsShareFrom q p k v → AreFixed old new x v → more + weight (old x) ≡ total + (old x).chambers * v
-    → AreEndsOf q P test p new more
-path_fixed q P test p old new total more x k v are end few from each sum =
-    let C = Passes P test in
-    let full = passing_tables P test in
-    ends_renewed q C P.size p old new total more x v full are end.is_end (fixed_share q C P.size p old total x k v full are end few from) from.small sum
-    (λ z live. ⊎_elim (λ is. inl (is.0, (is.1, λ _. fixed_chain C p old x end))) (λ is. inr is) (each z live))
+  pub paths_joined : (x y k v : ℕ) → IsLink (Passes P test) p old x y → HasTurns old x y k → IsShareFrom q p k v → AreJoined old new x y v
+      → more + (weight (old x) + weight (old y)) ≡ total + ((old x).chambers + (old y).chambers) * v → AreEndsOf q P test p new more
+  paths_joined x y k v link turns from each sums = paths_linked x y v link (linked_right q P test p old total are x y k v link turns from) from.small each sums
 
-pub path_closed : (q : Request) (P : Symbol) (test : Symbol → Bool) (p : Pair) (old new : ℕ → PathEnd) (total more x v : ℕ) → AreEndsOf q P test p old total
-    → 1 ≤ (old x).chambers → v ≤ share_unit → ((s : Symbol) → Wanted q s → Passes P test s → share_unit ≤ v * degree s p (x / 2)) → AreClosed old new x
-    → more + weight (old x) ≡ total + (old x).chambers * v → AreEndsOf q P test p new more
-path_closed q P test p old new total more x v are live low right each sum =
-    ends_renewed q (Passes P test) P.size p old new total more x v (passing_tables P test) are live (λ s found. right s found.0 found.1) low sum (λ z now. inr (each z now))
+  pub path_capped : (x v : ℕ) → IsFixedEnd (Passes P test) p old x → AreRight q P test p x v → v ≤ share_unit → AreFixed old new x v
+      → more + weight (old x) ≡ total + (old x).chambers * v → AreEndsOf q P test p new more
+  path_capped x v end right small each sum =
+      ends_renewed q (Passes P test) P.size p old new total more x v (passing_tables P test) are end.is_end (λ s found. right s found.0 found.1) small sum
+      (λ z live. ⊎_elim (λ is. inl (is.0, (is.1, end.fixed))) (λ is. inr is) (each z live))
+
+  pub path_fixed : (x k v : ℕ) → IsFixedEnd (Passes P test) p old x → k ≤ (old x).chambers → IsShareFrom q p k v → AreFixed old new x v
+      → more + weight (old x) ≡ total + (old x).chambers * v → AreEndsOf q P test p new more
+  path_fixed x k v end few from each sum = path_capped x v end (fixed_right q P test p old total are x k v end few from) from.small each sum
+
+  pub path_closed : (x v : ℕ) → 1 ≤ (old x).chambers → v ≤ share_unit → AreRight q P test p x v → AreClosed old new x
+      → more + weight (old x) ≡ total + (old x).chambers * v → AreEndsOf q P test p new more
+  path_closed x v live low right each sum =
+      ends_renewed q (Passes P test) P.size p old new total more x v (passing_tables P test) are live (λ s found. right s found.0 found.1) low sum (λ z now. inr (each z now))
 
 -- ## Which tables
 

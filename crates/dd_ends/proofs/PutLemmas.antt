@@ -1,5 +1,5 @@
 -- Ends of paths of which some are written.
-use Rattle.std.proofs.Common.{◌≡◌, ℕ, ◌≤◌, sym, ap, ◌∙◌, subst, inl, inr, ⊎_elim, arith}
+use Rattle.std.proofs.Common.{◌≡◌, ℕ, ◌≤◌, ◌⊎◌, IsTrue, sym, ap, ◌∙◌, subst, inl, inr, ⊎_elim, arith}
 use Rattle.std.proofs.lemmas.Bool.{cases_eq, eq-eqb, ne_eqb}
 use Rattle.std.specs.Prelude.{cond, nat_eq}
 use Rattle.dd_ends.specs.Changes.{IsElsewhere, IsRenewed, AreFixed, AreClosed, IsJoined, AreJoined}
@@ -29,9 +29,14 @@ put_elsewhere old x m n e mate none z away live =
     (λ apart. record { same = once ∙ put_other old x n z apart; not_this = apart; not_other = λ at. away (at ∙ sym mate) })
     (cases_eq z x)
 
-pub fixed_put : (old : ℕ → PathEnd) (x m v : ℕ) (n e : PathEnd) → m ≡ (old x).other → n.chambers ≡ 0 → IsRenewed old x v e → AreFixed old (put (put old x n) m e) x v
+pub fixed_put : (old : ℕ → PathEnd) (x m v : ℕ) (n e : PathEnd) → m ≡ (old x).other → n.chambers ≡ 0 → (e.chambers ≡ 0) ⊎ IsRenewed old x v e
+    → AreFixed old (put (put old x n) m e) x v
 fixed_put old x m v n e mate none is z live = ⊎_elim
-    (λ at. inl (at ∙ mate, subst (IsRenewed old x v) (sym (put_same (put old x n) m e z at)) is))
+    (λ at. let here = put_same (put old x n) m e z at in
+    ⊎_elim
+    (λ gone. absurd (nothing (put (put old x n) m e z) e here gone live))
+    (λ there. inl (at ∙ mate, subst (IsRenewed old x v) (sym here) there))
+    is)
     (λ away. inr (put_elsewhere old x m n e mate none z away live))
     (cases_eq z m)
 
@@ -46,17 +51,26 @@ abbrev pub connected : (ℕ → PathEnd) → (x y m l : ℕ) (n i e d : PathEnd)
 connected old x y m l n i e d = put (put (put (put old x n) y i) m e) l d
 
 pub joined_put : (old : ℕ → PathEnd) (x y m l v : ℕ) (n i e d : PathEnd) → m ≡ (old x).other → l ≡ (old y).other → n.chambers ≡ 0 → i.chambers ≡ 0
-    → IsJoined old x y v l e → IsJoined old x y v m d → AreJoined old (connected old x y m l n i e d) x y v
+    → (e.chambers ≡ 0) ⊎ ((IsTrue (old x).is_capped → ⊥) × IsJoined old x y v l e) → (d.chambers ≡ 0) ⊎ ((IsTrue (old y).is_capped → ⊥) × IsJoined old x y v m d)
+    → AreJoined old (connected old x y m l n i e d) x y v
 joined_put old x y m l v n i e d mate last none also is other z live =
     let new = connected old x y m l n i e d in
     let first = put old x n in
     let second = put first y i in
     ⊎_elim
-    (λ at. inr (inl (at ∙ last, subst (IsJoined old x y v (old x).other) (sym (put_same (put second m e) l d z at)) (subst (λ k. IsJoined old x y v k d) mate other))))
+    (λ at. let here = put_same (put second m e) l d z at in
+    ⊎_elim
+    (λ gone. absurd (nothing (new z) d here gone live))
+    (λ there. inr (inl (at ∙ last, (there.0, subst (IsJoined old x y v (old x).other) (sym here) (subst (λ k. IsJoined old x y v k d) mate there.1)))))
+    other)
     (λ not_last.
     let once = put_other (put second m e) l d z not_last in
     ⊎_elim
-    (λ at. inl (at ∙ mate, subst (IsJoined old x y v (old y).other) (sym (once ∙ put_same second m e z at)) (subst (λ k. IsJoined old x y v k e) last is)))
+    (λ at. let here = once ∙ put_same second m e z at in
+    ⊎_elim
+    (λ gone. absurd (nothing (new z) e here gone live))
+    (λ there. inl (at ∙ mate, (there.0, subst (IsJoined old x y v (old y).other) (sym here) (subst (λ k. IsJoined old x y v k e) last there.1))))
+    is)
     (λ not_mate.
     let twice = once ∙ put_other second m e z not_mate in
     ⊎_elim

@@ -1,25 +1,34 @@
 -- What becomes of the ends of paths as they are kept.
-use Rattle.std.proofs.Common.{◌≡◌, ℕ, ◌+◌, ◌*◌, ◌/◌, ◌%◌, ◌<◌, ◌≤◌, ◌⊎◌, Bool, IsTrue, get_or, refl, sym, ap, ◌∙◌, subst, inl, inr, ⊎_elim, arith}
+use Rattle.std.proofs.Common.{◌≡◌, ℕ, ◌+◌, ◌*◌, ◌/◌, ◌%◌, ◌<◌, ◌≤◌, ◌⊎◌, ◌↔◌, Bool, IsTrue, refl, sym, ap, ◌∙◌, subst, inl, inr, ⊎_elim, arith}
 use Rattle.std.proofs.lemmas.Bool.{cases_lt, leb-true, le-leb}
 use Rattle.std.specs.Prelude.{leb}
 use Rattle.dd_model.specs.Code.{count_from}
-use Rattle.dd_model.specs.Symbol.{Symbol, degree}
-use Rattle.dd_model.specs.Wanted.{Wanted}
+use Rattle.dd_model.specs.Symbol.{Symbol}
+use Rattle.dd_model.specs.declared.pair.Pair.TheVariants.{Tile, Vertex}
 use Rattle.dd_model.specs.declared.pair.Pair.{Pair}
 use Rattle.dd_model.specs.declared.requests.Request.{Request}
 use Rattle.dd_model.proofs.CountFrom.{length-count_from}
 use Rattle.dd_shares.specs.Units.{share_unit}
-use Rattle.dd_ends.specs.Changes.{HasTurns, IsJoined, IsRenewed}
-use Rattle.dd_ends.specs.Classes.{joined_class, turns_of}
+use Rattle.dd_ends.specs.Changes.{IsShareFrom, HasTurns, IsJoined, IsRenewed, IsLink, IsFixedEnd}
+use Rattle.dd_ends.specs.Classes.{joined_class, turns_of, IsClosedShare, IsCappedShare, IsJoinedShare}
 use Rattle.dd_ends.specs.Passing.{Passes, AreEndsOf}
 use Rattle.dd_ends.specs.PathEnd.{PathEnd, weight}
 use Rattle.dd_ends.specs.Sides.{IsJoin, path_end, class_weight}
 use Rattle.dd_ends.specs.declared.class_shares.ClassShares.{ClassShares}
-use Rattle.dd_ends.proofs.ClassLemmas.{turns_capped, turns_open, class_of_both}
+use Rattle.dd_ends.proofs.ClassLemmas.{IsClassOfBoth, turns_capped, turns_open, class_of_both}
 use Rattle.dd_ends.proofs.EndLemmas.{all_from}
-use Rattle.dd_ends.proofs.LabelLemmas.{parts_of_sum, sum_bound}
-use Rattle.dd_ends.proofs.PassingTables.{paths_joined, path_fixed, path_closed}
+use Rattle.dd_ends.proofs.LabelLemmas.{part_of_sum, parts_of_sum, sum_bound}
+use Rattle.dd_ends.proofs.PassingTables.{AreRight, linked_right, linked_closed, fixed_right, met_right, paths_linked, path_capped, path_closed}
 use Rattle.dd_ends.proofs.PutLemmas.{put, fixed_put, closed_put, connected, joined_put}
+
+-- a path has no more chambers than the table
+pub one_path_within : (q : Request) (P : Symbol) (test : Symbol → Bool) (p : Pair) (ends : ℕ → PathEnd) (total x : ℕ) → AreEndsOf q P test p ends total → 1 ≤ (ends x).chambers → (ends x).chambers ≤ P.size
+one_path_within q P test p ends total x are live =
+    let one = (are.each x live).count in
+    let part = part_of_sum are.label (λ (l : ℕ). 1) (are.label (x / 2)) (count_from 1 P.size) in
+    let bound = sum_bound (λ (d : ℕ). 1) 1 (count_from 1 P.size) (all_from (λ (d : ℕ). 1 ≤ 1) 1 P.size (λ d low high. omega arith)) in
+    let long = length-count_from 1 P.size in
+    omega (arith, one, part, bound, long)
 
 -- two paths have no more chambers than the table
 pub chambers_within : (q : Request) (P : Symbol) (test : Symbol → Bool) (p : Pair) (ends : ℕ → PathEnd) (total x y : ℕ) → AreEndsOf q P test p ends total
@@ -58,77 +67,158 @@ module _ (t : ClassShares) (ends : ℕ → PathEnd) {x m a : ℕ} (end : IsAnEnd
   pub end_weight : weight (ends x) ≡ class_weight t a
   end_weight = ap weight end.told
 
-module _ (t : ClassShares) (P : Symbol) (test : Symbol → Bool) (old : ℕ → PathEnd) (total more : ℕ) (are : AreEndsOf t.request P test t.pair old total) where
-  -- an involution fixes the end of a path
-  pub ends_capped : {x m a : ℕ} → IsAnEnd t old x m a → (n e : PathEnd) → IsJoin (Passes P test) t.pair x x → n.chambers ≡ 0 → e ≡ path_end t x (64 + a % 64)
-      → more + class_weight t a ≡ total + class_weight t (64 + a % 64) → AreEndsOf t.request P test t.pair (put (put old x n) m e) more
-  ends_capped {x} {m} {a} end n e join none is sum =
-      let c = 64 + a % 64 in
-      let v = get_or t.open_paths c 0 in
-      let same : c % 64 ≡ a % 64 = omega arith in
-      let own = end_chambers t old end in
-      let turns : turns_of c ≡ c % 64 = turns_capped c (omega arith) in
-      let all : (old x).chambers * v ≡ c % 64 * v = ap (λ k. k * v) (own ∙ sym same) in
-      let was = end_weight t old end in
-      let some = end.some in
-      path_fixed t.request P test t.pair old (put (put old x n) m e) total more x (turns_of c) v are
-      (record { is_end = end_live t old end; letter = join.letter; of_pair = join.of_pair; fixed = join.leads })
-      (omega (arith, turns, same, own))
-      (t.are_open.each c (omega arith) (omega (arith, same, some)))
-      (fixed_put old x m v n e (end_other t old end) none (subst (IsRenewed old x v) (sym is) (record { chambers = same ∙ sym own; share = refl; other = refl })))
-      (omega (arith, sum, was, all))
+module _ (t : ClassShares) (ends : ℕ → PathEnd) {x m a : ℕ} (end : IsAnEnd t ends x m a) where
+  -- an involution is told to fix a chamber from the class 64 on
+  pub end_capped : IsTrue (ends x).is_capped ↔ (64 ≤ a)
+  end_capped = (
+    λ is. leb-true 64 a (subst (λ (e : PathEnd). IsTrue e.is_capped) end.told is),
+    λ high. subst (λ (e : PathEnd). IsTrue e.is_capped) (sym end.told) (le-leb 64 a high),
+  )
 
-  -- a path has become a whole cell
-  pub ends_closed : {x m a : ℕ} → IsAnEnd t old x m a → (v : ℕ) (n e : PathEnd) → n.chambers ≡ 0 → e.chambers ≡ 0 → v ≤ share_unit
-      → ((s : Symbol) → Wanted t.request s → Passes P test s → share_unit ≤ v * degree s t.pair (x / 2))
-      → more + class_weight t a ≡ total + a % 64 * v → AreEndsOf t.request P test t.pair (put (put old x n) m e) more
-  ends_closed {x} {m} {a} end v n e none also small right sum =
-      let all : (old x).chambers * v ≡ a % 64 * v = ap (λ k. k * v) (end_chambers t old end) in
-      let was = end_weight t old end in
-      path_closed t.request P test t.pair old (put (put old x n) m e) total more x v are (end_live t old end) small right
-      (closed_put old x m n e (end_other t old end) none also)
-      (omega (arith, sum, was, all))
+-- both paths have a fixed end, or one has none
+either_open : (a b : ℕ) → ((64 ≤ a) × (64 ≤ b)) ⊎ ((a < 64) ⊎ (b < 64))
+either_open a b = ⊎_elim (λ low. inr (inl low)) (λ high. ⊎_elim (λ low. inr (inr low)) (λ also. inl (high, also)) (cases_lt b 64)) (cases_lt a 64)
 
-  -- an involution joins the ends of two paths
-  pub ends_connected : {x m a y l b : ℕ} → AreTwoEnds t old x m a y l b → a % 64 + b % 64 < 64 → (n i e d : PathEnd) → IsJoin (Passes P test) t.pair x y
-      → n.chambers ≡ 0 → i.chambers ≡ 0 → e ≡ path_end t l (joined_class a b) → d ≡ path_end t m (joined_class a b)
-      → more + (class_weight t a + class_weight t b) ≡ total + class_weight t (joined_class a b)
-      → AreEndsOf t.request P test t.pair (connected old x y m l n i e d) more
-  ends_connected {x} {m} {a} {y} {l} {b} two few n i e d join none nor is other sum =
-      let c = joined_class a b in
-      let v = get_or t.open_paths c 0 in
-      let both = class_of_both a b two.one.low two.other.low few in
-      let mine = end_chambers t old two.one in
-      let yours = end_chambers t old two.other in
-      let mate = end_other t old two.one in
-      let last = end_other t old two.other in
-      let together : c % 64 ≡ (old x).chambers + (old y).chambers = both.chambers ∙ ap (λ k. k + b % 64) (sym mine) ∙ ap (λ k. (old x).chambers + k) (sym yours) in
-      let capped : IsTrue (leb 64 c) → IsTrue (old x).is_capped ⊎ IsTrue (old y).is_capped = λ yes. ⊎_elim
-      (λ high. inl (subst (λ (e : PathEnd). IsTrue e.is_capped) (sym two.one.told) (le-leb 64 a high)))
-      (λ high. inr (subst (λ (e : PathEnd). IsTrue e.is_capped) (sym two.other.told) (le-leb 64 b high)))
-      (both.capped (leb-true 64 c yes)) in
-      let turns : HasTurns old x y (turns_of c) = ⊎_elim
-      (λ below. let e = turns_open c below in inl (omega (arith, e, below, together)))
-      (λ above. let e = turns_capped c above in inr (capped (le-leb 64 c above), omega (arith, e, together)))
-      (cases_lt c 64) in
-      let all : ((old x).chambers + (old y).chambers) * v ≡ c % 64 * v = ap (λ k. k * v) (sym together) in
-      let was = end_weight t old two.one in
-      let had = end_weight t old two.other in
-      let enough = both.chambers in
-      let some = two.one.some in
-      paths_joined t.request P test t.pair old (connected old x y m l n i e d) total more x y (turns_of c) v are
-      (record {
-        first_end = end_live t old two.one;
-        second_end = end_live t old two.other;
-        apart = two.apart;
-        no_other = λ at. two.no_other (at ∙ sym mate);
-        letter = join.letter;
-        of_pair = join.of_pair;
-        leads = join.leads;
-      })
-      turns
-      (t.are_open.each c both.small (omega (arith, enough, some)))
-      (joined_put old x y m l v n i e d mate last none nor
-      (subst (IsJoined old x y v l) (sym is) (record { chambers = together; share = refl; other = refl; capped = capped }))
-      (subst (IsJoined old x y v m) (sym other) (record { chambers = together; share = refl; other = refl; capped = capped })))
-      (omega (arith, sum, was, had, all))
+module _ (t : ClassShares) (which : (t.pair ≡ Tile) ⊎ (t.pair ≡ Vertex)) (P : Symbol) (test : Symbol → Bool) (old : ℕ → PathEnd) (total more : ℕ)
+    (are : AreEndsOf t.request P test t.pair old total) where
+  -- ## An involution fixes the end of a path
+
+  module _ {x m a : ℕ} (end : IsAnEnd t old x m a) (join : IsJoin (Passes P test) t.pair x x) (v : ℕ) (share : IsCappedShare t.request t.pair t.open_paths a v) where
+    c : ℕ
+    c = 64 + a % 64
+
+    from : a < 64 → IsShareFrom t.request t.pair (turns_of c) v
+    unfolding c
+    from low = let some = end.some in subst (IsShareFrom t.request t.pair (turns_of c)) (sym (share.goes_on low)) (t.are_open.each c (omega arith) (omega (arith, some)))
+
+    fixed : IsFixedEnd (Passes P test) t.pair old x
+    fixed = record { is_end = end_live t old end; fixed = join.leads }
+
+    pub right_capped : a % 64 ≤ 36 → AreRight t.request P test t.pair x v
+    unfolding c
+    right_capped few =
+        let own = end_chambers t old end in
+        ⊎_elim
+        (λ low.
+        let turns : turns_of c ≡ c % 64 = turns_capped c (omega arith) in
+        fixed_right t.request P test t.pair old total are x (turns_of c) v fixed (omega (arith, turns, own)) (from low))
+        (λ high.
+        met_right t.request P test t.pair old total are x x a v which
+        (record { is_end = end_live t old end; side = λ _ _. refl; leads = join.leads; which = inl (refl, (end_capped t old end).1 high) })
+        (share.closed high) (sym own) few (end_capped t old end))
+        (cases_lt a 64)
+
+    pub small_capped : v ≤ share_unit
+    small_capped = ⊎_elim (λ low. (from low).small) (λ high. (share.closed high).small) (cases_lt a 64)
+
+    pub ends_capped : a % 64 ≤ 36 → (n e : PathEnd) → n.chambers ≡ 0 → (64 ≤ a → e.chambers ≡ 0) → (a < 64 → e ≡ path_end t x (64 + a % 64))
+        → more + class_weight t a ≡ total + a % 64 * v → AreEndsOf t.request P test t.pair (put (put old x n) m e) more
+    unfolding c
+    ends_capped few n e none gone is sum =
+        let same : c % 64 ≡ a % 64 = omega arith in
+        let own = end_chambers t old end in
+        let all : (old x).chambers * v ≡ a % 64 * v = ap (λ k. k * v) own in
+        let was = end_weight t old end in
+        path_capped t.request P test t.pair old (put (put old x n) m e) total more are x v fixed (right_capped few) small_capped
+        (fixed_put old x m v n e (end_other t old end) none (⊎_elim
+        (λ low. inr (subst (IsRenewed old x v) (sym (is low)) (record { chambers = same ∙ sym own; share = sym (share.goes_on low); other = refl; capped = le-leb 64 c (omega arith) })))
+        (λ high. inl (gone high))
+        (cases_lt a 64)))
+        (omega (arith, sum, was, all))
+
+  -- ## The ends of a path meet
+
+  module _ {x m a : ℕ} (end : IsAnEnd t old x m a) (y : ℕ) (join : IsJoin (Passes P test) t.pair x y) (other : m ≡ y) (apart : y ≡ x → ⊥) (v : ℕ)
+      (share : IsClosedShare t.request t.pair a v) where
+    pub right_closed : a % 64 ≤ 36 → AreRight t.request P test t.pair x v
+    right_closed few =
+        met_right t.request P test t.pair old total are x y a v which
+        (record { is_end = end_live t old end; side = join.side; leads = join.leads; which = inr (apart, sym other ∙ end_other t old end) })
+        share (sym (end_chambers t old end)) few (end_capped t old end)
+
+    pub ends_closed : a % 64 ≤ 36 → (n e : PathEnd) → n.chambers ≡ 0 → e.chambers ≡ 0 → more + class_weight t a ≡ total + a % 64 * v
+        → AreEndsOf t.request P test t.pair (put (put old x n) m e) more
+    ends_closed few n e none also sum =
+        let all : (old x).chambers * v ≡ a % 64 * v = ap (λ k. k * v) (end_chambers t old end) in
+        let was = end_weight t old end in
+        path_closed t.request P test t.pair old (put (put old x n) m e) total more are x v (end_live t old end) share.small (right_closed few)
+        (closed_put old x m n e (end_other t old end) none also)
+        (omega (arith, sum, was, all))
+
+  -- ## An involution joins the ends of two paths
+
+  module _ {x m a y l b : ℕ} (two : AreTwoEnds t old x m a y l b) (few : a % 64 + b % 64 ≤ 36) (join : IsJoin (Passes P test) t.pair x y) (v : ℕ)
+      (share : IsJoinedShare t.request t.pair t.open_paths a b v) where
+    both : IsClassOfBoth a b (joined_class a b)
+    both = class_of_both a b two.one.low two.other.low (omega (arith, few))
+
+    together : joined_class a b % 64 ≡ (old x).chambers + (old y).chambers
+    together = both.chambers ∙ ap (λ k. k + b % 64) (sym (end_chambers t old two.one)) ∙ ap (λ k. (old x).chambers + k) (sym (end_chambers t old two.other))
+
+    link : IsLink (Passes P test) t.pair old x y
+    link = record {
+      first_end = end_live t old two.one;
+      second_end = end_live t old two.other;
+      apart = two.apart;
+      no_other = λ at. two.no_other (at ∙ sym (end_other t old two.one));
+      side = join.side;
+      leads = join.leads;
+    }
+
+    capped : IsTrue (leb 64 (joined_class a b)) ↔ (IsTrue (old x).is_capped ⊎ IsTrue (old y).is_capped)
+    capped = (
+      λ is. ⊎_elim (λ high. inl ((end_capped t old two.one).1 high)) (λ high. inr ((end_capped t old two.other).1 high)) (both.capped (leb-true 64 (joined_class a b) is)),
+      λ either. le-leb 64 (joined_class a b) (both.stays (⊎_elim (λ is. inl ((end_capped t old two.one).0 is)) (λ is. inr ((end_capped t old two.other).0 is)) either)),
+    )
+
+    turns : HasTurns old x y (turns_of (joined_class a b))
+    turns =
+        let c = joined_class a b in
+        let all = together in
+        ⊎_elim
+        (λ below. let e = turns_open c below in inl (omega (arith, e, below, all)))
+        (λ above. let e = turns_capped c above in inr (capped.0 (le-leb 64 c above), omega (arith, e, all)))
+        (cases_lt c 64)
+
+    from_joined : (a < 64) ⊎ (b < 64) → IsShareFrom t.request t.pair (turns_of (joined_class a b)) v
+    from_joined low =
+        let enough = both.chambers in
+        let some = two.one.some in
+        subst (IsShareFrom t.request t.pair (turns_of (joined_class a b))) (sym (share.goes_on low)) (t.are_open.each (joined_class a b) both.small (omega (arith, enough, some)))
+
+    pub right_connected : AreRight t.request P test t.pair x v
+    right_connected =
+        let enough = both.chambers in
+        ⊎_elim
+        (λ high.
+        linked_closed t.request P test t.pair old total are x y (joined_class a b) v which link ((end_capped t old two.one).1 high.0) ((end_capped t old two.other).1 high.1)
+        (share.closed high.0 high.1) together (omega (arith, enough, few)) (both.stays (inl high.0)))
+        (λ low. linked_right t.request P test t.pair old total are x y (turns_of (joined_class a b)) v link turns (from_joined low))
+        (either_open a b)
+
+    pub small_connected : v ≤ share_unit
+    small_connected = ⊎_elim (λ high. (share.closed high.0 high.1).small) (λ low. (from_joined low).small) (either_open a b)
+
+    -- what stands at the other end of one of them
+    joined_end : (k mate : ℕ) (e : PathEnd) → (k < 64 → (a < 64) ⊎ (b < 64)) → (64 ≤ k → e.chambers ≡ 0) → (k < 64 → e ≡ path_end t mate (joined_class a b))
+        → {z : ℕ} → IsTrue (old z).is_capped ↔ (64 ≤ k) → (e.chambers ≡ 0) ⊎ ((IsTrue (old z).is_capped → ⊥) × IsJoined old x y v mate e)
+    joined_end k mate e low gone is kind = ⊎_elim
+        (λ below. inr (
+          λ no. let high = kind.0 no in absurd (omega (arith, below, high)),
+          subst (IsJoined old x y v mate) (sym (is below)) (record { chambers = together; share = sym (share.goes_on (low below)); other = refl; capped = capped }),
+        ))
+        (λ high. inl (gone high))
+        (cases_lt k 64)
+
+    pub ends_connected : (n i e d : PathEnd) → n.chambers ≡ 0 → i.chambers ≡ 0 → (64 ≤ a → e.chambers ≡ 0) → (a < 64 → e ≡ path_end t l (joined_class a b))
+        → (64 ≤ b → d.chambers ≡ 0) → (b < 64 → d ≡ path_end t m (joined_class a b))
+        → more + (class_weight t a + class_weight t b) ≡ total + (a % 64 + b % 64) * v → AreEndsOf t.request P test t.pair (connected old x y m l n i e d) more
+    ends_connected n i e d none nor gone is lost other sum =
+        let all : ((old x).chambers + (old y).chambers) * v ≡ (a % 64 + b % 64) * v = ap (λ k. k * v) (sym together ∙ both.chambers) in
+        let was = end_weight t old two.one in
+        let had = end_weight t old two.other in
+        paths_linked t.request P test t.pair old (connected old x y m l n i e d) total more are x y v link right_connected small_connected
+        (joined_put old x y m l v n i e d (end_other t old two.one) (end_other t old two.other) none nor
+        (joined_end a l e (λ low. inl low) gone is {z = x} (end_capped t old two.one))
+        (joined_end b m d (λ low. inr low) lost other {z = y} (end_capped t old two.other)))
+        (omega (arith, sum, was, had, all))

@@ -1,18 +1,24 @@
 -- The totals that are kept, and those with a join.
-use Rattle.std.proofs.Common.{◌≡◌, ℕ, ◌+◌, ◌*◌, ◌%◌, ◌<◌, ◌≤◌, Bool, true, false, IsTrue, refl, sym, ◌∙◌, subst, inl, arith}
+use Rattle.std.proofs.Common.{◌≡◌, ℕ, ◌+◌, ◌*◌, ◌%◌, ◌<◌, ◌≤◌, ◌⊎◌, Bool, true, false, cond, ltb, IsTrue, IsFalse, refl, sym, ap, ◌∙◌, subst, ⊎_elim, arith}
+use Rattle.std.proofs.lemmas.Bool.{cases_eq, cases_lt, ne_eqb, lt-ltb, le-ltb}
+use Rattle.std.specs.Prelude.{nat_eq, not}
 use Rattle.std.proofs.Math.Nat.{mul-le-mul_right}
-use Rattle.dd_model.specs.Symbol.{Symbol, first}
+use Rattle.dd_model.specs.Symbol.{Symbol}
+use Rattle.dd_model.specs.declared.pair.Pair.TheVariants.{Tile, Vertex}
 use Rattle.dd_model.specs.declared.pair.Pair.{Pair}
+use Rattle.dd_model.specs.declared.requests.Request.{Request}
+use Rattle.dd_shares.specs.Shares.{IsSought, IsShare}
 use Rattle.dd_shares.specs.Units.{share_unit}
-use Rattle.dd_ends.specs.Classes.{joined_class}
+use Rattle.dd_shares.proofs.WholeShares.{none_sought}
+use Rattle.dd_ends.specs.Classes.{joined_class, IsClosedShare, IsCappedShare, IsJoinedShare}
 use Rattle.dd_ends.specs.Passing.{Passes, AreEndsOf}
-use Rattle.dd_ends.specs.PathEnd.{weight}
+use Rattle.dd_ends.specs.PathEnd.{PathEnd, weight}
 use Rattle.dd_ends.specs.Sides.{IsSide, IsSumOf, IsJoin, path_end, class_weight, ends_of}
 use Rattle.dd_ends.specs.declared.class_shares.ClassShares.{ClassShares}
 use Rattle.dd_ends.specs.declared.side.Side.{Side}
 use Rattle.dd_ends.proofs.PassingTables.{ends_of_fewer, one_within, two_within, all_within}
 use Rattle.dd_ends.proofs.PutLemmas.{put, connected}
-use Rattle.dd_ends.proofs.SideLemmas.{chambers_within, IsAnEnd, AreTwoEnds, end_live, end_chambers, end_other, end_weight, ends_capped, ends_connected}
+use Rattle.dd_ends.proofs.SideLemmas.{one_path_within, chambers_within, IsAnEnd, AreTwoEnds, end_live, end_chambers, end_other, end_weight, ends_capped, ends_closed, ends_connected}
 
 -- the total is a bound
 pub sum_small : (t : ClassShares) (P : Symbol) (test : Symbol → Bool) (total : ℕ) → P.size ≤ 36 → IsSumOf t P test total → total ≤ 36 * share_unit
@@ -21,16 +27,23 @@ sum_small t P test total small sum =
     let most : P.size * share_unit ≤ 36 * share_unit = mul-le-mul_right share_unit small in
     omega (arith, all, most)
 
+-- where the share of a chamber is 0 nothing is sought
+pub none_with_share : (q : Request) (P : Symbol) (p : Pair) (d v : ℕ) → IsShare q P p share_unit d v → IsFalse (not (nat_eq v 0)) → (s : Symbol) → IsSought q P s → ⊥
+none_with_share q P p d v is zero_ = ⊎_elim
+    (λ none. none_sought q P p d (subst (IsShare q P p share_unit d) none is))
+    (λ some. absurd (let yes = ne_eqb v 0 some in (cc)))
+    (cases_eq v 0)
+
 -- in no table everything holds
 pub join_of_none : (P : Symbol) (p : Pair) (x y : ℕ) → IsJoin (Passes P (λ _. false)) p x y
-join_of_none P p x y = record { letter = first p; of_pair = inl refl; leads = λ s c. absurd (no c.passed) }
+join_of_none P p x y = record { side = λ s c. absurd (no c.passed); leads = λ s c. absurd (no c.passed) }
   where
     no : IsTrue false → ⊥
     no h = cc
 
 module _ (t : ClassShares) (P : Symbol) (side : Side) (kept : IsSide t P side) where
   -- what holds in all completions holds in those that pass a test
-  passing : (test : Symbol → Bool) → AreEndsOf t.request P test t.pair (ends_of t side) side.total
+  pub passing : (test : Symbol → Bool) → AreEndsOf t.request P test t.pair (ends_of t side) side.total
   passing test = ends_of_fewer t.request P P (λ _. true) test t.pair (ends_of t side) side.total refl (λ s is. record { completes = is.completes; passed = refl }) kept
 
   pub sum_as_kept : (test : Symbol → Bool) → IsSumOf t P test side.total
@@ -43,11 +56,32 @@ module _ (t : ClassShares) (P : Symbol) (side : Side) (kept : IsSide t P side) w
   weight_within {x} end =
       subst (λ e. weight e ≤ side.total) end.told (one_within t.request P (λ _. true) t.pair (ends_of t side) side.total kept x (end_live t (ends_of t side) end))
 
-  pub sum_capped : {x m a : ℕ} → IsAnEnd t (ends_of t side) x m a → (test : Symbol → Bool) (more : ℕ) → IsJoin (Passes P test) t.pair x x
-      → more + class_weight t a ≡ side.total + class_weight t (64 + a % 64) → IsSumOf t P test more
-  sum_capped {x} {m} {a} end test more join sum = record {
-    ends = put (put (ends_of t side) x (path_end t 0 0)) m (path_end t x (64 + a % 64));
-    are = ends_capped t P test (ends_of t side) side.total more (passing test) end (path_end t 0 0) (path_end t x (64 + a % 64)) join refl refl sum;
+  pub few_in_path : {x m a : ℕ} → IsAnEnd t (ends_of t side) x m a → P.size ≤ 36 → a % 64 ≤ 36
+  few_in_path {x} end small =
+      let within = one_path_within t.request P (λ _. true) t.pair (ends_of t side) side.total x kept (end_live t (ends_of t side) end) in
+      let mine = end_chambers t (ends_of t side) end in
+      omega (arith, within, mine, small)
+
+  pub sum_capped : (t.pair ≡ Tile) ⊎ (t.pair ≡ Vertex) → {x m a : ℕ} → IsAnEnd t (ends_of t side) x m a → a % 64 ≤ 36 → (v : ℕ) → IsCappedShare t.request t.pair t.open_paths a v
+      → (test : Symbol → Bool) (more : ℕ) → IsJoin (Passes P test) t.pair x x → more + class_weight t a ≡ side.total + a % 64 * v → IsSumOf t P test more
+  sum_capped which {x} {m} {a} end few v share test more join sum = ⊎_elim
+      (λ low. record {
+        ends = put (put (ends_of t side) x (path_end t 0 0)) m (path_end t x (64 + a % 64));
+        are = ends_capped t which P test (ends_of t side) side.total more (passing test) end join v share few (path_end t 0 0) (path_end t x (64 + a % 64)) refl
+            (λ high. absurd (omega (arith, low, high))) (λ _. refl) sum;
+      })
+      (λ high. record {
+        ends = put (put (ends_of t side) x (path_end t 0 0)) m (path_end t 0 0);
+        are = ends_capped t which P test (ends_of t side) side.total more (passing test) end join v share few (path_end t 0 0) (path_end t 0 0) refl
+            (λ _. refl) (λ low. absurd (omega (arith, low, high))) sum;
+      })
+      (cases_lt a 64)
+
+  pub sum_closed : (t.pair ≡ Tile) ⊎ (t.pair ≡ Vertex) → {x m a : ℕ} → IsAnEnd t (ends_of t side) x m a → a % 64 ≤ 36 → (y : ℕ) → m ≡ y → (y ≡ x → ⊥) → (v : ℕ)
+      → IsClosedShare t.request t.pair a v → (test : Symbol → Bool) (more : ℕ) → IsJoin (Passes P test) t.pair x y → more + class_weight t a ≡ side.total + a % 64 * v → IsSumOf t P test more
+  sum_closed which {x} {m} {a} end few y other apart v share test more join sum = record {
+    ends = put (put (ends_of t side) x (path_end t 0 0)) m (path_end t 0 0);
+    are = ends_closed t which P test (ends_of t side) side.total more (passing test) end y join other apart v share few (path_end t 0 0) (path_end t 0 0) refl refl sum;
   }
 
   module _ {x m a y l b : ℕ} (two : AreTwoEnds t (ends_of t side) x m a y l b) where
@@ -67,17 +101,28 @@ module _ (t : ClassShares) (P : Symbol) (side : Side) (kept : IsSide t P side) w
         let yours = end_weight t (ends_of t side) two.other in
         omega (arith, both, mine, yours)
 
-    pub few_chambers : P.size ≤ 36 → a % 64 + b % 64 < 64
+    pub few_chambers : P.size ≤ 36 → a % 64 + b % 64 ≤ 36
     few_chambers small =
         let both = chambers_within t.request P (λ _. true) t.pair (ends_of t side) side.total x y kept live living two.apart no_end in
         let mine = end_chambers t (ends_of t side) two.one in
         let yours = end_chambers t (ends_of t side) two.other in
         omega (arith, both, mine, yours, small)
 
-    pub sum_connected : a % 64 + b % 64 < 64 → (test : Symbol → Bool) (more : ℕ) → IsJoin (Passes P test) t.pair x y
-        → more + (class_weight t a + class_weight t b) ≡ side.total + class_weight t (joined_class a b) → IsSumOf t P test more
-    sum_connected few test more join sum = record {
-      ends = connected (ends_of t side) x y m l (path_end t 0 0) (path_end t 0 0) (path_end t l (joined_class a b)) (path_end t m (joined_class a b));
-      are = ends_connected t P test (ends_of t side) side.total more (passing test) two few
-          (path_end t 0 0) (path_end t 0 0) (path_end t l (joined_class a b)) (path_end t m (joined_class a b)) join refl refl refl refl sum;
+    -- what stands at the other end of a path of the class k
+    far_end : ℕ → ℕ → PathEnd
+    far_end k mate = cond (ltb k 64) (path_end t mate (joined_class a b)) (path_end t 0 0)
+
+    pub sum_connected : (t.pair ≡ Tile) ⊎ (t.pair ≡ Vertex) → a % 64 + b % 64 ≤ 36 → (v : ℕ) → IsJoinedShare t.request t.pair t.open_paths a b v → (test : Symbol → Bool) (more : ℕ)
+        → IsJoin (Passes P test) t.pair x y → more + (class_weight t a + class_weight t b) ≡ side.total + (a % 64 + b % 64) * v → IsSumOf t P test more
+    unfolding far_end
+    sum_connected which few v share test more join sum = record {
+      ends = connected (ends_of t side) x y m l (path_end t 0 0) (path_end t 0 0) (far_end a l) (far_end b m);
+      are = ends_connected t which P test (ends_of t side) side.total more (passing test) two few join v share
+          (path_end t 0 0) (path_end t 0 0) (far_end a l) (far_end b m) refl refl (gone a l) (there a l) (gone b m) (there b m) sum;
     }
+      where
+        gone : (k mate : ℕ) → 64 ≤ k → (far_end k mate).chambers ≡ 0
+        gone k mate high = ap (λ (t' : Bool). (cond t' (path_end t mate (joined_class a b)) (path_end t 0 0)).chambers) (le-ltb k 64 high)
+
+        there : (k mate : ℕ) → k < 64 → far_end k mate ≡ path_end t mate (joined_class a b)
+        there k mate low = ap (λ (t' : Bool). cond t' (path_end t mate (joined_class a b)) (path_end t 0 0)) (lt-ltb k 64 low)

@@ -1,10 +1,9 @@
 -- What becomes of the ends of paths.
-use Rattle.std.specs.Prelude.{◌≡◌, ◌≢◌, ◌⊎◌, ℕ, ◌+◌, ◌*◌, ◌/◌, ◌≤◌, IsTrue}
-use Rattle.dd_model.specs.declared.index.Index.{Index}
+use Rattle.std.specs.Prelude.{◌≡◌, ◌≢◌, ◌⊎◌, ◌↔◌, ℕ, ◌+◌, ◌*◌, ◌/◌, ◌%◌, ◌≤◌, IsTrue}
 use Rattle.dd_model.specs.declared.pair.Pair.{Pair}
 use Rattle.dd_model.specs.declared.requests.Request.{Request}
-use Rattle.dd_model.specs.Symbol.{Symbol, first, second, op}
-use Rattle.dd_ends.specs.Ends.{IsInside}
+use Rattle.dd_model.specs.Symbol.{Symbol}
+use Rattle.dd_ends.specs.Ends.{IsInside, led}
 use Rattle.dd_ends.specs.PathEnd.{PathEnd}
 use Rattle.dd_shares.specs.Shares.{IsAllowed}
 use Rattle.dd_shares.specs.Units.{share_unit}
@@ -28,9 +27,8 @@ pub record IsLink (C : Symbol → Type 0) (p : Pair) (ends : ℕ → PathEnd) (x
   pub second_end : 1 ≤ (ends y).chambers
   pub apart : y ≢ x
   pub no_other : y ≢ (ends x).other
-  pub letter : Index
-  pub of_pair : (letter ≡ first p) ⊎ (letter ≡ second p)
-  pub leads : (s : Symbol) → C s → op s letter (x / 2) ≡ y / 2
+  pub side : (s : Symbol) → C s → y % 2 ≡ x % 2
+  pub leads : (s : Symbol) → C s → led s p x ≡ y / 2
 
 -- k is at most half of the number of chambers of two paths, or all of it where an involution fixes one of them: a cell with these
 -- chambers has no smaller degree
@@ -44,13 +42,13 @@ pub record IsJoined (old : ℕ → PathEnd) (x y v mate : ℕ) (e : PathEnd) : T
   pub chambers : e.chambers ≡ (old x).chambers + (old y).chambers
   pub share : e.share ≡ v
   pub other : e.other ≡ mate
-  pub capped : IsTrue e.is_capped → IsTrue (old x).is_capped ⊎ IsTrue (old y).is_capped
+  pub capped : IsTrue e.is_capped ↔ (IsTrue (old x).is_capped ⊎ IsTrue (old y).is_capped)
 
--- the ends after two paths were joined
+-- the ends after two paths were joined: the other end of a path is one unless an involution fixes it
 abbrev pub AreJoined : (old new : ℕ → PathEnd) (x y v : ℕ) → Type 0
 AreJoined old new x y v = (z : ℕ) → 1 ≤ (new z).chambers
-    → ((z ≡ (old x).other) × IsJoined old x y v (old y).other (new z))
-    ⊎ (((z ≡ (old y).other) × IsJoined old x y v (old x).other (new z))
+    → ((z ≡ (old x).other) × ((IsTrue (old x).is_capped → ⊥) × IsJoined old x y v (old y).other (new z)))
+    ⊎ (((z ≡ (old y).other) × ((IsTrue (old y).is_capped → ⊥) × IsJoined old x y v (old x).other (new z)))
     ⊎ (IsElsewhere old new x z × IsElsewhere old new y z))
 
 -- ## A path that ends at a fixed chamber, or is closed
@@ -58,15 +56,14 @@ AreJoined old new x y v = (z : ℕ) → 1 ≤ (new z).chambers
 -- in all of some tables an involution of the pair fixes the end of a path
 pub record IsFixedEnd (C : Symbol → Type 0) (p : Pair) (ends : ℕ → PathEnd) (x : ℕ) : Type 0 where
   pub is_end : 1 ≤ (ends x).chambers
-  pub letter : Index
-  pub of_pair : (letter ≡ first p) ⊎ (letter ≡ second p)
-  pub fixed : (s : Symbol) → C s → op s letter (x / 2) ≡ x / 2
+  pub fixed : (s : Symbol) → C s → led s p x ≡ x / 2
 
--- what stands at the other end of a path with another share, whether it is told to be capped or not
+-- what stands at the other end of a path with a fixed end
 pub record IsRenewed (old : ℕ → PathEnd) (x v : ℕ) (e : PathEnd) : Type 0 where
   pub chambers : e.chambers ≡ (old x).chambers
   pub share : e.share ≡ v
   pub other : e.other ≡ x
+  pub capped : IsTrue e.is_capped
 
 -- the ends after one of them was fixed
 abbrev pub AreFixed : (old new : ℕ → PathEnd) (x v : ℕ) → Type 0

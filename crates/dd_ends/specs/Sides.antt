@@ -1,10 +1,10 @@
 -- The ends of the paths of a pair as they are kept.
-use Rattle.std.specs.Prelude.{◌≡◌, ℕ, ◌⊎◌, ◌*◌, ◌/◌, ◌%◌, ◌≤◌, Bool, true, leb, get_or, slice_get}
+use Rattle.std.specs.Prelude.{◌≡◌, ℕ, ◌*◌, ◌/◌, ◌%◌, ◌≤◌, Bool, true, leb, get_or, slice_get}
 use Rattle.std.specs.declared.option.Option.{Option}
 use Rattle.std.specs.declared.option.Option.TheVariants.{None, Some}
-use Rattle.dd_model.specs.declared.index.Index.{Index}
 use Rattle.dd_model.specs.declared.pair.Pair.{Pair}
-use Rattle.dd_model.specs.Symbol.{Symbol, first, second, op}
+use Rattle.dd_model.specs.Symbol.{Symbol}
+use Rattle.dd_ends.specs.Ends.{led}
 use Rattle.dd_ends.specs.Passing.{AreEndsOf}
 use Rattle.dd_ends.specs.PathEnd.{PathEnd}
 use Rattle.dd_ends.specs.declared.class_shares.ClassShares.{ClassShares}
@@ -47,8 +47,7 @@ pub record IsSumOf (t : ClassShares) (partial : Symbol) (test : Symbol → Bool)
   pub ends : ℕ → PathEnd
   pub are : AreEndsOf t.request partial test t.pair ends total
 
--- In all of some tables an involution of the pair leads from the chamber of a flag to that of another.
+-- In all of some tables a flag leads to the chamber of another one, which is of the same involution.
 pub record IsJoin (C : Symbol → Type 0) (p : Pair) (x y : ℕ) : Type 0 where
-  pub letter : Index
-  pub of_pair : (letter ≡ first p) ⊎ (letter ≡ second p)
-  pub leads : (s : Symbol) → C s → op s letter (x / 2) ≡ y / 2
+  pub side : (s : Symbol) → C s → y % 2 ≡ x % 2
+  pub leads : (s : Symbol) → C s → led s p x ≡ y / 2

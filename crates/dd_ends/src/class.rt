@@ -1,5 +1,5 @@
-ghost use Rattle.std.specs.Prelude.{◌≡◌, ◌+◌, ◌%◌, ◌≤◌, ◌<◌, ◌↔◌, IsTrue};
-ghost use Rattle.dd_ends.specs.Classes.{joined_class};
+ghost use Rattle.std.specs.Prelude.{◌≡◌, ◌+◌, ◌%◌, ◌≤◌, ◌<◌, ◌↔◌, ℕ, IsTrue};
+ghost use Rattle.dd_ends.specs.Classes.{joined_class, AreClosedTurns};
 
 /// What is known of a path in one number: how many chambers it has, and 64 more where an involution
 /// is known to fix one of them; 0 where there is no path.
@@ -38,6 +38,23 @@ impl Class {
         ensures inside { result < 128 }
     {
         usize::from(self.number)
+    }
+
+    /// The turns of a cell that has these chambers and no others: as many where an involution fixes
+    /// one of them, and else half as many.
+    pub(crate) fn closed_turns(self) -> u8
+        ensures turns { (turns : ℕ) → 1 ≤ turns → turns ≤ 36
+            → AreClosedTurns self.number turns → result ≡ turns }
+        ensures some { 1 ≤ result }
+        ensures small { result ≤ 36 }
+    {
+        let chambers = self.chambers();
+        let turns = if self.is_capped() {
+            chambers
+        } else {
+            chambers / 2
+        };
+        turns.clamp(1, 36)
     }
 
     /// The class of two paths in one.

@@ -1,6 +1,7 @@
-ghost use Rattle.std.specs.Prelude.{◌≡◌, ◌%◌, ◌*◌, ◌≤◌, ◌<◌, get_or};
+ghost use Rattle.std.specs.Prelude.{◌≡◌, ◌+◌, ◌%◌, ◌*◌, ◌≤◌, ◌<◌, get_or};
 ghost use Rattle.dd_ends.specs.Changes.{IsShareFrom};
 ghost use Rattle.dd_ends.specs.Classes.{turns_of, AreOpenShares, AreWholeShares};
+ghost use Rattle.dd_ends.specs.Classes.{IsClosedShare, IsCappedShare, IsJoinedShare};
 
 use crate::class::Class;
 use dd_model::{Pair, Request};
@@ -75,5 +76,36 @@ impl ClassShares {
         ensures { result ≡ get_or self.now.whole turns 0 }
     {
         self.whole[usize::from(turns)]
+    }
+
+    /// The share of each chamber of a path without ends: it is a whole cell.
+    pub(crate) fn closed(&self, class: Class) -> u64
+        ensures { IsClosedShare self.now.request self.now.pair class.number result }
+    {
+        self.whole(class.closed_turns())
+    }
+
+    /// The share of each chamber of a path of the class after an involution has fixed its end.
+    pub(crate) fn capped(&self, class: Class) -> u64
+        ensures { IsCappedShare self.now.request self.now.pair self.now.open_paths
+            class.number result }
+    {
+        if class.is_capped() {
+            return self.closed(class);
+        }
+        self.share(class.capped())
+    }
+
+    /// The share of each chamber of two paths after an involution has joined their ends.
+    pub(crate) fn joined(&self, one: Class, other: Class) -> u64
+        requires few { one.number % 64 + other.number % 64 < 64 }
+        ensures { IsJoinedShare self.now.request self.now.pair self.now.open_paths
+            one.number other.number result }
+    {
+        let class = one.joined(other);
+        if one.is_capped() && other.is_capped() {
+            return self.closed(class);
+        }
+        self.share(class)
     }
 }

@@ -1,17 +1,27 @@
-use crate::class::Class;
-use dd_shares::SHARE_UNIT;
+ghost use Rattle.dd_invol.specs.Rows.{IsReady};
 
-/// The whole cells of a pair, their chambers, what they add at most, the paths with one fixed end, and
-/// after which numbers of chambers a census has to look, as bits: at the least chambers of whole
-/// cells, and at those that an involution fixes. They only tell when a census is worth its time and
-/// where it has to look, and no clause reads them.
+use crate::class::Class;
+use dd_invol::Rows;
+use dd_model::Pair;
+use dd_shares::{SHARE_UNIT, WholeCell};
+
+/// The whole cells of a pair, their chambers, what they add at most, the paths with one fixed end, the
+/// chambers that an involution is known to fix, and a chamber of each whole cell. Of these chambers it
+/// is told how many come before them, as bits. All this only tells when a census is worth its time
+/// and where it has to look, and no clause reads it.
 #[derive(Clone, Copy, Drop)]
 pub(crate) struct Counts {
     cells: u32,
     chambers: u32,
     most: u64,
     fixed_ends: u32,
-    marked: u64,
+    fixed: u64,
+    closed: u64,
+}
+
+/// How many chambers come before one, as a bit.
+fn bit(chamber: u8) -> u64 {
+    1 << (chamber.wrapping_sub(1) % 64)
 }
 
 impl Counts {
@@ -22,38 +32,52 @@ impl Counts {
             chambers: 0,
             most: 0,
             fixed_ends: 0,
-            marked: 0,
+            fixed: 0,
+            closed: 0,
         }
     }
 
     /// For each chamber at which a census has to look, how many come before it, as bits.
-    pub(crate) fn marked(&self) -> u64 {
-        self.marked
-    }
-
-    /// Lets a census look at a chamber.
-    pub(crate) fn mark(&mut self, chamber: u8) {
-        self.marked |= 1 << (chamber.wrapping_sub(1) % 64);
-    }
-
-    /// After the end of a path was fixed.
-    pub(crate) fn cap(&mut self) {
-        self.fixed_ends = self.fixed_ends.wrapping_add(1);
-    }
-
-    /// After the ends of two paths were joined.
-    pub(crate) fn connect(&mut self, one: Class, other: Class) {
-        if one.is_capped() && other.is_capped() {
-            self.fixed_ends = self.fixed_ends.wrapping_sub(1);
+    pub(crate) fn marked(&self, table: &Rows, pair: Pair) -> u64
+        requires { IsReady table.now }
+    {
+        let mut marked = self.fixed;
+        let mut closed = self.closed;
+        while closed != 0 {
+            let k = closed.trailing_zeros() as u8;
+            closed &= closed - 1;
+            if k < table.size() {
+                if let Some(cell) = WholeCell::from(table, pair, k + 1, 1) {
+                    marked |= bit(cell.least);
+                }
+            }
         }
+        marked
     }
 
-    /// After a path became whole, of which each chamber has a share.
-    pub(crate) fn close(&mut self, class: Class, share: u64) {
+    /// After a chamber at the end of a path was fixed.
+    pub(crate) fn cap(&mut self, class: Class, chamber: u8, share: u64) {
+        self.fixed |= bit(chamber);
         if class.is_capped() {
             self.fixed_ends = self.fixed_ends.wrapping_sub(1);
+            self.close(class.chambers(), chamber, share);
+        } else {
+            self.fixed_ends = self.fixed_ends.wrapping_add(1);
         }
-        let chambers = class.chambers();
+    }
+
+    /// After the ends of two paths were joined at a chamber.
+    pub(crate) fn connect(&mut self, one: Class, other: Class, chamber: u8, share: u64) {
+        if one.is_capped() && other.is_capped() {
+            self.fixed_ends = self.fixed_ends.wrapping_sub(2);
+            let chambers = one.chambers().wrapping_add(other.chambers());
+            self.close(chambers, chamber, share);
+        }
+    }
+
+    /// After a path with so many chambers, each with a share, became whole at one of them.
+    pub(crate) fn close(&mut self, chambers: u8, chamber: u8, share: u64) {
+        self.closed |= bit(chamber);
         self.cells = self.cells.wrapping_add(1);
         self.chambers = self.chambers.wrapping_add(u32::from(chambers));
         self.most = self

@@ -1,4 +1,4 @@
-ghost use Rattle.std.specs.Prelude.{◌≡◌, ◌<◌};
+ghost use Rattle.std.specs.Prelude.{◌≡◌, ◌≤◌, ◌<◌};
 
 use crate::class::Class;
 
@@ -18,6 +18,23 @@ impl End {
         End {
             other: 0,
             class: Class::of(0),
+        }
+    }
+
+    /// What stands at the other end of a path that goes on to a further end at this one, or is fixed
+    /// there: nothing where an involution fixes that other end, too.
+    pub(crate) fn beyond(self, further: u8, class: Class) -> End
+        requires { further < 74 }
+        ensures fixed { 64 ≤ self.class.number → result.class.number ≡ 0 }
+        ensures other { self.class.number < 64 → result.other ≡ further }
+        ensures class { self.class.number < 64 → result.class.number ≡ class.number }
+    {
+        if self.class.is_capped() {
+            return End::none();
+        }
+        End {
+            other: further,
+            class,
         }
     }
 }

@@ -154,7 +154,8 @@ impl Side {
         if limit == 0 || limit > 36 {
             return Some(self.total);
         }
-        let census = Census::of(shares, table, self.counts.marked(), limit);
+        let marked = self.counts.marked(table, shares.pair);
+        let census = Census::of(shares, table, marked, limit);
         let Some(bound) = census.bound(limit, table.size()) else {
             return None;
         };

@@ -81,7 +81,7 @@ impl Shares {
     {
         for place in table.filled(mark) {
             let link = Link::told(*place, table.number_at(*place));
-            if !self.sides.join(&self.classes, table, &link) {
+            if !self.sides.join(&self.classes, &link) {
                 return true;
             }
         }

@@ -2,7 +2,7 @@ ghost use Rattle.std.specs.Prelude.{◌≡◌, ◌≢◌, ◌⊎◌, ℕ, ◌+�
 ghost use Rattle.dd_model.specs.Symbol.{Symbol as Tiling};
 ghost use Rattle.dd_model.specs.declared.pair.Pair.TheVariants.{Tile, Vertex};
 ghost use Rattle.dd_invol.specs.Rows.{partial_of, IsReady};
-ghost use Rattle.dd_shares.specs.Shares.{IsSought};
+ghost use Rattle.dd_shares.specs.Shares.{IsShare, IsSought};
 ghost use Rattle.dd_shares.specs.Units.{share_unit};
 ghost use Rattle.dd_ends.specs.Classes.{joined_class};
 ghost use Rattle.dd_ends.specs.Passing.{Passes};
@@ -12,8 +12,6 @@ use crate::class::Class;
 use crate::class_shares::ClassShares;
 use crate::counts::Counts;
 use crate::end::End;
-use dd_invol::Rows;
-use dd_shares::WholeCell;
 
 /// The paths of a pair in a table that a search fills, told at their ends, and the sum of the
 /// shares of all chambers. A flag is twice a chamber, and 1 more for the second involution of the
@@ -57,33 +55,20 @@ impl Side {
         self.ends[usize::from(flag)]
     }
 
-    /// The total where an involution fixes the end of a path.
-    fn total_capped(&self, shares: &ClassShares, class: Class) -> u64
-        requires small { self.now.total ≤ 36 * share_unit }
-        requires within { class_weight shares.now class.number ≤ self.now.total }
-        ensures { result + class_weight shares.now class.number
-            ≡ self.now.total + class_weight shares.now (64 + class.number % 64) }
+    /// The total where paths that had so much have become one, whose chambers have a share.
+    fn total_after(&self, had: u64, chambers: u8, share: u64) -> u64
+        requires total { self.now.total ≤ 36 * share_unit }
+        requires had { had ≤ self.now.total }
+        requires few { chambers < 64 }
+        requires small { share ≤ share_unit }
+        ensures { result + had ≡ self.now.total + chambers * share }
     {
-        self.total - shares.weight(class) + shares.weight(class.capped())
+        self.total - had + u64::from(chambers) * share
     }
 
-    /// The total where the ends of two paths are joined.
-    fn total_joined(&self, shares: &ClassShares, one: Class, other: Class) -> u64
-        requires small { self.now.total ≤ 36 * share_unit }
-        requires within { class_weight shares.now one.number + class_weight shares.now other.number
-            ≤ self.now.total }
-        requires few { one.number % 64 + other.number % 64 < 64 }
-        ensures { let weight = class_weight shares.now in
-            result + (weight one.number + weight other.number)
-            ≡ self.now.total + weight (joined_class one.number other.number) }
-    {
-        let left = self.total - shares.weight(one) - shares.weight(other);
-        left + shares.weight(one.joined(other))
-    }
-
-    /// The total where two flags are joined, as far as it is told without a walk: where that closes
-    /// a path, the total that there is.
+    /// The total where two flags are joined.
     pub(crate) fn total_with(&self, shares: &ClassShares, x: u8, y: u8) -> u64
+        requires pair { (shares.now.pair ≡ Tile) ⊎ (shares.now.pair ≡ Vertex) }
         requires first { x < 74 }
         requires second { y < 74 }
         requires some { IsSideOfSome shares.now self.now }
@@ -92,43 +77,54 @@ impl Side {
             → IsSumOf shares.now partial test result }
         ensures small { result ≤ 36 * share_unit }
     {
-        let one = self.end(x);
-        if one.class.chambers() == 0 {
+        let end = self.end(x);
+        let one = end.class;
+        if one.chambers() == 0 {
             return self.total;
         }
-        if one.other == y {
-            return self.total;
-        }
+        let had = shares.weight(one);
         if x == y {
-            return self.total_capped(shares, one.class);
+            return self.total_after(had, one.chambers(), shares.capped(one));
         }
-        let other = self.end(y);
-        if other.class.chambers() == 0 {
+        if end.other == y {
+            return self.total_after(had, one.chambers(), shares.closed(one));
+        }
+        let other = self.end(y).class;
+        if other.chambers() == 0 {
             return self.total;
         }
-        self.total_joined(shares, one.class, other.class)
+        let chambers = one.chambers() + other.chambers();
+        let share = shares.joined(one, other);
+        self.total_after(had + shares.weight(other), chambers, share)
     }
 
-    /// Fixes the end of a path.
-    fn cap(&mut self, shares: &ClassShares, x: u8)
+    /// Fixes the end of a path, which closes it where the other one is fixed. Tells the share of its
+    /// chambers.
+    fn cap(&mut self, shares: &ClassShares, x: u8) -> u64
+        requires pair { (shares.now.pair ≡ Tile) ⊎ (shares.now.pair ≡ Vertex) }
         requires flag { x < 74 }
         requires some { IsSideOfSome shares.now self.old }
         requires live { 1 ≤ (ends_of shares.now self.old x).chambers }
-        ensures { (partial : Tiling) → IsJoin (Passes partial (λ _. true)) shares.now.pair x x
+        ensures side { (partial : Tiling) → IsJoin (Passes partial (λ _. true)) shares.now.pair x x
             → IsSide shares.now partial self.old → IsSide shares.now partial self.new }
+        ensures share { (partial : Tiling) → IsJoin (Passes partial (λ _. true)) shares.now.pair x x
+            → IsSide shares.now partial self.old
+            → IsShare shares.now.request partial shares.now.pair share_unit (x / 2) result }
     {
         let end = self.end(x);
-        self.total = self.total_capped(shares, end.class);
+        let class = end.class;
+        let share = shares.capped(class);
+        self.total = self.total_after(shares.weight(class), class.chambers(), share);
         self.ends[usize::from(x)] = End::none();
-        self.ends[usize::from(end.other)] = End {
-            other: x,
-            class: end.class.capped(),
-        };
-        self.counts.cap();
+        self.ends[usize::from(end.other)] = end.beyond(x, class.capped());
+        self.counts.cap(class, x / 2, share);
+        share
     }
 
-    /// Joins the ends of two paths.
-    fn connect(&mut self, shares: &ClassShares, x: u8, y: u8)
+    /// Joins the ends of two paths, which closes them where the other ends are fixed. Tells the share
+    /// of their chambers.
+    fn connect(&mut self, shares: &ClassShares, x: u8, y: u8) -> u64
+        requires pair { (shares.now.pair ≡ Tile) ⊎ (shares.now.pair ≡ Vertex) }
         requires first { x < 74 }
         requires second { y < 74 }
         requires some { IsSideOfSome shares.now self.old }
@@ -138,88 +134,75 @@ impl Side {
         requires no_other { y ≢ (ends_of shares.now self.old x).other }
         ensures side { (partial : Tiling) → IsJoin (Passes partial (λ _. true)) shares.now.pair x y
             → IsSide shares.now partial self.old → IsSide shares.now partial self.new }
-        ensures live { 1 ≤ (ends_of shares.now self.new
-            (ends_of shares.now self.old x).other).chambers }
+        ensures share { (partial : Tiling) → IsJoin (Passes partial (λ _. true)) shares.now.pair x y
+            → IsSide shares.now partial self.old
+            → IsShare shares.now.request partial shares.now.pair share_unit (x / 2) result }
     {
         let one = self.end(x);
         let other = self.end(y);
         let class = one.class.joined(other.class);
-        self.total = self.total_joined(shares, one.class, other.class);
+        let share = shares.joined(one.class, other.class);
+        let had = shares.weight(one.class) + shares.weight(other.class);
+        self.total = self.total_after(had, class.chambers(), share);
         self.ends[usize::from(x)] = End::none();
         self.ends[usize::from(y)] = End::none();
-        self.ends[usize::from(one.other)] = End {
-            other: other.other,
-            class,
-        };
-        self.ends[usize::from(other.other)] = End {
-            other: one.other,
-            class,
-        };
-        self.counts.connect(one.class, other.class);
+        self.ends[usize::from(one.other)] = one.beyond(other.other, class);
+        self.ends[usize::from(other.other)] = other.beyond(one.other, class);
+        self.counts.connect(one.class, other.class, x / 2, share);
+        share
     }
 
-    /// Gives the chambers of a path that has become whole the share of its cell. False where the
-    /// request allows the cell no degree.
-    fn close(&mut self, shares: &ClassShares, table: &Rows, x: u8) -> bool
-        requires ready { IsReady table.now }
+    /// Joins the two ends of a path, which closes it. Tells the share of its chambers.
+    fn close(&mut self, shares: &ClassShares, x: u8, mate: u8) -> u64
         requires pair { (shares.now.pair ≡ Tile) ⊎ (shares.now.pair ≡ Vertex) }
-        requires flag { x < 74 }
-        requires side { IsSide shares.now (partial_of table.now) self.old }
+        requires first { x < 74 }
+        requires second { mate < 74 }
+        requires some { IsSideOfSome shares.now self.old }
         requires live { 1 ≤ (ends_of shares.now self.old x).chambers }
-        ensures side { IsSide shares.now (partial_of table.now) self.new }
-        ensures dead { IsFalse result → (s : Tiling)
-            → ¬ IsSought shares.now.request (partial_of table.now) s }
+        requires apart { mate ≢ x }
+        requires other { mate ≡ (ends_of shares.now self.old x).other }
+        ensures side { (partial : Tiling) → IsJoin (Passes partial (λ _. true)) shares.now.pair x mate
+            → IsSide shares.now partial self.old → IsSide shares.now partial self.new }
+        ensures share { (partial : Tiling) → IsJoin (Passes partial (λ _. true)) shares.now.pair x mate
+            → IsSide shares.now partial self.old
+            → IsShare shares.now.request partial shares.now.pair share_unit (x / 2) result }
     {
-        let end = self.end(x);
-        let Some(cell) = WholeCell::from(table, shares.pair, x / 2, 1) else {
-            return true;
-        };
-        let share = shares.whole(cell.turns);
-        self.total -= shares.weight(end.class);
-        self.total += u64::from(end.class.chambers()) * share;
+        let class = self.end(x).class;
+        let share = shares.closed(class);
+        self.total = self.total_after(shares.weight(class), class.chambers(), share);
         self.ends[usize::from(x)] = End::none();
-        self.ends[usize::from(end.other)] = End::none();
-        self.counts.mark(cell.least);
-        self.counts.close(end.class, share);
-        share != 0
+        self.ends[usize::from(mate)] = End::none();
+        self.counts.close(class.chambers(), x / 2, share);
+        share
     }
 
-    /// Joins two flags of which the table knows that one is led to the other. False where no wanted
-    /// symbol completes the table.
-    pub(crate) fn join(&mut self, shares: &ClassShares, table: &Rows, x: u8, y: u8) -> bool
-        requires ready { IsReady table.now }
+    /// Joins two flags of which one is led to the other. False where no wanted symbol completes the
+    /// table, since the request allows their cell no degree.
+    pub(crate) fn join(&mut self, shares: &ClassShares, x: u8, y: u8) -> bool
         requires pair { (shares.now.pair ≡ Tile) ⊎ (shares.now.pair ≡ Vertex) }
         requires first { x < 74 }
         requires second { y < 74 }
-        requires join { IsJoin (Passes (partial_of table.now) (λ _. true)) shares.now.pair x y }
-        requires side { IsSide shares.now (partial_of table.now) self.old }
-        ensures side { IsSide shares.now (partial_of table.now) self.new }
-        ensures dead { IsFalse result → (s : Tiling)
-            → ¬ IsSought shares.now.request (partial_of table.now) s }
+        requires some { IsSideOfSome shares.now self.old }
+        ensures side { (partial : Tiling) → IsJoin (Passes partial (λ _. true)) shares.now.pair x y
+            → IsSide shares.now partial self.old → IsSide shares.now partial self.new }
+        ensures dead { IsFalse result → (partial : Tiling)
+            → IsJoin (Passes partial (λ _. true)) shares.now.pair x y
+            → IsSide shares.now partial self.old → (s : Tiling)
+            → ¬ IsSought shares.now.request partial s }
     {
         let one = self.end(x);
         if one.class.chambers() == 0 {
             return true;
         }
         if x == y {
-            self.counts.mark(x / 2);
-            if one.class.is_capped() {
-                return self.close(shares, table, x);
-            }
-            self.cap(shares, x);
-            return true;
+            return self.cap(shares, x) != 0;
         }
         if one.other == y {
-            return self.close(shares, table, x);
+            return self.close(shares, x, y) != 0;
         }
-        let other = self.end(y);
-        if other.class.chambers() == 0 {
+        if self.end(y).class.chambers() == 0 {
             return true;
         }
-        self.connect(shares, x, y);
-        if one.class.is_capped() && other.class.is_capped() {
-            return self.close(shares, table, one.other);
-        }
-        true
+        self.connect(shares, x, y) != 0
     }
 }

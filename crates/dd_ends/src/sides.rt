@@ -1,7 +1,6 @@
 ghost use Rattle.std.specs.Prelude.{◌≡◌, ◌*◌, ◌≤◌, Bool, IsFalse};
 ghost use Rattle.dd_model.specs.Partial.{Completes};
 ghost use Rattle.dd_model.specs.Symbol.{Symbol as Tiling};
-ghost use Rattle.dd_invol.specs.Rows.{partial_of, IsReady};
 ghost use Rattle.dd_shares.specs.Shares.{IsSought};
 ghost use Rattle.dd_shares.specs.Units.{share_unit};
 ghost use Rattle.dd_ends.specs.Kept.{AreSides, AreSidesOfSome, IsImage};
@@ -11,7 +10,6 @@ ghost use Rattle.dd_ends.specs.Sides.{IsSumOf};
 use crate::link::Link;
 use crate::path_shares::PathShares;
 use crate::side::Side;
-use dd_invol::Rows;
 use dd_model::Index;
 
 /// The paths of both pairs of a table that a search fills. They are copied before the search puts a
@@ -23,7 +21,7 @@ pub struct Sides {
 }
 
 impl Sides {
-    /// The totals where an image becomes known, as far as they are told without a walk.
+    /// The totals where an image becomes known.
     pub(crate) fn totals_with(&self, classes: &PathShares, link: &Link) -> (u64, u64)
         requires some { AreSidesOfSome classes.now self.now }
         ensures tiles { (partial : Tiling) (test : Tiling → Bool)
@@ -55,27 +53,27 @@ impl Sides {
         }
     }
 
-    /// Joins the paths between which an image of the table leads. False where it is sure that no
-    /// wanted symbol completes the table.
-    pub(crate) fn join(&mut self, classes: &PathShares, table: &Rows, link: &Link) -> bool
-        requires ready { IsReady table.now }
-        requires image { IsImage (Completes (partial_of table.now)) link.now }
-        requires kept { AreSides classes.now (partial_of table.now) self.old }
-        ensures kept { AreSides classes.now (partial_of table.now) self.new }
-        ensures dead { IsFalse result → (s : Tiling)
-            → ¬ IsSought classes.now.request (partial_of table.now) s }
+    /// Joins the paths between which an image leads. False where it is sure that no wanted symbol
+    /// completes a table with that image.
+    pub(crate) fn join(&mut self, classes: &PathShares, link: &Link) -> bool
+        requires some { AreSidesOfSome classes.now self.old }
+        ensures kept { (partial : Tiling) → IsImage (Completes partial) link.now
+            → AreSides classes.now partial self.old → AreSides classes.now partial self.new }
+        ensures dead { IsFalse result → (partial : Tiling) → IsImage (Completes partial) link.now
+            → AreSides classes.now partial self.old → (s : Tiling)
+            → ¬ IsSought classes.now.request partial s }
     {
         let first = link.flags(0);
         let second = link.flags(1);
         let tiles = &mut self.tiles;
         let vertices = &mut self.vertices;
         match link.index {
-            Index::Zero => tiles.join(&classes.tiles, table, first.0, first.1),
+            Index::Zero => tiles.join(&classes.tiles, first.0, first.1),
             Index::One => {
-                tiles.join(&classes.tiles, table, second.0, second.1)
-                    && vertices.join(&classes.vertices, table, first.0, first.1)
+                tiles.join(&classes.tiles, second.0, second.1)
+                    && vertices.join(&classes.vertices, first.0, first.1)
             }
-            Index::Two => vertices.join(&classes.vertices, table, second.0, second.1),
+            Index::Two => vertices.join(&classes.vertices, second.0, second.1),
         }
     }
 }

@@ -1,15 +1,31 @@
-use Rattle.std.proofs.Common.{◌%◌, get_or, sym, ap, ◌∙◌}
-use Rattle.dd_model.specs.Symbol.{op}
-use Rattle.dd_invol.specs.Places.{index_at}
-use Rattle.dd_ends.proofs.FilledLemmas.{filled_number}
+use Rattle.std.proofs.Common.{subst}
+use Rattle.dd_invol.specs.Rows.{partial_of}
+use Rattle.dd_shares.specs.Shares.{IsSought}
+use Rattle.dd_ends.specs.declared.path_shares.PathShares.{PathShares}
+use Rattle.dd_ends.proofs.FilledLemmas.{filled_image}
 use Rattle.dd_ends.proofs.shares.Shares.learn.Goals as goal
 
-pub join-requires-clause-image : goal.join-requires-clause-image
-join-requires-clause-image c s full =
-    let places = c.filled-place-items.result.now in
-    let k = c.loop-place.place-index in
-    let place = get_or places k 0 in
-    let link = c.told-link.result in
-    let told = c.told-link.ensures in
-    ap (λ i. op s i link.chamber) told.index ∙ ap (op s (index_at (place % 3))) told.chamber
-    ∙ filled_number c.args.table.now c.requires.ready c.args.mark k c.number_at.result places c.filled-place-items.ensures.places c.loop-place-test.true c.number_at.ensures.number s full ∙ sym told.image
+pub loop-place-preserved : goal.loop-place-preserved
+loop-place-preserved c =
+    let before = c.loop-place.invariant in record {
+      kept = c.join.ensures.kept (partial_of c.args.table.now)
+          (filled_image c.args.table.now c.requires.ready c.args.mark c.loop-place.place-index c.number_at.result c.filled-place-items.result.now c.filled-place-items.ensures.places c.loop-place-test.true
+          c.number_at.ensures.number c.told-link.result c.told-link.ensures.index c.told-link.ensures.chamber c.told-link.ensures.image)
+          before.kept;
+      classes = before.classes;
+    }
+
+pub returns-then-not-join-clause-kept : goal.returns-then-not-join-clause-kept
+returns-then-not-join-clause-kept c =
+    c.join.ensures.kept (partial_of c.args.table.now)
+    (filled_image c.args.table.now c.requires.ready c.args.mark c.loop-place.place-index c.number_at.result c.filled-place-items.result.now c.filled-place-items.ensures.places c.loop-place-test.true
+    c.number_at.ensures.number c.told-link.result c.told-link.ensures.index c.told-link.ensures.chamber c.told-link.ensures.image)
+    c.loop-place.invariant.kept
+
+pub returns-then-not-join-clause-dead : goal.returns-then-not-join-clause-dead
+returns-then-not-join-clause-dead c _ s =
+    subst (λ (t : PathShares). IsSought t.request (partial_of c.args.table.now) s → ⊥) c.loop-place.invariant.classes
+    (c.join.ensures.dead c.if-not-join.true (partial_of c.args.table.now)
+    (filled_image c.args.table.now c.requires.ready c.args.mark c.loop-place.place-index c.number_at.result c.filled-place-items.result.now c.filled-place-items.ensures.places c.loop-place-test.true
+    c.number_at.ensures.number c.told-link.result c.told-link.ensures.index c.told-link.ensures.chamber c.told-link.ensures.image)
+    c.loop-place.invariant.kept s)

@@ -1,22 +1,42 @@
-use Rattle.std.proofs.Common.{rules, ◌≡◌, length, true, refl}
+use Rattle.std.proofs.Common.{rules, ◌≡◌, ◌*◌, ◌%◌, ◌≤◌, length, true, refl, sym, ap, ◌∙◌, subst, arith}
 use Rattle.dd_ends.proofs.KeptLemmas.{live_end, capped_kept}
-use Rattle.dd_ends.proofs.SumLemmas.{total_small, weight_within}
+use Rattle.dd_ends.proofs.SideLemmas.{right_capped}
+use Rattle.dd_ends.proofs.SumLemmas.{total_small, weight_within, few_in_path}
+use Rattle.dd_ends.proofs.WriteLemmas.{view}
 use Rattle.dd_ends.proofs.side.Side.cap.Goals as goal
 
-pub total_capped-self-requires-clause-small : goal.total_capped-self-requires-clause-small
-total_capped-self-requires-clause-small c = let has = c.requires.some in total_small c.args.shares.now has.partial c.args.self.now has.kept has.small
+pub total_after-self-requires-clause-total : goal.total_after-self-requires-clause-total
+total_after-self-requires-clause-total c = let has = c.requires.some in total_small c.args.shares.now has.partial c.args.self.now has.kept has.small
 
-pub total_capped-self-requires-clause-within : goal.total_capped-self-requires-clause-within
-total_capped-self-requires-clause-within c =
+pub total_after-self-requires-clause-had : goal.total_after-self-requires-clause-had
+total_after-self-requires-clause-had c =
     let has = c.requires.some in
     let t = c.args.shares.now in
-    weight_within t has.partial c.args.self.now has.kept (live_end t c.args.self.now.ends c.args.x c.end-end.result c.end-end.ensures c.requires.live)
+    subst (λ w. w ≤ c.args.self.now.total) (sym c.weight.ensures)
+    (weight_within t has.partial c.args.self.now has.kept (live_end t c.args.self.now.ends c.args.x c.end-end.result c.end-end.ensures c.requires.live))
 
-pub returns : goal.returns
-returns c P join kept =
+pub returns-clause-side : goal.returns-clause-side
+returns-clause-side c P join kept =
+    let has = c.requires.some in
     let t = c.args.shares.now in
     let xs = c.args.self.now.ends in
+    let v = c.capped-share.result in
     let long : length xs ≡ 74 = search rules in
-    capped_kept t P (λ _. true) xs c.args.self.now.total c.total_capped-self.result kept long c.args.x c.end-end.result c.requires.flag
-    (live_end t xs c.args.x c.end-end.result c.end-end.ensures c.requires.live)
-    c.from.result c.from-2.result c.none.result _ c.from.ensures c.from-2.ensures c.none.ensures refl c.capped.ensures join c.total_capped-self.ensures
+    let end = live_end t xs c.args.x c.end-end.result c.end-end.ensures c.requires.live in
+    let few = few_in_path t has.partial c.args.self.now has.kept end has.small in
+    let sum = c.total_after-self.ensures in
+    let had = c.weight.ensures in
+    let all : c.chambers.result * v ≡ c.end-end.result.class.number % 64 * v = ap (λ k. k * v) c.chambers.ensures in
+    capped_kept t c.requires.pair P (λ _. true) xs c.args.self.now.total c.total_after-self.result kept long c.args.x c.end-end.result c.requires.flag end few
+    v c.from.result c.from-2.result c.none.result c.beyond.result c.from.ensures c.from-2.ensures c.none.ensures
+    (record { fixed = c.beyond.ensures.fixed; other = c.beyond.ensures.other; class = λ low. c.beyond.ensures.class low ∙ c.capped.ensures })
+    join c.capped-share.ensures (omega (arith, sum, had, all))
+
+pub returns-clause-share : goal.returns-clause-share
+returns-clause-share c P join kept s sought =
+    let has = c.requires.some in
+    let t = c.args.shares.now in
+    let side = c.args.self.now in
+    let end = live_end t side.ends c.args.x c.end-end.result c.end-end.ensures c.requires.live in
+    right_capped t c.requires.pair P (λ _. true) (view t side.ends) side.total side.total kept end join c.capped-share.result c.capped-share.ensures
+    (few_in_path t has.partial side has.kept end has.small) s sought.wanted (record { completes = sought.completes; passed = refl })

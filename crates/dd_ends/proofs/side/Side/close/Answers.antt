@@ -1,49 +1,46 @@
-use Rattle.std.proofs.Common.{rules, ◌≡◌, ◌+◌, ◌-◌, ◌*◌, ◌/◌, ◌%◌, ◌≤◌, length, true, sym, ap, ◌∙◌, subst, arith}
-use Rattle.std.proofs.Math.Nat.{mul-le-mul}
-use Rattle.dd_invol.specs.Rows.{partial_of}
-use Rattle.dd_shares.specs.Units.{share_unit}
-use Rattle.dd_ends.proofs.CellLemmas.{cell_share, cell_share_small, cell_of_none}
+use Rattle.std.proofs.Common.{rules, ◌≡◌, ◌*◌, ◌%◌, ◌≤◌, length, true, refl, sym, ap, ◌∙◌, subst, arith}
+use Rattle.dd_ends.specs.PathEnd.{PathEnd}
+use Rattle.dd_ends.specs.Sides.{end_of}
 use Rattle.dd_ends.proofs.KeptLemmas.{live_end, closed_kept}
-use Rattle.dd_ends.proofs.SumLemmas.{total_small, weight_within}
+use Rattle.dd_ends.proofs.SideLemmas.{right_closed}
+use Rattle.dd_ends.proofs.SumLemmas.{total_small, weight_within, few_in_path}
+use Rattle.dd_ends.proofs.WriteLemmas.{view}
 use Rattle.dd_ends.proofs.side.Side.close.Goals as goal
 
-pub overflow_sub-self : goal.overflow_sub-self
-overflow_sub-self c =
+pub total_after-self-requires-clause-total : goal.total_after-self-requires-clause-total
+total_after-self-requires-clause-total c = let has = c.requires.some in total_small c.args.shares.now has.partial c.args.self.now has.kept has.small
+
+pub total_after-self-requires-clause-had : goal.total_after-self-requires-clause-had
+total_after-self-requires-clause-had c =
+    let has = c.requires.some in
     let t = c.args.shares.now in
     subst (λ w. w ≤ c.args.self.now.total) (sym c.weight.ensures)
-    (weight_within t (partial_of c.args.table.now) c.args.self.now c.requires.side (live_end t c.args.self.now.ends c.args.x c.end-end.result c.end-end.ensures c.requires.live))
-
-pub overflow_add-self : goal.overflow_add-self
-overflow_add-self c =
-    let t = c.args.shares.now in
-    let P = partial_of c.args.table.now in
-    let low = cell_share_small t P (c.args.x / 2) c.whole-share.result c.in-Some.cell c.in-Some.ensures c.whole-share.ensures in
-    let count = c.chambers.ensures in
-    let same = c.from-2.ensures in
-    let few : c.from-2.result ≤ 63 = omega (arith, count, same) in
-    let most : c.from-2.result * c.whole-share.result ≤ 63 * share_unit = mul-le-mul few low in
-    let total = total_small t P c.args.self.now c.requires.side c.requires.ready.small in
-    omega (arith, most, total)
+    (weight_within t has.partial c.args.self.now has.kept (live_end t c.args.self.now.ends c.args.x c.end.result c.end.ensures c.requires.live))
 
 pub returns-clause-side : goal.returns-clause-side
-returns-clause-side c =
+returns-clause-side c P join kept =
+    let has = c.requires.some in
     let t = c.args.shares.now in
-    let P = partial_of c.args.table.now in
     let xs = c.args.self.now.ends in
-    let v = c.whole-share.result in
+    let v = c.closed-share.result in
     let long : length xs ≡ 74 = search rules in
-    let end = live_end t xs c.args.x c.end-end.result c.end-end.ensures c.requires.live in
-    let inside = (c.requires.side.each c.args.x c.requires.live).inside in
-    let within = weight_within t P c.args.self.now c.requires.side end in
+    let end = live_end t xs c.args.x c.end.result c.end.ensures c.requires.live in
+    let few = few_in_path t has.partial c.args.self.now has.kept end has.small in
+    let other = c.requires.other ∙ ap (λ (e : PathEnd). e.other) (ap (end_of t) c.end.ensures) in
+    let sum = c.total_after-self.ensures in
     let had = c.weight.ensures in
-    let have : c.from-2.result * v ≡ c.end-end.result.class.number % 64 * v = ap (λ k. k * v) (c.from-2.ensures ∙ c.chambers.ensures) in
-    closed_kept t P (λ _. true) xs c.args.self.now.total (c.args.self.now.total - c.weight.result + c.from-2.result * v) c.requires.side long c.args.x c.end-end.result c.requires.flag end
-    v c.from-3.result c.from-4.result c.none.result c.none-2.result c.from-3.ensures c.from-4.ensures c.none.ensures c.none-2.ensures
-    (cell_share_small t P (c.args.x / 2) v c.in-Some.cell c.in-Some.ensures c.whole-share.ensures)
-    (λ s wanted is. cell_share t P (c.args.x / 2) v c.in-Some.cell c.in-Some.ensures c.whole-share.ensures c.requires.pair inside.0 inside.1 s (record { wanted = wanted; completes = is.completes }))
-    (omega (arith, within, had, have))
+    let all : c.chambers.result * v ≡ c.end.result.class.number % 64 * v = ap (λ k. k * v) c.chambers.ensures in
+    closed_kept t c.requires.pair P (λ _. true) xs c.args.self.now.total c.total_after-self.result kept long c.args.x c.end.result c.requires.first end few
+    c.args.mate v c.from.result c.from-2.result c.none.result c.none-2.result
+    (sym other) c.requires.apart c.from.ensures (c.from-2.ensures ∙ other) c.none.ensures c.none-2.ensures
+    join c.closed-share.ensures (omega (arith, sum, had, all))
 
-pub returns-clause-dead : goal.returns-clause-dead
-returns-clause-dead c zero_ s sought =
-    let inside = (c.requires.side.each c.args.x c.requires.live).inside in
-    cell_of_none c.args.shares.now (partial_of c.args.table.now) (c.args.x / 2) c.whole-share.result c.in-Some.cell c.in-Some.ensures c.whole-share.ensures c.requires.pair inside.0 inside.1 zero_ s sought
+pub returns-clause-share : goal.returns-clause-share
+returns-clause-share c P join kept s sought =
+    let has = c.requires.some in
+    let t = c.args.shares.now in
+    let side = c.args.self.now in
+    let end = live_end t side.ends c.args.x c.end.result c.end.ensures c.requires.live in
+    right_closed t c.requires.pair P (λ _. true) (view t side.ends) side.total side.total kept end c.args.mate join
+    (sym (c.requires.other ∙ ap (λ (e : PathEnd). e.other) (ap (end_of t) c.end.ensures))) c.requires.apart c.closed-share.result c.closed-share.ensures
+    (few_in_path t has.partial side has.kept end has.small) s sought.wanted (record { completes = sought.completes; passed = refl })

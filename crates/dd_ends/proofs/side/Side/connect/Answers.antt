@@ -1,12 +1,12 @@
-use Rattle.std.proofs.Common.{rules, ◌≡◌, ℕ, ◌%◌, ◌≤◌, List, Some, length, length-set, set, slice_get, true, refl, sym, ap, ◌∙◌, arith}
+use Rattle.std.proofs.Common.{rules, ◌≡◌, ℕ, ◌+◌, ◌*◌, ◌%◌, ◌≤◌, List, Some, length, slice_get, true, false, refl, sym, ap, ◌∙◌, arith}
 use Rattle.dd_ends.specs.PathEnd.{PathEnd}
 use Rattle.dd_ends.specs.Sides.{end_of}
 use Rattle.dd_ends.specs.declared.class_shares.ClassShares.{ClassShares}
 use Rattle.dd_ends.specs.declared.end.End.{End}
 use Rattle.dd_ends.proofs.ClassLemmas.{class_of_both}
-use Rattle.dd_ends.proofs.KeptLemmas.{live_end, connected_kept, written_live}
-use Rattle.dd_ends.proofs.SideLemmas.{AreTwoEnds}
-use Rattle.dd_ends.proofs.SumLemmas.{total_small, weights_within, few_chambers}
+use Rattle.dd_ends.proofs.KeptLemmas.{live_end, connected_kept}
+use Rattle.dd_ends.proofs.SideLemmas.{AreTwoEnds, right_connected, small_connected}
+use Rattle.dd_ends.proofs.SumLemmas.{total_small, weights_within, few_chambers, join_of_none, passing}
 use Rattle.dd_ends.proofs.WriteLemmas.{view}
 use Rattle.dd_ends.proofs.side.Side.connect.Goals as goal
 
@@ -25,26 +25,53 @@ joined-class-requires c =
     let t = c.args.shares.now in
     let r = c.requires in
     let two = two_live t c.args.self.now.ends c.args.x c.args.y c.end-one.result c.end-other.result c.end-one.ensures c.end-other.ensures r.first_end r.second_end r.apart r.no_other in
-    few_chambers t has.partial c.args.self.now has.kept two has.small
+    let few = few_chambers t has.partial c.args.self.now has.kept two has.small in
+    omega (arith, few)
 
-pub total_joined-self-requires-clause-small : goal.total_joined-self-requires-clause-small
-total_joined-self-requires-clause-small c = let has = c.requires.some in total_small c.args.shares.now has.partial c.args.self.now has.kept has.small
-
-pub total_joined-self-requires-clause-within : goal.total_joined-self-requires-clause-within
-total_joined-self-requires-clause-within c =
+pub joined-share-requires : goal.joined-share-requires
+joined-share-requires c =
     let has = c.requires.some in
     let t = c.args.shares.now in
     let r = c.requires in
     let two = two_live t c.args.self.now.ends c.args.x c.args.y c.end-one.result c.end-other.result c.end-one.ensures c.end-other.ensures r.first_end r.second_end r.apart r.no_other in
-    weights_within t has.partial c.args.self.now has.kept two
+    let few = few_chambers t has.partial c.args.self.now has.kept two has.small in
+    record { few = omega (arith, few) }
 
-pub total_joined-self-requires-clause-few : goal.total_joined-self-requires-clause-few
-total_joined-self-requires-clause-few c =
+pub overflow_add-had : goal.overflow_add-had
+overflow_add-had c =
     let has = c.requires.some in
     let t = c.args.shares.now in
     let r = c.requires in
     let two = two_live t c.args.self.now.ends c.args.x c.args.y c.end-one.result c.end-other.result c.end-one.ensures c.end-other.ensures r.first_end r.second_end r.apart r.no_other in
-    few_chambers t has.partial c.args.self.now has.kept two has.small
+    let within = weights_within t has.partial c.args.self.now has.kept two in
+    let total = total_small t has.partial c.args.self.now has.kept has.small in
+    let one = c.weight.ensures in
+    let other = c.weight-2.ensures in
+    omega (arith, within, total, one, other)
+
+pub total_after-self-requires-clause-total : goal.total_after-self-requires-clause-total
+total_after-self-requires-clause-total c = let has = c.requires.some in total_small c.args.shares.now has.partial c.args.self.now has.kept has.small
+
+pub total_after-self-requires-clause-had : goal.total_after-self-requires-clause-had
+total_after-self-requires-clause-had c =
+    let has = c.requires.some in
+    let t = c.args.shares.now in
+    let r = c.requires in
+    let two = two_live t c.args.self.now.ends c.args.x c.args.y c.end-one.result c.end-other.result c.end-one.ensures c.end-other.ensures r.first_end r.second_end r.apart r.no_other in
+    let within = weights_within t has.partial c.args.self.now has.kept two in
+    let one = c.weight.ensures in
+    let other = c.weight-2.ensures in
+    omega (arith, within, one, other)
+
+pub total_after-self-requires-clause-small : goal.total_after-self-requires-clause-small
+total_after-self-requires-clause-small c =
+    let has = c.requires.some in
+    let t = c.args.shares.now in
+    let r = c.requires in
+    let side = c.args.self.now in
+    let two = two_live t side.ends c.args.x c.args.y c.end-one.result c.end-other.result c.end-one.ensures c.end-other.ensures r.first_end r.second_end r.apart r.no_other in
+    small_connected t r.pair has.partial (λ _. false) (view t side.ends) side.total side.total (passing t has.partial side has.kept (λ _. false)) two
+    (few_chambers t has.partial side has.kept two has.small) (join_of_none has.partial t.pair c.args.x c.args.y) c.joined-share.result c.joined-share.ensures
 
 pub returns-clause-side : goal.returns-clause-side
 returns-clause-side c P join kept =
@@ -52,33 +79,31 @@ returns-clause-side c P join kept =
     let t = c.args.shares.now in
     let xs = c.args.self.now.ends in
     let r = c.requires in
-    let two = two_live t xs c.args.x c.args.y c.end-one.result c.end-other.result c.end-one.ensures c.end-other.ensures r.first_end r.second_end r.apart r.no_other in
-    let few = few_chambers t has.partial c.args.self.now has.kept two has.small in
-    let long : length xs ≡ 74 = search rules in
-    connected_kept t P (λ _. true) xs c.args.self.now.total c.total_joined-self.result kept long c.args.x c.end-one.result r.first c.args.y c.end-other.result two r.second few
-    c.from.result c.from-2.result c.from-3.result c.from-4.result c.none.result c.none-2.result _ _ c.from.ensures c.from-2.ensures c.from-3.ensures c.from-4.ensures c.none.ensures c.none-2.ensures
-    refl c.joined-class.ensures refl c.joined-class.ensures join c.total_joined-self.ensures
-
-pub returns-clause-live : goal.returns-clause-live
-returns-clause-live c =
-    let has = c.requires.some in
-    let t = c.args.shares.now in
-    let xs = c.args.self.now.ends in
     let one = c.end-one.result in
     let other = c.end-other.result in
-    let r = c.requires in
+    let v = c.joined-share.result in
     let two = two_live t xs c.args.x c.args.y one other c.end-one.ensures c.end-other.ensures r.first_end r.second_end r.apart r.no_other in
     let few = few_chambers t has.partial c.args.self.now has.kept two has.small in
-    let both = (class_of_both one.class.number other.class.number one.class.small other.class.small few).chambers in
-    let some = two.one.some in
-    let class = ap (λ n. n % 64) c.joined-class.ensures in
-    let ys = set (set xs c.from.result c.none.result) c.from-2.result c.none-2.result in
     let long : length xs ≡ 74 = search rules in
-    let first : length (set xs c.from.result c.none.result) ≡ length xs = length-set xs c.from.result c.none.result in
-    let second : length ys ≡ length (set xs c.from.result c.none.result) = length-set (set xs c.from.result c.none.result) c.from-2.result c.none-2.result in
-    let at = c.from-3.ensures in
-    let inside = one.other_inside in
-    let at_last = c.from-4.ensures in
-    let inside_last = other.other_inside in
-    written_live t ys c.from-3.result c.from-4.result _ _ _ (second ∙ first ∙ long) (omega (arith, at, inside)) (omega (arith, at_last, inside_last))
-    (ap (λ (e : PathEnd). e.other) (ap (end_of t) c.end-one.ensures) ∙ sym at) (omega (arith, both, class, some)) (omega (arith, both, class, some))
+    let class = c.joined-class.ensures in
+    let both = (class_of_both one.class.number other.class.number one.class.small other.class.small (omega (arith, few))).chambers in
+    let all : c.chambers.result * v ≡ (one.class.number % 64 + other.class.number % 64) * v = ap (λ k. k * v) (c.chambers.ensures ∙ ap (λ n. n % 64) class ∙ both) in
+    let sum = c.total_after-self.ensures in
+    let first = c.weight.ensures in
+    let second = c.weight-2.ensures in
+    connected_kept t r.pair P (λ _. true) xs c.args.self.now.total c.total_after-self.result kept long c.args.x one r.first c.args.y other two r.second few v
+    c.from.result c.from-2.result c.from-3.result c.from-4.result c.none.result c.none-2.result c.beyond.result c.beyond-2.result
+    c.from.ensures c.from-2.ensures c.from-3.ensures c.from-4.ensures c.none.ensures c.none-2.ensures
+    (record { fixed = c.beyond.ensures.fixed; other = c.beyond.ensures.other; class = λ low. c.beyond.ensures.class low ∙ class })
+    (record { fixed = c.beyond-2.ensures.fixed; other = c.beyond-2.ensures.other; class = λ low. c.beyond-2.ensures.class low ∙ class })
+    join c.joined-share.ensures (omega (arith, sum, first, second, all))
+
+pub returns-clause-share : goal.returns-clause-share
+returns-clause-share c P join kept s sought =
+    let has = c.requires.some in
+    let t = c.args.shares.now in
+    let r = c.requires in
+    let side = c.args.self.now in
+    let two = two_live t side.ends c.args.x c.args.y c.end-one.result c.end-other.result c.end-one.ensures c.end-other.ensures r.first_end r.second_end r.apart r.no_other in
+    right_connected t r.pair P (λ _. true) (view t side.ends) side.total side.total kept two (few_chambers t has.partial side has.kept two has.small) join
+    c.joined-share.result c.joined-share.ensures s sought.wanted (record { completes = sought.completes; passed = refl })

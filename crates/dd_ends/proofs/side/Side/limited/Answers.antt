@@ -1,10 +1,9 @@
-use Rattle.std.proofs.Common.{◌≡◌, ◌*◌, ◌≤◌, refl, sym, ◌∙◌, subst, arith}
+use Rattle.std.proofs.Common.{◌*◌, ◌≤◌, refl, sym, ◌∙◌, subst, arith}
 use Rattle.std.specs.Prelude.{true}
 use Rattle.dd_invol.specs.Rows.{partial_of, IsReady}
 use Rattle.dd_invol.specs.declared.rows.Rows.{Rows}
 use Rattle.dd_shares.specs.Shares.{BoundsReciprocals}
 use Rattle.dd_shares.proofs.WholeShares.{bounds_least}
-use Rattle.dd_ends.specs.Census.{IsCensus}
 use Rattle.dd_ends.specs.Sides.{IsSide, ends_of}
 use Rattle.dd_ends.specs.declared.class_shares.ClassShares.{ClassShares}
 use Rattle.dd_ends.specs.declared.side.Side.{Side}

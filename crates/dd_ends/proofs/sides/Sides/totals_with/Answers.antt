@@ -1,4 +1,4 @@
-use Rattle.std.proofs.Common.{sym, ap, ◌∙◌, inl, inr, arith}
+use Rattle.std.proofs.Common.{sym, ap, ◌∙◌, arith}
 use Rattle.dd_model.specs.Symbol.{first, second}
 use Rattle.dd_ends.specs.Passing.{Passes}
 use Rattle.dd_ends.proofs.LinkLemmas.{join_of_image}
@@ -11,7 +11,7 @@ returns-in-Zero-clause-tiles c P test kept image =
     let link = c.args.link.now in
     c.total_with.ensures.total P test
     (join_of_image (Passes P test) t.tiles.pair link.index c.flags-first.result.0 c.flags-first.result.1 link.chamber link.image 0
-    (inl (c.in-Zero.is ∙ sym (ap first t.tiles_pair))) (omega arith) c.flags-first.ensures.first c.flags-first.ensures.second image)
+    (c.in-Zero.is ∙ sym (ap first t.tiles_pair)) (omega arith) c.flags-first.ensures.first c.flags-first.ensures.second image)
     kept.tiles
 
 pub returns-in-Zero-clause-vertices : goal.returns-in-Zero-clause-vertices
@@ -28,7 +28,7 @@ returns-in-One-clause-tiles c P test kept image =
     let link = c.args.link.now in
     c.total_with-in-One.ensures.total P test
     (join_of_image (Passes P test) t.tiles.pair link.index c.flags-second.result.0 c.flags-second.result.1 link.chamber link.image 1
-    (inr (c.in-One.is ∙ sym (ap second t.tiles_pair))) (omega arith) c.flags-second.ensures.first c.flags-second.ensures.second image)
+    (c.in-One.is ∙ sym (ap second t.tiles_pair)) (omega arith) c.flags-second.ensures.first c.flags-second.ensures.second image)
     kept.tiles
 
 pub returns-in-One-clause-vertices : goal.returns-in-One-clause-vertices
@@ -37,7 +37,7 @@ returns-in-One-clause-vertices c P test kept image =
     let link = c.args.link.now in
     c.total_with-in-One-2.ensures.total P test
     (join_of_image (Passes P test) t.vertices.pair link.index c.flags-first.result.0 c.flags-first.result.1 link.chamber link.image 0
-    (inl (c.in-One.is ∙ sym (ap first t.vertices_pair))) (omega arith) c.flags-first.ensures.first c.flags-first.ensures.second image)
+    (c.in-One.is ∙ sym (ap first t.vertices_pair)) (omega arith) c.flags-first.ensures.first c.flags-first.ensures.second image)
     kept.vertices
 
 pub returns-in-Two-clause-tiles : goal.returns-in-Two-clause-tiles
@@ -54,5 +54,5 @@ returns-in-Two-clause-vertices c P test kept image =
     let link = c.args.link.now in
     c.total_with-in-Two.ensures.total P test
     (join_of_image (Passes P test) t.vertices.pair link.index c.flags-second.result.0 c.flags-second.result.1 link.chamber link.image 1
-    (inr (c.in-Two.is ∙ sym (ap second t.vertices_pair))) (omega arith) c.flags-second.ensures.first c.flags-second.ensures.second image)
+    (c.in-Two.is ∙ sym (ap second t.vertices_pair)) (omega arith) c.flags-second.ensures.first c.flags-second.ensures.second image)
     kept.vertices
