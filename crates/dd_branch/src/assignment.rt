@@ -9,14 +9,15 @@ ghost use Rattle.dd_invol.specs.Table.{IsBareTable};
 ghost use Rattle.dd_invol.specs.Under.{next_number, AreUnder, Appends};
 ghost use Rattle.dd_branch.specs.Choice.{IsChoice};
 ghost use Rattle.dd_branch.specs.Assignment.{HasLimits, IsAssignment, IsAtRoot, IsMemberUnder, next_place, prefix_of, spent_by, told};
+ghost use Rattle.dd_branch.specs.Place.{ArePlaces};
 ghost use Rattle.dd_branch.specs.Entered.{HasBudget, HasEntered, HasForced};
 
 use crate::minimality::is_minimal;
-use crate::places::{Place, add_places, part_of_side};
+use crate::places::{Place, part_of_side};
 use crate::rests::Rests;
 use arrayvec::ArrayVec;
 use dd_canon::is_least_from_ties;
-use dd_model::{Memory, Pair, Request};
+use dd_model::{Memory, Request};
 use dd_symbol::Connected;
 use std::alloc::Global;
 
@@ -59,19 +60,23 @@ fn is_asked(
 
 impl Assignment {
     /// The search from a table of which no degree is told.
-    pub(crate) fn new(alloc: Global, table: Connected, ties: Vec<u32>, q: &Request) -> Assignment
+    pub(crate) fn new(
+        alloc: Global,
+        table: Connected,
+        ties: Vec<u32>,
+        places: ArrayVec<Place, 72>,
+        q: &Request,
+    ) -> Assignment
         requires table { IsBareTable table }
         requires limits { HasLimits q.now table }
         requires ties { AreTies table ties.items }
+        requires places { ArePlaces q.now table places.items }
         ensures ready { IsAssignment result }
         ensures root { IsAtRoot result }
         ensures request { result.request ≡ q.now }
         ensures table { result.table ≡ table }
         ensures none { result.degrees.items ≡ [] }
     {
-        let mut places = ArrayVec::new();
-        add_places(&mut places, &table, &q.faces, Pair::Tile);
-        add_places(&mut places, &table, &q.degrees, Pair::Vertex);
         Assignment {
             alloc,
             request: *q,
