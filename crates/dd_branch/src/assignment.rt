@@ -132,9 +132,10 @@ impl Assignment {
 
     /// Whether a degree of so many turns times a branching value may come next: its set allows it, and the later degrees
     /// may have what is left of the budget.
-    pub(crate) fn may_stand(&self, spent: u16, value: u8) -> bool
+    pub(crate) fn may_stand(&self, place: &Place, spent: u16, value: u8) -> bool
         requires ready { IsAssignment self.now }
         requires room { told self.now < 2 * self.now.table.size }
+        requires place { place.now ≡ next_place self.now }
         requires small { spent ≤ 4096 }
         requires value { (1 ≤ value) × (value ≤ 6) }
         requires spent { spent ≡ spent_by self.now + (next_place self.now).sides * (12 / value) }
@@ -149,7 +150,7 @@ impl Assignment {
         ensures room { OnTrue result (spent + slice_index self.now.rests.least (told self.now + 1)
             ≤ 6 * self.now.table.size) }
     {
-        if !self.next_place().allows(value) {
+        if !place.allows(value) {
             return false;
         }
         let later = self.degrees.len() + 1;
@@ -248,7 +249,7 @@ impl Assignment {
             if self.leaves_too_much(spent) {
                 return Ok(());
             }
-            if self.may_stand(spent, value) {
+            if self.may_stand(&place, spent, value) {
                 self.enter(value * place.turns);
                 self.add_members(spent, list)?;
                 self.degrees.truncate(next);

@@ -51,19 +51,16 @@ fn sides_of(shape: &CellShape, chamber: u32) -> u8
     }
 }
 
+/// The parts of sides with the branching values 1 to 6, each at its value.
+const PARTS: [u8; 7] = [0, 12, 6, 4, 3, 2, 2];
+
 /// What a side of a cell with a branching value has of the budget. A division in its place would take
 /// a third of the time of the search for degrees.
 pub(crate) fn part_of_side(value: u8) -> u8
     requires { (1 ≤ value) × (value ≤ 6) }
     ensures { result ≡ 12 / value }
 {
-    match value {
-        1 => 12,
-        2 => 6,
-        3 => 4,
-        4 => 3,
-        _ => 2,
-    }
+    PARTS[value as usize]
 }
 
 /// The branching values that a set allows a cell with so many turns, as bits.
