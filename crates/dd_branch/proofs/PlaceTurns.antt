@@ -1,5 +1,5 @@
 -- The numbers of turns of all places are the degrees of a table with branching values 1.
-use Rattle.std.proofs.Common.{◌≡◌, ℕ, ◌+◌, ◌-◌, ◌*◌, ◌<◌, ◌≤◌, List, [], ◌∷◌, ◌++◌, length, length-take-le, get_or, take, drop, refl, sym, ap, ◌∙◌, subst, ⊎_elim, arith}
+use Rattle.std.proofs.Common.{◌≡◌, ℕ, ◌+◌, ◌-◌, ◌<◌, List, [], ◌∷◌, ◌++◌, length, length-take-le, get_or, take, drop, sym, ap, ◌∙◌, subst, ⊎_elim, arith}
 use Rattle.std.proofs.lemmas.Bool.{cases_lt}
 use Rattle.std.proofs.lemmas.List.{get_or_append_left, get_or_default, get_or-drop, get_or_push, get_or-take, length-drop, length_push}
 use Rattle.dd_model.specs.declared.allowed.Allowed.{Allowed}
@@ -8,7 +8,6 @@ use Rattle.dd_model.specs.declared.pair.Pair.TheVariants.{Tile, Vertex}
 use Rattle.dd_model.specs.declared.requests.Request.{Request}
 use Rattle.dd_model.specs.Symbol.{Symbol, AreInvolutions, IsChamber, item}
 use Rattle.dd_model.specs.Cell.{IsPeriod}
-use Rattle.dd_model.specs.Involutions.{HaveSameInvolutions}
 use Rattle.dd_symbol.specs.Cells.{ArePeriods}
 use Rattle.dd_symbol.specs.Images.{with_degrees}
 use Rattle.dd_symbol.proofs.SameCells.{shape-same}

@@ -1,6 +1,5 @@
-use Rattle.std.proofs.Common.{◌≡◌, ◌*◌, ◌≤◌, length, take, drop, refl, sym, ap, ◌∙◌, subst, arith}
+use Rattle.std.proofs.Common.{length, take, drop, sym, ap, ◌∙◌, subst, arith}
 use Rattle.dd_model.specs.declared.pair.Pair.TheVariants.{Tile, Vertex}
-use Rattle.dd_model.specs.Symbol.{Symbol}
 use Rattle.dd_model.specs.Involutions.{HaveSameInvolutions}
 use Rattle.dd_symbol.specs.Cells.{ArePeriods}
 use Rattle.dd_symbol.proofs.TableLemmas.{with_same}

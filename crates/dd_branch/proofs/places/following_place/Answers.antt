@@ -1,4 +1,4 @@
-use Rattle.std.proofs.Common.{◌+◌, ◌-◌, subst, slice_index_or, arith}
+use Rattle.std.proofs.Common.{◌+◌, ◌-◌, slice_index_or, arith}
 use Rattle.dd_cells.specs.Cells.{IsSmallerInCell}
 use Rattle.dd_branch.specs.Budget.{no_place}
 use Rattle.dd_branch.proofs.PlacesInCell.{place_beside, smaller_chamber, told_before}

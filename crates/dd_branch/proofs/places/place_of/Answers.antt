@@ -1,4 +1,4 @@
-use Rattle.std.proofs.Common.{◌≤◌, refl, subst, arith}
+use Rattle.std.proofs.Common.{◌≤◌, refl, arith}
 use Rattle.dd_branch.proofs.Beginnings.{few_turns_of}
 use Rattle.dd_branch.proofs.Choices.{value_of, value_told}
 use Rattle.dd_branch.proofs.places.place_of.Goals as goal

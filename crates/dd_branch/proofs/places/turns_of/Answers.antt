@@ -1,5 +1,4 @@
 use Rattle.std.proofs.Common.{arith}
-use Rattle.dd_branch.specs.Budget.{no_place}
 use Rattle.dd_branch.proofs.PlaceTurns.{more_turns, no_turns}
 use Rattle.dd_branch.proofs.places.turns_of.Goals as goal
 
