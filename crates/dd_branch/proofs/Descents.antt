@@ -13,7 +13,7 @@ use Rattle.dd_model.specs.Jobs.{IsMemberUnder, AreMembersUnder}
 use Rattle.dd_model.specs.declared.requests.Request.{Request}
 use Rattle.dd_model.specs.declared.jobs.Job.{Job}
 use Rattle.dd_invol.specs.Under.{IsUnder, HasNothingUnder, AreUnder, Appends}
-use Rattle.dd_invol.specs.Table.{IsTableOf}
+use Rattle.dd_invol.specs.Table.{IsBareTable, IsTableOf, told}
 use Rattle.dd_invol.specs.Rows.{partial_of, depth_of, unwound, HasNumberAt}
 use Rattle.dd_invol.specs.Stem.{Any, IsStem, HasAbsorbed, prefix_of, size_of, cut_to, shortened}
 use Rattle.dd_invol.proofs.Absorbing.{absorbed_under}
@@ -24,6 +24,9 @@ use Rattle.dd_invol.specs.declared.rows.Rows.{Rows}
 use Rattle.dd_invol.specs.declared.stem.Stem.{Stem}
 use Rattle.dd_invol.proofs.Follows.{member_orderly}
 use Rattle.dd_invol.proofs.TableFronts.{front_same, front_begins}
+use Rattle.dd_invol.proofs.TableLemmas.{table_of_told}
+use Rattle.dd_symbol.specs.Images.{of_rows}
+use Rattle.dd_model.specs.Involutions.{HaveSameInvolutions}
 use Rattle.dd_branch.specs.Members.{AreMembersWith}
 use Rattle.dd_shares.specs.Shares.{IsSought}
 use Rattle.dd_ends.specs.Kept.{AreKept, with_sides}
@@ -189,6 +192,13 @@ pub appends_carried : (q : Request) (n : ℕ) (prefix : List ℕ) (t : Symbol) (
     → Appends (AreMembersWith q t) old new → Appends (AreUnder (IsMember q) n prefix) old new
 appends_carried q n prefix t old new of whole added =
     record { list = added.list; grown = added.grown; holds = carried_under q n prefix t added.list of whole added.holds }
+
+-- a table with the involutions of a whole prefix
+pub table_of_same : (n : ℕ) (prefix : List ℕ) (it t : Symbol) → length prefix ≡ 3 * n → it ≡ of_rows n prefix → HaveSameInvolutions it t → IsBareTable t → IsTableOf n prefix t
+table_of_same n prefix it t whole is same bare =
+    let own = subst (λ s. HaveSameInvolutions s t) is same in
+    let path : t ≡ told n prefix t.m01 t.m12 = λ i. record { size = own.size i; s0 = own.s0 i; s1 = own.s1 i; s2 = own.s2 i; m01 = t.m01; m12 = t.m12 } in
+    table_of_told n prefix t.m01 t.m12 t whole path bare
 
 -- the members under a job are what is under its prefix
 pub members_under : (q : Request) (job : Job) (ss : List Symbol) → AreUnder (IsMember q) job.size job.prefix ss → AreMembersUnder q job ss

@@ -8,6 +8,7 @@ pub mod Leaves
 pub mod RestSums
 pub mod Advancing
 pub mod PlacesInCell
+pub mod PlaceTurns
 pub mod Beginnings
 pub mod Descents
 pub mod Splits

@@ -1,5 +1,5 @@
 -- What a table tells of one degree.
-use Rattle.std.specs.Prelude.{◌≡◌, ◌≢◌, ◌⊎◌, ℕ, ◌+◌, ◌*◌, ◌/◌, ◌<◌, ◌≤◌, List, length, slice_index_or}
+use Rattle.std.specs.Prelude.{◌≡◌, ◌≢◌, ◌⊎◌, ℕ, ◌+◌, ◌*◌, ◌/◌, ◌<◌, ◌≤◌, List, length, slice_index, slice_index_or}
 use Rattle.dd_model.specs.declared.allowed.Allowed.{Allowed}
 use Rattle.dd_model.specs.declared.pair.Pair.{Pair}
 use Rattle.dd_model.specs.declared.pair.Pair.TheVariants.{Tile, Vertex}
@@ -43,6 +43,15 @@ pub record HasPlaces (t : Symbol) (set : Allowed) (p : Pair) (old : List Place) 
   pub longer : length new ≡ length old + m
   pub kept : (j : ℕ) (x : Place) → j < length old → slice_index_or new j x ≡ slice_index_or old j x
   pub each : (k : ℕ) (x : Place) → k < m → IsPlaceOf t set p (length old) (k + 1) (slice_index_or new (length old + k) x)
+
+-- the numbers of turns of the first m places
+pub record AreTurnsUpTo (places : List Place) (m : ℕ) (turns : List ℕ) : Type 0 where
+  pub count : length turns ≡ m
+  pub each : (j : ℕ) (x : Place) → j < m → slice_index turns j ≡ (slice_index_or places j x).turns
+
+-- those of all
+abbrev pub AreTurns : List Place → List ℕ → Type 0
+AreTurns places turns = AreTurnsUpTo places (length places) turns
 
 -- the places of all tiles, and then those of all vertices
 pub record ArePlaces (q : Request) (t : Symbol) (places : List Place) : Type 0 where

@@ -9,14 +9,15 @@ ghost use Rattle.dd_invol.specs.Table.{IsBareTable};
 ghost use Rattle.dd_invol.specs.Under.{next_number, AreUnder, Appends};
 ghost use Rattle.dd_branch.specs.Choice.{IsChoice};
 ghost use Rattle.dd_branch.specs.Assignment.{HasLimits, IsAssignment, IsAtRoot, IsMemberUnder, next_place, prefix_of, spent_by, told};
+ghost use Rattle.dd_branch.specs.Place.{ArePlaces};
 ghost use Rattle.dd_branch.specs.Entered.{HasBudget, HasEntered, HasForced};
 
 use crate::minimality::is_minimal;
-use crate::places::{Place, add_places, part_of_side};
+use crate::places::{Place, part_of_side};
 use crate::rests::Rests;
 use arrayvec::ArrayVec;
 use dd_canon::is_least_from_ties;
-use dd_model::{Memory, Pair, Request};
+use dd_model::{Memory, Request};
 use dd_symbol::Connected;
 use std::alloc::Global;
 
@@ -59,19 +60,23 @@ fn is_asked(
 
 impl Assignment {
     /// The search from a table of which no degree is told.
-    pub(crate) fn new(alloc: Global, table: Connected, ties: Vec<u32>, q: &Request) -> Assignment
+    pub(crate) fn new(
+        alloc: Global,
+        table: Connected,
+        ties: Vec<u32>,
+        places: ArrayVec<Place, 72>,
+        q: &Request,
+    ) -> Assignment
         requires table { IsBareTable table }
         requires limits { HasLimits q.now table }
         requires ties { AreTies table ties.items }
+        requires places { ArePlaces q.now table places.items }
         ensures ready { IsAssignment result }
         ensures root { IsAtRoot result }
         ensures request { result.request ≡ q.now }
         ensures table { result.table ≡ table }
         ensures none { result.degrees.items ≡ [] }
     {
-        let mut places = ArrayVec::new();
-        add_places(&mut places, &table, &q.faces, Pair::Tile);
-        add_places(&mut places, &table, &q.degrees, Pair::Vertex);
         Assignment {
             alloc,
             request: *q,
@@ -127,9 +132,10 @@ impl Assignment {
 
     /// Whether a degree of so many turns times a branching value may come next: its set allows it, and the later degrees
     /// may have what is left of the budget.
-    pub(crate) fn may_stand(&self, spent: u16, value: u8) -> bool
+    pub(crate) fn may_stand(&self, place: &Place, spent: u16, value: u8) -> bool
         requires ready { IsAssignment self.now }
         requires room { told self.now < 2 * self.now.table.size }
+        requires place { place.now ≡ next_place self.now }
         requires small { spent ≤ 4096 }
         requires value { (1 ≤ value) × (value ≤ 6) }
         requires spent { spent ≡ spent_by self.now + (next_place self.now).sides * (12 / value) }
@@ -144,7 +150,7 @@ impl Assignment {
         ensures room { OnTrue result (spent + slice_index self.now.rests.least (told self.now + 1)
             ≤ 6 * self.now.table.size) }
     {
-        if !self.next_place().allows(value) {
+        if !place.allows(value) {
             return false;
         }
         let later = self.degrees.len() + 1;
@@ -243,7 +249,7 @@ impl Assignment {
             if self.leaves_too_much(spent) {
                 return Ok(());
             }
-            if self.may_stand(spent, value) {
+            if self.may_stand(&place, spent, value) {
                 self.enter(value * place.turns);
                 self.add_members(spent, list)?;
                 self.degrees.truncate(next);

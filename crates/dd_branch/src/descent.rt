@@ -5,7 +5,7 @@ ghost use Rattle.dd_model.specs.Wanted.{IsMember};
 ghost use Rattle.dd_invol.specs.Under.{HasNothingUnder};
 
 use crate::levels::Levels;
-use crate::members::add_tied;
+use crate::members::{add_tied, with_places};
 use dd_ends::{PathShares, Shares};
 use dd_invol::{CollectingSearch, PrefixSearch, Starts, Stem, can_follow};
 use dd_model::{Memory, Request};
@@ -313,8 +313,9 @@ impl CollectingSearch for Descent {
         let Some(ties) = self.stem.ties(self.alloc)? else {
             return Ok(());
         };
-        let table = self.stem.table(self.alloc)?;
-        add_tied(self.alloc, table, ties, &self.request, list)
+        let involutions = self.stem.involutions(self.alloc)?;
+        let (table, places) = with_places(involutions, &self.request)?;
+        add_tied(self.alloc, table, ties, places, &self.request, list)
     }
 }
 

@@ -4,7 +4,7 @@ ghost use Rattle.dd_branch.specs.Entered.{HasBudget};
 
 use crate::assignment::Assignment;
 use crate::members::{degrees, has_limits};
-use crate::places::part_of_side;
+use crate::places::{all_places, part_of_side};
 use dd_canon::tied_starts;
 use dd_invol::{Table, opening, tables_under};
 use dd_model::{Allowed, Job, Request};
@@ -41,7 +41,7 @@ fn count_ends(search: &mut Assignment, sum: u16) -> u64
         if search.leaves_too_much(spent) {
             return count;
         }
-        if search.may_stand(spent, value) {
+        if search.may_stand(&place, spent, value) {
             search.enter(value * place.turns);
             count = count.saturating_add(count_ends(search, spent));
             search.degrees.truncate(next);
@@ -71,7 +71,8 @@ fn ends_of(alloc: Global, request: &Request, table: Table) -> Result<u64, Fail> 
     let Some(ties) = tied_starts(alloc, &table)? else {
         return Ok(0);
     };
-    let mut search = Assignment::new(alloc, table, ties, request);
+    let places = all_places(table.symbol().involutions(), request);
+    let mut search = Assignment::new(alloc, table, ties, places, request);
     Ok(count_all_ends(&mut search))
 }
 

@@ -1,15 +1,20 @@
 ghost use Rattle.std.specs.Prelude.{◌↔◌, IsTrue, IfOk, OnOk};
 ghost use Rattle.dd_canon.specs.Ties.{AreTies};
+ghost use Rattle.dd_invol.specs.Table.{AreOfTable, IsBareTable};
 ghost use Rattle.dd_invol.specs.Under.{Appends};
+ghost use Rattle.dd_model.specs.Involutions.{HaveSameInvolutions};
 ghost use Rattle.dd_branch.specs.Assignment.{HasLimits};
 ghost use Rattle.dd_branch.specs.Members.{AreMembersWith};
+ghost use Rattle.dd_branch.specs.Place.{ArePlaces};
 
 use crate::assignment::Assignment;
+use crate::places::{Place, all_places, turns_of};
+use arrayvec::ArrayVec;
 use dd_canon::tied_starts;
 use dd_cells::has_at_most;
 use dd_invol::Table;
 use dd_model::{Memory, Pair, Request};
-use dd_symbol::Connected;
+use dd_symbol::{Connected, Involutions};
 use std::alloc::Global;
 
 /// Whether a table has no more chambers and classes than a request asks for. Each symbol with its
@@ -22,23 +27,43 @@ pub(crate) fn has_limits(t: &Connected, q: &Request) -> bool
         && has_at_most(t, Pair::Vertex, q.vertices)
 }
 
-/// Adds all members of a request's catalogue that have the involutions of a table, ascending. The
-/// chambers from which the table may be numbered as it stands are known.
+/// The table with these involutions, which are known to be those of one, and what it tells of its
+/// degrees. Each cell is walked once: the degrees of a table are the numbers of turns of its cells.
+pub(crate) fn with_places(
+    involutions: Involutions,
+    q: &Request,
+) -> Result<(Table, ArrayVec<Place, 72>), Memory>
+    requires { AreOfTable involutions }
+    ensures table { IfOk result (λ both. IsBareTable both.0) }
+    ensures same { IfOk result (λ both. HaveSameInvolutions involutions both.0) }
+    ensures places { IfOk result (λ both. ArePlaces q.now both.0 both.1.items) }
+{
+    let places = all_places(&involutions, q);
+    let turns = turns_of(places.as_slice());
+    let (m01, m12) = turns.as_slice().split_at(involutions.size() as usize);
+    let table = Table::known(involutions, m01, m12)?;
+    Ok((table, places))
+}
+
+/// Adds all members of a request's catalogue that have the involutions of a table, ascending. What the
+/// table tells of its degrees is known, and the chambers from which it may be numbered as it stands.
 pub(crate) fn add_tied(
     alloc: Global,
     t: Table,
     ties: Vec<u32>,
+    places: ArrayVec<Place, 72>,
     q: &Request,
     list: &mut Vec<Connected>,
 ) -> Result<(), Memory>
-    requires { AreTies t ties.items }
+    requires ties { AreTies t ties.items }
+    requires places { ArePlaces q.now t places.items }
     ensures { OnOk result (Appends (AreMembersWith q.now t) list.old.items list.new.items) }
 {
     let table = t.into_symbol();
     if !has_limits(&table, q) {
         return Ok(());
     }
-    Assignment::new(alloc, table, ties, q).add_all(list)
+    Assignment::new(alloc, table, ties, places, q).add_all(list)
 }
 
 /// Adds all members of a request's catalogue that have the involutions of a table, ascending.
@@ -53,7 +78,8 @@ pub fn add_degrees(
     let Some(ties) = tied_starts(alloc, t.symbol())? else {
         return Ok(());
     };
-    add_tied(alloc, t, ties, q, list)
+    let places = all_places(t.symbol().symbol().involutions(), q);
+    add_tied(alloc, t, ties, places, q, list)
 }
 
 /// All members of a request's catalogue that have the involutions of a table, ascending.

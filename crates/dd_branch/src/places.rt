@@ -2,13 +2,14 @@ ghost use Rattle.std.specs.Prelude.{◌≡◌, ◌↔◌, ℕ, ◌+◌, ◌*◌,
 ghost use Rattle.std.specs.Int.{bit_at};
 ghost use Rattle.dd_model.specs.Symbol.{IsChamber};
 ghost use Rattle.dd_cells.specs.Cells.{IsSmallerInCell};
+ghost use Rattle.dd_symbol.specs.Images.{AreThreeInvolutions};
 ghost use Rattle.dd_branch.specs.Choice.{HasValues};
-ghost use Rattle.dd_branch.specs.Place.{HasPlaces, HasSides, IsPlaceOf};
+ghost use Rattle.dd_branch.specs.Place.{ArePlaces, AreTurns, HasPlaces, HasSides, IsPlaceOf};
 ghost use Rattle.dd_branch.specs.declared.places.Place.{Place as Known};
 
 use arrayvec::ArrayVec;
-use dd_model::{Allowed, Pair};
-use dd_symbol::{CellShape, Connected, Kind, Symbol};
+use dd_model::{Allowed, Pair, Request};
+use dd_symbol::{CellShape, Involutions, Kind};
 
 /// What a table tells of one degree. The degrees of a table have places, those of the tiles at the
 /// chambers 1 to n first, and then those of the vertices. The budget is counted in twelfths.
@@ -50,19 +51,16 @@ fn sides_of(shape: &CellShape, chamber: u32) -> u8
     }
 }
 
+/// The parts of sides with the branching values 1 to 6, each at its value.
+const PARTS: [u8; 7] = [0, 12, 6, 4, 3, 2, 2];
+
 /// What a side of a cell with a branching value has of the budget. A division in its place would take
 /// a third of the time of the search for degrees.
 pub(crate) fn part_of_side(value: u8) -> u8
     requires { (1 ≤ value) × (value ≤ 6) }
     ensures { result ≡ 12 / value }
 {
-    match value {
-        1 => 12,
-        2 => 6,
-        3 => 4,
-        4 => 3,
-        _ => 2,
-    }
+    PARTS[value as usize]
 }
 
 /// The branching values that a set allows a cell with so many turns, as bits.
@@ -94,13 +92,14 @@ fn most_part(values: u8, sides: u8) -> u8
 }
 
 /// What a table tells of the degree of a pair at a chamber whose cell is walked, where chamber 1 has the place `first`.
-fn place_of(table: &Connected, set: &Allowed, pair: Pair, first: u8, chamber: u32) -> Place
+fn place_of(table: &Involutions, set: &Allowed, pair: Pair, first: u8, chamber: u32) -> Place
+    requires three { AreThreeInvolutions table.now }
     requires small { table.now.size ≤ 36 }
     requires first { first ≤ 36 }
     requires chamber { IsChamber table.now chamber }
     ensures { IsPlaceOf table.now set.now pair first chamber result }
 {
-    let shape = table.symbol().cell(pair, chamber);
+    let shape = table.cell(pair, chamber);
     let turns = shape.r as u8;
     let sides = sides_of(&shape, chamber);
     let values = values_of(set, turns);
@@ -132,15 +131,15 @@ fn beside(place: &Place) -> Place
 
 /// A smaller chamber beside a chamber in its cell, if there is one. Most that are not the least of
 /// their cells have one.
-fn smaller_neighbor(symbol: &Symbol, pair: Pair, chamber: u32) -> Option<u32>
-    requires { IsChamber symbol.now chamber }
-    ensures { IfSome result (λ smaller. IsSmallerInCell symbol.now pair chamber smaller) }
+fn smaller_neighbor(table: &Involutions, pair: Pair, chamber: u32) -> Option<u32>
+    requires { IsChamber table.now chamber }
+    ensures { IfSome result (λ smaller. IsSmallerInCell table.now pair chamber smaller) }
 {
-    let first = symbol.op(pair.first(), chamber);
+    let first = table.op(pair.first(), chamber);
     if first < chamber {
         return Some(first);
     }
-    let second = symbol.op(pair.second(), chamber);
+    let second = table.op(pair.second(), chamber);
     if second < chamber {
         return Some(second);
     }
@@ -151,12 +150,13 @@ fn smaller_neighbor(symbol: &Symbol, pair: Pair, chamber: u32) -> Option<u32>
 /// on. A cell is walked only where no neighbor is smaller.
 fn following_place(
     places: &[Place],
-    table: &Connected,
+    table: &Involutions,
     set: &Allowed,
     pair: Pair,
     first: u8,
     chamber: u32,
 ) -> Place
+    requires three { AreThreeInvolutions table.now }
     requires small { table.now.size ≤ 36 }
     requires first { first ≤ 36 }
     requires chamber { IsChamber table.now chamber }
@@ -165,26 +165,44 @@ fn following_place(
         first (k + 1) (slice_index_or places.now (first + k) x) }
     ensures { IsPlaceOf table.now set.now pair first chamber result }
 {
-    match smaller_neighbor(table.symbol(), pair, chamber) {
+    match smaller_neighbor(table, pair, chamber) {
         Some(smaller) => beside(&places[first as usize + smaller as usize - 1]),
         None => place_of(table, set, pair, first, chamber),
     }
 }
 
 /// Adds the places of a pair, one for each chamber.
-pub(crate) fn add_places(
-    places: &mut ArrayVec<Place, 72>,
-    table: &Connected,
-    set: &Allowed,
-    pair: Pair,
-)
+fn add_places(places: &mut ArrayVec<Place, 72>, table: &Involutions, set: &Allowed, pair: Pair)
     requires small { table.now.size ≤ 36 }
     requires room { length places.old.items ≤ 36 }
     ensures { HasPlaces table.now set.now pair places.old.items table.now.size places.new.items }
 {
     let first = places.len() as u8;
-    for k in 0..table.symbol().size() {
+    for k in 0..table.size() {
         let place = following_place(places.as_slice(), table, set, pair, first, k + 1);
         places.push(place);
     }
+}
+
+/// What a table tells of its degrees. It is read from the involutions alone.
+pub(crate) fn all_places(table: &Involutions, q: &Request) -> ArrayVec<Place, 72>
+    requires { table.now.size ≤ 36 }
+    ensures { ArePlaces q.now table.now result.items }
+{
+    let mut places = ArrayVec::new();
+    add_places(&mut places, table, &q.faces, Pair::Tile);
+    add_places(&mut places, table, &q.degrees, Pair::Vertex);
+    places
+}
+
+/// The least positive numbers of turns of some places.
+pub(crate) fn turns_of(places: &[Place]) -> ArrayVec<u8, 72>
+    requires { length places.now ≤ 72 }
+    ensures { AreTurns places.now result.items }
+{
+    let mut turns = ArrayVec::new();
+    for place in places {
+        turns.push(place.turns);
+    }
+    turns
 }

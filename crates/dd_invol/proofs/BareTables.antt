@@ -26,17 +26,19 @@ use Rattle.dd_model.proofs.Carried.{branching-along}
 use Rattle.dd_model.proofs.CellWalks.{has_period}
 use Rattle.dd_model.proofs.LeastForms.{below_back, not_above, copy_is_symbol}
 use Rattle.dd_invol.specs.Orderly.{IsOrderly}
-use Rattle.dd_invol.specs.Table.{IsUnbranched}
+use Rattle.dd_invol.specs.Table.{AreOfTable, IsBareTable, IsUnbranched}
 use Rattle.dd_model.specs.Involutions.{HaveSameInvolutions}
 use Rattle.dd_invol.specs.Walk.{IsListed, HasTable}
 use Rattle.dd_model.proofs.Ascending.{begins_at, begins_from}
 use Rattle.dd_model.proofs.Codes.{length-code}
 use Rattle.dd_invol.proofs.Follows.{member_orderly}
 use Rattle.dd_model.proofs.SameInvolutions.{op-same, same-sym, chamber-same, involutions-same, connected-same, period-same}
+use Rattle.dd_symbol.specs.Building.{IsConnectedSymbol}
+use Rattle.dd_symbol.specs.Cells.{ArePeriods}
 use Rattle.dd_symbol.proofs.SameCells.{are_cells-same}
 use Rattle.dd_invol.proofs.TableFronts.{agreeing_from_same, front_same}
 use Rattle.dd_invol.proofs.TableLemmas.{commuting-same}
-use Rattle.dd_invol.proofs.Unbranched.{HasPeriods, symbol_of_periods, unbranched_of_periods, unbranched_unique}
+use Rattle.dd_invol.proofs.Unbranched.{HasPeriods, small_of_periods, symbol_of_periods, unbranched_of_periods, unbranched_unique}
 use Rattle.dd_invol.proofs.WalkLemmas.{front_at}
 use Rattle.dd_invol.proofs.WalkOrder.{three, turned_round, below_by_images, length-front, own_begins}
 
@@ -111,6 +113,29 @@ bare_exists s is =
         same = same;
       };
     }
+
+-- The involutions of a table, followed by the least numbers of turns.
+pub record IsBuiltBare (t : Symbol) : Type 0 where
+  pub built : IsConnectedSymbol t
+  pub bare : IsBareTable t
+
+pub known_bare : (s : Symbol) (m01 m12 : List ℕ) → AreOfTable s → ArePeriods s Tile m01 → ArePeriods s Vertex m12 → IsBuiltBare (with_degrees s m01 m12)
+known_bare s m01 m12 of tiles vertices =
+    let own = of.same in
+    let t = with_degrees of.table m01 m12 in
+    let same : HaveSameInvolutions of.table t = record { size = refl; s0 = refl; s1 = refl; s2 = refl } in
+    let back : HaveSameInvolutions s t = record { size = sym own.size; s0 = sym own.s0; s1 = sym own.s1; s2 = sym own.s2 } in
+    let table = table_with of.table m01 m12 of.is_table (tiles.whole ∙ own.size) (vertices.whole ∙ own.size) same in
+    let faces : HasPeriods t Tile = record { each = λ d h. period-same s t back Tile d (item m01 d) (tiles.each d (chamber-same s t back d h)) } in
+    let degrees : HasPeriods t Vertex = record { each = λ d h. period-same s t back Vertex d (item m12 d) (vertices.each d (chamber-same s t back d h)) } in
+    let small = of.small in
+    let symbol = small_of_periods t table (commuting-same of.table t same of.commuting) faces degrees (omega (arith, small)) in
+    let connected = connected-same of.table t same of.connected in
+    let path : t ≡ with_degrees s m01 m12 = λ i. record { size = sym own.size i; s0 = sym own.s0 i; s1 = sym own.s1 i; s2 = sym own.s2 i; m01 = m01; m12 = m12 } in
+    subst IsBuiltBare path (record {
+      built = record { symbol = symbol; connected = connected };
+      bare = record { symbol = symbol.symbol; connected = connected; unbranched = unbranched_of_periods t table.involutions faces degrees; small = small };
+    })
 
 -- ## It is least where the table is
 

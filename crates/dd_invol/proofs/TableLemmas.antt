@@ -5,7 +5,7 @@ use Rattle.dd_model.specs.Symbol.{Symbol, IsTable, IsChamber, AreInvolutions, Ha
 use Rattle.dd_model.specs.Connected.{Connected}
 use Rattle.dd_model.specs.Lists.{Begins}
 use Rattle.dd_model.specs.Code.{code}
-use Rattle.dd_invol.specs.Table.{HasNoTable, HasTable, IsBareTable, IsTableOf, IsUnbranched, told}
+use Rattle.dd_invol.specs.Table.{AreOfTable, HasNoTable, HasTable, IsBareTable, IsTableOf, IsUnbranched, told}
 use Rattle.dd_model.specs.Involutions.{HaveSameInvolutions}
 use Rattle.dd_invol.proofs.TableFronts.{told_same, told_begins, lengths_told}
 use Rattle.dd_model.proofs.SameInvolutions.{chamber-same, involutions-same, connected-same, turned-same, period-same}
@@ -22,11 +22,19 @@ no_table n numbers whole none s is connected commuting size begins =
     let same = told_same s n numbers [] [] is size whole begins in
     none (involutions-same s (of_rows n numbers) (record { size = same.size; s0 = same.s0; s1 = same.s1; s2 = same.s2 }) is.involutions)
 
--- numbers of a table are rows of involutions
-pub rows_of_table : (n : ℕ) (numbers : List ℕ) → length numbers ≡ 3 * n → HasTable n numbers → AreInvolutions (of_rows n numbers)
-rows_of_table n numbers whole has =
+-- numbers of a table are rows of its involutions
+pub rows_of_table : (n : ℕ) (numbers : List ℕ) → n ≤ 36 → length numbers ≡ 3 * n → HasTable n numbers → AreOfTable (of_rows n numbers)
+rows_of_table n numbers few whole has =
     let same = told_same has.table n numbers [] [] has.is_table has.size whole has.begins in
-    involutions-same has.table (of_rows n numbers) (record { size = same.size; s0 = same.s0; s1 = same.s1; s2 = same.s2 }) has.is_table.involutions
+    let size = has.size in
+    record {
+      table = has.table;
+      is_table = has.is_table;
+      connected = has.connected;
+      commuting = has.commuting;
+      small = omega (arith, size, few);
+      same = record { size = same.size; s0 = same.s0; s1 = same.s1; s2 = same.s2 };
+    }
 
 -- ## The symbol that is built
 
@@ -88,10 +96,6 @@ told_accepted s n numbers m01 m12 few whole both is connected commuting size beg
       symbol = small_of_periods t table (commuting-same s t same commuting) (told_tiles n numbers m01 m12 both) (told_vertices n numbers m01 m12 both) (omega arith);
       connected = connected-same s t same connected;
     }
-
-pub known_accepted : (n : ℕ) (numbers m01 m12 : List ℕ) → n ≤ 36 → length numbers ≡ 3 * n → HaveBothPeriods n numbers m01 m12 → HasTable n numbers → IsConnectedSymbol (told n numbers m01 m12)
-known_accepted n numbers m01 m12 few whole both has =
-    told_accepted has.table n numbers m01 m12 few whole both has.is_table has.connected has.commuting has.size has.begins
 
 pub none_built : (n : ℕ) (numbers m01 m12 : List ℕ) → n ≤ 36 → length numbers ≡ 3 * n → HaveBothPeriods n numbers m01 m12 → (IsConnectedSymbol (told n numbers m01 m12) → ⊥) → HasNoTable n numbers
 none_built n numbers m01 m12 few whole both refused s is connected commuting size begins =

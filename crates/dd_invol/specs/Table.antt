@@ -7,6 +7,7 @@ use Rattle.dd_model.specs.Connected.{Connected}
 use Rattle.dd_model.specs.Cell.{IsBranching}
 use Rattle.dd_model.specs.Lists.{Begins}
 use Rattle.dd_model.specs.Code.{code}
+use Rattle.dd_model.specs.Involutions.{HaveSameInvolutions}
 use Rattle.dd_symbol.specs.Images.{of_rows, with_degrees}
 
 -- the branching value of each tile and of each vertex is 1
@@ -33,6 +34,15 @@ pub record HasTable (n : ℕ) (numbers : List ℕ) : Type 0 where
   pub commuting : (d : ℕ) → IsChamber table d → HasDegree table Edge d
   pub size : table.size ≡ n
   pub begins : Begins numbers (code table)
+
+-- The involutions are those of a connected table of at most 36 chambers in which s0 s2 s0 s2 moves no chamber.
+pub record AreOfTable (s : Symbol) : Type 0 where
+  pub table : Symbol
+  pub is_table : IsTable table
+  pub connected : Connected table
+  pub commuting : (d : ℕ) → IsChamber table d → HasDegree table Edge d
+  pub small : table.size ≤ 36
+  pub same : HaveSameInvolutions table s
 
 -- a table of n chambers whose code begins with the numbers
 pub record IsTableOf (n : ℕ) (numbers : List ℕ) (t : Symbol) : Type 0 where

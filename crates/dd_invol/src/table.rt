@@ -27,7 +27,9 @@ impl Model for Table {
 
 impl Table {
     ghost use Rattle.dd_model.specs.Symbol.{IsChamber, op};
-    ghost use Rattle.dd_invol.specs.Table.{IsBareTable, HasNoTable, IsTableOf};
+    ghost use Rattle.dd_invol.specs.Table.{AreOfTable, IsBareTable, HasNoTable, IsTableOf};
+    ghost use Rattle.dd_symbol.specs.Cells.{ArePeriods};
+    ghost use Rattle.dd_symbol.specs.Images.{with_degrees};
 
     /// The table with these numbers, which stand in the order of codes; None where they are not
     /// those of a table.
@@ -47,6 +49,20 @@ impl Table {
             return Ok(None);
         };
         Ok(Some(Table { symbol }))
+    }
+
+    /// The table with these involutions, which are known to be those of one, and with the least positive
+    /// numbers of turns that fix its chambers, round tiles and round vertices. Nothing is tested.
+    pub fn known(involutions: Involutions, m01: &[u8], m12: &[u8]) -> Result<Table, Memory>
+        requires table { AreOfTable involutions }
+        requires tiles { ArePeriods involutions Pair.Tile m01.now }
+        requires vertices { ArePeriods involutions Pair.Vertex m12.now }
+        ensures same { IfOk result (λ it. it ≡ with_degrees involutions m01.now m12.now) }
+        ensures table { IfOk result (λ it. IsBareTable it) }
+    {
+        Ok(Table {
+            symbol: build_known(involutions, m01, m12)?,
+        })
     }
 
     /// The number of chambers.
@@ -84,22 +100,19 @@ impl Table {
 
 impl Stem {
     ghost use Rattle.dd_invol.specs.Stem.{IsStem, prefix_of, size_of};
-    ghost use Rattle.dd_invol.specs.Table.{HasTable, IsTableOf};
+    ghost use Rattle.dd_invol.specs.Table.{AreOfTable, HasTable};
+    ghost use Rattle.dd_symbol.specs.Images.{of_rows};
 
-    /// The table of all images, which are known to be those of one. Nothing is tested.
-    pub fn table(&self, alloc: Global) -> Result<Table, Memory>
+    /// The involutions of all images, which are known to be those of a table. Nothing is tested.
+    pub fn involutions(&self, alloc: Global) -> Result<Involutions, Memory>
         requires stem { IsStem self.now }
         requires whole { length (prefix_of self.now) ≡ 3 * size_of self.now }
         requires some { HasTable (size_of self.now) (prefix_of self.now) }
-        ensures { IfOk result
-            (λ table. IsTableOf (size_of self.now) (prefix_of self.now) table) }
+        ensures same { IfOk result
+            (λ it. it ≡ of_rows (size_of self.now) (prefix_of self.now)) }
+        ensures table { IfOk result (λ it. AreOfTable it) }
     {
         let size = u32::from(self.size());
-        let involutions = Involutions::from_known_bytes(alloc, self.prefix(), size)?;
-        let m01 = involutions.periods(alloc, Pair::Tile)?;
-        let m12 = involutions.periods(alloc, Pair::Vertex)?;
-        Ok(Table {
-            symbol: build_known(alloc, involutions, &m01, &m12)?,
-        })
+        Involutions::from_known_bytes(alloc, self.prefix(), size)
     }
 }

@@ -95,19 +95,14 @@ pub fn build_fitting(
     }
 }
 
-/// The connected symbol with these involutions and degrees, which are known to be those of one with
-/// branching values of at most 30. Nothing is tested.
-pub fn build_known(
-    alloc: Global,
-    involutions: Involutions,
-    m01: &[u32],
-    m12: &[u32],
-) -> Result<Connected, Memory>
+/// The connected symbol with these involutions and degrees of at most 255, which are known to be
+/// those of one with branching values of at most 30. Nothing is tested.
+pub fn build_known(involutions: Involutions, m01: &[u8], m12: &[u8]) -> Result<Connected, Memory>
     requires { IsConnectedSymbol (with_degrees involutions m01.now m12.now) }
     ensures { IfOk result (λ it. it ≡ with_degrees involutions m01.now m12.now) }
 {
     let table = Table {
-        involutions: involutions.followed_by(alloc, m01, m12)?,
+        involutions: involutions.followed_by_bytes(m01, m12)?,
     };
     Ok(Connected::from_symbol(Symbol::from_table(table)))
 }

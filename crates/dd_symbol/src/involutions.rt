@@ -240,6 +240,20 @@ impl Involutions {
         })
     }
 
+    /// The same involutions, followed by degrees that fit in bytes.
+    pub(crate) fn followed_by_bytes(self, m01: &[u8], m12: &[u8]) -> Result<Involutions, Memory>
+        requires tiles { length m01.now ≡ self.size }
+        ensures { IfOk result (λ it. it ≡ with_degrees self m01.now m12.now) }
+    {
+        let Rows { mut numbers, size } = self.rows;
+        numbers.truncate(3 * size as usize);
+        numbers.extend_bytes(m01)?;
+        numbers.extend_bytes(m12)?;
+        Ok(Involutions {
+            rows: Rows { numbers, size },
+        })
+    }
+
     /// A copy of the involutions, followed by degrees that fit in bytes.
     pub(crate) fn copy_with(
         &self,

@@ -2,6 +2,7 @@ ghost use Rattle.std.specs.Prelude.{◌≡◌, ◌≤◌, ◌<◌, ◌↔◌, If
 ghost use Rattle.dd_model.specs.Isomorphic.{IsBijection, IsIsomorphism};
 ghost use Rattle.dd_model.specs.Code.{code_cmp};
 
+use crate::involutions::Involutions;
 use crate::maps::inverse;
 use crate::shapes::CellShape;
 use crate::table::Table;
@@ -55,6 +56,13 @@ impl Symbol {
         ensures symbol { IsSmallSymbol self.now }
     {
         self.table.size()
+    }
+
+    /// The three involutions.
+    pub fn involutions(&self) -> &Involutions
+        ensures { result.now ≡ self.now }
+    {
+        &self.table.involutions
     }
 
     /// The image of a chamber under an involution.

@@ -18,6 +18,9 @@ loop-value-init t c =
 pub may_stand-requires-clause-ready : goal.may_stand-requires-clause-ready
 may_stand-requires-clause-ready t c = subst IsAssignment (sym c.loop-value.invariant.same) c.requires.ready
 
+pub may_stand-requires-clause-place : goal.may_stand-requires-clause-place
+may_stand-requires-clause-place t c = c.next_place-place.ensures ∙ ap next_place (sym c.loop-value.invariant.same)
+
 pub may_stand-requires-clause-room : goal.may_stand-requires-clause-room
 may_stand-requires-clause-room t c =
     subst (λ (x : Assignment). told x < 2 * x.table.size) (sym c.loop-value.invariant.same)

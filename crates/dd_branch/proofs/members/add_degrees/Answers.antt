@@ -1,7 +1,6 @@
 use Rattle.std.proofs.Common.{MatchOption, subst}
 use Rattle.dd_model.specs.Code.{Least}
 use Rattle.dd_canon.specs.Ties.{AreTies}
-use Rattle.dd_invol.specs.Table.{IsBareTable}
 use Rattle.dd_branch.proofs.Beginnings.{none_without_ties}
 use Rattle.dd_branch.proofs.members.add_degrees.Goals as goal
 

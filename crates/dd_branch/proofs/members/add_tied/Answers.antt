@@ -1,6 +1,5 @@
 use Rattle.std.proofs.Common.{sym, ◌∙◌, subst}
 use Rattle.std.proofs.lemmas.Result.{on_ok_weaker}
-use Rattle.dd_canon.specs.Ties.{AreTies}
 use Rattle.dd_branch.specs.Assignment.{HasLimits}
 use Rattle.dd_branch.proofs.Beginnings.{members_with, none_without_limits}
 use Rattle.dd_branch.proofs.members.add_tied.Goals as goal

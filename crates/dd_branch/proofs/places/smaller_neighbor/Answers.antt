@@ -6,7 +6,7 @@ use Rattle.dd_branch.proofs.places.smaller_neighbor.Goals as goal
 
 pub returns-then-first-chamber : goal.returns-then-first-chamber
 returns-then-first-chamber c =
-    let s = c.args.symbol.now in
+    let s = c.args.table.now in
     let p = c.args.pair in
     let d = c.args.chamber in
     record {
@@ -16,7 +16,7 @@ returns-then-first-chamber c =
 
 pub returns-then-second-chamber : goal.returns-then-second-chamber
 returns-then-second-chamber c =
-    let s = c.args.symbol.now in
+    let s = c.args.table.now in
     let p = c.args.pair in
     let d = c.args.chamber in
     record {

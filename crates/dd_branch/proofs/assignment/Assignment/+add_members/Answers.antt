@@ -26,6 +26,9 @@ may_stand-requires-clause-room t c =
     subst (λ (x : Assignment). told x < 2 * x.table.size) (sym c.loop-value.invariant.same)
     (room_here c.args.self.now c.len-next.result c.len.result c.requires.ready c.if-next-len.false c.len-next.ensures.value c.len.ensures.value)
 
+pub may_stand-requires-clause-place : goal.may_stand-requires-clause-place
+may_stand-requires-clause-place t c = c.next_place-place.ensures ∙ ap next_place (sym c.loop-value.invariant.same)
+
 pub overflow_mul-value : goal.overflow_mul-value
 overflow_mul-value t c =
     let a = c.args.self.now in

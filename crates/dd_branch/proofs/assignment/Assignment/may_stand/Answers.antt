@@ -10,7 +10,7 @@ use Rattle.dd_branch.proofs.assignment.Assignment.may_stand.Goals as goal
 pub returns-then-not-allows-clause-dead : goal.returns-then-not-allows-clause-dead
 returns-then-not-allows-clause-dead c s under next =
     let is = value_allowed c.args.self.now c.args.value c.requires.ready c.requires.room s under next in
-    let hit = c.allows.ensures.1 (ap (λ (x : Place). bit_at x.values c.args.value) c.next_place.ensures ∙ is) in
+    let hit = c.allows.ensures.1 (ap (λ (x : Place). bit_at x.values c.args.value) c.requires.place ∙ is) in
     let no' = c.if-not-allows.true in
     cc
 
@@ -47,11 +47,11 @@ returns-clause-dead c =
 pub returns-clause-tile : goal.returns-clause-tile
 returns-clause-tile c =
     let a = c.args.self.now in
-    let is : bit_at (next_place a).values c.args.value ≡ 1 = ap (λ (x : Place). bit_at x.values c.args.value) (sym c.next_place.ensures) ∙ c.allows.ensures.0 c.if-not-allows.false in
+    let is : bit_at (next_place a).values c.args.value ≡ 1 = ap (λ (x : Place). bit_at x.values c.args.value) (sym c.requires.place) ∙ c.allows.ensures.0 c.if-not-allows.false in
     OnTrue_from c.may_exceed_by.result _ (λ _ low. choice_told a.request.faces (next_place a).turns (next_place a).values c.args.value (tile_values a c.requires.ready low) is)
 
 pub returns-clause-vertex : goal.returns-clause-vertex
 returns-clause-vertex c =
     let a = c.args.self.now in
-    let is : bit_at (next_place a).values c.args.value ≡ 1 = ap (λ (x : Place). bit_at x.values c.args.value) (sym c.next_place.ensures) ∙ c.allows.ensures.0 c.if-not-allows.false in
+    let is : bit_at (next_place a).values c.args.value ≡ 1 = ap (λ (x : Place). bit_at x.values c.args.value) (sym c.requires.place) ∙ c.allows.ensures.0 c.if-not-allows.false in
     OnTrue_from c.may_exceed_by.result _ (λ _ high. choice_told a.request.degrees (next_place a).turns (next_place a).values c.args.value (vertex_values a c.requires.ready c.requires.room high) is)
