@@ -4,6 +4,10 @@ use crate::fault_count::FaultCount;
 use crate::sink::{Sink, SinkFault};
 use std::io::Write;
 
+/// How many bytes are handed to a writer at once. Where it was measured, a file took pieces of 4 MiB
+/// four times as long, byte for byte, as pieces of 1 MiB and less.
+const PIECE: usize = 262_144;
+
 /// A writer of the system, whose faults are counted. It tells what it holds where the writer does,
 /// which a real stream does not.
 #[derive(Drop)]
@@ -34,6 +38,7 @@ impl<W: Write + Drop> Sink for StdSink<W> {
 
     /// A write that takes nothing counts as a fault.
     fn write(&mut self, piece: &[u8]) -> Result<usize, SinkFault> {
+        let piece = &piece[..piece.len().min(PIECE)];
         match self.inner.write(piece) {
             Ok(count) if count > 0 => Ok(count),
             _ => {
