@@ -1,4 +1,4 @@
-ghost use Rattle.std.specs.Prelude.{◌≡◌, ◌≢◌, ℕ, [], take, IfOk};
+ghost use Rattle.std.specs.Prelude.{◌≡◌, ◌≢◌, ◌++◌, ℕ, [], take, IfOk, OnOk};
 ghost use Rattle.std.specs.List.{AllByRecursion};
 ghost use Rattle.dd_front.specs.Machine.{jobs_of};
 ghost use Rattle.dd_front.specs.Joining.{IsDone, AreBlocks, AreJoined};
@@ -6,6 +6,7 @@ ghost use Rattle.dd_front.specs.Joining.{IsDone, AreBlocks, AreJoined};
 use crate::entry::{Entry, State};
 use crate::members::Members;
 use dd_model::Memory;
+use dd_symbol::Connected;
 use std::alloc::Global;
 use std::mem;
 
@@ -19,6 +20,18 @@ fn list_of(entry: Entry) -> Members
         State::Done(list) => list,
         State::Open | State::Out => unreachable!(),
     }
+}
+
+/// Puts a list behind another one. Where that is empty, as it is of each job that was not split, nothing is copied.
+fn put_behind(front: &mut Vec<Connected>, mut list: Vec<Connected>) -> Result<(), Memory>
+    ensures { OnOk result (front.new.items ≡ front.old.items ++ list.items) }
+{
+    if front.is_empty() {
+        *front = list;
+        return Ok(());
+    }
+    front.append(&mut list)?;
+    Ok(())
 }
 
 /// What the entries of a round have for each job that went into it: the jobs are those of the first
@@ -37,7 +50,7 @@ pub fn join(alloc: Global, olds: &[Entry], handed: Vec<Entry>) -> Result<Vec<Mem
             let whole = mem::replace(&mut joined, Vec::new(alloc));
             lists.push(Members::new(alloc, whole)?)?;
         }
-        joined.append(&mut list_of(entry).into_vec(alloc)?)?;
+        put_behind(&mut joined, list_of(entry).into_vec(alloc)?)?;
     }
     lists.push(Members::new(alloc, joined)?)?;
     Ok(lists)

@@ -45,10 +45,10 @@ loop-entry-preserved c =
     let steps = c.in-Some.ensures.steps in
     let lists = c.loop-entry.lists.items in
     let joined = c.loop-entry.joined.items in
-    let now = c.append.new.self.items in
+    let now = c.put_behind.new.front.items in
     let list = c.list_of.result in
     let len : n ≡ length lists = c.len.ensures ∙ omega arith in
-    let longer : now ≡ c.if-not-extends.joined.items ++ list = c.in_ok-append.ensures.items ∙ ap (λ ss. c.if-not-extends.joined.items ++ ss) c.in_ok-into_vec.ensures in (
+    let longer : now ≡ c.if-not-extends.joined.items ++ list = c.in_ok-put_behind.ensures ∙ ap (λ ss. c.if-not-extends.joined.items ++ ss) c.in_ok-into_vec.ensures in (
       (subst (AllByRecursion (λ x. IsDone x.state)) steps.0 c.loop-entry.invariant.0).1,
       omega (arith, c.loop-entry.invariant.1, ap length steps.0, steps.1),
       λ k blocks.
