@@ -32,7 +32,7 @@ visit_none n order number none blank =
 pub record AreInside (n : ℕ) (order : List ℕ) : Type 0 where
   pub inside : (k : ℕ) → k < length order → (1 ≤ get_or order k 0) × (get_or order k 0 ≤ n)
 
-extends_met : (xs ys number : List ℕ) (d x : ℕ) → IsMeeting xs ys number d x → Extends xs ys
+pub extends_met : (xs ys number : List ℕ) (d x : ℕ) → IsMeeting xs ys number d x → Extends xs ys
 extends_met xs ys number d x m = record {
   longer = m.longer;
   same = λ i low. let e : i + 1 - 1 ≡ i = omega arith in subst (λ j. get_or ys j 0 ≡ get_or xs j 0) e (m.kept (i + 1) (omega arith) (omega arith));

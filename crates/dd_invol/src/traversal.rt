@@ -1,4 +1,4 @@
-ghost use Rattle.std.specs.Prelude.{◌≡◌, ℕ, ◌+◌, ◌-◌, ◌/◌, ◌%◌, [], ◌∷◌, ◌++◌, ◌≤◌, ◌<◌, length, set};
+ghost use Rattle.std.specs.Prelude.{◌≡◌, ◌+◌, ◌-◌, [], ◌∷◌, ◌++◌, ◌≤◌, length, set};
 ghost use Rattle.dd_model.specs.Symbol.{item};
 ghost use Rattle.dd_canon.specs.Traversal.{IsMeeting};
 ghost use Rattle.dd_invol.specs.Beaten.{IsBeaten};
@@ -83,24 +83,11 @@ pub(crate) enum Standing {
     Open(u8),
 }
 
-/// Which of three places of its row the next place of a code is.
-fn offset_after(offset: u8) -> u8
-    requires { offset < 3 }
-    ensures { (place : ℕ) → offset ≡ place % 3 → result ≡ (place + 1) % 3 }
-{
-    if offset == 2 { 0 } else { offset + 1 }
-}
-
-/// The row of the next place of a code. Counted along, it costs no division.
-fn row_after(row: usize, offset: u8) -> usize
-    requires { row < 36 }
-    ensures { (place : ℕ) → row ≡ place / 3 → offset ≡ place % 3 → result ≡ (place + 1) / 3 }
-{
-    if offset == 2 { row + 1 } else { row }
-}
-
 /// Where the traversal from a start chamber stands. Where it comes to an image that is not known,
 /// or to the end of the prefix, nothing is decided, nor ever where it has met all that it leads to.
+/// The three images of a chamber, a row, stand side by side from its first place on. A search calls
+/// this for each start at each number that it puts in, so it is inlined.
+#[inline(always)]
 pub(crate) fn stand(rows: &Rows, prefix: &[u8], start: u8, visit: &mut Visit) -> Standing
     requires ready { IsReady rows.now }
     requires visiting { IsVisiting visit.old }
@@ -111,27 +98,32 @@ pub(crate) fn stand(rows: &Rows, prefix: &[u8], start: u8, visit: &mut Visit) ->
     ensures larger { result ≡ Standing.Larger → IsPassed (partial_of rows.now) prefix.now start }
 {
     visit.begin(start);
+    let mut place = 0;
     let mut row = 0;
-    let mut offset = 0;
-    for place in 0..prefix.len() {
+    while place < prefix.len() {
         if row >= visit.order.len() {
             return Standing::Open(NOWHERE);
         }
-        let chamber = visit.order[row];
-        let at = 3 * (chamber - 1) + offset;
-        let image = rows.number_at(at);
-        if image == 0 {
-            return Standing::Open(at);
+        let first = 3 * (visit.order[row] - 1);
+        for offset in 0..3 {
+            // the prefix may end within a row
+            if place >= prefix.len() {
+                return Standing::Open(prefix.len() as u8);
+            }
+            let image = rows.number_at(first + offset);
+            if image == 0 {
+                return Standing::Open(first + offset);
+            }
+            let number = visit.meet(image);
+            if number < prefix[place] {
+                return Standing::Smaller;
+            }
+            if number > prefix[place] {
+                return Standing::Larger;
+            }
+            place += 1;
         }
-        let number = visit.meet(image);
-        if number < prefix[place] {
-            return Standing::Smaller;
-        }
-        if number > prefix[place] {
-            return Standing::Larger;
-        }
-        row = row_after(row, offset);
-        offset = offset_after(offset);
+        row += 1;
     }
     Standing::Open(prefix.len() as u8)
 }
