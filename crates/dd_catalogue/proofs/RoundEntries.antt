@@ -26,6 +26,11 @@ pub opened_open : (k : ℕ) (jobs : List Job) → AreOpen (open_entries k jobs)
 opened_open k [] = tt
 opened_open k (job ∷ jobs) = (refl, opened_open (k + 1) jobs)
 
+-- what holds of all jobs of some entries
+pub each_job : (P : Job → Type 0) (es : List Entry) → AllByRecursion P (jobs_of es) → AllByRecursion (λ e. P e.job) es
+each_job P [] all = tt
+each_job P (e ∷ es) all = (all.0, each_job P es all.1)
+
 -- where all are open, their jobs are those that wait
 pub waiting_all : (es : List Entry) → AreOpen es → open_jobs es ≡ jobs_of es
 waiting_all [] opens = refl

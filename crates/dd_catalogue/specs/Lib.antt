@@ -1,3 +1,5 @@
+pub mod Texts
+pub mod Parts
 pub mod Pages
 pub mod Rounds
 pub mod Ways

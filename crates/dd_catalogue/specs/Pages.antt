@@ -21,6 +21,13 @@ pub record IsEmpty (page : Page) : Type 0 where
   pub waiting : page.waiting.items ≡ []
   pub buffer : page.buffer.items ≡ []
 
+-- Of a text a front was written, and the rest is collected; the bytes of the front are counted, after so many before them.
+pub record IsSent (before now : Option (List ℕ)) (text : List ℕ) (sum : ℕ) (page : Page) : Type 0 where
+  pub written : List ℕ
+  pub appended : Appends before now written
+  pub parts : text ≡ written ++ page.buffer.items
+  pub bytes : page.bytes ≡ sum + length written
+
 -- Whatever a page had the lines of, it has still.
 abbrev pub KeepsLines : Option (List ℕ) → Option (List ℕ) → Page → Page → Type 0
 KeepsLines before now old new = (k : ℕ) (base : List ℕ) (start : Option (List ℕ)) (ss : List Symbol) → HasLines k base start before old ss → HasLines k base start now new ss

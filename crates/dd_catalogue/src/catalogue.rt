@@ -11,7 +11,7 @@ ghost use Rattle.dd_catalogue.specs.Outputs.{IsOutput};
 use crate::emission::write_done;
 use crate::finish::Finish;
 use crate::pages::Page;
-use crate::rounds::{do_round, front_of};
+use crate::rounds::{do_long_round, front_of};
 use crate::run::Run;
 use dd_front::{Finder, Front};
 use dd_ports::{Gate, Sink, SinkFault};
@@ -75,7 +75,7 @@ fn write_rounds<R: Threads + Wait + Sync, F: Finder + Sync, G: Gate + Sync, O: S
         → StaysSure Failed (O.faults out.old) (O.faults out.new) (O.sure out.new) result }
 {
     let limit = run.limit();
-    while let Ok(more) = do_round(rt, alloc, finder, gate, run.pace, front) {
+    while let Ok(more) = do_long_round(rt, alloc, finder, gate, run.pace, front) {
         if !more {
             page.flush(rt, run.pace.workers, out)?;
             return Ok(Finish::Whole);

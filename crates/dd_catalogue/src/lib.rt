@@ -6,7 +6,6 @@ mod chain;
 mod emission;
 mod fault;
 mod finish;
-mod giving_back;
 mod limit;
 mod lines;
 mod pace;

@@ -1,6 +1,7 @@
-ghost use Rattle.std.specs.Prelude.{◌≡◌, ◌+◌, ◌≤◌, ◌<◌, ◌^◌, IfOk, OnOk, length};
+ghost use Rattle.std.specs.Prelude.{◌≡◌, ◌+◌, ◌≤◌, ◌<◌, ◌^◌, IfOk, length};
 ghost use Rattle.dd_model.specs.Text.{AreLines};
-ghost use Rattle.dd_text.specs.Writing.{AddsLines};
+ghost use Rattle.dd_catalogue.specs.Texts.{joined};
+ghost use Rattle.dd_catalogue.specs.Parts.{AreParts};
 
 use dd_model::Memory;
 use dd_symbol::Connected;
@@ -12,42 +13,71 @@ use std::thread::Threads;
 /// How many lines a thread makes at least, so that it is worth its start.
 const FEWEST: usize = 2048;
 
-/// The lines of some symbols, numbered from `before + 1` on.
-fn lines_of(alloc: Global, before: u64, symbols: &[Connected]) -> Result<Vec<u8>, Memory>
-    ensures { IfOk result (λ lines. AreLines before symbols.now lines.items) }
+/// Members whose lines one thread makes, and how many lines come before theirs.
+#[derive(Drop)]
+struct Part {
+    before: u64,
+    members: Vec<Connected>,
+}
+
+/// How many bytes the lines of some symbols take, mostly a few less: a catalogue goes by size, so that the first one tells.
+fn room_for(symbols: &[Connected]) -> usize {
+    let Some(first) = symbols.first() else {
+        return 0;
+    };
+    let line = 6 * first.symbol().size() as usize + 24;
+    symbols.len().saturating_mul(line)
+}
+
+/// The lines of a part. Its members are given back here, by the thread that has just read them.
+fn lines_of(part: Part) -> Result<Vec<u8>, Memory>
+    ensures { IfOk result (λ lines. AreLines part.before part.members.items lines.items) }
 {
-    let mut lines = Vec::new(alloc);
-    put_lines(&mut lines, before, symbols)?;
+    let room = room_for(&part.members);
+    let mut lines = Vec::with_capacity(*part.members.allocator(), room)?;
+    put_lines(&mut lines, part.before, &part.members)?;
     Ok(lines)
 }
 
-/// Appends the lines of some symbols, numbered from `before + 1` on. Where there are many, so many threads make them in parts.
-pub(crate) fn put_lines_by<R: Threads + Sync>(
+/// Cuts members into parts of so many, the first one maybe shorter. They are taken off the end, so that each is moved once.
+fn parts_of(size: usize, before: u64, mut members: Vec<Connected>) -> Result<Vec<Part>, Memory>
+    requires size { 1 ≤ size }
+    requires few { before + length members.items < 2 ^ 64 }
+    ensures { IfOk result (λ parts. AreParts before members.items parts.items) }
+{
+    let mut parts = Vec::new(*members.allocator());
+    while members.len() > size {
+        let kept = members.len() - size;
+        let part = members.split_off(kept)?;
+        parts.push(Part {
+            before: before + kept as u64,
+            members: part,
+        })?;
+    }
+    parts.push(Part { before, members })?;
+    parts.reverse();
+    Ok(parts)
+}
+
+/// The lines of members, numbered from `before + 1` on, as texts that follow each other. Where there are many, so many threads
+/// make a text each.
+pub(crate) fn lines_by<R: Threads + Sync>(
     rt: &R,
     threads: u32,
-    out: &mut Vec<u8>,
     before: u64,
-    symbols: &[Connected],
-) -> Result<(), Memory>
+    members: Vec<Connected>,
+) -> Result<Vec<Vec<u8>>, Memory>
     requires threads { 1 ≤ threads }
-    requires few { before + length symbols.now < 2 ^ 64 }
-    ensures { OnOk result (AddsLines before symbols.now out.old.items out.new.items) }
+    requires few { before + length members.items < 2 ^ 64 }
+    ensures { IfOk result (λ texts. AreLines before members.items (joined texts.items)) }
 {
-    let size = symbols.len().div_ceil(threads as usize).max(FEWEST);
-    if symbols.len() <= size {
-        return put_lines(out, before, symbols);
+    let alloc = *members.allocator();
+    let size = members.len().div_ceil(threads as usize).max(FEWEST);
+    let parts = parts_of(size, before, members)?;
+    let made = thread::map_vec(rt, parts, &lines_of)?;
+    let mut texts = Vec::with_capacity(alloc, made.len())?;
+    for lines in made {
+        texts.push(lines?)?;
     }
-    let alloc = *out.allocator();
-    let make = |start: usize, part: &[Connected]| -> Result<Vec<u8>, Memory>
-        requires { before + start < 2 ^ 64 }
-        ensures { IfOk result (λ lines. AreLines (before + start) part.now lines.items) }
-    { lines_of(alloc, before + start as u64, part) };
-    let parts = thread::map_chunks(rt, alloc, symbols, size, &make)?;
-    for part in &parts {
-        match part {
-            Ok(lines) => out.extend_from_slice(lines)?,
-            Err(_) => return Err(Memory),
-        }
-    }
-    Ok(())
+    Ok(texts)
 }

@@ -1,13 +1,15 @@
-ghost use Rattle.std.specs.Prelude.{◌≡◌, ◌+◌, ◌≤◌, ℕ, List, [], Option, OnOk, true, length};
+ghost use Rattle.std.specs.Prelude.{◌≡◌, ◌+◌, ◌≤◌, ◌++◌, ℕ, List, [], Option, OnOk, true, length};
 ghost use Rattle.dd_ports.specs.declared.sink.SinkFault.TheVariants.{Failed};
 ghost use Rattle.dd_ports.specs.Causes.{HasCause, StaysSure};
-ghost use Rattle.dd_catalogue.specs.Pages.{IsEmpty, KeepsLines, AddsAll, WritesFront, WritesFrontOf};
+ghost use Rattle.dd_ports.specs.Grows.{GrowsByPrefix};
+ghost use Rattle.dd_catalogue.specs.Texts.{joined};
+ghost use Rattle.dd_catalogue.specs.Pages.{IsEmpty, IsSent, KeepsLines, AddsAll, WritesFront, WritesFrontOf};
 
-use crate::giving_back::give_back;
-use crate::lines::put_lines_by;
+use crate::lines::lines_by;
 use dd_model::Memory;
 use dd_ports::{Sink, SinkFault, write_all_of};
 use dd_symbol::Connected;
+use dd_text::put_lines;
 use std::alloc::Global;
 use std::mem;
 use std::thread::Threads;
@@ -19,6 +21,10 @@ const FULL: usize = 65_536;
 /// to be worth the start of a thread.
 const BATCH: usize = 65_536;
 
+/// Of how many members one thread makes the lines before it looks whether to write: so few that the lines are still in the
+/// processor's cache when they are written.
+const PART: usize = 512;
+
 /// Lines on their way out: members that wait for their lines to be made, lines that are collected to be written at once, the
 /// number of the last line of all these, and how many bytes were written.
 #[derive(Drop)]
@@ -27,6 +33,18 @@ pub(crate) struct Page {
     pub(crate) buffer: Vec<u8>,
     pub(crate) count: u64,
     pub(crate) bytes: u128,
+}
+
+/// Puts a text behind what is collected. Where nothing is collected, the text is taken as it is and not copied.
+fn put_behind(collected: &mut Vec<u8>, text: Vec<u8>) -> Result<(), Memory>
+    ensures { OnOk result (collected.new.items ≡ collected.old.items ++ text.items) }
+{
+    if collected.is_empty() {
+        *collected = text;
+        return Ok(());
+    }
+    collected.extend_from_slice(&text)?;
+    Ok(())
 }
 
 impl Page {
@@ -44,30 +62,15 @@ impl Page {
         }
     }
 
-    /// Makes the lines of the members that wait, by so many threads.
-    fn make<R: Threads + Sync>(&mut self, rt: &R, threads: u32) -> Result<(), Memory>
-        requires { 1 ≤ threads }
-        ensures kept { OnOk result
-            ((held : Option (List ℕ)) → KeepsLines held held self.old self.new) }
-        ensures made { OnOk result (self.new.waiting.items ≡ []) }
-        ensures count { self.new.count ≡ self.old.count }
-    {
-        let alloc = *self.buffer.allocator();
-        let before = self.count.saturating_sub(self.waiting.len() as u64);
-        put_lines_by(rt, threads, &mut self.buffer, before, &self.waiting)?;
-        let made = mem::replace(&mut self.waiting, Vec::new(alloc));
-        give_back(rt, threads, made);
-        Ok(())
-    }
-
     /// Writes the lines that are collected.
     fn write<O: Sink>(&mut self, out: &mut O) -> Result<(), SinkFault>
-        ensures kept { OnOk result
-            (KeepsLines (O.held out.old) (O.held out.new) self.old self.new) }
+        ensures sent { OnOk result (IsSent (O.held out.old) (O.held out.new)
+            self.old.buffer.items self.old.bytes self.new) }
         ensures written { OnOk result (self.new.buffer.items ≡ []) }
         ensures waiting { OnOk result (self.new.waiting ≡ self.old.waiting) }
         ensures count { self.new.count ≡ self.old.count }
-        ensures front { WritesFront (O.held out.old) (O.held out.new) self.old }
+        ensures front { GrowsByPrefix (O.held out.old) (O.held out.new)
+            self.old.buffer.items }
         ensures cause { HasCause Failed (O.faults out.old) (O.faults out.new) result }
         ensures sure { O.sure out.old ≡ true
             → StaysSure Failed (O.faults out.old) (O.faults out.new) (O.sure out.new) result }
@@ -79,6 +82,92 @@ impl Page {
         write_all_of(out, &self.buffer)?;
         self.bytes = bytes;
         self.buffer.clear();
+        Ok(())
+    }
+
+    /// Writes what is collected where that is enough.
+    fn write_if_full<O: Sink>(&mut self, out: &mut O) -> Result<(), SinkFault>
+        ensures sent { OnOk result (IsSent (O.held out.old) (O.held out.new)
+            self.old.buffer.items self.old.bytes self.new) }
+        ensures waiting { OnOk result (self.new.waiting ≡ self.old.waiting) }
+        ensures count { self.new.count ≡ self.old.count }
+        ensures front { GrowsByPrefix (O.held out.old) (O.held out.new)
+            self.old.buffer.items }
+        ensures cause { HasCause Failed (O.faults out.old) (O.faults out.new) result }
+        ensures sure { O.sure out.old ≡ true
+            → StaysSure Failed (O.faults out.old) (O.faults out.new) (O.sure out.new) result }
+    {
+        if self.buffer.len() < FULL {
+            return Ok(());
+        }
+        self.write(out)?;
+        Ok(())
+    }
+
+    /// Puts a text behind what is collected, and writes where that is enough.
+    fn put<O: Sink>(&mut self, text: Vec<u8>, out: &mut O) -> Result<(), SinkFault>
+        ensures sent { OnOk result (IsSent (O.held out.old) (O.held out.new)
+            (self.old.buffer.items ++ text.items) self.old.bytes self.new) }
+        ensures waiting { OnOk result (self.new.waiting ≡ self.old.waiting) }
+        ensures count { self.new.count ≡ self.old.count }
+        ensures front { GrowsByPrefix (O.held out.old) (O.held out.new)
+            (self.old.buffer.items ++ text.items) }
+        ensures cause { HasCause Failed (O.faults out.old) (O.faults out.new) result }
+        ensures sure { O.sure out.old ≡ true
+            → StaysSure Failed (O.faults out.old) (O.faults out.new) (O.sure out.new) result }
+    {
+        let Ok(()) = put_behind(&mut self.buffer, text) else {
+            return Err(SinkFault::Memory);
+        };
+        self.write_if_full(out)?;
+        Ok(())
+    }
+
+    /// Puts texts behind what is collected, one after the other, and writes each time that is enough.
+    fn put_all<O: Sink>(&mut self, texts: Vec<Vec<u8>>, out: &mut O) -> Result<(), SinkFault>
+        ensures sent { OnOk result (IsSent (O.held out.old) (O.held out.new)
+            (self.old.buffer.items ++ joined texts.items) self.old.bytes self.new) }
+        ensures waiting { OnOk result (self.new.waiting ≡ self.old.waiting) }
+        ensures count { self.new.count ≡ self.old.count }
+        ensures front { GrowsByPrefix (O.held out.old) (O.held out.new)
+            (self.old.buffer.items ++ joined texts.items) }
+        ensures cause { HasCause Failed (O.faults out.old) (O.faults out.new) result }
+        ensures sure { O.sure out.old ≡ true
+            → StaysSure Failed (O.faults out.old) (O.faults out.new) (O.sure out.new) result }
+    {
+        for text in texts {
+            self.put(text, out)?;
+        }
+        Ok(())
+    }
+
+    /// Makes the lines of the members that wait, by so many threads, and writes lines once there are enough.
+    fn make<R: Threads + Sync, O: Sink>(
+        &mut self,
+        rt: &R,
+        threads: u32,
+        out: &mut O,
+    ) -> Result<(), SinkFault>
+        requires threads { 1 ≤ threads }
+        ensures kept { OnOk result
+            (KeepsLines (O.held out.old) (O.held out.new) self.old self.new) }
+        ensures made { OnOk result (self.new.waiting.items ≡ []) }
+        ensures count { self.new.count ≡ self.old.count }
+        ensures front { WritesFront (O.held out.old) (O.held out.new) self.old }
+        ensures cause { HasCause Failed (O.faults out.old) (O.faults out.new) result }
+        ensures sure { O.sure out.old ≡ true
+            → StaysSure Failed (O.faults out.old) (O.faults out.new) (O.sure out.new) result }
+    {
+        if self.waiting.is_empty() {
+            return Ok(());
+        }
+        let alloc = *self.waiting.allocator();
+        let before = self.count.saturating_sub(self.waiting.len() as u64);
+        let members = mem::replace(&mut self.waiting, Vec::new(alloc));
+        let Ok(texts) = lines_by(rt, threads, before, members) else {
+            return Err(SinkFault::Memory);
+        };
+        self.put_all(texts, out)?;
         Ok(())
     }
 
@@ -99,26 +188,7 @@ impl Page {
         ensures sure { O.sure out.old ≡ true
             → StaysSure Failed (O.faults out.old) (O.faults out.new) (O.sure out.new) result }
     {
-        let Ok(()) = self.make(rt, threads) else {
-            return Err(SinkFault::Memory);
-        };
-        self.write(out)?;
-        Ok(())
-    }
-
-    /// Writes what is collected where that is enough.
-    fn write_if_full<O: Sink>(&mut self, out: &mut O) -> Result<(), SinkFault>
-        ensures kept { OnOk result
-            (KeepsLines (O.held out.old) (O.held out.new) self.old self.new) }
-        ensures count { self.new.count ≡ self.old.count }
-        ensures front { WritesFront (O.held out.old) (O.held out.new) self.old }
-        ensures cause { HasCause Failed (O.faults out.old) (O.faults out.new) result }
-        ensures sure { O.sure out.old ≡ true
-            → StaysSure Failed (O.faults out.old) (O.faults out.new) (O.sure out.new) result }
-    {
-        if self.buffer.len() < FULL {
-            return Ok(());
-        }
+        self.make(rt, threads, out)?;
         self.write(out)?;
         Ok(())
     }
@@ -136,24 +206,48 @@ impl Page {
         Ok(())
     }
 
-    /// Collects the lines of the next members, once there are enough for so many threads to make them.
-    fn collect<R: Threads + Sync>(
+    /// Makes the lines of the next members, where none waits before them, and writes lines once there are enough.
+    fn add_part<O: Sink>(&mut self, part: &[Connected], out: &mut O) -> Result<(), SinkFault>
+        requires waiting { self.old.waiting.items ≡ [] }
+        requires few { self.old.count + length part.now ≤ 1000000000000000000 }
+        ensures all { OnOk result
+            (AddsAll (O.held out.old) (O.held out.new) self.old self.new part.now) }
+        ensures waiting { OnOk result (self.new.waiting.items ≡ []) }
+        ensures count { OnOk result (self.new.count ≡ self.old.count + length part.now) }
+        ensures front { WritesFrontOf (O.held out.old) (O.held out.new) self.old part.now }
+        ensures cause { HasCause Failed (O.faults out.old) (O.faults out.new) result }
+        ensures sure { O.sure out.old ≡ true
+            → StaysSure Failed (O.faults out.old) (O.faults out.new) (O.sure out.new) result }
+    {
+        let Ok(()) = put_lines(&mut self.buffer, self.count, part) else {
+            return Err(SinkFault::Memory);
+        };
+        self.count += part.len() as u64;
+        self.write_if_full(out)?;
+        Ok(())
+    }
+
+    /// Takes the next members, whose lines one thread makes part by part, so that few lines are collected at a time.
+    fn add_in_parts<R: Threads + Sync, O: Sink>(
         &mut self,
         rt: &R,
-        threads: u32,
-        members: Vec<Connected>,
-    ) -> Result<(), Memory>
-        requires threads { 1 ≤ threads }
-        requires few { self.old.count + length members.items ≤ 1000000000000000000 }
-        ensures lines { OnOk result
-            ((held : Option (List ℕ)) → AddsAll held held self.old self.new members.items) }
-        ensures count { OnOk result (self.new.count ≡ self.old.count + length members.items) }
+        members: &[Connected],
+        out: &mut O,
+    ) -> Result<(), SinkFault>
+        requires few { self.old.count + length members.now ≤ 1000000000000000000 }
+        ensures all { OnOk result
+            (AddsAll (O.held out.old) (O.held out.new) self.old self.new members.now) }
+        ensures count { OnOk result (self.new.count ≡ self.old.count + length members.now) }
+        ensures front { WritesFrontOf (O.held out.old) (O.held out.new) self.old members.now }
+        ensures cause { HasCause Failed (O.faults out.old) (O.faults out.new) result }
+        ensures sure { O.sure out.old ≡ true
+            → StaysSure Failed (O.faults out.old) (O.faults out.new) (O.sure out.new) result }
     {
-        self.wait(members)?;
-        if threads > 1 && self.waiting.len() < BATCH {
-            return Ok(());
+        // The lines of members that wait come before these.
+        self.make(rt, 1, out)?;
+        for part in members.chunks(PART) {
+            self.add_part(part, out)?;
         }
-        self.make(rt, threads)?;
         Ok(())
     }
 
@@ -175,10 +269,16 @@ impl Page {
         ensures sure { O.sure out.old ≡ true
             → StaysSure Failed (O.faults out.old) (O.faults out.new) (O.sure out.new) result }
     {
-        let Ok(()) = self.collect(rt, threads, members) else {
+        if threads == 1 {
+            return self.add_in_parts(rt, &members, out);
+        }
+        let Ok(()) = self.wait(members) else {
             return Err(SinkFault::Memory);
         };
-        self.write_if_full(out)?;
+        if self.waiting.len() < BATCH {
+            return Ok(());
+        }
+        self.make(rt, threads, out)?;
         Ok(())
     }
 }

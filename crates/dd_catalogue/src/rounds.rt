@@ -1,7 +1,8 @@
-ghost use Rattle.std.specs.Prelude.{◌≡◌, ◌≤◌, ◌<◌, ◌^◌, List, IfOk, OnErr, MatchBool, MatchOption, length};
+ghost use Rattle.std.specs.Prelude.{◌≡◌, ◌≤◌, ◌<◌, ◌^◌, ℕ, List, IfOk, OnErr, MatchBool, MatchOption, length};
 ghost use Rattle.dd_model.specs.Request.{IsValid};
 ghost use Rattle.dd_model.specs.Symbol.{Symbol};
-ghost use Rattle.dd_model.specs.Jobs.{AreAscendingJobs, AreApart};
+ghost use Rattle.dd_model.specs.Jobs.{AreAscendingJobs, AreApart, IsJobOf};
+ghost use Rattle.std.specs.List.{AllByRecursion};
 ghost use Rattle.dd_front.specs.Machine.{jobs_of};
 ghost use Rattle.dd_front.specs.Allowed.{HasFirst};
 ghost use Rattle.dd_board.specs.Desk.{AreJobsOf};
@@ -12,7 +13,7 @@ ghost use Rattle.dd_catalogue.specs.Rounds.{IsBegun, AreOpen, IsRoundDone, IsAtE
 
 use crate::pace::Pace;
 use crate::run::Run;
-use dd_front::{Finder, Front, State};
+use dd_front::{Entry, Finder, Front, State};
 use dd_invol::opening;
 use dd_model::{Job, Memory, Position};
 use dd_ports::Gate;
@@ -56,6 +57,67 @@ pub fn front_of(alloc: Global, run: &Run) -> Result<Front, Memory>
         run.at.try_copy()?,
         u128::from(run.lines),
     )
+}
+
+/// The pace of a round in which as many jobs as are asked for have something under them, as far as the search sees it. Of the
+/// others there are many at a stretch, and a round of these alone has nothing for several workers to do.
+fn pace_without_empty_jobs<F: Finder>(
+    alloc: Global,
+    finder: &F,
+    pace: Pace,
+    entries: &[Entry],
+) -> Result<Pace, Memory>
+    requires valid { IsValid (F.request finder.now) }
+    requires jobs { AllByRecursion (λ e. IsJobOf (F.request finder.now) e.job) entries.now }
+    ensures workers { IfOk result (λ longer. longer.workers ≡ pace.workers) }
+    ensures round { IfOk result (λ longer. pace.round ≤ longer.round) }
+{
+    let mut left = pace.round;
+    let mut round = pace.round;
+    for entry in entries {
+        if left == 0 {
+            break;
+        }
+        if finder.may_find(alloc, &entry.job)? {
+            left -= 1;
+        } else {
+            round = round.saturating_add(1);
+        }
+    }
+    Ok(Pace {
+        workers: pace.workers,
+        round,
+    })
+}
+
+/// Does the next round of a front of which no checkpoint is kept, and answers whether there was one. Where several workers
+/// are to do it, jobs under which nothing is are not counted. After `Err`, which comes for want of memory alone, the front
+/// is as before.
+pub fn do_long_round<R: Threads + Wait + Sync, F: Finder + Sync, G: Gate + Sync>(
+    rt: &R,
+    alloc: Global,
+    finder: &F,
+    gate: &G,
+    pace: Pace,
+    front: &mut Front,
+) -> Result<bool, Memory>
+    requires workers { (1 ≤ pace.workers) × (pace.workers ≤ 64) }
+    requires round { 1 ≤ pace.round }
+    requires valid { IsValid (F.request finder.now) }
+    requires request { front.old.request ≡ F.request finder.now }
+    requires jobs { AreJobsOf (F.request finder.now) (jobs_of front.old.entries) }
+    requires ascending { AreAscendingJobs (jobs_of front.old.entries) }
+    requires apart { AreApart (jobs_of front.old.entries) }
+    requires open_entries { AreOpen front.old.entries }
+    ensures round { IfOk result (λ more. MatchBool more
+        ((most : ℕ) × IsRoundDone most front.old front.new) (IsAtEnd front.old front.new)) }
+    ensures same { OnErr result (front.new ≡ front.old) }
+{
+    if pace.workers == 1 {
+        return do_round(rt, alloc, finder, gate, pace, front);
+    }
+    let longer = pace_without_empty_jobs(alloc, finder, pace, front.entries())?;
+    do_round(rt, alloc, finder, gate, longer, front)
 }
 
 /// Does the next round of a front, and answers whether there was one. After `Err`, which comes for want of memory alone,

@@ -24,23 +24,23 @@ loop-more-init g c =
       λ sure. (sure, refl),
     )
 
-pub do_round-requires-clause-request : goal.do_round-requires-clause-request
-do_round-requires-clause-request g c κs within = c.loop-more.invariant.0.3.emitted.held.request ∙ sym c.requires.request
+pub do_long_round-requires-clause-request : goal.do_long_round-requires-clause-request
+do_long_round-requires-clause-request g c κs within = c.loop-more.invariant.0.3.emitted.held.request ∙ sym c.requires.request
 
-pub do_round-requires-clause-valid : goal.do_round-requires-clause-valid
-do_round-requires-clause-valid g c κs within = subst IsValid (sym c.requires.request) c.requires.valid
+pub do_long_round-requires-clause-valid : goal.do_long_round-requires-clause-valid
+do_long_round-requires-clause-valid g c κs within = subst IsValid (sym c.requires.request) c.requires.valid
 
-pub do_round-requires-clause-jobs : goal.do_round-requires-clause-jobs
-do_round-requires-clause-jobs g c κs within =
+pub do_long_round-requires-clause-jobs : goal.do_long_round-requires-clause-jobs
+do_long_round-requires-clause-jobs g c κs within =
     let at = c.loop-more.invariant.0 in
     let w : Way = record { start = start_of c.args.run.now; jobs = at.0; base = []; known = g.O.Sink.held c.args.out.now; since = at.1; round = at.2 } in
     subst (λ q. AreJobsOf q (jobs_of c.loop-more.front.entries)) (sym c.requires.request) (way_jobs w (g.O.Sink.held c.loop-more.out) c.loop-more.page c.loop-more.front at.3)
 
-pub do_round-requires-clause-ascending : goal.do_round-requires-clause-ascending
-do_round-requires-clause-ascending g c κs within = c.loop-more.invariant.0.3.emitted.held.go_on.ascending_jobs
+pub do_long_round-requires-clause-ascending : goal.do_long_round-requires-clause-ascending
+do_long_round-requires-clause-ascending g c κs within = c.loop-more.invariant.0.3.emitted.held.go_on.ascending_jobs
 
-pub do_round-requires-clause-apart : goal.do_round-requires-clause-apart
-do_round-requires-clause-apart g c κs within = c.loop-more.invariant.0.3.emitted.held.go_on.apart
+pub do_long_round-requires-clause-apart : goal.do_long_round-requires-clause-apart
+do_long_round-requires-clause-apart g c κs within = c.loop-more.invariant.0.3.emitted.held.go_on.apart
 
 pub returns-in_err-flush-clause-output : goal.returns-in_err-flush-clause-output
 returns-in_err-flush-clause-output g c =
@@ -78,9 +78,11 @@ write_done-requires-clause-any g c κs within =
     let at = c.loop-more.invariant.0 in
     let f = c.loop-more.front in
     let w : Way = record { start = start_of c.args.run.now; jobs = at.0; base = []; known = g.O.Sink.held c.args.out.now; since = at.1; round = at.2 } in
-    let round = rw c.if-not-more.false at c.in-Ok.ensures.round in
-    let next = next_round w c.args.run.now.pace.round (g.O.Sink.held c.loop-more.out) c.loop-more.page f c.do_round.new.front round c.loop-more.invariant.1 at.3 in
-    record { any = record { start = w.start; jobs = w.jobs; base = []; known = w.known; since = next.0; round = take c.args.run.now.pace.round (jobs_of f.entries) }; way = next.1 }
+    let found = rw c.if-not-more.false at c.in-Ok.ensures.round in
+    let most = found.0 in
+    let round = found.1 in
+    let next = next_round w most (g.O.Sink.held c.loop-more.out) c.loop-more.page f c.do_long_round.new.front round c.loop-more.invariant.1 at.3 in
+    record { any = record { start = w.start; jobs = w.jobs; base = []; known = w.known; since = next.0; round = take most (jobs_of f.entries) }; way = next.1 }
 
 pub returns-in_err-write_done-clause-output : goal.returns-in_err-write_done-clause-output
 returns-in_err-write_done-clause-output g c =
@@ -89,9 +91,11 @@ returns-in_err-write_done-clause-output g c =
     let old = g.O.Sink.held c.args.out.now in
     let now = g.O.Sink.held c.write_done.new.out in
     let w : Way = record { start = start_of c.args.run.now; jobs = at.0; base = []; known = old; since = at.1; round = at.2 } in
-    let round = rw c.if-not-more.false at c.in-Ok.ensures.round in
-    let next = next_round w c.args.run.now.pace.round (g.O.Sink.held c.loop-more.out) c.loop-more.page f c.do_round.new.front round c.loop-more.invariant.1 at.3 in
-    let v : Way = record { start = w.start; jobs = w.jobs; base = []; known = w.known; since = next.0; round = take c.args.run.now.pace.round (jobs_of f.entries) } in
+    let found = rw c.if-not-more.false at c.in-Ok.ensures.round in
+    let most = found.0 in
+    let round = found.1 in
+    let next = next_round w most (g.O.Sink.held c.loop-more.out) c.loop-more.page f c.do_long_round.new.front round c.loop-more.invariant.1 at.3 in
+    let v : Way = record { start = w.start; jobs = w.jobs; base = []; known = w.known; since = next.0; round = take most (jobs_of f.entries) } in
     let part = c.write_done.ensures.part v next.1 in
     let went = went_out v old now part (appends_nothing old) in
     let output = [] ++ part.out.written in
@@ -100,10 +104,12 @@ returns-in_err-write_done-clause-output g c =
 
 pub loop-more-smaller : goal.loop-more-smaller
 loop-more-smaller g c =
-    let round = rw c.if-not-more.false at c.in-Ok.ensures.round in
+    let found = rw c.if-not-more.false at c.in-Ok.ensures.round in
+    let most = found.0 in
+    let round = found.1 in
     let goes = rw c.if-not-branch.false at c.in_ok-write_done.ensures.all in
     subst (λ (js : List Job). length js < length (open_jobs c.loop-more.front.entries)) (sym goes.waiting)
-    (fewer_wait c.args.run.now.pace.round c.loop-more.front c.do_round.new.front round c.loop-more.invariant.1)
+    (fewer_wait most c.loop-more.front c.do_long_round.new.front round c.loop-more.invariant.1)
 
 pub loop-more-preserved : goal.loop-more-preserved
 loop-more-preserved g c =
@@ -111,14 +117,16 @@ loop-more-preserved g c =
     let f = c.loop-more.front in
     let old = g.O.Sink.held c.args.out.now in
     let w : Way = record { start = start_of c.args.run.now; jobs = at.0; base = []; known = old; since = at.1; round = at.2 } in
-    let round = rw c.if-not-more.false at c.in-Ok.ensures.round in
-    let next = next_round w c.args.run.now.pace.round (g.O.Sink.held c.loop-more.out) c.loop-more.page f c.do_round.new.front round c.loop-more.invariant.1 at.3 in
-    let v : Way = record { start = w.start; jobs = w.jobs; base = []; known = w.known; since = next.0; round = take c.args.run.now.pace.round (jobs_of f.entries) } in
+    let found = rw c.if-not-more.false at c.in-Ok.ensures.round in
+    let most = found.0 in
+    let round = found.1 in
+    let next = next_round w most (g.O.Sink.held c.loop-more.out) c.loop-more.page f c.do_long_round.new.front round c.loop-more.invariant.1 at.3 in
+    let v : Way = record { start = w.start; jobs = w.jobs; base = []; known = w.known; since = next.0; round = take most (jobs_of f.entries) } in
     let goes = rw c.if-not-branch.false at c.in_ok-write_done.ensures.all in
     let opens = rw c.if-not-branch.false at c.in_ok-write_done.ensures.opened in
     let room = rw c.if-not-branch.false at c.in_ok-write_done.ensures.room in
     let ih = c.loop-more.invariant in (
-      (at.0, next.0, take c.args.run.now.pace.round (jobs_of f.entries), goes.way v next.1),
+      (at.0, next.0, take most (jobs_of f.entries), goes.way v next.1),
       opens,
       room,
       omega (arith, c.write_done.ensures.cause.later, ih.3),
@@ -145,9 +153,11 @@ returns-in_err-flush-2-clause-output g c =
     let h = c.write_done.new.front in
     let last = c.limit-limit.result.last in
     let w : Way = record { start = start_of c.args.run.now; jobs = at.0; base = []; known = old; since = at.1; round = at.2 } in
-    let round = rw c.if-not-more.false at c.in-Ok.ensures.round in
-    let next = next_round w c.args.run.now.pace.round (g.O.Sink.held c.loop-more.out) c.loop-more.page f c.do_round.new.front round c.loop-more.invariant.1 at.3 in
-    let v : Way = record { start = w.start; jobs = w.jobs; base = []; known = w.known; since = next.0; round = take c.args.run.now.pace.round (jobs_of f.entries) } in
+    let found = rw c.if-not-more.false at c.in-Ok.ensures.round in
+    let most = found.0 in
+    let round = found.1 in
+    let next = next_round w most (g.O.Sink.held c.loop-more.out) c.loop-more.page f c.do_long_round.new.front round c.loop-more.invariant.1 at.3 in
+    let v : Way = record { start = w.start; jobs = w.jobs; base = []; known = w.known; since = next.0; round = take most (jobs_of f.entries) } in
     let fills = rw c.if-not-branch.true at c.in_ok-write_done.ensures.full in
     let full = fills v next.1 in
     let part = full_written v mid now page last h c.flush-then-not-branch.ensures.front full in
@@ -167,9 +177,11 @@ returns-then-not-branch-clause-output g c =
     let h = c.write_done.new.front in
     let last = c.limit-limit.result.last in
     let w : Way = record { start = start_of c.args.run.now; jobs = at.0; base = []; known = old; since = at.1; round = at.2 } in
-    let round = rw c.if-not-more.false at c.in-Ok.ensures.round in
-    let next = next_round w c.args.run.now.pace.round (g.O.Sink.held c.loop-more.out) c.loop-more.page f c.do_round.new.front round c.loop-more.invariant.1 at.3 in
-    let v : Way = record { start = w.start; jobs = w.jobs; base = []; known = w.known; since = next.0; round = take c.args.run.now.pace.round (jobs_of f.entries) } in
+    let found = rw c.if-not-more.false at c.in-Ok.ensures.round in
+    let most = found.0 in
+    let round = found.1 in
+    let next = next_round w most (g.O.Sink.held c.loop-more.out) c.loop-more.page f c.do_long_round.new.front round c.loop-more.invariant.1 at.3 in
+    let v : Way = record { start = w.start; jobs = w.jobs; base = []; known = w.known; since = next.0; round = take most (jobs_of f.entries) } in
     let fills = rw c.if-not-branch.true at c.in_ok-write_done.ensures.full in
     let full = fills v next.1 in
     let flushed = full_flushed v mid now page c.flush-then-not-branch.new.self last h c.in_ok-flush-2.ensures.kept c.flush-then-not-branch.ensures.count full in

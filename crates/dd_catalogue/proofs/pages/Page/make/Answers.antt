@@ -1,16 +1,32 @@
-use Rattle.std.proofs.Common.{◌≡◌, ◌-◌, List, [], length, refl, subst, rules}
+use Rattle.std.proofs.Common.{◌≡◌, ◌-◌, List, [], length, ap, ◌∙◌, subst, rules}
 use Rattle.dd_model.specs.Symbol.{Symbol}
-use Rattle.dd_text.specs.Writing.{AddsLines}
-use Rattle.dd_catalogue.specs.declared.pages.Page.{Page}
-use Rattle.dd_catalogue.proofs.PageLemmas.{lines_made}
+use Rattle.dd_model.specs.Text.{AreLines}
+use Rattle.dd_catalogue.specs.Texts.{joined}
+use Rattle.dd_catalogue.proofs.PageLemmas.{lines_made, front_made}
 use Rattle.dd_catalogue.proofs.pages.Page.make.Goals as goal
 
-pub returns-clause-kept : goal.returns-clause-kept
-returns-clause-kept g c held k base start ss has =
+pub returns-in_err-put_all-clause-front : goal.returns-in_err-put_all-clause-front
+returns-in_err-put_all-clause-front g c k base start ss has =
     let old = c.args.self.now in
-    let text = c.put_lines_by.new.out in
-    let page : Page = record { waiting = c.replace-made.new.dest; buffer = text; count = old.count; bytes = old.bytes } in
-    let none : c.replace-made.new.dest.items ≡ [] = search rules in
+    let text = joined c.in-Ok.texts.items in
     let before : c.saturating_sub-before.result ≡ old.count - length old.waiting.items = search rules in
-    let added = subst (λ (ms : List Symbol). AddsLines c.saturating_sub-before.result ms old.buffer.items text.items) c.deref.ensures.value c.in_ok-put_lines_by.ensures in
-    lines_made k base start held old page ss (subst (λ n. AddsLines n old.waiting.items old.buffer.items text.items) before added) none refl refl has
+    let are = subst (λ (ms : List Symbol). AreLines c.saturating_sub-before.result ms text) (ap (λ ws. ws.items) c.replace-members.ensures.value) c.in-Ok.ensures in
+    front_made k base start _ _ old ss text (subst (λ n. AreLines n old.waiting.items text) before are) c.put_all.ensures.front has
+
+pub returns-clause-kept : goal.returns-clause-kept
+returns-clause-kept g c k base start ss has =
+    let old = c.args.self.now in
+    let text = joined c.in-Ok.texts.items in
+    let sent = c.in_ok-put_all.ensures in
+    let before : c.saturating_sub-before.result ≡ old.count - length old.waiting.items = search rules in
+    let are = subst (λ (ms : List Symbol). AreLines c.saturating_sub-before.result ms text) (ap (λ ws. ws.items) c.replace-members.ensures.value) c.in-Ok.ensures in
+    let none : c.replace-members.new.dest.items ≡ [] = search rules in
+    lines_made k base start _ _ old c.put_all.new.self ss text (subst (λ n. AreLines n old.waiting.items text) before are) sent.sent (ap (λ ws. ws.items) sent.waiting ∙ none) sent.count has
+
+pub returns-clause-front : goal.returns-clause-front
+returns-clause-front g c k base start ss has =
+    let old = c.args.self.now in
+    let text = joined c.in-Ok.texts.items in
+    let before : c.saturating_sub-before.result ≡ old.count - length old.waiting.items = search rules in
+    let are = subst (λ (ms : List Symbol). AreLines c.saturating_sub-before.result ms text) (ap (λ ws. ws.items) c.replace-members.ensures.value) c.in-Ok.ensures in
+    front_made k base start _ _ old ss text (subst (λ n. AreLines n old.waiting.items text) before are) c.put_all.ensures.front has
