@@ -8,6 +8,8 @@ mod catalogue_tests;
 #[cfg(test)]
 mod chain_tests;
 #[cfg(test)]
+mod round_tests;
+#[cfg(test)]
 mod run_tests;
 #[cfg(test)]
 mod running;
