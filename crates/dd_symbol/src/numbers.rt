@@ -3,18 +3,26 @@ ghost use Rattle.std.specs.Ordering.{nat_cmp};
 ghost use Rattle.std.specs.Cmp.Lexicographic.{slice_cmp};
 
 use dd_model::Memory;
+use smallvec::SmallVec;
 use std::alloc::Global;
 use std::cmp::Ordering;
 use std::marker::Model;
 
+/// How many bytes lie in the value itself: the code of a symbol of 22 chambers, which has 5 numbers
+/// a chamber. A catalogue makes members by the million, and threads that each ask the allocator for
+/// a hundred bytes a member wait for each other and for fresh pages. A list of such members is one
+/// piece of memory.
+const INLINE: usize = 110;
+
 /// The two forms in which numbers are kept.
 #[derive(Drop)]
 enum Held {
-    Bytes(Vec<u8>),
+    Bytes(SmallVec<u8, INLINE>),
     Words(Vec<u32>),
 }
 
-/// A list of numbers, which is kept in bytes up to the first number over 255.
+/// A list of numbers, which is kept in bytes up to the first number over 255. The bytes of a small
+/// symbol lie in the value, and take no memory beyond it.
 #[derive(Drop)]
 pub(crate) struct Numbers {
     held: Held,
@@ -45,7 +53,7 @@ impl Numbers {
         ensures { IfOk result (λ it. it ≡ []) }
     {
         Ok(Numbers {
-            held: Held::Bytes(Vec::with_capacity(alloc, room)?),
+            held: Held::Bytes(SmallVec::with_capacity(alloc, room)?),
         })
     }
 
@@ -65,7 +73,10 @@ impl Numbers {
         ensures { result ≡ slice_index self.now place }
     {
         match &self.held {
-            Held::Bytes(bytes) => u32::from(bytes[place]),
+            Held::Bytes(bytes) => {
+                let bytes = bytes.as_slice();
+                u32::from(bytes[place])
+            }
             Held::Words(words) => words[place],
         }
     }
@@ -77,11 +88,14 @@ impl Numbers {
             ∷ slice_index self.now (place + 2) ∷ [] }
     {
         match &self.held {
-            Held::Bytes(bytes) => [
-                u32::from(bytes[place]),
-                u32::from(bytes[place + 1]),
-                u32::from(bytes[place + 2]),
-            ],
+            Held::Bytes(bytes) => {
+                let bytes = bytes.as_slice();
+                [
+                    u32::from(bytes[place]),
+                    u32::from(bytes[place + 1]),
+                    u32::from(bytes[place + 2]),
+                ]
+            }
             Held::Words(words) => [words[place], words[place + 1], words[place + 2]],
         }
     }
@@ -92,7 +106,7 @@ impl Numbers {
     {
         let mut all = Vec::with_capacity(alloc, self.len())?;
         match &self.held {
-            Held::Bytes(bytes) => add_bytes(&mut all, bytes)?,
+            Held::Bytes(bytes) => add_bytes(&mut all, bytes.as_slice())?,
             Held::Words(words) => all.extend_from_slice(words)?,
         }
         Ok(all)
@@ -176,8 +190,8 @@ impl Numbers {
             .saturating_add(second.len());
         let held = match &self.held {
             Held::Bytes(own) => {
-                let mut all = Vec::with_capacity(alloc, room)?;
-                all.extend_from_slice(&own[..count])?;
+                let mut all = SmallVec::with_capacity(alloc, room)?;
+                all.extend_from_slice(&own.as_slice()[..count])?;
                 all.extend_from_slice(first)?;
                 all.extend_from_slice(second)?;
                 Held::Bytes(all)
@@ -207,7 +221,7 @@ impl Numbers {
         ensures { IsTrue result ↔ take count self.now ≡ take count other.now }
     {
         if let (Held::Bytes(own), Held::Bytes(others)) = (&self.held, &other.held) {
-            return own[..count] == others[..count];
+            return own.as_slice()[..count] == others.as_slice()[..count];
         }
         for place in 0..count {
             if self.get(place) != other.get(place) {
