@@ -13,6 +13,17 @@ use Rattle.dd_symbol.specs.Cells.{IsLeastFor, IsKindOf, IsShapeOf}
 use Rattle.dd_symbol.specs.declared.kind.Kind.{Kind}
 use Rattle.dd_symbol.specs.declared.kind.Kind.TheVariants.{Cycle, Chain}
 
+-- ## Turns that do not lead back
+
+-- one more number of turns that does not fix the chamber
+pub unfixed_more : (s : Symbol) (p : Pair) (d t place : ℕ) → place ≡ turned s p t d → (place ≡ d → ⊥)
+    → ((k : ℕ) → 1 ≤ k → k < t → turned s p k d ≡ d → ⊥) → (k : ℕ) → 1 ≤ k → k < t + 1 → turned s p k d ≡ d → ⊥
+unfixed_more s p d t place is moved before k low high fixed =
+    ⊎_elim
+    (λ earlier. before k low earlier fixed)
+    (λ last. let same : k ≡ t = omega arith in moved (is ∙ ap (λ j. turned s p j d) (sym same) ∙ fixed))
+    (cases_lt k t)
+
 -- ## The least chamber
 
 -- the least of two numbers
@@ -143,10 +154,7 @@ shaping_more s p d k place least next least' kind kind' old step h moved =
     record {
       at = at;
       chamber = h;
-      unfixed = λ j low high fixed. ⊎_elim
-          (λ early. old.unfixed j low early fixed)
-          (λ late. let same : k + 1 ≡ j = omega arith in moved (at ∙ ap (λ i. turned s p i d) same ∙ fixed))
-          (cases_lt j (k + 1));
+      unfixed = unfixed_more s p d (k + 1) next at moved old.unfixed;
       root = root_after s p d k place least next least' kind kind' old step;
       kind = kind_more s p d k place next kind kind' old.at old.kind step.next_is h moved step.kind_is;
     }

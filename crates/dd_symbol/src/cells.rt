@@ -1,4 +1,4 @@
-ghost use Rattle.std.specs.Prelude.{◌≡◌, ℕ, ◌+◌, ◌<◌, ◌≤◌, length, IfOk};
+ghost use Rattle.std.specs.Prelude.{◌≡◌, ℕ, ◌+◌, ◌-◌, ◌<◌, ◌≤◌, length, slice_index_or, IfOk};
 
 use crate::involutions::Involutions;
 use crate::kind::Kind;
@@ -87,25 +87,29 @@ impl Involutions {
         Ok(periods)
     }
 
-    /// Writes a chamber at each chamber of its cell.
-    fn mark_cell(&self, least: &mut Vec<u32>, pair: Pair, chamber: u32)
+    /// Writes a mark at each chamber of a cell.
+    fn mark_cell<T: Copy>(&self, marks: &mut Vec<T>, pair: Pair, chamber: u32, mark: T)
         requires chamber { IsChamber self.now chamber }
-        requires length { length least.old.items ≡ self.now.size }
-        ensures length { length least.new.items ≡ self.now.size }
-        ensures cell { (e : ℕ) → InCell self.now pair chamber e
-            → item least.new.items e ≡ chamber }
+        requires length { length marks.old.items ≡ self.now.size }
+        ensures length { length marks.new.items ≡ self.now.size }
+        ensures cell { (e : ℕ) → InCell self.now pair chamber e → (other : T)
+            → slice_index_or marks.new.items (e - 1) other ≡ mark }
         ensures others { (e : ℕ) → IsChamber self.now e
-            → (InCell self.now pair chamber e → ⊥)
-            → item least.new.items e ≡ item least.old.items e }
+            → (InCell self.now pair chamber e → ⊥) → (other : T)
+            → slice_index_or marks.new.items (e - 1) other
+            ≡ slice_index_or marks.old.items (e - 1) other }
     {
-        let turns = self.period(pair, chamber);
         let mut place = chamber;
-        for _turn in 0..turns {
+        for _turn in 0..self.size() {
             let neighbor = self.op(pair.first(), place);
-            least[place as usize - 1] = chamber;
-            least[neighbor as usize - 1] = chamber;
+            marks[place as usize - 1] = mark;
+            marks[neighbor as usize - 1] = mark;
             place = self.op(pair.second(), neighbor);
+            if place == chamber {
+                return;
+            }
         }
+        unreachable!()
     }
 
     /// For each chamber the least one of its cell.
@@ -116,27 +120,23 @@ impl Involutions {
         for k in 0..self.size() {
             let chamber = k + 1;
             if item(&least, chamber) == 0 {
-                self.mark_cell(&mut least, pair, chamber);
+                self.mark_cell(&mut least, pair, chamber, chamber);
             }
         }
         Ok(least)
     }
 
-    /// The least chambers of the cells of a pair, ascending, from the list of `least_of_cells`.
-    pub fn least_chambers(
-        &self,
-        alloc: Global,
-        pair: Pair,
-        least: &[u32],
-    ) -> Result<Vec<u32>, Memory>
-        requires { AreLeast self.now pair least.now }
+    /// The least chambers of the cells of a pair, ascending.
+    pub fn least_chambers(&self, alloc: Global, pair: Pair) -> Result<Vec<u32>, Memory>
         ensures { IfOk result (λ chambers. AreCells self.now pair chambers.items) }
     {
+        let mut marked = vec![in alloc; false; self.size() as usize]?;
         let mut chambers = Vec::with_capacity(alloc, self.size() as usize)?;
         for k in 0..self.size() {
-            let chamber = k + 1;
-            if item(least, chamber) == chamber {
+            if !marked[k as usize] {
+                let chamber = k + 1;
                 chambers.push(chamber)?;
+                self.mark_cell(&mut marked, pair, chamber, true);
             }
         }
         Ok(chambers)

@@ -126,9 +126,7 @@ impl Symbol {
     pub fn least_chambers(&self, alloc: Global, pair: Pair) -> Result<Vec<u32>, Memory>
         ensures { IfOk result (λ chambers. AreCells self.now pair chambers.items) }
     {
-        let involutions = &self.table.involutions;
-        let least = involutions.least_of_cells(alloc, pair)?;
-        involutions.least_chambers(alloc, pair, &least)
+        self.table.involutions.least_chambers(alloc, pair)
     }
 
     /// A copy of the code.

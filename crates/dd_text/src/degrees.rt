@@ -25,7 +25,7 @@ pub(crate) fn degrees(
         (told_of list.now) fault.why fault.at) }
 {
     let least = involutions.least_of_cells(alloc, pair)?;
-    let cells = involutions.least_chambers(alloc, pair, &least)?;
+    let cells = involutions.least_chambers(alloc, pair)?;
     if list.numbers.len() < cells.len() {
         return Err(Fault {
             at: list.end,

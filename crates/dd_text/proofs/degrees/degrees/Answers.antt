@@ -16,27 +16,27 @@ returns-then-len-2-clause-why c =
 
 pub at_cells-requires-clause-chambers : goal.at_cells-requires-clause-chambers
 at_cells-requires-clause-chambers c =
-    subst (λ n. (k : ℕ) → k < length c.deref-2.result.now → IsWithin n (slice_index c.deref-2.result.now k)) (sym c.size.ensures.size)
-    (subst (λ (zs : List ℕ). (k : ℕ) → k < length zs → IsWithin c.args.involutions.now.size (slice_index zs k)) (sym c.deref-2.ensures.value)
+    subst (λ n. (k : ℕ) → k < length c.deref.result.now → IsWithin n (slice_index c.deref.result.now k)) (sym c.size.ensures.size)
+    (subst (λ (zs : List ℕ). (k : ℕ) → k < length zs → IsWithin c.args.involutions.now.size (slice_index zs k)) (sym c.deref.ensures.value)
     (within_cells c.args.involutions.now c.args.pair c.in_ok-cells.cells.items c.in_ok-cells.ensures))
 
 pub spread-requires : goal.spread-requires
 spread-requires c = record {
   chambers =
-      subst (λ n. (k : ℕ) → k < length c.deref-4.result.now → IsWithin n (slice_index c.deref-4.result.now k))
-      (sym (ap length c.deref-5.ensures.value ∙ c.in_ok-told.ensures.length ∙ c.size.ensures.size))
-      (subst (λ (zs : List ℕ). (k : ℕ) → k < length zs → IsWithin c.args.involutions.now.size (slice_index zs k)) (sym c.deref-4.ensures.value)
+      subst (λ n. (k : ℕ) → k < length c.deref-3.result.now → IsWithin n (slice_index c.deref-3.result.now k))
+      (sym (ap length c.deref-4.ensures.value ∙ c.in_ok-told.ensures.length ∙ c.size.ensures.size))
+      (subst (λ (zs : List ℕ). (k : ℕ) → k < length zs → IsWithin c.args.involutions.now.size (slice_index zs k)) (sym c.deref-3.ensures.value)
       (within_least c.args.involutions.now c.args.pair c.in_ok-least.least.items c.in_ok-least.ensures));
 }
 
 pub returns-clause-ok : goal.returns-clause-ok
 returns-clause-ok c =
-    let at_cells : map (item c.deref-5.result.now) c.in_ok-cells.cells.items ≡ values (told_of c.args.list.now) =
-    ap (λ xs. map (item xs) c.in_ok-cells.cells.items) c.deref-5.ensures.value
-    ∙ ap (map (item c.in_ok-told.told.items)) (sym c.deref-2.ensures.value)
+    let at_cells : map (item c.deref-4.result.now) c.in_ok-cells.cells.items ≡ values (told_of c.args.list.now) =
+    ap (λ xs. map (item xs) c.in_ok-cells.cells.items) c.deref-4.ensures.value
+    ∙ ap (map (item c.in_ok-told.told.items)) (sym c.deref.ensures.value)
     ∙ c.in_ok-told.ensures.told
-    ∙ ap (λ (xs : List Numeral). map (λ x. x.value) xs) c.deref-3.ensures.value in
-    degrees_if c.args.involutions.now c.args.pair (values (told_of c.args.list.now)) (map (item c.deref-5.result.now) c.in_ok-least.least.items) c.spread.result
+    ∙ ap (λ (xs : List Numeral). map (λ x. x.value) xs) c.deref-2.ensures.value in
+    degrees_if c.args.involutions.now c.args.pair (values (told_of c.args.list.now)) (map (item c.deref-4.result.now) c.in_ok-least.least.items) c.spread.result
     (are_degrees c.args.involutions.now c.size.ensures.three.involutions c.args.pair (values (told_of c.args.list.now)) c.in_ok-least.least.items c.in_ok-cells.cells.items
-    c.deref-5.result.now c.in_ok-least.ensures c.in_ok-cells.ensures at_cells)
-    (subst (λ (zs : List ℕ). IfOk c.spread.result (λ v. v.items ≡ map (item c.deref-5.result.now) zs)) c.deref-4.ensures.value c.spread.ensures.ok)
+    c.deref-4.result.now c.in_ok-least.ensures c.in_ok-cells.ensures at_cells)
+    (subst (λ (zs : List ℕ). IfOk c.spread.result (λ v. v.items ≡ map (item c.deref-4.result.now) zs)) c.deref-3.ensures.value c.spread.ensures.ok)

@@ -14,8 +14,8 @@ loop-k-preserved c =
     elim c.if-item-eq0.branch [
       | then-item-eq0 w ↦
           subst (λ v. IsFilled s p (k + 1) v.items) (sym w.least-is)
-          (filled_more s c.size.ensures.three.involutions p k least w.mark_cell.new.least.items c.loop-k.invariant (omega arith, omega arith) (sym read ∙ w.if-item-eq0.true)
-          w.mark_cell.ensures.length w.mark_cell.ensures.cell w.mark_cell.ensures.others)
+          (filled_more s c.size.ensures.three.involutions p k least w.mark_cell.new.marks.items c.loop-k.invariant (omega arith, omega arith) (sym read ∙ w.if-item-eq0.true)
+          w.mark_cell.ensures.length (λ e there. w.mark_cell.ensures.cell e there 0) (λ e he out. w.mark_cell.ensures.others e he out 0))
       | else-item-eq0 w ↦
           subst (λ v. IsFilled s p (k + 1) v.items) (sym w.least-is)
           (filled_already s p k least c.loop-k.invariant (omega arith) (λ none. w.if-item-eq0.false (read ∙ none)))

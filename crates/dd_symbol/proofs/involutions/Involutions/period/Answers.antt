@@ -1,20 +1,8 @@
-use Rattle.std.proofs.Common.{◌≡◌, ℕ, ◌+◌, ◌≤◌, ◌<◌, sym, ap, ◌∙◌, ⊎_elim, arith}
-use Rattle.std.proofs.lemmas.Bool.{cases_lt}
-use Rattle.dd_model.specs.declared.pair.Pair.{Pair}
-use Rattle.dd_model.specs.Symbol.{Symbol}
-use Rattle.dd_model.specs.Cell.{turned}
+use Rattle.std.proofs.Common.{◌+◌, ◌∙◌, arith}
 use Rattle.dd_model.proofs.Turns.{period_bound}
 use Rattle.dd_model.proofs.CellWalks.{next_place}
+use Rattle.dd_symbol.proofs.CellShapes.{unfixed_more}
 use Rattle.dd_symbol.proofs.involutions.Involutions.period.Goals as goal
-
--- one more number of turns that does not fix the chamber
-unfixed_more : (s : Symbol) (p : Pair) (d t place : ℕ) → place ≡ turned s p t d → (place ≡ d → ⊥)
-    → ((k : ℕ) → 1 ≤ k → k < t → turned s p k d ≡ d → ⊥) → (k : ℕ) → 1 ≤ k → k < t + 1 → turned s p k d ≡ d → ⊥
-unfixed_more s p d t place is moved before k low high fixed =
-    ⊎_elim
-    (λ earlier. before k low earlier fixed)
-    (λ last. let same : k ≡ t = omega arith in moved (is ∙ ap (λ j. turned s p j d) (sym same) ∙ fixed))
-    (cases_lt k t)
 
 pub loop-place-smaller : goal.loop-place-smaller
 loop-place-smaller c =
