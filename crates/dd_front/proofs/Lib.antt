@@ -10,6 +10,7 @@ mod Shutting
 mod SmallCodes
 mod Emitted
 mod Skipped
+pub mod Spanning
 pub mod Telling
 pub mod Standing
 pub mod Splitting

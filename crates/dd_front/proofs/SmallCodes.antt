@@ -1,7 +1,5 @@
 -- The numbers of a member's code are small.
-use Rattle.std.proofs.Common.{◌≡◌, ℕ, zero, suc, ◌+◌, ◌<◌, ◌≤◌, false, List, ◌++◌, length, get_or, subst, ⊎_elim, arith}
-use Rattle.std.proofs.lemmas.Bool.{cases_lt}
-use Rattle.std.proofs.lemmas.List.{get_or_past}
+use Rattle.std.proofs.Common.{◌≡◌, ℕ, zero, suc, ◌+◌, ◌<◌, ◌≤◌, List, ◌++◌, length, subst, arith}
 use Rattle.std.specs.List.{AllByRecursion, flat_map}
 use Rattle.dd_model.specs.Symbol.{Symbol, AreInvolutions, IsChamber, item}
 use Rattle.dd_model.specs.Code.{code, images, count_from}

@@ -12,3 +12,4 @@ pub mod Room
 pub mod Rounds
 pub mod Joining
 pub mod Shut
+pub mod Spans

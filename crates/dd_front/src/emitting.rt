@@ -5,7 +5,7 @@ ghost use Rattle.dd_model.specs.Code.{code};
 ghost use Rattle.dd_front.specs.Step.{at_symbol};
 
 use crate::front::Front;
-use crate::looking::{count_before, first_list};
+use crate::looking::first_list;
 use crate::members::Members;
 use dd_model::{Job, Memory, Position, Prefix};
 use dd_symbol::Connected;
@@ -44,7 +44,7 @@ impl Front {
         ensures members { IfSome result (λ list. Emits self.old self.new list) }
     {
         let mut list = self.entries.take_done()?;
-        let before = count_before(list.as_slice(), &self.from);
+        let before = list.count_before(&self.from);
         list.skip(before);
         self.lines += list.len() as u128;
         Some(list)
@@ -59,7 +59,7 @@ impl Front {
             unreachable!()
         };
         let mut left = list.share()?;
-        left.skip(count_before(list.as_slice(), &self.from));
+        left.skip(list.count_before(&self.from));
         Ok(left)
     }
 
@@ -72,7 +72,7 @@ impl Front {
         ensures same { OnErr result (self.new ≡ self.old) }
     {
         let mut part = self.left()?;
-        let next = position_at(self.alloc, &part.as_slice()[count as usize])?;
+        let next = position_at(self.alloc, part.get(count as usize))?;
         part.keep(count as usize);
         self.from = next;
         self.lines += u128::from(count);

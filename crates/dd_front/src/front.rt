@@ -7,7 +7,7 @@ use crate::entry::{Entry, State};
 use crate::entry_list::EntryList;
 use crate::event::Event;
 use crate::listing::{copies_of, position_of};
-use crate::looking::{count_before, first_list};
+use crate::looking::first_list;
 use dd_model::{Job, Memory, Position, Request};
 use std::alloc::Global;
 use std::marker::Model;
@@ -100,7 +100,7 @@ impl Front {
             Event::Emit => first_list(entries).is_some(),
             Event::Part { count } => match first_list(entries) {
                 Some(list) => {
-                    let before = count_before(list.as_slice(), &self.from);
+                    let before = list.count_before(&self.from);
                     *count < (list.len() - before) as u64
                 }
                 None => false,

@@ -16,6 +16,7 @@ mod looking;
 mod members;
 mod rounds;
 mod saving;
+mod span;
 mod steps;
 
 pub use entry::{Entry, State};
@@ -28,3 +29,4 @@ pub use laws::{
     absorbing_keeps_what_is_held, an_event_keeps_what_is_held, what_is_held_is_covered,
 };
 pub use members::Members;
+pub use span::Span;

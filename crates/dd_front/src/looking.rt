@@ -1,9 +1,5 @@
-ghost use Rattle.std.specs.Prelude.{◌≡◌, ◌≢◌, ◌≤◌, ◌<◌, List, length, drop, MatchOption};
+ghost use Rattle.std.specs.Prelude.{◌≢◌, ◌≤◌, ◌<◌, List, length, MatchOption};
 ghost use Rattle.std.specs.List.{AllByRecursion};
-ghost use Rattle.dd_model.specs.Symbol.{IsSymbol};
-ghost use Rattle.dd_model.specs.Lists.{IsWithout};
-ghost use Rattle.dd_model.specs.Position.{IsBefore};
-ghost use Rattle.dd_model.specs.Wanted.{IsAscending};
 ghost use Rattle.dd_front.specs.declared.entry.Entry.{Entry as Row};
 ghost use Rattle.dd_front.specs.Rounds.{IsFirstOpen};
 ghost use Rattle.dd_front.specs.Numbers.{HaveOwnNumbers};
@@ -13,8 +9,6 @@ ghost use Rattle.dd_front.specs.Taken.{BeginsDone, BeginsNotDone};
 
 use crate::entry::{Entry, State};
 use crate::members::Members;
-use dd_model::Position;
-use dd_symbol::Connected;
 
 /// The place of the entry of a number, counted from 0. It is looked for on both sides of a place,
 /// the nearest entries first, so that one which stands near is found at once in a long list.
@@ -56,21 +50,6 @@ pub fn first_list(entries: &[Entry]) -> Option<&Members>
         State::Done(list) => Some(list),
         State::Open | State::Out => None,
     }
-}
-
-/// How many members of an ascending list are before a position: they are its first ones.
-pub fn count_before(items: &[Connected], at: &Position) -> usize
-    requires ascending { IsAscending items.now }
-    requires symbols { AllByRecursion IsSymbol items.now }
-    ensures within { result ≤ length items.now }
-    ensures without { IsWithout (IsBefore at.now) items.now (drop result items.now) }
-{
-    for (k, symbol) in items.iter().enumerate() {
-        if !symbol.symbol().is_before(at) {
-            return k;
-        }
-    }
-    items.len()
 }
 
 /// How many of the first entries are not open, after the one at a place gets a state, where so many

@@ -1,78 +1,123 @@
-ghost use Rattle.std.specs.Prelude.{◌≡◌, ℕ, ◌-◌, ◌≤◌, List, length, take, drop, IfOk};
-ghost use Rattle.std.specs.Arc.{arc_value};
-ghost use Rattle.dd_model.specs.Symbol.{Symbol};
+ghost use Rattle.std.specs.Prelude.{◌≡◌, ◌++◌, ◌≤◌, ◌<◌, [], List, length, take, drop, slice_index_or, IfOk, OnOk};
+ghost use Rattle.std.specs.List.{AllByRecursion};
+ghost use Rattle.dd_model.specs.Symbol.{Symbol, IsSymbol};
+ghost use Rattle.dd_model.specs.Lists.{IsWithout};
+ghost use Rattle.dd_model.specs.Position.{IsBefore};
+ghost use Rattle.dd_model.specs.Wanted.{IsAscending};
+ghost use Rattle.dd_front.specs.Spans.{IsCut, joined_spans};
 
-use dd_model::Memory;
+use crate::span::Span;
+use dd_model::{Memory, Position};
 use dd_symbol::Connected;
 use std::alloc::Global;
 use std::marker::Model;
-use std::sync::Arc;
 
-/// Copies of symbols.
-fn copies_of(alloc: Global, items: &[Connected]) -> Result<Vec<Connected>, Memory>
-    ensures { IfOk result (λ copies. copies.items ≡ items.now) }
-{
-    let mut copies = Vec::with_capacity(alloc, items.len())?;
-    for item in items {
-        copies.push(item.try_copy(alloc)?)?;
-    }
-    Ok(copies)
-}
-
-/// Members of a catalogue in order: a list, or a part of one. The list may have several owners, so
-/// that what stands in an entry and in a log is there once.
+/// Members of a catalogue in order, in spans that follow each other, so that lists are joined and cut
+/// without a copy of a member.
 #[derive(Drop)]
 pub struct Members {
-    items: Arc<Vec<Connected, Global>, Global>,
-    start: usize,
-    end: usize,
+    spans: Vec<Span>,
+    count: usize,
 }
 
 impl Model for Members {
     ghost Value = { List Symbol };
 
-    ghost view = { λ a. take (a.end - a.start) (drop a.start (arc_value a.items).items) };
+    ghost view = { λ a. joined_spans a.spans.items };
 
-    ghost invariant = { λ a. (a.start ≤ a.end) × (a.end ≤ length (arc_value a.items).items) };
+    ghost invariant = { λ a. a.count ≡ length (joined_spans a.spans.items) };
+}
+
+/// How many spans the first so many members fill, and how many members of the next one they are.
+fn cut(spans: &[Span], count: usize) -> (usize, usize)
+    requires { count ≤ length (joined_spans spans.now) }
+    ensures { IsCut spans.now count result.0 result.1 }
+{
+    let mut rest = count;
+    for (k, span) in spans.iter().enumerate() {
+        if rest < span.len() {
+            return (k, rest);
+        }
+        rest -= span.len();
+    }
+    (spans.len(), 0)
 }
 
 impl Members {
+    /// No members.
+    pub fn none(alloc: Global) -> Members
+        ensures { result ≡ [] }
+    {
+        Members {
+            spans: Vec::new(alloc),
+            count: 0,
+        }
+    }
+
     /// The members of a list, which is moved and not copied.
     pub fn new(alloc: Global, items: Vec<Connected>) -> Result<Members, Memory>
         ensures { IfOk result (λ list. list ≡ items.items) }
     {
-        let end = items.len();
-        Ok(Members {
-            items: Arc::new(alloc, items)?,
-            start: 0,
-            end,
-        })
+        let count = items.len();
+        let mut spans = Vec::with_capacity(alloc, 1)?;
+        spans.push(Span::new(alloc, items)?)?;
+        Ok(Members { spans, count })
     }
 
     /// A further owner of the same members.
     pub fn share(&self) -> Result<Members, Memory>
         ensures { IfOk result (λ list. list ≡ self.now) }
     {
+        let mut spans = Vec::with_capacity(*self.spans.allocator(), self.spans.len())?;
+        for span in &self.spans {
+            spans.push(span.share()?)?;
+        }
         Ok(Members {
-            items: Arc::try_clone(&self.items)?,
-            start: self.start,
-            end: self.end,
+            spans,
+            count: self.count,
         })
     }
 
-    /// The members in order.
-    pub fn as_slice(&self) -> &[Connected]
-        ensures { result.now ≡ self.now }
+    /// The spans, in order.
+    pub fn spans(&self) -> &[Span]
+        ensures { joined_spans result.now ≡ self.now }
     {
-        let items: &Vec<Connected> = &self.items;
-        &items[self.start..self.end]
+        &self.spans
+    }
+
+    /// The allocator.
+    pub fn allocator(&self) -> &Global {
+        self.spans.allocator()
     }
 
     /// How many members there are.
     pub fn len(&self) -> usize
         ensures { result ≡ length self.now }
     {
-        self.end - self.start
+        self.count
+    }
+
+    /// Puts other members behind these.
+    pub fn append(&mut self, other: Members) -> Result<(), Memory>
+        ensures { OnOk result (self.new ≡ self.old ++ other) }
+    {
+        let Members { mut spans, count } = other;
+        // No memory has room for so many that the sum would be too large.
+        let Some(count) = self.count.checked_add(count) else {
+            return Err(Memory);
+        };
+        self.spans.append(&mut spans)?;
+        self.count = count;
+        Ok(())
+    }
+
+    /// The member at a place, counted from 0.
+    pub fn get(&self, place: usize) -> &Connected
+        requires { place < length self.now }
+        ensures { result.now ≡ slice_index_or self.now place result.now }
+    {
+        let (k, rest) = cut(&self.spans, place);
+        &self.spans[k].as_slice()[rest]
     }
 
     /// Leaves out the first so many members.
@@ -80,7 +125,13 @@ impl Members {
         requires { count ≤ length self.old }
         ensures { self.new ≡ drop count self.old }
     {
-        self.start += count;
+        let (k, rest) = cut(&self.spans, count);
+        let _ = self.spans.drain(..k);
+        if rest > 0 {
+            let first = &mut self.spans[0];
+            first.skip(rest);
+        }
+        self.count -= count;
     }
 
     /// Keeps the first so many members alone.
@@ -88,23 +139,34 @@ impl Members {
         requires { count ≤ length self.old }
         ensures { self.new ≡ take count self.old }
     {
-        self.end = self.start + count;
+        let (k, rest) = cut(&self.spans, count);
+        if rest > 0 {
+            let last = &mut self.spans[k];
+            last.keep(rest);
+            self.spans.truncate(k + 1);
+        } else {
+            self.spans.truncate(k);
+        }
+        self.count = count;
     }
 
-    /// The members as a list of their own, which is moved where it is whole and has no other owner,
-    /// and copied otherwise.
-    pub fn into_vec(self, alloc: Global) -> Result<Vec<Connected>, Memory>
-        ensures { IfOk result (λ items. items.items ≡ self) }
+    /// How many members of an ascending list are before a position: they are its first ones.
+    pub fn count_before(&self, at: &Position) -> usize
+        requires ascending { IsAscending self.now }
+        requires symbols { AllByRecursion IsSymbol self.now }
+        ensures within { result ≤ length self.now }
+        ensures without { IsWithout (IsBefore at.now) self.now (drop result self.now) }
     {
-        if self.start > 0 || self.end < self.items.len() {
-            return copies_of(alloc, self.as_slice());
-        }
-        match Arc::try_unwrap(self.items) {
-            Ok(items) => Ok(items),
-            Err(items) => {
-                let items: &Vec<Connected> = &items;
-                copies_of(alloc, items)
+        let all = self.len();
+        let mut count = 0;
+        for span in &self.spans {
+            for symbol in span.as_slice() {
+                if !symbol.symbol().is_before(at) {
+                    return count;
+                }
+                count += 1;
             }
         }
+        all
     }
 }

@@ -10,4 +10,4 @@ abbrev pub invariant-loop-entry : goal.invariant-loop-entry
 invariant-loop-entry l =
     AllByRecursion (λ e. IsDone e.state) (into_iter_items l.entry-iterator)
     × (into_iter_len l.entry-iterator ≡ length (into_iter_items l.entry-iterator))
-    × ((k : ℕ) → AreBlocks (jobs_of (take k l.olds)) l.fn.handed.items → AreJoining (jobs_of (take k l.olds)) l.fn.handed.items (into_iter_items l.entry-iterator) l.lists.items l.joined.items)
+    × ((k : ℕ) → AreBlocks (jobs_of (take k l.olds)) l.fn.handed.items → AreJoining (jobs_of (take k l.olds)) l.fn.handed.items (into_iter_items l.entry-iterator) l.lists.items l.joined)

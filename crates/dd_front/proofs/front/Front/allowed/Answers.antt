@@ -4,8 +4,6 @@ use Rattle.dd_model.specs.Position.{IsBefore}
 use Rattle.dd_front.specs.declared.entry.State.TheVariants.{Open}
 use Rattle.dd_front.specs.declared.event.Event.TheVariants.{Emit}
 use Rattle.dd_front.specs.Allowed.{IsPermitted}
-use Rattle.std.specs.List.{AllByRecursion}
-use Rattle.dd_model.specs.Symbol.{IsSymbol}
 use Rattle.dd_front.specs.Taken.{BeginsDone}
 use Rattle.dd_front.proofs.Lasting.{first_in_order, symbols_in_order}
 use Rattle.dd_front.proofs.Telling.{state_told, look_told, emit_told, part_told, no_part}
@@ -37,9 +35,8 @@ returns-in-Some c =
     let list = c.in-Some.list.now in
     let k = c.count_before-before.result in
     let rest = c.in-Some.ensures.0 in
-    let within : k ≤ length list = subst (λ ss. k ≤ length ss) c.as_slice.ensures c.count_before-before.ensures.within in
-    let here : IsWithout (IsBefore c.self.inside.from) list (drop k list) =
-    subst (λ ss. IsWithout (IsBefore c.self.inside.from) ss (drop k ss)) c.as_slice.ensures c.count_before-before.ensures.without in
+    let within : k ≤ length list = c.count_before-before.ensures.within in
+    let here : IsWithout (IsBefore c.self.inside.from) list (drop k list) = c.count_before-before.ensures.without in
     let without : IsWithout (IsBefore f.from) list (drop k list) = subst (λ m. IsWithout (IsBefore m.from) list (drop k list)) c.self.view_is here in
     let told = part_told f c.as_slice-entries.result.now list rest k c.len.result c.in-Part.count es c.in-Some.ensures.1 within without c.len.ensures in
     subst (λ e. IsTrue (nat_lt c.in-Part.count (c.len.result - k)) ↔ IsPermitted f e) (sym c.in-Part.is) told
@@ -55,5 +52,4 @@ count_before-before-requires-clause-symbols c =
     let list = c.in-Some.list.now in
     let rest = c.in-Some.ensures.0 in
     let begins : BeginsDone c.self.inside.entries list rest = subst (λ es. BeginsDone es list rest) c.as_slice-entries.ensures.entries c.in-Some.ensures.1 in
-    subst (AllByRecursion IsSymbol) (sym c.as_slice.ensures)
     (symbols_in_order c.self.inside.request list (first_in_order c.self.inside.request c.self.inside.entries list rest c.self.invariant.lists begins).0)

@@ -1,7 +1,6 @@
 use Rattle.std.proofs.Common.{◌≡◌, ◌+◌, ◌<◌, ◌^◌, IfNone, ◌-◌, List, length, drop, refl, sym, ap, ◌∙◌, subst, arith}
 use Rattle.std.proofs.lemmas.List.{length-drop}
-use Rattle.std.specs.List.{AllByRecursion}
-use Rattle.dd_model.specs.Symbol.{Symbol, IsSymbol}
+use Rattle.dd_model.specs.Symbol.{Symbol}
 use Rattle.dd_model.specs.Lists.{IsWithout}
 use Rattle.dd_model.specs.Position.{IsBefore}
 use Rattle.dd_front.specs.Allowed.{HasFirst}
@@ -19,8 +18,7 @@ returns-in_err-list-clause-none c =
 pub count_before-before-requires-clause-symbols : goal.count_before-before-requires-clause-symbols
 count_before-before-requires-clause-symbols c =
     let q = c.self.inside.request in
-    subst (AllByRecursion IsSymbol) (sym c.as_slice.ensures)
-    (symbols_in_order q c.in_ok-list.list (first_in_order q c.self.inside.entries c.in_ok-list.list c.take_done.new.self c.self.invariant.lists c.in_ok-list.ensures).0)
+    symbols_in_order q c.in_ok-list.list (first_in_order q c.self.inside.entries c.in_ok-list.list c.take_done.new.self c.self.invariant.lists c.in_ok-list.ensures).0
 
 pub overflow_add-self : goal.overflow_add-self
 overflow_add-self c =
@@ -35,7 +33,6 @@ pub returns-clause-members : goal.returns-clause-members
 returns-clause-members c =
     let k = c.count_before-before.result in
     let list = c.in_ok-list.list in
-    let without : IsWithout (IsBefore c.self.inside.from) list (drop k list) =
-    subst (λ ss. IsWithout (IsBefore c.self.inside.from) ss (drop k ss)) c.as_slice.ensures c.count_before-before.ensures.without in
+    let without : IsWithout (IsBefore c.self.inside.from) list (drop k list) = c.count_before-before.ensures.without in
     emits_where c.take_done.new.self list c.skip.new.self k (c.self.inside.lines + c.len.result) c.self.view_is c.in_ok-list.ensures without c.skip.ensures
     (ap (λ n. c.self.inside.lines + n) c.len.ensures) refl

@@ -1,6 +1,4 @@
-use Rattle.std.proofs.Common.{◌≡◌, drop, sym, ap, ◌∙◌, subst}
-use Rattle.std.specs.List.{AllByRecursion}
-use Rattle.dd_model.specs.Symbol.{IsSymbol}
+use Rattle.std.proofs.Common.{◌≡◌, drop, ap, ◌∙◌, subst}
 use Rattle.dd_model.specs.Lists.{IsWithout}
 use Rattle.dd_model.specs.Position.{IsBefore}
 use Rattle.dd_front.specs.Taken.{BeginsDone}
@@ -17,8 +15,7 @@ count_before-requires-clause-symbols c =
     let list = c.in-Some.list.now in
     let rest = c.in-Some.ensures.0 in
     let begins : BeginsDone c.self.inside.entries list rest = subst (λ es. BeginsDone es list rest) c.as_slice.ensures.entries c.in-Some.ensures.1 in
-    subst (AllByRecursion IsSymbol) (sym c.as_slice-2.ensures)
-    (symbols_in_order c.self.inside.request list (first_in_order c.self.inside.request c.self.inside.entries list rest c.self.invariant.lists begins).0)
+    symbols_in_order c.self.inside.request list (first_in_order c.self.inside.request c.self.inside.entries list rest c.self.invariant.lists begins).0
 
 pub returns : goal.returns
 returns c =
@@ -26,8 +23,7 @@ returns c =
     let rest = c.in-Some.ensures.0 in
     let k = c.count_before.result in
     let begins : BeginsDone c.self.inside.entries list rest = subst (λ es. BeginsDone es list rest) c.as_slice.ensures.entries c.in-Some.ensures.1 in
-    let without : IsWithout (IsBefore c.self.inside.from) list (drop k list) =
-    subst (λ ss. IsWithout (IsBefore c.self.inside.from) ss (drop k ss)) c.as_slice-2.ensures c.count_before.ensures.without in
+    let without : IsWithout (IsBefore c.self.inside.from) list (drop k list) = c.count_before.ensures.without in
     let order = (first_in_order c.self.inside.request c.self.inside.entries list rest c.self.invariant.lists begins).0 in
     let is : c.skip.new.self ≡ drop k list = c.skip.ensures ∙ ap (drop k) c.in_ok-left.ensures in
     left_where rest list c.skip.new.self k c.self.view_is begins without order c.self.invariant.valid is

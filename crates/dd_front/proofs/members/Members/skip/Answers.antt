@@ -1,19 +1,40 @@
-use Rattle.std.proofs.Common.{◌≡◌, ◌+◌, ◌-◌, ◌≤◌, length, take, drop, sym, ap, ◌∙◌, arith}
-use Rattle.std.proofs.lemmas.List.{drop-take, drop-drop, length-take, length-drop}
-use Rattle.std.specs.Arc.{arc_value}
+use Rattle.std.proofs.Common.{rules, ◌≡◌, ◌-◌, length, get_or, drop, set, subst, sym, ap, ◌∙◌, arith}
+use Rattle.std.proofs.lemmas.List.{length-drop, get_or-drop}
+use Rattle.dd_front.specs.Spans.{IsCut, joined_spans}
+use Rattle.dd_front.proofs.Spanning.{cut_skip, cut_skip_whole, cut_low}
 use Rattle.dd_front.proofs.members.Members.skip.Goals as goal
+use Rattle.dd_front.proofs.members.Members.skip.Goals.{then-rest-gt0, else-rest-gt0}
+
+left : (c : goal.After-self-2-1) → joined_spans c.if-rest-gt0.self-inside.spans.items ≡ drop c.args.count (joined_spans c.self.inside.spans.items)
+left c =
+    let spans = c.self.inside.spans.items in
+    let k = c.cut-k.result.0 in
+    let rest = c.cut-k.result.1 in
+    let cut : IsCut spans c.args.count k rest = subst (λ xs. IsCut xs c.args.count k rest) c.deref.ensures.value c.cut-k.ensures in
+    let after : c.drop-drain.new.self.0.items ≡ drop k spans = search rules in
+    elim c.if-rest-gt0.branch [
+      | then-rest-gt0 w ↦
+          let first = w.index_mut-first.result.now in
+          let low = cut_low spans c.args.count k rest cut w.if-rest-gt0.true in
+          let read : first ≡ get_or spans k first = w.index_mut-first.ensures.value ∙ ap (λ xs. get_or xs 0 first) after ∙ get_or-drop k spans 0 first ∙ ap (λ n. get_or spans n first) (omega arith) in
+          ap (λ it. joined_spans it.spans.items) w.self-inside-is
+          ∙ ap (λ xs. joined_spans (set xs 0 w.skip.new.self)) after
+          ∙ ap (λ s. joined_spans (set (drop k spans) 0 s)) (w.skip.ensures ∙ ap (drop rest) read)
+          ∙ cut_skip spans c.args.count k rest first cut low
+      | else-rest-gt0 w ↦
+          ap (λ it. joined_spans it.spans.items) w.self-inside-is
+          ∙ ap joined_spans after
+          ∙ cut_skip_whole spans c.args.count k rest cut (omega (arith, w.if-rest-gt0.false))
+    ]
+
+pub invariant_of-self : goal.invariant_of-self
+invariant_of-self c =
+    let count = elim c.if-rest-gt0.branch as (λ b. c.if-rest-gt0.self-inside.count ≡ c.self.inside.count) [
+      | then-rest-gt0 w ↦ ap (λ it. it.count) w.self-inside-is
+      | else-rest-gt0 w ↦ ap (λ it. it.count) w.self-inside-is
+    ] in
+    ap (λ n. n - c.args.count) (count ∙ c.self.invariant)
+    ∙ sym (ap length (left c) ∙ length-drop c.args.count (joined_spans c.self.inside.spans.items))
 
 pub returns : goal.returns
-returns c =
-    let start = c.self.inside.start in
-    let end = c.self.inside.end in
-    let items = (arc_value c.self.inside.items).items in
-    let n = c.args.count in
-    let inside = c.self.invariant in
-    let len : length (take (end - start) (drop start items)) ≡ end - start = simp (length-take, length-drop) (omega arith) in
-    let room : n ≤ end - start = omega (arith, c.requires, ap length c.self.view_is, len) in
-    let whole : n + (end - (start + n)) ≡ end - start = omega arith in
-    ap (take (end - (start + n))) (sym (drop-drop n start items))
-    ∙ sym (drop-take n (end - (start + n)) (drop start items))
-    ∙ ap (λ m. drop n (take m (drop start items))) whole
-    ∙ ap (drop n) c.self.view_is
+returns c = left c ∙ ap (drop c.args.count) c.self.view_is

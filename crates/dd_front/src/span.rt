@@ -1,0 +1,82 @@
+ghost use Rattle.std.specs.Prelude.{◌≡◌, ◌-◌, ◌≤◌, List, length, take, drop, IfOk};
+ghost use Rattle.std.specs.Arc.{arc_value};
+ghost use Rattle.dd_model.specs.Symbol.{Symbol};
+
+use dd_model::Memory;
+use dd_symbol::Connected;
+use std::alloc::Global;
+use std::marker::Model;
+use std::sync::Arc;
+
+/// A list of members of a catalogue in order, or a part of one. The list may have several owners, so
+/// that what stands in an entry and in a log is there once.
+#[derive(Drop)]
+pub struct Span {
+    items: Arc<Vec<Connected, Global>, Global>,
+    start: usize,
+    end: usize,
+}
+
+impl Model for Span {
+    ghost Value = { List Symbol };
+
+    ghost view = { λ a. take (a.end - a.start) (drop a.start (arc_value a.items).items) };
+
+    ghost invariant = { λ a. (a.start ≤ a.end) × (a.end ≤ length (arc_value a.items).items) };
+}
+
+impl Span {
+    /// The members of a list, which is moved and not copied.
+    pub fn new(alloc: Global, items: Vec<Connected>) -> Result<Span, Memory>
+        ensures { IfOk result (λ span. span ≡ items.items) }
+    {
+        let end = items.len();
+        Ok(Span {
+            items: Arc::new(alloc, items)?,
+            start: 0,
+            end,
+        })
+    }
+
+    /// A further owner of the same members.
+    pub fn share(&self) -> Result<Span, Memory>
+        ensures { IfOk result (λ span. span ≡ self.now) }
+    {
+        Ok(Span {
+            items: Arc::try_clone(&self.items)?,
+            start: self.start,
+            end: self.end,
+        })
+    }
+
+    /// The members in order.
+    pub fn as_slice(&self) -> &[Connected]
+        ensures { result.now ≡ self.now }
+    {
+        let items: &Vec<Connected> = &self.items;
+        &items[self.start..self.end]
+    }
+
+    /// How many members there are.
+    pub fn len(&self) -> usize
+        ensures { result ≡ length self.now }
+    {
+        self.end - self.start
+    }
+
+    /// Leaves out the first so many members.
+    pub fn skip(&mut self, count: usize)
+        requires { count ≤ length self.old }
+        ensures { self.new ≡ drop count self.old }
+    {
+        self.start += count;
+    }
+
+    /// Keeps the first so many members alone.
+    pub fn keep(&mut self, count: usize)
+        requires { count ≤ length self.old }
+        ensures { self.new ≡ take count self.old }
+    {
+        self.end = self.start + count;
+    }
+}
