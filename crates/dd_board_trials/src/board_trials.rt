@@ -112,7 +112,9 @@ fn shown<N: Naming>(alloc: Global, desk: &Desk<N>) -> Result<Vec<u8>, Fail> {
             State::Out => shown.extend_from_slice(b"\nout\n")?,
             State::Done(list) => {
                 shown.extend_from_slice(b"\ndone\n")?;
-                put_lines(&mut shown, 0, list.as_slice())?;
+                for span in list.spans() {
+                    put_lines(&mut shown, 0, span.as_slice())?;
+                }
             }
         }
     }

@@ -11,7 +11,7 @@ use Rattle.dd_model.specs.declared.memory.Memory.{Memory}
 use Rattle.dd_model.proofs.Texts.{joined_lines}
 use Rattle.dd_catalogue.specs.Parts.{members_of, AreNumbered, AreParts}
 use Rattle.dd_catalogue.specs.Texts.{bytes_of, joined}
-use Rattle.dd_catalogue.specs.declared.lines.Part.{Part}
+use Rattle.dd_catalogue.specs.declared.part.Part.{Part}
 
 -- ## Cutting
 

@@ -16,7 +16,7 @@ use Rattle.dd_catalogue.specs.declared.pages.Page.{Page}
 abbrev pub front_kept : (k : ℕ) (base : List ℕ) (start now : Option (List ℕ)) (page : Page) (ss : List Symbol) → HasLines k base start now page ss → IsFrontOut k base start now ss
 front_kept k base start now page ss has = record {
   shown = has.made;
-  later = page.waiting.items;
+  later = page.waiting;
   parts = has.parts;
   written = has.written;
   rest = page.buffer.items;
@@ -42,7 +42,7 @@ front_of_text k base start before now ss made later written text parts lines app
 pub front_written : (k : ℕ) (base : List ℕ) (start before now : Option (List ℕ)) (page : Page) (ss : List Symbol) → GrowsByPrefix before now page.buffer.items → HasLines k base start before page ss
     → IsFrontOut k base start now ss
 front_written k base start before now page ss grown has =
-    front_of_text k base start before now ss has.made page.waiting.items has.written page.buffer.items has.parts has.lines has.appended grown
+    front_of_text k base start before now ss has.made page.waiting has.written page.buffer.items has.parts has.lines has.appended grown
 
 -- what is a front of the lines of some symbols is one of those of more
 pub front_of_more : (k : ℕ) (base : List ℕ) (start now : Option (List ℕ)) (ss more : List Symbol) → IsFrontOut k base start now ss → IsFrontOut k base start now (ss ++ more)
@@ -57,7 +57,7 @@ front_of_more k base start now ss more front = record {
 }
 
 -- a text was sent that makes, after what was written before, the lines of the symbols that do not wait
-lines_of_text : (k : ℕ) (base : List ℕ) (start before now : Option (List ℕ)) (page : Page) (ss made : List Symbol) (written text : List ℕ) (sum : ℕ) → ss ≡ made ++ page.waiting.items
+lines_of_text : (k : ℕ) (base : List ℕ) (start before now : Option (List ℕ)) (page : Page) (ss made : List Symbol) (written text : List ℕ) (sum : ℕ) → ss ≡ made ++ page.waiting
     → AreLines k made ((base ++ written) ++ text) → Appends start before written → page.count ≡ k + length ss → sum ≡ length (base ++ written) → IsSent before now text sum page → HasLines k base start now page ss
 lines_of_text k base start before now page ss made written text sum parts lines appended count bytes sent =
     let both : base ++ (written ++ sent.written) ≡ (base ++ written) ++ sent.written = sym (append_assoc base written sent.written) in
@@ -76,10 +76,10 @@ lines_of_text k base start before now page ss made written text sum parts lines 
 pub lines_sent : (k : ℕ) (base : List ℕ) (start before now : Option (List ℕ)) (old new : Page) (ss : List Symbol) → new.waiting ≡ old.waiting → new.count ≡ old.count
     → IsSent before now old.buffer.items old.bytes new → HasLines k base start before old ss → HasLines k base start now new ss
 lines_sent k base start before now old new ss waiting count sent has =
-    lines_of_text k base start before now new ss has.made has.written old.buffer.items old.bytes (has.parts ∙ ap (λ ws. has.made ++ ws.items) (sym waiting)) has.lines has.appended (count ∙ has.count) has.bytes sent
+    lines_of_text k base start before now new ss has.made has.written old.buffer.items old.bytes (has.parts ∙ ap (λ ws. has.made ++ ws) (sym waiting)) has.lines has.appended (count ∙ has.count) has.bytes sent
 
 -- where no member waits, all lines are made
-pub all_made : (k : ℕ) (base : List ℕ) (start now : Option (List ℕ)) (page : Page) (ss : List Symbol) → page.waiting.items ≡ [] → (has : HasLines k base start now page ss) → has.made ≡ ss
+pub all_made : (k : ℕ) (base : List ℕ) (start now : Option (List ℕ)) (page : Page) (ss : List Symbol) → page.waiting ≡ [] → (has : HasLines k base start now page ss) → has.made ≡ ss
 all_made k base start now page ss none has = sym (append-nil has.made) ∙ ap (λ ws. has.made ++ ws) (sym none) ∙ sym has.parts
 
 -- a text has the lines of more symbols
@@ -89,31 +89,31 @@ more_lines k base start now page ss more text has are =
     subst (AreLines k (has.made ++ more)) (append_assoc (base ++ has.written) page.buffer.items text) (joined_lines k has.made more ((base ++ has.written) ++ page.buffer.items) text has.lines are)
 
 -- a text has the lines of all that wait
-waiting_lines : (k : ℕ) (base : List ℕ) (start now : Option (List ℕ)) (page : Page) (ss : List Symbol) (text : List ℕ) → AreLines (page.count - length page.waiting.items) page.waiting.items text
+waiting_lines : (k : ℕ) (base : List ℕ) (start now : Option (List ℕ)) (page : Page) (ss : List Symbol) (text : List ℕ) → AreLines (page.count - length page.waiting) page.waiting text
     → (has : HasLines k base start now page ss) → AreLines k ss ((base ++ has.written) ++ (page.buffer.items ++ text))
 waiting_lines k base start now page ss text are has =
-    let size : length ss ≡ length has.made + length page.waiting.items = ap length has.parts ∙ length-append has.made page.waiting.items in
+    let size : length ss ≡ length has.made + length page.waiting = ap length has.parts ∙ length-append has.made page.waiting in
     let whole = has.count in
-    let from : page.count - length page.waiting.items ≡ k + length has.made = omega (arith, whole, size) in
+    let from : page.count - length page.waiting ≡ k + length has.made = omega (arith, whole, size) in
     subst (λ ts. AreLines k ts ((base ++ has.written) ++ (page.buffer.items ++ text))) (sym has.parts)
-    (more_lines k base start now page ss page.waiting.items text has (subst (λ n. AreLines n page.waiting.items text) from are))
+    (more_lines k base start now page ss page.waiting text has (subst (λ n. AreLines n page.waiting text) from are))
 
 -- the lines of all that waited were sent
-pub lines_made : (k : ℕ) (base : List ℕ) (start before now : Option (List ℕ)) (old new : Page) (ss : List Symbol) (text : List ℕ) → AreLines (old.count - length old.waiting.items) old.waiting.items text
-    → IsSent before now (old.buffer.items ++ text) old.bytes new → new.waiting.items ≡ [] → new.count ≡ old.count → HasLines k base start before old ss → HasLines k base start now new ss
+pub lines_made : (k : ℕ) (base : List ℕ) (start before now : Option (List ℕ)) (old new : Page) (ss : List Symbol) (text : List ℕ) → AreLines (old.count - length old.waiting) old.waiting text
+    → IsSent before now (old.buffer.items ++ text) old.bytes new → new.waiting ≡ [] → new.count ≡ old.count → HasLines k base start before old ss → HasLines k base start now new ss
 lines_made k base start before now old new ss text are sent none count has =
     lines_of_text k base start before now new ss ss has.written (old.buffer.items ++ text) old.bytes (sym (append-nil ss) ∙ ap (λ ws. ss ++ ws) (sym none))
     (waiting_lines k base start before old ss text are has) has.appended (count ∙ has.count) has.bytes sent
 
 -- of the lines of all that waited a part was written
-pub front_made : (k : ℕ) (base : List ℕ) (start before now : Option (List ℕ)) (page : Page) (ss : List Symbol) (text : List ℕ) → AreLines (page.count - length page.waiting.items) page.waiting.items text
+pub front_made : (k : ℕ) (base : List ℕ) (start before now : Option (List ℕ)) (page : Page) (ss : List Symbol) (text : List ℕ) → AreLines (page.count - length page.waiting) page.waiting text
     → GrowsByPrefix before now (page.buffer.items ++ text) → HasLines k base start before page ss → IsFrontOut k base start now ss
 front_made k base start before now page ss text are grown has =
     front_of_text k base start before now ss ss [] has.written (page.buffer.items ++ text) (sym (append-nil ss)) (waiting_lines k base start before page ss text are has) has.appended grown
 
 -- the lines of more members were made, where none waited
 pub lines_put : (k : ℕ) (base : List ℕ) (start now : Option (List ℕ)) (page : Page) (buffer : Vec ℕ Global) (ss more : List Symbol) → AddsLines page.count more page.buffer.items buffer.items
-    → page.waiting.items ≡ [] → HasLines k base start now page ss → HasLines k base start now (record page { buffer = buffer; count = page.count + length more }) (ss ++ more)
+    → page.waiting ≡ [] → HasLines k base start now page ss → HasLines k base start now (record page { buffer = buffer; count = page.count + length more }) (ss ++ more)
 lines_put k base start now page buffer ss more added none has =
     let made = all_made k base start now page ss none has in
     let size = length-append ss more in

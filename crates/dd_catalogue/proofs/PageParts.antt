@@ -12,9 +12,9 @@ pub record HasAdded (before now : Option (List ℕ)) (old new : Page) (all left 
   pub parts : all ≡ done ++ left
   pub adds : AddsAll before now old new done
   pub count : new.count ≡ old.count + length done
-  pub waiting : new.waiting.items ≡ []
+  pub waiting : new.waiting ≡ []
 
-pub none_added : (before now : Option (List ℕ)) (old new : Page) (all left : List Symbol) → KeepsLines before now old new → left ≡ all → new.count ≡ old.count → new.waiting.items ≡ []
+pub none_added : (before now : Option (List ℕ)) (old new : Page) (all left : List Symbol) → KeepsLines before now old new → left ≡ all → new.count ≡ old.count → new.waiting ≡ []
     → HasAdded before now old new all left
 none_added before now old new all left kept rest count waiting = record {
   done = [];
@@ -25,7 +25,7 @@ none_added before now old new all left kept rest count waiting = record {
 }
 
 pub part_added : (before then now : Option (List ℕ)) (old page new : Page) (all left part later : List Symbol) → left ≡ part ++ later → AddsAll then now page new part
-    → new.count ≡ page.count + length part → new.waiting.items ≡ [] → HasAdded before then old page all left → HasAdded before now old new all later
+    → new.count ≡ page.count + length part → new.waiting ≡ [] → HasAdded before then old page all left → HasAdded before now old new all later
 part_added before then now old page new all left part later rest adds count waiting has =
     let size = length-append has.done part in
     let whole = has.count in

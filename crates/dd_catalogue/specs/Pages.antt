@@ -11,14 +11,14 @@ pub record HasLines (k : ℕ) (base : List ℕ) (start now : Option (List ℕ)) 
   pub written : List ℕ
   pub appended : Appends start now written
   pub made : List Symbol
-  pub parts : ss ≡ made ++ page.waiting.items
+  pub parts : ss ≡ made ++ page.waiting
   pub lines : AreLines k made ((base ++ written) ++ page.buffer.items)
   pub count : page.count ≡ k + length ss
   pub bytes : page.bytes ≡ length (base ++ written)
 
 -- no member waits, and nothing is collected
 pub record IsEmpty (page : Page) : Type 0 where
-  pub waiting : page.waiting.items ≡ []
+  pub waiting : page.waiting ≡ []
   pub buffer : page.buffer.items ≡ []
 
 -- Of a text a front was written, and the rest is collected; the bytes of the front are counted, after so many before them.

@@ -2,11 +2,11 @@
 use Rattle.std.specs.Prelude.{◌≡◌, ℕ, ◌+◌, List, [], ◌∷◌, ⊤, length}
 use Rattle.std.specs.List.{flat_map}
 use Rattle.dd_model.specs.Symbol.{Symbol}
-use Rattle.dd_catalogue.specs.declared.lines.Part.{Part}
+use Rattle.dd_catalogue.specs.declared.part.Part.{Part}
 
 -- the members of a part
 abbrev pub members_of : Part → List Symbol
-members_of part = part.members.items
+members_of part = part.members
 
 -- Each part has the number of lines before its own, where so many are before all of these.
 abbrev pub AreNumbered : ℕ → List Part → Type 0

@@ -12,23 +12,20 @@ ghost use Rattle.dd_catalogue.specs.Ways.{IsAny, GoesOn, FillsUp, WritesPart};
 
 use crate::pages::Page;
 use crate::rounds::count_at_front;
-use dd_front::{Event, Front};
-use dd_model::Memory;
+use dd_front::{Event, Front, Members};
 use dd_ports::{Sink, SinkFault};
-use dd_symbol::Connected;
-use std::alloc::Global;
 use std::thread::Threads;
 
 /// Takes the first entry, which is done, off the front, with its members.
-fn next_list(alloc: Global, front: &mut Front) -> Result<Vec<Connected>, Memory>
+fn next_list(front: &mut Front) -> Members
     requires first { (list : List Symbol) × HasFirst front.old list }
     requires room { HasRoomToEmit front.old }
-    ensures { IfOk result (λ list. Emits front.old front.new list.items) }
+    ensures { Emits front.old front.new result }
 {
     let Some(members) = front.emit() else {
         unreachable!()
     };
-    members.into_vec(alloc)
+    members
 }
 
 /// Emits the entries at the front that are done, and puts their lines, made by so many threads, to the page. Where there is a line
@@ -56,28 +53,15 @@ pub fn write_done<R: Threads + Sync, O: Sink>(
     ensures sure { O.sure out.old ≡ true
         → StaysSure Failed (O.faults out.old) (O.faults out.new) (O.sure out.new) result }
 {
-    let alloc = *page.buffer.allocator();
     while count_at_front(front).is_some() {
         let room = last - page.count;
         if front.allowed(&Event::Part { count: room }) {
             write_last(rt, threads, room, front, page, out)?;
             return Ok(false);
         }
-        let Ok(list) = next_list(alloc, front) else {
-            return Err(SinkFault::Memory);
-        };
-        page.add(rt, threads, list, out)?;
+        page.add(rt, threads, next_list(front), out)?;
     }
     Ok(true)
-}
-
-/// The first so many members of the first entry, after which there is one more, from where the front goes on.
-fn next_part(alloc: Global, count: u64, front: &mut Front) -> Result<Vec<Connected>, Memory>
-    requires allowed { MayPart front.old count }
-    requires room { HasRoom front.old (Part count) }
-    ensures { IfOk result (λ list. EmitsPart front.old count front.new list.items) }
-{
-    front.part(count)?.into_vec(alloc)
 }
 
 /// Emits so many members of the first entry, after which there is one more, and puts their lines to the page.
@@ -100,8 +84,7 @@ fn write_last<R: Threads + Sync, O: Sink>(
     ensures sure { O.sure out.old ≡ true
         → StaysSure Failed (O.faults out.old) (O.faults out.new) (O.sure out.new) result }
 {
-    let alloc = *page.buffer.allocator();
-    let Ok(list) = next_part(alloc, count, front) else {
+    let Ok(list) = front.part(count) else {
         return Err(SinkFault::Memory);
     };
     page.add(rt, threads, list, out)?;

@@ -10,6 +10,7 @@ mod limit;
 mod lines;
 mod pace;
 mod pages;
+mod part;
 mod rounds;
 mod run;
 mod saving;

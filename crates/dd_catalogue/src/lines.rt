@@ -1,54 +1,53 @@
-ghost use Rattle.std.specs.Prelude.{◌≡◌, ◌+◌, ◌≤◌, ◌<◌, ◌^◌, IfOk, length};
+ghost use Rattle.std.specs.Prelude.{◌+◌, ◌≤◌, ◌<◌, ◌^◌, IfOk, length};
 ghost use Rattle.dd_model.specs.Text.{AreLines};
 ghost use Rattle.dd_catalogue.specs.Texts.{joined};
 ghost use Rattle.dd_catalogue.specs.Parts.{AreParts};
 
+use crate::part::Part;
+use dd_front::Members;
 use dd_model::Memory;
-use dd_symbol::Connected;
 use dd_text::put_lines;
-use std::alloc::Global;
 use std::thread;
 use std::thread::Threads;
 
 /// How many lines a thread makes at least, so that it is worth its start.
 const FEWEST: usize = 2048;
 
-/// Members whose lines one thread makes, and how many lines come before theirs.
-#[derive(Drop)]
-struct Part {
-    before: u64,
-    members: Vec<Connected>,
-}
-
-/// How many bytes the lines of some symbols take, mostly a few less: a catalogue goes by size, so that the first one tells.
-fn room_for(symbols: &[Connected]) -> usize {
-    let Some(first) = symbols.first() else {
+/// How many bytes the lines of some members take, mostly a few less: a catalogue goes by size, so that the first one tells.
+fn room_for(members: &Members) -> usize {
+    if members.len() == 0 {
         return 0;
-    };
-    let line = 6 * first.symbol().size() as usize + 24;
-    symbols.len().saturating_mul(line)
+    }
+    let line = 6 * members.get(0).symbol().size() as usize + 24;
+    members.len().saturating_mul(line)
 }
 
 /// The lines of a part. Its members are given back here, by the thread that has just read them.
 fn lines_of(part: Part) -> Result<Vec<u8>, Memory>
-    ensures { IfOk result (λ lines. AreLines part.before part.members.items lines.items) }
+    ensures { IfOk result (λ lines. AreLines part.before part.members lines.items) }
 {
     let room = room_for(&part.members);
     let mut lines = Vec::with_capacity(*part.members.allocator(), room)?;
-    put_lines(&mut lines, part.before, &part.members)?;
+    let mut before = part.before;
+    for span in part.members.spans() {
+        put_lines(&mut lines, before, span.as_slice())?;
+        before += span.len() as u64;
+    }
     Ok(lines)
 }
 
-/// Cuts members into parts of so many, the first one maybe shorter. They are taken off the end, so that each is moved once.
-fn parts_of(size: usize, before: u64, mut members: Vec<Connected>) -> Result<Vec<Part>, Memory>
+/// Cuts members into parts of so many, the first one maybe shorter. They are taken off the end.
+fn parts_of(size: usize, before: u64, mut members: Members) -> Result<Vec<Part>, Memory>
     requires size { 1 ≤ size }
-    requires few { before + length members.items < 2 ^ 64 }
-    ensures { IfOk result (λ parts. AreParts before members.items parts.items) }
+    requires few { before + length members < 2 ^ 64 }
+    ensures { IfOk result (λ parts. AreParts before members parts.items) }
 {
     let mut parts = Vec::new(*members.allocator());
     while members.len() > size {
         let kept = members.len() - size;
-        let part = members.split_off(kept)?;
+        let mut part = members.share()?;
+        part.skip(kept);
+        members.keep(kept);
         parts.push(Part {
             before: before + kept as u64,
             members: part,
@@ -65,11 +64,11 @@ pub(crate) fn lines_by<R: Threads + Sync>(
     rt: &R,
     threads: u32,
     before: u64,
-    members: Vec<Connected>,
+    members: Members,
 ) -> Result<Vec<Vec<u8>>, Memory>
     requires threads { 1 ≤ threads }
-    requires few { before + length members.items < 2 ^ 64 }
-    ensures { IfOk result (λ texts. AreLines before members.items (joined texts.items)) }
+    requires few { before + length members < 2 ^ 64 }
+    ensures { IfOk result (λ texts. AreLines before members (joined texts.items)) }
 {
     let alloc = *members.allocator();
     let size = members.len().div_ceil(threads as usize).max(FEWEST);

@@ -6,6 +6,7 @@ ghost use Rattle.dd_catalogue.specs.Texts.{joined};
 ghost use Rattle.dd_catalogue.specs.Pages.{IsEmpty, IsSent, KeepsLines, AddsAll, WritesFront, WritesFrontOf};
 
 use crate::lines::lines_by;
+use dd_front::Members;
 use dd_model::Memory;
 use dd_ports::{Sink, SinkFault, write_all_of};
 use dd_symbol::Connected;
@@ -29,7 +30,7 @@ const PART: usize = 512;
 /// number of the last line of all these, and how many bytes were written.
 #[derive(Drop)]
 pub(crate) struct Page {
-    pub(crate) waiting: Vec<Connected>,
+    pub(crate) waiting: Members,
     pub(crate) buffer: Vec<u8>,
     pub(crate) count: u64,
     pub(crate) bytes: u128,
@@ -55,7 +56,7 @@ impl Page {
         ensures bytes { result.bytes ≡ 0 }
     {
         Page {
-            waiting: Vec::new(alloc),
+            waiting: Members::none(alloc),
             buffer: Vec::new(alloc),
             count,
             bytes: 0,
@@ -151,19 +152,19 @@ impl Page {
         requires threads { 1 ≤ threads }
         ensures kept { OnOk result
             (KeepsLines (O.held out.old) (O.held out.new) self.old self.new) }
-        ensures made { OnOk result (self.new.waiting.items ≡ []) }
+        ensures made { OnOk result (self.new.waiting ≡ []) }
         ensures count { self.new.count ≡ self.old.count }
         ensures front { WritesFront (O.held out.old) (O.held out.new) self.old }
         ensures cause { HasCause Failed (O.faults out.old) (O.faults out.new) result }
         ensures sure { O.sure out.old ≡ true
             → StaysSure Failed (O.faults out.old) (O.faults out.new) (O.sure out.new) result }
     {
-        if self.waiting.is_empty() {
+        if self.waiting.len() == 0 {
             return Ok(());
         }
-        let alloc = *self.waiting.allocator();
         let before = self.count.saturating_sub(self.waiting.len() as u64);
-        let members = mem::replace(&mut self.waiting, Vec::new(alloc));
+        let alloc = *self.buffer.allocator();
+        let members = mem::replace(&mut self.waiting, Members::none(alloc));
         let Ok(texts) = lines_by(rt, threads, before, members) else {
             return Err(SinkFault::Memory);
         };
@@ -194,25 +195,25 @@ impl Page {
     }
 
     /// Lets members wait for their lines, behind all others.
-    fn wait(&mut self, mut members: Vec<Connected>) -> Result<(), Memory>
-        requires few { self.old.count + length members.items ≤ 1000000000000000000 }
+    fn wait(&mut self, members: Members) -> Result<(), Memory>
+        requires few { self.old.count + length members ≤ 1000000000000000000 }
         ensures lines { OnOk result
-            ((held : Option (List ℕ)) → AddsAll held held self.old self.new members.items) }
-        ensures count { OnOk result (self.new.count ≡ self.old.count + length members.items) }
+            ((held : Option (List ℕ)) → AddsAll held held self.old self.new members) }
+        ensures count { OnOk result (self.new.count ≡ self.old.count + length members) }
     {
         let count = self.count + members.len() as u64;
-        self.waiting.append(&mut members)?;
+        self.waiting.append(members)?;
         self.count = count;
         Ok(())
     }
 
     /// Makes the lines of the next members, where none waits before them, and writes lines once there are enough.
     fn add_part<O: Sink>(&mut self, part: &[Connected], out: &mut O) -> Result<(), SinkFault>
-        requires waiting { self.old.waiting.items ≡ [] }
+        requires waiting { self.old.waiting ≡ [] }
         requires few { self.old.count + length part.now ≤ 1000000000000000000 }
         ensures all { OnOk result
             (AddsAll (O.held out.old) (O.held out.new) self.old self.new part.now) }
-        ensures waiting { OnOk result (self.new.waiting.items ≡ []) }
+        ensures waiting { OnOk result (self.new.waiting ≡ []) }
         ensures count { OnOk result (self.new.count ≡ self.old.count + length part.now) }
         ensures front { WritesFrontOf (O.held out.old) (O.held out.new) self.old part.now }
         ensures cause { HasCause Failed (O.faults out.old) (O.faults out.new) result }
@@ -227,11 +228,30 @@ impl Page {
         Ok(())
     }
 
-    /// Takes the next members, whose lines one thread makes part by part, so that few lines are collected at a time.
+    /// Makes the lines of a list of members part by part, where none waits before them, so that few lines are collected at a time.
+    fn add_list<O: Sink>(&mut self, list: &[Connected], out: &mut O) -> Result<(), SinkFault>
+        requires waiting { self.old.waiting ≡ [] }
+        requires few { self.old.count + length list.now ≤ 1000000000000000000 }
+        ensures all { OnOk result
+            (AddsAll (O.held out.old) (O.held out.new) self.old self.new list.now) }
+        ensures waiting { OnOk result (self.new.waiting ≡ []) }
+        ensures count { OnOk result (self.new.count ≡ self.old.count + length list.now) }
+        ensures front { WritesFrontOf (O.held out.old) (O.held out.new) self.old list.now }
+        ensures cause { HasCause Failed (O.faults out.old) (O.faults out.new) result }
+        ensures sure { O.sure out.old ≡ true
+            → StaysSure Failed (O.faults out.old) (O.faults out.new) (O.sure out.new) result }
+    {
+        for part in list.chunks(PART) {
+            self.add_part(part, out)?;
+        }
+        Ok(())
+    }
+
+    /// Takes the next members, whose lines one thread makes list by list.
     fn add_in_parts<R: Threads + Sync, O: Sink>(
         &mut self,
         rt: &R,
-        members: &[Connected],
+        members: &Members,
         out: &mut O,
     ) -> Result<(), SinkFault>
         requires few { self.old.count + length members.now ≤ 1000000000000000000 }
@@ -245,8 +265,8 @@ impl Page {
     {
         // The lines of members that wait come before these.
         self.make(rt, 1, out)?;
-        for part in members.chunks(PART) {
-            self.add_part(part, out)?;
+        for span in members.spans() {
+            self.add_list(span.as_slice(), out)?;
         }
         Ok(())
     }
@@ -256,15 +276,15 @@ impl Page {
         &mut self,
         rt: &R,
         threads: u32,
-        members: Vec<Connected>,
+        members: Members,
         out: &mut O,
     ) -> Result<(), SinkFault>
         requires threads { 1 ≤ threads }
-        requires few { self.old.count + length members.items ≤ 1000000000000000000 }
+        requires few { self.old.count + length members ≤ 1000000000000000000 }
         ensures all { OnOk result
-            (AddsAll (O.held out.old) (O.held out.new) self.old self.new members.items) }
-        ensures count { OnOk result (self.new.count ≡ self.old.count + length members.items) }
-        ensures front { WritesFrontOf (O.held out.old) (O.held out.new) self.old members.items }
+            (AddsAll (O.held out.old) (O.held out.new) self.old self.new members) }
+        ensures count { OnOk result (self.new.count ≡ self.old.count + length members) }
+        ensures front { WritesFrontOf (O.held out.old) (O.held out.new) self.old members }
         ensures cause { HasCause Failed (O.faults out.old) (O.faults out.new) result }
         ensures sure { O.sure out.old ≡ true
             → StaysSure Failed (O.faults out.old) (O.faults out.new) (O.sure out.new) result }

@@ -2,6 +2,7 @@ ghost use Rattle.std.specs.Prelude.{◌≤◌};
 ghost use Rattle.dd_model.specs.Request.{IsValid};
 
 use crate::plain_front::Span;
+use dd_front::Members;
 use dd_model::{Code, Job, Request};
 use dd_plain::plain_catalogue;
 use dd_symbol::{Connected, cmp_code};
@@ -60,14 +61,18 @@ impl Catalogue {
         Ok(spans)
     }
 
-    /// Whether symbols are the members at these places.
-    pub(crate) fn has(&self, symbols: &[Connected], (first, end): Span) -> bool {
-        match self.members.as_slice().get(first..end) {
-            Some(members) => members.len() == symbols.len()
-                && members.iter().zip(symbols.iter()).all(|(member, symbol)| {
-                    cmp_code(member.symbol(), symbol.symbol()) == Ordering::Equal
-                }),
-            None => false,
+    /// Whether a list has the members at these places.
+    pub(crate) fn has(&self, list: &Members, (first, end): Span) -> bool {
+        let Some(members) = self.members.as_slice().get(first..end) else {
+            return false;
+        };
+        for (k, member) in members.iter().enumerate() {
+            if k >= list.len()
+                || cmp_code(member.symbol(), list.get(k).symbol()) != Ordering::Equal
+            {
+                return false;
+            }
         }
+        members.len() == list.len()
     }
 }

@@ -104,21 +104,29 @@ fn square(alloc: Global) -> Result<Connected, Fail> {
     Ok(build(alloc, ops, list(alloc, &[4])?, list(alloc, &[4])?, 1)?)
 }
 
-#[test]
-fn members_are_shared_and_parted(rt: HostRuntime) -> Result<(), Fail> {
-    let alloc = rt.alloc();
+/// So many squares.
+fn squares(alloc: Global, count: usize) -> Result<Members, Fail> {
     let mut symbols = Vec::new(alloc);
-    for _ in 0..3 {
+    for _ in 0..count {
         symbols.push(square(alloc)?)?;
     }
-    let members = Members::new(alloc, symbols)?;
-    let mut part = members.share()?;
-    if part.len() == 3 {
+    Ok(Members::new(alloc, symbols)?)
+}
+
+// Two spans of two and of one member: what is left out or not kept takes whole spans along.
+#[test]
+fn members_are_joined_and_parted(rt: HostRuntime) -> Result<(), Fail> {
+    let alloc = rt.alloc();
+    let mut members = squares(alloc, 2)?;
+    members.append(squares(alloc, 1)?)?;
+    let (mut end, mut part) = (members.share()?, members.share()?);
+    if end.len() == 3 && part.len() == 3 {
+        end.skip(2);
         part.skip(1);
         part.keep(1);
     }
-    assert_eq!(&rt; part.len(), 1);
-    assert_eq!(&rt; part.into_vec(alloc)?.len(), 1);
-    assert_eq!(&rt; members.into_vec(alloc)?.len(), 3);
+    assert_eq!(&rt; (members.len(), members.spans().len()), (3, 2));
+    assert_eq!(&rt; (end.len(), end.spans().len()), (1, 1));
+    assert_eq!(&rt; (part.len(), part.spans().len()), (1, 1));
     Ok(())
 }

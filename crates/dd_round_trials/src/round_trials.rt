@@ -51,8 +51,10 @@ fn lines_of(alloc: Global, entries: &[Entry]) -> Result<Vec<u8>, Memory> {
     let mut count = 0u64;
     for entry in entries {
         if let State::Done(list) = &entry.state {
-            put_lines(&mut lines, count, list.as_slice())?;
-            count = count.saturating_add(list.len() as u64);
+            for span in list.spans() {
+                put_lines(&mut lines, count, span.as_slice())?;
+                count = count.saturating_add(span.len() as u64);
+            }
         }
     }
     Ok(lines)

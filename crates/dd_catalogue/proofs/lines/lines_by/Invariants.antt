@@ -7,4 +7,4 @@ use Rattle.dd_catalogue.proofs.lines.lines_by.Given as goal
 abbrev pub invariant-loop-lines : goal.invariant-loop-lines
 invariant-loop-lines g l =
     (into_iter_len l.lines-iterator ≡ length (into_iter_items l.lines-iterator))
-    × AreJoined l.fn.before l.fn.members.items (into_iter_items l.lines-iterator) l.texts.items
+    × AreJoined l.fn.before l.fn.members (into_iter_items l.lines-iterator) l.texts.items

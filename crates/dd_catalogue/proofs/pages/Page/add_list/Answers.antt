@@ -1,22 +1,18 @@
-use Rattle.std.proofs.Common.{arith, ◌∙◌, rules}
+use Rattle.std.proofs.Common.{arith, refl, ◌∙◌, rules}
 use Rattle.std.proofs.lemmas.List.{nil_from_length}
-use Rattle.dd_catalogue.proofs.PageLemmas.{front_kept, front_of_more}
+use Rattle.dd_catalogue.proofs.PageLemmas.{front_kept}
 use Rattle.dd_catalogue.proofs.PageParts.{none_added, part_added, part_fits, front_part, all_added}
-use Rattle.dd_catalogue.proofs.pages.Page.add_in_parts.Goals as goal
-
-pub returns-in_err-make-clause-front : goal.returns-in_err-make-clause-front
-returns-in_err-make-clause-front g c k base start ss has = front_of_more k base start _ ss c.args.members.now (c.make.ensures.front k base start ss has)
+use Rattle.dd_catalogue.proofs.pages.Page.add_list.Goals as goal
 
 pub loop-part-init : goal.loop-part-init
-loop-part-init g c =
-    let made = c.in_ok-make.ensures in (
-      search rules,
-      tt,
-      search rules,
-      none_added _ _ _ _ _ _ made.kept (search rules) made.count made.made,
-      made.cause.later,
-      λ s. let next = made.sure s in (next.sure, next.count),
-    )
+loop-part-init g c = (
+  search rules,
+  tt,
+  search rules,
+  none_added _ _ _ _ _ _ (λ k base start ss has. has) (search rules) refl c.requires.waiting,
+  omega arith,
+  λ s. (s, refl),
+)
 
 pub loop-part-preserved : goal.loop-part-preserved
 loop-part-preserved g c =
