@@ -207,9 +207,6 @@ impl Descent {
             (HasNothingUnder (IsMember self.old.request) (size_of self.old.stem)
             (prefix_of self.old.stem ++ number ∷ [])) }
     {
-        if self.shares_refuse(number) {
-            return false;
-        }
         let numbers = self.stem.prefix().len();
         let rows = self.stem.mark();
         if !self.put(number, numbers, rows) {
@@ -233,6 +230,9 @@ impl Descent {
             (prefix_of self.old.stem ++ number ∷ [])) }
     {
         if !can_follow(self.stem.size() as u32, self.stem.prefix(), number) {
+            return false;
+        }
+        if self.shares_refuse(number) {
             return false;
         }
         let mark = self.mark();
@@ -293,8 +293,10 @@ impl PrefixSearch for Descent {
         self.levels.len()
     }
 
-    fn next_from(&self, k: u8) -> Option<u8> {
-        self.stem.next_from(k)
+    fn candidates(&self) -> u64 {
+        let place = self.stem.prefix().len() as u8;
+        let numbers = self.stem.candidates();
+        self.shares.sieve(self.stem.rows(), place, numbers)
     }
 
     fn enter(&mut self, number: u8) -> bool {

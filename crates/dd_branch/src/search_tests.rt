@@ -105,8 +105,10 @@ fn count_nodes(descent: &mut Descent) -> u64
     let mark = descent.mark();
     let known = descent.known();
     let mut count = 0u64;
-    let mut k = 0;
-    while let Some(number) = descent.next_from(k) {
+    let mut left = descent.candidates();
+    while left != 0 {
+        let number = left.trailing_zeros() as u8;
+        left &= left - 1;
         if descent.enter(number) {
             if descent.known() > known {
                 count = count.saturating_add(1);
@@ -114,7 +116,6 @@ fn count_nodes(descent: &mut Descent) -> u64
             count = count.saturating_add(count_nodes(descent));
             descent.leave(mark);
         }
-        k = number + 1;
     }
     count
 }

@@ -1,4 +1,5 @@
-ghost use Rattle.std.specs.Prelude.{◌≡◌, ◌+◌, ◌*◌, ◌≤◌, ◌<◌, IsTrue};
+ghost use Rattle.std.specs.Prelude.{◌≡◌, ℕ, ◌+◌, ◌*◌, ◌≤◌, ◌<◌, IsTrue};
+ghost use Rattle.std.specs.Int.{bit_at};
 ghost use Rattle.dd_model.specs.Symbol.{Symbol as Tiling};
 ghost use Rattle.dd_invol.specs.Rows.{partial_of, IsReady, HasNumberAt};
 ghost use Rattle.dd_shares.specs.Shares.{IsSought};
@@ -55,6 +56,7 @@ impl Shares {
 
     /// Whether it is sure that no wanted symbol completes the table that has a number at a place of
     /// its code: the shares are then too small.
+    #[inline(always)]
     pub fn rules_out_number(&self, table: &Rows, place: u8, number: u8) -> bool
         requires ready { IsReady table.now }
         requires place { place < 3 * (partial_of table.now).size }
@@ -67,6 +69,31 @@ impl Shares {
         let link = Link::told(place, number);
         let (tiles, vertices) = self.sides.totals_with(&self.classes, &link);
         is_too_small(tiles, vertices, table.size())
+    }
+
+    /// Of some numbers, as bits, those that the shares do not rule out at a place of the code. It is
+    /// asked about all of them at once, since most of what is reckoned for one, as the path that ends
+    /// at the chamber, is the same for the others.
+    #[inline(always)]
+    pub fn sieve(&self, table: &Rows, place: u8, numbers: u64) -> u64
+        requires ready { IsReady table.now }
+        requires place { place < 3 * (partial_of table.now).size }
+        requires numbers { (m : ℕ) → bit_at numbers m ≡ 1 → m ≤ 36 }
+        requires kept { AreKept (partial_of table.now) self.now }
+        ensures { (m : ℕ) → bit_at numbers m ≡ 1 → bit_at result m ≡ 0 → (s : Tiling)
+            → IsSought self.now.classes.request (partial_of table.now) s
+            → ¬ HasNumberAt place m s }
+    {
+        let mut kept = 0;
+        let mut left = numbers;
+        while left != 0 {
+            let number = left.trailing_zeros() as u8;
+            left &= left - 1;
+            if !self.rules_out_number(table, place, number) {
+                kept |= 1 << number;
+            }
+        }
+        kept
     }
 
     /// Joins the paths that what was put into the table after a mark joins. True where it is sure

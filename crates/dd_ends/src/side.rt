@@ -48,6 +48,7 @@ impl Side {
     }
 
     /// What stands at a flag.
+    #[inline(always)]
     fn end(&self, flag: u8) -> End
         requires { flag < 74 }
         ensures { slice_get self.now.ends flag ≡ Some result }
@@ -56,6 +57,7 @@ impl Side {
     }
 
     /// The total where paths that had so much have become one, whose chambers have a share.
+    #[inline(always)]
     fn total_after(&self, had: u64, chambers: u8, share: u64) -> u64
         requires total { self.now.total ≤ 36 * share_unit }
         requires had { had ≤ self.now.total }
@@ -67,6 +69,7 @@ impl Side {
     }
 
     /// The total where two flags are joined.
+    #[inline(always)]
     pub(crate) fn total_with(&self, shares: &ClassShares, x: u8, y: u8) -> u64
         requires pair { (shares.now.pair ≡ Tile) ⊎ (shares.now.pair ≡ Vertex) }
         requires first { x < 74 }

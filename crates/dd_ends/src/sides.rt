@@ -22,6 +22,7 @@ pub struct Sides {
 
 impl Sides {
     /// The totals where an image becomes known.
+    #[inline(always)]
     pub(crate) fn totals_with(&self, classes: &PathShares, link: &Link) -> (u64, u64)
         requires some { AreSidesOfSome classes.now self.now }
         ensures tiles { (partial : Tiling) (test : Tiling → Bool)

@@ -1,3 +1,4 @@
+pub mod LowestBits
 pub mod Places
 pub mod Prefixes
 pub mod SearchSteps
@@ -18,6 +19,7 @@ pub mod JobLists
 pub mod OpeningLaws
 pub mod Extensions
 pub mod Stems
+pub mod Candidates
 pub mod Absorbing
 pub mod TableFronts
 pub mod Unbranched

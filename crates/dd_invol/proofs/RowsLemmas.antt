@@ -686,19 +686,22 @@ bit_shifted f least d later =
     let e : d ≡ least + (d - least) = omega arith in
     ap (bit_at f) e ∙ ap (λ x. x % 2) (sym (shr-shr f least (d - least)))
 
--- between a number and the first bit that is set, each chamber has its image
-pub has_image : (r : Rows) (i : Index) (least d : ℕ) → IsReady r → 1 ≤ d → d ≤ 36 → least ≤ d → (let g = get_or r.free (place i 1) 0 / 2 ^ least in g < 2 ^ 64 → d < least + trailing_zeros w64 g → op (partial_of r) i d ≢ 0)
-has_image r i least d ready low high later small before none =
-    let g = get_or r.free (place i 1) 0 / 2 ^ least in
-    let f = get_or r.free (place i d % 3) 0 in
+-- a chamber whose bit is not set has its image
+pub no_bit_has_image : (r : Rows) (i : Index) (d : ℕ) → IsReady r → 1 ≤ d → d ≤ 36 → bit_at (get_or r.free (place i 1) 0) d ≡ 0 → op (partial_of r) i d ≢ 0
+no_bit_has_image r i d ready low high zero_bit none =
     let at : place i d % 3 ≡ place i 1 = place_first i d in
     let chamber : 1 + place i d / 3 ≡ d = (let row = chamber_of_place i d in omega arith) in
     let tell = ready.free (place i d) (place_below i d high) in
-    let zero_bit : bit_at (get_or r.free (place i 1) 0) d ≡ 0 = bit_shifted (get_or r.free (place i 1) 0) least d later ∙ none_below g (d - least) small (omega arith) in
     let bit : bit_at (get_or r.free (place i d % 3) 0) (1 + place i d / 3) ≡ 0 = ap (λ j. bit_at (get_or r.free j 0) (1 + place i d / 3)) at ∙ ap (bit_at (get_or r.free (place i 1) 0)) chamber ∙ zero_bit in
     let number : get_or r.numbers (place i d) 0 ≡ 0 = sym (op_partial r.size r.numbers i d (omega arith)) ∙ none in
     let counted : unnumbered (get_or r.numbers (place i d) 0) ≡ 1 = ap unnumbered number in
     absurd (omega arith)
+
+-- between a number and the first bit that is set, each chamber has its image
+pub has_image : (r : Rows) (i : Index) (least d : ℕ) → IsReady r → 1 ≤ d → d ≤ 36 → least ≤ d → (let g = get_or r.free (place i 1) 0 / 2 ^ least in g < 2 ^ 64 → d < least + trailing_zeros w64 g → op (partial_of r) i d ≢ 0)
+has_image r i least d ready low high later small before =
+    let g = get_or r.free (place i 1) 0 / 2 ^ least in
+    no_bit_has_image r i d ready low high (bit_shifted (get_or r.free (place i 1) 0) least d later ∙ none_below g (d - least) small (omega arith))
 
 -- an image leads back
 pub leads_back : (r : Rows) (i : Index) (d c : ℕ) → IsReady r → 1 ≤ d → d ≤ 36 → 1 ≤ c → c ≤ 36 → op (partial_of r) i d ≡ c → op (partial_of r) i c ≡ d

@@ -70,6 +70,11 @@ grown_shortened old new k grown =
     let rows = grown.learns.undone in
     λ x. record { rows = rows x; prefix = items x }
 
+-- what stands at the next place
+pub known_is : (stem : Stem) (place known : ℕ) → place ≡ length (prefix_of stem) → HasNumberAt place known (partial_of stem.rows)
+    → known ≡ op (partial_of stem.rows) (index_at (length (prefix_of stem) % 3)) (1 + length (prefix_of stem) / 3)
+known_is stem place known at number = sym number ∙ ap (λ u. op (partial_of stem.rows) (index_at (u % 3)) (1 + u / 3)) at
+
 -- the image that is known at the next place comes next
 pub known_next : (stem : Stem) (e : ℕ) → IsStem stem → length (prefix_of stem) < 3 * size_of stem → e ≡ op (partial_of stem.rows) (index_at (length (prefix_of stem) % 3)) (1 + length (prefix_of stem) / 3) → e ≢ 0
     → (s : Symbol) → IsUnder Any (size_of stem) (prefix_of stem) s → next_number (prefix_of stem) s ≡ e
@@ -91,7 +96,7 @@ pub none_from_known : (stem : Stem) (k e : ℕ) → IsStem stem → length (pref
 none_from_known stem k e is low known some less s under = let next = known_next stem e is low known some s under in omega arith
 
 -- a next number is a chamber, and at most one more than the greatest before it
-next_inside : (stem : Stem) (s : Symbol) → length (prefix_of stem) < 3 * size_of stem → IsUnder Any (size_of stem) (prefix_of stem) s
+pub next_inside : (stem : Stem) (s : Symbol) → length (prefix_of stem) < 3 * size_of stem → IsUnder Any (size_of stem) (prefix_of stem) s
     → (1 ≤ next_number (prefix_of stem) s) × (next_number (prefix_of stem) s ≤ size_of stem) × (next_number (prefix_of stem) s ≤ greatest (prefix_of stem) + 1)
 next_inside stem s low under =
     let size = under.size in
@@ -111,7 +116,7 @@ pub record ComesTo (stem : Stem) (k m : ℕ) : Type 0 where
   pub taken : AreTaken (partial_of stem.rows) (index_at (length (prefix_of stem) % 3)) (1 + length (prefix_of stem) / 3) least m
 
 -- A number with another image is no image of the chamber, since twice the involution leads back.
-not_taken : (stem : Stem) (least m : ℕ) → IsStem stem → length (prefix_of stem) < 3 * size_of stem → AreTaken (partial_of stem.rows) (index_at (length (prefix_of stem) % 3)) (1 + length (prefix_of stem) / 3) least m
+pub not_taken : (stem : Stem) (least m : ℕ) → IsStem stem → length (prefix_of stem) < 3 * size_of stem → AreTaken (partial_of stem.rows) (index_at (length (prefix_of stem) % 3)) (1 + length (prefix_of stem) / 3) least m
     → (s : Symbol) → IsUnder Any (size_of stem) (prefix_of stem) s → least ≤ next_number (prefix_of stem) s → m ≤ next_number (prefix_of stem) s
 not_taken stem least m is low taken s under up =
     let t = length (prefix_of stem) in

@@ -1,5 +1,6 @@
 ghost use Rattle.std.specs.Prelude.{◌≡◌, ◌≢◌, ℕ, ◌+◌, ◌-◌, ◌*◌, ◌/◌, ◌%◌, ◌≤◌, ◌<◌, length, drop, slice_index};
 ghost use Rattle.std.specs.Bool.{OnTrue, OnFalse};
+ghost use Rattle.std.specs.Int.{bit_at};
 ghost use Rattle.dd_model.specs.Symbol.{op};
 ghost use Rattle.dd_invol.specs.Places.{index_at, place, back_of, bits_of};
 
@@ -139,6 +140,17 @@ impl Rows {
     {
         let free = self.free[place_of(i, 1) as usize] >> least;
         (least + free.trailing_zeros() as u8).min(self.size + 1)
+    }
+
+    /// The chambers up to a number whose images are not known, as bits.
+    pub(crate) fn free_to(&self, i: Index, last: u8) -> u64
+        requires ready { IsReady self.now }
+        requires last { last ≤ (partial_of self.now).size }
+        ensures taken { (d : ℕ) → 1 ≤ d → d ≤ last → bit_at result d ≡ 0
+            → op (partial_of self.now) i d ≢ 0 }
+        ensures chambers { (d : ℕ) → bit_at result d ≡ 1 → d ≤ last }
+    {
+        self.free[place_of(i, 1) as usize] & ((2 << last) - 2)
     }
 
     /// How much was put in.

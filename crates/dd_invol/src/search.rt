@@ -1,8 +1,9 @@
-ghost use Rattle.std.specs.Prelude.{◌≡◌, ℕ, ◌+◌, [], ◌∷◌, ◌++◌, ◌*◌, ◌≤◌, ◌<◌, ◌↔◌, List, IsTrue, OnOk, MatchOption, length};
+ghost use Rattle.std.specs.Prelude.{◌≡◌, ℕ, ◌+◌, [], ◌∷◌, ◌++◌, ◌*◌, ◌≤◌, ◌<◌, ◌↔◌, List, IsTrue, OnOk, length};
 ghost use Rattle.std.specs.Bool.{OnTrue, OnFalse};
+ghost use Rattle.std.specs.Int.{bit_at};
 ghost use Rattle.dd_model.specs.Symbol.{Symbol as Tiling};
 ghost use Rattle.dd_model.specs.declared.requests.Request.{Request as Asked};
-ghost use Rattle.dd_invol.specs.Under.{HasNothingUnder, AreUnder, Appends, HasNoNumberFrom, SkipsTo};
+ghost use Rattle.dd_invol.specs.Under.{HasNothingUnder, AreUnder, Appends};
 ghost use Rattle.dd_invol.specs.Search.{GoesOn};
 
 use dd_model::Memory;
@@ -39,13 +40,13 @@ pub trait PrefixSearch {
     fn mark(&self) -> usize
         ensures { result ≡ depth self.now };
 
-    /// The least number from k on that may come next; None where no such number may come.
-    fn next_from(&self, k: u8) -> Option<u8>
+    /// The numbers that may come next, as bits. Nothing is under the prefix with any other number.
+    fn candidates(&self) -> u64
         requires valid { valid self.now }
         requires room { length (prefix self.now) < end (size self.now) }
-        ensures { MatchOption result
-            (HasNoNumberFrom (wanted (request self.now)) (size self.now) (prefix self.now) k)
-            (λ m. SkipsTo (wanted (request self.now)) (size self.now) (prefix self.now) k m) };
+        ensures { (m : ℕ) → bit_at result m ≡ 0
+            → HasNothingUnder (wanted (request self.now)) (size self.now)
+            (prefix self.now ++ m ∷ []) };
 
     /// Puts a number at the end, and others that follow from it, unless it is sure that nothing is
     /// under the longer prefix.
@@ -96,13 +97,14 @@ pub fn find<T: CollectingSearch>(search: &mut T, list: &mut Vec<Connected>) -> R
         return search.add(list);
     }
     let mark = search.mark();
-    let mut k = 0;
-    while let Some(number) = search.next_from(k) {
+    let mut left = search.candidates();
+    while left != 0 {
+        let number = left.trailing_zeros() as u8;
+        left &= left - 1;
         if search.enter(number) {
             find(search, list)?;
             search.leave(mark);
         }
-        k = number + 1;
     }
     Ok(())
 }

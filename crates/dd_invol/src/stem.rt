@@ -1,5 +1,6 @@
 ghost use Rattle.std.specs.Prelude.{◌≡◌, ◌≢◌, ℕ, ◌+◌, [], ◌∷◌, ◌++◌, ◌*◌, ◌≤◌, ◌<◌, ◌↔◌, IsTrue, MatchOption, length};
 ghost use Rattle.std.specs.Bool.{OnTrue, OnFalse};
+ghost use Rattle.std.specs.Int.{bit_at};
 ghost use Rattle.dd_model.specs.Symbol.{op};
 ghost use Rattle.dd_invol.specs.FirstVisit.{AreMet};
 ghost use Rattle.dd_invol.specs.Rows.{partial_of, depth_of, IsReady};
@@ -103,6 +104,29 @@ impl Stem {
             return None;
         }
         Some(free)
+    }
+
+    /// The numbers that may come next, as bits: the one that is known there, or each chamber without
+    /// an image up to the first that has not been met. There are none where the chamber whose image
+    /// is next has not been met.
+    #[inline(always)]
+    pub fn candidates(&self) -> u64
+        requires stem { IsStem self.now }
+        requires room { length (prefix_of self.now) < 3 * size_of self.now }
+        ensures others { (m : ℕ) → bit_at result m ≡ 0
+            → HasNothingUnder Any (size_of self.now) (prefix_of self.now ++ m ∷ []) }
+        ensures chambers { (m : ℕ) → bit_at result m ≡ 1 → m ≤ size_of self.now }
+    {
+        if self.is_stuck() {
+            return 0;
+        }
+        let place = self.prefix.len() as u8;
+        let known = self.rows.number_at(place);
+        if known != 0 {
+            return 1 << known;
+        }
+        let last = 1 + self.prefix.greatest().min(self.rows.size() - 1);
+        self.rows.free_to(index_at(place), last)
     }
 
     /// Puts a number at the end, with what follows by commuting, unless commuting forbids it.

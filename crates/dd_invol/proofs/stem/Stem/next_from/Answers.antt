@@ -7,7 +7,7 @@ use Rattle.dd_invol.specs.Rows.{partial_of, HasNumberAt, IsReady}
 use Rattle.dd_invol.specs.Stem.{prefix_of, size_of, IsStem}
 use Rattle.dd_invol.specs.declared.stem.Stem.{Stem}
 use Rattle.dd_invol.proofs.RowsLemmas.{leads_back}
-use Rattle.dd_invol.proofs.Stems.{AreTaken, ComesTo, skips_known, none_from_known, skips_to_free, none_from_past, none_past_size, none_past_greatest, at_least_one, none_unmet}
+use Rattle.dd_invol.proofs.Stems.{AreTaken, ComesTo, known_is, skips_known, none_from_known, skips_to_free, none_from_past, none_past_size, none_past_greatest, at_least_one, none_unmet}
 use Rattle.dd_invol.proofs.stem.Stem.next_from.Goals as goal
 
 pub returns-then-chamber-most : goal.returns-then-chamber-most
@@ -17,10 +17,6 @@ returns-then-chamber-most c =
     let most : c.greatest-most.result ≡ greatest (prefix_of stem) = c.greatest-most.ensures in
     let past = c.if-chamber-most.true in
     none_unmet stem c.args.k c.requires.room (omega arith)
-
-known_is : (stem : Stem) (place known : ℕ) → place ≡ length (prefix_of stem) → HasNumberAt place known (partial_of stem.rows)
-    → known ≡ op (partial_of stem.rows) (index_at (length (prefix_of stem) % 3)) (1 + length (prefix_of stem) / 3)
-known_is stem place known at number = sym number ∙ ap (λ u. op (partial_of stem.rows) (index_at (u % 3)) (1 + u / 3)) at
 
 -- The chamber itself is no image of any before, since an involution leads back.
 comes_to : (stem : Stem) (k least m place : ℕ) (i : Index) → IsReady stem.rows → least ≡ (max k 1) → place ≡ length (prefix_of stem) → length (prefix_of stem) < 3 * size_of stem → i ≡ index_at (place % 3) → least ≤ m
