@@ -4,8 +4,9 @@ use crate::fault_count::FaultCount;
 use crate::sink::{Sink, SinkFault};
 use std::io::Write;
 
-/// How many bytes are handed to a writer at once. Where it was measured, a file took pieces of 4 MiB
-/// four times as long, byte for byte, as pieces of 1 MiB and less.
+/// How many bytes are handed to a writer at once. Where it was measured, a file took 32 MiB in pieces
+/// of 4 MiB within 41 to 53 ms in four of five tries and 10 ms in the fifth, and within 8 to 15 ms in
+/// pieces of 1 MiB and less, but for a first try.
 const PIECE: usize = 262_144;
 
 /// A writer of the system, whose faults are counted. It tells what it holds where the writer does,
