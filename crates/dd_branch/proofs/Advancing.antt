@@ -384,12 +384,12 @@ value_allowed a v is room s under next =
 -- ## One value after another
 
 -- what the next degree of a member is
-record IsNext (a : Assignment) (m : ℕ) : Type 0 where
-  value : ℕ
-  is_value : IsValue value
-  product : m ≡ value * (next_place a).turns
+pub record IsNext (a : Assignment) (m : ℕ) : Type 0 where
+  pub value : ℕ
+  pub is_value : IsValue value
+  pub product : m ≡ value * (next_place a).turns
 
-next_value : (a : Assignment) → IsAssignment a → told a < 2 * a.table.size → (s : Symbol) → IsMemberUnder a (prefix_of a) s → IsNext a (next_number (prefix_of a) s)
+pub next_value : (a : Assignment) → IsAssignment a → told a < 2 * a.table.size → (s : Symbol) → IsMemberUnder a (prefix_of a) s → IsNext a (next_number (prefix_of a) s)
 next_value a is room s under =
     next_choice a is room s under (IsNext a (next_number (prefix_of a) s))
     (λ low c. record { value = c.value; is_value = value_of c.value c.crystallographic; product = c.product })

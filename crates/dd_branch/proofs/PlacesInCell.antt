@@ -20,6 +20,7 @@ bounds_beside set y none most = record {
   most = λ m choice. subst (λ n. n * (12 / choice.value) ≤ y.most) (sym none) (omega arith);
   sides = omega arith;
   most_small = omega arith;
+  least = λ v _ _ _. ap (λ n. n * (12 / v)) none ∙ omega (arith, most);
 }
 
 pub place_beside : (t : Symbol) → AreInvolutions t → (set : Allowed) (p : Pair) (first d e : ℕ) (x y : Place) → IsChamber t d → IsSmallerInCell t p d e → IsPlaceOf t set p first e x

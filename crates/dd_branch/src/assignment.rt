@@ -10,7 +10,7 @@ ghost use Rattle.dd_invol.specs.Under.{next_number, AreUnder, Appends};
 ghost use Rattle.dd_branch.specs.Choice.{IsChoice};
 ghost use Rattle.dd_branch.specs.Assignment.{HasLimits, IsAssignment, IsAtRoot, IsMemberUnder, next_place, prefix_of, spent_by, told};
 ghost use Rattle.dd_branch.specs.Place.{ArePlaces};
-ghost use Rattle.dd_branch.specs.Entered.{HasBudget, HasEntered, HasForced};
+ghost use Rattle.dd_branch.specs.Entered.{HasBudget, HasEntered, HasForced, HasTold};
 
 use crate::minimality::is_minimal;
 use crate::places::{Place, part_of_side};
@@ -228,6 +228,64 @@ impl Assignment {
         Ok(())
     }
 
+    /// Whether the degrees that are left need the most of the budget that they may have, where so much of it is spent.
+    pub(crate) fn needs_most(&self, sum: u16) -> bool
+        requires ready { IsAssignment self.now }
+        requires small { sum ≤ 4096 }
+        ensures { IsTrue result
+            ↔ sum + slice_index self.now.rests.most (told self.now) ≡ 6 * self.now.table.size }
+    {
+        sum + self.rests.most[self.degrees.len()] == 6 * self.size() as u16
+    }
+
+    /// Tells the degrees that are left, where they need the most of the budget that they may have: each cell has then the
+    /// least branching value that its set allows. False where some cell has none.
+    fn finish(&mut self) -> bool
+        requires ready { IsAssignment self.old }
+        requires root { IsAtRoot self.old }
+        requires most { spent_by self.old + slice_index self.old.rests.most (told self.old)
+            ≡ 6 * self.old.table.size }
+        ensures ready { OnTrue result (IsAssignment self.new) }
+        ensures whole { OnTrue result (told self.new ≡ 2 * self.new.table.size) }
+        ensures flat { OnTrue result (spent_by self.new ≡ 6 * self.new.table.size) }
+        ensures told { OnTrue result (HasTold self.old self.new) }
+        ensures same { OnFalse result (self.new ≡ self.old) }
+        ensures dead { OnFalse result
+            ((s : Tiling) → IsMemberUnder self.old (prefix_of self.old) s → ⊥) }
+    {
+        let first = self.degrees.len();
+        while self.degrees.len() < self.places.len() {
+            let place = self.next_place();
+            if place.values == 0 {
+                self.degrees.truncate(first);
+                return false;
+            }
+            self.enter(place.least_value() * place.turns);
+        }
+        true
+    }
+
+    /// Adds the member with the degrees that are told in which those that are left have the most of the budget that they may,
+    /// if there is one.
+    fn add_last(&mut self, list: &mut Vec<Connected>) -> Result<(), Memory>
+        requires ready { IsAssignment self.old }
+        requires root { IsAtRoot self.old }
+        requires most { spent_by self.old + slice_index self.old.rests.most (told self.old)
+            ≡ 6 * self.old.table.size }
+        ensures same { OnOk result (self.new ≡ self.old) }
+        ensures list { OnOk result (Appends
+            (AreUnder (IsMember self.old.request) self.old.table.size (prefix_of self.old))
+            list.old.items list.new.items) }
+    {
+        let next = self.degrees.len();
+        if !self.finish() {
+            return Ok(());
+        }
+        self.add_member(list)?;
+        self.degrees.truncate(next);
+        Ok(())
+    }
+
     /// Adds the members with the degrees that are told, of which the parts have a sum. It goes down
     /// the cells by their branching values.
     pub(crate) fn add_members(&mut self, sum: u16, list: &mut Vec<Connected>) -> Result<(), Memory>
@@ -239,10 +297,10 @@ impl Assignment {
             (AreUnder (IsMember self.old.request) self.old.table.size (prefix_of self.old))
             list.old.items list.new.items) }
     {
-        let next = self.degrees.len();
-        if next == self.places.len() {
-            return self.add_member(list);
+        if self.needs_most(sum) {
+            return self.add_last(list);
         }
+        let next = self.degrees.len();
         let place = self.next_place();
         for value in 1..7u8 {
             let spent = sum + u16::from(place.sides * part_of_side(value));

@@ -4,7 +4,7 @@ ghost use Rattle.dd_model.specs.Symbol.{IsChamber};
 ghost use Rattle.dd_cells.specs.Cells.{IsSmallerInCell};
 ghost use Rattle.dd_symbol.specs.Images.{AreThreeInvolutions};
 ghost use Rattle.dd_branch.specs.Choice.{HasValues};
-ghost use Rattle.dd_branch.specs.Place.{ArePlaces, AreTurns, HasPlaces, HasSides, IsPlaceOf};
+ghost use Rattle.dd_branch.specs.Place.{ArePlaces, AreTurns, HasPlaces, HasSides, IsLeastBit, IsPlaceOf};
 ghost use Rattle.dd_branch.specs.declared.places.Place.{Place as Known};
 
 use arrayvec::ArrayVec;
@@ -34,6 +34,14 @@ impl Place {
         ensures { IsTrue result ↔ bit_at self.now.values value ≡ 1 }
     {
         (self.values >> value) & 1 == 1
+    }
+
+    /// The least branching value of the place.
+    pub(crate) fn least_value(&self) -> u8
+        requires { 0 < self.now.values }
+        ensures { IsLeastBit self.now.values result }
+    {
+        self.values.trailing_zeros() as u8
     }
 }
 
@@ -82,6 +90,7 @@ fn most_part(values: u8, sides: u8) -> u8
     requires sides { sides ≤ 2 }
     ensures most { (v : ℕ) → 1 ≤ v → v ≤ 6 → bit_at values v ≡ 1 → sides * (12 / v) ≤ result }
     ensures small { result ≤ sides * 12 }
+    ensures least { (v : ℕ) → 1 ≤ v → v ≤ 6 → IsLeastBit values v → sides * (12 / v) ≡ result }
 {
     for value in 1..7u8 {
         if (values >> value) & 1 == 1 {
