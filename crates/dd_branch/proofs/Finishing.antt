@@ -1,5 +1,5 @@
 -- What is told where the degrees that are left need the most of the budget that they may have.
-use Rattle.std.proofs.Common.{◌≡◌, ◌↔◌, ℕ, Bool, false, IsTrue, ◌+◌, ◌*◌, ◌/◌, ◌<◌, ◌≤◌, List, length, get_or, take, refl, sym, ap, ◌∙◌, subst, ⊎_elim, arith}
+use Rattle.std.proofs.Common.{◌≡◌, ◌↔◌, ℕ, Bool, false, IsTrue, ◌+◌, ◌*◌, ◌/◌, ◌<◌, ◌≤◌, List, length, get_or, take, refl, sym, ap, ◌∙◌, ⊎_elim, arith}
 use Rattle.std.proofs.Math.Nat.{mul-le-mul_left}
 use Rattle.std.proofs.lemmas.Bool.{cases_eq, cases_lt}
 use Rattle.std.proofs.lemmas.List.{take-take}
@@ -13,10 +13,10 @@ use Rattle.dd_invol.proofs.Prefixes.{extended, shortened as prefix_shortened}
 use Rattle.dd_branch.specs.Budget.{no_place}
 use Rattle.dd_branch.specs.Choice.{IsChoice}
 use Rattle.dd_branch.specs.Place.{IsLeastBit}
-use Rattle.dd_branch.specs.Assignment.{IsAssignment, IsAtRoot, IsMemberUnder, next_place, prefix_of, shortened, spent_by, told}
+use Rattle.dd_branch.specs.Assignment.{IsAssignment, IsAtRoot, IsMemberUnder, next_place, prefix_of, spent_by, told}
 use Rattle.dd_branch.specs.Entered.{HasBudget, HasEntered, HasTold}
 use Rattle.dd_branch.specs.declared.assignment.Assignment.{Assignment}
-use Rattle.dd_branch.proofs.Advancing.{back_again, budget_of_member, next_value, part_of_value, sound_next, tile_values, value_allowed, vertex_values, with_list}
+use Rattle.dd_branch.proofs.Advancing.{budget_of_member, next_value, part_of_value, sound_next, tile_values, value_allowed, vertex_values, with_list}
 use Rattle.dd_branch.proofs.Assigned.{length-prefix}
 use Rattle.dd_branch.proofs.Choices.{choice_told, is_crystallographic, value_of}
 
@@ -106,9 +106,6 @@ vertex_choice a v is room set high = choice_told a.request.degrees (next_place a
 
 -- ## One cell after another
 
-pub told_none : (a : Assignment) → HasTold a a
-told_none a = record { back = back_again a; longer = omega arith; under = λ s. ((λ u. u), (λ u. u)) }
-
 pub told_more : (a b c : Assignment) (m : ℕ) → IsAssignment b → told b < 2 * b.table.size → HasTold a b → HasEntered b m c
     → ((s : Symbol) → IsMemberUnder b (prefix_of b) s → next_number (prefix_of b) s ≡ m) → HasTold a c
 told_more a b c m is room old entered next =
@@ -139,15 +136,6 @@ most_needed a b v is room needs least entered =
     let spends = entered.spent in
     let left = entered.most in
     omega (arith, part, most, each, size, spends, left, needs)
-
--- at the end all of it is spent
-pub flat_at_end : (a : Assignment) → IsAssignment a → 2 * a.table.size ≤ told a → NeedsMost a → spent_by a ≡ 6 * a.table.size
-flat_at_end a is end needs =
-    let short = is.short in
-    let count = is.places.count in
-    let at : told a ≡ length a.places.items = omega (arith, short, end, count) in
-    let most = ap (λ j. get_or a.rests.most j 0) at ∙ is.rests.no_most in
-    omega (arith, most, needs)
 
 -- what was found then
 pub found_told : (a b : Assignment) → HasTold a b → (old new : List Symbol) → Appends (AreUnder (IsMember b.request) b.table.size (prefix_of b)) old new → Appends (AreUnder (IsMember a.request) a.table.size (prefix_of a)) old new

@@ -1,5 +1,5 @@
 -- What a table tells of one degree.
-use Rattle.std.specs.Prelude.{◌≡◌, ◌≢◌, ◌⊎◌, ℕ, ◌+◌, ◌*◌, ◌/◌, ◌<◌, ◌≤◌, List, length, slice_index, slice_index_or}
+use Rattle.std.specs.Prelude.{◌≡◌, ◌≢◌, ◌⊎◌, ℕ, ◌+◌, ◌*◌, ◌/◌, ◌<◌, ◌≤◌, List, [], ◌∷◌, ◌++◌, length, slice_index, slice_index_or}
 use Rattle.std.specs.Int.{bit_at}
 use Rattle.dd_model.specs.declared.allowed.Allowed.{Allowed}
 use Rattle.dd_model.specs.declared.pair.Pair.{Pair}
@@ -44,6 +44,12 @@ pub record IsPlaceOf (t : Symbol) (set : Allowed) (p : Pair) (first d : ℕ) (x 
   pub sides : HasSides shape d x.sides
   pub values : HasValues set x.turns x.values
   pub bounds : AreBounds set x
+
+-- The place of a chamber was added to a list.
+pub record HasPlaceOf (t : Symbol) (set : Allowed) (p : Pair) (first d : ℕ) (old new : List Place) : Type 0 where
+  pub place : Place
+  pub added : new ≡ old ++ place ∷ []
+  pub is : IsPlaceOf t set p first d place
 
 -- A pair's places were added to a list, those of the first m chambers.
 pub record HasPlaces (t : Symbol) (set : Allowed) (p : Pair) (old : List Place) (m : ℕ) (new : List Place) : Type 0 where

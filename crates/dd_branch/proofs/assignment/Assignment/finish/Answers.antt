@@ -1,4 +1,4 @@
-use Rattle.std.proofs.Common.{◌≡◌, ◌*◌, ◌<◌, ◌≤◌, sym, ap, ◌∙◌, subst, arith}
+use Rattle.std.proofs.Common.{◌*◌, sym, ap, ◌∙◌, subst, arith}
 use Rattle.dd_branch.specs.Assignment.{next_place}
 use Rattle.dd_branch.specs.Choice.{IsChoice}
 use Rattle.dd_branch.specs.Entered.{HasEntered}
@@ -6,7 +6,7 @@ use Rattle.dd_branch.specs.Place.{IsLeastBit}
 use Rattle.dd_branch.specs.declared.places.Place.{Place}
 use Rattle.dd_branch.proofs.Advancing.{degree_small}
 use Rattle.dd_branch.proofs.Choices.{value_of}
-use Rattle.dd_branch.proofs.Finishing.{flat_at_end, has_least, most_needed, none_allowed, room_below, tile_choice, told_more, told_none, value_here, vertex_choice}
+use Rattle.dd_branch.proofs.Finishing.{has_least, most_needed, none_allowed, room_below, tile_choice, told_more, value_here, vertex_choice}
 use Rattle.dd_branch.proofs.assignment.Assignment.finish.Goals as goal
 use Rattle.dd_branch.proofs.assignment.Assignment.finish.Goals.{After-least_value}
 
