@@ -26,7 +26,7 @@ use Rattle.dd_branch.proofs.Choices.{IsValue, part_at_most, part_falls, value_of
 
 -- the assignment with other degrees
 abbrev pub with_list : Assignment → List ℕ → Assignment
-with_list a xs = record { alloc = a.alloc; request = a.request; table = a.table; ties = a.ties; places = a.places; rests = a.rests; degrees = record { items = xs } }
+with_list a xs = record { alloc = a.alloc; request = a.request; table = a.table; ties = a.ties; turnings = a.turnings; places = a.places; rests = a.rests; degrees = record { items = xs } }
 
 -- the assignment with one more
 abbrev pub with_degree : Assignment → ℕ → Assignment
@@ -75,6 +75,7 @@ more_told a m is room last =
       table = is.table;
       limits = is.limits;
       ties = is.ties;
+      turnings = is.turnings;
       places = is.places;
       rests = is.rests;
       short = omega (arith, room, long);

@@ -1,6 +1,7 @@
-ghost use Rattle.std.specs.Prelude.{◌≡◌, ℕ, ◌*◌, ◌/◌, ◌+◌, ◌≤◌, ◌<◌, [], ◌∷◌, ◌++◌, ◌↔◌, IsTrue, IfOk, OnOk, MatchOption, length, slice_index};
+ghost use Rattle.std.specs.Prelude.{◌≡◌, ℕ, ◌*◌, ◌/◌, ◌+◌, ◌≤◌, ◌<◌, [], ◌∷◌, ◌++◌, ◌↔◌, IsTrue, IfOk, IfSome, OnOk, MatchOption, length, slice_index};
 ghost use Rattle.std.specs.Bool.{OnTrue, OnFalse};
-ghost use Rattle.dd_model.specs.Symbol.{Symbol as Tiling, IsChamber};
+ghost use Rattle.dd_model.specs.Symbol.{Symbol as Tiling, IsChamber, IsTable};
+ghost use Rattle.dd_model.specs.Connected.{Connected as AllReached};
 ghost use Rattle.std.specs.List.{Contains};
 ghost use Rattle.dd_canon.specs.Ties.{AreTies, IsLeastFrom};
 ghost use Rattle.dd_model.specs.Minimal.{Minimal};
@@ -10,11 +11,14 @@ ghost use Rattle.dd_invol.specs.Under.{next_number, AreUnder, Appends};
 ghost use Rattle.dd_branch.specs.Choice.{IsChoice};
 ghost use Rattle.dd_branch.specs.Assignment.{HasLimits, IsAssignment, IsAtRoot, IsMemberUnder, next_place, prefix_of, spent_by, told};
 ghost use Rattle.dd_branch.specs.Place.{ArePlaces};
+ghost use Rattle.dd_branch.specs.Turning.{AreTurnings};
+ghost use Rattle.dd_model.specs.FirstVisit.{IsFirstVisit};
 ghost use Rattle.dd_branch.specs.Entered.{HasBudget, HasEntered, HasForced, HasTold};
 
 use crate::minimality::is_minimal;
 use crate::places::{Place, part_of_side};
 use crate::rests::Rests;
+use crate::turnings::{Turning, none_is_smaller};
 use arrayvec::ArrayVec;
 use dd_canon::is_least_from_ties;
 use dd_model::{Memory, Request};
@@ -32,6 +36,8 @@ pub(crate) struct Assignment {
     table: Connected,
     /// The starts from which the table is numbered as it stands: leastness is decided under these.
     ties: Vec<u32>,
+    /// Where the chambers go from each of them, if they go there together.
+    turnings: Option<Vec<Turning>>,
     /// What the table tells of each degree.
     pub(crate) places: ArrayVec<Place, 72>,
     /// What the degrees from each place on will have of the budget.
@@ -40,22 +46,57 @@ pub(crate) struct Assignment {
     pub(crate) degrees: ArrayVec<u8, 72>,
 }
 
+/// Whether no numbering of a symbol from a tie is smaller. Where its chambers go is known of nearly all
+/// ties, and then the degrees alone decide.
+fn is_least(
+    alloc: Global,
+    ties: &[u32],
+    turnings: &Option<Vec<Turning>>,
+    symbol: &Connected,
+    degrees: (&[u8], &[u8]),
+) -> Result<bool, Memory>
+    requires table { IsTable symbol.now }
+    requires connected { AllReached symbol.now }
+    requires ties { (d : ℕ) → Contains ties.now d → IsChamber symbol.now d }
+    requires turnings { IfSome turnings.now (λ all. AreTurnings symbol.now ties.now all.items) }
+    requires visit { IsFirstVisit symbol.now }
+    requires tiles { degrees.0.now ≡ symbol.now.m01 }
+    requires vertices { degrees.1.now ≡ symbol.now.m12 }
+    ensures { IfOk result (λ yes. IsTrue yes ↔ IsLeastFrom symbol.now ties.now) }
+{
+    match turnings {
+        Some(all) => Ok(none_is_smaller(all.as_slice(), degrees.0, degrees.1)),
+        None => is_least_from_ties(alloc, symbol, ties),
+    }
+}
+
 /// Whether a symbol of which all else is known is a member of the catalogue of a request. Most tables
 /// have no ties, and then nothing is left to be tested.
 fn is_asked(
     alloc: Global,
     request: &Request,
     ties: &[u32],
+    turnings: &Option<Vec<Turning>>,
     symbol: &Connected,
+    degrees: (&[u8], &[u8]),
 ) -> Result<bool, Memory>
-    requires { (d : ℕ) → Contains ties.now d → IsChamber symbol.now d }
+    requires table { IsTable symbol.now }
+    requires connected { AllReached symbol.now }
+    requires ties { (d : ℕ) → Contains ties.now d → IsChamber symbol.now d }
+    requires turnings { IfSome turnings.now (λ all. AreTurnings symbol.now ties.now all.items) }
+    requires visit { IsFirstVisit symbol.now }
+    requires tiles { degrees.0.now ≡ symbol.now.m01 }
+    requires vertices { degrees.1.now ≡ symbol.now.m12 }
     ensures { IfOk result (λ yes. IsTrue yes
         ↔ (IsLeastFrom symbol.now ties.now × (IsTrue request.now.minimal → Minimal symbol.now))) }
 {
     if ties.is_empty() && !request.minimal {
         return Ok(true);
     }
-    Ok(is_least_from_ties(alloc, symbol, ties)? && (!request.minimal || is_minimal(alloc, symbol)?))
+    Ok(
+        is_least(alloc, ties, turnings, symbol, degrees)?
+            && (!request.minimal || is_minimal(alloc, symbol)?),
+    )
 }
 
 impl Assignment {
@@ -64,12 +105,14 @@ impl Assignment {
         alloc: Global,
         table: Connected,
         ties: Vec<u32>,
+        turnings: Option<Vec<Turning>>,
         places: ArrayVec<Place, 72>,
         q: &Request,
     ) -> Assignment
         requires table { IsBareTable table }
         requires limits { HasLimits q.now table }
         requires ties { AreTies table ties.items }
+        requires turnings { IfSome turnings (λ all. AreTurnings table ties.items all.items) }
         requires places { ArePlaces q.now table places.items }
         ensures ready { IsAssignment result }
         ensures root { IsAtRoot result }
@@ -82,6 +125,7 @@ impl Assignment {
             request: *q,
             table,
             ties,
+            turnings,
             rests: Rests::of(places.as_slice()),
             places,
             degrees: ArrayVec::new(),
@@ -208,7 +252,15 @@ impl Assignment {
     {
         let (m01, m12) = self.degrees.as_slice().split_at(self.size());
         let symbol = self.table.with_known_degrees(self.alloc, m01, m12)?;
-        if is_asked(self.alloc, &self.request, &self.ties, &symbol)? {
+        let (ties, turnings) = (&self.ties, &self.turnings);
+        if is_asked(
+            self.alloc,
+            &self.request,
+            ties,
+            turnings,
+            &symbol,
+            (m01, m12),
+        )? {
             return Ok(Some(symbol));
         }
         Ok(None)
