@@ -1,18 +1,17 @@
 -- The numberings of a symbol from a chamber to which its involutions may be turned.
-use Rattle.std.proofs.Common.{IfSome, Vec, ◌≡◌, ◌≢◌, ◌↔◌, ℕ, suc, false, ◌+◌, ◌-◌, ◌<◌, ◌≤◌, List, get_or, drop, drop-cons, inl, inr, ⊎_elim, [], ◌∷◌, ◌++◌, length, length-append, refl, sym, ap, ◌∙◌, subst, arith}
+use Rattle.std.proofs.Common.{IfSome, Vec, ◌≡◌, ◌↔◌, ℕ, suc, false, ◌+◌, ◌-◌, ◌<◌, ◌≤◌, List, get_or, drop, drop-cons, ⊎_elim, [], ◌∷◌, ◌++◌, length, length-append, refl, sym, ap, ◌∙◌, subst, arith}
 use Rattle.std.proofs.lemmas.List.{length-map}
 use Rattle.std.proofs.lemmas.Bool.{cases_lt}
 use Rattle.std.specs.Ordering.{nat_cmp, ordering_then, is_ne}
 use Rattle.std.specs.declared.cmp.Ordering.{Ordering}
 use Rattle.std.specs.Cmp.Lexicographic.{slice_cmp}
 use Rattle.std.specs.declared.cmp.Ordering.TheVariants.{Less, Equal, Greater}
-use Rattle.dd_model.specs.declared.index.Index.{Index}
 use Rattle.dd_model.specs.declared.index.Index.TheVariants.{Zero, One, Two}
 use Rattle.dd_model.specs.Symbol.{Symbol, IsTable, IsChamber, item, op, operation}
 use Rattle.dd_model.specs.Connected.{Connected}
 use Rattle.dd_model.specs.Code.{all_images, code, code_cmp}
 use Rattle.dd_model.specs.FirstVisit.{Grows, IsFirstVisit, IsNumberedFrom}
-use Rattle.dd_model.specs.Isomorphic.{HaveLengths, IsBijection, IsIsomorphism}
+use Rattle.dd_model.specs.Isomorphic.{HaveLengths, IsIsomorphism}
 use Rattle.dd_model.proofs.Bijections.{after, item-after}
 use Rattle.dd_model.proofs.Isomorphisms.{IsIsomorphism-inverse}
 use Rattle.dd_model.proofs.LeastForms.{numbered_unique}

@@ -46,8 +46,8 @@ pub(crate) struct Assignment {
     pub(crate) degrees: ArrayVec<u8, 72>,
 }
 
-/// Whether no numbering of a symbol from a tie is smaller. Where its chambers go is known of nearly all
-/// ties, and then the degrees alone decide.
+/// Whether no numbering of a symbol from a tie is smaller. Where it is known how its chambers go, the
+/// degrees alone decide, and no numbering is made.
 fn is_least(
     alloc: Global,
     ties: &[u32],

@@ -154,7 +154,8 @@ fn is_turning(s: &Symbol, start: u32, list: &[u8], back: &[u8]) -> bool
 }
 
 impl Turning {
-    /// That of chamber 1 to a start, if there is one.
+    /// That of chamber 1 to a start, if there is one. What was followed is looked through afterwards, since a start
+    /// from which the table is not numbered as it stands has none.
     pub(crate) fn to(s: &Symbol, start: u32) -> Option<Turning>
         requires small { s.now.size ≤ 36 }
         requires start { IsChamber s.now start }

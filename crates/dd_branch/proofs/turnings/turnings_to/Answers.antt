@@ -1,4 +1,4 @@
-use Rattle.std.proofs.Common.{◌+◌, get_or, ap, length, ◌∙◌, arith}
+use Rattle.std.proofs.Common.{◌+◌, get_or, ap, length, ◌∙◌}
 use Rattle.std.proofs.lemmas.List.{get_or_default, length_push}
 use Rattle.dd_branch.proofs.TurnedDegrees.{turnings_more}
 use Rattle.dd_branch.proofs.turnings.turnings_to.Goals as goal
