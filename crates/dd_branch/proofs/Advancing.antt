@@ -26,7 +26,7 @@ use Rattle.dd_branch.proofs.Choices.{IsValue, part_at_most, part_falls, value_of
 
 -- the assignment with other degrees
 abbrev pub with_list : Assignment → List ℕ → Assignment
-with_list a xs = record { alloc = a.alloc; request = a.request; table = a.table; ties = a.ties; places = a.places; rests = a.rests; degrees = record { items = xs } }
+with_list a xs = record { alloc = a.alloc; request = a.request; table = a.table; ties = a.ties; turnings = a.turnings; places = a.places; rests = a.rests; degrees = record { items = xs } }
 
 -- the assignment with one more
 abbrev pub with_degree : Assignment → ℕ → Assignment
@@ -75,6 +75,7 @@ more_told a m is room last =
       table = is.table;
       limits = is.limits;
       ties = is.ties;
+      turnings = is.turnings;
       places = is.places;
       rests = is.rests;
       short = omega (arith, room, long);
@@ -384,12 +385,12 @@ value_allowed a v is room s under next =
 -- ## One value after another
 
 -- what the next degree of a member is
-record IsNext (a : Assignment) (m : ℕ) : Type 0 where
-  value : ℕ
-  is_value : IsValue value
-  product : m ≡ value * (next_place a).turns
+pub record IsNext (a : Assignment) (m : ℕ) : Type 0 where
+  pub value : ℕ
+  pub is_value : IsValue value
+  pub product : m ≡ value * (next_place a).turns
 
-next_value : (a : Assignment) → IsAssignment a → told a < 2 * a.table.size → (s : Symbol) → IsMemberUnder a (prefix_of a) s → IsNext a (next_number (prefix_of a) s)
+pub next_value : (a : Assignment) → IsAssignment a → told a < 2 * a.table.size → (s : Symbol) → IsMemberUnder a (prefix_of a) s → IsNext a (next_number (prefix_of a) s)
 next_value a is room s under =
     next_choice a is room s under (IsNext a (next_number (prefix_of a) s))
     (λ low c. record { value = c.value; is_value = value_of c.value c.crystallographic; product = c.product })

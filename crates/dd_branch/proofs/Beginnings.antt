@@ -1,5 +1,5 @@
 -- How a search for the degrees of a table begins, and what it has found at its end.
-use Rattle.std.proofs.Common.{◌≡◌, ℕ, ◌+◌, ◌*◌, ◌≤◌, List, [], ◌++◌, length, get_or, take, sym, ap, ◌∙◌, subst, arith}
+use Rattle.std.proofs.Common.{IfSome, ◌≡◌, ℕ, ◌+◌, ◌*◌, ◌≤◌, List, [], ◌++◌, length, get_or, take, sym, ap, ◌∙◌, subst, arith}
 use Rattle.std.proofs.lemmas.List.{append-nil}
 use Rattle.dd_model.specs.declared.pair.Pair.{Pair}
 use Rattle.dd_model.specs.declared.pair.Pair.TheVariants.{Tile, Vertex}
@@ -22,6 +22,7 @@ use Rattle.dd_invol.proofs.Prefixes.{appends_none}
 use Rattle.dd_invol.proofs.TiedTables.{table_of_least}
 use Rattle.dd_model.proofs.SameInvolutions.{same-sym}
 use Rattle.dd_invol.proofs.TableFronts.{front_begins, begins_with_take}
+use Rattle.dd_branch.specs.Turning.{AreTurnings}
 use Rattle.dd_branch.specs.Assignment.{HasLimits, IsAssignment, IsAtRoot, IsMemberUnder, prefix_of, told}
 use Rattle.dd_branch.specs.Budget.{no_place}
 use Rattle.dd_branch.specs.Members.{AreMembersWith}
@@ -61,13 +62,14 @@ both_places q t none mid new empty tiles vertices =
 
 -- ## The beginning
 
-pub begun : (a : Assignment) → IsBareTable a.table → HasLimits a.request a.table → AreTies a.table a.ties.items → ArePlaces a.request a.table a.places.items → AreRests a.places.items a.rests → a.degrees.items ≡ [] → IsAssignment a
-begun a table limits ties places rests empty =
+pub begun : (a : Assignment) → IsBareTable a.table → HasLimits a.request a.table → AreTies a.table a.ties.items → IfSome a.turnings (λ all. AreTurnings a.table a.ties.items all.items) → ArePlaces a.request a.table a.places.items → AreRests a.places.items a.rests → a.degrees.items ≡ [] → IsAssignment a
+begun a table limits ties turnings places rests empty =
     let none : told a ≡ 0 = ap length empty in
     record {
       table = table;
       limits = limits;
       ties = ties;
+      turnings = turnings;
       places = places;
       rests = rests;
       short = omega (arith, none);

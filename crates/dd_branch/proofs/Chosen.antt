@@ -1,5 +1,5 @@
 -- The degrees of a symbol as choices, at each place of a table with its involutions.
-use Rattle.std.proofs.Common.{◌≡◌, ◌≢◌, ℕ, ◌+◌, ◌-◌, ◌*◌, ◌<◌, ◌≤◌, ◌%◌, List, length, get_or, refl, sym, IsTrue, ap, ◌∙◌, subst, ⊎_elim, arith}
+use Rattle.std.proofs.Common.{◌≡◌, ◌≢◌, ℕ, ◌+◌, ◌-◌, ◌*◌, ◌/◌, ◌<◌, ◌≤◌, ◌%◌, List, length, get_or, refl, sym, IsTrue, ap, ◌∙◌, subst, ⊎_elim, arith}
 use Rattle.std.proofs.Math.Nat.{mul-le-mul_left, mul-mod_left}
 use Rattle.std.proofs.lemmas.Bool.{cases_lt}
 use Rattle.std.proofs.lemmas.List.{get_or_append_left, get_or-append_right}
@@ -28,7 +28,9 @@ use Rattle.dd_invol.proofs.BareTables.{at_most_alike}
 use Rattle.dd_branch.specs.Assignment.{HasLimits, degree_at}
 use Rattle.dd_branch.specs.Budget.{no_place, twelfths}
 use Rattle.dd_branch.specs.Choice.{IsChoice}
-use Rattle.dd_branch.specs.Place.{ArePlaces, IsPlaceOf}
+use Rattle.dd_symbol.specs.declared.kind.Kind.{Kind}
+use Rattle.dd_symbol.specs.declared.kind.Kind.TheVariants.{Cycle, Chain}
+use Rattle.dd_branch.specs.Place.{ArePlaces, IsLeastBit, IsPlaceOf, sides_of}
 use Rattle.dd_branch.specs.declared.places.Place.{Place}
 use Rattle.dd_branch.proofs.Budgets.{AreBounded, AreChosen, AllAreChosen, HasPart, part_of_choice, shape_at}
 use Rattle.dd_branch.proofs.Choices.{value_of, value_told}
@@ -327,6 +329,12 @@ pub record IsSound (j : ℕ) (x : Place) : Type 0 where
   pub sides : x.sides ≤ 2
   pub most : x.most ≤ x.sides * 12
   pub follows : x.root ≢ j → x.sides ≡ 0
+  pub leads : x.root ≡ j → 1 ≤ x.sides
+  pub least : (v : ℕ) → 1 ≤ v → v ≤ 6 → IsLeastBit x.values v → x.sides * (12 / v) ≡ x.most
+
+some_sides : (kind : Kind) → 1 ≤ sides_of kind
+some_sides Cycle = omega arith
+some_sides Chain = omega arith
 
 sound_place : (t : Symbol) → AreInvolutions t → (p : Pair) (set : Allowed) (first k j : ℕ) (x : Place) → j ≡ first + k → IsPlaceOf t set p first (k + 1) x → k < t.size → IsSound j x
 sound_place t inv p set first k j x at place low =
@@ -344,6 +352,8 @@ sound_place t inv p set first k j x at place low =
       sides = place.bounds.sides;
       most = place.bounds.most_small;
       follows = λ other. ⊎_elim (λ own. absurd (other (let e = own.0 in omega (arith, e, root, at)))) (λ none. none.1) place.sides;
+      leads = λ own. ⊎_elim (λ here. let is = here.1 in let some = some_sides place.shape.kind in omega (arith, is, some)) (λ none. absurd (none.0 (omega (arith, own, root, at)))) place.sides;
+      least = place.bounds.least;
     }
 
 pub sound_places : (q : Request) (t : Symbol) (places : List Place) → AreInvolutions t → ArePlaces q t places → (j : ℕ) (x : Place) → j < 2 * t.size → IsSound j (get_or places j x)

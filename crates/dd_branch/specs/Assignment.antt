@@ -1,5 +1,5 @@
 -- How far a search for the degrees of a table has come.
-use Rattle.std.specs.Prelude.{◌≡◌, ℕ, ◌*◌, ◌<◌, ◌≤◌, List, ◌++◌, length, take, slice_index, slice_index_or}
+use Rattle.std.specs.Prelude.{◌≡◌, ℕ, ◌*◌, ◌<◌, ◌≤◌, List, ◌++◌, length, take, slice_index, slice_index_or, IfSome}
 use Rattle.dd_model.specs.declared.requests.Request.{Request}
 use Rattle.dd_model.specs.declared.pair.Pair.TheVariants.{Tile, Vertex}
 use Rattle.dd_model.specs.Symbol.{Symbol}
@@ -10,6 +10,7 @@ use Rattle.dd_invol.specs.Table.{IsBareTable}
 use Rattle.dd_invol.specs.Under.{IsUnder}
 use Rattle.dd_branch.specs.Budget.{no_place, spent}
 use Rattle.dd_branch.specs.Choice.{IsChoice}
+use Rattle.dd_branch.specs.Turning.{AreTurnings}
 use Rattle.dd_branch.specs.Place.{ArePlaces}
 use Rattle.dd_branch.specs.Rests.{AreRests}
 use Rattle.dd_branch.specs.declared.places.Place.{Place}
@@ -38,6 +39,7 @@ shortened a mark = record {
   request = a.request;
   table = a.table;
   ties = a.ties;
+  turnings = a.turnings;
   places = a.places;
   rests = a.rests;
   degrees = record { items = take mark a.degrees.items };
@@ -68,6 +70,7 @@ pub record IsAssignment (a : Assignment) : Type 0 where
   pub table : IsBareTable a.table
   pub limits : HasLimits a.request a.table
   pub ties : AreTies a.table a.ties.items
+  pub turnings : IfSome a.turnings (λ all. AreTurnings a.table a.ties.items all.items)
   pub places : ArePlaces a.request a.table a.places.items
   pub rests : AreRests a.places.items a.rests
   pub short : told a ≤ 2 * a.table.size

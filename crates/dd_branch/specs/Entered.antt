@@ -20,6 +20,12 @@ pub record HasForced (old new : Assignment) : Type 0 where
   pub most : slice_index new.rests.most (told new) ≡ slice_index old.rests.most (told old)
   pub least : slice_index new.rests.least (told new) ≡ slice_index old.rests.least (told old)
 
+-- More degrees were told, and no member has others.
+pub record HasTold (old new : Assignment) : Type 0 where
+  pub back : shortened new (told old) ≡ old
+  pub longer : told old ≤ told new
+  pub under : (s : Symbol) → IsMemberUnder old (prefix_of old) s ↔ IsMemberUnder new (prefix_of new) s
+
 -- A degree was told, with those that follow.
 pub record HasEntered (old : Assignment) (degree : ℕ) (new : Assignment) : Type 0 where
   pub back : shortened new (told old) ≡ old

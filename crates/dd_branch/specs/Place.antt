@@ -1,5 +1,6 @@
 -- What a table tells of one degree.
-use Rattle.std.specs.Prelude.{◌≡◌, ◌≢◌, ◌⊎◌, ℕ, ◌+◌, ◌*◌, ◌/◌, ◌<◌, ◌≤◌, List, length, slice_index, slice_index_or}
+use Rattle.std.specs.Prelude.{◌≡◌, ◌≢◌, ◌⊎◌, ℕ, ◌+◌, ◌*◌, ◌/◌, ◌<◌, ◌≤◌, List, [], ◌∷◌, ◌++◌, length, slice_index, slice_index_or}
+use Rattle.std.specs.Int.{bit_at}
 use Rattle.dd_model.specs.declared.allowed.Allowed.{Allowed}
 use Rattle.dd_model.specs.declared.pair.Pair.{Pair}
 use Rattle.dd_model.specs.declared.pair.Pair.TheVariants.{Tile, Vertex}
@@ -21,11 +22,17 @@ sides_of Chain = 1
 abbrev pub HasSides : CellShape → ℕ → ℕ → Type 0
 HasSides shape d sides = ((shape.least ≡ d) × (sides ≡ sides_of shape.kind)) ⊎ ((shape.least ≢ d) × (sides ≡ 0))
 
--- bounds of the parts of all degrees that may stand at a place
+-- the first bit that is set
+pub record IsLeastBit (values v : ℕ) : Type 0 where
+  pub told : bit_at values v ≡ 1
+  pub least : (w : ℕ) → bit_at values w ≡ 1 → v ≤ w
+
+-- bounds of the parts of all degrees that may stand at a place; that of the least branching value is the most
 pub record AreBounds (set : Allowed) (x : Place) : Type 0 where
   pub most : (m : ℕ) (c : IsChoice set x.turns m) → x.sides * (12 / c.value) ≤ x.most
   pub sides : x.sides ≤ 2
   pub most_small : x.most ≤ x.sides * 12
+  pub least : (v : ℕ) → 1 ≤ v → v ≤ 6 → IsLeastBit x.values v → x.sides * (12 / v) ≡ x.most
 
 -- What is said of the degree of a pair at a chamber d. Chamber 1 has the place that is handed in.
 pub record IsPlaceOf (t : Symbol) (set : Allowed) (p : Pair) (first d : ℕ) (x : Place) : Type 0 where
@@ -37,6 +44,12 @@ pub record IsPlaceOf (t : Symbol) (set : Allowed) (p : Pair) (first d : ℕ) (x 
   pub sides : HasSides shape d x.sides
   pub values : HasValues set x.turns x.values
   pub bounds : AreBounds set x
+
+-- The place of a chamber was added to a list.
+pub record HasPlaceOf (t : Symbol) (set : Allowed) (p : Pair) (first d : ℕ) (old new : List Place) : Type 0 where
+  pub place : Place
+  pub added : new ≡ old ++ place ∷ []
+  pub is : IsPlaceOf t set p first d place
 
 -- A pair's places were added to a list, those of the first m chambers.
 pub record HasPlaces (t : Symbol) (set : Allowed) (p : Pair) (old : List Place) (m : ℕ) (new : List Place) : Type 0 where

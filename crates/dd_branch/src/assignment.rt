@@ -1,6 +1,7 @@
-ghost use Rattle.std.specs.Prelude.{◌≡◌, ℕ, ◌*◌, ◌/◌, ◌+◌, ◌≤◌, ◌<◌, [], ◌∷◌, ◌++◌, ◌↔◌, IsTrue, IfOk, OnOk, MatchOption, length, slice_index};
+ghost use Rattle.std.specs.Prelude.{◌≡◌, ℕ, ◌*◌, ◌/◌, ◌+◌, ◌≤◌, ◌<◌, [], ◌∷◌, ◌++◌, ◌↔◌, IsTrue, IfOk, IfSome, OnOk, MatchOption, length, slice_index};
 ghost use Rattle.std.specs.Bool.{OnTrue, OnFalse};
-ghost use Rattle.dd_model.specs.Symbol.{Symbol as Tiling, IsChamber};
+ghost use Rattle.dd_model.specs.Symbol.{Symbol as Tiling, IsChamber, IsTable};
+ghost use Rattle.dd_model.specs.Connected.{Connected as AllReached};
 ghost use Rattle.std.specs.List.{Contains};
 ghost use Rattle.dd_canon.specs.Ties.{AreTies, IsLeastFrom};
 ghost use Rattle.dd_model.specs.Minimal.{Minimal};
@@ -10,11 +11,14 @@ ghost use Rattle.dd_invol.specs.Under.{next_number, AreUnder, Appends};
 ghost use Rattle.dd_branch.specs.Choice.{IsChoice};
 ghost use Rattle.dd_branch.specs.Assignment.{HasLimits, IsAssignment, IsAtRoot, IsMemberUnder, next_place, prefix_of, spent_by, told};
 ghost use Rattle.dd_branch.specs.Place.{ArePlaces};
-ghost use Rattle.dd_branch.specs.Entered.{HasBudget, HasEntered, HasForced};
+ghost use Rattle.dd_branch.specs.Turning.{AreTurnings};
+ghost use Rattle.dd_model.specs.FirstVisit.{IsFirstVisit};
+ghost use Rattle.dd_branch.specs.Entered.{HasBudget, HasEntered, HasForced, HasTold};
 
 use crate::minimality::is_minimal;
 use crate::places::{Place, part_of_side};
 use crate::rests::Rests;
+use crate::turnings::{Turning, none_is_smaller};
 use arrayvec::ArrayVec;
 use dd_canon::is_least_from_ties;
 use dd_model::{Memory, Request};
@@ -32,6 +36,8 @@ pub(crate) struct Assignment {
     table: Connected,
     /// The starts from which the table is numbered as it stands: leastness is decided under these.
     ties: Vec<u32>,
+    /// Where the chambers go from each of them, if they go there together.
+    turnings: Option<Vec<Turning>>,
     /// What the table tells of each degree.
     pub(crate) places: ArrayVec<Place, 72>,
     /// What the degrees from each place on will have of the budget.
@@ -40,22 +46,57 @@ pub(crate) struct Assignment {
     pub(crate) degrees: ArrayVec<u8, 72>,
 }
 
+/// Whether no numbering of a symbol from a tie is smaller. Where it is known how its chambers go, the
+/// degrees alone decide, and no numbering is made.
+fn is_least(
+    alloc: Global,
+    ties: &[u32],
+    turnings: &Option<Vec<Turning>>,
+    symbol: &Connected,
+    degrees: (&[u8], &[u8]),
+) -> Result<bool, Memory>
+    requires table { IsTable symbol.now }
+    requires connected { AllReached symbol.now }
+    requires ties { (d : ℕ) → Contains ties.now d → IsChamber symbol.now d }
+    requires turnings { IfSome turnings.now (λ all. AreTurnings symbol.now ties.now all.items) }
+    requires visit { IsFirstVisit symbol.now }
+    requires tiles { degrees.0.now ≡ symbol.now.m01 }
+    requires vertices { degrees.1.now ≡ symbol.now.m12 }
+    ensures { IfOk result (λ yes. IsTrue yes ↔ IsLeastFrom symbol.now ties.now) }
+{
+    match turnings {
+        Some(all) => Ok(none_is_smaller(all.as_slice(), degrees.0, degrees.1)),
+        None => is_least_from_ties(alloc, symbol, ties),
+    }
+}
+
 /// Whether a symbol of which all else is known is a member of the catalogue of a request. Most tables
 /// have no ties, and then nothing is left to be tested.
 fn is_asked(
     alloc: Global,
     request: &Request,
     ties: &[u32],
+    turnings: &Option<Vec<Turning>>,
     symbol: &Connected,
+    degrees: (&[u8], &[u8]),
 ) -> Result<bool, Memory>
-    requires { (d : ℕ) → Contains ties.now d → IsChamber symbol.now d }
+    requires table { IsTable symbol.now }
+    requires connected { AllReached symbol.now }
+    requires ties { (d : ℕ) → Contains ties.now d → IsChamber symbol.now d }
+    requires turnings { IfSome turnings.now (λ all. AreTurnings symbol.now ties.now all.items) }
+    requires visit { IsFirstVisit symbol.now }
+    requires tiles { degrees.0.now ≡ symbol.now.m01 }
+    requires vertices { degrees.1.now ≡ symbol.now.m12 }
     ensures { IfOk result (λ yes. IsTrue yes
         ↔ (IsLeastFrom symbol.now ties.now × (IsTrue request.now.minimal → Minimal symbol.now))) }
 {
     if ties.is_empty() && !request.minimal {
         return Ok(true);
     }
-    Ok(is_least_from_ties(alloc, symbol, ties)? && (!request.minimal || is_minimal(alloc, symbol)?))
+    Ok(
+        is_least(alloc, ties, turnings, symbol, degrees)?
+            && (!request.minimal || is_minimal(alloc, symbol)?),
+    )
 }
 
 impl Assignment {
@@ -64,12 +105,14 @@ impl Assignment {
         alloc: Global,
         table: Connected,
         ties: Vec<u32>,
+        turnings: Option<Vec<Turning>>,
         places: ArrayVec<Place, 72>,
         q: &Request,
     ) -> Assignment
         requires table { IsBareTable table }
         requires limits { HasLimits q.now table }
         requires ties { AreTies table ties.items }
+        requires turnings { IfSome turnings (λ all. AreTurnings table ties.items all.items) }
         requires places { ArePlaces q.now table places.items }
         ensures ready { IsAssignment result }
         ensures root { IsAtRoot result }
@@ -82,6 +125,7 @@ impl Assignment {
             request: *q,
             table,
             ties,
+            turnings,
             rests: Rests::of(places.as_slice()),
             places,
             degrees: ArrayVec::new(),
@@ -208,7 +252,15 @@ impl Assignment {
     {
         let (m01, m12) = self.degrees.as_slice().split_at(self.size());
         let symbol = self.table.with_known_degrees(self.alloc, m01, m12)?;
-        if is_asked(self.alloc, &self.request, &self.ties, &symbol)? {
+        let (ties, turnings) = (&self.ties, &self.turnings);
+        if is_asked(
+            self.alloc,
+            &self.request,
+            ties,
+            turnings,
+            &symbol,
+            (m01, m12),
+        )? {
             return Ok(Some(symbol));
         }
         Ok(None)
@@ -228,6 +280,64 @@ impl Assignment {
         Ok(())
     }
 
+    /// Whether the degrees that are left need the most of the budget that they may have, where so much of it is spent.
+    pub(crate) fn needs_most(&self, sum: u16) -> bool
+        requires ready { IsAssignment self.now }
+        requires small { sum ≤ 4096 }
+        ensures { IsTrue result
+            ↔ sum + slice_index self.now.rests.most (told self.now) ≡ 6 * self.now.table.size }
+    {
+        sum + self.rests.most[self.degrees.len()] == 6 * self.size() as u16
+    }
+
+    /// Tells the degrees that are left, where they need the most of the budget that they may have: each cell has then the
+    /// least branching value that its set allows. False where some cell has none.
+    fn finish(&mut self) -> bool
+        requires ready { IsAssignment self.old }
+        requires root { IsAtRoot self.old }
+        requires most { spent_by self.old + slice_index self.old.rests.most (told self.old)
+            ≡ 6 * self.old.table.size }
+        ensures ready { OnTrue result (IsAssignment self.new) }
+        ensures whole { OnTrue result (told self.new ≡ 2 * self.new.table.size) }
+        ensures flat { OnTrue result (spent_by self.new ≡ 6 * self.new.table.size) }
+        ensures told { OnTrue result (HasTold self.old self.new) }
+        ensures same { OnFalse result (self.new ≡ self.old) }
+        ensures dead { OnFalse result
+            ((s : Tiling) → IsMemberUnder self.old (prefix_of self.old) s → ⊥) }
+    {
+        let first = self.degrees.len();
+        while self.degrees.len() < self.places.len() {
+            let place = self.next_place();
+            if place.values == 0 {
+                self.degrees.truncate(first);
+                return false;
+            }
+            self.enter(place.least_value() * place.turns);
+        }
+        true
+    }
+
+    /// Adds the member with the degrees that are told in which those that are left have the most of the budget that they may,
+    /// if there is one.
+    fn add_last(&mut self, list: &mut Vec<Connected>) -> Result<(), Memory>
+        requires ready { IsAssignment self.old }
+        requires root { IsAtRoot self.old }
+        requires most { spent_by self.old + slice_index self.old.rests.most (told self.old)
+            ≡ 6 * self.old.table.size }
+        ensures same { OnOk result (self.new ≡ self.old) }
+        ensures list { OnOk result (Appends
+            (AreUnder (IsMember self.old.request) self.old.table.size (prefix_of self.old))
+            list.old.items list.new.items) }
+    {
+        let next = self.degrees.len();
+        if !self.finish() {
+            return Ok(());
+        }
+        self.add_member(list)?;
+        self.degrees.truncate(next);
+        Ok(())
+    }
+
     /// Adds the members with the degrees that are told, of which the parts have a sum. It goes down
     /// the cells by their branching values.
     pub(crate) fn add_members(&mut self, sum: u16, list: &mut Vec<Connected>) -> Result<(), Memory>
@@ -239,10 +349,10 @@ impl Assignment {
             (AreUnder (IsMember self.old.request) self.old.table.size (prefix_of self.old))
             list.old.items list.new.items) }
     {
-        let next = self.degrees.len();
-        if next == self.places.len() {
-            return self.add_member(list);
+        if self.needs_most(sum) {
+            return self.add_last(list);
         }
+        let next = self.degrees.len();
         let place = self.next_place();
         for value in 1..7u8 {
             let spent = sum + u16::from(place.sides * part_of_side(value));

@@ -72,7 +72,7 @@ fn ends_of(alloc: Global, request: &Request, table: Table) -> Result<u64, Fail> 
         return Ok(0);
     };
     let places = all_places(table.symbol().involutions(), request);
-    let mut search = Assignment::new(alloc, table, ties, places, request);
+    let mut search = Assignment::new(alloc, table, ties, None, places, request);
     Ok(count_all_ends(&mut search))
 }
 

@@ -11,6 +11,7 @@ mod minimality;
 mod places;
 mod rests;
 mod search;
+mod turnings;
 
 pub use descent::Descent;
 pub use laws::{flat_symbols_have_small_shares, lists_under_an_opening_are_the_catalogue};

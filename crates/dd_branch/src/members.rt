@@ -9,6 +9,7 @@ ghost use Rattle.dd_branch.specs.Place.{ArePlaces};
 
 use crate::assignment::Assignment;
 use crate::places::{Place, all_places, turns_of};
+use crate::turnings::turnings_to;
 use arrayvec::ArrayVec;
 use dd_canon::tied_starts;
 use dd_cells::has_at_most;
@@ -63,7 +64,8 @@ pub(crate) fn add_tied(
     if !has_limits(&table, q) {
         return Ok(());
     }
-    Assignment::new(alloc, table, ties, places, q).add_all(list)
+    let turnings = turnings_to(alloc, table.symbol(), ties.as_slice())?;
+    Assignment::new(alloc, table, ties, turnings, places, q).add_all(list)
 }
 
 /// Adds all members of a request's catalogue that have the involutions of a table, ascending.

@@ -4,7 +4,7 @@ ghost use Rattle.dd_model.specs.Symbol.{IsChamber};
 ghost use Rattle.dd_cells.specs.Cells.{IsSmallerInCell};
 ghost use Rattle.dd_symbol.specs.Images.{AreThreeInvolutions};
 ghost use Rattle.dd_branch.specs.Choice.{HasValues};
-ghost use Rattle.dd_branch.specs.Place.{ArePlaces, AreTurns, HasPlaces, HasSides, IsPlaceOf};
+ghost use Rattle.dd_branch.specs.Place.{ArePlaces, AreTurns, HasPlaceOf, HasPlaces, HasSides, IsLeastBit, IsPlaceOf};
 ghost use Rattle.dd_branch.specs.declared.places.Place.{Place as Known};
 
 use arrayvec::ArrayVec;
@@ -34,6 +34,14 @@ impl Place {
         ensures { IsTrue result ↔ bit_at self.now.values value ≡ 1 }
     {
         (self.values >> value) & 1 == 1
+    }
+
+    /// The least branching value of the place.
+    pub(crate) fn least_value(&self) -> u8
+        requires { 0 < self.now.values }
+        ensures { IsLeastBit self.now.values result }
+    {
+        self.values.trailing_zeros() as u8
     }
 }
 
@@ -82,6 +90,7 @@ fn most_part(values: u8, sides: u8) -> u8
     requires sides { sides ≤ 2 }
     ensures most { (v : ℕ) → 1 ≤ v → v ≤ 6 → bit_at values v ≡ 1 → sides * (12 / v) ≤ result }
     ensures small { result ≤ sides * 12 }
+    ensures least { (v : ℕ) → 1 ≤ v → v ≤ 6 → IsLeastBit values v → sides * (12 / v) ≡ result }
 {
     for value in 1..7u8 {
         if (values >> value) & 1 == 1 {
@@ -146,28 +155,31 @@ fn smaller_neighbor(table: &Involutions, pair: Pair, chamber: u32) -> Option<u32
     None
 }
 
-/// What a table tells of the degree of a pair at a chamber, where that of the smaller chambers is at the places from `first`
-/// on. A cell is walked only where no neighbor is smaller.
-fn following_place(
-    places: &[Place],
+/// Adds what a table tells of the degree of a pair at a chamber, where that of the smaller chambers is at the places from
+/// `first` on. A cell is walked only where no neighbor is smaller.
+fn add_place(
+    places: &mut ArrayVec<Place, 72>,
     table: &Involutions,
     set: &Allowed,
     pair: Pair,
     first: u8,
     chamber: u32,
-) -> Place
+)
     requires three { AreThreeInvolutions table.now }
     requires small { table.now.size ≤ 36 }
     requires first { first ≤ 36 }
     requires chamber { IsChamber table.now chamber }
-    requires before { first + chamber ≤ length places.now + 1 }
+    requires before { first + chamber ≡ length places.old.items + 1 }
     requires places { (k : ℕ) (x : Known) → k + 1 < chamber → IsPlaceOf table.now set.now pair
-        first (k + 1) (slice_index_or places.now (first + k) x) }
-    ensures { IsPlaceOf table.now set.now pair first chamber result }
+        first (k + 1) (slice_index_or places.old.items (first + k) x) }
+    ensures { HasPlaceOf table.now set.now pair first chamber places.old.items places.new.items }
 {
     match smaller_neighbor(table, pair, chamber) {
-        Some(smaller) => beside(&places[first as usize + smaller as usize - 1]),
-        None => place_of(table, set, pair, first, chamber),
+        Some(smaller) => {
+            let place = beside(&places.as_slice()[first as usize + smaller as usize - 1]);
+            places.push(place);
+        }
+        None => places.push(place_of(table, set, pair, first, chamber)),
     }
 }
 
@@ -179,8 +191,7 @@ fn add_places(places: &mut ArrayVec<Place, 72>, table: &Involutions, set: &Allow
 {
     let first = places.len() as u8;
     for k in 0..table.size() {
-        let place = following_place(places.as_slice(), table, set, pair, first, k + 1);
-        places.push(place);
+        add_place(places, table, set, pair, first, k + 1);
     }
 }
 

@@ -1,5 +1,7 @@
 use Rattle.std.proofs.Common.{sym, ◌∙◌, subst}
 use Rattle.std.proofs.lemmas.Result.{on_ok_weaker}
+use Rattle.std.specs.List.{Contains}
+use Rattle.dd_model.specs.Symbol.{Symbol, IsChamber}
 use Rattle.dd_branch.specs.Assignment.{HasLimits}
 use Rattle.dd_branch.proofs.Beginnings.{members_with, none_without_limits}
 use Rattle.dd_branch.proofs.members.add_tied.Goals as goal
@@ -9,6 +11,11 @@ returns-then-not-has_limits c =
     none_without_limits c.args.q.now c.args.t c.args.list.now.items (λ limits.
     let yes' = c.has_limits.ensures.1 (subst (HasLimits c.args.q.now) (sym c.into_symbol-table.ensures.same) limits) in
     let no' = c.if-not-has_limits.true in cc)
+
+pub turnings_to-requires-clause-starts : goal.turnings_to-requires-clause-starts
+turnings_to-requires-clause-starts c d there =
+    subst (λ (s : Symbol). IsChamber s d) (sym (c.symbol.ensures.same ∙ c.into_symbol-table.ensures.same))
+    (c.requires.ties.chambers d (subst (λ xs. Contains xs d) c.as_slice.ensures.value there))
 
 pub returns : goal.returns
 returns c =

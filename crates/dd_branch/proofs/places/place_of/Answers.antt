@@ -33,5 +33,6 @@ returns c =
             c.most_part.ensures.most choice.value value.low value.high (value_told c.args.set.now c.cell-shape.result.r c.values_of-values.result m c.values_of-values.ensures choice);
         sides = sides;
         most_small = c.most_part.ensures.small;
+        least = c.most_part.ensures.least;
       };
     }

@@ -8,14 +8,15 @@ use Rattle.dd_branch.specs.Entered.{HasBudget, HasEntered}
 use Rattle.dd_branch.specs.Choice.{IsChoice}
 use Rattle.dd_branch.specs.declared.assignment.Assignment.{Assignment}
 use Rattle.dd_branch.specs.declared.places.Place.{Place}
-use Rattle.dd_branch.proofs.Advancing.{all_values, budget_more, degree_small, first_value, found_entered, no_more_values, part_small, room_here, value_found, value_refused, with_list}
+use Rattle.dd_branch.proofs.Advancing.{all_values, budget_more, degree_small, first_value, found_entered, no_more_values, part_small, value_found, value_refused, with_list}
+use Rattle.dd_branch.proofs.Finishing.{some_left}
 use Rattle.dd_branch.proofs.assignment.Assignment.+add_members.Goals as goal
 use Rattle.dd_branch.proofs.assignment.Assignment.+add_members.Goals.{then-may_stand+in_ok-add_members, else-may_stand}
 
 pub loop-value-init : goal.loop-value-init
 loop-value-init t c =
     let a = c.args.self.now in
-    let room = room_here a c.len-next.result c.len.result c.requires.ready c.if-next-len.false c.len-next.ensures.value c.len.ensures.value in
+    let room = some_left a c.args.sum c.needs_most.result c.requires.ready c.requires.budget c.needs_most.ensures c.if-needs_most.false in
     record { same = refl; list = first_value a c.requires.ready room c.args.list.now.items }
 
 pub may_stand-requires-clause-ready : goal.may_stand-requires-clause-ready
@@ -24,7 +25,7 @@ may_stand-requires-clause-ready t c = subst IsAssignment (sym c.loop-value.invar
 pub may_stand-requires-clause-room : goal.may_stand-requires-clause-room
 may_stand-requires-clause-room t c =
     subst (λ (x : Assignment). told x < 2 * x.table.size) (sym c.loop-value.invariant.same)
-    (room_here c.args.self.now c.len-next.result c.len.result c.requires.ready c.if-next-len.false c.len-next.ensures.value c.len.ensures.value)
+    (some_left c.args.self.now c.args.sum c.needs_most.result c.requires.ready c.requires.budget c.needs_most.ensures c.if-needs_most.false)
 
 pub may_stand-requires-clause-place : goal.may_stand-requires-clause-place
 may_stand-requires-clause-place t c = c.next_place-place.ensures ∙ ap next_place (sym c.loop-value.invariant.same)
@@ -32,7 +33,7 @@ may_stand-requires-clause-place t c = c.next_place-place.ensures ∙ ap next_pla
 pub overflow_mul-value : goal.overflow_mul-value
 overflow_mul-value t c =
     let a = c.args.self.now in
-    let room = room_here a c.len-next.result c.len.result c.requires.ready c.if-next-len.false c.len-next.ensures.value c.len.ensures.value in
+    let room = some_left a c.args.sum c.needs_most.result c.requires.ready c.requires.budget c.needs_most.ensures c.if-needs_most.false in
     let test = c.loop-value-test.true in
     let small = degree_small a c.loop-value.value c.requires.ready room (omega (arith, test)) in
     let same = ap (λ (x : Place). c.loop-value.value * x.turns) c.next_place-place.ensures in
@@ -44,7 +45,7 @@ enter-requires-clause-ready t c = subst IsAssignment (sym c.loop-value.invariant
 pub enter-requires-clause-room : goal.enter-requires-clause-room
 enter-requires-clause-room t c =
     subst (λ (x : Assignment). told x < 2 * x.table.size) (sym c.loop-value.invariant.same)
-    (room_here c.args.self.now c.len-next.result c.len.result c.requires.ready c.if-next-len.false c.len-next.ensures.value c.len.ensures.value)
+    (some_left c.args.self.now c.args.sum c.needs_most.result c.requires.ready c.requires.budget c.needs_most.ensures c.if-needs_most.false)
 
 pub enter-requires-clause-root : goal.enter-requires-clause-root
 enter-requires-clause-root t c = subst IsAtRoot (sym c.loop-value.invariant.same) c.requires.root
@@ -62,7 +63,7 @@ enter-requires-clause-vertex t c high =
 pub overflow_mul-place : goal.overflow_mul-place
 overflow_mul-place t c =
     let a = c.args.self.now in
-    let room = room_here a c.len-next.result c.len.result c.requires.ready c.if-next-len.false c.len-next.ensures.value c.len.ensures.value in
+    let room = some_left a c.args.sum c.needs_most.result c.requires.ready c.requires.budget c.needs_most.ensures c.if-needs_most.false in
     let small = part_small a c.loop-value.value c.requires.ready room in
     let same = ap (λ (x : Place). x.sides * (12 / c.loop-value.value)) c.next_place-place.ensures in
     let side = ap (λ k. c.next_place-place.result.sides * k) c.part_of_side.ensures in
@@ -77,7 +78,7 @@ add_members-requires t c =
     let n = c.args.sum + c.from.result in
     let same = c.loop-value.invariant.same in
     let place : c.next_place-place.result ≡ next_place x = c.next_place-place.ensures ∙ ap next_place (sym same) in
-    let room = room_here a c.len-next.result c.len.result c.requires.ready c.if-next-len.false c.len-next.ensures.value c.len.ensures.value in
+    let room = some_left a c.args.sum c.needs_most.result c.requires.ready c.requires.budget c.needs_most.ensures c.if-needs_most.false in
     let is = subst IsAssignment (sym same) c.requires.ready in
     let room' = subst (λ (y : Assignment). told y < 2 * y.table.size) (sym same) room in
     let entered = subst (λ (y : Place). HasEntered x (v * y.turns) b) place c.enter.ensures.entered in
@@ -98,7 +99,7 @@ loop-value-preserved t c =
     let r = (next_place a).turns in
     let i = c.loop-value.invariant in
     let test = c.loop-value-test.true in
-    let room = room_here a c.len-next.result c.len.result c.requires.ready c.if-next-len.false c.len-next.ensures.value c.len.ensures.value in
+    let room = some_left a c.args.sum c.needs_most.result c.requires.ready c.requires.budget c.needs_most.ensures c.if-needs_most.false in
     elim c.if-may_stand.branch [
       | then-may_stand+in_ok-add_members w ↦
           let m = v * c.next_place-place.result.turns in
@@ -127,7 +128,7 @@ returns-then-leaves_too_much-clause-list t c =
     let n = c.args.sum + c.from.result in
     let i = c.loop-value.invariant in
     let low = c.loop-value.auto.value in
-    let room = room_here a c.len-next.result c.len.result c.requires.ready c.if-next-len.false c.len-next.ensures.value c.len.ensures.value in
+    let room = some_left a c.args.sum c.needs_most.result c.requires.ready c.requires.budget c.needs_most.ensures c.if-needs_most.false in
     let part : c.from.result ≡ (next_place a).sides * (12 / v) = c.from.ensures ∙ ap (λ k. c.next_place-place.result.sides * k) c.part_of_side.ensures ∙ ap (λ (y : Place). y.sides * (12 / v)) c.next_place-place.ensures in
     let had = c.requires.budget.spent in
     let short = subst (λ (y : Assignment). n + get_or y.rests.most (told y + 1) 0 < 6 * y.table.size) i.same (c.leaves_too_much.ensures.0 c.if-leaves_too_much.true) in
@@ -140,5 +141,5 @@ pub returns-clause-list : goal.returns-clause-list
 returns-clause-list t c =
     let a = c.args.self.now in
     let end = c.loop-value-test.false in
-    let room = room_here a c.len-next.result c.len.result c.requires.ready c.if-next-len.false c.len-next.ensures.value c.len.ensures.value in
+    let room = some_left a c.args.sum c.needs_most.result c.requires.ready c.requires.budget c.needs_most.ensures c.if-needs_most.false in
     all_values a c.loop-value.value c.requires.ready room (omega (arith, end)) c.args.list.now.items c.loop-value.list.items c.loop-value.invariant.list

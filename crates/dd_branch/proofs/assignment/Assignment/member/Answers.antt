@@ -2,7 +2,13 @@ use Rattle.std.proofs.Common.{IsTrue, sym, ap, ◌∙◌, subst, arith}
 use Rattle.dd_canon.specs.Ties.{IsLeastFrom}
 use Rattle.dd_invol.proofs.TiedTables.{ties_of_least}
 use Rattle.std.specs.List.{Contains}
-use Rattle.dd_model.specs.Symbol.{Symbol}
+use Rattle.dd_model.specs.Symbol.{Symbol, IsTable}
+use Rattle.dd_model.specs.Connected.{Connected}
+use Rattle.dd_model.specs.FirstVisit.{IsFirstVisit}
+use Rattle.dd_model.proofs.SameInvolutions.{connected-same}
+use Rattle.dd_symbol.specs.Images.{with_degrees}
+use Rattle.dd_symbol.proofs.TableLemmas.{with_same}
+use Rattle.dd_branch.proofs.TurnedDegrees.{some_turnings, visit_with}
 use Rattle.dd_model.specs.Minimal.{Minimal}
 use Rattle.dd_model.specs.Small.{IsSmallSymbol}
 use Rattle.dd_branch.specs.Assignment.{IsMemberUnder, prefix_of}
@@ -15,11 +21,25 @@ with_known_degrees-requires c =
     subst IsSmallSymbol (sym (leaf_is a c.as_slice.result.now c.split_at.result.0.now c.split_at.result.1.now c.size.result c.as_slice.ensures.value c.size.ensures c.split_at.ensures.front c.split_at.ensures.back)) (leaf_small a c.requires.ready c.requires.whole)
 
 pub is_asked-requires : goal.is_asked-requires
-is_asked-requires c d there =
-    let h = c.requires.ready.ties.chambers d (subst (λ xs. Contains xs d) c.deref.ensures.value there) in
-    let high = h.1 in
-    let size = ap (λ (s : Symbol). s.size) c.in_ok-symbol.ensures in
-    (h.0, omega (arith, high, size))
+is_asked-requires c =
+    let a = c.args.self.now in
+    let m01 = c.split_at.result.0.now in
+    let m12 = c.split_at.result.1.now in
+    let is = c.requires.ready in
+    let same = c.in_ok-symbol.ensures ∙ leaf_is a c.as_slice.result.now m01 m12 c.size.result c.as_slice.ensures.value c.size.ensures c.split_at.ensures.front c.split_at.ensures.back in
+    record {
+      table = subst IsTable (sym same) (leaf_small a is c.requires.whole).symbol.table;
+      connected = subst Connected (sym c.in_ok-symbol.ensures) (connected-same a.table (with_degrees a.table m01 m12) (with_same a.table m01 m12) is.table.connected);
+      ties = λ d there.
+          let h = is.ties.chambers d (subst (λ xs. Contains xs d) c.deref.ensures.value there) in
+          let high = h.1 in
+          let size = ap (λ (s : Symbol). s.size) c.in_ok-symbol.ensures in
+          (h.0, omega (arith, high, size));
+      turnings = some_turnings a.table c.in_ok-symbol.symbol m01 m12 a.ties.items c.deref.result.now a.turnings c.in_ok-symbol.ensures c.deref.ensures.value is.turnings;
+      visit = subst IsFirstVisit (sym c.in_ok-symbol.ensures) (visit_with a.table m01 m12 (is.ties.first is.table.symbol.table.chambers));
+      tiles = sym (ap (λ (s : Symbol). s.m01) c.in_ok-symbol.ensures);
+      vertices = sym (ap (λ (s : Symbol). s.m12) c.in_ok-symbol.ensures);
+    }
 
 pub returns-then-branch : goal.returns-then-branch
 returns-then-branch c =
