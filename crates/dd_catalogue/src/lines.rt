@@ -13,6 +13,10 @@ use std::thread::Threads;
 /// How many lines a thread makes at least, so that it is worth its start.
 const FEWEST: usize = 2048;
 
+/// How many parts there are for each thread, each with a thread of its own: the lines of equally many members take up to twice as
+/// long where few of them share a table, and the processors should not wait for the last part.
+const PARTS: usize = 4;
+
 /// How many bytes the lines of some members take, mostly a few less: a catalogue goes by size, so that the first one tells.
 fn room_for(members: &Members) -> usize {
     if members.len() == 0 {
@@ -58,8 +62,8 @@ fn parts_of(size: usize, before: u64, mut members: Members) -> Result<Vec<Part>,
     Ok(parts)
 }
 
-/// The lines of members, numbered from `before + 1` on, as texts that follow each other. Where there are many, so many threads
-/// make a text each.
+/// The lines of members, numbered from `before + 1` on, as texts that follow each other. Where there are many, a few parts for each
+/// of so many threads are made at once.
 pub(crate) fn lines_by<R: Threads + Sync>(
     rt: &R,
     threads: u32,
@@ -71,7 +75,7 @@ pub(crate) fn lines_by<R: Threads + Sync>(
     ensures { IfOk result (λ texts. AreLines before members (joined texts.items)) }
 {
     let alloc = *members.allocator();
-    let size = members.len().div_ceil(threads as usize).max(FEWEST);
+    let size = members.len().div_ceil(PARTS * threads as usize).max(FEWEST);
     let parts = parts_of(size, before, members)?;
     let made = thread::map_vec(rt, parts, &lines_of)?;
     let mut texts = Vec::with_capacity(alloc, made.len())?;
