@@ -14,8 +14,8 @@ use crate::naming::Naming;
 use crate::seat::Seat;
 use crate::seats::{all_shares, seats_of};
 use crate::ticket::{Taken, Ticket};
+use dd_list::SymbolList;
 use dd_model::{Job, Memory, Request};
-use dd_symbol::Connected;
 use std::alloc::Global;
 use std::sync::atomic::{AtomicU64, Ordering};
 use std::sync::ledger::Ledger;
@@ -140,9 +140,9 @@ impl<N: Naming, K: Ledger, L: Ledger, S: Ledger, D: Ledger, B: Ledger> Board<N, 
         rt: &R,
         seat: &mut Seat<K, L, S, D, B>,
         ticket: Ticket<N>,
-        list: Vec<Connected>,
+        list: SymbolList,
     ) -> Result<(), Ticket<N>>
-        requires { AreMembersUnder N.request ticket.job list.items }
+        requires { AreMembersUnder N.request ticket.job list }
         ensures counts { CountsFinish seat.old seat.new result }
         ensures ticket { IfErr result (λ back. back ≡ ticket) }
     {

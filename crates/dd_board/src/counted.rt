@@ -10,8 +10,8 @@ use crate::naming::Naming;
 use crate::seat::Seat;
 use crate::shares::Shares;
 use crate::ticket::{Taken, Ticket};
+use dd_list::SymbolList;
 use dd_model::{Job, Memory};
-use dd_symbol::Connected;
 use std::marker::Model;
 use std::sync::ledger::Ledger;
 
@@ -72,9 +72,9 @@ impl<N: Naming, K: Ledger, L: Ledger, S: Ledger, D: Ledger, B: Ledger> Counted<N
         &mut self,
         seat: &mut Seat<K, L, S, D, B>,
         ticket: Ticket<N>,
-        list: Vec<Connected>,
+        list: SymbolList,
     ) -> Result<(), Ticket<N>>
-        requires { AreMembersUnder N.request ticket.job list.items }
+        requires { AreMembersUnder N.request ticket.job list }
         ensures counts { CountsFinish seat.old seat.new result }
         ensures same { OnErr result (self.new ≡ self.old) }
         ensures ticket { IfErr result (λ back. back ≡ ticket) }

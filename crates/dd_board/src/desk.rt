@@ -18,8 +18,8 @@ use crate::looking::{has_out_with, place_of_first};
 use crate::naming::Naming;
 use crate::ticket::{Taken, Ticket};
 use dd_front::{Entry, Event, Front, JobList, Members};
+use dd_list::SymbolList;
 use dd_model::{Job, Memory, Request};
-use dd_symbol::Connected;
 use std::alloc::Global;
 use std::marker::{Model, PhantomData};
 
@@ -208,9 +208,9 @@ impl<N: Naming> Desk<N> {
     }
 
     // Books that an entry is done with a list.
-    fn book_finish(&mut self, worker: u32, entry: u64, list: Vec<Connected>) -> Result<(), Memory>
-        requires { (entry ≡ 0) ⊎ MayFinish self.old.machine entry list.items }
-        ensures books { OnOk result (Books (Finish worker entry list.items) self.old self.new) }
+    fn book_finish(&mut self, worker: u32, entry: u64, list: SymbolList) -> Result<(), Memory>
+        requires { (entry ≡ 0) ⊎ MayFinish self.old.machine entry list }
+        ensures books { OnOk result (Books (Finish worker entry list) self.old self.new) }
         ensures same { OnErr result (self.new ≡ self.old) }
     {
         let list = Members::new(self.alloc, list)?;
@@ -228,11 +228,11 @@ impl<N: Naming> Desk<N> {
         &mut self,
         worker: u32,
         ticket: Ticket<N>,
-        list: Vec<Connected>,
+        list: SymbolList,
     ) -> Result<(), Ticket<N>>
-        requires { AreMembersUnder N.request ticket.job list.items }
+        requires { AreMembersUnder N.request ticket.job list }
         ensures books { OnOk result
-            (BooksFinish worker ticket.entry ticket.job list.items self.old self.new) }
+            (BooksFinish worker ticket.entry ticket.job list self.old self.new) }
         ensures same { OnErr result (self.new ≡ self.old) }
         ensures ticket { IfErr result (λ back. back ≡ ticket) }
     {

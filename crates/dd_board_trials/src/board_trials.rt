@@ -7,10 +7,10 @@ ghost use Rattle.dd_board.specs.Desk.{AreJobsOf};
 use dd_board::{Blanks, Board, Desk, Naming, Seat, Taken, Ticket};
 use dd_branch::Search;
 use dd_front::{Event, Finder, State};
+use dd_list::SymbolList;
 use dd_model::{Job, Memory, Prefix, Request};
 use dd_steal::sweep;
-use dd_symbol::Connected;
-use dd_text::put_lines;
+use dd_text::put_list;
 use std::alloc::Global;
 use std::marker::Brand;
 use std::sync::Wait;
@@ -57,10 +57,10 @@ fn found<N: Naming>(
     alloc: Global,
     request: &Request,
     ticket: &Ticket<N>,
-) -> Result<Vec<Connected>, Fail>
+) -> Result<SymbolList, Fail>
     requires request { request.now ≡ N.request }
     requires valid { IsValid request.now }
-    ensures { IfOk result (λ list. AreMembersUnder N.request ticket.now.job list.items) }
+    ensures { IfOk result (λ list. AreMembersUnder N.request ticket.now.job list) }
 {
     Ok(Search::new(request).find(alloc, ticket.job())?)
 }
@@ -113,7 +113,7 @@ fn shown<N: Naming>(alloc: Global, desk: &Desk<N>) -> Result<Vec<u8>, Fail> {
             State::Done(list) => {
                 shown.extend_from_slice(b"\ndone\n")?;
                 for span in list.spans() {
-                    put_lines(&mut shown, 0, span.as_slice())?;
+                    put_list(&mut shown, 0, &span.symbols())?;
                 }
             }
         }

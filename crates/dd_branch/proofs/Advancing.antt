@@ -22,11 +22,11 @@ use Rattle.dd_branch.specs.declared.places.Place.{Place}
 use Rattle.dd_branch.proofs.Assigned.{length-prefix, next_degree, same_of_under, told_degree}
 use Rattle.dd_branch.proofs.Budgets.{AllAreChosen, flat_if_spent, spent_as_told, spent_at_least, spent_at_most, spent_next, spent_same}
 use Rattle.dd_branch.proofs.Chosen.{IsSound, all_bounded, constant_at, sound_places, wanted_chosen}
-use Rattle.dd_branch.proofs.Choices.{IsValue, part_at_most, part_falls, value_of, value_told}
+use Rattle.dd_branch.proofs.Choices.{IsValue, part_falls, value_of, value_told}
 
 -- the assignment with other degrees
 abbrev pub with_list : Assignment → List ℕ → Assignment
-with_list a xs = record { alloc = a.alloc; request = a.request; table = a.table; ties = a.ties; turnings = a.turnings; places = a.places; rests = a.rests; degrees = record { items = xs } }
+with_list a xs = record { alloc = a.alloc; request = a.request; table = a.table; ties = a.ties; places = a.places; rests = a.rests; degrees = record { items = xs } }
 
 -- the assignment with one more
 abbrev pub with_degree : Assignment → ℕ → Assignment
@@ -75,7 +75,7 @@ more_told a m is room last =
       table = is.table;
       limits = is.limits;
       ties = is.ties;
-      turnings = is.turnings;
+      automorphisms = is.automorphisms;
       places = is.places;
       rests = is.rests;
       short = omega (arith, room, long);
@@ -257,19 +257,24 @@ part_of_value a v is room =
     let some = (sound_next a is (told a) no_place room).some in
     ap (λ w. (next_place a).sides * (12 / w)) (quotient_is v (next_place a).turns (v * (next_place a).turns) some refl)
 
+-- what the later degrees have at least
+pub least_after : (a : Assignment) → IsAssignment a → told a < 2 * a.table.size → get_or a.rests.least (told a) 0 ≡ get_or a.rests.least (told a + 1) 0 + 2 * (next_place a).sides
+least_after a is room = let count = is.places.count in is.rests.each_least (told a) no_place (omega (arith, room, count))
+
 -- the budget that is left
-pub budget_more : (a b : Assignment) (v n : ℕ) → IsAssignment a → told a < 2 * a.table.size → n ≡ spent_by a + (next_place a).sides * (12 / v) → HasEntered a (v * (next_place a).turns) b
-    → 6 * a.table.size ≤ n + get_or a.rests.most (told a + 1) 0 → n + get_or a.rests.least (told a + 1) 0 ≤ 6 * a.table.size → HasBudget b n
-budget_more a b v n is room so_far entered enough fits =
+pub budget_more : (a b : Assignment) (v left taken : ℕ) → IsAssignment a → told a < 2 * a.table.size → HasBudget a left → taken + 2 * (next_place a).sides ≡ (next_place a).sides * (12 / v) → HasEntered a (v * (next_place a).turns) b
+    → taken ≤ left → left + get_or a.rests.least (told a + 1) 0 ≤ taken + get_or a.rests.most (told a + 1) 0 → HasBudget b (left - taken)
+budget_more a b v left taken is room budget takes entered fits enough =
     let part = part_of_value a v is room in
     let size = ap (λ (x : Assignment). x.table.size) entered.back in
     let spends = entered.spent in
     let most = entered.most in
     let least = entered.least in
+    let before = least_after a is room in
+    let had = budget.left_over in
     record {
-      spent = omega (arith, part, so_far, spends);
-      enough = omega (arith, size, most, enough);
-      room = omega (arith, size, least, fits);
+      left_over = omega (arith, part, takes, spends, size, least, before, had, fits);
+      enough = omega (arith, most, least, fits, enough);
     }
 
 -- ## What no member has
@@ -354,12 +359,6 @@ pub degree_small : (a : Assignment) (v : ℕ) → IsAssignment a → told a < 2 
 degree_small a v is room high =
     let few = (sound_next a is (told a) no_place room).few in
     let up : v * (next_place a).turns ≤ 6 * (next_place a).turns = mul-le-mul_right (next_place a).turns high in
-    omega (arith, up, few)
-
-pub part_small : (a : Assignment) (v : ℕ) → IsAssignment a → told a < 2 * a.table.size → (next_place a).sides * (12 / v) ≤ 24
-part_small a v is room =
-    let few = (sound_next a is (told a) no_place room).sides in
-    let up = part_at_most (next_place a).sides v in
     omega (arith, up, few)
 
 -- the branching values of the next place
@@ -490,10 +489,10 @@ all_values a v is room end old new more =
     more
 
 -- where too much is left with a branching value, there are no more
-pub no_more_values : (a : Assignment) (v n : ℕ) → IsAssignment a → told a < 2 * a.table.size → n ≡ spent_by a + (next_place a).sides * (12 / v) → 1 ≤ v
-    → n + get_or a.rests.most (told a + 1) 0 < 6 * a.table.size → (old new : List Symbol)
+pub no_more_values : (a : Assignment) (v left taken : ℕ) → IsAssignment a → told a < 2 * a.table.size → HasBudget a left → taken + 2 * (next_place a).sides ≡ (next_place a).sides * (12 / v) → 1 ≤ v
+    → taken + get_or a.rests.most (told a + 1) 0 < left + get_or a.rests.least (told a + 1) 0 → (old new : List Symbol)
     → Appends (AreUnderBefore (IsMember a.request) a.table.size (prefix_of a) (v * (next_place a).turns)) old new → Appends (AreUnder (IsMember a.request) a.table.size (prefix_of a)) old new
-no_more_values a v n is room so_far some short old new more =
+no_more_values a v left taken is room budget takes some short old new more =
     let r = (next_place a).turns in
     let turns = (sound_next a is (told a) no_place room).some in
     appends_all (IsMember a.request) a.table.size (prefix_of a) (v * r) old new
@@ -508,7 +507,9 @@ no_more_values a v n is room so_far some short old new more =
     (λ high.
     let enough = (budget_of_member a next.value (spent_by a + (next_place a).sides * (12 / next.value)) is room refl s under e).enough in
     let falls = part_falls (next_place a).sides v next.value some high in
-    absurd (omega (arith, enough, falls, short, so_far)))
+    let before = least_after a is room in
+    let had = budget.left_over in
+    absurd (omega (arith, enough, falls, short, takes, before, had)))
     (cases_lt next.value v))
     more
 

@@ -22,7 +22,7 @@ use Rattle.dd_invol.proofs.Prefixes.{appends_none}
 use Rattle.dd_invol.proofs.TiedTables.{table_of_least}
 use Rattle.dd_model.proofs.SameInvolutions.{same-sym}
 use Rattle.dd_invol.proofs.TableFronts.{front_begins, begins_with_take}
-use Rattle.dd_branch.specs.Turning.{AreTurnings}
+use Rattle.dd_branch.specs.Automorphism.{AreAutomorphisms}
 use Rattle.dd_branch.specs.Assignment.{HasLimits, IsAssignment, IsAtRoot, IsMemberUnder, prefix_of, told}
 use Rattle.dd_branch.specs.Budget.{no_place}
 use Rattle.dd_branch.specs.Members.{AreMembersWith}
@@ -62,14 +62,14 @@ both_places q t none mid new empty tiles vertices =
 
 -- ## The beginning
 
-pub begun : (a : Assignment) → IsBareTable a.table → HasLimits a.request a.table → AreTies a.table a.ties.items → IfSome a.turnings (λ all. AreTurnings a.table a.ties.items all.items) → ArePlaces a.request a.table a.places.items → AreRests a.places.items a.rests → a.degrees.items ≡ [] → IsAssignment a
-begun a table limits ties turnings places rests empty =
+pub begun : (a : Assignment) → IsBareTable a.table → HasLimits a.request a.table → AreTies a.table a.ties.starts.items → IfSome a.ties.automorphisms (λ all. AreAutomorphisms a.table a.ties.starts.items all.items) → ArePlaces a.request a.table a.places.items → AreRests a.places.items a.rests → a.degrees.items ≡ [] → IsAssignment a
+begun a table limits ties automorphisms places rests empty =
     let none : told a ≡ 0 = ap length empty in
     record {
       table = table;
       limits = limits;
       ties = ties;
-      turnings = turnings;
+      automorphisms = automorphisms;
       places = places;
       rests = rests;
       short = omega (arith, none);

@@ -25,16 +25,19 @@ abbrev pub NeedsMost : Assignment → Type 0
 NeedsMost a = spent_by a + get_or a.rests.most (told a) 0 ≡ 6 * a.table.size
 
 -- where they do not, there are some
-pub some_left : (a : Assignment) (sum : ℕ) (needed : Bool) → IsAssignment a → HasBudget a sum → (IsTrue needed ↔ sum + get_or a.rests.most (told a) 0 ≡ 6 * a.table.size) → needed ≡ false → told a < 2 * a.table.size
-some_left a sum needed is budget test no' = ⊎_elim (λ low. low) (λ high.
+pub some_left : (a : Assignment) (left : ℕ) (needed : Bool) → IsAssignment a → HasBudget a left → (IsTrue needed ↔ left + get_or a.rests.least (told a) 0 ≡ get_or a.rests.most (told a) 0) → needed ≡ false → told a < 2 * a.table.size
+some_left a left needed is budget test no' = ⊎_elim (λ low. low) (λ high.
     let short = is.short in
     let count = is.places.count in
     let at : told a ≡ length a.places.items = omega (arith, short, high, count) in
     let most = ap (λ j. get_or a.rests.most j 0) at ∙ is.rests.no_most in
     let least = ap (λ j. get_or a.rests.least j 0) at ∙ is.rests.no_least in
     let enough = budget.enough in
-    let room = budget.room in
-    absurd (let yes' = test.1 (omega (arith, most, least, enough, room)) in cc)) (cases_lt (told a) (2 * a.table.size))
+    absurd (let yes' = test.1 (omega (arith, most, least, enough)) in cc)) (cases_lt (told a) (2 * a.table.size))
+
+-- what is left to be taken is small
+pub left_small : (a : Assignment) (left : ℕ) → IsAssignment a → HasBudget a left → left ≤ 216
+left_small a left is budget = let small = is.table.small in let had = budget.left_over in omega (arith, small, had)
 
 -- what a loop over them tests
 pub room_below : (a : Assignment) (own whole : ℕ) → IsAssignment a → own < whole → own ≡ told a → whole ≡ length a.places.items → told a < 2 * a.table.size

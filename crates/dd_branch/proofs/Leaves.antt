@@ -156,9 +156,9 @@ appends_leaf a is whole old new c under longer = record {
 }
 
 -- the leaf is least where no numbering from a tie of the table is smaller
-pub leaf_least : (a : Assignment) → IsAssignment a → told a ≡ 2 * a.table.size → IsLeastFrom (leaf a) a.ties.items → Least (leaf a)
+pub leaf_least : (a : Assignment) → IsAssignment a → told a ≡ 2 * a.table.size → IsLeastFrom (leaf a) a.ties.starts.items → Least (leaf a)
 leaf_least a is whole least =
     let bare = is.table in
     let same = with_same a.table (leaf a).m01 (leaf a).m12 in
-    least_of_ties (leaf a) a.table a.ties.items (leaf_small a is whole).symbol (connected-same a.table (leaf a) same bare.connected)
+    least_of_ties (leaf a) a.table a.ties.starts.items (leaf_small a is whole).symbol (connected-same a.table (leaf a) same bare.connected)
     (record { symbol = bare.symbol; connected = bare.connected; unbranched = bare.unbranched; same = same-sym a.table (leaf a) same }) is.ties least

@@ -11,7 +11,9 @@ pub mod Finishing
 pub mod TurnedDegrees
 pub mod PlacesInCell
 pub mod PlaceTurns
+pub mod PlaceCells
 pub mod Beginnings
+mod LevelLists
 pub mod Descents
 pub mod Splits
 pub mod FirstMembers

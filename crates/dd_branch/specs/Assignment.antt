@@ -10,7 +10,7 @@ use Rattle.dd_invol.specs.Table.{IsBareTable}
 use Rattle.dd_invol.specs.Under.{IsUnder}
 use Rattle.dd_branch.specs.Budget.{no_place, spent}
 use Rattle.dd_branch.specs.Choice.{IsChoice}
-use Rattle.dd_branch.specs.Turning.{AreTurnings}
+use Rattle.dd_branch.specs.Automorphism.{AreAutomorphisms}
 use Rattle.dd_branch.specs.Place.{ArePlaces}
 use Rattle.dd_branch.specs.Rests.{AreRests}
 use Rattle.dd_branch.specs.declared.places.Place.{Place}
@@ -39,7 +39,6 @@ shortened a mark = record {
   request = a.request;
   table = a.table;
   ties = a.ties;
-  turnings = a.turnings;
   places = a.places;
   rests = a.rests;
   degrees = record { items = take mark a.degrees.items };
@@ -69,8 +68,8 @@ pub record IsTold (q : Request) (n : ℕ) (degrees : List ℕ) (j : ℕ) (x : Pl
 pub record IsAssignment (a : Assignment) : Type 0 where
   pub table : IsBareTable a.table
   pub limits : HasLimits a.request a.table
-  pub ties : AreTies a.table a.ties.items
-  pub turnings : IfSome a.turnings (λ all. AreTurnings a.table a.ties.items all.items)
+  pub ties : AreTies a.table a.ties.starts.items
+  pub automorphisms : IfSome a.ties.automorphisms (λ all. AreAutomorphisms a.table a.ties.starts.items all.items)
   pub places : ArePlaces a.request a.table a.places.items
   pub rests : AreRests a.places.items a.rests
   pub short : told a ≤ 2 * a.table.size

@@ -10,8 +10,7 @@ use Rattle.dd_invol.specs.Rows.{partial_of}
 use Rattle.dd_invol.specs.Search.{GoesOn}
 use Rattle.dd_invol.specs.Stem.{IsStem, prefix_of, size_of, cut_to}
 use Rattle.dd_invol.specs.declared.stem.Stem.{Stem}
-use Rattle.dd_ends.specs.Kept.{AreKept, with_sides}
-use Rattle.dd_ends.specs.declared.shares.Shares.{Shares}
+use Rattle.dd_ends.specs.Kept.{Shares, AreKept, with_sides}
 use Rattle.dd_ends.specs.declared.sides.Sides.{Sides}
 use Rattle.dd_branch.specs.declared.level.Level.{Level}
 

@@ -5,11 +5,10 @@ use Rattle.dd_branch.specs.Assignment.{IsMemberUnder, next_place, prefix_of, sho
 use Rattle.dd_branch.specs.Budget.{twelfths}
 use Rattle.dd_branch.specs.declared.assignment.Assignment.{Assignment}
 
--- the budget that is left can be spent by the degrees that are left
-pub record HasBudget (a : Assignment) (sum : ℕ) : Type 0 where
-  pub spent : sum ≡ spent_by a
-  pub enough : 6 * a.table.size ≤ sum + slice_index a.rests.most (told a)
-  pub room : sum + slice_index a.rests.least (told a) ≤ 6 * a.table.size
+-- the degrees that are left have to take so much of the budget beyond their least, and they can
+pub record HasBudget (a : Assignment) (left : ℕ) : Type 0 where
+  pub left_over : spent_by a + left + slice_index a.rests.least (told a) ≡ 6 * a.table.size
+  pub enough : left + slice_index a.rests.least (told a) ≤ slice_index a.rests.most (told a)
 
 -- The degrees that follow from those that are told were told too, and nothing else changed.
 pub record HasForced (old new : Assignment) : Type 0 where

@@ -2,7 +2,7 @@ pub mod Choice
 pub mod Place
 pub mod Budget
 pub mod Rests
-pub mod Turning
+pub mod Automorphism
 pub mod Assignment
 pub mod Entered
 pub mod Members

@@ -1,8 +1,8 @@
 ghost use Rattle.std.specs.Prelude.{◌≡◌, ℕ, ◌*◌, ◌/◌, ◌+◌, ◌≤◌, ◌<◌, [], ◌∷◌, ◌++◌, ◌↔◌, IsTrue, IfOk, IfSome, OnOk, MatchOption, length, slice_index};
 ghost use Rattle.std.specs.Bool.{OnTrue, OnFalse};
-ghost use Rattle.dd_model.specs.Symbol.{Symbol as Tiling, IsChamber, IsTable};
-ghost use Rattle.dd_model.specs.Connected.{Connected as AllReached};
-ghost use Rattle.std.specs.List.{Contains};
+ghost use Rattle.dd_model.specs.Symbol.{Symbol as Tiling};
+ghost use Rattle.dd_model.specs.Small.{IsSmallSymbol};
+ghost use Rattle.dd_symbol.specs.Images.{with_degrees};
 ghost use Rattle.dd_canon.specs.Ties.{AreTies, IsLeastFrom};
 ghost use Rattle.dd_model.specs.Minimal.{Minimal};
 ghost use Rattle.dd_model.specs.Wanted.{IsMember};
@@ -11,16 +11,15 @@ ghost use Rattle.dd_invol.specs.Under.{next_number, AreUnder, Appends};
 ghost use Rattle.dd_branch.specs.Choice.{IsChoice};
 ghost use Rattle.dd_branch.specs.Assignment.{HasLimits, IsAssignment, IsAtRoot, IsMemberUnder, next_place, prefix_of, spent_by, told};
 ghost use Rattle.dd_branch.specs.Place.{ArePlaces};
-ghost use Rattle.dd_branch.specs.Turning.{AreTurnings};
-ghost use Rattle.dd_model.specs.FirstVisit.{IsFirstVisit};
+ghost use Rattle.dd_branch.specs.Automorphism.{AreAutomorphisms};
 ghost use Rattle.dd_branch.specs.Entered.{HasBudget, HasEntered, HasForced, HasTold};
 
 use crate::minimality::is_minimal;
-use crate::places::{Place, part_of_side};
+use crate::places::Place;
 use crate::rests::Rests;
-use crate::turnings::{Turning, none_is_smaller};
+use crate::ties::Ties;
 use arrayvec::ArrayVec;
-use dd_canon::is_least_from_ties;
+use dd_list::SymbolList;
 use dd_model::{Memory, Request};
 use dd_symbol::Connected;
 use std::alloc::Global;
@@ -35,9 +34,7 @@ pub(crate) struct Assignment {
     /// The involutions, with any degrees.
     table: Connected,
     /// The starts from which the table is numbered as it stands: leastness is decided under these.
-    ties: Vec<u32>,
-    /// Where the chambers go from each of them, if they go there together.
-    turnings: Option<Vec<Turning>>,
+    ties: Ties,
     /// What the table tells of each degree.
     pub(crate) places: ArrayVec<Place, 72>,
     /// What the degrees from each place on will have of the budget.
@@ -46,73 +43,20 @@ pub(crate) struct Assignment {
     pub(crate) degrees: ArrayVec<u8, 72>,
 }
 
-/// Whether no numbering of a symbol from a tie is smaller. Where it is known how its chambers go, the
-/// degrees alone decide, and no numbering is made.
-fn is_least(
-    alloc: Global,
-    ties: &[u32],
-    turnings: &Option<Vec<Turning>>,
-    symbol: &Connected,
-    degrees: (&[u8], &[u8]),
-) -> Result<bool, Memory>
-    requires table { IsTable symbol.now }
-    requires connected { AllReached symbol.now }
-    requires ties { (d : ℕ) → Contains ties.now d → IsChamber symbol.now d }
-    requires turnings { IfSome turnings.now (λ all. AreTurnings symbol.now ties.now all.items) }
-    requires visit { IsFirstVisit symbol.now }
-    requires tiles { degrees.0.now ≡ symbol.now.m01 }
-    requires vertices { degrees.1.now ≡ symbol.now.m12 }
-    ensures { IfOk result (λ yes. IsTrue yes ↔ IsLeastFrom symbol.now ties.now) }
-{
-    match turnings {
-        Some(all) => Ok(none_is_smaller(all.as_slice(), degrees.0, degrees.1)),
-        None => is_least_from_ties(alloc, symbol, ties),
-    }
-}
-
-/// Whether a symbol of which all else is known is a member of the catalogue of a request. Most tables
-/// have no ties, and then nothing is left to be tested.
-fn is_asked(
-    alloc: Global,
-    request: &Request,
-    ties: &[u32],
-    turnings: &Option<Vec<Turning>>,
-    symbol: &Connected,
-    degrees: (&[u8], &[u8]),
-) -> Result<bool, Memory>
-    requires table { IsTable symbol.now }
-    requires connected { AllReached symbol.now }
-    requires ties { (d : ℕ) → Contains ties.now d → IsChamber symbol.now d }
-    requires turnings { IfSome turnings.now (λ all. AreTurnings symbol.now ties.now all.items) }
-    requires visit { IsFirstVisit symbol.now }
-    requires tiles { degrees.0.now ≡ symbol.now.m01 }
-    requires vertices { degrees.1.now ≡ symbol.now.m12 }
-    ensures { IfOk result (λ yes. IsTrue yes
-        ↔ (IsLeastFrom symbol.now ties.now × (IsTrue request.now.minimal → Minimal symbol.now))) }
-{
-    if ties.is_empty() && !request.minimal {
-        return Ok(true);
-    }
-    Ok(
-        is_least(alloc, ties, turnings, symbol, degrees)?
-            && (!request.minimal || is_minimal(alloc, symbol)?),
-    )
-}
-
 impl Assignment {
     /// The search from a table of which no degree is told.
     pub(crate) fn new(
         alloc: Global,
         table: Connected,
-        ties: Vec<u32>,
-        turnings: Option<Vec<Turning>>,
+        ties: Ties,
         places: ArrayVec<Place, 72>,
         q: &Request,
     ) -> Assignment
         requires table { IsBareTable table }
         requires limits { HasLimits q.now table }
-        requires ties { AreTies table ties.items }
-        requires turnings { IfSome turnings (λ all. AreTurnings table ties.items all.items) }
+        requires ties { AreTies table ties.starts.items }
+        requires automorphisms { IfSome ties.automorphisms (λ all.
+            AreAutomorphisms table ties.starts.items all.items) }
         requires places { ArePlaces q.now table places.items }
         ensures ready { IsAssignment result }
         ensures root { IsAtRoot result }
@@ -125,7 +69,6 @@ impl Assignment {
             request: *q,
             table,
             ties,
-            turnings,
             rests: Rests::of(places.as_slice()),
             places,
             degrees: ArrayVec::new(),
@@ -149,40 +92,48 @@ impl Assignment {
         self.places.as_slice()[self.degrees.len()]
     }
 
-    /// Whether the budget can be spent where so much of it is spent before a place.
-    pub(crate) fn has_budget(&self, sum: u16, place: usize) -> bool
+    /// What all degrees have to take of the budget beyond their least, where none is told. None where they cannot spend it.
+    pub(crate) fn whole_budget(&self) -> Option<u16>
         requires ready { IsAssignment self.now }
-        requires small { sum ≤ 4096 }
-        requires place { place ≤ 2 * self.now.table.size }
-        ensures { IsTrue result ↔ (
-            (6 * self.now.table.size ≤ sum + slice_index self.now.rests.most place)
-            × (sum + slice_index self.now.rests.least place ≤ 6 * self.now.table.size)) }
+        requires none { self.now.degrees.items ≡ [] }
+        ensures { MatchOption result
+            ((s : Tiling) → IsMemberUnder self.now (prefix_of self.now) s → ⊥)
+            (λ left. HasBudget self.now left) }
     {
         let whole = 6 * self.size() as u16;
-        sum + self.rests.most[place] >= whole && sum + self.rests.least[place] <= whole
+        let least = self.rests.least[0];
+        if least > whole || self.rests.most[0] < whole {
+            return None;
+        }
+        Some(whole - least)
     }
 
-    /// Whether too much of the budget is left where so much of it is spent up to the next cell, as it
-    /// is then with each greater branching value of that cell.
-    pub(crate) fn leaves_too_much(&self, spent: u16) -> bool
+    /// Whether too much of the budget is left for the later cells where the next one takes so much of it beyond its least, as
+    /// there is then with each greater branching value of that cell.
+    pub(crate) fn leaves_too_much(&self, left: u16, taken: u16) -> bool
         requires ready { IsAssignment self.now }
         requires room { told self.now < 2 * self.now.table.size }
-        requires small { spent ≤ 4096 }
-        ensures { IsTrue result
-            ↔ (spent + slice_index self.now.rests.most (told self.now + 1) < 6 * self.now.table.size) }
+        requires small { left ≤ 4096 }
+        ensures more { OnTrue result (taken + slice_index self.now.rests.most (told self.now + 1)
+            < left + slice_index self.now.rests.least (told self.now + 1)) }
+        ensures enough { OnFalse result (taken ≤ left
+            → left + slice_index self.now.rests.least (told self.now + 1)
+            ≤ taken + slice_index self.now.rests.most (told self.now + 1)) }
     {
-        spent + self.rests.most[self.degrees.len() + 1] < 6 * self.size() as u16
+        let later = self.degrees.len() + 1;
+        taken <= left && left - taken + self.rests.least[later] > self.rests.most[later]
     }
 
     /// Whether a degree of so many turns times a branching value may come next: its set allows it, and the later degrees
     /// may have what is left of the budget.
-    pub(crate) fn may_stand(&self, place: &Place, spent: u16, value: u8) -> bool
+    pub(crate) fn may_stand(&self, place: &Place, left: u16, taken: u16, value: u8) -> bool
         requires ready { IsAssignment self.now }
         requires room { told self.now < 2 * self.now.table.size }
         requires place { place.now ≡ next_place self.now }
-        requires small { spent ≤ 4096 }
         requires value { (1 ≤ value) × (value ≤ 6) }
-        requires spent { spent ≡ spent_by self.now + (next_place self.now).sides * (12 / value) }
+        requires budget { HasBudget self.now left }
+        requires taken { taken + 2 * (next_place self.now).sides
+            ≡ (next_place self.now).sides * (12 / value) }
         ensures dead { OnFalse result ((s : Tiling) → IsMemberUnder self.now (prefix_of self.now) s
             → next_number (prefix_of self.now) s ≡ value * (next_place self.now).turns → ⊥) }
         ensures tile { OnTrue result (told self.now < self.now.table.size
@@ -191,19 +142,16 @@ impl Assignment {
         ensures vertex { OnTrue result (self.now.table.size ≤ told self.now
             → IsChoice self.now.request.degrees (next_place self.now).turns
             (value * (next_place self.now).turns)) }
-        ensures room { OnTrue result (spent + slice_index self.now.rests.least (told self.now + 1)
-            ≤ 6 * self.now.table.size) }
+        ensures room { OnTrue result (taken ≤ left) }
     {
         if !place.allows(value) {
             return false;
         }
-        let later = self.degrees.len() + 1;
-        let whole = 6 * self.size() as u16;
-        let low = spent + self.rests.least[later];
-        if low > whole {
+        if taken > left {
             return false;
         }
-        self.rests.may_exceed_by(later, whole - low)
+        self.rests
+            .may_exceed_by(self.degrees.len() + 1, left - taken)
     }
 
     /// Tells the degrees that follow from those told, up to the least chamber of another cell.
@@ -240,54 +188,51 @@ impl Assignment {
         self.force();
     }
 
-    /// The member with the degrees that are told, if there is one. Only its leastness, and what is
-    /// asked of minimality, is open.
-    fn member(&self) -> Result<Option<Connected>, Memory>
+    /// Whether the symbol with the degrees that are told is a member: only its leastness, and what is
+    /// asked of minimality, is open. Most tables have no ties, and then no symbol is made.
+    fn is_asked(&self, m01: &[u8], m12: &[u8]) -> Result<bool, Memory>
         requires ready { IsAssignment self.now }
-        requires whole { told self.now ≡ 2 * self.now.table.size }
-        requires flat { spent_by self.now ≡ 6 * self.now.table.size }
-        ensures { IfOk result (λ found. MatchOption found
-            ((s : Tiling) → IsMemberUnder self.now (prefix_of self.now) s → ⊥)
-            (λ c. IsMemberUnder self.now (prefix_of self.now) c)) }
+        requires small { IsSmallSymbol (with_degrees self.now.table m01.now m12.now) }
+        ensures { IfOk result (λ yes. IsTrue yes
+            ↔ (IsLeastFrom (with_degrees self.now.table m01.now m12.now) self.now.ties.starts.items
+            × (IsTrue self.now.request.minimal
+            → Minimal (with_degrees self.now.table m01.now m12.now)))) }
     {
-        let (m01, m12) = self.degrees.as_slice().split_at(self.size());
-        let symbol = self.table.with_known_degrees(self.alloc, m01, m12)?;
-        let (ties, turnings) = (&self.ties, &self.turnings);
-        if is_asked(
-            self.alloc,
-            &self.request,
-            ties,
-            turnings,
-            &symbol,
-            (m01, m12),
-        )? {
-            return Ok(Some(symbol));
+        if !self.ties.are_least(self.alloc, &self.table, m01, m12)? {
+            return Ok(false);
         }
-        Ok(None)
+        if !self.request.minimal {
+            return Ok(true);
+        }
+        let symbol = self.table.with_known_degrees(self.alloc, m01, m12)?;
+        is_minimal(self.alloc, &symbol)
     }
 
     /// Adds the member with the degrees that are told, if there is one.
-    fn add_member(&self, list: &mut Vec<Connected>) -> Result<(), Memory>
+    fn add_member(&self, list: &mut SymbolList) -> Result<(), Memory>
         requires ready { IsAssignment self.now }
         requires whole { told self.now ≡ 2 * self.now.table.size }
         requires flat { spent_by self.now ≡ 6 * self.now.table.size }
         ensures { OnOk result (Appends (AreUnder (IsMember self.now.request) self.now.table.size
-            (prefix_of self.now)) list.old.items list.new.items) }
+            (prefix_of self.now)) list.old list.new) }
     {
-        if let Some(member) = self.member()? {
-            list.push(member)?;
+        let (m01, m12) = self.degrees.as_slice().split_at(self.size());
+        if !self.is_asked(m01, m12)? {
+            return Ok(());
         }
-        Ok(())
+        list.push(&self.table, m01, m12)
     }
 
-    /// Whether the degrees that are left need the most of the budget that they may have, where so much of it is spent.
-    pub(crate) fn needs_most(&self, sum: u16) -> bool
+    /// Whether the degrees that are left need the most of the budget that they may have, where they have to take so much of it
+    /// beyond their least.
+    pub(crate) fn needs_most(&self, left: u16) -> bool
         requires ready { IsAssignment self.now }
-        requires small { sum ≤ 4096 }
-        ensures { IsTrue result
-            ↔ sum + slice_index self.now.rests.most (told self.now) ≡ 6 * self.now.table.size }
+        requires small { left ≤ 4096 }
+        ensures { IsTrue result ↔ left + slice_index self.now.rests.least (told self.now)
+            ≡ slice_index self.now.rests.most (told self.now) }
     {
-        sum + self.rests.most[self.degrees.len()] == 6 * self.size() as u16
+        let next = self.degrees.len();
+        left + self.rests.least[next] == self.rests.most[next]
     }
 
     /// Tells the degrees that are left, where they need the most of the budget that they may have: each cell has then the
@@ -319,7 +264,7 @@ impl Assignment {
 
     /// Adds the member with the degrees that are told in which those that are left have the most of the budget that they may,
     /// if there is one.
-    fn add_last(&mut self, list: &mut Vec<Connected>) -> Result<(), Memory>
+    fn add_last(&mut self, list: &mut SymbolList) -> Result<(), Memory>
         requires ready { IsAssignment self.old }
         requires root { IsAtRoot self.old }
         requires most { spent_by self.old + slice_index self.old.rests.most (told self.old)
@@ -327,7 +272,7 @@ impl Assignment {
         ensures same { OnOk result (self.new ≡ self.old) }
         ensures list { OnOk result (Appends
             (AreUnder (IsMember self.old.request) self.old.table.size (prefix_of self.old))
-            list.old.items list.new.items) }
+            list.old list.new) }
     {
         let next = self.degrees.len();
         if !self.finish() {
@@ -338,30 +283,30 @@ impl Assignment {
         Ok(())
     }
 
-    /// Adds the members with the degrees that are told, of which the parts have a sum. It goes down
-    /// the cells by their branching values.
-    pub(crate) fn add_members(&mut self, sum: u16, list: &mut Vec<Connected>) -> Result<(), Memory>
+    /// Adds the members with the degrees that are told, where those that are left have to take so much of the budget beyond
+    /// their least. It goes down the cells by their branching values.
+    pub(crate) fn add_members(&mut self, left: u16, list: &mut SymbolList) -> Result<(), Memory>
         requires ready { IsAssignment self.old }
         requires root { IsAtRoot self.old }
-        requires budget { HasBudget self.old sum }
+        requires budget { HasBudget self.old left }
         ensures same { OnOk result (self.new ≡ self.old) }
         ensures list { OnOk result (Appends
             (AreUnder (IsMember self.old.request) self.old.table.size (prefix_of self.old))
-            list.old.items list.new.items) }
+            list.old list.new) }
     {
-        if self.needs_most(sum) {
+        if self.needs_most(left) {
             return self.add_last(list);
         }
         let next = self.degrees.len();
         let place = self.next_place();
         for value in 1..7u8 {
-            let spent = sum + u16::from(place.sides * part_of_side(value));
-            if self.leaves_too_much(spent) {
+            let taken = u16::from(place.beyond_least(value));
+            if self.leaves_too_much(left, taken) {
                 return Ok(());
             }
-            if self.may_stand(&place, spent, value) {
+            if self.may_stand(&place, left, taken, value) {
                 self.enter(value * place.turns);
-                self.add_members(spent, list)?;
+                self.add_members(left - taken, list)?;
                 self.degrees.truncate(next);
             }
         }
@@ -369,16 +314,16 @@ impl Assignment {
     }
 
     /// Adds all members with the involutions of the table, of which no degree is told.
-    pub(crate) fn add_all(&mut self, list: &mut Vec<Connected>) -> Result<(), Memory>
+    pub(crate) fn add_all(&mut self, list: &mut SymbolList) -> Result<(), Memory>
         requires ready { IsAssignment self.old }
         requires root { IsAtRoot self.old }
         requires none { self.old.degrees.items ≡ [] }
         ensures { OnOk result (Appends (AreUnder (IsMember self.old.request) self.old.table.size
-            (prefix_of self.old)) list.old.items list.new.items) }
+            (prefix_of self.old)) list.old list.new) }
     {
-        if !self.has_budget(0, 0) {
-            return Ok(());
+        match self.whole_budget() {
+            Some(left) => self.add_members(left, list),
+            None => Ok(()),
         }
-        self.add_members(0, list)
     }
 }

@@ -6,11 +6,11 @@ ghost use Rattle.dd_invol.specs.Under.{HasNothingUnder};
 
 use crate::levels::Levels;
 use crate::members::{add_tied, with_places};
-use dd_ends::{PathShares, Shares};
+use dd_ends::{PathShares, Sides};
 use dd_invol::{CollectingSearch, PrefixSearch, Starts, Stem, can_follow};
+use dd_list::SymbolList;
 use dd_model::{Memory, Request};
 use dd_shares::parity_rules_out;
-use dd_symbol::Connected;
 use std::alloc::Global;
 use std::marker::Model;
 
@@ -22,7 +22,7 @@ pub struct Descent {
     alloc: Global,
     request: Request,
     stem: Stem,
-    shares: Shares,
+    classes: PathShares,
     levels: Levels,
     starts: Starts,
 }
@@ -35,8 +35,8 @@ impl Model for Descent {
     ghost view = { λ a. record {
       request = a.request;
       stem = a.stem;
-      shares = a.shares;
-      levels = a.levels;
+      shares = record { classes = a.classes; sides = a.levels.sides };
+      levels = a.levels.before;
     } };
 }
 
@@ -61,12 +61,12 @@ impl Descent {
         ensures size { IfOk result (λ descent. size_of descent.stem ≡ size) }
         ensures empty { IfOk result (λ descent. prefix_of descent.stem ≡ []) }
     {
-        let levels = Levels::new(alloc)?;
+        let levels = Levels::new(alloc, &Sides::start(classes, size))?;
         Ok(Descent {
             alloc,
             request: *request,
             stem: Stem::new(size),
-            shares: Shares::start(classes, size),
+            classes: *classes,
             levels,
             starts: Starts::new(size),
         })
@@ -83,8 +83,9 @@ impl Descent {
         let place = self.stem.prefix().len() as u8;
         number <= self.stem.size()
             && self
-                .shares
-                .rules_out_number(self.stem.rows(), place, number)
+                .levels
+                .sides()
+                .rules_out_number(&self.classes, self.stem.rows(), place, number)
     }
 
     /// Puts a number at the end of the prefix, and all that are known after it, with a level for
@@ -114,7 +115,7 @@ impl Descent {
             return false;
         }
         let starts = self.starts.mark();
-        self.levels.push(numbers, rows, self.shares.sides(), starts);
+        self.levels.push(numbers, rows, starts);
         true
     }
 
@@ -128,7 +129,7 @@ impl Descent {
             → HasNothingUnder (IsMember self.old.request) (size_of self.old.stem)
             (prefix_of self.old.stem) }
     {
-        self.shares.learn(self.stem.rows(), rows)
+        self.levels.learn(&self.classes, self.stem.rows(), rows)
     }
 
     /// Whether it is sure that no member is under the prefix, which has grown since there were so
@@ -142,7 +143,10 @@ impl Descent {
             (prefix_of self.old.stem) }
     {
         parity_rules_out(self.stem.rows())
-            || self.shares.rules_out(self.stem.rows())
+            || self
+                .levels
+                .sides()
+                .rules_out(&self.classes, self.stem.rows())
             || self.starts.any_beats(&self.stem, numbers, rows)
     }
 
@@ -167,7 +171,6 @@ impl Descent {
     {
         let level = self.levels.last();
         self.stem.cut(level.numbers, level.rows);
-        self.shares.put_back(&level.sides);
         self.starts.undo(level.starts);
         self.levels.drop_last();
     }
@@ -296,7 +299,9 @@ impl PrefixSearch for Descent {
     fn candidates(&self) -> u64 {
         let place = self.stem.prefix().len() as u8;
         let numbers = self.stem.candidates();
-        self.shares.sieve(self.stem.rows(), place, numbers)
+        self.levels
+            .sides()
+            .sieve(&self.classes, self.stem.rows(), place, numbers)
     }
 
     fn enter(&mut self, number: u8) -> bool {
@@ -311,7 +316,7 @@ impl PrefixSearch for Descent {
 }
 
 impl CollectingSearch for Descent {
-    fn add(&mut self, list: &mut Vec<Connected>) -> Result<(), Memory> {
+    fn add(&mut self, list: &mut SymbolList) -> Result<(), Memory> {
         let Some(ties) = self.stem.ties(self.alloc)? else {
             return Ok(());
         };

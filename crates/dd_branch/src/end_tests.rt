@@ -3,8 +3,10 @@ ghost use Rattle.dd_branch.specs.Assignment.{IsAssignment, IsAtRoot};
 ghost use Rattle.dd_branch.specs.Entered.{HasBudget};
 
 use crate::assignment::Assignment;
-use crate::members::{degrees, has_limits};
-use crate::places::{all_places, part_of_side};
+use crate::limits::has_limits;
+use crate::members::degrees;
+use crate::places::all_places;
+use crate::ties::Ties;
 use dd_canon::tied_starts;
 use dd_invol::{Table, opening, tables_under};
 use dd_model::{Allowed, Job, Request};
@@ -24,10 +26,10 @@ fn asked(chambers: u32) -> Request {
 }
 
 /// How many assignments come to their ends, on the way down that `add_members` goes.
-fn count_ends(search: &mut Assignment, sum: u16) -> u64
+fn count_ends(search: &mut Assignment, left: u16) -> u64
     requires ready { IsAssignment search.old }
     requires root { IsAtRoot search.old }
-    requires budget { HasBudget search.old sum }
+    requires budget { HasBudget search.old left }
     ensures { search.new ≡ search.old }
 {
     let next = search.degrees.len();
@@ -37,13 +39,13 @@ fn count_ends(search: &mut Assignment, sum: u16) -> u64
     let place = search.next_place();
     let mut count = 0u64;
     for value in 1..7u8 {
-        let spent = sum + u16::from(place.sides * part_of_side(value));
-        if search.leaves_too_much(spent) {
+        let taken = u16::from(place.beyond_least(value));
+        if search.leaves_too_much(left, taken) {
             return count;
         }
-        if search.may_stand(&place, spent, value) {
+        if search.may_stand(&place, left, taken, value) {
             search.enter(value * place.turns);
-            count = count.saturating_add(count_ends(search, spent));
+            count = count.saturating_add(count_ends(search, left - taken));
             search.degrees.truncate(next);
         }
     }
@@ -56,23 +58,27 @@ fn count_all_ends(search: &mut Assignment) -> u64
     requires root { IsAtRoot search.old }
     requires none { search.old.degrees.items ≡ [] }
 {
-    if !search.has_budget(0, 0) {
-        return 0;
+    match search.whole_budget() {
+        Some(left) => count_ends(search, left),
+        None => 0,
     }
-    count_ends(search, 0)
 }
 
 /// How many assignments of degrees of a table come to their ends.
 fn ends_of(alloc: Global, request: &Request, table: Table) -> Result<u64, Fail> {
     let table = table.into_symbol();
-    if !has_limits(&table, request) {
-        return Ok(0);
-    }
     let Some(ties) = tied_starts(alloc, &table)? else {
         return Ok(0);
     };
     let places = all_places(table.symbol().involutions(), request);
-    let mut search = Assignment::new(alloc, table, ties, None, places, request);
+    if !has_limits(&table, places.as_slice(), request) {
+        return Ok(0);
+    }
+    let ties = Ties {
+        starts: ties,
+        automorphisms: None,
+    };
+    let mut search = Assignment::new(alloc, table, ties, places, request);
     Ok(count_all_ends(&mut search))
 }
 
@@ -102,6 +108,40 @@ fn counts(alloc: Global, chambers: u32) -> Result<(u64, u64), Fail> {
         }
     }
     Ok((ends, members))
+}
+
+/// How many ties a table has, and to how many of them an automorphism is found.
+fn ties_of(alloc: Global, table: Table) -> Result<(u64, u64), Fail> {
+    let table = table.into_symbol();
+    let Some(starts) = tied_starts(alloc, &table)? else {
+        return Ok((0, 0));
+    };
+    let count = starts.len() as u64;
+    let ties = Ties::of(alloc, table.symbol(), starts)?;
+    let found = match &ties.automorphisms {
+        Some(all) => all.len() as u64,
+        None => 0,
+    };
+    Ok((count, found))
+}
+
+/// No contract says that automorphisms are found: where there are none, numberings are compared.
+#[test]
+fn each_tie_has_an_automorphism(rt: HostRuntime) -> Result<(), Fail> {
+    let request = asked(8);
+    assert!(rt; request.is_valid());
+    let mut ties = 0u64;
+    let mut found = 0u64;
+    for job in &opening(rt.alloc(), &request)? {
+        for table in tables(rt.alloc(), &request, job)? {
+            let (more, others) = ties_of(rt.alloc(), table)?;
+            ties = ties.saturating_add(more);
+            found = found.saturating_add(others);
+        }
+    }
+    assert_eq!(rt; ties, 313);
+    assert_eq!(rt; found, 313);
+    Ok(())
 }
 
 /// What comes to its end is flat: only what a tie of its table numbers smaller is no member.

@@ -2,16 +2,18 @@
 #![tactic(auto)]
 
 mod assignment;
+mod automorphisms;
 mod descent;
 mod laws;
 mod level;
 mod levels;
+mod limits;
 mod members;
 mod minimality;
 mod places;
 mod rests;
 mod search;
-mod turnings;
+mod ties;
 
 pub use descent::Descent;
 pub use laws::{flat_symbols_have_small_shares, lists_under_an_opening_are_the_catalogue};

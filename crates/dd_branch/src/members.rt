@@ -1,32 +1,22 @@
-ghost use Rattle.std.specs.Prelude.{◌↔◌, IsTrue, IfOk, OnOk};
+ghost use Rattle.std.specs.Prelude.{IfOk, OnOk};
 ghost use Rattle.dd_canon.specs.Ties.{AreTies};
 ghost use Rattle.dd_invol.specs.Table.{AreOfTable, IsBareTable};
 ghost use Rattle.dd_invol.specs.Under.{Appends};
 ghost use Rattle.dd_model.specs.Involutions.{HaveSameInvolutions};
-ghost use Rattle.dd_branch.specs.Assignment.{HasLimits};
 ghost use Rattle.dd_branch.specs.Members.{AreMembersWith};
 ghost use Rattle.dd_branch.specs.Place.{ArePlaces};
 
 use crate::assignment::Assignment;
+use crate::limits::has_limits;
 use crate::places::{Place, all_places, turns_of};
-use crate::turnings::turnings_to;
+use crate::ties::Ties;
 use arrayvec::ArrayVec;
 use dd_canon::tied_starts;
-use dd_cells::has_at_most;
 use dd_invol::Table;
-use dd_model::{Memory, Pair, Request};
-use dd_symbol::{Connected, Involutions};
+use dd_list::SymbolList;
+use dd_model::{Memory, Request};
+use dd_symbol::Involutions;
 use std::alloc::Global;
-
-/// Whether a table has no more chambers and classes than a request asks for. Each symbol with its
-/// involutions has as many.
-pub(crate) fn has_limits(t: &Connected, q: &Request) -> bool
-    ensures { IsTrue result ↔ HasLimits q.now t.now }
-{
-    t.symbol().size() <= q.chambers
-        && has_at_most(t, Pair::Tile, q.tiles)
-        && has_at_most(t, Pair::Vertex, q.vertices)
-}
 
 /// The table with these involutions, which are known to be those of one, and what it tells of its
 /// degrees. Each cell is walked once: the degrees of a table are the numbers of turns of its cells.
@@ -54,18 +44,18 @@ pub(crate) fn add_tied(
     ties: Vec<u32>,
     places: ArrayVec<Place, 72>,
     q: &Request,
-    list: &mut Vec<Connected>,
+    list: &mut SymbolList,
 ) -> Result<(), Memory>
     requires ties { AreTies t ties.items }
     requires places { ArePlaces q.now t places.items }
-    ensures { OnOk result (Appends (AreMembersWith q.now t) list.old.items list.new.items) }
+    ensures { OnOk result (Appends (AreMembersWith q.now t) list.old list.new) }
 {
     let table = t.into_symbol();
-    if !has_limits(&table, q) {
+    if !has_limits(&table, places.as_slice(), q) {
         return Ok(());
     }
-    let turnings = turnings_to(alloc, table.symbol(), ties.as_slice())?;
-    Assignment::new(alloc, table, ties, turnings, places, q).add_all(list)
+    let ties = Ties::of(alloc, table.symbol(), ties)?;
+    Assignment::new(alloc, table, ties, places, q).add_all(list)
 }
 
 /// Adds all members of a request's catalogue that have the involutions of a table, ascending.
@@ -73,9 +63,9 @@ pub fn add_degrees(
     alloc: Global,
     t: Table,
     q: &Request,
-    list: &mut Vec<Connected>,
+    list: &mut SymbolList,
 ) -> Result<(), Memory>
-    ensures { OnOk result (Appends (AreMembersWith q.now t) list.old.items list.new.items) }
+    ensures { OnOk result (Appends (AreMembersWith q.now t) list.old list.new) }
 {
     let Some(ties) = tied_starts(alloc, t.symbol())? else {
         return Ok(());
@@ -85,10 +75,10 @@ pub fn add_degrees(
 }
 
 /// All members of a request's catalogue that have the involutions of a table, ascending.
-pub fn degrees(alloc: Global, t: Table, q: &Request) -> Result<Vec<Connected>, Memory>
-    ensures { IfOk result (λ list. AreMembersWith q.now t list.items) }
+pub fn degrees(alloc: Global, t: Table, q: &Request) -> Result<SymbolList, Memory>
+    ensures { IfOk result (λ list. AreMembersWith q.now t list) }
 {
-    let mut list = Vec::new(alloc);
+    let mut list = SymbolList::new(alloc);
     add_degrees(alloc, t, q, &mut list)?;
     Ok(list)
 }

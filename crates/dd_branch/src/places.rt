@@ -43,6 +43,16 @@ impl Place {
     {
         self.values.trailing_zeros() as u8
     }
+
+    /// What the degree takes of the budget beyond its least, which is 2 for each side, with a branching value.
+    pub(crate) fn beyond_least(&self, value: u8) -> u8
+        requires sides { self.now.sides ≤ 2 }
+        requires value { (1 ≤ value) × (value ≤ 6) }
+        ensures taken { result + 2 * self.now.sides ≡ self.now.sides * (12 / value) }
+        ensures small { result ≤ 20 }
+    {
+        self.sides * (part_of_side(value) - 2)
+    }
 }
 
 /// How many chambers a cell has for each turn, at its least chamber.
@@ -64,7 +74,7 @@ const PARTS: [u8; 7] = [0, 12, 6, 4, 3, 2, 2];
 
 /// What a side of a cell with a branching value has of the budget. A division in its place would take
 /// a third of the time of the search for degrees.
-pub(crate) fn part_of_side(value: u8) -> u8
+fn part_of_side(value: u8) -> u8
     requires { (1 ≤ value) × (value ≤ 6) }
     ensures { result ≡ 12 / value }
 {

@@ -3,7 +3,7 @@ ghost use Rattle.std.specs.Int.{bit_at};
 ghost use Rattle.dd_branch.specs.Rests.{AreRests, HasSurplusWith};
 ghost use Rattle.dd_branch.specs.declared.places.Place.{Place as Known};
 
-use crate::places::{Place, part_of_side};
+use crate::places::Place;
 
 /// What the degrees from each place on have of the budget together, whatever they will be.
 #[derive(Drop)]
@@ -27,7 +27,7 @@ fn surplus_with(place: &Place, later: u64) -> u64
     let mut all = 0;
     for value in 1..7u8 {
         if place.allows(value) {
-            all |= later << (place.sides * part_of_side(value) - 2 * place.sides);
+            all |= later << place.beyond_least(value);
         }
     }
     all

@@ -9,8 +9,8 @@ use crate::descent::Descent;
 use dd_ends::PathShares;
 use dd_front::Finder;
 use dd_invol::{child, find, may_have_tables};
+use dd_list::SymbolList;
 use dd_model::{Job, Memory, Request};
-use dd_symbol::Connected;
 use std::alloc::Global;
 
 /// The search for the members of the catalogue of a request, job by job, with the shares that the
@@ -36,12 +36,12 @@ impl Search {
     /// Adds the members under a job. It stays a call of its own, so that the room for the search is
     /// made only where it is called.
     #[inline(never)]
-    fn add_members(&self, alloc: Global, job: &Job, list: &mut Vec<Connected>) -> Result<(), Memory>
+    fn add_members(&self, alloc: Global, job: &Job, list: &mut SymbolList) -> Result<(), Memory>
         requires valid { IsValid self.now.request }
         requires job { IsJobOf self.now.request job.now }
         ensures { OnOk result (Appends
             (AreUnder (IsMember self.now.request) job.now.size job.now.prefix)
-            list.old.items list.new.items) }
+            list.old list.new) }
     {
         let mut descent = Descent::new(alloc, &self.request, &self.classes, job.size as u8)?;
         if !descent.reach(job.prefix.as_slice()) {
@@ -100,8 +100,8 @@ impl Finder for Search {
         self.reaches(alloc, job)
     }
 
-    fn find(&self, alloc: Global, job: &Job) -> Result<Vec<Connected>, Memory> {
-        let mut list = Vec::new(alloc);
+    fn find(&self, alloc: Global, job: &Job) -> Result<SymbolList, Memory> {
+        let mut list = SymbolList::new(alloc);
         if !may_have_tables(job) {
             return Ok(list);
         }

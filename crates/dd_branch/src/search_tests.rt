@@ -6,8 +6,8 @@ use crate::{Descent, Search};
 use dd_ends::PathShares;
 use dd_front::Finder;
 use dd_invol::PrefixSearch;
+use dd_list::SymbolList;
 use dd_model::{Job, Prefix, Request};
-use dd_symbol::Connected;
 use std::alloc::Global;
 use std::test::Fail;
 
@@ -24,11 +24,11 @@ fn job(alloc: Global, size: u32, numbers: &[u8]) -> Result<Job, Fail> {
 }
 
 /// The members of at most two chambers under a job.
-fn found(alloc: Global, job: &Job) -> Result<Vec<Connected>, Fail> {
+fn found(alloc: Global, job: &Job) -> Result<SymbolList, Fail> {
     let request = asked_of_two();
     let fits = job.prefix.as_slice().len() as u64 <= 3 * job.size as u64;
     if !request.is_valid() || job.size == 0 || job.size > request.chambers || !fits {
-        return Ok(Vec::new(alloc));
+        return Ok(SymbolList::new(alloc));
     }
     Ok(Search::new(&request).find(alloc, job)?)
 }
@@ -54,7 +54,7 @@ fn a_job_without_its_second_chamber_is_dead(rt: HostRuntime) -> Result<(), Fail>
 fn one_chamber_is_found(rt: HostRuntime) -> Result<(), Fail> {
     let symbols = found(rt.alloc(), &job(rt.alloc(), 1, &[1, 1, 1])?)?;
     let expected = [[1, 1, 1, 3, 6], [1, 1, 1, 4, 4], [1, 1, 1, 6, 3]];
-    assert!(rt; have_codes(rt.alloc(), symbols.as_slice(), expected.as_slice())?);
+    assert!(rt; have_codes(rt.alloc(), &symbols, expected.as_slice())?);
     Ok(())
 }
 
@@ -66,7 +66,7 @@ fn two_chambers_are_found(rt: HostRuntime) -> Result<(), Fail> {
         [1, 1, 2, 2, 2, 1, 3, 6, 4, 4],
         [1, 1, 2, 2, 2, 1, 4, 4, 4, 4],
     ];
-    assert!(rt; have_codes(rt.alloc(), symbols.as_slice(), expected.as_slice())?);
+    assert!(rt; have_codes(rt.alloc(), &symbols, expected.as_slice())?);
     Ok(())
 }
 

@@ -1,7 +1,7 @@
 use super::*;
 use dd_invol::Table;
+use dd_list::SymbolList;
 use dd_model::{Allowed, Request};
-use dd_symbol::Connected;
 use std::alloc::Global;
 use std::test::Fail;
 
@@ -17,23 +17,18 @@ pub(crate) fn asked() -> Request {
 }
 
 /// The members of the catalogue with these involutions.
-fn members(alloc: Global, size: u8, numbers: &[u8]) -> Result<Vec<Connected>, Fail> {
+fn members(alloc: Global, size: u8, numbers: &[u8]) -> Result<SymbolList, Fail> {
     if size == 0 || size > 36 || numbers.len() != 3 * size as usize {
-        return Ok(Vec::new(alloc));
+        return Ok(SymbolList::new(alloc));
     }
     match Table::of(alloc, size, numbers)? {
         Some(table) => Ok(degrees(alloc, table, &asked())?),
-        None => Ok(Vec::new(alloc)),
+        None => Ok(SymbolList::new(alloc)),
     }
 }
 
 /// Adds the members with these involutions.
-fn add_members(
-    alloc: Global,
-    size: u8,
-    numbers: &[u8],
-    list: &mut Vec<Connected>,
-) -> Result<(), Fail> {
+fn add_members(alloc: Global, size: u8, numbers: &[u8], list: &mut SymbolList) -> Result<(), Fail> {
     if size == 0 || size > 36 || numbers.len() != 3 * size as usize {
         return Ok(());
     }
@@ -43,7 +38,17 @@ fn add_members(
     Ok(())
 }
 
-fn has_code(alloc: Global, symbol: &Connected, expected: &[u32]) -> Result<bool, Fail> {
+/// Whether the code of the symbol at a place of a list is this.
+fn has_code(
+    alloc: Global,
+    symbols: &SymbolList,
+    place: usize,
+    expected: &[u32],
+) -> Result<bool, Fail> {
+    if place >= symbols.len() {
+        return Ok(false);
+    }
+    let symbol = symbols.all().copy(alloc, place)?;
     let code = symbol.symbol().code(alloc)?;
     Ok(code.as_slice() == expected)
 }
@@ -51,15 +56,14 @@ fn has_code(alloc: Global, symbol: &Connected, expected: &[u32]) -> Result<bool,
 /// Whether the codes of symbols are these, in this order.
 pub(crate) fn have_codes<const N: usize>(
     alloc: Global,
-    symbols: &[Connected],
+    symbols: &SymbolList,
     expected: &[[u32; N]],
 ) -> Result<bool, Fail> {
     if symbols.len() != expected.len() {
         return Ok(false);
     }
-    for (k, symbol) in symbols.iter().enumerate() {
-        let code = expected.get(k).ok_or("a code")?;
-        if !has_code(alloc, symbol, code.as_slice())? {
+    for (k, code) in expected.iter().enumerate() {
+        if !has_code(alloc, symbols, k, code.as_slice())? {
             return Ok(false);
         }
     }
@@ -78,7 +82,7 @@ static SQUARES_IN_MIRRORS: [u8; 96] = [
 fn one_chamber(rt: HostRuntime) -> Result<(), Fail> {
     let found = members(rt.alloc(), 1, &[1, 1, 1])?;
     let expected = [[1, 1, 1, 3, 6], [1, 1, 1, 4, 4], [1, 1, 1, 6, 3]];
-    assert!(rt; have_codes(rt.alloc(), found.as_slice(), expected.as_slice())?);
+    assert!(rt; have_codes(rt.alloc(), &found, expected.as_slice())?);
     Ok(())
 }
 
@@ -90,7 +94,7 @@ fn of_two_numberings_the_least(rt: HostRuntime) -> Result<(), Fail> {
         [1, 1, 2, 2, 2, 1, 3, 6, 4, 4],
         [1, 1, 2, 2, 2, 1, 4, 4, 4, 4],
     ];
-    assert!(rt; have_codes(rt.alloc(), found.as_slice(), expected.as_slice())?);
+    assert!(rt; have_codes(rt.alloc(), &found, expected.as_slice())?);
     Ok(())
 }
 
@@ -102,7 +106,7 @@ fn two_chambers_of_one_tile(rt: HostRuntime) -> Result<(), Fail> {
         [2, 1, 1, 1, 2, 2, 4, 4, 4, 4],
         [2, 1, 1, 1, 2, 2, 6, 6, 3, 3],
     ];
-    assert!(rt; have_codes(rt.alloc(), found.as_slice(), expected.as_slice())?);
+    assert!(rt; have_codes(rt.alloc(), &found, expected.as_slice())?);
     Ok(())
 }
 
@@ -111,8 +115,7 @@ fn one_table_after_another(rt: HostRuntime) -> Result<(), Fail> {
     let mut list = members(rt.alloc(), 2, &[1, 1, 2, 2, 2, 1])?;
     add_members(rt.alloc(), 2, &[2, 1, 1, 1, 2, 2], &mut list)?;
     assert_eq!(rt; list.len(), 6);
-    let last = list.get(5).ok_or("a symbol")?;
-    assert!(rt; has_code(rt.alloc(), last, &[2, 1, 1, 1, 2, 2, 6, 6, 3, 3])?);
+    assert!(rt; has_code(rt.alloc(), &list, 5, &[2, 1, 1, 1, 2, 2, 6, 6, 3, 3])?);
     Ok(())
 }
 

@@ -1,7 +1,7 @@
 pub mod Meetings
 pub mod Traversals
 pub mod PartialTraversals
-mod OrderLemmas
+pub mod OrderLemmas
 mod VisitLemmas
 mod StandingLemmas
 mod FormLemmas

@@ -1,5 +1,5 @@
 -- Members whose lines are made part by part.
-use Rattle.std.proofs.Common.{◌≡◌, ℕ, ◌+◌, ◌≤◌, List, [], ◌++◌, Option, length, length-append, sym, ap, ◌∙◌, subst, arith, append_assoc}
+use Rattle.std.proofs.Common.{◌≡◌, ℕ, ◌+◌, ◌≤◌, List, [], ◌++◌, Option, length, length-append, take, drop, take-append-drop, sym, ap, ◌∙◌, subst, arith, append_assoc}
 use Rattle.std.proofs.lemmas.List.{append-nil}
 use Rattle.dd_model.specs.Symbol.{Symbol}
 use Rattle.dd_catalogue.specs.Pages.{HasLines, IsFrontOut, KeepsLines, AddsAll, WritesFrontOf}
@@ -13,6 +13,10 @@ pub record HasAdded (before now : Option (List ℕ)) (old new : Page) (all left 
   pub adds : AddsAll before now old new done
   pub count : new.count ≡ old.count + length done
   pub waiting : new.waiting ≡ []
+
+-- a list is its first so many and the others
+pub parted : (xs ys zs : List Symbol) (n : ℕ) → ys ≡ take n xs → zs ≡ drop n xs → xs ≡ ys ++ zs
+parted xs ys zs n first others = sym (ap (λ vs. vs ++ zs) first ∙ ap (λ vs. take n xs ++ vs) others ∙ take-append-drop n xs)
 
 pub none_added : (before now : Option (List ℕ)) (old new : Page) (all left : List Symbol) → KeepsLines before now old new → left ≡ all → new.count ≡ old.count → new.waiting ≡ []
     → HasAdded before now old new all left
@@ -61,3 +65,10 @@ pub all_added : (before now : Option (List ℕ)) (old new : Page) (all left : Li
 all_added before now old new all left none has k base start ss lines =
     let whole : all ≡ has.done = has.parts ∙ ap (λ ts. has.done ++ ts) none ∙ append-nil has.done in
     subst (λ ts. HasLines k base start now new (ss ++ ts)) (sym whole) (has.adds k base start ss lines)
+
+-- and all are counted
+pub count_of_all : (before now : Option (List ℕ)) (old new : Page) (all left : List Symbol) → length left ≡ 0 → HasAdded before now old new all left → new.count ≡ old.count + length all
+count_of_all before now old new all left none has =
+    let whole = has.count in
+    let size = ap length has.parts ∙ length-append has.done left in
+    omega (arith, none, whole, size)

@@ -6,7 +6,7 @@ ghost use Rattle.dd_catalogue.specs.Parts.{AreParts};
 use crate::part::Part;
 use dd_front::Members;
 use dd_model::Memory;
-use dd_text::put_lines;
+use dd_text::put_list;
 use std::thread;
 use std::thread::Threads;
 
@@ -19,10 +19,14 @@ const PARTS: usize = 4;
 
 /// How many bytes the lines of some members take, mostly a few less: a catalogue goes by size, so that the first one tells.
 fn room_for(members: &Members) -> usize {
-    if members.len() == 0 {
+    let Some(first) = members.spans().first() else {
+        return 0;
+    };
+    let symbols = first.symbols();
+    if symbols.len() == 0 {
         return 0;
     }
-    let line = 6 * members.get(0).symbol().size() as usize + 24;
+    let line = 6 * symbols.get(0).table.symbol().size() as usize + 24;
     members.len().saturating_mul(line)
 }
 
@@ -34,7 +38,7 @@ fn lines_of(part: Part) -> Result<Vec<u8>, Memory>
     let mut lines = Vec::with_capacity(*part.members.allocator(), room)?;
     let mut before = part.before;
     for span in part.members.spans() {
-        put_lines(&mut lines, before, span.as_slice())?;
+        put_list(&mut lines, before, &span.symbols())?;
         before += span.len() as u64;
     }
     Ok(lines)

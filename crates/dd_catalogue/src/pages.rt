@@ -7,10 +7,10 @@ ghost use Rattle.dd_catalogue.specs.Pages.{IsEmpty, IsSent, KeepsLines, AddsAll,
 
 use crate::lines::lines_by;
 use dd_front::Members;
+use dd_list::Symbols;
 use dd_model::Memory;
 use dd_ports::{Sink, SinkFault, write_all_of};
-use dd_symbol::Connected;
-use dd_text::put_lines;
+use dd_text::put_list;
 use std::alloc::Global;
 use std::mem;
 use std::thread::Threads;
@@ -208,7 +208,7 @@ impl Page {
     }
 
     /// Makes the lines of the next members, where none waits before them, and writes lines once there are enough.
-    fn add_part<O: Sink>(&mut self, part: &[Connected], out: &mut O) -> Result<(), SinkFault>
+    fn add_part<O: Sink>(&mut self, part: &Symbols<'_>, out: &mut O) -> Result<(), SinkFault>
         requires waiting { self.old.waiting ≡ [] }
         requires few { self.old.count + length part.now ≤ 1000000000000000000 }
         ensures all { OnOk result
@@ -220,7 +220,7 @@ impl Page {
         ensures sure { O.sure out.old ≡ true
             → StaysSure Failed (O.faults out.old) (O.faults out.new) (O.sure out.new) result }
     {
-        let Ok(()) = put_lines(&mut self.buffer, self.count, part) else {
+        let Ok(()) = put_list(&mut self.buffer, self.count, part) else {
             return Err(SinkFault::Memory);
         };
         self.count += part.len() as u64;
@@ -229,20 +229,23 @@ impl Page {
     }
 
     /// Makes the lines of a list of members part by part, where none waits before them, so that few lines are collected at a time.
-    fn add_list<O: Sink>(&mut self, list: &[Connected], out: &mut O) -> Result<(), SinkFault>
+    fn add_list<O: Sink>(&mut self, list: Symbols<'_>, out: &mut O) -> Result<(), SinkFault>
         requires waiting { self.old.waiting ≡ [] }
-        requires few { self.old.count + length list.now ≤ 1000000000000000000 }
+        requires few { self.old.count + length list ≤ 1000000000000000000 }
         ensures all { OnOk result
-            (AddsAll (O.held out.old) (O.held out.new) self.old self.new list.now) }
+            (AddsAll (O.held out.old) (O.held out.new) self.old self.new list.entry) }
         ensures waiting { OnOk result (self.new.waiting ≡ []) }
-        ensures count { OnOk result (self.new.count ≡ self.old.count + length list.now) }
-        ensures front { WritesFrontOf (O.held out.old) (O.held out.new) self.old list.now }
+        ensures count { OnOk result (self.new.count ≡ self.old.count + length list.entry) }
+        ensures front { WritesFrontOf (O.held out.old) (O.held out.new) self.old list.entry }
         ensures cause { HasCause Failed (O.faults out.old) (O.faults out.new) result }
         ensures sure { O.sure out.old ≡ true
             → StaysSure Failed (O.faults out.old) (O.faults out.new) (O.sure out.new) result }
     {
-        for part in list.chunks(PART) {
-            self.add_part(part, out)?;
+        let mut left = list;
+        while left.len() > 0 {
+            let (part, later) = left.split_at(left.len().min(PART));
+            self.add_part(&part, out)?;
+            left = later;
         }
         Ok(())
     }
@@ -266,7 +269,7 @@ impl Page {
         // The lines of members that wait come before these.
         self.make(rt, 1, out)?;
         for span in members.spans() {
-            self.add_list(span.as_slice(), out)?;
+            self.add_list(span.symbols(), out)?;
         }
         Ok(())
     }

@@ -1,8 +1,13 @@
 -- The classes of paths that were joined or capped.
-use Rattle.std.proofs.Common.{◌≡◌, ℕ, ◌+◌, ◌-◌, ◌/◌, ◌%◌, ◌<◌, ◌≤◌, ◌⊎◌, sym, ap, subst, inl, inr, ⊎_elim, arith}
-use Rattle.std.proofs.lemmas.Bool.{cases_lt, le-leb, lt-leb}
+use Rattle.std.proofs.Common.{◌≡◌, ◌≢◌, ℕ, ◌+◌, ◌-◌, ◌*◌, ◌/◌, ◌%◌, ◌<◌, ◌≤◌, ◌⊎◌, Bool, true, false, IsTrue, get_or, refl, sym, ap, ◌∙◌, subst, inl, inr, ⊎_elim, arith}
+use Rattle.std.proofs.lemmas.Bool.{cases_lt, cases_eq, le-leb, lt-leb}
+use Rattle.std.proofs.Math.Nat.{div-zero, mul-div_cancel_left, mul-le-mul}
 use Rattle.std.specs.Prelude.{cond}
-use Rattle.dd_ends.specs.Classes.{joined_class, turns_of}
+use Rattle.dd_model.specs.declared.pair.Pair.{Pair}
+use Rattle.dd_model.specs.declared.requests.Request.{Request}
+use Rattle.dd_shares.specs.Units.{share_unit}
+use Rattle.dd_ends.specs.Classes.{joined_class, turns_of, share_in, IsClassShare, IsClassWeight, IsWeightOf, IsWholeShare, IsClosedShare, IsCappedShare, IsJoinedShare}
+use Rattle.dd_ends.specs.declared.class_shares.ClassShares.{ClassShares}
 
 -- ## Tests of a class
 
@@ -39,8 +44,99 @@ both_high a b small also few high = record {
   stays = λ _. omega (arith, high);
 }
 
+joined_low : (a b : ℕ) → a + b < 128 → joined_class a b ≡ a + b
+joined_low a b low = ap (λ t. cond t (a + b - 64) (a + b)) (lt-leb 128 (a + b) low)
+
+joined_high : (a b : ℕ) → 128 ≤ a + b → joined_class a b ≡ a + b - 64
+joined_high a b high = ap (λ t. cond t (a + b - 64) (a + b)) (le-leb 128 (a + b) high)
+
 pub class_of_both : (a b : ℕ) → a < 128 → b < 128 → a % 64 + b % 64 < 64 → IsClassOfBoth a b (joined_class a b)
 class_of_both a b small also few = ⊎_elim
-    (λ low. subst (IsClassOfBoth a b) (sym (ap (λ t. cond t (a + b - 64) (a + b)) (lt-leb 128 (a + b) low))) (both_low a b few low))
-    (λ high. subst (IsClassOfBoth a b) (sym (ap (λ t. cond t (a + b - 64) (a + b)) (le-leb 128 (a + b) high))) (both_high a b small also few high))
+    (λ low. subst (IsClassOfBoth a b) (sym (joined_low a b low)) (both_low a b few low))
+    (λ high. subst (IsClassOfBoth a b) (sym (joined_high a b high)) (both_high a b small also few high))
     (cases_lt (a + b) 128)
+
+-- ## Shares and weights by class
+
+-- the weight is made of the share
+pub class_weight_of : (q : Request) (p : Pair) (c v : ℕ) → IsClassShare q p c v → IsClassWeight q p c (c % 64 * v)
+class_weight_of q p c v is = ⊎_elim none some (cases_eq (c % 64) 0)
+  where
+    none : c % 64 ≡ 0 → IsClassWeight q p c (c % 64 * v)
+    none is_none =
+        let product : c % 64 * v ≡ 0 * v = ap (λ n. n * v) is_none in
+        let nothing : c % 64 * v ≡ 0 = omega (arith, product) in
+        let share : c % 64 * v / (c % 64) ≡ 0 = ap (λ n. c % 64 * v / n) is_none ∙ div-zero (c % 64 * v) in
+        record {
+          told = subst (IsClassShare q p c) (sym share) (record {
+            with_ends = λ low any. absurd (omega (arith, any, is_none));
+            whole = λ turns any few at. absurd (omega (arith, any, few, at, is_none));
+            small = omega arith;
+          });
+          whole = nothing ∙ sym (ap (λ n. c % 64 * n) share ∙ ap (λ n. n * 0) is_none);
+        }
+
+    some : c % 64 ≢ 0 → IsClassWeight q p c (c % 64 * v)
+    some any =
+        let share : c % 64 * v / (c % 64) ≡ v = mul-div_cancel_left v (omega (arith, any)) in
+        record { told = subst (IsClassShare q p c) (sym share) is; whole = ap (λ n. c % 64 * n) (sym share) }
+
+-- the share of a whole cell
+pub share_of_whole : (t : ClassShares) (turns : ℕ) → 1 ≤ turns → turns ≤ 36 → IsWholeShare t.request t.pair turns (share_in t.weights (128 + turns))
+share_of_whole t turns low high = (t.are_told.each (128 + turns) (omega (arith, high))).told.whole turns low high refl
+
+-- the weight at a place that stands for n chambers
+pub weight_at : (t : ClassShares) (c n : ℕ) → c < 192 → c % 64 ≡ n → get_or t.weights c 0 ≡ n * share_in t.weights c
+weight_at t c n low same = (t.are_told.each c low).whole ∙ ap (λ k. k * share_in t.weights c) same
+
+-- that of a chain which both its ends make whole
+pub chain_share : (t : ClassShares) (c : ℕ) → 64 ≤ c → c < 128 → IsClosedShare t.request t.pair c (share_in t.weights (c + 64))
+chain_share t c high low = record {
+  right = λ turns some few are. ⊎_elim
+      (λ chain. let is = chain.1 in (t.are_told.each (c + 64) (omega (arith, low))).told.whole turns some few (omega (arith, is, high, low)))
+      (λ cycle. let under = cycle.0 in absurd (omega (arith, under, high)))
+      are;
+  small = (t.are_told.each (c + 64) (omega (arith, low))).told.small;
+}
+
+pub capped_share : (t : ClassShares) (a : ℕ) → a < 128 → IsCappedShare t.request t.pair t.weights a (share_in t.weights (a + 64))
+capped_share t a small = record {
+  closed = λ high. chain_share t a high small;
+  goes_on = λ low. ap (share_in t.weights) (omega (arith, low));
+}
+
+pub joined_share : (t : ClassShares) (a b : ℕ) → a < 128 → b < 128 → a % 64 + b % 64 < 64 → IsJoinedShare t.request t.pair t.weights a b (share_in t.weights (a + b))
+joined_share t a b small also few = record {
+  closed = λ high too.
+      let is = joined_high a b (omega (arith, high, too)) in
+      let back : joined_class a b + 64 ≡ a + b = omega (arith, is, high, too) in
+      subst (λ k. IsClosedShare t.request t.pair (joined_class a b) (share_in t.weights k)) back
+      (chain_share t (joined_class a b) (omega (arith, is, high, too)) (omega (arith, is, small, also, few)));
+  goes_on = λ low. ap (share_in t.weights) (sym (joined_low a b (⊎_elim (λ one. omega (arith, one, also, few)) (λ other. omega (arith, other, small, few)) low)));
+}
+
+-- a path that has both ends open, and no others, is a cycle of half as many turns
+pub cycle_share : (t : ClassShares) (c : ℕ) → c < 64 → c % 2 ≡ 0 → IsClosedShare t.request t.pair c (share_in t.weights (128 + c / 2))
+cycle_share t c low even = record {
+  right = λ turns some few are. ⊎_elim
+      (λ chain. let over = chain.0 in absurd (omega (arith, over, low)))
+      (λ cycle.
+      let is = cycle.1 in
+      let half : turns ≡ c / 2 = omega (arith, is, low, even) in
+      subst (λ k. IsWholeShare t.request t.pair turns (share_in t.weights (128 + k))) half (share_of_whole t turns some few))
+      are;
+  small = (t.are_told.each (128 + c / 2) (omega (arith, low))).told.small;
+}
+
+-- the weight of few chambers is small
+pub weight_small : (q : Request) (p : Pair) (c k w : ℕ) → c % 64 ≤ k → IsClassWeight q p c w → w ≤ k * share_unit
+weight_small q p c k w few is =
+    let most : c % 64 * (w / (c % 64)) ≤ k * share_unit = mul-le-mul few is.told.small in
+    let all = is.whole in
+    omega (arith, most, all)
+
+-- what a whole cell has together, by its kind
+pub weight_of_cell : (P : ℕ → Type 0) (b : Bool) (turns count w : ℕ) → (IsTrue b → IsWeightOf P turns w) → ((IsTrue b → ⊥) → IsWeightOf P (2 * turns) w)
+    → (IsTrue b → count ≡ turns) → ((IsTrue b → ⊥) → count ≡ 2 * turns) → IsWeightOf P count w
+weight_of_cell P true turns count w chain cycle one two = subst (λ n. IsWeightOf P n w) (sym (one refl)) (chain refl)
+weight_of_cell P false turns count w chain cycle one two = let no : IsTrue false → ⊥ = λ yes. (cc) in subst (λ n. IsWeightOf P n w) (sym (two no)) (cycle no)

@@ -5,11 +5,10 @@ use Rattle.dd_model.specs.Symbol.{Symbol}
 use Rattle.dd_invol.specs.Rows.{partial_of, depth_of, unwound}
 use Rattle.dd_invol.specs.declared.rows.Rows.{Rows}
 use Rattle.dd_shares.proofs.GrowthLemmas.{completes_shorter}
-use Rattle.dd_ends.specs.Kept.{AreKept}
+use Rattle.dd_ends.specs.Kept.{Shares, AreKept}
 use Rattle.dd_ends.specs.Passing.{Passes}
 use Rattle.dd_ends.specs.Sides.{IsSide, ends_of}
 use Rattle.dd_ends.specs.declared.class_shares.ClassShares.{ClassShares}
-use Rattle.dd_ends.specs.declared.shares.Shares.{Shares}
 use Rattle.dd_ends.specs.declared.side.Side.{Side}
 use Rattle.dd_ends.proofs.PassingTables.{ends_of_fewer}
 

@@ -27,7 +27,7 @@ pub record IsBeyond (one : End) (further kind : ℕ) (e : End) : Type 0 where
 module _ (t : ClassShares) (which : (t.pair ≡ Tile) ⊎ (t.pair ≡ Vertex)) (P : Symbol) (test : Symbol → Bool) (xs : List End) (total more : ℕ)
     (are : AreEndsOf t.request P test t.pair (view t xs) total) (long : length xs ≡ 74) (x : ℕ) (one : End) (flag : x < 74) where
   pub capped_kept : IsAnEnd t (view t xs) x one.other one.class.number → one.class.number % 64 ≤ 36 → (v i j : ℕ) (n d : End) → i ≡ x → j ≡ one.other → n.class.number ≡ 0
-      → IsBeyond one x (64 + one.class.number % 64) d → IsJoin (Passes P test) t.pair x x → IsCappedShare t.request t.pair t.open_paths one.class.number v
+      → IsBeyond one x (64 + one.class.number % 64) d → IsJoin (Passes P test) t.pair x x → IsCappedShare t.request t.pair t.weights one.class.number v
       → more + class_weight t one.class.number ≡ total + one.class.number % 64 * v → AreEndsOf t.request P test t.pair (view t (set (set xs i n) j d)) more
   capped_kept end few v i j n d first second none beyond join share sum =
       kept_two t t.request P test t.pair xs more long x one.other i j n d flag one.other_inside first second
@@ -44,7 +44,7 @@ module _ (t : ClassShares) (which : (t.pair ≡ Tile) ⊎ (t.pair ≡ Vertex)) (
   pub connected_kept : (y : ℕ) (other : End) → AreTwoEnds t (view t xs) x one.other one.class.number y other.other other.class.number → y < 74
       → one.class.number % 64 + other.class.number % 64 ≤ 36 → (v a b i j : ℕ) (n o e d : End) → a ≡ x → b ≡ y → i ≡ one.other → j ≡ other.other → n.class.number ≡ 0 → o.class.number ≡ 0
       → IsBeyond one other.other (joined_class one.class.number other.class.number) e → IsBeyond other one.other (joined_class one.class.number other.class.number) d
-      → IsJoin (Passes P test) t.pair x y → IsJoinedShare t.request t.pair t.open_paths one.class.number other.class.number v
+      → IsJoin (Passes P test) t.pair x y → IsJoinedShare t.request t.pair t.weights one.class.number other.class.number v
       → more + (class_weight t one.class.number + class_weight t other.class.number) ≡ total + (one.class.number % 64 + other.class.number % 64) * v
       → AreEndsOf t.request P test t.pair (view t (set (set (set (set xs a n) b o) i e) j d)) more
   connected_kept y other two y_flag few v a b i j n o e d first second third fourth none nor ahead back join share sum =

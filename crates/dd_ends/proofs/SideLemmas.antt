@@ -83,13 +83,13 @@ module _ (t : ClassShares) (which : (t.pair ≡ Tile) ⊎ (t.pair ≡ Vertex)) (
     (are : AreEndsOf t.request P test t.pair old total) where
   -- ## An involution fixes the end of a path
 
-  module _ {x m a : ℕ} (end : IsAnEnd t old x m a) (join : IsJoin (Passes P test) t.pair x x) (v : ℕ) (share : IsCappedShare t.request t.pair t.open_paths a v) where
+  module _ {x m a : ℕ} (end : IsAnEnd t old x m a) (join : IsJoin (Passes P test) t.pair x x) (v : ℕ) (share : IsCappedShare t.request t.pair t.weights a v) where
     c : ℕ
     c = 64 + a % 64
 
     from : a < 64 → IsShareFrom t.request t.pair (turns_of c) v
     unfolding c
-    from low = let some = end.some in subst (IsShareFrom t.request t.pair (turns_of c)) (sym (share.goes_on low)) (t.are_open.each c (omega arith) (omega (arith, some)))
+    from low = let some = end.some in subst (IsShareFrom t.request t.pair (turns_of c)) (sym (share.goes_on low)) ((t.are_told.each c (omega arith)).told.with_ends (omega arith) (omega (arith, some)))
 
     fixed : IsFixedEnd (Passes P test) t.pair old x
     fixed = record { is_end = end_live t old end; fixed = join.leads }
@@ -148,7 +148,7 @@ module _ (t : ClassShares) (which : (t.pair ≡ Tile) ⊎ (t.pair ≡ Vertex)) (
   -- ## An involution joins the ends of two paths
 
   module _ {x m a y l b : ℕ} (two : AreTwoEnds t old x m a y l b) (few : a % 64 + b % 64 ≤ 36) (join : IsJoin (Passes P test) t.pair x y) (v : ℕ)
-      (share : IsJoinedShare t.request t.pair t.open_paths a b v) where
+      (share : IsJoinedShare t.request t.pair t.weights a b v) where
     both : IsClassOfBoth a b (joined_class a b)
     both = class_of_both a b two.one.low two.other.low (omega (arith, few))
 
@@ -184,7 +184,7 @@ module _ (t : ClassShares) (which : (t.pair ≡ Tile) ⊎ (t.pair ≡ Vertex)) (
     from_joined low =
         let enough = both.chambers in
         let some = two.one.some in
-        subst (IsShareFrom t.request t.pair (turns_of (joined_class a b))) (sym (share.goes_on low)) (t.are_open.each (joined_class a b) both.small (omega (arith, enough, some)))
+        subst (IsShareFrom t.request t.pair (turns_of (joined_class a b))) (sym (share.goes_on low)) ((t.are_told.each (joined_class a b) (let small = both.small in omega (arith, small))).told.with_ends both.small (omega (arith, enough, some)))
 
     pub right_connected : AreRight t.request P test t.pair x v
     right_connected =

@@ -1,7 +1,8 @@
 -- Chambers of which nothing is known yet.
-use Rattle.std.proofs.Common.{◌≡◌, ℕ, zero, suc, ◌+◌, ◌*◌, ◌/◌, ◌%◌, ◌<◌, ◌≤◌, List, Some, length, length-set, set, replicate, get_or, refl, sym, ap, ◌∙◌, subst, inl, inr, ⊎_elim, arith}
+use Rattle.std.proofs.Common.{◌≡◌, ℕ, zero, suc, ◌+◌, ◌*◌, ◌/◌, ◌%◌, ◌<◌, ◌≤◌, List, Some, length, length-set, set, replicate, refl, sym, ap, ◌∙◌, subst, inl, inr, ⊎_elim, arith}
 use Rattle.std.proofs.lemmas.Bool.{cases_eq}
 use Rattle.dd_ends.specs.Changes.{IsAlone}
+use Rattle.dd_ends.specs.Classes.{share_in}
 use Rattle.dd_ends.specs.Ends.{IsInside}
 use Rattle.dd_ends.specs.PathEnd.{PathEnd}
 use Rattle.dd_ends.specs.Sides.{end_of, path_end}
@@ -22,7 +23,7 @@ pub record IsOwn (t : ClassShares) (k : ℕ) (ends : ℕ → PathEnd) (x : ℕ) 
 abbrev pub AreOwn : ClassShares → ℕ → (ℕ → PathEnd) → Type 0
 AreOwn t k ends = (x : ℕ) → 1 ≤ (ends x).chambers → IsOwn t k ends x
 
-pub alone_of_own : (t : ClassShares) (k : ℕ) (ends : ℕ → PathEnd) (x : ℕ) → IsOwn t k ends x → IsAlone k (get_or t.open_paths 1 0) ends x
+pub alone_of_own : (t : ClassShares) (k : ℕ) (ends : ℕ → PathEnd) (x : ℕ) → IsOwn t k ends x → IsAlone k (share_in t.weights 1) ends x
 alone_of_own t k ends x own =
     let other : (ends x).other ≡ own.mate = ap (λ (e : PathEnd). e.other) own.is in record {
       inside = own.inside;

@@ -2,7 +2,7 @@
 use Rattle.std.proofs.Common.{◌≡◌, ℕ, ◌+◌, ◌*◌, ◌%◌, ◌<◌, ◌≤◌, ◌⊎◌, Bool, true, false, cond, ltb, IsTrue, IsFalse, refl, sym, ap, ◌∙◌, subst, ⊎_elim, arith}
 use Rattle.std.proofs.lemmas.Bool.{cases_eq, cases_lt, ne_eqb, lt-ltb, le-ltb}
 use Rattle.std.specs.Prelude.{nat_eq, not}
-use Rattle.std.proofs.Math.Nat.{mul-le-mul_right}
+use Rattle.std.proofs.Math.Nat.{mul-le-mul, mul-le-mul_right}
 use Rattle.dd_model.specs.Symbol.{Symbol}
 use Rattle.dd_model.specs.declared.pair.Pair.TheVariants.{Tile, Vertex}
 use Rattle.dd_model.specs.declared.pair.Pair.{Pair}
@@ -27,11 +27,16 @@ sum_small t P test total small sum =
     let most : P.size * share_unit ≤ 36 * share_unit = mul-le-mul_right share_unit small in
     omega (arith, all, most)
 
--- where the share of a chamber is 0 nothing is sought
-pub none_with_share : (q : Request) (P : Symbol) (p : Pair) (d v : ℕ) → IsShare q P p share_unit d v → IsFalse (not (nat_eq v 0)) → (s : Symbol) → IsSought q P s → ⊥
-none_with_share q P p d v is zero_ = ⊎_elim
+-- where the chambers of a path have nothing together, nothing is sought
+pub none_with_weight : (q : Request) (P : Symbol) (p : Pair) (d n v w : ℕ) → 1 ≤ n → w ≡ n * v → IsFalse (not (nat_eq w 0)) → IsShare q P p share_unit d v
+    → (s : Symbol) → IsSought q P s → ⊥
+none_with_weight q P p d n v w some all zero_ is = ⊎_elim
     (λ none. none_sought q P p d (subst (IsShare q P p share_unit d) none is))
-    (λ some. absurd (let yes = ne_eqb v 0 some in (cc)))
+    (λ any.
+    let more : 1 ≤ v = omega (arith, any) in
+    let least : 1 * 1 ≤ n * v = mul-le-mul some more in
+    let positive : w ≡ 0 → ⊥ = λ no. absurd (omega (arith, no, all, least)) in
+    absurd (let yes = ne_eqb w 0 positive in (cc)))
     (cases_eq v 0)
 
 -- in no table everything holds
@@ -62,7 +67,7 @@ module _ (t : ClassShares) (P : Symbol) (side : Side) (kept : IsSide t P side) w
       let mine = end_chambers t (ends_of t side) end in
       omega (arith, within, mine, small)
 
-  pub sum_capped : (t.pair ≡ Tile) ⊎ (t.pair ≡ Vertex) → {x m a : ℕ} → IsAnEnd t (ends_of t side) x m a → a % 64 ≤ 36 → (v : ℕ) → IsCappedShare t.request t.pair t.open_paths a v
+  pub sum_capped : (t.pair ≡ Tile) ⊎ (t.pair ≡ Vertex) → {x m a : ℕ} → IsAnEnd t (ends_of t side) x m a → a % 64 ≤ 36 → (v : ℕ) → IsCappedShare t.request t.pair t.weights a v
       → (test : Symbol → Bool) (more : ℕ) → IsJoin (Passes P test) t.pair x x → more + class_weight t a ≡ side.total + a % 64 * v → IsSumOf t P test more
   sum_capped which {x} {m} {a} end few v share test more join sum = ⊎_elim
       (λ low. record {
@@ -112,7 +117,7 @@ module _ (t : ClassShares) (P : Symbol) (side : Side) (kept : IsSide t P side) w
     far_end : ℕ → ℕ → PathEnd
     far_end k mate = cond (ltb k 64) (path_end t mate (joined_class a b)) (path_end t 0 0)
 
-    pub sum_connected : (t.pair ≡ Tile) ⊎ (t.pair ≡ Vertex) → a % 64 + b % 64 ≤ 36 → (v : ℕ) → IsJoinedShare t.request t.pair t.open_paths a b v → (test : Symbol → Bool) (more : ℕ)
+    pub sum_connected : (t.pair ≡ Tile) ⊎ (t.pair ≡ Vertex) → a % 64 + b % 64 ≤ 36 → (v : ℕ) → IsJoinedShare t.request t.pair t.weights a b v → (test : Symbol → Bool) (more : ℕ)
         → IsJoin (Passes P test) t.pair x y → more + (class_weight t a + class_weight t b) ≡ side.total + (a % 64 + b % 64) * v → IsSumOf t P test more
     unfolding far_end
     sum_connected which few v share test more join sum = record {

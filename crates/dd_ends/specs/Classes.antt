@@ -15,18 +15,36 @@ joined_class a b = cond (leb 128 (a + b)) (a + b - 64) (a + b)
 abbrev pub turns_of : ℕ → ℕ
 turns_of c = cond (leb 64 c) (c % 64) ((c + 1) / 2)
 
--- a share for each class of paths
-pub record AreOpenShares (q : Request) (p : Pair) (shares : List ℕ) : Type 0 where
-  pub each : (c : ℕ) → c < 128 → 1 ≤ c % 64 → IsShareFrom q p (turns_of c) (get_or shares c 0)
-
 -- a share that is right for each degree of a cell of so many turns that a request allows
 pub record IsWholeShare (q : Request) (p : Pair) (turns v : ℕ) : Type 0 where
   pub right : (b : ℕ) → IsCrystallographic b → IsAllowed q p (b * turns) → share_unit ≤ v * (b * turns)
   pub small : v ≤ share_unit
 
--- a share for each number of turns of a cell
-pub record AreWholeShares (q : Request) (p : Pair) (shares : List ℕ) : Type 0 where
-  pub each : (turns : ℕ) → 1 ≤ turns → turns ≤ 36 → IsWholeShare q p turns (get_or shares turns 0)
+-- A share that is right for the paths with ends of a class. From 129 on a number stands for the whole cells of 1, 2, 3 turns and so
+-- on: it is the sum of the classes of two paths with fixed ends that make such a chain.
+pub record IsClassShare (q : Request) (p : Pair) (c v : ℕ) : Type 0 where
+  pub with_ends : c < 128 → 1 ≤ c % 64 → IsShareFrom q p (turns_of c) v
+  pub whole : (turns : ℕ) → 1 ≤ turns → turns ≤ 36 → c ≡ 128 + turns → IsWholeShare q p turns v
+  pub small : v ≤ share_unit
+
+-- what the chambers of a path of a class have together, or as many of such a whole cell as it has turns: each has its share
+pub record IsClassWeight (q : Request) (p : Pair) (c w : ℕ) : Type 0 where
+  pub told : IsClassShare q p c (w / (c % 64))
+  pub whole : w ≡ c % 64 * (w / (c % 64))
+
+-- what they have for each class
+pub record AreClassWeights (q : Request) (p : Pair) (weights : List ℕ) : Type 0 where
+  pub each : (c : ℕ) → c < 192 → IsClassWeight q p c (get_or weights c 0)
+
+-- the share of each chamber of a path of a class
+abbrev pub share_in : List ℕ → ℕ → ℕ
+share_in weights c = get_or weights c 0 / (c % 64)
+
+-- what so many chambers have together, where each has the same share
+pub record IsWeightOf (P : ℕ → Type 0) (chambers w : ℕ) : Type 0 where
+  pub share : ℕ
+  pub right : P share
+  pub all : w ≡ chambers * share
 
 -- ## Paths without ends
 
@@ -40,11 +58,11 @@ pub record IsClosedShare (q : Request) (p : Pair) (c v : ℕ) : Type 0 where
   pub small : v ≤ share_unit
 
 -- the share after an involution has fixed the end of a path of a class, which closes it where the other end is fixed
-pub record IsCappedShare (q : Request) (p : Pair) (open_paths : List ℕ) (c v : ℕ) : Type 0 where
+pub record IsCappedShare (q : Request) (p : Pair) (weights : List ℕ) (c v : ℕ) : Type 0 where
   pub closed : 64 ≤ c → IsClosedShare q p c v
-  pub goes_on : c < 64 → v ≡ get_or open_paths (64 + c % 64) 0
+  pub goes_on : c < 64 → v ≡ share_in weights (64 + c % 64)
 
 -- the share after an involution has joined the ends of paths of two classes, which closes them where both other ends are fixed
-pub record IsJoinedShare (q : Request) (p : Pair) (open_paths : List ℕ) (a b v : ℕ) : Type 0 where
+pub record IsJoinedShare (q : Request) (p : Pair) (weights : List ℕ) (a b v : ℕ) : Type 0 where
   pub closed : 64 ≤ a → 64 ≤ b → IsClosedShare q p (joined_class a b) v
-  pub goes_on : (a < 64) ⊎ (b < 64) → v ≡ get_or open_paths (joined_class a b) 0
+  pub goes_on : (a < 64) ⊎ (b < 64) → v ≡ share_in weights (joined_class a b)

@@ -1,9 +1,10 @@
 -- The ends of the paths of a pair as they are kept.
-use Rattle.std.specs.Prelude.{◌≡◌, ℕ, ◌*◌, ◌/◌, ◌%◌, ◌≤◌, Bool, true, leb, get_or, slice_get}
+use Rattle.std.specs.Prelude.{◌≡◌, ℕ, ◌*◌, ◌/◌, ◌%◌, ◌≤◌, Bool, true, leb, slice_get}
 use Rattle.std.specs.declared.option.Option.{Option}
 use Rattle.std.specs.declared.option.Option.TheVariants.{None, Some}
 use Rattle.dd_model.specs.declared.pair.Pair.{Pair}
 use Rattle.dd_model.specs.Symbol.{Symbol}
+use Rattle.dd_ends.specs.Classes.{share_in}
 use Rattle.dd_ends.specs.Ends.{led}
 use Rattle.dd_ends.specs.Passing.{AreEndsOf}
 use Rattle.dd_ends.specs.PathEnd.{PathEnd}
@@ -13,11 +14,11 @@ use Rattle.dd_ends.specs.declared.side.Side.{Side}
 
 -- an end of a path of a class, with the other one
 abbrev pub path_end : ClassShares → ℕ → ℕ → PathEnd
-path_end t other class = record { other = other; chambers = class % 64; is_capped = leb 64 class; share = get_or t.open_paths class 0 }
+path_end t other class = record { other = other; chambers = class % 64; is_capped = leb 64 class; share = share_in t.weights class }
 
 -- what the chambers of a path of a class have together
 abbrev pub class_weight : ClassShares → ℕ → ℕ
-class_weight t class = class % 64 * get_or t.open_paths class 0
+class_weight t class = class % 64 * share_in t.weights class
 
 -- what stands at a flag
 abbrev pub end_of : ClassShares → Option End → PathEnd

@@ -1,5 +1,5 @@
 ghost use Rattle.std.specs.Prelude.{◌≡◌, ◌+◌, ◌%◌, ◌≤◌, ◌<◌, ◌↔◌, ℕ, IsTrue};
-ghost use Rattle.dd_ends.specs.Classes.{joined_class, AreClosedTurns};
+ghost use Rattle.dd_ends.specs.Classes.{joined_class};
 
 /// What is known of a path in one number: how many chambers it has, and 64 more where an involution
 /// is known to fix one of them; 0 where there is no path.
@@ -40,35 +40,14 @@ impl Class {
         usize::from(self.number)
     }
 
-    /// The turns of a cell that has these chambers and no others: as many where an involution fixes
-    /// one of them, and else half as many.
-    pub(crate) fn closed_turns(self) -> u8
-        ensures turns { (turns : ℕ) → 1 ≤ turns → turns ≤ 36
-            → AreClosedTurns self.number turns → result ≡ turns }
-        ensures some { 1 ≤ result }
-        ensures small { result ≤ 36 }
-    {
-        let chambers = self.chambers();
-        let turns = if self.is_capped() {
-            chambers
-        } else {
-            chambers / 2
-        };
-        turns.clamp(1, 36)
-    }
-
     /// The class of two paths in one.
     pub(crate) fn joined(self, other: Class) -> Class
         requires { self.number % 64 + other.number % 64 < 64 }
         ensures { result.number ≡ joined_class self.number other.number }
     {
         let number = self.number + other.number;
-        if number < 128 {
-            Class { number }
-        } else {
-            Class {
-                number: number - 64,
-            }
+        Class {
+            number: number - number / 128 * 64,
         }
     }
 

@@ -11,11 +11,11 @@ use dd_shares::{SHARE_UNIT, WholeCell};
 /// and where it has to look, and no clause reads it.
 #[derive(Clone, Copy, Drop)]
 pub(crate) struct Counts {
-    cells: u32,
-    chambers: u32,
+    cells: u8,
+    chambers: u8,
     most: u64,
-    fixed_ends: u32,
-    fixed: u64,
+    fixed_ends: u8,
+    pub(crate) fixed: u64,
     closed: u64,
 }
 
@@ -37,52 +37,50 @@ impl Counts {
         }
     }
 
-    /// For each chamber at which a census has to look, how many come before it, as bits.
-    pub(crate) fn marked(&self, table: &Rows, pair: Pair) -> u64
+    /// For the least chamber of each whole cell, how many come before it, as bits.
+    pub(crate) fn least_chambers(&self, table: &Rows, pair: Pair) -> u64
         requires { IsReady table.now }
     {
-        let mut marked = self.fixed;
+        let mut cells = 0;
         let mut closed = self.closed;
         while closed != 0 {
             let k = closed.trailing_zeros() as u8;
             closed &= closed - 1;
             if k < table.size() {
                 if let Some(cell) = WholeCell::from(table, pair, k + 1, 1) {
-                    marked |= bit(cell.least);
+                    cells |= bit(cell.least);
                 }
             }
         }
-        marked
+        cells
     }
 
     /// After a chamber at the end of a path was fixed.
-    pub(crate) fn cap(&mut self, class: Class, chamber: u8, share: u64) {
+    pub(crate) fn cap(&mut self, class: Class, chamber: u8, weight: u64) {
         self.fixed |= bit(chamber);
         if class.is_capped() {
             self.fixed_ends = self.fixed_ends.wrapping_sub(1);
-            self.close(class.chambers(), chamber, share);
+            self.close(class.chambers(), chamber, weight);
         } else {
             self.fixed_ends = self.fixed_ends.wrapping_add(1);
         }
     }
 
     /// After the ends of two paths were joined at a chamber.
-    pub(crate) fn connect(&mut self, one: Class, other: Class, chamber: u8, share: u64) {
+    pub(crate) fn connect(&mut self, one: Class, other: Class, chamber: u8, weight: u64) {
         if one.is_capped() && other.is_capped() {
             self.fixed_ends = self.fixed_ends.wrapping_sub(2);
             let chambers = one.chambers().wrapping_add(other.chambers());
-            self.close(chambers, chamber, share);
+            self.close(chambers, chamber, weight);
         }
     }
 
-    /// After a path with so many chambers, each with a share, became whole at one of them.
-    pub(crate) fn close(&mut self, chambers: u8, chamber: u8, share: u64) {
+    /// After a path with so many chambers, and what they have together, became whole at one of them.
+    pub(crate) fn close(&mut self, chambers: u8, chamber: u8, weight: u64) {
         self.closed |= bit(chamber);
         self.cells = self.cells.wrapping_add(1);
-        self.chambers = self.chambers.wrapping_add(u32::from(chambers));
-        self.most = self
-            .most
-            .wrapping_add(u64::from(chambers).wrapping_mul(share));
+        self.chambers = self.chambers.wrapping_add(chambers);
+        self.most = self.most.wrapping_add(weight);
     }
 
     /// What all cells add at most, as a census would tell it; None where there are more than a limit
@@ -91,14 +89,15 @@ impl Counts {
         if limit == 0 || limit > 36 {
             return Some(u64::MAX);
         }
-        if self.cells > limit {
+        let cells = u32::from(self.cells);
+        if cells > limit {
             return None;
         }
-        let left = limit - self.cells;
-        if left == 0 && self.chambers < u32::from(size) {
+        let left = limit - cells;
+        if left == 0 && self.chambers < size {
             return None;
         }
-        let chains = self.fixed_ends.wrapping_add(1) / 2;
+        let chains = u32::from(self.fixed_ends.wrapping_add(1) / 2);
         if chains > left {
             return None;
         }

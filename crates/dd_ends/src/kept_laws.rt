@@ -8,9 +8,8 @@ ghost use Rattle.dd_invol.specs.Rows.{partial_of, depth_of, unwound};
 ghost use Rattle.dd_invol.specs.declared.rows.Rows.{Rows};
 ghost use Rattle.dd_shares.specs.Shares.{IsSought};
 ghost use Rattle.dd_ends.specs.Census.{IsCensus, HasRoom};
-ghost use Rattle.dd_ends.specs.Kept.{AreKept};
+ghost use Rattle.dd_ends.specs.Kept.{Shares, AreKept};
 ghost use Rattle.dd_ends.specs.declared.limits.Census.{Census};
-ghost use Rattle.dd_ends.specs.declared.shares.Shares.{Shares};
 
 /// The shares of a table are shares of each table that it is filled to.
 pub fn shares_stay_while_a_table_is_filled()

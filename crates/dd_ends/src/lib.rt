@@ -10,7 +10,6 @@ mod laws;
 mod limits;
 mod link;
 mod path_shares;
-mod shares;
 mod side;
 mod sides;
 
@@ -21,5 +20,4 @@ pub use laws::{
     the_total_of_the_ends_bounds_the_shares, what_holds_of_some_tables_holds_of_fewer,
 };
 pub use path_shares::PathShares;
-pub use shares::Shares;
 pub use sides::Sides;

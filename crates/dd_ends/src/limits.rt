@@ -55,9 +55,9 @@ impl Census {
         }
     }
 
-    /// With what the chamber after k tells, and its cell, where the chamber is the least of a whole
-    /// one.
-    fn add(&mut self, shares: &ClassShares, table: &Rows, k: u8)
+    /// With what the chamber after k tells, and its cell, where that is to be looked at and the chamber
+    /// is the least of a whole one.
+    fn add(&mut self, shares: &ClassShares, table: &Rows, k: u8, with_cell: bool)
         requires ready { IsReady table.now }
         requires pair { (shares.now.pair ≡ Tile) ⊎ (shares.now.pair ≡ Vertex) }
         requires low { k < (partial_of table.now).size }
@@ -70,7 +70,7 @@ impl Census {
         let beside = table.known(shares.pair.first(), chamber);
         let across = table.known(shares.pair.second(), chamber);
         self.fixed += u32::from(beside == chamber) + u32::from(across == chamber);
-        if beside < chamber || across < chamber {
+        if !with_cell || beside < chamber || across < chamber {
             return;
         }
         let Some(cell) = WholeCell::from(table, shares.pair, chamber, chamber) else {
@@ -80,7 +80,7 @@ impl Census {
         self.cells += 1;
         self.chains += cell.chains();
         self.chambers += u32::from(chambers);
-        self.most += u64::from(chambers) * shares.whole(cell.turns);
+        self.most += shares.whole(&cell);
     }
 
     /// Whether there are more cells than a limit allows: more are whole, or as many are and leave
@@ -93,9 +93,9 @@ impl Census {
         self.cells > limit || self.cells == limit && self.chambers < u32::from(size)
     }
 
-    /// What some chambers tell, up to the first that tells of more cells than a limit allows. For
-    /// each of them how many come before it is given, as bits.
-    fn of(shares: &ClassShares, table: &Rows, mut marked: u64, limit: u32) -> Census
+    /// What some chambers tell, and the cells of others, up to the first that tells of more cells than
+    /// a limit allows. For each of them how many come before it is given, as bits.
+    fn of(shares: &ClassShares, table: &Rows, fixed: u64, cells: u64, limit: u32) -> Census
         requires ready { IsReady table.now }
         requires pair { (shares.now.pair ≡ Tile) ⊎ (shares.now.pair ≡ Vertex) }
         ensures census { IsCensus shares.now.request (partial_of table.now) shares.now.pair
@@ -104,11 +104,12 @@ impl Census {
     {
         let mut census = Census::none();
         let mut seen = 0;
+        let mut marked = fixed | cells;
         while marked != 0 && !census.exceeds(limit, table.size()) {
             let k = marked.trailing_zeros() as u8;
             marked &= marked - 1;
             if seen <= k && k < table.size() {
-                census.add(shares, table, k);
+                census.add(shares, table, k, (cells >> k) & 1 == 1);
                 seen = k + 1;
             }
         }
@@ -140,6 +141,7 @@ impl Side {
     /// The total of a pair, or less where a request sets a limit: whole cells add what they add, a
     /// further chain at most SHARE_UNIT, and a further cycle at most twice that. None where there
     /// are more cells than the limit allows.
+    #[inline(always)]
     pub(crate) fn limited(&self, shares: &ClassShares, table: &Rows) -> Option<u64>
         requires ready { IsReady table.now }
         requires pair { (shares.now.pair ≡ Tile) ⊎ (shares.now.pair ≡ Vertex) }
@@ -154,8 +156,24 @@ impl Side {
         if limit == 0 || limit > 36 {
             return Some(self.total);
         }
-        let marked = self.counts.marked(table, shares.pair);
-        let census = Census::of(shares, table, marked, limit);
+        self.counted(shares, table, limit)
+    }
+
+    /// The same where no more cells than a limit are asked for.
+    fn counted(&self, shares: &ClassShares, table: &Rows, limit: u32) -> Option<u64>
+        requires ready { IsReady table.now }
+        requires pair { (shares.now.pair ≡ Tile) ⊎ (shares.now.pair ≡ Vertex) }
+        requires kept { IsSide shares.now (partial_of table.now) self.now }
+        requires limit { (1 ≤ limit) × (limit ≤ 36) }
+        requires asked { (s : Tiling) → Wanted shares.now.request s → AtMost s shares.now.pair limit }
+        ensures none { IfNone result ((s : Tiling)
+            → ¬ IsSought shares.now.request (partial_of table.now) s) }
+        ensures total { IfSome result (IsTotal shares.now.request (partial_of table.now)
+            shares.now.pair share_unit) }
+        ensures small { IfSome result (λ total. total ≤ 36 * share_unit) }
+    {
+        let cells = self.counts.least_chambers(table, shares.pair);
+        let census = Census::of(shares, table, self.counts.fixed, cells, limit);
         let Some(bound) = census.bound(limit, table.size()) else {
             return None;
         };

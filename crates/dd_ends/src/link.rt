@@ -17,11 +17,7 @@ pub(crate) struct Link {
 fn index_of(place: u8) -> Index
     ensures { result ≡ index_at (place % 3) }
 {
-    match place % 3 {
-        0 => Index::Zero,
-        1 => Index::One,
-        _ => Index::Two,
-    }
+    Index::ALL[usize::from(place % 3)]
 }
 
 impl Link {

@@ -2,7 +2,7 @@ ghost use Rattle.std.specs.Prelude.{◌≡◌, ◌≢◌, ◌⊎◌, ℕ, ◌+�
 ghost use Rattle.dd_model.specs.Symbol.{Symbol as Tiling};
 ghost use Rattle.dd_model.specs.declared.pair.Pair.TheVariants.{Tile, Vertex};
 ghost use Rattle.dd_invol.specs.Rows.{partial_of, IsReady};
-ghost use Rattle.dd_shares.specs.Shares.{IsShare, IsSought};
+ghost use Rattle.dd_shares.specs.Shares.{IsSought};
 ghost use Rattle.dd_shares.specs.Units.{share_unit};
 ghost use Rattle.dd_ends.specs.Classes.{joined_class};
 ghost use Rattle.dd_ends.specs.Passing.{Passes};
@@ -56,16 +56,15 @@ impl Side {
         self.ends[usize::from(flag)]
     }
 
-    /// The total where paths that had so much have become one, whose chambers have a share.
+    /// The total where paths that had so much have become one that has so much.
     #[inline(always)]
-    fn total_after(&self, had: u64, chambers: u8, share: u64) -> u64
+    fn total_after(&self, had: u64, has: u64) -> u64
         requires total { self.now.total ≤ 36 * share_unit }
         requires had { had ≤ self.now.total }
-        requires few { chambers < 64 }
-        requires small { share ≤ share_unit }
-        ensures { result + had ≡ self.now.total + chambers * share }
+        requires has { has ≤ 64 * share_unit }
+        ensures { result + had ≡ self.now.total + has }
     {
-        self.total - had + u64::from(chambers) * share
+        self.total - had + has
     }
 
     /// The total where two flags are joined.
@@ -87,46 +86,47 @@ impl Side {
         }
         let had = shares.weight(one);
         if x == y {
-            return self.total_after(had, one.chambers(), shares.capped(one));
+            return self.total_after(had, shares.capped(one));
         }
         if end.other == y {
-            return self.total_after(had, one.chambers(), shares.closed(one));
+            return self.total_after(had, shares.closed(one));
         }
         let other = self.end(y).class;
         if other.chambers() == 0 {
             return self.total;
         }
-        let chambers = one.chambers() + other.chambers();
-        let share = shares.joined(one, other);
-        self.total_after(had + shares.weight(other), chambers, share)
+        self.total_after(had + shares.weight(other), shares.joined(one, other))
     }
 
-    /// Fixes the end of a path, which closes it where the other one is fixed. Tells the share of its
-    /// chambers.
-    fn cap(&mut self, shares: &ClassShares, x: u8) -> u64
+    /// Fixes the end of a path, which closes it where the other one is fixed. False where no wanted
+    /// symbol completes the table, since the request allows the closed path no degree.
+    #[inline(always)]
+    fn cap(&mut self, shares: &ClassShares, x: u8) -> bool
         requires pair { (shares.now.pair ≡ Tile) ⊎ (shares.now.pair ≡ Vertex) }
         requires flag { x < 74 }
         requires some { IsSideOfSome shares.now self.old }
         requires live { 1 ≤ (ends_of shares.now self.old x).chambers }
         ensures side { (partial : Tiling) → IsJoin (Passes partial (λ _. true)) shares.now.pair x x
             → IsSide shares.now partial self.old → IsSide shares.now partial self.new }
-        ensures share { (partial : Tiling) → IsJoin (Passes partial (λ _. true)) shares.now.pair x x
-            → IsSide shares.now partial self.old
-            → IsShare shares.now.request partial shares.now.pair share_unit (x / 2) result }
+        ensures dead { IsFalse result → (partial : Tiling)
+            → IsJoin (Passes partial (λ _. true)) shares.now.pair x x
+            → IsSide shares.now partial self.old → (s : Tiling)
+            → ¬ IsSought shares.now.request partial s }
     {
         let end = self.end(x);
         let class = end.class;
-        let share = shares.capped(class);
-        self.total = self.total_after(shares.weight(class), class.chambers(), share);
+        let fixed = shares.capped(class);
+        self.total = self.total_after(shares.weight(class), fixed);
         self.ends[usize::from(x)] = End::none();
         self.ends[usize::from(end.other)] = end.beyond(x, class.capped());
-        self.counts.cap(class, x / 2, share);
-        share
+        self.counts.cap(class, x / 2, fixed);
+        fixed != 0
     }
 
-    /// Joins the ends of two paths, which closes them where the other ends are fixed. Tells the share
-    /// of their chambers.
-    fn connect(&mut self, shares: &ClassShares, x: u8, y: u8) -> u64
+    /// Joins the ends of two paths, which closes them where the other ends are fixed. False where no
+    /// wanted symbol completes the table, since the request allows the closed path no degree.
+    #[inline(always)]
+    fn connect(&mut self, shares: &ClassShares, x: u8, y: u8) -> bool
         requires pair { (shares.now.pair ≡ Tile) ⊎ (shares.now.pair ≡ Vertex) }
         requires first { x < 74 }
         requires second { y < 74 }
@@ -137,26 +137,29 @@ impl Side {
         requires no_other { y ≢ (ends_of shares.now self.old x).other }
         ensures side { (partial : Tiling) → IsJoin (Passes partial (λ _. true)) shares.now.pair x y
             → IsSide shares.now partial self.old → IsSide shares.now partial self.new }
-        ensures share { (partial : Tiling) → IsJoin (Passes partial (λ _. true)) shares.now.pair x y
-            → IsSide shares.now partial self.old
-            → IsShare shares.now.request partial shares.now.pair share_unit (x / 2) result }
+        ensures dead { IsFalse result → (partial : Tiling)
+            → IsJoin (Passes partial (λ _. true)) shares.now.pair x y
+            → IsSide shares.now partial self.old → (s : Tiling)
+            → ¬ IsSought shares.now.request partial s }
     {
         let one = self.end(x);
         let other = self.end(y);
         let class = one.class.joined(other.class);
-        let share = shares.joined(one.class, other.class);
+        let together = shares.joined(one.class, other.class);
         let had = shares.weight(one.class) + shares.weight(other.class);
-        self.total = self.total_after(had, class.chambers(), share);
+        self.total = self.total_after(had, together);
         self.ends[usize::from(x)] = End::none();
         self.ends[usize::from(y)] = End::none();
         self.ends[usize::from(one.other)] = one.beyond(other.other, class);
         self.ends[usize::from(other.other)] = other.beyond(one.other, class);
-        self.counts.connect(one.class, other.class, x / 2, share);
-        share
+        self.counts.connect(one.class, other.class, x / 2, together);
+        together != 0
     }
 
-    /// Joins the two ends of a path, which closes it. Tells the share of its chambers.
-    fn close(&mut self, shares: &ClassShares, x: u8, mate: u8) -> u64
+    /// Joins the two ends of a path, which closes it. False where no wanted symbol completes the
+    /// table, since the request allows the closed path no degree.
+    #[inline(always)]
+    fn close(&mut self, shares: &ClassShares, x: u8, mate: u8) -> bool
         requires pair { (shares.now.pair ≡ Tile) ⊎ (shares.now.pair ≡ Vertex) }
         requires first { x < 74 }
         requires second { mate < 74 }
@@ -166,21 +169,23 @@ impl Side {
         requires other { mate ≡ (ends_of shares.now self.old x).other }
         ensures side { (partial : Tiling) → IsJoin (Passes partial (λ _. true)) shares.now.pair x mate
             → IsSide shares.now partial self.old → IsSide shares.now partial self.new }
-        ensures share { (partial : Tiling) → IsJoin (Passes partial (λ _. true)) shares.now.pair x mate
-            → IsSide shares.now partial self.old
-            → IsShare shares.now.request partial shares.now.pair share_unit (x / 2) result }
+        ensures dead { IsFalse result → (partial : Tiling)
+            → IsJoin (Passes partial (λ _. true)) shares.now.pair x mate
+            → IsSide shares.now partial self.old → (s : Tiling)
+            → ¬ IsSought shares.now.request partial s }
     {
         let class = self.end(x).class;
-        let share = shares.closed(class);
-        self.total = self.total_after(shares.weight(class), class.chambers(), share);
+        let whole = shares.closed(class);
+        self.total = self.total_after(shares.weight(class), whole);
         self.ends[usize::from(x)] = End::none();
         self.ends[usize::from(mate)] = End::none();
-        self.counts.close(class.chambers(), x / 2, share);
-        share
+        self.counts.close(class.chambers(), x / 2, whole);
+        whole != 0
     }
 
     /// Joins two flags of which one is led to the other. False where no wanted symbol completes the
     /// table, since the request allows their cell no degree.
+    #[inline(always)]
     pub(crate) fn join(&mut self, shares: &ClassShares, x: u8, y: u8) -> bool
         requires pair { (shares.now.pair ≡ Tile) ⊎ (shares.now.pair ≡ Vertex) }
         requires first { x < 74 }
@@ -198,14 +203,14 @@ impl Side {
             return true;
         }
         if x == y {
-            return self.cap(shares, x) != 0;
+            return self.cap(shares, x);
         }
         if one.other == y {
-            return self.close(shares, x, y) != 0;
+            return self.close(shares, x, y);
         }
         if self.end(y).class.chambers() == 0 {
             return true;
         }
-        self.connect(shares, x, y) != 0
+        self.connect(shares, x, y)
     }
 }

@@ -72,7 +72,8 @@ impl Front {
         ensures same { OnErr result (self.new ≡ self.old) }
     {
         let mut part = self.left()?;
-        let next = position_at(self.alloc, part.get(count as usize))?;
+        let first = part.copy(count as usize)?;
+        let next = position_at(self.alloc, &first)?;
         part.keep(count as usize);
         self.from = next;
         self.lines += u128::from(count);

@@ -4,8 +4,8 @@ ghost use Rattle.dd_model.specs.Request.{IsValid};
 ghost use Rattle.dd_model.specs.Jobs.{IsJobOf, AreMembersUnder, AreChildren};
 ghost use Rattle.dd_model.specs.declared.requests.Request.{Request as Asked};
 
+use dd_list::SymbolList;
 use dd_model::{Job, Memory, Request};
-use dd_symbol::Connected;
 use std::alloc::Global;
 
 /// Finds what is under a job of a catalogue, or splits the job into smaller ones. `Err` comes for
@@ -26,10 +26,10 @@ pub trait Finder {
             (AreMembersUnder (request self.now) job.now [])) };
 
     /// The members of the catalogue under a job, ascending.
-    fn find(&self, alloc: Global, job: &Job) -> Result<Vec<Connected>, Memory>
+    fn find(&self, alloc: Global, job: &Job) -> Result<SymbolList, Memory>
         requires valid { IsValid (request self.now) }
         requires job { IsJobOf (request self.now) job.now }
-        ensures { IfOk result (λ list. AreMembersUnder (request self.now) job.now list.items) };
+        ensures { IfOk result (λ list. AreMembersUnder (request self.now) job.now list) };
 
     /// Jobs with one number more, ascending, at least one; no member is under one that is left out.
     fn split(&self, alloc: Global, job: &Job) -> Result<Vec<Job>, Memory>

@@ -1,4 +1,4 @@
-ghost use Rattle.std.specs.Prelude.{◌≡◌, ◌++◌, ◌≤◌, ◌<◌, [], List, length, take, drop, slice_index_or, IfOk, OnOk};
+ghost use Rattle.std.specs.Prelude.{◌≡◌, ◌++◌, ◌≤◌, ◌<◌, [], List, length, take, drop, slice_index_or, IfOk, OnOk, OnErr};
 ghost use Rattle.std.specs.List.{AllByRecursion};
 ghost use Rattle.dd_model.specs.Symbol.{Symbol, IsSymbol};
 ghost use Rattle.dd_model.specs.Lists.{IsWithout};
@@ -7,6 +7,7 @@ ghost use Rattle.dd_model.specs.Wanted.{IsAscending};
 ghost use Rattle.dd_front.specs.Spans.{IsCut, joined_spans};
 
 use crate::span::Span;
+use dd_list::SymbolList;
 use dd_model::{Memory, Position};
 use dd_symbol::Connected;
 use std::alloc::Global;
@@ -54,13 +55,16 @@ impl Members {
         }
     }
 
-    /// The members of a list, which is moved and not copied.
-    pub fn new(alloc: Global, items: Vec<Connected>) -> Result<Members, Memory>
-        ensures { IfOk result (λ list. list ≡ items.items) }
+    /// The members of a list, which is moved and not copied. Of an empty one nothing is allocated.
+    pub fn new(alloc: Global, list: SymbolList) -> Result<Members, Memory>
+        ensures { IfOk result (λ members. members ≡ list) }
     {
-        let count = items.len();
+        let count = list.len();
+        if count == 0 {
+            return Ok(Members::none(alloc));
+        }
         let mut spans = Vec::with_capacity(alloc, 1)?;
-        spans.push(Span::new(alloc, items)?)?;
+        spans.push(Span::new(alloc, list)?)?;
         Ok(Members { spans, count })
     }
 
@@ -97,9 +101,10 @@ impl Members {
         self.count
     }
 
-    /// Puts other members behind these.
+    /// Puts other members behind these. At `Err` these are as before.
     pub fn append(&mut self, other: Members) -> Result<(), Memory>
-        ensures { OnOk result (self.new ≡ self.old ++ other) }
+        ensures members { OnOk result (self.new ≡ self.old ++ other) }
+        ensures same { OnErr result (self.new ≡ self.old) }
     {
         let Members { mut spans, count } = other;
         // No memory has room for so many that the sum would be too large.
@@ -111,13 +116,13 @@ impl Members {
         Ok(())
     }
 
-    /// The member at a place, counted from 0.
-    pub fn get(&self, place: usize) -> &Connected
+    /// A copy of the member at a place, counted from 0.
+    pub fn copy(&self, place: usize) -> Result<Connected, Memory>
         requires { place < length self.now }
-        ensures { result.now ≡ slice_index_or self.now place result.now }
+        ensures { IfOk result (λ member. member ≡ slice_index_or self.now place member) }
     {
         let (k, rest) = cut(&self.spans, place);
-        &self.spans[k].as_slice()[rest]
+        self.spans[k].symbols().copy(*self.allocator(), rest)
     }
 
     /// Leaves out the first so many members.
@@ -160,8 +165,9 @@ impl Members {
         let all = self.len();
         let mut count = 0;
         for span in &self.spans {
-            for symbol in span.as_slice() {
-                if !symbol.symbol().is_before(at) {
+            let symbols = span.symbols();
+            for k in 0..symbols.len() {
+                if !symbols.is_before(k, at) {
                     return count;
                 }
                 count += 1;

@@ -2,8 +2,8 @@ ghost use Rattle.std.specs.Prelude.{◌≡◌, ◌-◌, ◌≤◌, List, length,
 ghost use Rattle.std.specs.Arc.{arc_value};
 ghost use Rattle.dd_model.specs.Symbol.{Symbol};
 
+use dd_list::{SymbolList, Symbols};
 use dd_model::Memory;
-use dd_symbol::Connected;
 use std::alloc::Global;
 use std::marker::Model;
 use std::sync::Arc;
@@ -12,7 +12,7 @@ use std::sync::Arc;
 /// that what stands in an entry and in a log is there once.
 #[derive(Drop)]
 pub struct Span {
-    items: Arc<Vec<Connected, Global>, Global>,
+    list: Arc<SymbolList, Global>,
     start: usize,
     end: usize,
 }
@@ -20,19 +20,19 @@ pub struct Span {
 impl Model for Span {
     ghost Value = { List Symbol };
 
-    ghost view = { λ a. take (a.end - a.start) (drop a.start (arc_value a.items).items) };
+    ghost view = { λ a. take (a.end - a.start) (drop a.start (arc_value a.list)) };
 
-    ghost invariant = { λ a. (a.start ≤ a.end) × (a.end ≤ length (arc_value a.items).items) };
+    ghost invariant = { λ a. (a.start ≤ a.end) × (a.end ≤ length (arc_value a.list)) };
 }
 
 impl Span {
     /// The members of a list, which is moved and not copied.
-    pub fn new(alloc: Global, items: Vec<Connected>) -> Result<Span, Memory>
-        ensures { IfOk result (λ span. span ≡ items.items) }
+    pub fn new(alloc: Global, list: SymbolList) -> Result<Span, Memory>
+        ensures { IfOk result (λ span. span ≡ list) }
     {
-        let end = items.len();
+        let end = list.len();
         Ok(Span {
-            items: Arc::new(alloc, items)?,
+            list: Arc::new(alloc, list)?,
             start: 0,
             end,
         })
@@ -43,18 +43,18 @@ impl Span {
         ensures { IfOk result (λ span. span ≡ self.now) }
     {
         Ok(Span {
-            items: Arc::try_clone(&self.items)?,
+            list: Arc::try_clone(&self.list)?,
             start: self.start,
             end: self.end,
         })
     }
 
     /// The members in order.
-    pub fn as_slice(&self) -> &[Connected]
-        ensures { result.now ≡ self.now }
+    pub fn symbols(&self) -> Symbols<'_>
+        ensures { result ≡ self.now }
     {
-        let items: &Vec<Connected> = &self.items;
-        &items[self.start..self.end]
+        let list: &SymbolList = &self.list;
+        list.range(self.start, self.end)
     }
 
     /// How many members there are.

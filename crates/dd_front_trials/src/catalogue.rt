@@ -3,7 +3,7 @@ ghost use Rattle.dd_model.specs.Request.{IsValid};
 
 use crate::plain_front::Span;
 use dd_front::Members;
-use dd_model::{Code, Job, Request};
+use dd_model::{Code, Job, Memory, Request};
 use dd_plain::plain_catalogue;
 use dd_symbol::{Connected, cmp_code};
 use std::alloc::Global;
@@ -62,17 +62,18 @@ impl Catalogue {
     }
 
     /// Whether a list has the members at these places.
-    pub(crate) fn has(&self, list: &Members, (first, end): Span) -> bool {
+    pub(crate) fn has(&self, list: &Members, (first, end): Span) -> Result<bool, Memory> {
         let Some(members) = self.members.as_slice().get(first..end) else {
-            return false;
+            return Ok(false);
         };
+        if members.len() != list.len() {
+            return Ok(false);
+        }
         for (k, member) in members.iter().enumerate() {
-            if k >= list.len()
-                || cmp_code(member.symbol(), list.get(k).symbol()) != Ordering::Equal
-            {
-                return false;
+            if cmp_code(member.symbol(), list.copy(k)?.symbol()) != Ordering::Equal {
+                return Ok(false);
             }
         }
-        members.len() == list.len()
+        Ok(true)
     }
 }

@@ -75,7 +75,7 @@ fn resume(front: &mut Front) -> Result<bool, Memory> {
     Ok(true)
 }
 
-fn is_job_of(request: &Request, job: &Job) -> bool
+pub(crate) fn is_job_of(request: &Request, job: &Job) -> bool
     ensures { OnTrue result (IsJobOf request.now job.now) }
 {
     job.size >= 1
@@ -84,7 +84,7 @@ fn is_job_of(request: &Request, job: &Job) -> bool
 }
 
 fn finish_none(alloc: Global, front: &mut Front) -> Result<(), Memory> {
-    let list = Members::new(alloc, Vec::new(alloc))?;
+    let list = Members::none(alloc);
     front.step(Event::Finish {
         worker: 1,
         entry: 0,
@@ -109,7 +109,7 @@ fn finish_job(alloc: Global, front: &mut Front, entry: u64, job: &Job) -> Result
 }
 
 fn finish(alloc: Global, front: &mut Front, entry: u64) -> Result<bool, Fail> {
-    let list = Members::new(alloc, Vec::new(alloc))?;
+    let list = Members::none(alloc);
     let event = Event::Finish {
         worker: 1,
         entry,

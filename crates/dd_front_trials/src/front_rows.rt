@@ -1,8 +1,7 @@
-ghost use Rattle.std.specs.Prelude.{◌≡◌, IfOk};
-
-use dd_front::{Event, Front, Members};
+use crate::front_events::is_job_of;
+use dd_branch::Search;
+use dd_front::{Event, Finder, Front, Members};
 use dd_model::{Allowed, Job, Memory, Position, Prefix, Request};
-use dd_symbol::{Connected, build};
 use std::alloc::Global;
 use std::test::Fail;
 
@@ -92,33 +91,32 @@ fn nothing_is_emitted_of_an_open_entry(rt: HostRuntime) -> Result<(), Fail> {
     Ok(())
 }
 
-fn list(alloc: Global, numbers: &[u32]) -> Result<Vec<u32>, Memory>
-    ensures { IfOk result (λ list. list.items ≡ numbers.now) }
-{
-    Ok(Vec::from_slice(alloc, numbers)?)
-}
-
-/// The symbol of one chamber with both degrees 4.
-fn square(alloc: Global) -> Result<Connected, Fail> {
-    let ops = [list(alloc, &[1])?, list(alloc, &[1])?, list(alloc, &[1])?];
-    Ok(build(alloc, ops, list(alloc, &[4])?, list(alloc, &[4])?, 1)?)
-}
-
-/// So many squares.
-fn squares(alloc: Global, count: usize) -> Result<Members, Fail> {
-    let mut symbols = Vec::new(alloc);
-    for _ in 0..count {
-        symbols.push(square(alloc)?)?;
+/// The three symbols of one chamber, which are all under the job of its table.
+fn singles(alloc: Global) -> Result<Members, Fail> {
+    let request = asked();
+    let job = job(alloc, 1, &[1, 1, 1])?;
+    if !request.is_valid() || !is_job_of(&request, &job) {
+        return Err(Fail::new("a job of another request"));
     }
-    Ok(Members::new(alloc, symbols)?)
+    let list = Search::new(&request).find(alloc, &job)?;
+    Ok(Members::new(alloc, list)?)
+}
+
+/// The first so many of them.
+fn first_singles(alloc: Global, count: usize) -> Result<Members, Fail> {
+    let mut members = singles(alloc)?;
+    if count <= members.len() {
+        members.keep(count);
+    }
+    Ok(members)
 }
 
 // Two spans of two and of one member: what is left out or not kept takes whole spans along.
 #[test]
 fn members_are_joined_and_parted(rt: HostRuntime) -> Result<(), Fail> {
     let alloc = rt.alloc();
-    let mut members = squares(alloc, 2)?;
-    members.append(squares(alloc, 1)?)?;
+    let mut members = first_singles(alloc, 2)?;
+    members.append(first_singles(alloc, 1)?)?;
     let (mut end, mut part) = (members.share()?, members.share()?);
     if end.len() == 3 && part.len() == 3 {
         end.skip(2);

@@ -66,7 +66,7 @@ fn outcome_of(
     }
     let span = plain.act(action, deed.parts.as_slice())?;
     let same = match &deed.emitted {
-        Some(list) => catalogue.has(list, span),
+        Some(list) => catalogue.has(list, span)?,
         None => span == (0, 0),
     };
     Ok(if same && agrees(front, plain) {

@@ -6,8 +6,8 @@ ghost use Rattle.dd_model.specs.declared.requests.Request.{Request as Asked};
 ghost use Rattle.dd_invol.specs.Under.{HasNothingUnder, AreUnder, Appends};
 ghost use Rattle.dd_invol.specs.Search.{GoesOn};
 
+use dd_list::SymbolList;
 use dd_model::Memory;
-use dd_symbol::Connected;
 
 /// A prefix of codes of one size, with what a search keeps to tell early that nothing is under it.
 /// A number is put at its end and taken away again, in place.
@@ -73,25 +73,25 @@ pub trait PrefixSearch {
 /// A search that collects what is under whole prefixes.
 pub trait CollectingSearch: PrefixSearch {
     /// Adds what is under a whole prefix.
-    fn add(&mut self, list: &mut Vec<Connected>) -> Result<(), Memory>
+    fn add(&mut self, list: &mut SymbolList) -> Result<(), Memory>
         requires valid { Self.valid self.old }
         requires whole { length (Self.prefix self.old) ≡ Self.end (Self.size self.old) }
         ensures same { OnOk result (self.new ≡ self.old) }
         ensures list { OnOk result (Appends
             (AreUnder (Self.wanted (Self.request self.old)) (Self.size self.old)
             (Self.prefix self.old))
-            list.old.items list.new.items) };
+            list.old list.new) };
 }
 
 /// Adds what is under the prefix of a search.
-pub fn find<T: CollectingSearch>(search: &mut T, list: &mut Vec<Connected>) -> Result<(), Memory>
+pub fn find<T: CollectingSearch>(search: &mut T, list: &mut SymbolList) -> Result<(), Memory>
     requires valid { T.valid search.old }
     requires end { T.end (T.size search.old) ≤ 5 * T.size search.old }
     requires short { length (T.prefix search.old) ≤ T.end (T.size search.old) }
     ensures same { OnOk result (search.new ≡ search.old) }
     ensures list { OnOk result (Appends
         (AreUnder (T.wanted (T.request search.old)) (T.size search.old) (T.prefix search.old))
-        list.old.items list.new.items) }
+        list.old list.new) }
 {
     if search.is_whole() {
         return search.add(list);

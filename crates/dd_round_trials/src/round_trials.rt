@@ -11,7 +11,7 @@ use dd_model::{Job, Memory, Request};
 use dd_ports::{Gate, OpenGate};
 use dd_rack::{Hand, Rack};
 use dd_steal::{Ended, run_round, work};
-use dd_text::put_lines;
+use dd_text::put_list;
 use std::alloc::Global;
 use std::marker::Brand;
 use std::process::Abort;
@@ -52,7 +52,7 @@ fn lines_of(alloc: Global, entries: &[Entry]) -> Result<Vec<u8>, Memory> {
     for entry in entries {
         if let State::Done(list) = &entry.state {
             for span in list.spans() {
-                put_lines(&mut lines, count, span.as_slice())?;
+                put_list(&mut lines, count, &span.symbols())?;
                 count = count.saturating_add(span.len() as u64);
             }
         }

@@ -2,9 +2,9 @@ ghost use Rattle.std.specs.Prelude.{◌≡◌, ◌*◌, ◌<◌, ◌≤◌};
 ghost use Rattle.dd_invol.specs.Rows.{partial_of, IsReady};
 ghost use Rattle.dd_invol.specs.Stem.{IsStem};
 ghost use Rattle.dd_invol.specs.Visit.{IsVisiting};
-ghost use Rattle.dd_ends.specs.Kept.{AreKept};
+ghost use Rattle.dd_ends.specs.Kept.{AreSides};
 
-use dd_ends::{PathShares, Shares};
+use dd_ends::{PathShares, Sides};
 use dd_invol::{Rows, Stem, Visit};
 use dd_model::{Allowed, Request};
 use dd_shares::parity_rules_out;
@@ -31,7 +31,7 @@ fn is_empty(tiles: u32, least: u32, size: u8) -> bool
 {
     let rows = Rows::empty(size);
     let classes = PathShares::of(&asked(tiles, least));
-    Shares::start(&classes, size).rules_out(&rows)
+    Sides::start(&classes, size).rules_out(&classes, &rows)
 }
 
 #[test]
@@ -45,42 +45,48 @@ fn a_tile_has_at_most_twelve_chambers(rt: HostRuntime) -> Result<(), Fail> {
     Ok(())
 }
 
-/// Puts a number in at a place of a code, and learns from it; false where that cannot be, or where
-/// the shares are then too small.
-fn put(rows: &mut Rows, shares: &mut Shares, place: u8, number: u8) -> bool
+/// Puts a number in at a place of a code, and learns from it; false where that cannot be, or where a
+/// cell is then whole that may have no degree.
+fn put(rows: &mut Rows, classes: &PathShares, sides: &mut Sides, place: u8, number: u8) -> bool
     requires ready { IsReady rows.old }
     requires place { place < 3 * (partial_of rows.old).size }
-    requires kept { AreKept (partial_of rows.old) shares.old }
+    requires kept { AreSides classes.now (partial_of rows.old) sides.old }
     ensures ready { IsReady rows.new }
     ensures size { (partial_of rows.new).size ≡ (partial_of rows.old).size }
-    ensures kept { AreKept (partial_of rows.new) shares.new }
-    ensures classes { shares.new.classes ≡ shares.old.classes }
+    ensures kept { AreSides classes.now (partial_of rows.new) sides.new }
 {
     let mark = rows.mark();
     if !rows.put(place, number) {
         return false;
     }
-    !shares.learn(rows, mark)
+    !sides.learn(classes, rows, mark)
 }
 
 /// What is answered before a chain of five chambers is put in, while it is open, of the number that
-/// closes it, when it is closed, and when the paths are put back.
+/// closes it, when it is closed, and of the paths that there were before.
 fn answers() -> [bool; 6] {
     let empty = Rows::empty(6);
     let mut rows = Rows::empty(6);
-    let mut shares = Shares::start(&PathShares::of(&asked(0, 4)), 6);
-    let sides = *shares.sides();
-    let before = shares.rules_out(&rows);
-    let one = put(&mut rows, &mut shares, 0, 2);
-    let two = put(&mut rows, &mut shares, 4, 3);
-    let three = put(&mut rows, &mut shares, 6, 4);
-    let four = put(&mut rows, &mut shares, 10, 5);
+    let classes = PathShares::of(&asked(0, 4));
+    let start = Sides::start(&classes, 6);
+    let mut sides = start;
+    let before = sides.rules_out(&classes, &rows);
+    let one = put(&mut rows, &classes, &mut sides, 0, 2);
+    let two = put(&mut rows, &classes, &mut sides, 4, 3);
+    let three = put(&mut rows, &classes, &mut sides, 6, 4);
+    let four = put(&mut rows, &classes, &mut sides, 10, 5);
     let put_in = one && two && three && four;
-    let open = shares.rules_out(&rows);
-    let told = shares.rules_out_number(&rows, 12, 5);
-    let capped = put(&mut rows, &mut shares, 12, 5);
-    shares.put_back(&sides);
-    [before, put_in, open, told, capped, shares.rules_out(&empty)]
+    let open = sides.rules_out(&classes, &rows);
+    let told = sides.rules_out_number(&classes, &rows, 12, 5);
+    let capped = put(&mut rows, &classes, &mut sides, 12, 5) && !sides.rules_out(&classes, &rows);
+    [
+        before,
+        put_in,
+        open,
+        told,
+        capped,
+        start.rules_out(&classes, &empty),
+    ]
 }
 
 #[test]
@@ -100,10 +106,11 @@ fn is_empty_with_a_tile(tiles: u32, least: u32) -> bool
     requires { (1 ≤ least) × (least ≤ 36) }
 {
     let mut rows = Rows::empty(3);
-    let mut shares = Shares::start(&PathShares::of(&asked(tiles, least)), 3);
-    put(&mut rows, &mut shares, 0, 1)
-        && put(&mut rows, &mut shares, 1, 1)
-        && shares.rules_out(&rows)
+    let classes = PathShares::of(&asked(tiles, least));
+    let mut sides = Sides::start(&classes, 3);
+    put(&mut rows, &classes, &mut sides, 0, 1)
+        && put(&mut rows, &classes, &mut sides, 1, 1)
+        && sides.rules_out(&classes, &rows)
 }
 
 #[test]
@@ -124,10 +131,12 @@ fn answers_for_pentagons() -> [bool; 3] {
     let mut request = asked(0, 3);
     request.faces = faces;
     let mut rows = Rows::empty(20);
-    let mut shares = Shares::start(&PathShares::of(&request), 20);
-    let before = shares.rules_out(&rows);
-    let put_in = put(&mut rows, &mut shares, 0, 2) && put(&mut rows, &mut shares, 1, 1);
-    [before, put_in, put(&mut rows, &mut shares, 4, 2)]
+    let classes = PathShares::of(&request);
+    let mut sides = Sides::start(&classes, 20);
+    let before = sides.rules_out(&classes, &rows);
+    let put_in = put(&mut rows, &classes, &mut sides, 0, 2)
+        && put(&mut rows, &classes, &mut sides, 1, 1);
+    [before, put_in, put(&mut rows, &classes, &mut sides, 4, 2)]
 }
 
 #[test]
@@ -144,8 +153,9 @@ fn is_empty_with_a_chain(size: u8) -> bool
     requires { (1 ≤ size) × (size ≤ 36) }
 {
     let mut rows = Rows::empty(size);
-    let mut shares = Shares::start(&PathShares::of(&asked(1, 3)), size);
-    put(&mut rows, &mut shares, 0, 1) && shares.rules_out(&rows)
+    let classes = PathShares::of(&asked(1, 3));
+    let mut sides = Sides::start(&classes, size);
+    put(&mut rows, &classes, &mut sides, 0, 1) && sides.rules_out(&classes, &rows)
 }
 
 #[test]
@@ -169,42 +179,42 @@ fn odd_sizes_have_fixed_chambers(rt: HostRuntime) -> Result<(), Fail> {
 
 /// How many numbers a search puts in under a stem that no test refuses, without those that follow
 /// from others. The stem's last number was put in after a mark.
-fn count_nodes(stem: &mut Stem, visit: &mut Visit, shares: &mut Shares, mark: usize) -> u64
+fn count_nodes(
+    stem: &mut Stem,
+    visit: &mut Visit,
+    classes: &PathShares,
+    before: &Sides,
+    mark: usize,
+) -> u64
     requires stem { IsStem stem.old }
     requires visiting { IsVisiting visit.old }
-    requires kept { AreKept (partial_of stem.old.rows) shares.old }
+    requires kept { AreSides classes.now (partial_of stem.old.rows) before.now }
     ensures stem { stem.new ≡ stem.old }
     ensures visiting { IsVisiting visit.new }
-    ensures shares { shares.new ≡ shares.old }
 {
-    let sides = *shares.sides();
-    if shares.learn(stem.rows(), mark) {
-        shares.put_back(&sides);
+    let mut sides = *before;
+    if sides.learn(classes, stem.rows(), mark) {
         return 0;
     }
-    if shares.rules_out(stem.rows()) {
-        shares.put_back(&sides);
+    if sides.rules_out(classes, stem.rows()) {
         return 0;
     }
     if parity_rules_out(stem.rows()) {
-        shares.put_back(&sides);
         return 0;
     }
     let here = stem.mark();
     let mut count = u64::from(here > mark);
     if stem.is_whole() {
-        shares.put_back(&sides);
         return count;
     }
     let mut k = 0;
     while let Some(number) = stem.next_from(k) {
         if stem.enter(number, visit) {
-            count = count_nodes(stem, visit, shares, here).saturating_add(count);
+            count = count_nodes(stem, visit, classes, &sides, here).saturating_add(count);
             stem.leave(here);
         }
         k = number + 1;
     }
-    shares.put_back(&sides);
     count
 }
 
@@ -215,8 +225,9 @@ fn nodes_of(tiles: u32, least: u32, size: u8) -> u64
 {
     let mut stem = Stem::new(size);
     let mut visit = Visit::new();
-    let mut shares = Shares::start(&PathShares::of(&asked(tiles, least)), size);
-    count_nodes(&mut stem, &mut visit, &mut shares, 0)
+    let classes = PathShares::of(&asked(tiles, least));
+    let start = Sides::start(&classes, size);
+    count_nodes(&mut stem, &mut visit, &classes, &start, 0)
 }
 
 /// How many it puts in for all sizes up to one.

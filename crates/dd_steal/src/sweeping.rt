@@ -7,8 +7,8 @@ ghost use Rattle.dd_steal.specs.Sweep.{AreDone, IsNoneOut, IsSwept, counted, if_
 
 use dd_board::{Desk, Naming, Taken, Ticket};
 use dd_front::{Entry, Finder};
+use dd_list::SymbolList;
 use dd_model::Memory;
-use dd_symbol::Connected;
 use std::alloc::Global;
 
 /// Gives back every job that is out and then does every one that is open, on this thread and as worker 1. After `Err`
@@ -51,11 +51,11 @@ fn give_back<N: Naming>(desk: &mut Desk<N>) -> Result<(), Memory>
 fn finish_as_first<N: Naming>(
     desk: &mut Desk<N>,
     ticket: Ticket<N>,
-    list: Vec<Connected>,
+    list: SymbolList,
 ) -> Result<(), Memory>
-    requires { AreMembersUnder N.request ticket.job list.items }
+    requires { AreMembersUnder N.request ticket.job list }
     ensures books { OnOk result
-        (BooksFinish 1 ticket.entry ticket.job list.items desk.old desk.new) }
+        (BooksFinish 1 ticket.entry ticket.job list desk.old desk.new) }
     ensures swept { IsSwept desk.old.log desk.new.log }
 {
     desk.finish(1, ticket, list).map_err(|_| Memory)

@@ -1,4 +1,5 @@
 pub mod Spacing
+mod LeastWalks
 pub mod LineTexts
 pub mod LinesAdded
 pub mod NextPart

@@ -7,8 +7,7 @@ use Rattle.std.proofs.Math.ListN.{drop_of_length-le}
 use Rattle.std.specs.Prelude.{nat_le}
 use Rattle.std.specs.List.{filter, flat_map}
 use Rattle.dd_model.specs.declared.index.Index.{Index}
-use Rattle.dd_model.specs.declared.pair.Pair.{Pair}
-use Rattle.dd_model.specs.Symbol.{Symbol, op, degree}
+use Rattle.dd_model.specs.Symbol.{Symbol, op}
 use Rattle.dd_model.specs.Code.{count_from}
 use Rattle.dd_model.specs.Line.{spaced, after_space, told_images}
 use Rattle.dd_text.specs.Writing.{next_number}
@@ -75,12 +74,11 @@ told_after-passed s i k h passed =
 pub told_after-end : (s : Symbol) (i : Index) (k : ℕ) → s.size ≤ k → told_after s i k ≡ []
 told_after-end s i k h = let e : s.size - k ≡ 0 = omega arith in ap (λ n. map (op s i) (filter (λ d. nat_le d (op s i d)) (count_from (k + 1) n))) e
 
--- the degrees of the chambers from one on, and of those after it
-pub degrees-cons : (s : Symbol) (p : Pair) (ds : List ℕ) (k : ℕ) → k < length ds
-    → map (degree s p) (drop k ds) ≡ degree s p (get_or ds k 0) ∷ map (degree s p) (drop (k + 1) ds)
-degrees-cons s p ds k h =
+-- what a function makes of the items from a place on, and of those after it
+pub mapped-cons : (f : ℕ → ℕ) (ds : List ℕ) (k : ℕ) → k < length ds → map f (drop k ds) ≡ f (get_or ds k 0) ∷ map f (drop (k + 1) ds)
+mapped-cons f ds k h =
     let e : suc k ≡ k + 1 = omega arith in
-    ap (map (degree s p)) (drop-cons ds k 0 h) ∙ ap (λ j. degree s p (get_or ds k 0) ∷ map (degree s p) (drop j ds)) e
+    ap (map f) (drop-cons ds k 0 h) ∙ ap (λ j. f (get_or ds k 0) ∷ map f (drop j ds)) e
 
-pub degrees_end : (s : Symbol) (p : Pair) (ds : List ℕ) (k : ℕ) → length ds ≤ k → map (degree s p) (drop k ds) ≡ []
-degrees_end s p ds k h = ap (map (degree s p)) (drop_of_length-le ds h)
+pub mapped_end : (f : ℕ → ℕ) (ds : List ℕ) (k : ℕ) → length ds ≤ k → map f (drop k ds) ≡ []
+mapped_end f ds k h = ap (map f) (drop_of_length-le ds h)

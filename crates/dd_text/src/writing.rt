@@ -100,7 +100,9 @@ pub(crate) fn put_cells(
     put_bytes(out, b">\n")
 }
 
-/// Appends the images of an involution, each pair of chambers told once.
+/// Appends the images of an involution, each pair of chambers told once. It is inlined where the
+/// involution is known, so that it is not looked up again for each chamber.
+#[inline(always)]
 fn put_images(out: &mut Vec<u8>, symbol: &Symbol, i: Index) -> Result<(), Memory>
     ensures images { OnOk result (out.new.items ≡ out.old.items
         ++ spaced (told_images symbol.now i)) }
@@ -142,7 +144,7 @@ fn put_degrees(
 
 /// Appends a number of a list, after a space where the list has begun.
 #[inline(always)]
-fn put_next(out: &mut Vec<u8>, begun: bool, number: u32) -> Result<(), Memory>
+pub(crate) fn put_next(out: &mut Vec<u8>, begun: bool, number: u32) -> Result<(), Memory>
     ensures next { OnOk result (out.new.items ≡ out.old.items ++ next_number begun number) }
     ensures longer { IsLonger out.old.items out.new.items }
 {
@@ -165,7 +167,7 @@ fn put_spaced(out: &mut Vec<u8>, number: u32) -> Result<(), Memory>
         return put_bytes(out, &[b' ', digit(number / 10), digit(number % 10)]);
     }
     out.push(b' ')?;
-    put_number(out, number)
+    put_long(out, number)
 }
 
 /// The digit of a number below 10.
@@ -177,16 +179,20 @@ fn digit(number: u32) -> u8
     b'0' + number as u8
 }
 
-/// Appends the number of a line in decimal.
+/// Appends the number of a line in decimal, which is faster where it fits in 64 bits.
 pub(crate) fn put_ordinal(out: &mut Vec<u8>, k: u128) -> Result<(), Memory>
     ensures number { OnOk result (out.new.items ≡ out.old.items ++ decimal k) }
     ensures longer { IsLonger out.old.items out.new.items }
 {
     let mut digits = Buffer::new();
-    put_bytes(out, digits.format(k).as_bytes())
+    match u64::try_from(k) {
+        Ok(short) => put_bytes(out, digits.format(short).as_bytes()),
+        Err(_) => put_bytes(out, digits.format(k).as_bytes()),
+    }
 }
 
-/// Appends a number in decimal. Most are of one digit or two.
+/// Appends a number in decimal, at once where it has one or two digits, as most have.
+#[inline(always)]
 pub(crate) fn put_number(out: &mut Vec<u8>, number: u32) -> Result<(), Memory>
     ensures number { OnOk result (out.new.items ≡ out.old.items ++ decimal number) }
     ensures longer { IsLonger out.old.items out.new.items }
@@ -197,6 +203,14 @@ pub(crate) fn put_number(out: &mut Vec<u8>, number: u32) -> Result<(), Memory>
     if number < 100 {
         return put_bytes(out, &[digit(number / 10), digit(number % 10)]);
     }
+    put_long(out, number)
+}
+
+/// Appends a number of any length in decimal.
+fn put_long(out: &mut Vec<u8>, number: u32) -> Result<(), Memory>
+    ensures number { OnOk result (out.new.items ≡ out.old.items ++ decimal number) }
+    ensures longer { IsLonger out.old.items out.new.items }
+{
     let mut digits = Buffer::new();
     put_bytes(out, digits.format(number).as_bytes())
 }

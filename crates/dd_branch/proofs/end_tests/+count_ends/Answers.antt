@@ -1,11 +1,12 @@
-use Rattle.std.proofs.Common.{◌≡◌, ◌+◌, ◌*◌, ◌/◌, ◌<◌, ◌≤◌, get_or, refl, sym, ap, ◌∙◌, subst, ⊎_elim, arith}
-use Rattle.std.proofs.lemmas.Bool.{cases_lt}
+use Rattle.std.proofs.Common.{◌≡◌, ◌+◌, ◌*◌, ◌/◌, ◌<◌, ◌≤◌, refl, sym, ap, ◌∙◌, subst, arith}
 use Rattle.dd_branch.specs.Assignment.{IsAssignment, IsAtRoot, next_place, shortened, told}
+use Rattle.dd_branch.specs.Budget.{no_place}
 use Rattle.dd_branch.specs.Entered.{HasBudget, HasEntered}
 use Rattle.dd_branch.specs.Choice.{IsChoice}
 use Rattle.dd_branch.specs.declared.assignment.Assignment.{Assignment}
 use Rattle.dd_branch.specs.declared.places.Place.{Place}
-use Rattle.dd_branch.proofs.Advancing.{budget_more, degree_small, part_small, room_here, with_list}
+use Rattle.dd_branch.proofs.Advancing.{budget_more, degree_small, room_here, sound_next, with_list}
+use Rattle.dd_branch.proofs.Finishing.{left_small}
 use Rattle.dd_branch.proofs.end_tests.+count_ends.Goals as goal
 use Rattle.dd_branch.proofs.end_tests.+count_ends.Goals.{then-may_stand, else-may_stand}
 
@@ -56,14 +57,22 @@ enter-requires-clause-vertex t c high =
     let place : c.next_place-place.result ≡ next_place c.loop-value.search = c.next_place-place.ensures ∙ ap next_place (sym c.loop-value.invariant.same) in
     subst (λ (x : Place). IsChoice c.loop-value.search.request.degrees (next_place c.loop-value.search).turns (c.loop-value.value * x.turns)) (sym place) (c.if-may_stand.ensures.vertex high)
 
-pub overflow_mul-place : goal.overflow_mul-place
-overflow_mul-place t c =
+pub beyond_least-requires-clause-sides : goal.beyond_least-requires-clause-sides
+beyond_least-requires-clause-sides t c =
     let a = c.args.search.now in
     let room = room_here a c.len-next.result c.len.result c.requires.ready c.if-next-len.false c.len-next.ensures.value c.len.ensures.value in
-    let small = part_small a c.loop-value.value c.requires.ready room in
-    let same = ap (λ (x : Place). x.sides * (12 / c.loop-value.value)) c.next_place-place.ensures in
-    let side = ap (λ k. c.next_place-place.result.sides * k) c.part_of_side.ensures in
-    omega (arith, small, same, side)
+    subst (λ (x : Place). x.sides ≤ 2) (sym c.next_place-place.ensures) (sound_next a c.requires.ready (told a) no_place room).sides
+
+pub leaves_too_much-requires-clause-small : goal.leaves_too_much-requires-clause-small
+leaves_too_much-requires-clause-small t c = let small = left_small c.args.search.now c.args.left c.requires.ready c.requires.budget in omega (arith, small)
+
+pub may_stand-requires-clause-budget : goal.may_stand-requires-clause-budget
+may_stand-requires-clause-budget t c = subst (λ y. HasBudget y c.args.left) (sym c.loop-value.invariant.same) c.requires.budget
+
+pub may_stand-requires-clause-taken : goal.may_stand-requires-clause-taken
+may_stand-requires-clause-taken t c =
+    let place : c.next_place-place.result ≡ next_place c.loop-value.search = c.next_place-place.ensures ∙ ap next_place (sym c.loop-value.invariant.same) in
+    subst (λ (y : Place). c.from-taken.result + 2 * y.sides ≡ y.sides * (12 / c.loop-value.value)) place (ap (λ n. n + 2 * c.next_place-place.result.sides) c.from-taken.ensures ∙ c.beyond_least.ensures.taken)
 
 pub count_ends-requires : goal.count_ends-requires
 count_ends-requires t c =
@@ -71,18 +80,16 @@ count_ends-requires t c =
     let b = c.enter.new.self in
     let x = c.loop-value.search in
     let v = c.loop-value.value in
-    let n = c.args.sum + c.from.result in
     let same = c.loop-value.invariant.same in
     let place : c.next_place-place.result ≡ next_place x = c.next_place-place.ensures ∙ ap next_place (sym same) in
     let room = room_here a c.len-next.result c.len.result c.requires.ready c.if-next-len.false c.len-next.ensures.value c.len.ensures.value in
     let is = subst IsAssignment (sym same) c.requires.ready in
     let room' = subst (λ (y : Assignment). told y < 2 * y.table.size) (sym same) room in
     let entered = subst (λ (y : Place). HasEntered x (v * y.turns) b) place c.enter.ensures.entered in
-    let part : c.from.result ≡ (next_place x).sides * (12 / v) = c.from.ensures ∙ ap (λ k. c.next_place-place.result.sides * k) c.part_of_side.ensures ∙ ap (λ (y : Place). y.sides * (12 / v)) place in
-    let had = (subst (λ y. HasBudget y c.args.sum) (sym same) c.requires.budget).spent in
-    let enough : 6 * x.table.size ≤ n + get_or x.rests.most (told x + 1) 0 =
-    ⊎_elim (λ low. absurd (let yes' = c.leaves_too_much.ensures.1 low in let no' = c.if-leaves_too_much.false in cc)) (λ high. high) (cases_lt (n + get_or x.rests.most (told x + 1) 0) (6 * x.table.size)) in
-    let more = budget_more x b v n is room' (omega (arith, part, had)) entered enough c.if-may_stand.ensures.room in
+    let takes = subst (λ (y : Place). c.from-taken.result + 2 * y.sides ≡ y.sides * (12 / v)) place (ap (λ n. n + 2 * c.next_place-place.result.sides) c.from-taken.ensures ∙ c.beyond_least.ensures.taken) in
+    let budget = subst (λ y. HasBudget y c.args.left) (sym same) c.requires.budget in
+    let fits = c.if-may_stand.ensures.room in
+    let more = budget_more x b v c.args.left c.from-taken.result is room' budget takes entered fits (c.if-leaves_too_much.ensures.enough fits) in
     let longer = entered.longer in
     let size = ap (λ (y : Assignment). y.table.size) (entered.back ∙ same) in
     let start = ap told same in

@@ -8,4 +8,4 @@ pub returns-in_default : goal.returns-in_default
 returns-in_default c =
     let table = c.symbol.result.now in
     let none = subst (λ f. MatchOption f (Least table → ⊥) (λ ties. AreTies table ties.items)) c.in_default.is c.in_ok-ties.ensures in
-    none_without_ties c.args.q.now c.args.t c.args.list.now.items c.symbol.ensures.table (subst (λ t. Least t → ⊥) c.symbol.ensures.same none)
+    none_without_ties c.args.q.now c.args.t c.args.list.now c.symbol.ensures.table (subst (λ t. Least t → ⊥) c.symbol.ensures.same none)

@@ -1,8 +1,7 @@
-use Rattle.std.proofs.Common.{◌≡◌, ℕ, ◌+◌, ◌-◌, ◌*◌, ◌/◌, ◌^◌, ◌%◌, ◌≤◌, sym, ap, ◌∙◌, ⊎_elim, arith}
+use Rattle.std.proofs.Common.{◌≡◌, ◌+◌, ◌*◌, ◌/◌, ◌^◌, ◌%◌, sym, ap, ◌∙◌, ⊎_elim, arith}
 use Rattle.std.proofs.lemmas.Bool.{cases_lt}
 use Rattle.std.specs.Int.{bit_at}
 use Rattle.dd_branch.proofs.Bits.{bit_or_left, bit_or_right, bit_shifted}
-use Rattle.dd_branch.proofs.Choices.{part_falls}
 use Rattle.dd_branch.proofs.rests.surplus_with.Goals as goal
 use Rattle.dd_branch.proofs.rests.surplus_with.Goals.{then-allows, else-allows}
 
@@ -14,15 +13,13 @@ loop-value-preserved c = record {
       let later = c.args.later in
       elim c.if-allows.branch [
         | then-allows w ↦
-            let s : ℕ = x.sides * w.part_of_side.result - 2 * x.sides in
+            let s = w.beyond_least.result in
             ap (λ bits. bit_at bits f) w.all-is ∙ ⊎_elim
             (λ early. bit_or_left c.loop-value.all (later * 2 ^ s % 2 ^ 64) f (c.loop-value.invariant.told v e f some early told there beyond small))
             (λ late.
             let same : v ≡ n = omega (arith, less, late) in
-            let part : x.sides * w.part_of_side.result ≡ x.sides * (12 / v) = ap (λ k. x.sides * k) (w.part_of_side.ensures ∙ ap (λ k. 12 / k) (sym same)) in
-            let high = c.loop-value-test.true in
-            let least : x.sides * (12 / 6) ≤ x.sides * (12 / v) = part_falls x.sides v 6 some (omega (arith, same, high)) in
-            let shifted : e + s ≡ f = omega (arith, part, least, beyond) in
+            let taken : s + 2 * x.sides ≡ x.sides * (12 / v) = w.beyond_least.ensures.taken ∙ ap (λ k. x.sides * (12 / k)) (sym same) in
+            let shifted : e + s ≡ f = omega (arith, taken, beyond) in
             bit_or_right c.loop-value.all (later * 2 ^ s % 2 ^ 64) f (ap (bit_at (later * 2 ^ s % 2 ^ 64)) (sym shifted) ∙ bit_shifted later s e (omega (arith, shifted, small)) ∙ there))
             (cases_lt v n)
         | else-allows w ↦

@@ -20,11 +20,11 @@ loop-span-preserved c =
     let k = c.args.part.before in
     let done = joined_spans (take i spans) in
     let span = c.span-item.result in
-    let adds = c.in_ok-put_lines.ensures.lines in
+    let adds = c.in_ok-put_list.ensures.lines in
     let more : joined_spans (take (i + 1) spans) ≡ done ++ span = joined_more spans i span c.loop-span-test.true ∙ ap (λ s. done ++ s) (sym c.span-item.is) in
-    let lines : AreLines (k + length done) span adds.lines = subst (λ n. AreLines n span adds.lines) c.loop-span.invariant.0 (subst (λ ss. AreLines c.loop-span.before ss adds.lines) c.as_slice.ensures adds.are_lines) in (
+    let lines : AreLines (k + length done) span adds.lines = subst (λ n. AreLines n span adds.lines) c.loop-span.invariant.0 (subst (λ ss. AreLines c.loop-span.before ss adds.lines) c.symbols.ensures adds.are_lines) in (
       omega (arith, c.loop-span.invariant.0, length_more spans i span c.loop-span-test.true, ap length c.span-item.is, c.len.ensures),
-      subst (λ ss. AreLines k ss c.put_lines.new.out.items) (sym more)
+      subst (λ ss. AreLines k ss c.put_list.new.out.items) (sym more)
           (subst (AreLines k (done ++ span)) (sym adds.text) (joined_lines k done span c.loop-span.lines.items adds.lines c.loop-span.invariant.1 lines)),
     )
 

@@ -48,7 +48,7 @@ loop-entry-preserved c =
     let now = c.append.new.self in
     let list = c.list_of.result in
     let len : n ≡ length lists = c.len.ensures ∙ omega arith in
-    let longer : now ≡ c.if-not-extends.joined ++ list = c.in_ok-append.ensures in (
+    let longer : now ≡ c.if-not-extends.joined ++ list = c.in_ok-append.ensures.members in (
       (subst (AllByRecursion (λ x. IsDone x.state)) steps.0 c.loop-entry.invariant.0).1,
       omega (arith, c.loop-entry.invariant.1, ap length steps.0, steps.1),
       λ k blocks.

@@ -15,7 +15,7 @@ loop-left-init g t c =
       valid = c.requires.valid;
       short = not_whole c.is_whole.result (length (T.prefix S)) (T.end (T.size S)) c.if-is_whole.false c.is_whole.ensures c.requires.short;
       mark = c.mark-mark.ensures;
-      tried = tried_none (T.wanted (T.request S)) (T.size S) (T.prefix S) c.candidates-left.result c.args.list.now.items c.candidates-left.ensures;
+      tried = tried_none (T.wanted (T.request S)) (T.size S) (T.prefix S) c.candidates-left.result c.args.list.now c.candidates-left.ensures;
     }
 
 pub loop-left-preserved-then-enter : goal.loop-left-preserved-then-enter
@@ -38,14 +38,14 @@ loop-left-preserved-then-enter g t c =
     let below : m < 64 = lowest_below left (omega (arith, some)) wide in
     let longer = subst (λ s. GoesOn T.request T.wanted T.size T.prefix T.end m s c.enter.new.self) same c.if-enter.ensures.alive in
     let back = subst (λ s. T.undone c.enter.new.self (T.depth s) ≡ s) same c.if-enter.ensures.undone in
-    let found = found_longer T.request T.wanted T.size T.prefix T.end m S c.enter.new.self longer c.loop-left.list.items c.find.new.list.items c.in_ok-find.ensures.list in
+    let found = found_longer T.request T.wanted T.size T.prefix T.end m S c.enter.new.self longer c.loop-left.list c.find.new.list c.in_ok-find.ensures.list in
     let again = c.leave.ensures ∙ ap (λ s. T.undone s c.mark-mark.result) c.in_ok-find.ensures.same ∙ ap (T.undone c.enter.new.self) i.mark ∙ back in
     record {
       same = again;
       valid = subst T.valid (sym again) c.requires.valid;
       short = short;
       mark = i.mark;
-      tried = tried_next W n base left m c.args.list.now.items c.loop-left.list.items c.find.new.list.items low lowest (omega (arith, below)) i.tried found;
+      tried = tried_next W n base left m c.args.list.now c.loop-left.list c.find.new.list low lowest (omega (arith, below)) i.tried found;
     }
 
 pub loop-left-preserved : goal.loop-left-preserved
@@ -72,7 +72,7 @@ loop-left-preserved g t c =
       valid = c.if-enter.ensures.valid;
       short = short;
       mark = i.mark;
-      tried = tried_dead W n base left m c.args.list.now.items c.loop-left.list.items low lowest (omega (arith, below)) i.tried dead;
+      tried = tried_dead W n base left m c.args.list.now c.loop-left.list low lowest (omega (arith, below)) i.tried dead;
     }
 
 pub returns-clause-list : goal.returns-clause-list
@@ -82,4 +82,4 @@ returns-clause-list g t c =
     let i = c.loop-left.invariant in
     let short = i.short in
     let end = c.requires.end in
-    tried_all (T.wanted (T.request S)) (T.size S) (T.prefix S) c.loop-left.left c.args.list.now.items c.loop-left.list.items (omega (arith, short, end)) c.loop-left-test.false i.tried
+    tried_all (T.wanted (T.request S)) (T.size S) (T.prefix S) c.loop-left.left c.args.list.now c.loop-left.list (omega (arith, short, end)) c.loop-left-test.false i.tried

@@ -11,7 +11,7 @@ invariant-loop-left g l = record {
   valid : g.T.PrefixSearch.valid l.search;
   short : length (g.T.PrefixSearch.prefix l.fn.search) < g.T.PrefixSearch.end (g.T.PrefixSearch.size l.fn.search);
   mark : l.mark ≡ g.T.PrefixSearch.depth l.fn.search;
-  tried : HasTried (g.T.PrefixSearch.wanted (g.T.PrefixSearch.request l.fn.search)) (g.T.PrefixSearch.size l.fn.search) (g.T.PrefixSearch.prefix l.fn.search) l.left l.fn.list.items l.list.items;
+  tried : HasTried (g.T.PrefixSearch.wanted (g.T.PrefixSearch.request l.fn.search)) (g.T.PrefixSearch.size l.fn.search) (g.T.PrefixSearch.prefix l.fn.search) l.left l.fn.list l.list;
 }
 
 abbrev pub decreases-loop-left : goal.decreases-loop-left

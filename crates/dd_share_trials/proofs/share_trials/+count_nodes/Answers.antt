@@ -4,7 +4,7 @@ use Rattle.dd_invol.specs.Rows.{partial_of, depth_of}
 use Rattle.dd_invol.specs.Stem.{prefix_of, size_of, shortened}
 use Rattle.dd_invol.specs.Visit.{IsVisiting}
 use Rattle.dd_invol.specs.declared.stem.Stem.{Stem}
-use Rattle.dd_ends.specs.Kept.{AreKept}
+use Rattle.dd_ends.specs.Kept.{AreSides}
 use Rattle.dd_ends.proofs.GrowthLemmas.{kept_of_longer}
 use Rattle.dd_share_trials.proofs.share_trials.+count_nodes.Goals as goal
 use Rattle.dd_share_trials.proofs.share_trials.+count_nodes.Goals.{then-enter, else-enter}
@@ -13,13 +13,14 @@ pub count_nodes-requires : goal.count_nodes-requires
 count_nodes-requires t c =
     let i = c.loop-number.invariant in
     let entered = c.if-enter.ensures in
-    let shares = c.loop-number.shares in
-    let kept : AreKept (partial_of c.loop-number.stem.rows) shares = subst (λ (s : Stem). AreKept (partial_of s.rows) shares) (sym i.same) i.kept in
+    let classes = c.args.classes.now in
+    let sides = c.learn.new.self in
+    let kept : AreSides classes (partial_of c.loop-number.stem.rows) sides = subst (λ (s : Stem). AreSides classes (partial_of s.rows) sides) (sym i.same) i.kept in
     let size : size_of c.enter.new.self ≡ size_of c.args.stem.now = entered.size ∙ ap size_of i.same in
     let more : length (prefix_of c.enter.new.self) ≡ length (prefix_of c.args.stem.now) + 1 =
     ap length entered.longer ∙ length_push (prefix_of c.loop-number.stem) c.in-Some.number ∙ ap (λ (s : Stem). length (prefix_of s) + 1) i.same in
     let short = i.short in
-    (omega (arith, size, more, short), (entered.stem, (entered.visiting, kept_of_longer c.loop-number.stem.rows c.enter.new.self.rows shares entered.size (ap (λ (s : Stem). s.rows) entered.undone) kept)))
+    (omega (arith, size, more, short), (entered.stem, (entered.visiting, kept_of_longer c.loop-number.stem.rows c.enter.new.self.rows (record { classes = classes; sides = sides }) entered.size (ap (λ (s : Stem). s.rows) entered.undone) kept)))
 
 pub loop-number-preserved : goal.loop-number-preserved
 loop-number-preserved t c =
@@ -32,8 +33,7 @@ loop-number-preserved t c =
         same = w.stem-is ∙ w.leave.ensures ∙ ap (λ (s : Stem). shortened s c.mark-here.result) w.count_nodes.ensures.stem ∙ ap (shortened c.enter.new.self) here ∙ w.if-enter.ensures.undone ∙ i.same;
         stem = i.stem;
         visiting = subst IsVisiting (sym w.visit-is) w.count_nodes.ensures.visiting;
-        kept = subst (AreKept (partial_of c.args.stem.now.rows)) (sym (w.shares-is ∙ w.count_nodes.ensures.shares)) i.kept;
-        learnt = w.shares-is ∙ w.count_nodes.ensures.shares ∙ i.learnt;
+        kept = i.kept;
         short = i.short;
         here = i.here;
       }
@@ -42,8 +42,7 @@ loop-number-preserved t c =
         same = w.stem-is ∙ w.if-enter.ensures.same ∙ i.same;
         stem = i.stem;
         visiting = subst IsVisiting (sym w.visit-is) c.enter.ensures.visiting;
-        kept = subst (AreKept (partial_of c.args.stem.now.rows)) (sym w.shares-is) i.kept;
-        learnt = w.shares-is ∙ i.learnt;
+        kept = i.kept;
         short = i.short;
         here = i.here;
       }

@@ -2,7 +2,7 @@ use Rattle.std.proofs.Common.{◌≡◌, ◌-◌, ◌*◌, ◌<◌, ◌≤◌, l
 use Rattle.dd_invol.specs.Rows.{partial_of, depth_of}
 use Rattle.dd_invol.specs.Stem.{IsStem, prefix_of, size_of}
 use Rattle.dd_invol.specs.Visit.{IsVisiting}
-use Rattle.dd_ends.specs.Kept.{AreKept}
+use Rattle.dd_ends.specs.Kept.{AreSides}
 use Rattle.dd_share_trials.proofs.share_trials.+count_nodes.Given as goal
 
 abbrev pub decreases-count_nodes : goal.decreases-count_nodes
@@ -14,8 +14,7 @@ invariant-loop-number l = record {
   same : l.stem ≡ l.fn.stem;
   stem : IsStem l.fn.stem;
   visiting : IsVisiting l.visit;
-  kept : AreKept (partial_of l.fn.stem.rows) l.shares;
-  learnt : l.shares ≡ l.initial.shares;
+  kept : AreSides l.classes (partial_of l.fn.stem.rows) l.sides;
   short : length (prefix_of l.fn.stem) < 3 * size_of l.fn.stem;
   here : l.here ≡ depth_of l.fn.stem.rows;
 }

@@ -10,5 +10,5 @@ decreases-add_members l = 2 * l.self.now.table.size - length l.self.now.degrees.
 abbrev pub invariant-loop-value : goal.invariant-loop-value
 invariant-loop-value l = record {
   same : l.self ≡ l.fn.self;
-  list : Appends (AreUnderBefore (IsMember l.fn.self.request) l.fn.self.table.size (prefix_of l.fn.self) (l.value * (next_place l.fn.self).turns)) l.fn.list.items l.list.items;
+  list : Appends (AreUnderBefore (IsMember l.fn.self.request) l.fn.self.table.size (prefix_of l.fn.self) (l.value * (next_place l.fn.self).turns)) l.fn.list l.list;
 }

@@ -1,9 +1,9 @@
-use Rattle.std.proofs.Common.{◌≡◌, ℕ, ◌+◌, ◌*◌, ◌-◌, get_or, ap, sym, ◌∙◌, arith}
+use Rattle.std.proofs.Common.{◌≡◌, ℕ, ◌+◌, ◌*◌, ◌-◌, ◌/◌, get_or, refl, ap, sym, ◌∙◌, arith}
 use Rattle.std.proofs.lemmas.Bool.{OnFalse_from, OnTrue_from}
 use Rattle.std.specs.Int.{bit_at}
-use Rattle.dd_branch.specs.Assignment.{next_place, told}
+use Rattle.dd_branch.specs.Assignment.{next_place, spent_by, told}
 use Rattle.dd_branch.specs.declared.places.Place.{Place}
-use Rattle.dd_branch.proofs.Advancing.{budget_of_member, rests_small, tile_values, value_allowed, vertex_values}
+use Rattle.dd_branch.proofs.Advancing.{budget_of_member, least_after, tile_values, value_allowed, vertex_values}
 use Rattle.dd_branch.proofs.Choices.{choice_told}
 use Rattle.dd_branch.proofs.assignment.Assignment.may_stand.Goals as goal
 
@@ -14,34 +14,28 @@ returns-then-not-allows-clause-dead c s under next =
     let no' = c.if-not-allows.true in
     cc
 
-pub overflow_add-low : goal.overflow_add-low
-overflow_add-low c =
-    let len = c.len-later.ensures.value in
-    let room = c.requires.room in
-    let rest = (rests_small c.args.self.now c.requires.ready (c.len-later.result + 1) (omega (arith, len, room))).1 in
-    let small = c.requires.small in
-    omega (arith, rest, small)
-
-pub returns-then-low-whole-clause-dead : goal.returns-then-low-whole-clause-dead
-returns-then-low-whole-clause-dead c s under next =
+pub returns-then-taken-left-clause-dead : goal.returns-then-taken-left-clause-dead
+returns-then-taken-left-clause-dead c s under next =
     let a = c.args.self.now in
-    let fits = (budget_of_member a c.args.value c.args.spent c.requires.ready c.requires.room c.requires.spent s under next).room in
-    let low = ap (λ n. get_or a.rests.least (n + 1) 0) c.len-later.ensures.value in
-    let over = c.if-low-whole.true in
-    let size = c.size.ensures in
-    absurd (omega (arith, low, fits, over, size))
+    let fits = (budget_of_member a c.args.value (spent_by a + (next_place a).sides * (12 / c.args.value)) c.requires.ready c.requires.room refl s under next).room in
+    let before = least_after a c.requires.ready c.requires.room in
+    let had = c.requires.budget.left_over in
+    let takes = c.requires.taken in
+    let over = c.if-taken-left.true in
+    absurd (omega (arith, fits, before, had, takes, over))
 
 pub returns-clause-dead : goal.returns-clause-dead
 returns-clause-dead c =
     let a = c.args.self.now in
-    let rest : ℕ = 6 * c.size.result - (c.args.spent + get_or a.rests.least (c.len-later.result + 1) 0) in
+    let rest : ℕ = c.args.left - c.args.taken in
     OnFalse_from c.may_exceed_by.result _ (λ refused s under next.
-    let meets = budget_of_member a c.args.value c.args.spent c.requires.ready c.requires.room c.requires.spent s under next in
-    let at : c.len-later.result + 1 ≡ told a + 1 = ap (λ n. n + 1) c.len-later.ensures.value in
-    let low = ap (λ j. get_or a.rests.least j 0) at in
-    let fits = c.if-low-whole.false in
-    let size = c.size.ensures in
-    let hit = c.may_exceed_by.ensures.1 (λ small. ap (λ j. bit_at (get_or a.rests.surplus j 0) rest) at ∙ meets.surplus rest (omega (arith, low, fits, size)) small) in
+    let meets = budget_of_member a c.args.value (spent_by a + (next_place a).sides * (12 / c.args.value)) c.requires.ready c.requires.room refl s under next in
+    let at : c.len.result + 1 ≡ told a + 1 = ap (λ n. n + 1) c.len.ensures.value in
+    let before = least_after a c.requires.ready c.requires.room in
+    let had = c.requires.budget.left_over in
+    let takes = c.requires.taken in
+    let fits = c.if-taken-left.false in
+    let hit = c.may_exceed_by.ensures.1 (λ small. ap (λ j. bit_at (get_or a.rests.surplus j 0) rest) at ∙ meets.surplus rest (omega (arith, before, had, takes, fits)) small) in
     cc)
 
 pub returns-clause-tile : goal.returns-clause-tile

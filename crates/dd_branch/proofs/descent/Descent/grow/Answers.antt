@@ -17,7 +17,7 @@ returns-then-not-put-clause-dead c =
 
 pub is_dead-requires : goal.is_dead-requires
 is_dead-requires c =
-    let old : Descending = record { request = c.self.inside.request; stem = c.self.inside.stem; shares = c.self.inside.shares; levels = c.self.inside.levels } in
+    let old : Descending = record { request = c.self.inside.request; stem = c.self.inside.stem; shares = record { classes = c.self.inside.classes; sides = c.self.inside.levels.sides }; levels = c.self.inside.levels.before } in
     let is : IsDescent old = subst IsDescent (sym c.self.view_is) c.requires.descent in
     let told = c.if-not-put.ensures in
     let put : IsPut c.args.number old.stem c.put.new.self c.put.new.self =

@@ -15,7 +15,7 @@ returns-in_default-clause-list c =
     let n = size_of c.self.inside.stem in
     let prefix = prefix_of c.self.inside.stem in
     let none : HasNothingUnder Any n prefix = rw c.in_default.is at c.in_ok-ties.ensures in
-    let old = c.args.list.now.items in
+    let old = c.args.list.now in
     subst
     (λ (d : Descending). Appends (AreUnder (IsMember d.request) (size_of d.stem) (prefix_of d.stem)) old old)
     c.self.view_is
@@ -39,8 +39,8 @@ returns-clause-list c =
     let prefix = prefix_of c.self.inside.stem in
     let whole : length prefix ≡ 3 * n = subst (λ (d : Descending). length (prefix_of d.stem) ≡ 3 * size_of d.stem) (sym c.self.view_is) c.requires.whole in
     let of = table_of_same n prefix c.in_ok-involutions.involutions c.in_ok-table.table whole c.in_ok-involutions.ensures.same c.in_ok-table.ensures.same c.in_ok-table.ensures.table in
-    let old = c.args.list.now.items in
-    let new = c.add_tied.new.list.items in
+    let old = c.args.list.now in
+    let new = c.add_tied.new.list in
     on_ok_weaker c.add_tied.result
     (λ added. subst
     (λ (d : Descending). Appends (AreUnder (IsMember d.request) (size_of d.stem) (prefix_of d.stem)) old new)

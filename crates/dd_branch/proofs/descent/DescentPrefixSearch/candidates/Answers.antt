@@ -12,7 +12,7 @@ use Rattle.dd_branch.proofs.descent.DescentPrefixSearch.candidates.Goals as goal
 
 pub returns : goal.returns
 returns c m out =
-    let d : Descending = record { request = c.self.inside.request; stem = c.self.inside.stem; shares = c.self.inside.shares; levels = c.self.inside.levels } in
+    let d : Descending = record { request = c.self.inside.request; stem = c.self.inside.stem; shares = record { classes = c.self.inside.classes; sides = c.self.inside.levels.sides }; levels = c.self.inside.levels.before } in
     let is : IsDescent d = subst IsDescent (sym c.self.view_is) c.requires.valid in
     let low : length (prefix_of d.stem) < 3 * size_of d.stem = subst (λ (e : Descending). length (prefix_of e.stem) < 3 * size_of e.stem) (sym c.self.view_is) c.requires.room in
     let bit = bit_at-lt c.candidates-numbers.result m in

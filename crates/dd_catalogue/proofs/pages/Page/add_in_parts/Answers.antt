@@ -13,14 +13,14 @@ pub returns-in_err-add_list-clause-front : goal.returns-in_err-add_list-clause-f
 returns-in_err-add_list-clause-front g c =
     let spans = c.spans-span-items.result.now in
     let i = c.loop-span.span-index in
-    let rest = joined_from spans i c.span-item.result c.loop-span-test.true ∙ ap (λ s. s ++ joined_spans (drop (i + 1) spans)) (sym c.span-item.is ∙ sym c.as_slice.ensures) in
+    let rest = joined_from spans i c.span-item.result c.loop-span-test.true ∙ ap (λ s. s ++ joined_spans (drop (i + 1) spans)) (sym c.span-item.is ∙ sym c.symbols.ensures) in
     front_part _ _ _ _ _ _ _ _ _ rest c.add_list.ensures.front c.loop-span.invariant.0
 
 pub loop-span-preserved : goal.loop-span-preserved
 loop-span-preserved g c =
     let spans = c.spans-span-items.result.now in
     let i = c.loop-span.span-index in
-    let rest = joined_from spans i c.span-item.result c.loop-span-test.true ∙ ap (λ s. s ++ joined_spans (drop (i + 1) spans)) (sym c.span-item.is ∙ sym c.as_slice.ensures) in
+    let rest = joined_from spans i c.span-item.result c.loop-span-test.true ∙ ap (λ s. s ++ joined_spans (drop (i + 1) spans)) (sym c.span-item.is ∙ sym c.symbols.ensures) in
     let added = c.in_ok-add_list.ensures in
     let ih = c.loop-span.invariant in (
       part_added _ _ _ _ _ _ _ _ _ _ rest added.all added.count added.waiting ih.0,

@@ -1,4 +1,4 @@
-use Rattle.std.proofs.Common.{◌≡◌, ◌+◌, ◌*◌, ◌≤◌, sym, ap, ◌∙◌, subst, arith}
+use Rattle.std.proofs.Common.{◌+◌, ◌*◌, ◌≤◌, sym, ◌∙◌, subst, arith}
 use Rattle.dd_invol.specs.Rows.{partial_of}
 use Rattle.dd_model.specs.Symbol.{first, second}
 use Rattle.dd_shares.specs.Closed.{AreWhole, IsWhole}
@@ -6,10 +6,11 @@ use Rattle.dd_shares.specs.Units.{share_unit}
 use Rattle.dd_shares.proofs.ClosedLemmas.{whole_skip, whole_more, whole_from_cell, fixed_more, same_flag}
 use Rattle.dd_shares.proofs.WholeShares.{whole_share}
 use Rattle.dd_ends.specs.Classes.{IsWholeShare}
+use Rattle.dd_ends.proofs.ClassLemmas.{weight_of_cell}
 use Rattle.dd_ends.proofs.limits.Census.add.Goals as goal
 
-pub returns-then-beside-chamber-clause-census : goal.returns-then-beside-chamber-clause-census
-returns-then-beside-chamber-clause-census c census =
+pub returns-then-not-with_cell-clause-census : goal.returns-then-not-with_cell-clause-census
+returns-then-not-with_cell-clause-census c census =
     let P = partial_of c.args.table.now in
     let q = c.args.shares.now.request in
     let p = c.args.shares.now.pair in
@@ -46,18 +47,17 @@ returns-clause-census c census =
     let below = c.requires.low in
     let cell = c.in-Some.cell in
     let count = c.chambers-chambers.result in
-    let share = c.whole.result in
     let small : cell.turns ≤ 36 = c.in-Some.ensures.small in
-    let from : IsWholeShare q p cell.turns share =
-    subst (IsWholeShare q p cell.turns) (sym c.whole.ensures) (c.args.shares.now.are_whole.each cell.turns c.in-Some.ensures.some small) in
-    let right = whole_share q P p d d share cell c.requires.pair (omega arith) (omega (arith, below)) c.in-Some.ensures from.right in
+    let told = weight_of_cell (IsWholeShare q p cell.turns) cell.is_chain cell.turns count c.whole.result c.whole.ensures.chain c.whole.ensures.cycle
+    c.chambers-chambers.ensures.chain c.chambers-chambers.ensures.cycle in
+    let share = told.share in
+    let right = whole_share q P p d d share cell c.requires.pair (omega arith) (omega (arith, below)) c.in-Some.ensures told.right.right in
     let one : IsWhole q P p share_unit d c.chains.result count (count * share) =
     whole_from_cell q P p share_unit d share c.chains.result count cell (omega arith) (omega (arith, below)) c.in-Some.ensures right
     c.chains.ensures.chain c.chambers-chambers.ensures.chain c.chambers-chambers.ensures.cycle in
-    let own : c.from-5.result * share ≡ count * share = ap (λ n. n * share) c.from-5.ensures in
     record {
-      whole = subst (λ n. AreWhole q P p share_unit d (old.cells + 1) (old.chains + c.chains.result) (old.chambers + n) (old.most + c.from-5.result * share)) (sym c.from-4.ensures)
-          (subst (λ m. AreWhole q P p share_unit d (old.cells + 1) (old.chains + c.chains.result) (old.chambers + count) (old.most + m)) (sym own)
+      whole = subst (λ n. AreWhole q P p share_unit d (old.cells + 1) (old.chains + c.chains.result) (old.chambers + n) (old.most + c.whole.result)) (sym c.from-4.ensures)
+          (subst (λ m. AreWhole q P p share_unit d (old.cells + 1) (old.chains + c.chains.result) (old.chambers + count) (old.most + m)) (sym told.all)
           (whole_more q P p share_unit c.args.k old.cells old.chains old.chambers old.most c.chains.result count (count * share) census.whole one));
       fixed = fixed_more q P p c.args.k old.fixed c.from.result c.from-2.result census.fixed
           (c.from.ensures ∙ same_flag P c.first.result (first p) d c.known-beside.result c.known-beside.ensures.image c.first.ensures)

@@ -1,12 +1,11 @@
-use Rattle.std.proofs.Common.{rules, ◌≡◌, ℕ, ◌+◌, ◌*◌, ◌%◌, ◌≤◌, List, Some, length, slice_get, true, false, refl, sym, ap, ◌∙◌, arith}
+use Rattle.std.proofs.Common.{rules, ◌≡◌, ℕ, ◌+◌, ◌/◌, ◌%◌, ◌≤◌, List, Some, length, slice_get, true, refl, sym, ap, ◌∙◌, arith}
 use Rattle.dd_ends.specs.PathEnd.{PathEnd}
 use Rattle.dd_ends.specs.Sides.{end_of}
 use Rattle.dd_ends.specs.declared.class_shares.ClassShares.{ClassShares}
 use Rattle.dd_ends.specs.declared.end.End.{End}
-use Rattle.dd_ends.proofs.ClassLemmas.{class_of_both}
 use Rattle.dd_ends.proofs.KeptLemmas.{live_end, connected_kept}
-use Rattle.dd_ends.proofs.SideLemmas.{AreTwoEnds, right_connected, small_connected}
-use Rattle.dd_ends.proofs.SumLemmas.{total_small, weights_within, few_chambers, join_of_none, passing}
+use Rattle.dd_ends.proofs.SideLemmas.{AreTwoEnds, right_connected}
+use Rattle.dd_ends.proofs.SumLemmas.{total_small, weights_within, few_chambers, none_with_weight}
 use Rattle.dd_ends.proofs.WriteLemmas.{view}
 use Rattle.dd_ends.proofs.side.Side.connect.Goals as goal
 
@@ -28,8 +27,8 @@ joined-class-requires c =
     let few = few_chambers t has.partial c.args.self.now has.kept two has.small in
     omega (arith, few)
 
-pub joined-share-requires : goal.joined-share-requires
-joined-share-requires c =
+pub joined-together-requires : goal.joined-together-requires
+joined-together-requires c =
     let has = c.requires.some in
     let t = c.args.shares.now in
     let r = c.requires in
@@ -45,8 +44,8 @@ overflow_add-had c =
     let two = two_live t c.args.self.now.ends c.args.x c.args.y c.end-one.result c.end-other.result c.end-one.ensures c.end-other.ensures r.first_end r.second_end r.apart r.no_other in
     let within = weights_within t has.partial c.args.self.now has.kept two in
     let total = total_small t has.partial c.args.self.now has.kept has.small in
-    let one = c.weight.ensures in
-    let other = c.weight-2.ensures in
+    let one = c.weight.ensures.told in
+    let other = c.weight-2.ensures.told in
     omega (arith, within, total, one, other)
 
 pub total_after-self-requires-clause-total : goal.total_after-self-requires-clause-total
@@ -59,19 +58,9 @@ total_after-self-requires-clause-had c =
     let r = c.requires in
     let two = two_live t c.args.self.now.ends c.args.x c.args.y c.end-one.result c.end-other.result c.end-one.ensures c.end-other.ensures r.first_end r.second_end r.apart r.no_other in
     let within = weights_within t has.partial c.args.self.now has.kept two in
-    let one = c.weight.ensures in
-    let other = c.weight-2.ensures in
+    let one = c.weight.ensures.told in
+    let other = c.weight-2.ensures.told in
     omega (arith, within, one, other)
-
-pub total_after-self-requires-clause-small : goal.total_after-self-requires-clause-small
-total_after-self-requires-clause-small c =
-    let has = c.requires.some in
-    let t = c.args.shares.now in
-    let r = c.requires in
-    let side = c.args.self.now in
-    let two = two_live t side.ends c.args.x c.args.y c.end-one.result c.end-other.result c.end-one.ensures c.end-other.ensures r.first_end r.second_end r.apart r.no_other in
-    small_connected t r.pair has.partial (λ _. false) (view t side.ends) side.total side.total (passing t has.partial side has.kept (λ _. false)) two
-    (few_chambers t has.partial side has.kept two has.small) (join_of_none has.partial t.pair c.args.x c.args.y) c.joined-share.result c.joined-share.ensures
 
 pub returns-clause-side : goal.returns-clause-side
 returns-clause-side c P join kept =
@@ -81,29 +70,34 @@ returns-clause-side c P join kept =
     let r = c.requires in
     let one = c.end-one.result in
     let other = c.end-other.result in
-    let v = c.joined-share.result in
+    let v = c.joined-together.ensures.told.share in
     let two = two_live t xs c.args.x c.args.y one other c.end-one.ensures c.end-other.ensures r.first_end r.second_end r.apart r.no_other in
     let few = few_chambers t has.partial c.args.self.now has.kept two has.small in
     let long : length xs ≡ 74 = search rules in
     let class = c.joined-class.ensures in
-    let both = (class_of_both one.class.number other.class.number one.class.small other.class.small (omega (arith, few))).chambers in
-    let all : c.chambers.result * v ≡ (one.class.number % 64 + other.class.number % 64) * v = ap (λ k. k * v) (c.chambers.ensures ∙ ap (λ n. n % 64) class ∙ both) in
+    let all = c.joined-together.ensures.told.all in
     let sum = c.total_after-self.ensures in
-    let first = c.weight.ensures in
-    let second = c.weight-2.ensures in
+    let first = c.weight.ensures.told in
+    let second = c.weight-2.ensures.told in
     connected_kept t r.pair P (λ _. true) xs c.args.self.now.total c.total_after-self.result kept long c.args.x one r.first c.args.y other two r.second few v
     c.from.result c.from-2.result c.from-3.result c.from-4.result c.none.result c.none-2.result c.beyond.result c.beyond-2.result
     c.from.ensures c.from-2.ensures c.from-3.ensures c.from-4.ensures c.none.ensures c.none-2.ensures
     (record { fixed = c.beyond.ensures.fixed; other = c.beyond.ensures.other; class = λ low. c.beyond.ensures.class low ∙ class })
     (record { fixed = c.beyond-2.ensures.fixed; other = c.beyond-2.ensures.other; class = λ low. c.beyond-2.ensures.class low ∙ class })
-    join c.joined-share.ensures (omega (arith, sum, first, second, all))
+    join c.joined-together.ensures.told.right (omega (arith, sum, first, second, all))
 
-pub returns-clause-share : goal.returns-clause-share
-returns-clause-share c P join kept s sought =
+pub returns-clause-dead : goal.returns-clause-dead
+returns-clause-dead c none P join kept s sought =
     let has = c.requires.some in
     let t = c.args.shares.now in
     let r = c.requires in
     let side = c.args.self.now in
+    let one = c.end-one.result.class.number in
+    let other = c.end-other.result.class.number in
     let two = two_live t side.ends c.args.x c.args.y c.end-one.result c.end-other.result c.end-one.ensures c.end-other.ensures r.first_end r.second_end r.apart r.no_other in
-    right_connected t r.pair P (λ _. true) (view t side.ends) side.total side.total kept two (few_chambers t has.partial side has.kept two has.small) join
-    c.joined-share.result c.joined-share.ensures s sought.wanted (record { completes = sought.completes; passed = refl })
+    let told = c.joined-together.ensures.told in
+    let some = two.one.some in
+    none_with_weight t.request P t.pair (c.args.x / 2) (one % 64 + other % 64) told.share c.joined-together.result (omega (arith, some)) told.all none
+    (λ s sought. right_connected t r.pair P (λ _. true) (view t side.ends) side.total side.total kept two (few_chambers t has.partial side has.kept two has.small) join
+    told.share told.right s sought.wanted (record { completes = sought.completes; passed = refl }))
+    s sought

@@ -1,4 +1,5 @@
-use Rattle.std.proofs.Common.{◌≡◌, ◌*◌, length-set, set, true, get_or, refl, sym, ap, ◌∙◌, subst, arith}
+use Rattle.std.proofs.Common.{◌≡◌, ◌*◌, length-set, set, true, refl, sym, ap, ◌∙◌, subst, arith}
+use Rattle.dd_ends.specs.Classes.{share_in}
 use Rattle.dd_ends.specs.Passing.{AreEndsOf}
 use Rattle.dd_ends.specs.Sides.{class_weight}
 use Rattle.dd_ends.proofs.PassingTables.{chambers_alone}
@@ -25,14 +26,14 @@ loop-k-preserved c =
 pub returns : goal.returns
 returns c P same =
     let t = c.args.shares.now in
-    let v = get_or t.open_paths 1 0 in
+    let v = share_in t.weights 1 in
     let done = c.loop-k-test.false in
     let end = c.loop-k.auto.k-end in
     let all : c.loop-k.k ≡ P.size = omega (arith, done, end, same) in
     let ends = view t c.loop-k.ends in
-    let weight : c.weight.result ≡ class_weight t 1 = c.weight.ensures ∙ ap (class_weight t) c.of-class.ensures in
+    let weight : c.weight.result ≡ class_weight t 1 = c.weight.ensures.told ∙ ap (class_weight t) c.of-class.ensures in
     let one : class_weight t 1 ≡ v = omega arith in
     let total : c.from-2.result * c.weight.result ≡ P.size * v = ap (λ n. n * c.weight.result) (c.from-2.ensures ∙ sym same) ∙ ap (λ w. P.size * w) (weight ∙ one) in
     subst (AreEndsOf t.request P (λ _. true) t.pair ends) (sym total)
-    (chambers_alone t.request P (λ _. true) t.pair ends v (t.are_open.each 1 (omega arith) (omega arith))
+    (chambers_alone t.request P (λ _. true) t.pair ends v ((t.are_told.each 1 (omega arith)).told.with_ends (omega arith) (omega arith))
     (λ x live. alone_of_own t P.size ends x (subst (λ k. IsOwn t k ends x) all (c.loop-k.invariant.own x live))))

@@ -10,8 +10,8 @@ invariant-loop-span l =
     (l.count ≡ length (joined_spans (take l.span-index l.span-items))) × AllByRecursion (IsBefore l.at) (joined_spans (take l.span-index l.span-items))
 
 -- and so are so many of the next one
-abbrev pub invariant-loop-symbol : goal.invariant-loop-symbol
-invariant-loop-symbol l =
-    (l.count ≡ length (joined_spans (take l.span-index l.span-items)) + l.symbol-index)
+abbrev pub invariant-loop-k : goal.invariant-loop-k
+invariant-loop-k l =
+    (l.count ≡ length (joined_spans (take l.span-index l.span-items)) + l.k)
     × AllByRecursion (IsBefore l.at) (joined_spans (take l.span-index l.span-items))
-    × AllByRecursion (IsBefore l.at) (take l.symbol-index l.symbol-items)
+    × AllByRecursion (IsBefore l.at) (take l.k l.symbols)

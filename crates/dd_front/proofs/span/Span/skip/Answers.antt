@@ -7,7 +7,7 @@ pub returns : goal.returns
 returns c =
     let start = c.self.inside.start in
     let end = c.self.inside.end in
-    let items = (arc_value c.self.inside.items).items in
+    let items = arc_value c.self.inside.list in
     let n = c.args.count in
     let inside = c.self.invariant in
     let len : length (take (end - start) (drop start items)) ≡ end - start = simp (length-take, length-drop) (omega arith) in

@@ -1,0 +1,2 @@
+pub mod CodePlaces
+mod Growth

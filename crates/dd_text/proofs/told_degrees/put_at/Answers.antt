@@ -1,0 +1,27 @@
+use Rattle.std.proofs.Common.{◌∙◌, ◌+◌, ◌++◌, drop, get_or, map, subst, ap}
+use Rattle.dd_model.specs.Symbol.{item}
+use Rattle.dd_text.specs.Writing.{next_number}
+use Rattle.dd_text.proofs.Spacing.{IsSpaced, spaced_none, spaced_next, spaced_all, mapped-cons, mapped_end}
+use Rattle.dd_text.proofs.told_degrees.put_at.Goals as goal
+
+pub loop-chamber-init : goal.loop-chamber-init
+loop-chamber-init c = spaced_none (map (item c.args.degrees.now) c.args.chambers.now) c.args.out.now.items
+
+pub loop-chamber-preserved : goal.loop-chamber-preserved
+loop-chamber-preserved c =
+    let m = c.args.degrees.now in
+    let ds = c.args.chambers.now in
+    let k = c.loop-chamber.chamber-index in
+    let all = map (item m) ds in
+    let old = c.args.out.now.items in
+    let before = subst (λ left. IsSpaced all left c.loop-chamber.begun old c.loop-chamber.out.items) (mapped-cons (item m) ds k c.loop-chamber-test.true) c.loop-chamber.invariant in
+    spaced_next all (map (item m) (drop (k + 1) ds)) (item m (get_or ds k 0)) c.loop-chamber.begun old c.loop-chamber.out.items c.put_next.new.out.items before
+    (c.in_ok-put_next.ensures.next ∙ ap (λ n. c.loop-chamber.out.items ++ next_number c.loop-chamber.begun n) c.from.ensures)
+
+pub returns-clause-degrees : goal.returns-clause-degrees
+returns-clause-degrees c =
+    let m = c.args.degrees.now in
+    let all = map (item m) c.args.chambers.now in
+    spaced_all all c.loop-chamber.begun c.args.out.now.items c.loop-chamber.out.items
+    (subst (λ left. IsSpaced all left c.loop-chamber.begun c.args.out.now.items c.loop-chamber.out.items)
+    (mapped_end (item m) c.args.chambers.now c.loop-chamber.chamber-index c.loop-chamber-test.false) c.loop-chamber.invariant)
