@@ -8,6 +8,14 @@ use Rattle.dd_model.specs.Small.{IsSmallSymbol}
 use Rattle.dd_symbol.specs.Images.{of_rows, with_degrees}
 use Rattle.dd_list.specs.declared.symbol_list.Place.{Place}
 
+-- a symbol with other degrees, those of the tiles coming first
+abbrev pub with_told : Symbol → List ℕ → Symbol
+with_told s degrees = with_degrees s (take s.size degrees) (drop s.size degrees)
+
+-- the place of a table, and of degrees that begin at so many
+abbrev pub place_of : ℕ → ℕ → Place
+place_of table degrees = record { table = table; degrees = degrees }
+
 -- the table of a number
 abbrev pub table_at : List Symbol → ℕ → Symbol
 table_at tables k = get_or tables k (of_rows 0 [])

@@ -1,8 +1,8 @@
-ghost use Rattle.std.specs.Prelude.{◌≡◌, ◌++◌, ◌∷◌, [], ◌-◌, ◌≤◌, length, take, drop, IsTrue, IfOk, OnOk, OnErr};
+ghost use Rattle.std.specs.Prelude.{◌≡◌, ◌++◌, ◌∷◌, [], ◌-◌, ◌≤◌, length, take, drop, slice_index_or, IsTrue, IfOk, OnOk, OnErr};
+ghost use Rattle.dd_model.specs.Symbol.{Symbol as Tiling};
 ghost use Rattle.dd_model.specs.Connected.{Connected as AllReached};
 ghost use Rattle.dd_model.specs.Small.{IsSmallSymbol};
-ghost use Rattle.dd_symbol.specs.Images.{with_degrees};
-ghost use Rattle.dd_list.specs.Lists.{HasGrown, IsTableOf};
+ghost use Rattle.dd_list.specs.Lists.{HasGrown, IsTableOf, place_of, with_told};
 
 use crate::symbols::Symbols;
 use dd_model::Memory;
@@ -63,16 +63,26 @@ fn place_table(tables: &mut Vec<Connected>, table: &Connected) -> Result<usize, 
     Ok(tables.len() - 1)
 }
 
-/// Appends degrees of tiles and vertices, and tells where they begin.
-fn place_degrees(degrees: &mut Vec<u8>, m01: &[u8], m12: &[u8]) -> Result<usize, Memory>
+/// Appends the symbol whose table has a number and whose degrees these are. At `Err` there are degrees
+/// that no symbol has.
+fn append(
+    degrees: &mut Vec<u8>,
+    places: &mut Vec<Place>,
+    table: usize,
+    own: &[u8],
+) -> Result<(), Memory>
     ensures grown { HasGrown degrees.old.items degrees.new.items }
-    ensures place { IfOk result (λ place. place ≡ length degrees.old.items) }
-    ensures degrees { OnOk result (degrees.new.items ≡ degrees.old.items ++ m01.now ++ m12.now) }
+    ensures degrees { OnOk result (degrees.new.items ≡ degrees.old.items ++ own.now) }
+    ensures place { OnOk result (places.new.items
+        ≡ places.old.items ++ place_of table (length degrees.old.items) ∷ []) }
+    ensures same { OnErr result (places.new.items ≡ places.old.items) }
 {
-    let place = degrees.len();
-    degrees.extend_from_slice(m01)?;
-    degrees.extend_from_slice(m12)?;
-    Ok(place)
+    let place = Place {
+        table,
+        degrees: degrees.len(),
+    };
+    degrees.extend_from_slice(own)?;
+    Ok(places.push(place)?)
 }
 
 impl SymbolList {
@@ -99,19 +109,32 @@ impl SymbolList {
         self.places.len()
     }
 
-    /// Appends the symbol with the involutions of a table and these degrees, which are known to be those
-    /// of a symbol. At `Err` the list is as before.
-    pub fn push(&mut self, table: &Connected, m01: &[u8], m12: &[u8]) -> Result<(), Memory>
-        requires { IsSmallSymbol (with_degrees table.now m01.now m12.now) }
+    /// Appends the symbol with the involutions of a table and these degrees, those of the tiles at the
+    /// chambers 1 to n and then those of the vertices. They are known to be those of a symbol. At `Err`
+    /// the list is as before.
+    pub fn push(&mut self, table: &Connected, degrees: &[u8]) -> Result<(), Memory>
+        requires { IsSmallSymbol (with_told table.now degrees.now) }
         ensures list { OnOk result
-            (self.new ≡ self.old ++ with_degrees table.now m01.now m12.now ∷ []) }
+            (self.new ≡ self.old ++ with_told table.now degrees.now ∷ []) }
         ensures same { OnErr result (self.new ≡ self.old) }
     {
-        let place = Place {
-            table: place_table(&mut self.tables, table)?,
-            degrees: place_degrees(&mut self.degrees, m01, m12)?,
-        };
-        Ok(self.places.push(place)?)
+        let number = place_table(&mut self.tables, table)?;
+        append(&mut self.degrees, &mut self.places, number, degrees)
+    }
+
+    /// Appends the symbol with the involutions of the last one and these degrees, as `push` has them. It
+    /// compares no tables. At `Err` the list is as before.
+    pub fn push_alike(&mut self, degrees: &[u8]) -> Result<(), Memory>
+        requires some { 1 ≤ length self.old }
+        requires small { (s : Tiling) → s ≡ slice_index_or self.old (length self.old - 1) s
+            → IsSmallSymbol (with_told s degrees.now) }
+        ensures list { OnOk result ((s : Tiling)
+            → s ≡ slice_index_or self.old (length self.old - 1) s
+            → self.new ≡ self.old ++ with_told s degrees.now ∷ []) }
+        ensures same { OnErr result (self.new ≡ self.old) }
+    {
+        let last = self.places[self.places.len() - 1];
+        append(&mut self.degrees, &mut self.places, last.table, degrees)
     }
 
     /// All symbols.

@@ -8,10 +8,9 @@ use std::alloc::Global;
 use std::process::Abort;
 use std::test::Fail;
 
-/// Involutions, degrees, and the code that they make.
+/// Involutions, the degrees of the tiles and of the vertices, and the code that they make.
 type Row = (
     [&'static [u32]; 3],
-    &'static [u8],
     &'static [u8],
     &'static [u32],
 );
@@ -20,17 +19,15 @@ type Row = (
 const ROWS: [Row; 3] = [
     (
         [&[1, 2], &[1, 2], &[2, 1]],
-        &[3, 6],
-        &[4, 4],
+        &[3, 6, 4, 4],
         &[1, 1, 2, 2, 2, 1, 3, 6, 4, 4],
     ),
     (
         [&[1, 2], &[1, 2], &[2, 1]],
-        &[4, 12],
-        &[4, 4],
+        &[4, 12, 4, 4],
         &[1, 1, 2, 2, 2, 1, 4, 12, 4, 4],
     ),
-    ([&[1], &[1], &[1]], &[3], &[6], &[1, 1, 1, 3, 6]),
+    ([&[1], &[1], &[1]], &[3, 6], &[1, 1, 1, 3, 6]),
 ];
 
 const LINES: &[u8] = b"<1.9:2:1 2,1 2,2:3 6,4>\n<1.10:2:1 2,1 2,2:4 12,4>\n<1.11:1:1,1,1:3,6>\n";
@@ -55,14 +52,15 @@ fn words(alloc: Global, bytes: &[u8]) -> Result<Vec<u32>, Memory>
 
 /// Appends the symbol of a row.
 fn add(alloc: Global, all: &mut SymbolList, row: &Row) -> Result<(), Refusal> {
-    let ([s0, s1, s2], m01, m12, _) = row;
+    let ([s0, s1, s2], degrees, _) = row;
     let n = s0.len();
-    if [s1.len(), s2.len(), m01.len(), m12.len()] != [n; 4] {
+    if s1.len() != n || s2.len() != n || degrees.len() != 2 * n {
         return Err(Refusal::Memory);
     }
+    let (m01, m12) = degrees.split_at(n);
     let ops = [list(alloc, s0)?, list(alloc, s1)?, list(alloc, s2)?];
     let symbol = build(alloc, ops, words(alloc, m01)?, words(alloc, m12)?, 2)?;
-    all.push(&symbol, m01, m12)?;
+    all.push(&symbol, degrees)?;
     Ok(())
 }
 
@@ -78,7 +76,7 @@ fn listed_symbols(rt: HostRuntime) -> Result<(), Fail> {
     for (place, row) in ROWS.iter().enumerate() {
         if place < all.len() {
             let copy = all.copy(alloc, place)?;
-            assert!(rt; copy.symbol().code(alloc)?.as_slice() == row.3);
+            assert!(rt; copy.symbol().code(alloc)?.as_slice() == row.2);
         }
     }
     let mut out = Vec::new(alloc);
