@@ -1,6 +1,6 @@
 -- The numbers of a least code, beside the greatest before them.
-use Rattle.std.proofs.Common.{◌≡◌, ℕ, zero, suc, ◌+◌, ◌*◌, ◌<◌, ◌≤◌, ◌↔◌, max, List, [], ◌∷◌, ◌++◌, length, get_or, take, drop, refl, sym, ap, ◌∙◌, subst, arith}
-use Rattle.std.proofs.lemmas.List.{drop_more, get_or_append_left, append_assoc, take-append-le}
+use Rattle.std.proofs.Common.{◌≡◌, ℕ, zero, suc, ◌+◌, ◌*◌, ◌<◌, ◌≤◌, max, List, [], ◌∷◌, ◌++◌, length, get_or, take, refl, sym, ap, ◌∙◌, arith}
+use Rattle.std.proofs.lemmas.List.{get_or_append_left, append_assoc, take-append-le}
 use Rattle.dd_model.specs.Symbol.{Symbol}
 use Rattle.dd_model.specs.Lists.{Begins}
 use Rattle.dd_model.specs.Code.{code, all_images}
@@ -11,14 +11,16 @@ use Rattle.dd_invol.specs.Orderly.{IsOrderly}
 use Rattle.dd_invol.specs.Under.{IsUnder, next_number}
 use Rattle.dd_invol.specs.FirstVisit.{greatest}
 
-grows_at : (m : ℕ) (xs : List ℕ) (t : ℕ) → 1 ≤ m → Grows m xs → t < length xs → get_or xs t 0 ≤ max m (greatest (take t xs)) + 1
+pub grows_at : (m : ℕ) (xs : List ℕ) (t : ℕ) → 1 ≤ m → Grows m xs → t < length xs → get_or xs t 0 ≤ max m (greatest (take t xs)) + 1
 grows_at m [] t pos grows low = absurd (omega arith)
 grows_at m (x ∷ xs) zero pos grows low = let first = grows.0 in omega arith
 grows_at m (x ∷ xs) (suc t) pos grows low = let rest = grows_at (max m x) xs t (omega arith) grows.1 (omega arith) in omega arith
 
--- the first of the numbers from a place on, and those after it
-pub grows_on : (m : ℕ) (xs : List ℕ) (i : ℕ) → i < length xs → Grows m (drop i xs) ↔ ((get_or xs i 0 ≤ m + 1) × Grows (max m (get_or xs i 0)) (drop (i + 1) xs))
-grows_on m xs i low = (subst (Grows m) (drop_more xs i 0 low), subst (Grows m) (sym (drop_more xs i 0 low)))
+pub grows_from : (m : ℕ) (xs : List ℕ) → 1 ≤ m → ((t : ℕ) → t < length xs → get_or xs t 0 ≤ max m (greatest (take t xs)) + 1) → Grows m xs
+grows_from m [] pos each = tt
+grows_from m (x ∷ xs) pos each =
+    let first = each 0 (omega arith) in
+    (omega (arith, first), grows_from (max m x) xs (omega arith) (λ t low. let later = each (suc t) (omega arith) in omega (arith, later)))
 
 pub one_le_greatest : (xs : List ℕ) → 1 ≤ greatest xs
 one_le_greatest [] = omega arith

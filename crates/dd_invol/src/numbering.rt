@@ -1,6 +1,5 @@
 ghost use Rattle.std.specs.Prelude.{◌≡◌, ◌↔◌, ℕ, ◌+◌, ◌*◌, ◌%◌, ◌^◌, [], ◌∷◌, ◌++◌, ◌≤◌, ◌<◌, IsTrue, length};
 ghost use Rattle.std.specs.List.{Contains};
-ghost use Rattle.dd_model.specs.FirstVisit.{Grows};
 ghost use Rattle.dd_invol.specs.FirstVisit.{greatest, FitsAt, CanFollow, IsFirstVisitPrefix};
 
 /// The greatest of 1 and some numbers.
@@ -12,20 +11,6 @@ pub fn greatest(numbers: &[u8]) -> u8
         most = most.max(*number);
     }
     most
-}
-
-/// Whether each number is at most one more than the greatest of 1 and the numbers before it.
-pub(crate) fn grows(numbers: &[u8]) -> bool
-    ensures { IsTrue result ↔ Grows 1 numbers.now }
-{
-    let mut most = 1u8;
-    for number in numbers {
-        if number.saturating_sub(1) > most {
-            return false;
-        }
-        most = most.max(*number);
-    }
-    true
 }
 
 /// Whether a new number fits one at an earlier place of the same involution.
@@ -48,12 +33,12 @@ fn fits(prefix: &[u8], number: u8) -> bool
         ↔ ((u : ℕ) → u < length prefix.now → u % 3 ≡ length prefix.now % 3
         → FitsAt prefix.now number (length prefix.now) u) }
 {
-    for earlier in 0..prefix.len() {
-        if earlier % 3 == prefix.len() % 3 {
-            if !fits_at(prefix, number, earlier) {
-                return false;
-            }
+    let mut earlier = prefix.len() % 3;
+    while earlier < prefix.len() {
+        if !fits_at(prefix, number, earlier) {
+            return false;
         }
+        earlier += 3;
     }
     true
 }
@@ -92,9 +77,9 @@ pub fn can_follow(size: u32, prefix: &[u8], number: u8) -> bool
     (prefix.len() as u64) < 3 * size as u64
         && number >= 1
         && number as u32 <= size
-        && number - 1 <= greatest(prefix)
         && fits(prefix, number)
         && reaches(size, prefix, number)
+        && number - 1 <= greatest(prefix)
 }
 
 /// Whether the chambers come in the order of their first visit in the beginning of a code.

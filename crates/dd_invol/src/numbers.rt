@@ -1,4 +1,5 @@
-ghost use Rattle.std.specs.Prelude.{◌≡◌, ◌<◌, ◌≤◌, [], ◌∷◌, ◌++◌, length, take};
+ghost use Rattle.std.specs.Prelude.{◌≡◌, ◌↔◌, ◌<◌, ◌≤◌, [], ◌∷◌, ◌++◌, IsTrue, length, take};
+ghost use Rattle.dd_model.specs.FirstVisit.{Grows};
 ghost use Rattle.dd_invol.specs.FirstVisit.{greatest};
 
 use std::marker::Model;
@@ -62,6 +63,20 @@ impl Numbers {
         ensures { result ≡ greatest (take count self.now) }
     {
         self.mosts[count]
+    }
+
+    /// Whether each number is at most one more than the greatest of 1 and the numbers before it. The
+    /// loop has no way out but its end, so that many numbers are compared at once.
+    pub(crate) fn grows(&self) -> bool
+        ensures { IsTrue result ↔ Grows 1 self.now }
+    {
+        let mut grows = true;
+        for place in 0..self.count as usize {
+            if self.numbers[place].saturating_sub(1) > self.mosts[place] {
+                grows = false;
+            }
+        }
+        grows
     }
 
     /// Puts a number at the end.

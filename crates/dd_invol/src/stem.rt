@@ -17,7 +17,7 @@ use dd_model::Index;
 #[derive(Drop)]
 pub struct Stem {
     rows: Rows,
-    prefix: Numbers,
+    pub(crate) prefix: Numbers,
 }
 
 impl Stem {

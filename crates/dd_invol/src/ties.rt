@@ -3,7 +3,6 @@ ghost use Rattle.dd_invol.specs.Stem.{Any, IsStem, prefix_of, size_of};
 ghost use Rattle.dd_invol.specs.Ties.{AreTiesOf};
 ghost use Rattle.dd_invol.specs.Under.{HasNothingUnder};
 
-use crate::numbering::grows;
 use crate::stem::Stem;
 use crate::traversal::{Standing, Visit, stand};
 use dd_model::Memory;
@@ -20,7 +19,7 @@ impl Stem {
             (HasNothingUnder Any (size_of self.now) (prefix_of self.now))
             (λ ties. AreTiesOf (size_of self.now) (prefix_of self.now) ties.items)) }
     {
-        if !grows(self.prefix()) || !self.meets_all() {
+        if !self.prefix.grows() || !self.meets_all() {
             return Ok(None);
         }
         let mut ties = Vec::new(alloc);

@@ -1,5 +1,4 @@
 use Rattle.std.proofs.Common.{◌≡◌, ℕ, ◌+◌, ◌∷◌, ◌++◌, [], List, sym, ap, ◌∙◌, subst, arith}
-use Rattle.dd_model.specs.FirstVisit.{Grows}
 use Rattle.dd_invol.specs.Beaten.{IsBeaten}
 use Rattle.dd_invol.specs.Passed.{IsPassed}
 use Rattle.dd_invol.specs.Rows.{partial_of}
@@ -18,7 +17,7 @@ of_stem P stem rows numbers same equal is = subst (P stem.rows) equal (subst (λ
 pub returns-then-not-grows : goal.returns-then-not-grows
 returns-then-not-grows c = elim c.then-not-grows.branch [
   | then-not-grows-via-then-not-grows w ↦
-      none_without_growth c.args.self.now c.requires.whole (λ grows. let test = c.grows.ensures.1 (subst (Grows 1) (sym c.prefix.ensures) grows) in let fails = w.if-not-grows.true in cc)
+      none_without_growth c.args.self.now c.requires.whole (λ grows. let test = c.grows.ensures.1 grows in let fails = w.if-not-grows.true in cc)
   | then-not-grows-via-else-not-grows+then-not-meets_all w ↦
       none_unmet_before c.args.self.now c.requires.whole (λ met. let test = w.meets_all.ensures.1 met in let fails = w.if-not-meets_all.true in cc)
 ]
@@ -27,7 +26,7 @@ pub returns-in-Smaller : goal.returns-in-Smaller
 returns-in-Smaller c =
     let stem = c.args.self.now in
     none_under_beaten Any (size_of stem) (prefix_of stem) (partial_of stem.rows) c.requires.stem.follows c.requires.stem.short
-    (of_stem (λ r xs. IsBeaten (partial_of r) xs) stem c.rows.result.now c.prefix-in-loop-k.result.now c.rows.ensures c.prefix-in-loop-k.ensures (c.stand.ensures.beaten c.in-Smaller.is))
+    (of_stem (λ r xs. IsBeaten (partial_of r) xs) stem c.rows.result.now c.prefix.result.now c.rows.ensures c.prefix.ensures (c.stand.ensures.beaten c.in-Smaller.is))
 
 pub loop-k-preserved : goal.loop-k-preserved
 loop-k-preserved c =
@@ -39,7 +38,7 @@ loop-k-preserved c =
       visiting = c.stand.ensures.visiting;
       starts = elim c.match-stand.branch [
         | in-Larger w ↦
-            let passed = of_stem (λ r xs. IsPassed (partial_of r) xs (k + 1)) stem c.rows.result.now c.prefix-in-loop-k.result.now c.rows.ensures c.prefix-in-loop-k.ensures (c.stand.ensures.larger w.in-Larger.is) in
+            let passed = of_stem (λ r xs. IsPassed (partial_of r) xs (k + 1)) stem c.rows.result.now c.prefix.result.now c.rows.ensures c.prefix.ensures (c.stand.ensures.larger w.in-Larger.is) in
             subst (λ v. AreOpenTo P (prefix_of stem) (k + 1) v.items) (sym w.ties-is) (open_passed P (prefix_of stem) c.loop-k.ties.items k old passed)
         | in-Open+in_ok-push-in-Open w ↦
             let longer : c.match-stand.ties.items ≡ c.loop-k.ties.items ++ (k + 1) ∷ [] = ap (λ v. v.items) w.ties-is ∙ w.in_ok-push-in-Open.ensures.items in
@@ -56,6 +55,6 @@ returns c =
     let size = c.size-k-end.ensures in
     let test = c.loop-k-test.false in
     let end = c.loop-k.auto.k-end in
-    let grows = subst (Grows 1) c.prefix.ensures (c.grows.ensures.0 c.if-not-grows.false) in
+    let grows = c.grows.ensures.0 c.if-not-grows.false in
     let met = c.meets_all.ensures.0 c.if-not-meets_all.false in
     ties_of_open stem c.loop-k.ties.items c.requires.stem c.requires.whole grows met (subst (λ k. AreOpenTo (partial_of stem.rows) (prefix_of stem) k c.loop-k.ties.items) (omega arith) c.loop-k.invariant.starts)
