@@ -1,4 +1,5 @@
 mod Parts
+mod InTurn
 mod Whole
 mod Settled
 mod Steps

@@ -29,7 +29,7 @@ use Rattle.dd_front.proofs.Events.{held_next}
 use Rattle.dd_board.specs.Desk.{IsDesk, IsCall, first_place}
 use Rattle.dd_board.proofs.Openings.{open_at_first}
 
-extends_itself : (job : Job) → Extends job job
+pub extends_itself : (job : Job) → Extends job job
 extends_itself job = record { size = refl; begins = begins_itself job.prefix }
 
 extends_through : (a b c : Job) → Extends a b → Extends b c → Extends a c

@@ -1,26 +1,27 @@
 -- A desk whose entries are all done has what is under the jobs of its round.
-use Rattle.std.proofs.Common.{◌≡◌, ⊎_elim, List, [], ◌∷◌, ◌++◌, map, refl, sym, ap, subst}
+use Rattle.std.proofs.Common.{◌≡◌, ⊎_elim, List, [], ◌∷◌, refl, sym, subst}
 use Rattle.std.specs.List.{AllByRecursion}
 use Rattle.dd_model.specs.Symbol.{Symbol}
 use Rattle.dd_model.specs.Jobs.{AreAscendingJobs, AreApart, IsMemberUnder, AreMembersUnder}
-use Rattle.dd_model.specs.Joined.{AreUnderInTurn, AreUnderJobs, IsUnderOne, joined}
+use Rattle.dd_model.specs.Joined.{IsUnderOne}
 use Rattle.dd_model.specs.Position.{IsBefore}
 use Rattle.dd_model.specs.declared.requests.Request.{Request}
 use Rattle.dd_model.specs.declared.jobs.Job.{Job}
-use Rattle.dd_model.proofs.JoinedLists.{first_parts, in_turn_joined}
+use Rattle.dd_model.proofs.JoinedLists.{first_parts}
 use Rattle.dd_model.proofs.Lists.{Contains-none, Contains-cases, Contains-map, each_of, all_from_members}
 use Rattle.dd_model.proofs.Positions.{under_not_before, before_later}
 use Rattle.dd_front.specs.declared.entry.Entry.{Entry}
 use Rattle.dd_front.specs.declared.entry.State.{State}
 use Rattle.dd_front.specs.declared.entry.State.TheVariants.{Open, Out, Done}
 use Rattle.dd_front.specs.declared.event.Event.{Event}
-use Rattle.dd_front.specs.Absorbed.{IsFound, ComeFrom, found_by, list_of}
+use Rattle.dd_front.specs.Absorbed.{IsFound, ComeFrom}
 use Rattle.dd_front.specs.Joining.{IsDone}
-use Rattle.dd_front.specs.Machine.{Machine, jobs_of}
+use Rattle.dd_front.specs.Machine.{Machine}
 use Rattle.dd_front.proofs.Standing.{under_extended}
 use Rattle.dd_board.specs.Desk.{IsDesk, first_place}
 use Rattle.dd_board.proofs.Desks.{desk_held}
 use Rattle.dd_steal.specs.Sweep.{AreDone}
+use Rattle.dd_steal.proofs.InTurn.{found_under}
 use Rattle.dd_steal.proofs.Parts.{desk_parts}
 
 -- no member under a round's jobs comes before its first job
@@ -40,17 +41,6 @@ done_found q e done under = go e.state refl done
     go Out is never = absurd never
     go (Done list) is done' = record { list = list; done = is; under = under list is }
 
-abbrev found_list : Entry → List Symbol
-found_list e = list_of e.state
-
-found_in_turn : (q : Request) (es : List Entry) → AllByRecursion (IsFound q) es → AreUnderInTurn q (jobs_of es) (map found_list es)
-found_in_turn q [] all = tt
-found_in_turn q (e ∷ es) all = (subst (λ state. AreMembersUnder q e.job (list_of state)) (sym all.0.done) all.0.under, found_in_turn q es all.1)
-
-found_joined : (es : List Entry) → joined (map found_list es) ≡ found_by es
-found_joined [] = refl
-found_joined (e ∷ es) = ap (λ ss. list_of e.state ++ ss) (found_joined es)
-
 pub desk_done : (q : Request) (jobs : List Job) (f : Machine) (log : List Event) → IsDesk q jobs f log → AreDone f.entries → ComeFrom q jobs f.entries
 desk_done q jobs f log desk done =
     let held = desk_held q jobs f log desk in
@@ -58,8 +48,7 @@ desk_done q jobs f log desk done =
     let found : AllByRecursion (IsFound q) es = all_from_members (IsFound q) es (λ e there. done_found q e (each_of (λ (d : Entry). IsDone d.state) es e done there) (held.found e there)) in
     let ascending = held.go_on.ascending_jobs in
     let apart = held.go_on.apart in
-    let lists = in_turn_joined q (jobs_of es) (map found_list es) ascending apart (found_in_turn q es found) in
-    let own : AreUnderJobs q (jobs_of es) (found_by es) = subst (AreUnderJobs q (jobs_of es)) (found_joined es) lists in
+    let own = found_under q es ascending apart found in
     record {
       found = found;
       ascending = ascending;

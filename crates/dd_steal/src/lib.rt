@@ -1,6 +1,7 @@
 //! Workers over a board, which steal from each other, the sweep of what they leave, and rounds.
 #![tactic(auto)]
 
+mod alone;
 mod choice;
 mod crew;
 mod ended;

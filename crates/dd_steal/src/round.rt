@@ -5,6 +5,7 @@ ghost use Rattle.dd_front.specs.Absorbed.{ComeFrom};
 ghost use Rattle.dd_board.specs.Desk.{AreJobsOf};
 ghost use Rattle.dd_steal.specs.Sweep.{AreDone};
 
+use crate::alone::do_alone;
 use crate::crew::{Member, crew_of, seats_of};
 use crate::sweeping::sweep;
 use crate::worker::work;
@@ -72,6 +73,9 @@ pub fn run_round<R: Threads + Wait + Sync, F: Finder + Sync, G: Gate + Sync>(
     ensures { IfOk result (λ entries. ComeFrom (F.request finder.now) jobs.items entries.items) }
 {
     let workers = crew_size(alloc, finder, &jobs, workers)?;
+    if workers == 1 {
+        return do_alone(alloc, finder, jobs);
+    }
     run_named::<Brand, Brand, Brand, Brand, Brand, Brand, R, F, G>(
         rt,
         alloc,

@@ -1,0 +1,15 @@
+use Rattle.std.proofs.Common.{◌≡◌, ◌++◌, length}
+use Rattle.std.specs.Vec.Iter.{into_iter_items, into_iter_len}
+use Rattle.std.specs.List.{All}
+use Rattle.dd_front.specs.Absorbed.{IsFound}
+use Rattle.dd_front.specs.Machine.{jobs_of}
+use Rattle.dd_steal.proofs.alone.do_alone.Given as goal
+
+abbrev pub invariant-loop-job : goal.invariant-loop-job
+invariant-loop-job g l = record {
+  whole : l.yielded ++ into_iter_items l.job-iterator ≡ l.fn.jobs.items;
+  left : into_iter_len l.job-iterator ≡ length (into_iter_items l.job-iterator);
+  number : l.number ≡ length l.yielded;
+  jobs : jobs_of l.entries.items ≡ l.yielded;
+  found : All (IsFound (g.F.Finder.request l.finder)) l.entries.items;
+}
