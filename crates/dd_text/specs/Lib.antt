@@ -10,3 +10,4 @@ pub mod FileFaults
 pub mod Items
 pub mod Messages
 pub mod Outline
+pub mod Numbered

@@ -45,14 +45,13 @@ fn append_lines(out: &mut Vec<u8>, before: u64, symbols: &[Connected]) -> Result
         return Ok(());
     };
     let mut last = first.symbol();
-    let mut outline = Outline::of(*out.allocator(), last)?;
-    let mut number = u128::from(before);
+    let mut outline = Outline::of(*out.allocator(), u128::from(before), last)?;
     for connected in symbols {
         let symbol = connected.symbol();
         outline.follow(last, symbol)?;
         last = symbol;
-        number += 1;
-        outline.put_line(out, number, symbol)?;
+        outline.advance()?;
+        outline.put_line(out, symbol)?;
     }
     Ok(())
 }
@@ -61,7 +60,7 @@ fn append_line(out: &mut Vec<u8>, k: u128, symbol: &Symbol) -> Result<(), Memory
     ensures line { OnOk result (AddsLine k symbol.now out.old.items out.new.items) }
     ensures longer { IsLonger out.old.items out.new.items }
 {
-    Outline::of(*out.allocator(), symbol)?.put_line(out, k, symbol)
+    Outline::of(*out.allocator(), k, symbol)?.put_line(out, symbol)
 }
 
 /// Appends the images of the three involutions, parted by commas.
@@ -79,7 +78,7 @@ pub(crate) fn put_involutions(out: &mut Vec<u8>, symbol: &Symbol) -> Result<(), 
     put_images(out, symbol, Index::Two)
 }
 
-/// Appends `:`, the degrees of the cells, which are told by their least chambers, and the line's end.
+/// Appends the degrees of the cells, which are told by their least chambers, and the line's end.
 pub(crate) fn put_cells(
     out: &mut Vec<u8>,
     symbol: &Symbol,
@@ -88,12 +87,11 @@ pub(crate) fn put_cells(
 ) -> Result<(), Memory>
     requires tiles { All (IsChamber symbol.now) tiles.now }
     requires vertices { All (IsChamber symbol.now) vertices.now }
-    ensures degrees { OnOk result (out.new.items ≡ out.old.items ++ codes ":"
+    ensures degrees { OnOk result (out.new.items ≡ out.old.items
         ++ spaced (map (degree symbol.now Pair.Tile) tiles.now) ++ codes ","
         ++ spaced (map (degree symbol.now Pair.Vertex) vertices.now) ++ codes ">\n") }
     ensures longer { IsLonger out.old.items out.new.items }
 {
-    put_bytes(out, b":")?;
     put_degrees(out, symbol, Pair::Tile, tiles)?;
     put_bytes(out, b",")?;
     put_degrees(out, symbol, Pair::Vertex, vertices)?;
