@@ -25,3 +25,4 @@ pub mod ListUnique
 pub mod RowUnique
 mod CountingUp
 mod RestReads
+mod OutlineMade

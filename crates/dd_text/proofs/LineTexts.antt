@@ -71,19 +71,10 @@ number_within k rest text end is =
     let end_is = is.end_is in
     omega arith
 
--- what lines share is appended part by part
-pub shared_put : (s : Symbol) (old a b c d e : List ℕ) → a ≡ old ++ codes ":" → b ≡ a ++ decimal s.size → c ≡ b ++ codes ":"
-    → d ≡ c ++ spaced (told_images s Zero) ++ codes "," ++ spaced (told_images s One) ++ codes "," ++ spaced (told_images s Two) → e ≡ d ++ codes ":"
-    → e ≡ old ++ shared_by s
-shared_put s old a b c d e ea eb ec ed ee =
-    let x = spaced (told_images s Zero) in
-    let y = spaced (told_images s One) in
-    let z = spaced (told_images s Two) in
-    ee ∙ ap (λ t. t ++ codes ":") (ed ∙ ap (λ t. t ++ x ++ codes "," ++ y ++ codes "," ++ z) (ec ∙ ap (λ t. t ++ codes ":") (eb ∙ ap (λ t. t ++ decimal s.size) ea)))
-    ∙ parted old (codes ":") (decimal s.size) (codes ":") x (codes ",") y (codes ",") z (codes ":")
-  where
-    parted : (old a b c d e f g h i : List ℕ) → old ++ a ++ b ++ c ++ d ++ e ++ f ++ g ++ h ++ i ≡ old ++ (a ++ b ++ c ++ d ++ e ++ f ++ g ++ h ++ i)
-    parted old a b c d e f g h i = simp (append_assoc) refl
+-- the number of chambers is appended with a colon on each side
+pub size_put : (n : ℕ) (old a b c : List ℕ) → a ≡ old ++ codes ":" → b ≡ a ++ decimal n → c ≡ b ++ codes ":" → c ≡ old ++ (codes ":" ++ decimal n ++ codes ":")
+size_put n old a b c ea eb ec =
+    ec ∙ ap (λ t. t ++ codes ":") (eb ∙ ap (λ t. t ++ decimal n) ea ∙ append_assoc old (codes ":") (decimal n)) ∙ append_assoc old (codes ":" ++ decimal n) (codes ":")
 
 -- the head of a line and its degrees, appended one after the other
 pub line_put : (old head tiles vertices front new : List ℕ) → front ≡ old ++ head → new ≡ front ++ tiles ++ codes "," ++ vertices ++ codes ">\n"

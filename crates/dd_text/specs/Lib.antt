@@ -11,3 +11,5 @@ pub mod Items
 pub mod Messages
 pub mod Outline
 pub mod Numbered
+pub mod Told
+pub mod Making

@@ -1,15 +1,16 @@
 ghost use Rattle.std.specs.Prelude.{◌≡◌, ◌++◌, ◌+◌, ◌^◌, ◌<◌, ◌≤◌, ℕ, [], length, IfOk, OnOk};
 ghost use Rattle.dd_model.specs.Small.{IsSmallSymbol};
-ghost use Rattle.dd_model.specs.Symbol.{Symbol as Tiling};
+ghost use Rattle.dd_model.specs.Symbol.{IsChamber, Symbol as Tiling};
 ghost use Rattle.dd_symbol.specs.Images.{with_degrees};
 ghost use Rattle.dd_text.specs.Numbered.{IsNumbered};
-ghost use Rattle.dd_text.specs.Outline.{shared_by, HasCells, HasNumber, IsOutlineOf};
+ghost use Rattle.dd_text.specs.Outline.{HasCells, HasNumber, IsOutlineOf};
+ghost use Rattle.dd_text.specs.Making.{IsBegun, IsFinished, TellsChamber};
 ghost use Rattle.dd_text.specs.Writing.{AddsLine, IsLonger};
 
 use crate::counting::count_up;
-use crate::least::list_least;
+use crate::least::add_least;
 use crate::told_degrees::put_told;
-use crate::writing::{put_bytes, put_cells, put_involutions, put_number, put_ordinal};
+use crate::writing::{put_bytes, put_cells, put_image, put_number, put_ordinal};
 use dd_list::Listed;
 use dd_model::{Memory, Pair};
 use dd_symbol::Symbol;
@@ -24,22 +25,14 @@ pub(crate) struct Outline {
     pub(crate) head: Vec<u8>,
     /// Where the number k of the line ends.
     pub(crate) number_end: usize,
+    /// The images of s1, while those of all three involutions are read.
+    pub(crate) ones: Vec<u8>,
+    /// The images of s2, while those of all three involutions are read.
+    pub(crate) twos: Vec<u8>,
     /// The least chambers of the tiles.
     pub(crate) tiles: Vec<u32>,
     /// The least chambers of the vertices.
     pub(crate) vertices: Vec<u32>,
-}
-
-/// Appends what stands between the number of a line and the degrees.
-fn put_shared(text: &mut Vec<u8>, symbol: &Symbol) -> Result<(), Memory>
-    ensures { OnOk result (text.new.items ≡ text.old.items ++ shared_by symbol.now) }
-{
-    text.reserve(8 * symbol.size() as usize + 16)?;
-    put_bytes(text, b":")?;
-    put_number(text, symbol.size())?;
-    put_bytes(text, b":")?;
-    put_involutions(text, symbol)?;
-    put_bytes(text, b":")
 }
 
 impl Outline {
@@ -54,6 +47,8 @@ impl Outline {
         Ok(Outline {
             head,
             number_end,
+            ones: Vec::new(alloc),
+            twos: Vec::new(alloc),
             tiles: Vec::new(alloc),
             vertices: Vec::new(alloc),
         })
@@ -66,10 +61,68 @@ impl Outline {
         ensures { OnOk result ((k : ℕ) → HasNumber k self.old
             → IsOutlineOf k symbol.now self.new) }
     {
+        self.begin(symbol.size())?;
+        for k in 0..symbol.size() {
+            self.tell(symbol, k + 1)?;
+        }
+        self.finish()
+    }
+
+    /// Keeps the number of the line, and puts the number of chambers after it.
+    #[inline(always)]
+    fn begin(&mut self, size: u32) -> Result<(), Memory>
+        ensures { OnOk result (IsBegun size self.old self.new) }
+    {
+        self.ones.clear();
+        self.twos.clear();
+        self.tiles.clear();
+        self.vertices.clear();
         self.head.truncate(self.number_end);
-        put_shared(&mut self.head, symbol)?;
-        list_least(&mut self.tiles, symbol, Pair::Tile)?;
-        list_least(&mut self.vertices, symbol, Pair::Vertex)?;
+        put_bytes(&mut self.head, b":")?;
+        put_number(&mut self.head, size)?;
+        put_bytes(&mut self.head, b":")?;
+        Ok(())
+    }
+
+    /// Goes on to a chamber: its images are told, and it is listed where it is the least one of a cell.
+    #[inline(always)]
+    fn tell(&mut self, symbol: &Symbol, chamber: u32) -> Result<(), Memory>
+        requires { IsChamber symbol.now chamber }
+        ensures { OnOk result (TellsChamber symbol.now chamber self.old self.new) }
+    {
+        let images = symbol.images(chamber);
+        put_image(&mut self.head, chamber, images[0])?;
+        put_image(&mut self.ones, chamber, images[1])?;
+        put_image(&mut self.twos, chamber, images[2])?;
+        add_least(
+            &mut self.tiles,
+            symbol,
+            Pair::Tile,
+            chamber,
+            images[0],
+            images[1],
+        )?;
+        add_least(
+            &mut self.vertices,
+            symbol,
+            Pair::Vertex,
+            chamber,
+            images[1],
+            images[2],
+        )?;
+        Ok(())
+    }
+
+    /// Puts the images of s1 and s2 after those of s0.
+    #[inline(always)]
+    fn finish(&mut self) -> Result<(), Memory>
+        ensures { OnOk result (IsFinished self.old self.new) }
+    {
+        put_bytes(&mut self.head, b",")?;
+        put_bytes(&mut self.head, &self.ones)?;
+        put_bytes(&mut self.head, b",")?;
+        put_bytes(&mut self.head, &self.twos)?;
+        put_bytes(&mut self.head, b":")?;
         Ok(())
     }
 

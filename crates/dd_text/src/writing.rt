@@ -1,11 +1,12 @@
 ghost use Rattle.std.specs.Prelude.{◌≡◌, ◌++◌, ◌+◌, ◌<◌, ◌≤◌, List, Bool, decimal, codes, length, map, OnOk, OnErr, All};
-ghost use Rattle.dd_model.specs.Line.{IsLine, after_space, spaced, told_images};
+ghost use Rattle.dd_model.specs.Line.{IsLine, after_space, spaced};
 ghost use Rattle.dd_model.specs.Symbol.{IsChamber, degree};
 ghost use Rattle.dd_model.specs.Text.{AreLines};
+ghost use Rattle.dd_text.specs.Told.{TellsImage};
 ghost use Rattle.dd_text.specs.Writing.{next_number, AddsLine, AddsLines, IsLonger};
 
 use crate::outline::Outline;
-use dd_model::{Index, Memory, Pair};
+use dd_model::{Memory, Pair};
 use dd_symbol::{Connected, Symbol};
 use itoa::Buffer;
 
@@ -63,21 +64,6 @@ fn append_line(out: &mut Vec<u8>, k: u128, symbol: &Symbol) -> Result<(), Memory
     Outline::of(*out.allocator(), k, symbol)?.put_line(out, symbol)
 }
 
-/// Appends the images of the three involutions, parted by commas.
-pub(crate) fn put_involutions(out: &mut Vec<u8>, symbol: &Symbol) -> Result<(), Memory>
-    ensures images { OnOk result (out.new.items ≡ out.old.items
-        ++ spaced (told_images symbol.now Index.Zero) ++ codes ","
-        ++ spaced (told_images symbol.now Index.One) ++ codes ","
-        ++ spaced (told_images symbol.now Index.Two)) }
-    ensures longer { IsLonger out.old.items out.new.items }
-{
-    put_images(out, symbol, Index::Zero)?;
-    put_bytes(out, b",")?;
-    put_images(out, symbol, Index::One)?;
-    put_bytes(out, b",")?;
-    put_images(out, symbol, Index::Two)
-}
-
 /// Appends the degrees of the cells, which are told by their least chambers, and the line's end.
 pub(crate) fn put_cells(
     out: &mut Vec<u8>,
@@ -98,23 +84,17 @@ pub(crate) fn put_cells(
     put_bytes(out, b">\n")
 }
 
-/// Appends the images of an involution, each pair of chambers told once. It is inlined where the
-/// involution is known, so that it is not looked up again for each chamber.
+/// Appends the image of a chamber under an involution where the two are not told yet, after a space
+/// where the chamber is not the first one.
 #[inline(always)]
-fn put_images(out: &mut Vec<u8>, symbol: &Symbol, i: Index) -> Result<(), Memory>
-    ensures images { OnOk result (out.new.items ≡ out.old.items
-        ++ spaced (told_images symbol.now i)) }
+pub(crate) fn put_image(out: &mut Vec<u8>, chamber: u32, image: u32) -> Result<(), Memory>
+    ensures image { OnOk result (TellsImage chamber image out.old.items out.new.items) }
     ensures longer { IsLonger out.old.items out.new.items }
 {
-    let mut begun = false;
-    for k in 0..symbol.size() {
-        let chamber = k + 1;
-        let image = symbol.op(i, chamber);
-        if chamber <= image {
-            put_next(out, begun, image)?;
-            begun = true;
-        }
+    if image < chamber {
+        return Ok(());
     }
+    put_next(out, chamber > 1, image)?;
     Ok(())
 }
 
