@@ -90,26 +90,12 @@ impl Outline {
         requires { IsChamber symbol.now chamber }
         ensures { OnOk result (TellsChamber symbol.now chamber self.old self.new) }
     {
-        let images = symbol.images(chamber);
-        put_image(&mut self.head, chamber, images[0])?;
-        put_image(&mut self.ones, chamber, images[1])?;
-        put_image(&mut self.twos, chamber, images[2])?;
-        add_least(
-            &mut self.tiles,
-            symbol,
-            Pair::Tile,
-            chamber,
-            images[0],
-            images[1],
-        )?;
-        add_least(
-            &mut self.vertices,
-            symbol,
-            Pair::Vertex,
-            chamber,
-            images[1],
-            images[2],
-        )?;
+        let [zero, one, two] = symbol.images(chamber);
+        put_image(&mut self.head, chamber, zero)?;
+        put_image(&mut self.ones, chamber, one)?;
+        put_image(&mut self.twos, chamber, two)?;
+        add_least(&mut self.tiles, symbol, Pair::Tile, chamber, zero, one)?;
+        add_least(&mut self.vertices, symbol, Pair::Vertex, chamber, one, two)?;
         Ok(())
     }
 
