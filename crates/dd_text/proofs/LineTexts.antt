@@ -71,10 +71,15 @@ number_within k rest text end is =
     let end_is = is.end_is in
     omega arith
 
--- the number of chambers is appended with a colon on each side
-pub size_put : (n : ℕ) (old a b c : List ℕ) → a ≡ old ++ codes ":" → b ≡ a ++ decimal n → c ≡ b ++ codes ":" → c ≡ old ++ (codes ":" ++ decimal n ++ codes ":")
-size_put n old a b c ea eb ec =
-    ec ∙ ap (λ t. t ++ codes ":") (eb ∙ ap (λ t. t ++ decimal n) ea ∙ append_assoc old (codes ":") (decimal n)) ∙ append_assoc old (codes ":" ++ decimal n) (codes ":")
+-- the number of chambers is appended with a colon on each side, and a number after it
+pub size_put : (n first : ℕ) (old a b c d : List ℕ) → a ≡ old ++ codes ":" → b ≡ a ++ decimal n → c ≡ b ++ codes ":" → d ≡ c ++ decimal first
+    → d ≡ old ++ (codes ":" ++ decimal n ++ codes ":" ++ decimal first)
+size_put n first old a b c d ea eb ec ed =
+    ed ∙ ap (λ t. t ++ decimal first) (ec ∙ ap (λ t. t ++ codes ":") (eb ∙ ap (λ t. t ++ decimal n) ea))
+    ∙ parted old (codes ":") (decimal n) (codes ":") (decimal first)
+  where
+    parted : (old a b c d : List ℕ) → old ++ a ++ b ++ c ++ d ≡ old ++ (a ++ b ++ c ++ d)
+    parted old a b c d = simp (append_assoc) refl
 
 -- the head of a line and its degrees, appended one after the other
 pub line_put : (old head tiles vertices front new : List ℕ) → front ≡ old ++ head → new ≡ front ++ tiles ++ codes "," ++ vertices ++ codes ">\n"

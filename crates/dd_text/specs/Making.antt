@@ -1,5 +1,5 @@
 -- How an outline is made.
-use Rattle.std.specs.Prelude.{◌≡◌, ℕ, [], ◌++◌, codes, decimal}
+use Rattle.std.specs.Prelude.{◌≡◌, ℕ, [], ◌∷◌, ◌++◌, codes, decimal}
 use Rattle.dd_model.specs.Symbol.{Symbol, op}
 use Rattle.dd_model.specs.declared.index.Index.TheVariants.{Zero, One, Two}
 use Rattle.dd_model.specs.declared.pair.Pair.TheVariants.{Tile, Vertex}
@@ -8,13 +8,13 @@ use Rattle.dd_text.specs.Outline.{HasNumber}
 use Rattle.dd_text.specs.Told.{TellsImage, AddsLeast}
 use Rattle.dd_text.specs.declared.outline.Outline.{Outline}
 
--- after the number of a line stands the number n of chambers
-pub record IsBegun (n : ℕ) (old new : Outline) : Type 0 where
-  pub numbered : (k : ℕ) → HasNumber k old → IsNumbered k (codes ":" ++ decimal n ++ codes ":") new.head.items new.number_end
-  pub ones : new.ones.items ≡ []
-  pub twos : new.twos.items ≡ []
-  pub tiles : new.tiles.items ≡ []
-  pub vertices : new.vertices.items ≡ []
+-- after the number of a line stands the number of chambers, and chamber 1 is told
+pub record IsBegun (s : Symbol) (old new : Outline) : Type 0 where
+  pub numbered : (k : ℕ) → HasNumber k old → IsNumbered k (codes ":" ++ decimal s.size ++ codes ":" ++ decimal (op s Zero 1)) new.head.items new.number_end
+  pub ones : new.ones.items ≡ decimal (op s One 1)
+  pub twos : new.twos.items ≡ decimal (op s Two 1)
+  pub tiles : new.tiles.items ≡ 1 ∷ []
+  pub vertices : new.vertices.items ≡ 1 ∷ []
 
 -- one chamber more is told
 pub record TellsChamber (s : Symbol) (d : ℕ) (old new : Outline) : Type 0 where

@@ -6,19 +6,15 @@ ghost use Rattle.dd_text.specs.Told.{AddsLeast};
 use dd_model::{Memory, Pair};
 use dd_symbol::Symbol;
 
-/// Whether a chamber is the least one of its cell. Chamber 1 is, and its cells, which are mostly large,
-/// need no walk. Other walks end at the first chamber that is smaller.
+/// Whether a chamber is the least one of its cell. The walk round the cell ends at the first chamber
+/// that is smaller.
 #[inline(always)]
 fn is_least(symbol: &Symbol, pair: Pair, chamber: u32) -> bool
     requires { IsChamber symbol.now chamber }
     ensures { IsTrue result ↔ IsLeastOfCell symbol.now pair chamber }
 {
-    let size = symbol.size();
-    if chamber == 1 {
-        return true;
-    }
     let mut place = chamber;
-    for _turn in 0..size {
+    for _turn in 0..symbol.size() {
         let neighbor = symbol.op(pair.first(), place);
         if neighbor < chamber {
             return false;

@@ -1,4 +1,4 @@
-ghost use Rattle.std.specs.Prelude.{◌≡◌, ◌++◌, ◌+◌, ◌^◌, ◌<◌, ◌≤◌, ℕ, [], length, IfOk, OnOk};
+ghost use Rattle.std.specs.Prelude.{◌≡◌, ◌+◌, ◌^◌, ◌<◌, ◌≤◌, ℕ, [], length, take, IfOk, OnOk};
 ghost use Rattle.dd_model.specs.Small.{IsSmallSymbol};
 ghost use Rattle.dd_model.specs.Symbol.{IsChamber, Symbol as Tiling};
 ghost use Rattle.dd_symbol.specs.Images.{with_degrees};
@@ -61,30 +61,51 @@ impl Outline {
         ensures { OnOk result ((k : ℕ) → HasNumber k self.old
             → IsOutlineOf k symbol.now self.new) }
     {
-        self.begin(symbol.size())?;
-        for k in 0..symbol.size() {
+        self.begin(symbol)?;
+        for k in 1..symbol.size() {
             self.tell(symbol, k + 1)?;
         }
         self.finish()
     }
 
-    /// Keeps the number of the line, and puts the number of chambers after it.
+    /// Keeps the number of the line, puts the number of chambers after it, and tells chamber 1, which is
+    /// the least one of its cells.
     #[inline(always)]
-    fn begin(&mut self, size: u32) -> Result<(), Memory>
-        ensures { OnOk result (IsBegun size self.old self.new) }
+    fn begin(&mut self, symbol: &Symbol) -> Result<(), Memory>
+        ensures { OnOk result (IsBegun symbol.now self.old self.new) }
     {
+        self.clear();
+        put_bytes(&mut self.head, b":")?;
+        put_number(&mut self.head, symbol.size())?;
+        put_bytes(&mut self.head, b":")?;
+        let [zero, one, two] = symbol.images(1);
+        put_number(&mut self.head, zero)?;
+        put_number(&mut self.ones, one)?;
+        put_number(&mut self.twos, two)?;
+        self.tiles.push(1)?;
+        self.vertices.push(1)?;
+        Ok(())
+    }
+
+    /// Keeps the number of the line alone.
+    #[inline(always)]
+    fn clear(&mut self)
+        ensures head { self.new.head.items ≡ take self.old.number_end self.old.head.items }
+        ensures end { self.new.number_end ≡ self.old.number_end }
+        ensures ones { self.new.ones.items ≡ [] }
+        ensures twos { self.new.twos.items ≡ [] }
+        ensures tiles { self.new.tiles.items ≡ [] }
+        ensures vertices { self.new.vertices.items ≡ [] }
+    {
+        self.head.truncate(self.number_end);
         self.ones.clear();
         self.twos.clear();
         self.tiles.clear();
         self.vertices.clear();
-        self.head.truncate(self.number_end);
-        put_bytes(&mut self.head, b":")?;
-        put_number(&mut self.head, size)?;
-        put_bytes(&mut self.head, b":")?;
-        Ok(())
     }
 
-    /// Goes on to a chamber: its images are told, and it is listed where it is the least one of a cell.
+    /// Goes on to another chamber: its images are told, and it is listed where it is the least one of a
+    /// cell.
     #[inline(always)]
     fn tell(&mut self, symbol: &Symbol, chamber: u32) -> Result<(), Memory>
         requires { IsChamber symbol.now chamber }

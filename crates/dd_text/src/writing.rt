@@ -84,8 +84,7 @@ pub(crate) fn put_cells(
     put_bytes(out, b">\n")
 }
 
-/// Appends the image of a chamber under an involution where the two are not told yet, after a space
-/// where the chamber is not the first one.
+/// Appends a space and the image of a chamber under an involution where the two are not told yet.
 #[inline(always)]
 pub(crate) fn put_image(out: &mut Vec<u8>, chamber: u32, image: u32) -> Result<(), Memory>
     ensures image { OnOk result (TellsImage chamber image out.old.items out.new.items) }
@@ -94,7 +93,7 @@ pub(crate) fn put_image(out: &mut Vec<u8>, chamber: u32, image: u32) -> Result<(
     if image < chamber {
         return Ok(());
     }
-    put_next(out, chamber > 1, image)?;
+    put_spaced(out, image)?;
     Ok(())
 }
 
@@ -122,7 +121,7 @@ fn put_degrees(
 
 /// Appends a number of a list, after a space where the list has begun.
 #[inline(always)]
-pub(crate) fn put_next(out: &mut Vec<u8>, begun: bool, number: u32) -> Result<(), Memory>
+fn put_next(out: &mut Vec<u8>, begun: bool, number: u32) -> Result<(), Memory>
     ensures next { OnOk result (out.new.items ≡ out.old.items ++ next_number begun number) }
     ensures longer { IsLonger out.old.items out.new.items }
 {

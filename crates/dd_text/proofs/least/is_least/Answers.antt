@@ -2,14 +2,8 @@ use Rattle.std.proofs.Common.{◌+◌, refl, ap, ◌∙◌, arith}
 use Rattle.dd_symbol.proofs.CellMarks.{turn_by}
 use Rattle.dd_model.specs.Symbol.{op}
 use Rattle.dd_model.proofs.Turns.{period_bound}
-use Rattle.dd_text.proofs.LeastWalks.{walk_goes_on, walk_is_back, neighbor_smaller, next_smaller, one_is_least}
+use Rattle.dd_text.proofs.LeastWalks.{walk_goes_on, walk_is_back, neighbor_smaller, next_smaller}
 use Rattle.dd_text.proofs.least.is_least.Goals as goal
-
-pub returns-then-chamber-eq1 : goal.returns-then-chamber-eq1
-returns-then-chamber-eq1 c = (
-  (λ yes. one_is_least c.args.symbol.now c.size-size.ensures.symbol.symbol.table.involutions c.args.pair c.args.chamber c.requires c.if-chamber-eq1.true),
-  (λ least. refl),
-)
 
 pub returns-then-neighbor-chamber : goal.returns-then-neighbor-chamber
 returns-then-neighbor-chamber c =
@@ -33,7 +27,7 @@ returns-then-place-chamber-2 c =
     let p = c.args.pair in
     let x = c.loop-turn.place in
     let turn = turn_by s p x c.op-neighbor.result c.op-place.result c.first.result c.second.result c.first.ensures c.second.ensures c.op-neighbor.ensures.image c.op-place.ensures.image in (
-      (λ yes. walk_is_back s c.size-size.ensures.symbol.symbol.table.involutions p c.args.chamber c.loop-turn._turn x c.op-neighbor.result c.op-place.result
+      (λ yes. walk_is_back s c.size-turn-end.ensures.symbol.symbol.table.involutions p c.args.chamber c.loop-turn._turn x c.op-neighbor.result c.op-place.result
           c.requires c.loop-turn.invariant turn c.if-neighbor-chamber.false c.if-place-chamber-2.true),
       (λ least. refl),
     )
@@ -49,8 +43,8 @@ loop-turn-preserved c =
 
 pub unreachable-requires : goal.unreachable-requires
 unreachable-requires c =
-    let size = c.size-size.ensures.size in
+    let size = c.size-turn-end.ensures.size in
     let over = c.loop-turn-test.false in
-    let bound = period_bound c.args.symbol.now c.size-size.ensures.symbol.symbol.table.involutions c.args.pair c.args.chamber (c.loop-turn._turn + 1) c.requires
+    let bound = period_bound c.args.symbol.now c.size-turn-end.ensures.symbol.symbol.table.involutions c.args.pair c.args.chamber (c.loop-turn._turn + 1) c.requires
     c.loop-turn.invariant.unfixed in
     omega arith
