@@ -1,5 +1,5 @@
 -- A number in decimal is counted up: the nines at its end become zeros, and the digit before them one more.
-use Rattle.std.proofs.Common.{◌≡◌, ◌⊎◌, ℕ, suc, ◌+◌, ◌-◌, ◌/◌, ◌%◌, ◌^◌, ◌<◌, ◌≤◌, List, [], ◌∷◌, ◌++◌, codes, decimal, length, get_or, set, append_assoc, append-nil, length-append, sym, ap, ◌∙◌, inl, inr, arith}
+use Rattle.std.proofs.Common.{◌≡◌, ◌⊎◌, ℕ, suc, ◌+◌, ◌-◌, ◌/◌, ◌%◌, ◌^◌, ◌<◌, ◌≤◌, List, [], ◌∷◌, ◌++◌, codes, decimal, length, get_or, set, append_assoc, length-append, sym, ap, ◌∙◌, inl, inr, arith}
 use Rattle.std.proofs.lemmas.Bool.{cases_lt}
 use Rattle.std.proofs.lemmas.Fmt.{decimal_digit, decimal_step_wide, decimal_is_IsNumeral_wide}
 use Rattle.itoa.proofs.Decimal.{decimal_two}
@@ -28,17 +28,6 @@ pub record IsAllCarried (k : ℕ) (rest : List ℕ) (place : ℕ) (text : List �
 
 abbrev pub IsCarrying : ℕ → List ℕ → ℕ → List ℕ → Type 0
 IsCarrying k rest place text = IsCarried k rest place text ⊎ IsAllCarried k rest place text
-
-pub none_carried : (k : ℕ) (rest text : List ℕ) (end : ℕ) → IsNumbered k rest text end → IsCarrying k rest end text
-none_carried k rest text end is = inl (record {
-  front = k;
-  zeros = [];
-  text_is = is.text_is;
-  place_is = is.end_is;
-  next = sym (append-nil (decimal (k + 1)));
-  small = omega arith;
-  same = omega arith;
-})
 
 -- the last digit of a number, and those before it
 record IsLast (m : ℕ) (before : List ℕ) : Type 0 where
