@@ -3,6 +3,7 @@ use Rattle.std.proofs.Common.{◌≡◌, ℕ, ◌+◌, ◌<◌, ◌≤◌, refl,
 use Rattle.dd_model.specs.declared.pair.Pair.{Pair}
 use Rattle.dd_model.specs.Symbol.{Symbol, AreInvolutions, IsChamber, first, op}
 use Rattle.dd_model.specs.Cell.{InCell, IsLeastOfCell, turned}
+use Rattle.dd_model.proofs.Words.{act_within}
 use Rattle.dd_model.proofs.CellWalks.{IsMet, met_cases, next_place, in_cell-turned, in_cell-first}
 use Rattle.dd_symbol.proofs.CellMarks.{IsTurn, all_met}
 use Rattle.dd_symbol.proofs.CellShapes.{unfixed_more}
@@ -66,3 +67,10 @@ next_smaller s p d k place neighbor next w turn smaller least =
     let at = turn.further ∙ next_place s p d k place w.at in
     let below = least.1 next (subst (InCell s p d) (sym at) (in_cell-turned s p d (k + 1))) in
     omega arith
+
+-- chamber 1 is the least of all
+pub one_is_least : (s : Symbol) → AreInvolutions s → (p : Pair) (d : ℕ) → IsChamber s d → d ≡ 1 → IsLeastOfCell s p d
+one_is_least s inv p d h one = (
+  h,
+  λ e there. let some = (subst (IsChamber s) there.leads (act_within s inv there.word d h)).0 in omega arith,
+)

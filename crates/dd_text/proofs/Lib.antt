@@ -23,3 +23,6 @@ pub mod RowExclusion
 pub mod TextUnique
 pub mod ListUnique
 pub mod RowUnique
+mod CountingUp
+mod RestReads
+mod OutlineMade

@@ -1,5 +1,5 @@
 -- A line is put together from its parts.
-use Rattle.std.proofs.Common.{◌≡◌, ℕ, List, [], ◌++◌, codes, decimal, map, get_or, All, append_assoc, refl, sym, ap, ◌∙◌, subst}
+use Rattle.std.proofs.Common.{◌≡◌, ℕ, List, [], ◌++◌, codes, decimal, map, take, get_or, All, ◌+◌, ◌≤◌, arith, length, length-append, take_at, append_assoc, refl, sym, ap, ◌∙◌, subst}
 use Rattle.std.proofs.lemmas.List.{get_or_default}
 use Rattle.dd_model.specs.declared.index.Index.TheVariants.{Zero, One, Two}
 use Rattle.dd_model.specs.declared.pair.Pair.{Pair}
@@ -9,48 +9,86 @@ use Rattle.dd_model.specs.Cell.{AreCells}
 use Rattle.dd_model.specs.Involutions.{HaveSameInvolutions}
 use Rattle.dd_model.specs.Line.{spaced, told_images, text_of}
 use Rattle.dd_symbol.proofs.SameCells.{are_cells-same}
+use Rattle.dd_text.specs.Numbered.{IsNumbered}
 use Rattle.dd_text.specs.Outline.{IsOutlineOf, shared_by}
 use Rattle.dd_text.specs.Images.{IsWithin}
 use Rattle.dd_text.specs.Writing.{AddsLine}
 use Rattle.dd_text.specs.declared.outline.Outline.{Outline}
 
-regrouped : (old a b c d e f g h i j k l m n o : List ℕ)
-    → old ++ a ++ b ++ (c ++ d ++ e ++ f ++ g ++ h ++ i ++ j) ++ k ++ l ++ m ++ n ++ o
-    ≡ old ++ (a ++ b ++ c ++ d ++ e ++ f ++ g ++ h ++ i ++ j ++ k ++ l ++ m ++ n ++ o)
-regrouped old a b c d e f g h i j k l m n o = simp (append_assoc) refl
+regrouped : (a b c d e f g h i j k l m n o : List ℕ)
+    → a ++ b ++ (c ++ d ++ e ++ f ++ g ++ h ++ i ++ j ++ k) ++ l ++ m ++ n ++ o
+    ≡ a ++ b ++ c ++ d ++ e ++ f ++ g ++ h ++ i ++ j ++ k ++ l ++ m ++ n ++ o
+regrouped a b c d e f g h i j k l m n o = simp (append_assoc) refl
 
 -- the number, what lines share, and the degrees, one after the other
-line_text : (s : Symbol) (k : ℕ) (tiles vertices old : List ℕ)
-    → old ++ codes "<1." ++ decimal k ++ shared_by s ++ codes ":" ++ spaced (map (degree s Tile) tiles) ++ codes "," ++ spaced (map (degree s Vertex) vertices) ++ codes ">\n"
-    ≡ old ++ text_of k s tiles vertices
-line_text s k tiles vertices old =
-    regrouped old (codes "<1.") (decimal k) (codes ":") (decimal s.size) (codes ":") (spaced (told_images s Zero)) (codes ",") (spaced (told_images s One)) (codes ",") (spaced (told_images s Two))
+line_text : (s : Symbol) (k : ℕ) (tiles vertices : List ℕ)
+    → codes "<1." ++ decimal k ++ shared_by s ++ spaced (map (degree s Tile) tiles) ++ codes "," ++ spaced (map (degree s Vertex) vertices) ++ codes ">\n"
+    ≡ text_of k s tiles vertices
+line_text s k tiles vertices =
+    regrouped (codes "<1.") (decimal k) (codes ":") (decimal s.size) (codes ":") (spaced (told_images s Zero)) (codes ",") (spaced (told_images s One)) (codes ",") (spaced (told_images s Two))
     (codes ":") (spaced (map (degree s Tile) tiles)) (codes ",") (spaced (map (degree s Vertex) vertices)) (codes ">\n")
 
--- the head of a line, and the degrees of the cells of an outline
-pub line_added : (s : Symbol) (k : ℕ) (o : Outline) (tiles vertices old head whole : List ℕ) → IsOutlineOf s o → tiles ≡ o.tiles.items → vertices ≡ o.vertices.items
-    → head ≡ old ++ codes "<1." ++ decimal k ++ o.shared.items
-    → whole ≡ head ++ codes ":" ++ spaced (map (degree s Tile) tiles) ++ codes "," ++ spaced (map (degree s Vertex) vertices) ++ codes ">\n"
-    → AddsLine k s old whole
-line_added s k o tiles vertices old head whole is et ev eh ew = record {
+-- what an outline has of a line, and the degrees of its cells
+pub line_added : (k : ℕ) (s : Symbol) (o : Outline) (tiles vertices old line new : List ℕ) → IsOutlineOf k s o → tiles ≡ o.tiles.items → vertices ≡ o.vertices.items
+    → line ≡ o.head.items ++ spaced (map (degree s Tile) tiles) ++ codes "," ++ spaced (map (degree s Vertex) vertices) ++ codes ">\n"
+    → new ≡ old ++ line → AddsLine k s old new
+line_added k s o tiles vertices old line new is et ev el en = record {
   line = text_of k s tiles vertices;
-  is_line = record { tiles = tiles; vertices = vertices; are_tiles = subst (AreCells s Tile) (sym et) is.tiles; are_vertices = subst (AreCells s Vertex) (sym ev) is.vertices; text = refl };
-  text = ew
-      ∙ ap (λ t. t ++ codes ":" ++ spaced (map (degree s Tile) tiles) ++ codes "," ++ spaced (map (degree s Vertex) vertices) ++ codes ">\n")
-      (eh ∙ ap (λ t. old ++ codes "<1." ++ decimal k ++ t) is.shared)
-      ∙ line_text s k tiles vertices old;
+  is_line = record { tiles = tiles; vertices = vertices; are_tiles = subst (AreCells s Tile) (sym et) is.cells.tiles; are_vertices = subst (AreCells s Vertex) (sym ev) is.cells.vertices; text = refl };
+  text = en
+      ∙ ap (λ t. old ++ t)
+      (el ∙ ap (λ t. t ++ spaced (map (degree s Tile) tiles) ++ codes "," ++ spaced (map (degree s Vertex) vertices) ++ codes ">\n") is.numbered.text_is ∙ line_text s k tiles vertices);
 }
 
 -- symbols with the same involutions share this text
 pub shared_same : (s t : Symbol) → HaveSameInvolutions s t → shared_by t ≡ shared_by s
 shared_same s t same = λ i. shared_by (record { size = same.size i; s0 = same.s0 i; s1 = same.s1 i; s2 = same.s2 i; m01 = []; m12 = [] })
 
-pub outline_same : (s t : Symbol) (o : Outline) → HaveSameInvolutions s t → IsOutlineOf s o → IsOutlineOf t o
-outline_same s t o same is = record {
-  shared = is.shared ∙ sym (shared_same s t same);
-  tiles = are_cells-same s t same Tile o.tiles.items is.tiles;
-  vertices = are_cells-same s t same Vertex o.vertices.items is.vertices;
+pub outline_same : (k : ℕ) (s t : Symbol) (o : Outline) → HaveSameInvolutions s t → IsOutlineOf k s o → IsOutlineOf k t o
+outline_same k s t o same is = record {
+  numbered = subst (λ shared. IsNumbered k shared o.head.items o.number_end) (sym (shared_same s t same)) is.numbered;
+  cells = record {
+    tiles = are_cells-same s t same Tile o.tiles.items is.cells.tiles;
+    vertices = are_cells-same s t same Vertex o.vertices.items is.cells.vertices;
+  };
 }
+
+-- after a number comes something else
+pub renumbered : (k : ℕ) (rest other text front new : List ℕ) (end : ℕ) → IsNumbered k rest text end → front ≡ take end text → new ≡ front ++ other → IsNumbered k other new end
+renumbered k rest other text front new end is cut whole =
+    let number = codes "<1." ++ decimal k in
+    let count : length number ≡ end = length-append (codes "<1.") (decimal k) ∙ sym is.end_is in
+    record {
+      text_is = whole ∙ ap (λ t. t ++ other) (cut ∙ ap (take end) is.text_is ∙ take_at number rest end count);
+      end_is = is.end_is;
+    }
+
+-- the end of a number lies within the text
+pub number_within : (k : ℕ) (rest text : List ℕ) (end : ℕ) → IsNumbered k rest text end → end ≤ length text
+number_within k rest text end is =
+    let count : length (codes "<1." ++ decimal k) ≡ 3 + length (decimal k) = length-append (codes "<1.") (decimal k) in
+    let all : length text ≡ length (codes "<1." ++ decimal k) + length rest = ap length is.text_is ∙ length-append (codes "<1." ++ decimal k) rest in
+    let end_is = is.end_is in
+    omega arith
+
+-- the number of chambers is appended with a colon on each side, and a number after it
+pub size_put : (n first : ℕ) (old a b c d : List ℕ) → a ≡ old ++ codes ":" → b ≡ a ++ decimal n → c ≡ b ++ codes ":" → d ≡ c ++ decimal first
+    → d ≡ old ++ (codes ":" ++ decimal n ++ codes ":" ++ decimal first)
+size_put n first old a b c d ea eb ec ed =
+    ed ∙ ap (λ t. t ++ decimal first) (ec ∙ ap (λ t. t ++ codes ":") (eb ∙ ap (λ t. t ++ decimal n) ea))
+    ∙ parted old (codes ":") (decimal n) (codes ":") (decimal first)
+  where
+    parted : (old a b c d : List ℕ) → old ++ a ++ b ++ c ++ d ≡ old ++ (a ++ b ++ c ++ d)
+    parted old a b c d = simp (append_assoc) refl
+
+-- the head of a line and its degrees, appended one after the other
+pub line_put : (old head tiles vertices front new : List ℕ) → front ≡ old ++ head → new ≡ front ++ tiles ++ codes "," ++ vertices ++ codes ">\n"
+    → new ≡ old ++ (head ++ tiles ++ codes "," ++ vertices ++ codes ">\n")
+line_put old head tiles vertices front new ef en =
+    en ∙ ap (λ t. t ++ tiles ++ codes "," ++ vertices ++ codes ">\n") ef ∙ parted old head tiles (codes ",") vertices (codes ">\n")
+  where
+    parted : (old a b c d e : List ℕ) → old ++ a ++ b ++ c ++ d ++ e ≡ old ++ (a ++ b ++ c ++ d ++ e)
+    parted old a b c d e = simp (append_assoc) refl
 
 -- the least chambers of cells are chambers
 pub all_chambers : (s : Symbol) (p : Pair) (ds : List ℕ) → AreCells s p ds → All (IsChamber s) ds

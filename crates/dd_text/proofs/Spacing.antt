@@ -1,5 +1,5 @@
 -- Numbers written one by one, with a space between two of them.
-use Rattle.std.proofs.Common.{◌≡◌, ℕ, suc, ◌+◌, ◌-◌, ◌<◌, ◌≤◌, Bool, true, false, cond, List, [], ◌∷◌, ◌++◌, map, drop, get_or, length, refl, sym, ap, ◌∙◌, append_assoc, append-nil, arith}
+use Rattle.std.proofs.Common.{◌≡◌, ℕ, suc, ◌+◌, ◌-◌, ◌<◌, ◌≤◌, Bool, true, false, cond, List, [], ◌∷◌, ◌++◌, map, drop, get_or, length, refl, sym, ap, ◌∙◌, append_assoc, append-nil, codes, decimal, arith}
 use Rattle.std.proofs.lemmas.Bool.{le-leb, lt-leb}
 use Rattle.std.proofs.lemmas.List.Concat.{flat_map-cons}
 use Rattle.std.proofs.Math.Seq.{drop-cons}
@@ -82,3 +82,18 @@ mapped-cons f ds k h =
 
 pub mapped_end : (f : ℕ → ℕ) (ds : List ℕ) (k : ℕ) → length ds ≤ k → map f (drop k ds) ≡ []
 mapped_end f ds k h = ap (map f) (drop_of_length-le ds h)
+
+-- a list that has begun goes on with a space and a number
+pub spaced_on : (x : ℕ) (left now once later whole : List ℕ) → now ++ flat_map after_space (x ∷ left) ≡ whole → once ≡ now ++ codes " " → later ≡ once ++ decimal x
+    → later ++ flat_map after_space left ≡ whole
+spaced_on x left now once later whole before space number =
+    ap (λ t. t ++ flat_map after_space left) (number ∙ ap (λ t. t ++ decimal x) space)
+    ∙ parted now (codes " ") (decimal x) (flat_map after_space left)
+    ∙ ap (λ t. now ++ t) (sym (flat_map-cons after_space x left))
+    ∙ before
+  where
+    parted : (a b c d : List ℕ) → a ++ b ++ c ++ d ≡ a ++ (b ++ c ++ d)
+    parted a b c d = simp (append_assoc) refl
+
+pub spaced_end : (now whole : List ℕ) → now ++ flat_map after_space [] ≡ whole → now ≡ whole
+spaced_end now whole e = sym (append-nil now) ∙ e

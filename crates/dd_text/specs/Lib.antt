@@ -10,3 +10,6 @@ pub mod FileFaults
 pub mod Items
 pub mod Messages
 pub mod Outline
+pub mod Numbered
+pub mod Told
+pub mod Making

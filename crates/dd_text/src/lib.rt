@@ -2,6 +2,7 @@
 #![tactic(auto)]
 
 mod cells;
+mod counting;
 mod degrees;
 mod fault_laws;
 mod faults;

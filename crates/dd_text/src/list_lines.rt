@@ -1,6 +1,6 @@
-ghost use Rattle.std.specs.Prelude.{◌≡◌, ◌-◌, ◌<◌, ◌≤◌, length, slice_index_or, OnOk, OnErr};
+ghost use Rattle.std.specs.Prelude.{◌≡◌, ◌-◌, ◌<◌, ◌≤◌, ℕ, length, slice_index_or, OnOk, OnErr};
 ghost use Rattle.dd_model.specs.Symbol.{Symbol};
-ghost use Rattle.dd_text.specs.Outline.{IsOutlineOf};
+ghost use Rattle.dd_text.specs.Outline.{HasNumber, IsOutlineOf};
 ghost use Rattle.dd_text.specs.Writing.{AddsLines, IsLonger};
 
 use crate::outline::Outline;
@@ -25,12 +25,15 @@ fn append_list(out: &mut Vec<u8>, before: u64, symbols: &Symbols<'_>) -> Result<
     ensures lines { OnOk result (AddsLines before symbols.now out.old.items out.new.items) }
     ensures longer { IsLonger out.old.items out.new.items }
 {
-    let mut outline = Outline::new(*out.allocator());
-    let mut number = u128::from(before);
+    if symbols.len() == 0 {
+        return Ok(());
+    }
+    let mut outline = Outline::new(*out.allocator(), u128::from(before))?;
     for place in 0..symbols.len() {
         outline_at(&mut outline, symbols, place)?;
-        number += 1;
-        outline.put_listed(out, number, &symbols.get(place))?;
+        let listed = symbols.get(place);
+        outline.advance()?;
+        outline.put_listed(out, &listed)?;
     }
     Ok(())
 }
@@ -39,11 +42,11 @@ fn append_list(out: &mut Vec<u8>, before: u64, symbols: &Symbols<'_>) -> Result<
 /// table.
 #[inline(always)]
 fn outline_at(outline: &mut Outline, symbols: &Symbols<'_>, place: usize) -> Result<(), Memory>
-    requires place { place < length symbols.now }
-    requires before { (s : Symbol) → 1 ≤ place → s ≡ slice_index_or symbols.now (place - 1) s
-        → IsOutlineOf s outline.old }
-    ensures { OnOk result ((s : Symbol) → s ≡ slice_index_or symbols.now place s
-        → IsOutlineOf s outline.new) }
+    requires { place < length symbols.now }
+    ensures { OnOk result ((k : ℕ) (s : Symbol) → HasNumber k outline.old
+        → ((t : Symbol) → 1 ≤ place → t ≡ slice_index_or symbols.now (place - 1) t
+        → IsOutlineOf k t outline.old)
+        → s ≡ slice_index_or symbols.now place s → IsOutlineOf k s outline.new) }
 {
     if place > 0 && symbols.have_one_table(place - 1, place) {
         return Ok(());

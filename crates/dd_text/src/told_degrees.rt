@@ -1,30 +1,56 @@
-ghost use Rattle.std.specs.Prelude.{◌≡◌, ◌++◌, codes, length, map, OnOk, All};
+ghost use Rattle.std.specs.Prelude.{◌≡◌, ◌++◌, ◌+◌, ◌*◌, ◌≤◌, codes, decimal, length, map, vec_capacity, vec_len, OnOk, All};
 ghost use Rattle.dd_model.specs.Line.{spaced};
 ghost use Rattle.dd_model.specs.Symbol.{item};
 ghost use Rattle.dd_text.specs.Images.{IsWithin};
-ghost use Rattle.dd_text.specs.Writing.{IsLonger};
 
-use crate::writing::{put_bytes, put_next};
 use dd_model::Memory;
 
-/// Appends the degrees at some chambers, one for each chamber being listed.
+/// Appends a degree in decimal, where there is room for three digits.
 #[inline(always)]
-fn put_at(out: &mut Vec<u8>, degrees: &[u8], chambers: &[u32]) -> Result<(), Memory>
-    requires { All (IsWithin (length degrees.now)) chambers.now }
-    ensures degrees { OnOk result (out.new.items ≡ out.old.items
-        ++ spaced (map (item degrees.now) chambers.now)) }
-    ensures longer { IsLonger out.old.items out.new.items }
+fn put_degree(out: &mut Vec<u8>, degree: u8)
+    requires { vec_len out.old + 3 ≤ vec_capacity out.old }
+    ensures degree { out.new.items ≡ out.old.items ++ decimal degree }
+    ensures len { vec_len out.new ≤ vec_len out.old + 3 }
+    ensures capacity { vec_capacity out.new ≡ vec_capacity out.old }
 {
-    let mut begun = false;
-    for chamber in chambers {
-        put_next(out, begun, u32::from(degrees[*chamber as usize - 1]))?;
-        begun = true;
+    if degree < 10 {
+        out.push_reserved(b'0' + degree);
+        return;
     }
-    Ok(())
+    if degree < 100 {
+        out.push_reserved(b'0' + degree / 10);
+        out.push_reserved(b'0' + degree % 10);
+        return;
+    }
+    out.push_reserved(b'0' + degree / 100);
+    out.push_reserved(b'0' + degree / 10 % 10);
+    out.push_reserved(b'0' + degree % 10);
 }
 
-/// Appends `:`, the degrees of the tiles and of the vertices, which are told by their least chambers,
-/// and the line's end.
+/// Appends the degrees at some chambers, one for each chamber being listed, where there is room for a
+/// space and three digits for each.
+#[inline(always)]
+fn put_at(out: &mut Vec<u8>, degrees: &[u8], chambers: &[u32])
+    requires within { All (IsWithin (length degrees.now)) chambers.now }
+    requires room { vec_len out.old + 4 * length chambers.now ≤ vec_capacity out.old }
+    ensures degrees { out.new.items ≡ out.old.items
+        ++ spaced (map (item degrees.now) chambers.now) }
+    ensures len { vec_len out.new ≤ vec_len out.old + 4 * length chambers.now }
+    ensures capacity { vec_capacity out.new ≡ vec_capacity out.old }
+{
+    let [first, others @ ..] = chambers else {
+        return;
+    };
+    put_degree(out, degrees[*first as usize - 1]);
+    for chamber in others {
+        out.push_reserved(b' ');
+        put_degree(out, degrees[*chamber as usize - 1]);
+    }
+}
+
+/// Appends the degrees of the tiles and of the vertices, which are told by their least chambers, and
+/// the line's end. Room for all of it is asked for once.
+#[inline(always)]
 pub(crate) fn put_told(
     out: &mut Vec<u8>,
     m01: &[u8],
@@ -34,14 +60,15 @@ pub(crate) fn put_told(
 ) -> Result<(), Memory>
     requires tiles { All (IsWithin (length m01.now)) tiles.now }
     requires vertices { All (IsWithin (length m12.now)) vertices.now }
-    ensures degrees { OnOk result (out.new.items ≡ out.old.items ++ codes ":"
+    ensures degrees { OnOk result (out.new.items ≡ out.old.items
         ++ spaced (map (item m01.now) tiles.now) ++ codes ","
         ++ spaced (map (item m12.now) vertices.now) ++ codes ">\n") }
-    ensures longer { IsLonger out.old.items out.new.items }
 {
-    put_bytes(out, b":")?;
-    put_at(out, m01, tiles)?;
-    put_bytes(out, b",")?;
-    put_at(out, m12, vertices)?;
-    put_bytes(out, b">\n")
+    out.reserve(4 * (tiles.len() + vertices.len()) + 3)?;
+    put_at(out, m01, tiles);
+    out.push_reserved(b',');
+    put_at(out, m12, vertices);
+    out.push_reserved(b'>');
+    out.push_reserved(b'\n');
+    Ok(())
 }

@@ -1,11 +1,12 @@
 ghost use Rattle.std.specs.Prelude.{◌≡◌, ◌++◌, ◌+◌, ◌<◌, ◌≤◌, List, Bool, decimal, codes, length, map, OnOk, OnErr, All};
-ghost use Rattle.dd_model.specs.Line.{IsLine, after_space, spaced, told_images};
+ghost use Rattle.dd_model.specs.Line.{IsLine, after_space, spaced};
 ghost use Rattle.dd_model.specs.Symbol.{IsChamber, degree};
 ghost use Rattle.dd_model.specs.Text.{AreLines};
+ghost use Rattle.dd_text.specs.Told.{TellsImage};
 ghost use Rattle.dd_text.specs.Writing.{next_number, AddsLine, AddsLines, IsLonger};
 
 use crate::outline::Outline;
-use dd_model::{Index, Memory, Pair};
+use dd_model::{Memory, Pair};
 use dd_symbol::{Connected, Symbol};
 use itoa::Buffer;
 
@@ -45,14 +46,13 @@ fn append_lines(out: &mut Vec<u8>, before: u64, symbols: &[Connected]) -> Result
         return Ok(());
     };
     let mut last = first.symbol();
-    let mut outline = Outline::of(*out.allocator(), last)?;
-    let mut number = u128::from(before);
+    let mut outline = Outline::of(*out.allocator(), u128::from(before), last)?;
     for connected in symbols {
         let symbol = connected.symbol();
         outline.follow(last, symbol)?;
         last = symbol;
-        number += 1;
-        outline.put_line(out, number, symbol)?;
+        outline.advance()?;
+        outline.put_line(out, symbol)?;
     }
     Ok(())
 }
@@ -61,25 +61,10 @@ fn append_line(out: &mut Vec<u8>, k: u128, symbol: &Symbol) -> Result<(), Memory
     ensures line { OnOk result (AddsLine k symbol.now out.old.items out.new.items) }
     ensures longer { IsLonger out.old.items out.new.items }
 {
-    Outline::of(*out.allocator(), symbol)?.put_line(out, k, symbol)
+    Outline::of(*out.allocator(), k, symbol)?.put_line(out, symbol)
 }
 
-/// Appends the images of the three involutions, parted by commas.
-pub(crate) fn put_involutions(out: &mut Vec<u8>, symbol: &Symbol) -> Result<(), Memory>
-    ensures images { OnOk result (out.new.items ≡ out.old.items
-        ++ spaced (told_images symbol.now Index.Zero) ++ codes ","
-        ++ spaced (told_images symbol.now Index.One) ++ codes ","
-        ++ spaced (told_images symbol.now Index.Two)) }
-    ensures longer { IsLonger out.old.items out.new.items }
-{
-    put_images(out, symbol, Index::Zero)?;
-    put_bytes(out, b",")?;
-    put_images(out, symbol, Index::One)?;
-    put_bytes(out, b",")?;
-    put_images(out, symbol, Index::Two)
-}
-
-/// Appends `:`, the degrees of the cells, which are told by their least chambers, and the line's end.
+/// Appends the degrees of the cells, which are told by their least chambers, and the line's end.
 pub(crate) fn put_cells(
     out: &mut Vec<u8>,
     symbol: &Symbol,
@@ -88,35 +73,27 @@ pub(crate) fn put_cells(
 ) -> Result<(), Memory>
     requires tiles { All (IsChamber symbol.now) tiles.now }
     requires vertices { All (IsChamber symbol.now) vertices.now }
-    ensures degrees { OnOk result (out.new.items ≡ out.old.items ++ codes ":"
+    ensures degrees { OnOk result (out.new.items ≡ out.old.items
         ++ spaced (map (degree symbol.now Pair.Tile) tiles.now) ++ codes ","
         ++ spaced (map (degree symbol.now Pair.Vertex) vertices.now) ++ codes ">\n") }
     ensures longer { IsLonger out.old.items out.new.items }
 {
-    put_bytes(out, b":")?;
     put_degrees(out, symbol, Pair::Tile, tiles)?;
     put_bytes(out, b",")?;
     put_degrees(out, symbol, Pair::Vertex, vertices)?;
     put_bytes(out, b">\n")
 }
 
-/// Appends the images of an involution, each pair of chambers told once. It is inlined where the
-/// involution is known, so that it is not looked up again for each chamber.
+/// Appends a space and the image of a chamber under an involution where the two are not told yet.
 #[inline(always)]
-fn put_images(out: &mut Vec<u8>, symbol: &Symbol, i: Index) -> Result<(), Memory>
-    ensures images { OnOk result (out.new.items ≡ out.old.items
-        ++ spaced (told_images symbol.now i)) }
+pub(crate) fn put_image(out: &mut Vec<u8>, chamber: u32, image: u32) -> Result<(), Memory>
+    ensures image { OnOk result (TellsImage chamber image out.old.items out.new.items) }
     ensures longer { IsLonger out.old.items out.new.items }
 {
-    let mut begun = false;
-    for k in 0..symbol.size() {
-        let chamber = k + 1;
-        let image = symbol.op(i, chamber);
-        if chamber <= image {
-            put_next(out, begun, image)?;
-            begun = true;
-        }
+    if image < chamber {
+        return Ok(());
     }
+    put_spaced(out, image)?;
     Ok(())
 }
 
@@ -144,7 +121,7 @@ fn put_degrees(
 
 /// Appends a number of a list, after a space where the list has begun.
 #[inline(always)]
-pub(crate) fn put_next(out: &mut Vec<u8>, begun: bool, number: u32) -> Result<(), Memory>
+fn put_next(out: &mut Vec<u8>, begun: bool, number: u32) -> Result<(), Memory>
     ensures next { OnOk result (out.new.items ≡ out.old.items ++ next_number begun number) }
     ensures longer { IsLonger out.old.items out.new.items }
 {

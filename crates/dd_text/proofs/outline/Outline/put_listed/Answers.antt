@@ -1,24 +1,25 @@
+use Rattle.std.proofs.Common.{◌++◌, ◌∙◌, ap, length}
 use Rattle.dd_model.specs.declared.pair.Pair.TheVariants.{Tile, Vertex}
 use Rattle.dd_symbol.specs.Images.{with_degrees}
 use Rattle.dd_text.proofs.LineTexts.{line_added, all_within}
-use Rattle.std.proofs.Common.{length}
 use Rattle.dd_text.proofs.outline.Outline.put_listed.Goals as goal
 
 pub put_told-requires-clause-tiles : goal.put_told-requires-clause-tiles
 put_told-requires-clause-tiles c =
     let l = c.args.listed.now in
     all_within (with_degrees l.table.now l.m01.now l.m12.now) Tile c.args.self.now.tiles.items c.deref.result.now (length l.m01.now)
-    c.requires.outline.tiles c.deref.ensures.value c.requires.small.symbol.table.m01_length
+    c.requires.cells.tiles c.deref.ensures.value c.requires.small.symbol.table.m01_length
 
 pub put_told-requires-clause-vertices : goal.put_told-requires-clause-vertices
 put_told-requires-clause-vertices c =
     let l = c.args.listed.now in
     all_within (with_degrees l.table.now l.m01.now l.m12.now) Vertex c.args.self.now.vertices.items c.deref-2.result.now (length l.m12.now)
-    c.requires.outline.vertices c.deref-2.ensures.value c.requires.small.symbol.table.m12_length
+    c.requires.cells.vertices c.deref-2.ensures.value c.requires.small.symbol.table.m12_length
 
 pub returns-clause-line : goal.returns-clause-line
-returns-clause-line c =
+returns-clause-line c k is =
     let l = c.args.listed.now in
-    line_added (with_degrees l.table.now l.m01.now l.m12.now) c.args.k c.args.self.now c.deref.result.now c.deref-2.result.now
-    c.args.out.now.items c.put_head.new.out.items c.put_told.new.out.items
-    c.requires.outline c.deref.ensures.value c.deref-2.ensures.value c.in_ok-put_head.ensures.head c.in_ok-put_told.ensures.degrees
+    let old = c.args.out.now.items in
+    line_added k (with_degrees l.table.now l.m01.now l.m12.now) c.args.self.now c.deref.result.now c.deref-2.result.now old c.put_told.new.out.items c.put_bytes.new.out.items
+    is c.deref.ensures.value c.deref-2.ensures.value c.in_ok-put_told.ensures.degrees
+    (c.in_ok-put_bytes.ensures.bytes ∙ ap (λ t. old ++ t) c.deref-3.ensures.value)
