@@ -1,5 +1,5 @@
 -- How an assignment goes on by a degree.
-use Rattle.std.proofs.Common.{◌≡◌, ◌≢◌, ℕ, zero, suc, ◌+◌, ◌-◌, ◌*◌, ◌/◌, ◌<◌, ◌≤◌, List, [], ◌∷◌, ◌++◌, length, get_or, take, refl, sym, ap, ◌∙◌, subst, inl, inr, ⊎_elim, arith}
+use Rattle.std.proofs.Common.{◌≡◌, ◌≢◌, ℕ, zero, suc, ◌+◌, ◌-◌, ◌*◌, ◌/◌, ◌<◌, ◌≤◌, List, [], ◌∷◌, ◌++◌, length, get_or, take, refl, sym, ap, ◌∙◌, subst, ⊎_elim, arith}
 use Rattle.std.proofs.Math.Nat.{mul-le-mul_right}
 use Rattle.std.proofs.Math.Seq.{take-append_seam, take-length}
 use Rattle.std.proofs.lemmas.Bool.{cases_lt}
@@ -9,12 +9,12 @@ use Rattle.dd_model.specs.declared.allowed.Allowed.{Allowed}
 use Rattle.dd_model.specs.declared.pair.Pair.TheVariants.{Tile, Vertex}
 use Rattle.dd_model.specs.Symbol.{Symbol}
 use Rattle.dd_model.specs.Code.{code}
-use Rattle.dd_model.specs.Wanted.{IsMember}
-use Rattle.dd_invol.specs.Under.{Appends, AreUnder, AreUnderBefore, SkipsTo, next_number}
-use Rattle.dd_invol.proofs.Prefixes.{appends_all, appends_first, appends_next, extended, shortened as prefix_shortened}
+use Rattle.dd_model.specs.Wanted.{IsCrystallographic, IsMember}
+use Rattle.dd_invol.specs.Under.{Appends, AreUnder, next_number}
+use Rattle.dd_invol.proofs.Prefixes.{extended, shortened as prefix_shortened}
 use Rattle.dd_cells.proofs.ReciprocalSums.{quotient_is}
 use Rattle.dd_branch.specs.Budget.{no_place, spent, twelfths}
-use Rattle.dd_branch.specs.Choice.{HasValues, IsChoice}
+use Rattle.dd_branch.specs.Choice.{HasBranching, HasShares, IsChoice}
 use Rattle.dd_branch.specs.Assignment.{IsAssignment, IsAtRoot, IsMemberUnder, IsTold, degree_at, next_place, prefix_of, shortened, spent_by, told}
 use Rattle.dd_branch.specs.Entered.{HasBudget, HasEntered, HasForced}
 use Rattle.dd_branch.specs.declared.assignment.Assignment.{Assignment}
@@ -22,7 +22,7 @@ use Rattle.dd_branch.specs.declared.places.Place.{Place}
 use Rattle.dd_branch.proofs.Assigned.{length-prefix, next_degree, same_of_under, told_degree}
 use Rattle.dd_branch.proofs.Budgets.{AllAreChosen, flat_if_spent, spent_as_told, spent_at_least, spent_at_most, spent_next, spent_same}
 use Rattle.dd_branch.proofs.Chosen.{IsSound, all_bounded, constant_at, sound_places, wanted_chosen}
-use Rattle.dd_branch.proofs.Choices.{IsValue, part_falls, value_of, value_told}
+use Rattle.dd_branch.proofs.Choices.{IsValue, choice_told, share_told, value_of}
 
 -- the assignment with other degrees
 abbrev pub with_list : Assignment → List ℕ → Assignment
@@ -261,21 +261,23 @@ part_of_value a v is room =
 pub least_after : (a : Assignment) → IsAssignment a → told a < 2 * a.table.size → get_or a.rests.least (told a) 0 ≡ get_or a.rests.least (told a + 1) 0 + 2 * (next_place a).sides
 least_after a is room = let count = is.places.count in is.rests.each_least (told a) no_place (omega (arith, room, count))
 
+-- the degree that a place has with a share
+abbrev pub IsDegreeWith : Place → ℕ → ℕ → Type 0
+IsDegreeWith x e m = (v : ℕ) → IsCrystallographic v → e + 2 * x.sides ≡ x.sides * (12 / v) → m ≡ v * x.turns
+
+-- its part is the share, beyond the least
+pub part_of_degree : (a : Assignment) (e m : ℕ) → IsAssignment a → told a < 2 * a.table.size → HasBranching (next_place a).sides e → IsDegreeWith (next_place a) e m → twelfths (next_place a) m ≡ e + 2 * (next_place a).sides
+part_of_degree a e m is room has with =
+    ap (twelfths (next_place a)) (with has.value has.crystallographic has.beyond) ∙ part_of_value a has.value is room ∙ sym has.beyond
+
 -- the budget that is left
-pub budget_more : (a b : Assignment) (v left taken : ℕ) → IsAssignment a → told a < 2 * a.table.size → HasBudget a left → taken + 2 * (next_place a).sides ≡ (next_place a).sides * (12 / v) → HasEntered a (v * (next_place a).turns) b
-    → taken ≤ left → left + get_or a.rests.least (told a + 1) 0 ≤ taken + get_or a.rests.most (told a + 1) 0 → HasBudget b (left - taken)
-budget_more a b v left taken is room budget takes entered fits enough =
-    let part = part_of_value a v is room in
+pub budget_more : (a b : Assignment) (m left e : ℕ) → IsAssignment a → told a < 2 * a.table.size → HasBudget a left → twelfths (next_place a) m ≡ e + 2 * (next_place a).sides → HasEntered a m b → e ≤ left → HasBudget b (left - e)
+budget_more a b m left e is room budget part entered fits =
     let size = ap (λ (x : Assignment). x.table.size) entered.back in
     let spends = entered.spent in
-    let most = entered.most in
     let least = entered.least in
     let before = least_after a is room in
-    let had = budget.left_over in
-    record {
-      left_over = omega (arith, part, takes, spends, size, least, before, had, fits);
-      enough = omega (arith, most, least, fits, enough);
-    }
+    omega (arith, part, spends, size, least, before, budget, fits)
 
 -- ## What no member has
 
@@ -285,7 +287,7 @@ pub record Spends (a : Assignment) (s : Symbol) : Type 0 where
   pub upto : spent a.places.items (degree_at s) 0 (told a) ≡ spent_by a
   pub most : (k : ℕ) → k ≤ 2 * a.table.size → 6 * a.table.size ≤ spent a.places.items (degree_at s) 0 k + get_or a.rests.most k 0
   pub least : (k : ℕ) → k ≤ 2 * a.table.size → spent a.places.items (degree_at s) 0 k + get_or a.rests.least k 0 ≤ 6 * a.table.size
-  pub surplus : (k e : ℕ) → k ≤ 2 * a.table.size → spent a.places.items (degree_at s) 0 k + get_or a.rests.least k 0 + e ≡ 6 * a.table.size → e < 64 → bit_at (get_or a.rests.surplus k 0) e ≡ 1
+  pub surplus : (k e p : ℕ) → k ≤ 2 * a.table.size → spent a.places.items (degree_at s) 0 k + get_or a.rests.least k 0 + e ≡ 6 * a.table.size → p + e ≡ 63 → bit_at (get_or a.rests.surplus k 0) p ≡ 1
 
 pub spends : (a : Assignment) → IsAssignment a → (s : Symbol) → IsMemberUnder a (prefix_of a) s → Spends a s
 spends a is s under =
@@ -302,7 +304,7 @@ spends a is s under =
       upto = spent_same places (degree_at s) (λ j. get_or a.degrees.items j 0) (told a) (λ j low. told_degree a is s under j low);
       most = λ k low. let up = spent_at_most places a.rests (degree_at s) is.rests bounded (length places - k) k (omega (arith, low, count)) in omega (arith, up, whole);
       least = λ k low. let down = spent_at_least places a.rests (degree_at s) is.rests bounded (length places - k) k (omega (arith, low, count)) in omega (arith, down, whole);
-      surplus = λ k e low all. spent_as_told places a.rests (degree_at s) is.rests bounded (length places - k) k e (omega (arith, low, count)) (all ∙ sym whole);
+      surplus = λ k e p low all. spent_as_told places a.rests (degree_at s) is.rests bounded (length places - k) k e p (omega (arith, low, count)) (all ∙ sym whole);
     }
 
 -- the next degree of a member is a choice
@@ -322,7 +324,7 @@ next_choice a is room s under P tile vertex =
 pub record MeetsBudget (a : Assignment) (n : ℕ) : Type 0 where
   pub enough : 6 * a.table.size ≤ n + get_or a.rests.most (told a + 1) 0
   pub room : n + get_or a.rests.least (told a + 1) 0 ≤ 6 * a.table.size
-  pub surplus : (e : ℕ) → n + get_or a.rests.least (told a + 1) 0 + e ≡ 6 * a.table.size → e < 64 → bit_at (get_or a.rests.surplus (told a + 1) 0) e ≡ 1
+  pub surplus : (e p : ℕ) → n + get_or a.rests.least (told a + 1) 0 + e ≡ 6 * a.table.size → p + e ≡ 63 → bit_at (get_or a.rests.surplus (told a + 1) 0) p ≡ 1
 
 -- with the branching value of a member it is so
 pub budget_of_member : (a : Assignment) (v n : ℕ) → IsAssignment a → told a < 2 * a.table.size → n ≡ spent_by a + (next_place a).sides * (12 / v) → (s : Symbol) → IsMemberUnder a (prefix_of a) s → next_number (prefix_of a) s ≡ v * (next_place a).turns
@@ -342,8 +344,8 @@ budget_of_member a v n is room so_far s under next =
     record {
       enough = omega (arith, part, here, upto, so_far, step, most, at_most);
       room = omega (arith, part, here, upto, so_far, step, least, at_least);
-      surplus = λ rest all small. ap (λ j. bit_at (get_or a.rests.surplus j 0) rest) (sym e)
-          ∙ has.surplus (suc (told a)) rest (omega (arith, room)) (omega (arith, part, here, upto, so_far, step, at_least, all)) small;
+      surplus = λ rest p all mirror. ap (λ j. bit_at (get_or a.rests.surplus j 0) p) (sym e)
+          ∙ has.surplus (suc (told a)) rest p (omega (arith, room)) (omega (arith, part, here, upto, so_far, step, at_least, all)) mirror;
     }
 
 -- two branching values of one degree
@@ -353,7 +355,7 @@ same_value set r v m some c is = cancel c.value v r some (sym c.product ∙ is)
     cancel : (a b k : ℕ) → 1 ≤ k → a * k ≡ b * k → a ≡ b
     cancel a b k pos e = grind arith
 
--- ## Values that may not stand
+-- ## Shares
 
 pub degree_small : (a : Assignment) (v : ℕ) → IsAssignment a → told a < 2 * a.table.size → v ≤ 6 → v * (next_place a).turns ≤ 216
 degree_small a v is room high =
@@ -361,27 +363,51 @@ degree_small a v is room high =
     let up : v * (next_place a).turns ≤ 6 * (next_place a).turns = mul-le-mul_right (next_place a).turns high in
     omega (arith, up, few)
 
--- the branching values of the next place
-pub tile_values : (a : Assignment) → IsAssignment a → told a < a.table.size → HasValues a.request.faces (next_place a).turns (next_place a).values
-tile_values a is low = (is.places.tiles (told a) no_place low).values
+-- the shares of the next place
+pub some_sides : (a : Assignment) → IsAssignment a → told a < 2 * a.table.size → IsAtRoot a → 1 ≤ (next_place a).sides
+some_sides a is room root = (sound_next a is (told a) no_place room).leads (root room)
 
-pub vertex_values : (a : Assignment) → IsAssignment a → told a < 2 * a.table.size → a.table.size ≤ told a → HasValues a.request.degrees (next_place a).turns (next_place a).values
-vertex_values a is room high =
+pub tile_shares : (a : Assignment) → IsAssignment a → told a < a.table.size → 1 ≤ (next_place a).sides → HasShares a.request.faces (next_place a).turns (next_place a).sides (next_place a).shares
+tile_shares a is low = (is.places.tiles (told a) no_place low).shares
+
+pub vertex_shares : (a : Assignment) → IsAssignment a → told a < 2 * a.table.size → a.table.size ≤ told a → 1 ≤ (next_place a).sides → HasShares a.request.degrees (next_place a).turns (next_place a).sides (next_place a).shares
+vertex_shares a is room high =
     let at : a.table.size + (told a - a.table.size) ≡ told a = omega (arith, high) in
-    subst (λ j. let x = get_or a.places.items j no_place in HasValues a.request.degrees x.turns x.values) at
-    (is.places.vertices (told a - a.table.size) no_place (omega (arith, high, room))).values
+    subst (λ j. let x = get_or a.places.items j no_place in 1 ≤ x.sides → HasShares a.request.degrees x.turns x.sides x.shares) at
+    (is.places.vertices (told a - a.table.size) no_place (omega (arith, high, room))).shares
 
--- the branching value of a member is one of them
-pub value_allowed : (a : Assignment) (v : ℕ) → IsAssignment a → told a < 2 * a.table.size → (s : Symbol) → IsMemberUnder a (prefix_of a) s → next_number (prefix_of a) s ≡ v * (next_place a).turns → bit_at (next_place a).values v ≡ 1
-value_allowed a v is room s under next =
+-- the share of a member is one of them
+pub share_allowed : (a : Assignment) (v e : ℕ) → IsAssignment a → told a < 2 * a.table.size → IsAtRoot a → (s : Symbol) → IsMemberUnder a (prefix_of a) s → next_number (prefix_of a) s ≡ v * (next_place a).turns
+    → e + 2 * (next_place a).sides ≡ (next_place a).sides * (12 / v) → bit_at (next_place a).shares e ≡ 1
+share_allowed a v e is room root s under next beyond =
     let x = next_place a in
     let some = (sound_next a is (told a) no_place room).some in
     let m = next_number (prefix_of a) s in
-    next_choice a is room s under (bit_at x.values v ≡ 1)
-    (λ low c. ap (bit_at x.values) (sym (same_value a.request.faces x.turns v m some c next)) ∙ value_told a.request.faces x.turns x.values m (tile_values a is low) c)
-    (λ high c. ap (bit_at x.values) (sym (same_value a.request.degrees x.turns v m some c next)) ∙ value_told a.request.degrees x.turns x.values m (vertex_values a is room high) c)
+    let sides = some_sides a is room root in
+    next_choice a is room s under (bit_at x.shares e ≡ 1)
+    (λ low c. share_told a.request.faces x.turns x.sides x.shares m e (tile_shares a is low sides) c (beyond ∙ ap (λ w. x.sides * (12 / w)) (sym (same_value a.request.faces x.turns v m some c next))))
+    (λ high c. share_told a.request.degrees x.turns x.sides x.shares m e (vertex_shares a is room high sides) c (beyond ∙ ap (λ w. x.sides * (12 / w)) (sym (same_value a.request.degrees x.turns v m some c next))))
 
--- ## One value after another
+-- each of them has a branching value
+pub branching_of : (a : Assignment) (e : ℕ) → IsAssignment a → told a < 2 * a.table.size → IsAtRoot a → bit_at (next_place a).shares e ≡ 1 → HasBranching (next_place a).sides e
+branching_of a e is room root told_ =
+    let sides = some_sides a is room root in
+    ⊎_elim (λ low. ((tile_shares a is low sides).told e told_).branching) (λ high. ((vertex_shares a is room high sides).told e told_).branching) (cases_lt (told a) a.table.size)
+
+-- and its degree is a choice
+pub tile_choice : (a : Assignment) (e m : ℕ) → IsAssignment a → told a < 2 * a.table.size → IsAtRoot a → bit_at (next_place a).shares e ≡ 1 → IsDegreeWith (next_place a) e m → told a < a.table.size → IsChoice a.request.faces (next_place a).turns m
+tile_choice a e m is room root told_ with low =
+    let share = (tile_shares a is low (some_sides a is room root)).told e told_ in
+    let has = share.branching in
+    subst (IsChoice a.request.faces (next_place a).turns) (sym (with has.value has.crystallographic has.beyond)) (choice_told a.request.faces (next_place a).turns (next_place a).sides e share)
+
+pub vertex_choice : (a : Assignment) (e m : ℕ) → IsAssignment a → told a < 2 * a.table.size → IsAtRoot a → bit_at (next_place a).shares e ≡ 1 → IsDegreeWith (next_place a) e m → a.table.size ≤ told a → IsChoice a.request.degrees (next_place a).turns m
+vertex_choice a e m is room root told_ with high =
+    let share = (vertex_shares a is room high (some_sides a is room root)).told e told_ in
+    let has = share.branching in
+    subst (IsChoice a.request.degrees (next_place a).turns) (sym (with has.value has.crystallographic has.beyond)) (choice_told a.request.degrees (next_place a).turns (next_place a).sides e share)
+
+-- ## The next degree of a member
 
 -- what the next degree of a member is
 pub record IsNext (a : Assignment) (m : ℕ) : Type 0 where
@@ -394,124 +420,6 @@ next_value a is room s under =
     next_choice a is room s under (IsNext a (next_number (prefix_of a) s))
     (λ low c. record { value = c.value; is_value = value_of c.value c.crystallographic; product = c.product })
     (λ high c. record { value = c.value; is_value = value_of c.value c.crystallographic; product = c.product })
-
-raised : (a : Assignment) (k m : ℕ) (old new : List Symbol) → k ≤ m → ((s : Symbol) → IsMemberUnder a (prefix_of a) s → next_number (prefix_of a) s < m → next_number (prefix_of a) s < k)
-    → Appends (AreUnderBefore (IsMember a.request) a.table.size (prefix_of a) k) old new → Appends (AreUnderBefore (IsMember a.request) a.table.size (prefix_of a) m) old new
-raised a k m old new up none more = record {
-  list = more.list;
-  grown = more.grown;
-  holds = record {
-    ascending = more.holds.ascending;
-    members = λ s. (
-      (λ there. let u = (more.holds.members s).0 there in (u.0, let low = u.1 in omega (arith, low, up))),
-      (λ u. (more.holds.members s).1 (u.0, none s u.0 u.1)),
-    );
-  };
-}
-
--- products with one factor are ordered as the others
-factor_below : (w v r : ℕ) → w * r < v * r → w < v
-factor_below w v r less = ⊎_elim (λ low. low) (λ high. absurd (let up : v * r ≤ w * r = mul-le-mul_right r high in omega (arith, up, less))) (cases_lt w v)
-
-pub first_value : (a : Assignment) → IsAssignment a → told a < 2 * a.table.size → (old : List Symbol) → Appends (AreUnderBefore (IsMember a.request) a.table.size (prefix_of a) (1 * (next_place a).turns)) old old
-first_value a is room old =
-    raised a 0 (1 * (next_place a).turns) old old (omega arith)
-    (λ s under low.
-    let next = next_value a is room s under in
-    let pos = next.is_value.low in
-    let up : 1 * (next_place a).turns ≤ next.value * (next_place a).turns = mul-le-mul_right (next_place a).turns pos in
-    let e = next.product in
-    absurd (omega (arith, low, up, e)))
-    (appends_first (IsMember a.request) a.table.size (prefix_of a) old)
-
-above : (w v : ℕ) → w < v → w + 1 ≤ v
-above w v less = omega arith
-
-next_up : (v r : ℕ) → (v + 1) * r ≡ v * r + r
-next_up v r = omega arith
-
-pub value_refused : (a : Assignment) (v : ℕ) → IsAssignment a → told a < 2 * a.table.size → ((s : Symbol) → IsMemberUnder a (prefix_of a) s → next_number (prefix_of a) s ≡ v * (next_place a).turns → ⊥) → (old new : List Symbol)
-    → Appends (AreUnderBefore (IsMember a.request) a.table.size (prefix_of a) (v * (next_place a).turns)) old new → Appends (AreUnderBefore (IsMember a.request) a.table.size (prefix_of a) ((v + 1) * (next_place a).turns)) old new
-value_refused a v is room dead old new more =
-    let r = (next_place a).turns in
-    let some = (sound_next a is (told a) no_place room).some in
-    let step = next_up v r in
-    raised a (v * r) ((v + 1) * r) old new (omega (arith, step))
-    (λ s under low.
-    let next = next_value a is room s under in
-    let e = next.product in
-    let below = factor_below next.value (v + 1) r (omega (arith, low, e)) in
-    ⊎_elim
-    (λ less.
-    let up : (next.value + 1) * r ≤ v * r = mul-le-mul_right r (above next.value v less) in
-    let up_one = next_up next.value r in
-    omega (arith, up, up_one, e, some))
-    (λ high.
-    let same : next.value ≡ v = omega (arith, below, high) in
-    absurd (dead s under (e ∙ ap (λ w. w * r) same)))
-    (cases_lt next.value v))
-    more
-
-pub value_found : (a : Assignment) (v m : ℕ) → IsAssignment a → told a < 2 * a.table.size → v ≤ 6 → m ≡ v * (next_place a).turns → (old mid new : List Symbol)
-    → Appends (AreUnderBefore (IsMember a.request) a.table.size (prefix_of a) (v * (next_place a).turns)) old mid → Appends (AreUnder (IsMember a.request) a.table.size (prefix_of a ++ m ∷ [])) mid new
-    → Appends (AreUnderBefore (IsMember a.request) a.table.size (prefix_of a) ((v + 1) * (next_place a).turns)) old new
-value_found a v m is room high at old mid new more found =
-    let r = (next_place a).turns in
-    let some = (sound_next a is (told a) no_place room).some in
-    let small = degree_small a v is room high in
-    let whole = length-prefix a is in
-    let step = next_up v r in
-    let skips : SkipsTo (IsMember a.request) a.table.size (prefix_of a) (v * r) m =
-    record { later = omega (arith, at); small = omega (arith, at, small); none_between = λ s under. ⊎_elim (λ low. inl low) (λ up. inr (omega (arith, at, up))) (cases_lt (next_number (prefix_of a) s) (v * r)) } in
-    raised a (m + 1) ((v + 1) * r) old new (omega (arith, step, at, some))
-    (λ s under low.
-    let next = next_value a is room s under in
-    let e = next.product in
-    let below = factor_below next.value (v + 1) r (omega (arith, low, e)) in
-    let up : (next.value + 1) * r ≤ (v + 1) * r = mul-le-mul_right r (above next.value (v + 1) below) in
-    let up_one = next_up next.value r in
-    omega (arith, up, up_one, step, e, at))
-    (appends_next (IsMember a.request) a.table.size (prefix_of a) (v * r) m old mid new (omega (arith, whole, room)) skips more found)
-
-pub all_values : (a : Assignment) (v : ℕ) → IsAssignment a → told a < 2 * a.table.size → 7 ≤ v → (old new : List Symbol)
-    → Appends (AreUnderBefore (IsMember a.request) a.table.size (prefix_of a) (v * (next_place a).turns)) old new → Appends (AreUnder (IsMember a.request) a.table.size (prefix_of a)) old new
-all_values a v is room end old new more =
-    let r = (next_place a).turns in
-    let some = (sound_next a is (told a) no_place room).some in
-    appends_all (IsMember a.request) a.table.size (prefix_of a) (v * r) old new
-    (λ s under.
-    let next = next_value a is room s under in
-    let e = next.product in
-    let high = next.is_value.high in
-    let up : (next.value + 1) * r ≤ v * r = mul-le-mul_right r (omega (arith, high, end)) in
-    let up_one = next_up next.value r in
-    omega (arith, up, up_one, e, some))
-    more
-
--- where too much is left with a branching value, there are no more
-pub no_more_values : (a : Assignment) (v left taken : ℕ) → IsAssignment a → told a < 2 * a.table.size → HasBudget a left → taken + 2 * (next_place a).sides ≡ (next_place a).sides * (12 / v) → 1 ≤ v
-    → taken + get_or a.rests.most (told a + 1) 0 < left + get_or a.rests.least (told a + 1) 0 → (old new : List Symbol)
-    → Appends (AreUnderBefore (IsMember a.request) a.table.size (prefix_of a) (v * (next_place a).turns)) old new → Appends (AreUnder (IsMember a.request) a.table.size (prefix_of a)) old new
-no_more_values a v left taken is room budget takes some short old new more =
-    let r = (next_place a).turns in
-    let turns = (sound_next a is (told a) no_place room).some in
-    appends_all (IsMember a.request) a.table.size (prefix_of a) (v * r) old new
-    (λ s under.
-    let next = next_value a is room s under in
-    let e = next.product in
-    ⊎_elim
-    (λ less.
-    let up : (next.value + 1) * r ≤ v * r = mul-le-mul_right r (above next.value v less) in
-    let up_one = next_up next.value r in
-    omega (arith, up, up_one, e, turns))
-    (λ high.
-    let enough = (budget_of_member a next.value (spent_by a + (next_place a).sides * (12 / next.value)) is room refl s under e).enough in
-    let falls = part_falls (next_place a).sides v next.value some high in
-    let before = least_after a is room in
-    let had = budget.left_over in
-    absurd (omega (arith, enough, falls, short, takes, before, had)))
-    (cases_lt next.value v))
-    more
 
 -- what was found after a degree was told
 pub found_entered : (a b : Assignment) (m : ℕ) → HasEntered a m b → (old new : List Symbol) → Appends (AreUnder (IsMember b.request) b.table.size (prefix_of b)) old new → Appends (AreUnder (IsMember a.request) a.table.size (prefix_of a ++ m ∷ [])) old new

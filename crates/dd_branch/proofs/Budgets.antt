@@ -26,7 +26,7 @@ use Rattle.dd_branch.specs.Place.{IsPlaceOf, sides_of}
 use Rattle.dd_branch.specs.Rests.{AreRests}
 use Rattle.dd_branch.specs.declared.places.Place.{Place}
 use Rattle.dd_branch.specs.declared.rests.Rests.{Rests}
-use Rattle.dd_branch.proofs.Choices.{divides_twelve, part_at_most, part_falls}
+use Rattle.dd_branch.proofs.Choices.{divides_twelve, part_at_most}
 
 -- ## Sums of parts
 
@@ -143,24 +143,22 @@ flat_if_spent q t s places is same all =
 
 -- ## What is left
 
--- a part with a branching value of a place
+-- a part that is a share of a place, beyond the least
 pub record HasPart (x : Place) (part : ℕ) : Type 0 where
-  pub value : ℕ
-  pub low : 1 ≤ value
-  pub high : value ≤ 6
-  pub allowed : bit_at x.values value ≡ 1
-  pub is : part ≡ x.sides * (12 / value)
+  pub share : ℕ
+  pub is : part ≡ share + 2 * x.sides
+  pub none : x.sides ≡ 0 → share ≡ 0
+  pub allowed : 1 ≤ x.sides → bit_at x.shares share ≡ 1
 
--- each part is that of a branching value of its place, and no more than the most
+-- each part is one of its place, and no more than the most
 pub record AreBounded (places : List Place) (f : ℕ → ℕ) : Type 0 where
   pub most : (j : ℕ) → j < length places → twelfths (get_or places j no_place) (f j) ≤ (get_or places j no_place).most
   pub parts : (j : ℕ) → j < length places → HasPart (get_or places j no_place) (twelfths (get_or places j no_place) (f j))
 
 least_part : (x : Place) (part : ℕ) → HasPart x part → 2 * x.sides ≤ part
 least_part x part has =
-    let low : x.sides * (12 / 6) ≤ x.sides * (12 / has.value) = part_falls x.sides has.value 6 has.low has.high in
     let is = has.is in
-    omega (arith, low, is)
+    omega (arith, is)
 
 pub spent_at_most : (places : List Place) (rests : Rests) (f : ℕ → ℕ) → AreRests places rests → AreBounded places f → (d k : ℕ) → k + d ≡ length places
     → spent places f 0 (length places) ≤ spent places f 0 k + get_or rests.most k 0
@@ -194,25 +192,24 @@ spent_at_least places rests f are bounded (suc d) k end =
     omega (arith, rest, each, one, same, next)
 
 -- what is spent beyond the least from a place on is one of the bits
-pub spent_as_told : (places : List Place) (rests : Rests) (f : ℕ → ℕ) → AreRests places rests → AreBounded places f → (d k e : ℕ) → k + d ≡ length places
-    → spent places f 0 k + get_or rests.least k 0 + e ≡ spent places f 0 (length places) → e < 64 → bit_at (get_or rests.surplus k 0) e ≡ 1
-spent_as_told places rests f are bounded zero k e end whole small =
+pub spent_as_told : (places : List Place) (rests : Rests) (f : ℕ → ℕ) → AreRests places rests → AreBounded places f → (d k e p : ℕ) → k + d ≡ length places
+    → spent places f 0 k + get_or rests.least k 0 + e ≡ spent places f 0 (length places) → p + e ≡ 63 → bit_at (get_or rests.surplus k 0) p ≡ 1
+spent_as_told places rests f are bounded zero k e p end whole mirror =
     let at : k ≡ length places = omega (arith, end) in
     let same = ap (spent places f 0) at in
-    let none : e ≡ 0 = omega (arith, same, whole) in
-    ap (λ j. bit_at (get_or rests.surplus j 0) e) at ∙ ap (bit_at (get_or rests.surplus (length places) 0)) none ∙ are.no_surplus
-spent_as_told places rests f are bounded (suc d) k e end whole small =
+    let none : p ≡ 63 = omega (arith, same, whole, mirror) in
+    ap (λ j. bit_at (get_or rests.surplus j 0) p) at ∙ ap (bit_at (get_or rests.surplus (length places) 0)) none ∙ are.no_surplus
+spent_as_told places rests f are bounded (suc d) k e p end whole mirror =
     let x = get_or places k no_place in
     let low = spent_at_least places rests f are bounded d (suc k) (omega (arith, end)) in
     let rest : ℕ = spent places f 0 (length places) - (spent places f 0 (suc k) + get_or rests.least (suc k) 0) in
     let part = bounded.parts k (omega (arith, end)) in
-    let one = least_part x _ part in
     let is = part.is in
     let each = are.each_least k no_place (omega (arith, end)) in
     let same : suc k ≡ k + 1 = omega arith in
     let same_least = ap (λ j. get_or rests.least j 0) same in
     let next = spent_next places f k in
-    let up : rest ≤ e = omega (arith, low, each, one, same_least, next, whole) in
-    let before = spent_as_told places rests f are bounded d (suc k) rest (omega (arith, end)) (omega (arith, low)) (omega (arith, up, small)) in
-    let there : bit_at (get_or rests.surplus (k + 1) 0) rest ≡ 1 = ap (λ j. bit_at (get_or rests.surplus j 0) rest) (sym same) ∙ before in
-    are.each_surplus k no_place (omega (arith, end)) part.value rest e part.low part.high part.allowed there (omega (arith, low, is, each, same_least, next, whole)) small
+    let up : rest + part.share ≡ e = omega (arith, low, each, is, same_least, next, whole) in
+    let before = spent_as_told places rests f are bounded d (suc k) rest (p + part.share) (omega (arith, end)) (omega (arith, low)) (omega (arith, up, mirror)) in
+    let there : bit_at (get_or rests.surplus (k + 1) 0) (p + part.share) ≡ 1 = ap (λ j. bit_at (get_or rests.surplus j 0) (p + part.share)) (sym same) ∙ before in
+    are.each_surplus k no_place (omega (arith, end)) part.share (p + part.share) p part.none part.allowed there refl

@@ -1,17 +1,17 @@
 -- The degrees that a cell may have, one branching value after another.
-use Rattle.std.proofs.Common.{◌≡◌, ◌≢◌, ℕ, zero, suc, ◌+◌, ◌*◌, ◌/◌, ◌^◌, ◌%◌, ◌<◌, ◌≤◌, refl, sym, ap, ◌∙◌, subst, ⊎_elim, arith}
+use Rattle.std.proofs.Common.{◌≡◌, ◌≢◌, ℕ, zero, suc, ◌+◌, ◌-◌, ◌*◌, ◌/◌, ◌^◌, ◌%◌, ◌<◌, ◌≤◌, List, [], ◌∷◌, get_or, refl, sym, ap, ◌∙◌, subst, ⊎_elim, arith}
 use Rattle.std.proofs.Math.Nat.{div-le_self, div-mul-le_self, mul-le-mul_left}
 use Rattle.std.proofs.lemmas.Bool.{cases_eq, cases_lt}
 use Rattle.std.proofs.lemmas.Nat.{le-div}
 use Rattle.std.proofs.lemmas.Nat.Bits.{bit_at-zero, bit_at_set_other, bit_at_set_same}
-use Rattle.std.specs.Int.{bit_at, w8}
+use Rattle.std.specs.Int.{bit_at, w32}
 use Rattle.std.specs.Int.Bits.{bit_or}
 use Rattle.dd_model.specs.Allowed.{IsIn}
 use Rattle.dd_model.specs.Wanted.{IsCrystallographic}
 use Rattle.dd_model.specs.declared.allowed.Allowed.{Allowed}
 use Rattle.dd_model.proofs.WantedDegrees.{by_value}
 use Rattle.dd_cells.specs.Fraction.{Divides}
-use Rattle.dd_branch.specs.Choice.{IsChoice, HasValues}
+use Rattle.dd_branch.specs.Choice.{HasBranching, HasShares, IsChoice, IsShare}
 
 -- a number from 1 to 6 other than 5
 pub record IsValue (v : ℕ) : Type 0 where
@@ -50,60 +50,62 @@ is_crystallographic (suc (suc (suc (suc (suc (suc (suc v))))))) low high other =
 
 -- ## Bits
 
--- the branching value of a choice is one of the bits
-pub value_told : (set : Allowed) (r values m : ℕ) → HasValues set r values → (c : IsChoice set r m) → bit_at values c.value ≡ 1
-value_told set r values m are c = (are c.value).1 (c.crystallographic, subst (IsIn set) c.product c.allowed)
+-- what a choice has beyond the least is one of the bits
+pub share_told : (set : Allowed) (r sides shares m e : ℕ) → HasShares set r sides shares → (c : IsChoice set r m) → e + 2 * sides ≡ sides * (12 / c.value) → bit_at shares e ≡ 1
+share_told set r sides shares m e are c is = are.all c.value e c.crystallographic (subst (IsIn set) c.product c.allowed) is
 
 -- and each bit is that of a choice
-pub choice_told : (set : Allowed) (r values v : ℕ) → HasValues set r values → bit_at values v ≡ 1 → IsChoice set r (v * r)
-choice_told set r values v are told = let is = (are v).0 told in record { value = v; crystallographic = is.0; product = refl; allowed = is.1 }
+pub choice_told : (set : Allowed) (r sides e : ℕ) → (share : IsShare set r sides e) → IsChoice set r (share.branching.value * r)
+choice_told set r sides e share = record { value = share.branching.value; crystallographic = share.branching.crystallographic; product = refl; allowed = share.allowed }
 
--- the bits of the values below a number, each of a choice
-pub record AreValuesBelow (set : Allowed) (r values n : ℕ) : Type 0 where
-  pub told : (v : ℕ) → bit_at values v ≡ 1 → (v < n) × IsCrystallographic v × IsIn set (v * r)
-  pub all : (v : ℕ) → v < n → IsCrystallographic v → IsIn set (v * r) → bit_at values v ≡ 1
+-- the bits of the values below a number
+pub record AreSharesBelow (set : Allowed) (r sides shares n : ℕ) : Type 0 where
+  pub told : (e : ℕ) → bit_at shares e ≡ 1 → IsShare set r sides e
+  pub all : (v e : ℕ) → v < n → IsCrystallographic v → IsIn set (v * r) → e + 2 * sides ≡ sides * (12 / v) → bit_at shares e ≡ 1
 
-pub no_values : (set : Allowed) (r : ℕ) → AreValuesBelow set r 0 1
-no_values set r = record {
-  told = λ v is. absurd (let none = bit_at-zero v in omega (arith, is, none));
-  all = λ v low c. absurd (let some = (value_of v c).low in omega (arith, low, some));
+pub no_shares : (set : Allowed) (r sides : ℕ) → AreSharesBelow set r sides 0 1
+no_shares set r sides = record {
+  told = λ e is. absurd (let none = bit_at-zero e in omega (arith, is, none));
+  all = λ v e low c. absurd (let some = (value_of v c).low in omega (arith, low, some));
 }
 
--- one value more, which is not one of them
-pub value_passed : (set : Allowed) (r values n : ℕ) → AreValuesBelow set r values n → (n ≢ 5 → IsIn set (n * r) → ⊥) → AreValuesBelow set r values (n + 1)
-value_passed set r values n old none = record {
-  told = λ v is. let before = old.told v is in (let low = before.0 in omega (arith, low), before.1, before.2);
-  all = λ v low c allowed. ⊎_elim
-      (λ early. old.all v early c allowed)
+-- one value more, which may not stand
+pub share_passed : (set : Allowed) (r sides shares n : ℕ) → AreSharesBelow set r sides shares n → (n ≢ 5 → IsIn set (n * r) → ⊥) → AreSharesBelow set r sides shares (n + 1)
+share_passed set r sides shares n old none = record {
+  told = old.told;
+  all = λ v e low c allowed is. ⊎_elim
+      (λ early. old.all v e early c allowed is)
       (λ late.
-      let e : v ≡ n = omega (arith, low, late) in
-      absurd (none (subst (λ x. x ≢ 5) e (value_of v c).other) (subst (λ x. IsIn set (x * r)) e allowed)))
+      let same : v ≡ n = omega (arith, low, late) in
+      absurd (none (subst (λ x. x ≢ 5) same (value_of v c).other) (subst (λ x. IsIn set (x * r)) same allowed)))
       (cases_lt v n);
 }
 
--- and one that is
-pub value_added : (set : Allowed) (r values n m : ℕ) → AreValuesBelow set r values n → IsCrystallographic n → IsIn set (n * r) → n < 8 → m ≡ bit_or values (1 * 2 ^ n % 2 ^ 8) → AreValuesBelow set r m (n + 1)
-value_added set r values n m old is allowed low e = record {
-  told = λ v told. ⊎_elim
-      (λ same. (omega (arith, same), subst IsCrystallographic (sym same) is, subst (λ x. IsIn set (x * r)) (sym same) allowed))
-      (λ other.
-      let before = old.told v (sym (bit_at_set_other w8 values n low v other) ∙ ap (λ x. bit_at x v) (sym e) ∙ told) in
-      (let less = before.0 in omega (arith, less), before.1, before.2))
-      (cases_eq v n);
-  all = λ v less c in_set. ap (λ x. bit_at x v) e ∙ ⊎_elim
-      (λ same. ap (bit_at (bit_or values (1 * 2 ^ n % 2 ^ 8))) same ∙ bit_at_set_same w8 values n low)
-      (λ other. bit_at_set_other w8 values n low v other ∙ old.all v (below_more v n less other) c in_set)
-      (cases_eq v n);
+-- and one that may
+pub share_added : (set : Allowed) (r sides shares n s m : ℕ) → AreSharesBelow set r sides shares n → IsCrystallographic n → IsIn set (n * r) → s + 2 * sides ≡ sides * (12 / n) → s < 32 → m ≡ bit_or shares (1 * 2 ^ s % 2 ^ 32)
+    → AreSharesBelow set r sides m (n + 1)
+share_added set r sides shares n s m old is allowed beyond low same = record {
+  told = λ e told. ⊎_elim
+      (λ here. record { branching = record { value = n; crystallographic = is; beyond = ap (λ x. x + 2 * sides) here ∙ beyond }; allowed = allowed })
+      (λ other. old.told e (sym (bit_at_set_other w32 shares s low e other) ∙ ap (λ x. bit_at x e) (sym same) ∙ told))
+      (cases_eq e s);
+  all = λ v e less c in_set part. ap (λ x. bit_at x e) same ∙ ⊎_elim
+      (λ here. ap (bit_at (bit_or shares (1 * 2 ^ s % 2 ^ 32))) here ∙ bit_at_set_same w32 shares s low)
+      (λ other. bit_at_set_other w32 shares s low e other ∙ ⊎_elim
+      (λ early. old.all v e early c in_set part)
+      (λ late.
+      let own : v ≡ n = omega (arith, less, late) in
+      let parts : sides * (12 / v) ≡ sides * (12 / n) = ap (λ x. sides * (12 / x)) own in
+      absurd (other (omega (arith, part, beyond, parts))))
+      (cases_lt v n))
+      (cases_eq e s);
 }
-  where
-    below_more : (v n : ℕ) → v < n + 1 → (v ≡ n → ⊥) → v < n
-    below_more v n less other = ⊎_elim (λ low. low) (λ high. absurd (other (omega (arith, less, high)))) (cases_lt v n)
 
-pub all_values_told : (set : Allowed) (r values n : ℕ) → 7 ≤ n → AreValuesBelow set r values n → HasValues set r values
-all_values_told set r values n end old v = (
-  (λ told. let is = old.told v told in (is.1, is.2)),
-  (λ is. old.all v (let high = (value_of v is.0).high in omega (arith, high, end)) is.0 is.1),
-)
+pub all_shares_told : (set : Allowed) (r sides shares n : ℕ) → 7 ≤ n → AreSharesBelow set r sides shares n → HasShares set r sides shares
+all_shares_told set r sides shares n end old = record {
+  told = old.told;
+  all = λ v e c. old.all v e (let high = (value_of v c).high in omega (arith, high, end)) c;
+}
 
 -- ## Parts
 
@@ -123,3 +125,41 @@ part_of_six sides v is =
 
 pub part_at_most : (sides v : ℕ) → sides * (12 / v) ≤ sides * 12
 part_at_most sides v = mul-le-mul_left sides (div-le_self 12 v)
+
+-- what is beyond the least
+pub share_at_most : (sides e : ℕ) → HasBranching sides e → e ≤ 10 * sides
+share_at_most sides e has = let most = part_at_most sides has.value in let is = has.beyond in omega (arith, most, is)
+
+-- what a branching value has beyond it
+pub share_exists : (sides v : ℕ) → IsCrystallographic v → sides * (12 / v) - 2 * sides + 2 * sides ≡ sides * (12 / v)
+share_exists sides v is = let low = part_of_six sides v is in omega (arith, low)
+
+-- ## A list of values
+
+-- the branching values, each at what a side has beyond 2
+abbrev pub values_by_share : List ℕ
+values_by_share = 6 ∷ 4 ∷ 3 ∷ 0 ∷ 2 ∷ 0 ∷ 0 ∷ 0 ∷ 0 ∷ 0 ∷ 1 ∷ []
+
+at_share : (v : ℕ) → IsCrystallographic v → (k : ℕ) → k + 2 ≡ 12 / v → get_or values_by_share k 0 ≡ v
+at_share =
+    by_value (λ v. (k : ℕ) → k + 2 ≡ 12 / v → get_or values_by_share k 0 ≡ v)
+    (λ k e. let at : k ≡ 10 = omega (arith, e) in ap (λ j. get_or values_by_share j 0) at)
+    (λ k e. let at : k ≡ 4 = omega (arith, e) in ap (λ j. get_or values_by_share j 0) at)
+    (λ k e. let at : k ≡ 2 = omega (arith, e) in ap (λ j. get_or values_by_share j 0) at)
+    (λ k e. let at : k ≡ 1 = omega (arith, e) in ap (λ j. get_or values_by_share j 0) at)
+    (λ k e. let at : k ≡ 0 = omega (arith, e) in ap (λ j. get_or values_by_share j 0) at)
+
+-- of one side or two
+pub value_at : (v e sides : ℕ) → IsCrystallographic v → 1 ≤ sides → sides ≤ 2 → e + 2 * sides ≡ sides * (12 / v) → get_or values_by_share (e / 2 ^ (sides / 2)) 0 ≡ v
+value_at v e sides c some few is = at_share v c (e / 2 ^ (sides / 2)) (⊎_elim
+    (λ low.
+    let one : sides ≡ 1 = omega (arith, some, low) in
+    let same : e / 2 ^ (sides / 2) ≡ e / 1 = ap (λ s. e / 2 ^ (s / 2)) one in
+    let part : sides * (12 / v) ≡ 1 * (12 / v) = ap (λ s. s * (12 / v)) one in
+    omega (arith, one, same, part, is))
+    (λ high.
+    let two : sides ≡ 2 = omega (arith, few, high) in
+    let same : e / 2 ^ (sides / 2) ≡ e / 2 = ap (λ s. e / 2 ^ (s / 2)) two in
+    let part : sides * (12 / v) ≡ 2 * (12 / v) = ap (λ s. s * (12 / v)) two in
+    omega (arith, two, same, part, is))
+    (cases_lt sides 2))

@@ -30,10 +30,10 @@ use Rattle.dd_branch.specs.Budget.{no_place, twelfths}
 use Rattle.dd_branch.specs.Choice.{IsChoice}
 use Rattle.dd_symbol.specs.declared.kind.Kind.{Kind}
 use Rattle.dd_symbol.specs.declared.kind.Kind.TheVariants.{Cycle, Chain}
-use Rattle.dd_branch.specs.Place.{ArePlaces, IsLeastBit, IsPlaceOf, sides_of}
+use Rattle.dd_branch.specs.Place.{ArePlaces, IsPlaceOf, sides_of}
 use Rattle.dd_branch.specs.declared.places.Place.{Place}
 use Rattle.dd_branch.proofs.Budgets.{AreBounded, AreChosen, AllAreChosen, HasPart, part_of_choice, shape_at}
-use Rattle.dd_branch.proofs.Choices.{value_of, value_told}
+use Rattle.dd_branch.proofs.Choices.{share_exists, share_told, value_of}
 
 -- ## Where degrees stand
 
@@ -111,8 +111,16 @@ bounded_at t s same p set first places all k j at low =
     let some : 1 ≤ x.turns = let a = place.turns in let b = (shape_at t s same p set first (k + 1) x place).turns.positive in omega (arith, a, b) in
     let part = part_of_choice set x (degree_at s j) some c in
     let most = place.bounds.most (degree_at s j) c in
-    let value = value_of c.value c.crystallographic in
-    (omega (arith, part, most), record { value = c.value; low = value.low; high = value.high; allowed = value_told set x.turns x.values (degree_at s j) place.values c; is = part })
+    let share : ℕ = x.sides * (12 / c.value) - 2 * x.sides in
+    let beyond = share_exists x.sides c.value c.crystallographic in (
+      omega (arith, part, most),
+      record {
+        share = share;
+        is = omega (arith, part, beyond);
+        none = λ none. omega (arith, beyond, none, ap (λ n. n * (12 / c.value)) none);
+        allowed = λ some_sides. share_told set x.turns x.sides x.shares (degree_at s j) share (place.shares some_sides) c beyond;
+      },
+    )
 
 -- all parts are within the bounds of their places
 pub all_bounded : (q : Request) (t s : Symbol) (places : List Place) → ArePlaces q t places → HaveSameInvolutions t s → AllAreChosen q t s places → AreBounded places (degree_at s)
@@ -330,7 +338,6 @@ pub record IsSound (j : ℕ) (x : Place) : Type 0 where
   pub most : x.most ≤ x.sides * 12
   pub follows : x.root ≢ j → x.sides ≡ 0
   pub leads : x.root ≡ j → 1 ≤ x.sides
-  pub least : (v : ℕ) → 1 ≤ v → v ≤ 6 → IsLeastBit x.values v → x.sides * (12 / v) ≡ x.most
 
 some_sides : (kind : Kind) → 1 ≤ sides_of kind
 some_sides Cycle = omega arith
@@ -353,7 +360,6 @@ sound_place t inv p set first k j x at place low =
       most = place.bounds.most_small;
       follows = λ other. ⊎_elim (λ own. absurd (other (let e = own.0 in omega (arith, e, root, at)))) (λ none. none.1) place.sides;
       leads = λ own. ⊎_elim (λ here. let is = here.1 in let some = some_sides place.shape.kind in omega (arith, is, some)) (λ none. absurd (none.0 (omega (arith, own, root, at)))) place.sides;
-      least = place.bounds.least;
     }
 
 pub sound_places : (q : Request) (t : Symbol) (places : List Place) → AreInvolutions t → ArePlaces q t places → (j : ℕ) (x : Place) → j < 2 * t.size → IsSound j (get_or places j x)

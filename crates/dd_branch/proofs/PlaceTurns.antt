@@ -84,7 +84,7 @@ place_with s m01 m12 set p first d x place = record {
   turns = place.turns;
   few = place.few;
   sides = place.sides;
-  values = place.values;
+  shares = place.shares;
   bounds = place.bounds;
 }
 

@@ -9,7 +9,6 @@ use Rattle.dd_model.proofs.CellWalks.{in_cell-sym}
 use Rattle.dd_model.proofs.Words.{act_within}
 use Rattle.dd_cells.specs.Cells.{IsSmallerInCell}
 use Rattle.dd_cells.proofs.ShapesInCell.{shape_beside}
-use Rattle.dd_branch.specs.Choice.{HasValues}
 use Rattle.dd_branch.specs.Place.{AreBounds, HasPlaceOf, HasPlaces, IsPlaceOf}
 use Rattle.dd_branch.specs.declared.places.Place.{Place}
 
@@ -22,12 +21,11 @@ bounds_beside set y none most = record {
   most = λ m choice. subst (λ n. n * (12 / choice.value) ≤ y.most) (sym none) (omega arith);
   sides = omega arith;
   most_small = omega arith;
-  least = λ v _ _ _. ap (λ n. n * (12 / v)) none ∙ omega (arith, most);
 }
 
 pub place_beside : (t : Symbol) → AreInvolutions t → (set : Allowed) (p : Pair) (first d e : ℕ) (x y : Place) → IsChamber t d → IsSmallerInCell t p d e → IsPlaceOf t set p first e x
-    → y.root ≡ x.root → y.turns ≡ x.turns → y.sides ≡ 0 → y.most ≡ 0 → y.values ≡ x.values → IsPlaceOf t set p first d y
-place_beside t inv set p first d e x y h is place root turns none most values =
+    → y.root ≡ x.root → y.turns ≡ x.turns → y.sides ≡ 0 → y.most ≡ 0 → IsPlaceOf t set p first d y
+place_beside t inv set p first d e x y h is place root turns none most =
     let near = smaller_chamber t inv p d e h is in
     let at = place.is_shape.least in
     let below : place.shape.least ≤ e = at.is_least.1 e (in_cell-sym t inv p e place.shape.least near at.in_cell) in
@@ -39,7 +37,7 @@ place_beside t inv set p first d e x y h is place root turns none most values =
       turns = turns ∙ place.turns;
       few = subst (λ n. n ≤ 36) (sym turns) place.few;
       sides = inr ((λ same. absurd (omega arith)), none);
-      values = subst (HasValues set y.turns) (sym values) (subst (λ r. HasValues set r x.values) (sym turns) place.values);
+      shares = λ some. absurd (omega (arith, some, none));
       bounds = bounds_beside set y none most;
     }
 

@@ -53,8 +53,8 @@ still_small f places d sums k y is some inside room each before =
 
 -- ## What there may be beyond the least
 
-pub still_none : (places : List Place) (bits : List ℕ) (k y : ℕ) → 0 < k → k ≤ length places → bit_at (get_or bits (length places) 0) 0 ≡ 1 → bit_at (get_or (set bits (k - 1) y) (length places) 0) 0 ≡ 1
-still_none places bits k y some inside before = ap (λ n. bit_at n 0) (get_or-set_other bits (k - 1) (length places) y 0 (λ e. omega (arith, e, some, inside))) ∙ before
+pub still_none : (places : List Place) (bits : List ℕ) (k y : ℕ) → 0 < k → k ≤ length places → bit_at (get_or bits (length places) 0) 63 ≡ 1 → bit_at (get_or (set bits (k - 1) y) (length places) 0) 63 ≡ 1
+still_none places bits k y some inside before = ap (λ n. bit_at n 63) (get_or-set_other bits (k - 1) (length places) y 0 (λ e. omega (arith, e, some, inside))) ∙ before
 
 -- the bits with those of one more place in front
 pub surplus_more : (places : List Place) (d : Place) (bits : List ℕ) (k y : ℕ) → 0 < k → k ≤ length places → length places < length bits → HasSurplusWith (get_or places (k - 1) d) (get_or bits (k - 1 + 1) 0) y

@@ -1,9 +1,8 @@
 -- The numberings of a symbol from a chamber to which its involutions may be turned.
-use Rattle.std.proofs.Common.{IfSome, Vec, ◌≡◌, ◌↔◌, ℕ, suc, false, ◌+◌, ◌-◌, ◌<◌, ◌≤◌, List, get_or, drop, drop-cons, ⊎_elim, [], ◌∷◌, ◌++◌, length, length-append, refl, sym, ap, ◌∙◌, subst, arith}
+use Rattle.std.proofs.Common.{IfSome, Vec, ◌≡◌, ◌↔◌, ℕ, suc, ◌+◌, ◌-◌, ◌<◌, ◌≤◌, List, get_or, drop, drop-cons, ⊎_elim, [], ◌∷◌, ◌++◌, length, length-append, refl, sym, ap, ◌∙◌, subst, arith}
 use Rattle.std.proofs.lemmas.List.{length-map}
 use Rattle.std.proofs.lemmas.Bool.{cases_lt}
 use Rattle.std.specs.Ordering.{nat_cmp, ordering_then}
-use Rattle.std.specs.declared.cmp.Ordering.{Ordering}
 use Rattle.std.specs.Cmp.Lexicographic.{slice_cmp}
 use Rattle.std.specs.declared.cmp.Ordering.TheVariants.{Equal}
 use Rattle.dd_model.specs.declared.index.Index.TheVariants.{Zero, One, Two}

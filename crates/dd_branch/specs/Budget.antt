@@ -4,7 +4,7 @@ use Rattle.dd_branch.specs.declared.places.Place.{Place}
 
 -- what stands for a place that a list does not have
 abbrev pub no_place : Place
-no_place = record { root = 0; turns = 0; sides = 0; most = 0; values = 0 }
+no_place = record { root = 0; turns = 0; sides = 0; most = 0; shares = 0 }
 
 -- the part of a degree m: 12/v for each side of the cell at the place of its least chamber, none at the others
 abbrev pub twelfths : Place → ℕ → ℕ

@@ -1,14 +1,21 @@
 -- How a search for the degrees of a table goes on.
-use Rattle.std.specs.Prelude.{◌≡◌, ◌↔◌, ℕ, ◌+◌, ◌*◌, ◌<◌, ◌≤◌, [], ◌∷◌, ◌++◌, slice_index}
+use Rattle.std.specs.Prelude.{◌≡◌, ◌↔◌, ℕ, ◌+◌, ◌*◌, ◌/◌, ◌<◌, ◌≤◌, [], ◌∷◌, ◌++◌, slice_index}
+use Rattle.std.specs.Int.{bit_at}
+use Rattle.dd_invol.specs.Under.{next_number}
 use Rattle.dd_model.specs.Symbol.{Symbol}
 use Rattle.dd_branch.specs.Assignment.{IsMemberUnder, next_place, prefix_of, shortened, spent_by, told}
 use Rattle.dd_branch.specs.Budget.{twelfths}
 use Rattle.dd_branch.specs.declared.assignment.Assignment.{Assignment}
 
--- the degrees that are left have to take so much of the budget beyond their least, and they can
-pub record HasBudget (a : Assignment) (left : ℕ) : Type 0 where
-  pub left_over : spent_by a + left + slice_index a.rests.least (told a) ≡ 6 * a.table.size
-  pub enough : left + slice_index a.rests.least (told a) ≤ slice_index a.rests.most (told a)
+-- the degrees that are left have to take so much of the budget beyond their least
+abbrev pub HasBudget : Assignment → ℕ → Type 0
+HasBudget a left = spent_by a + left + slice_index a.rests.least (told a) ≡ 6 * a.table.size
+
+-- What the next degree may have of the budget beyond its least, as bits, where so much is left: no more than that, and a share of
+-- its place. That of each member is one of them.
+pub record AreFitting (a : Assignment) (left fitting : ℕ) : Type 0 where
+  pub within : (e : ℕ) → bit_at fitting e ≡ 1 → (bit_at (next_place a).shares e ≡ 1) × (e ≤ left)
+  pub all : (s : Symbol) → IsMemberUnder a (prefix_of a) s → (v e : ℕ) → next_number (prefix_of a) s ≡ v * (next_place a).turns → e + 2 * (next_place a).sides ≡ (next_place a).sides * (12 / v) → bit_at fitting e ≡ 1
 
 -- The degrees that follow from those that are told were told too, and nothing else changed.
 pub record HasForced (old new : Assignment) : Type 0 where

@@ -1,6 +1,5 @@
 -- What a table tells of one degree.
 use Rattle.std.specs.Prelude.{◌≡◌, ◌≢◌, ◌⊎◌, ℕ, ◌+◌, ◌*◌, ◌/◌, ◌<◌, ◌≤◌, List, [], ◌∷◌, ◌++◌, length, slice_index, slice_index_or}
-use Rattle.std.specs.Int.{bit_at}
 use Rattle.dd_model.specs.declared.allowed.Allowed.{Allowed}
 use Rattle.dd_model.specs.declared.pair.Pair.{Pair}
 use Rattle.dd_model.specs.declared.pair.Pair.TheVariants.{Tile, Vertex}
@@ -10,7 +9,7 @@ use Rattle.dd_symbol.specs.Cells.{IsShapeOf}
 use Rattle.dd_symbol.specs.declared.kind.Kind.{Kind}
 use Rattle.dd_symbol.specs.declared.kind.Kind.TheVariants.{Cycle, Chain}
 use Rattle.dd_symbol.specs.declared.shapes.CellShape.{CellShape}
-use Rattle.dd_branch.specs.Choice.{HasValues, IsChoice}
+use Rattle.dd_branch.specs.Choice.{HasShares, IsChoice}
 use Rattle.dd_branch.specs.declared.places.Place.{Place}
 
 -- how many chambers a cell has for each turn
@@ -22,17 +21,11 @@ sides_of Chain = 1
 abbrev pub HasSides : CellShape → ℕ → ℕ → Type 0
 HasSides shape d sides = ((shape.least ≡ d) × (sides ≡ sides_of shape.kind)) ⊎ ((shape.least ≢ d) × (sides ≡ 0))
 
--- the first bit that is set
-pub record IsLeastBit (values v : ℕ) : Type 0 where
-  pub told : bit_at values v ≡ 1
-  pub least : (w : ℕ) → bit_at values w ≡ 1 → v ≤ w
-
--- bounds of the parts of all degrees that may stand at a place; that of the least branching value is the most
+-- bounds of the parts of all degrees that may stand at a place
 pub record AreBounds (set : Allowed) (x : Place) : Type 0 where
   pub most : (m : ℕ) (c : IsChoice set x.turns m) → x.sides * (12 / c.value) ≤ x.most
   pub sides : x.sides ≤ 2
   pub most_small : x.most ≤ x.sides * 12
-  pub least : (v : ℕ) → 1 ≤ v → v ≤ 6 → IsLeastBit x.values v → x.sides * (12 / v) ≡ x.most
 
 -- What is said of the degree of a pair at a chamber d. Chamber 1 has the place that is handed in.
 pub record IsPlaceOf (t : Symbol) (set : Allowed) (p : Pair) (first d : ℕ) (x : Place) : Type 0 where
@@ -42,7 +35,7 @@ pub record IsPlaceOf (t : Symbol) (set : Allowed) (p : Pair) (first d : ℕ) (x 
   pub turns : x.turns ≡ shape.r
   pub few : x.turns ≤ 36
   pub sides : HasSides shape d x.sides
-  pub values : HasValues set x.turns x.values
+  pub shares : 1 ≤ x.sides → HasShares set x.turns x.sides x.shares
   pub bounds : AreBounds set x
 
 -- The place of a chamber was added to a list.

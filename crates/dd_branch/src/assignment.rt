@@ -12,7 +12,7 @@ ghost use Rattle.dd_branch.specs.Choice.{IsChoice};
 ghost use Rattle.dd_branch.specs.Assignment.{HasLimits, IsAssignment, IsAtRoot, IsMemberUnder, next_place, prefix_of, spent_by, told};
 ghost use Rattle.dd_branch.specs.Place.{ArePlaces};
 ghost use Rattle.dd_branch.specs.Automorphism.{AreAutomorphisms};
-ghost use Rattle.dd_branch.specs.Entered.{HasBudget, HasEntered, HasForced, HasTold};
+ghost use Rattle.dd_branch.specs.Entered.{AreFitting, HasBudget, HasEntered, HasForced, HasTold};
 
 use crate::minimality::is_minimal;
 use crate::places::Place;
@@ -108,50 +108,17 @@ impl Assignment {
         Some(whole - least)
     }
 
-    /// Whether too much of the budget is left for the later cells where the next one takes so much of it beyond its least, as
-    /// there is then with each greater branching value of that cell.
-    pub(crate) fn leaves_too_much(&self, left: u16, taken: u16) -> bool
+    /// What the next degree may have of the budget beyond its least, as bits, where so much is left: its set allows
+    /// it, and the later degrees may have the rest.
+    pub(crate) fn fitting(&self, left: u16) -> u64
         requires ready { IsAssignment self.now }
         requires room { told self.now < 2 * self.now.table.size }
-        requires small { left ≤ 4096 }
-        ensures more { OnTrue result (taken + slice_index self.now.rests.most (told self.now + 1)
-            < left + slice_index self.now.rests.least (told self.now + 1)) }
-        ensures enough { OnFalse result (taken ≤ left
-            → left + slice_index self.now.rests.least (told self.now + 1)
-            ≤ taken + slice_index self.now.rests.most (told self.now + 1)) }
-    {
-        let later = self.degrees.len() + 1;
-        taken <= left && left - taken + self.rests.least[later] > self.rests.most[later]
-    }
-
-    /// Whether a degree of so many turns times a branching value may come next: its set allows it, and the later degrees
-    /// may have what is left of the budget.
-    pub(crate) fn may_stand(&self, place: &Place, left: u16, taken: u16, value: u8) -> bool
-        requires ready { IsAssignment self.now }
-        requires room { told self.now < 2 * self.now.table.size }
-        requires place { place.now ≡ next_place self.now }
-        requires value { (1 ≤ value) × (value ≤ 6) }
+        requires root { IsAtRoot self.now }
         requires budget { HasBudget self.now left }
-        requires taken { taken + 2 * (next_place self.now).sides
-            ≡ (next_place self.now).sides * (12 / value) }
-        ensures dead { OnFalse result ((s : Tiling) → IsMemberUnder self.now (prefix_of self.now) s
-            → next_number (prefix_of self.now) s ≡ value * (next_place self.now).turns → ⊥) }
-        ensures tile { OnTrue result (told self.now < self.now.table.size
-            → IsChoice self.now.request.faces (next_place self.now).turns
-            (value * (next_place self.now).turns)) }
-        ensures vertex { OnTrue result (self.now.table.size ≤ told self.now
-            → IsChoice self.now.request.degrees (next_place self.now).turns
-            (value * (next_place self.now).turns)) }
-        ensures room { OnTrue result (taken ≤ left) }
+        ensures { AreFitting self.now left result }
     {
-        if !place.allows(value) {
-            return false;
-        }
-        if taken > left {
-            return false;
-        }
-        self.rests
-            .may_exceed_by(self.degrees.len() + 1, left - taken)
+        let shares = self.next_place().shares;
+        self.rests.fitting(self.degrees.len() + 1, shares, left)
     }
 
     /// Tells the degrees that follow from those told, up to the least chamber of another cell.
@@ -223,92 +190,65 @@ impl Assignment {
         list.push(&self.table, m01, m12)
     }
 
-    /// Whether the degrees that are left need the most of the budget that they may have, where they have to take so much of it
-    /// beyond their least.
-    pub(crate) fn needs_most(&self, left: u16) -> bool
-        requires ready { IsAssignment self.now }
-        requires small { left ≤ 4096 }
-        ensures { IsTrue result ↔ left + slice_index self.now.rests.least (told self.now)
-            ≡ slice_index self.now.rests.most (told self.now) }
-    {
-        let next = self.degrees.len();
-        left + self.rests.least[next] == self.rests.most[next]
-    }
-
-    /// Tells the degrees that are left, where they need the most of the budget that they may have: each cell has then the
-    /// least branching value that its set allows. False where some cell has none.
-    fn finish(&mut self) -> bool
-        requires ready { IsAssignment self.old }
-        requires root { IsAtRoot self.old }
-        requires most { spent_by self.old + slice_index self.old.rests.most (told self.old)
-            ≡ 6 * self.old.table.size }
-        ensures ready { OnTrue result (IsAssignment self.new) }
-        ensures whole { OnTrue result (told self.new ≡ 2 * self.new.table.size) }
-        ensures flat { OnTrue result (spent_by self.new ≡ 6 * self.new.table.size) }
-        ensures told { OnTrue result (HasTold self.old self.new) }
-        ensures same { OnFalse result (self.new ≡ self.old) }
-        ensures dead { OnFalse result
-            ((s : Tiling) → IsMemberUnder self.old (prefix_of self.old) s → ⊥) }
-    {
-        let first = self.degrees.len();
-        while self.degrees.len() < self.places.len() {
-            let place = self.next_place();
-            if place.values == 0 {
-                self.degrees.truncate(first);
-                return false;
-            }
-            self.enter(place.least_value() * place.turns);
-        }
-        true
-    }
-
-    /// Adds the member with the degrees that are told in which those that are left have the most of the budget that they may,
-    /// if there is one.
-    fn add_last(&mut self, list: &mut SymbolList) -> Result<(), Memory>
-        requires ready { IsAssignment self.old }
-        requires root { IsAtRoot self.old }
-        requires most { spent_by self.old + slice_index self.old.rests.most (told self.old)
-            ≡ 6 * self.old.table.size }
-        ensures same { OnOk result (self.new ≡ self.old) }
-        ensures list { OnOk result (Appends
-            (AreUnder (IsMember self.old.request) self.old.table.size (prefix_of self.old))
-            list.old list.new) }
-    {
-        let next = self.degrees.len();
-        if !self.finish() {
-            return Ok(());
-        }
-        self.add_member(list)?;
-        self.degrees.truncate(next);
-        Ok(())
-    }
-
-    /// Adds the members with the degrees that are told, where those that are left have to take so much of the budget beyond
-    /// their least. It goes down the cells by their branching values.
-    pub(crate) fn add_members(&mut self, left: u16, list: &mut SymbolList) -> Result<(), Memory>
+    /// Tells degrees while one share alone fits. What is then left of the budget, and the shares of the next degree
+    /// that fit, if there is one.
+    pub(crate) fn go_down(&mut self, left: u16) -> (u16, u64)
         requires ready { IsAssignment self.old }
         requires root { IsAtRoot self.old }
         requires budget { HasBudget self.old left }
+        ensures ready { IsAssignment self.new }
+        ensures root { IsAtRoot self.new }
+        ensures told { HasTold self.old self.new }
+        ensures budget { HasBudget self.new result.0 }
+        ensures fitting { told self.new < 2 * self.new.table.size
+            → AreFitting self.new result.0 result.1 }
+    {
+        let mut left = left;
+        while self.degrees.len() < self.places.len() {
+            let fitting = self.fitting(left);
+            if fitting == 0 || fitting & (fitting - 1) != 0 {
+                return (left, fitting);
+            }
+            let share = fitting.trailing_zeros() as u8;
+            let place = self.next_place();
+            self.enter(place.degree_with(share));
+            left -= u16::from(share);
+        }
+        (left, 0)
+    }
+
+    /// Adds the members with the degrees that are told, where so much of the budget is left beyond the least of the
+    /// others. It goes down the cells by the shares that fit, the greatest first, which has the least branching value.
+    pub(crate) fn add_members(
+        &mut self,
+        fitting: u64,
+        left: u16,
+        list: &mut SymbolList,
+    ) -> Result<(), Memory>
+        requires ready { IsAssignment self.old }
+        requires room { told self.old < 2 * self.old.table.size }
+        requires root { IsAtRoot self.old }
+        requires budget { HasBudget self.old left }
+        requires fitting { AreFitting self.old left fitting }
         ensures same { OnOk result (self.new ≡ self.old) }
         ensures list { OnOk result (Appends
             (AreUnder (IsMember self.old.request) self.old.table.size (prefix_of self.old))
             list.old list.new) }
     {
-        if self.needs_most(left) {
-            return self.add_last(list);
-        }
         let next = self.degrees.len();
         let place = self.next_place();
-        for value in 1..7u8 {
-            let taken = u16::from(place.beyond_least(value));
-            if self.leaves_too_much(left, taken) {
-                return Ok(());
+        let mut fitting = fitting;
+        while fitting != 0 {
+            let share = fitting.ilog2() as u8;
+            fitting -= 1 << share;
+            self.enter(place.degree_with(share));
+            let (left, below) = self.go_down(left - u16::from(share));
+            if self.degrees.len() < self.places.len() {
+                self.add_members(below, left, list)?;
+            } else if left == 0 {
+                self.add_member(list)?;
             }
-            if self.may_stand(&place, left, taken, value) {
-                self.enter(value * place.turns);
-                self.add_members(left - taken, list)?;
-                self.degrees.truncate(next);
-            }
+            self.degrees.truncate(next);
         }
         Ok(())
     }
@@ -322,7 +262,10 @@ impl Assignment {
             (prefix_of self.old)) list.old list.new) }
     {
         match self.whole_budget() {
-            Some(left) => self.add_members(left, list),
+            Some(left) => {
+                let fitting = self.fitting(left);
+                self.add_members(fitting, left, list)
+            }
             None => Ok(()),
         }
     }

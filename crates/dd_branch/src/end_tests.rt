@@ -37,17 +37,14 @@ fn count_ends(search: &mut Assignment, left: u16) -> u64
         return 1;
     }
     let place = search.next_place();
+    let mut fitting = search.fitting(left);
     let mut count = 0u64;
-    for value in 1..7u8 {
-        let taken = u16::from(place.beyond_least(value));
-        if search.leaves_too_much(left, taken) {
-            return count;
-        }
-        if search.may_stand(&place, left, taken, value) {
-            search.enter(value * place.turns);
-            count = count.saturating_add(count_ends(search, left - taken));
-            search.degrees.truncate(next);
-        }
+    while fitting != 0 {
+        let share = fitting.ilog2() as u8;
+        fitting -= 1 << share;
+        search.enter(place.degree_with(share));
+        count = count.saturating_add(count_ends(search, left - u16::from(share)));
+        search.degrees.truncate(next);
     }
     count
 }

@@ -3,8 +3,9 @@ ghost use Rattle.std.specs.Int.{bit_at};
 ghost use Rattle.dd_model.specs.Symbol.{IsChamber};
 ghost use Rattle.dd_cells.specs.Cells.{IsSmallerInCell};
 ghost use Rattle.dd_symbol.specs.Images.{AreThreeInvolutions};
-ghost use Rattle.dd_branch.specs.Choice.{HasValues};
-ghost use Rattle.dd_branch.specs.Place.{ArePlaces, AreTurns, HasPlaceOf, HasPlaces, HasSides, IsLeastBit, IsPlaceOf};
+ghost use Rattle.dd_model.specs.Wanted.{IsCrystallographic};
+ghost use Rattle.dd_branch.specs.Choice.{HasBranching, HasShares};
+ghost use Rattle.dd_branch.specs.Place.{ArePlaces, AreTurns, HasPlaceOf, HasPlaces, HasSides, IsPlaceOf};
 ghost use Rattle.dd_branch.specs.declared.places.Place.{Place as Known};
 
 use arrayvec::ArrayVec;
@@ -23,35 +24,22 @@ pub(crate) struct Place {
     pub(crate) sides: u8,
     /// At least what the degree will have of the budget.
     pub(crate) most: u8,
-    /// The branching values that its set allows, as bits.
-    pub(crate) values: u8,
+    /// What the degree may have of the budget beyond its least, which is 2 for each side, as bits: a share for
+    /// each branching value that its set allows. At other chambers than the least 0.
+    pub(crate) shares: u32,
 }
 
 impl Place {
-    /// Whether a branching value is one of the place.
-    pub(crate) fn allows(&self, value: u8) -> bool
-        requires { value < 8 }
-        ensures { IsTrue result ↔ bit_at self.now.values value ≡ 1 }
+    /// The degree that has so much of the budget beyond its least.
+    pub(crate) fn degree_with(&self, share: u8) -> u8
+        requires sides { (1 ≤ self.now.sides) × (self.now.sides ≤ 2) }
+        requires turns { self.now.turns ≤ 36 }
+        requires share { HasBranching self.now.sides share }
+        ensures { (v : ℕ) → IsCrystallographic v
+            → share + 2 * self.now.sides ≡ self.now.sides * (12 / v)
+            → result ≡ v * self.now.turns }
     {
-        (self.values >> value) & 1 == 1
-    }
-
-    /// The least branching value of the place.
-    pub(crate) fn least_value(&self) -> u8
-        requires { 0 < self.now.values }
-        ensures { IsLeastBit self.now.values result }
-    {
-        self.values.trailing_zeros() as u8
-    }
-
-    /// What the degree takes of the budget beyond its least, which is 2 for each side, with a branching value.
-    pub(crate) fn beyond_least(&self, value: u8) -> u8
-        requires sides { self.now.sides ≤ 2 }
-        requires value { (1 ≤ value) × (value ≤ 6) }
-        ensures taken { result + 2 * self.now.sides ≡ self.now.sides * (12 / value) }
-        ensures small { result ≤ 20 }
-    {
-        self.sides * (part_of_side(value) - 2)
+        VALUES[(share >> (self.sides / 2)) as usize] * self.turns
     }
 }
 
@@ -72,42 +60,47 @@ fn sides_of(shape: &CellShape, chamber: u32) -> u8
 /// The parts of sides with the branching values 1 to 6, each at its value.
 const PARTS: [u8; 7] = [0, 12, 6, 4, 3, 2, 2];
 
-/// What a side of a cell with a branching value has of the budget. A division in its place would take
-/// a third of the time of the search for degrees.
-fn part_of_side(value: u8) -> u8
-    requires { (1 ≤ value) × (value ≤ 6) }
-    ensures { result ≡ 12 / value }
+/// The branching values of flat symbols, each at what a side with it has of the budget beyond 2. The table spares
+/// the search for degrees a division.
+const VALUES: [u8; 11] = [6, 4, 3, 0, 2, 0, 0, 0, 0, 0, 1];
+
+/// What so many sides of a cell with a branching value have of the budget beyond 2 each.
+fn share_of(value: u8, sides: u8) -> u8
+    requires value { (1 ≤ value) × (value ≤ 6) }
+    requires sides { sides ≤ 2 }
+    ensures share { result + 2 * sides ≡ sides * (12 / value) }
+    ensures small { result ≤ 20 }
 {
-    PARTS[value as usize]
+    sides * (PARTS[value as usize] - 2)
 }
 
-/// The branching values that a set allows a cell with so many turns, as bits.
-fn values_of(set: &Allowed, turns: u8) -> u8
-    requires { turns ≤ 36 }
-    ensures { HasValues set.now turns result }
+/// What a degree of a cell with so many turns and sides may have of the budget beyond its least, as bits: a share
+/// for each branching value that a set allows.
+fn shares_of(set: &Allowed, turns: u8, sides: u8) -> u32
+    requires turns { turns ≤ 36 }
+    requires sides { sides ≤ 2 }
+    ensures { HasShares set.now turns sides result }
 {
-    let mut values = 0;
+    let mut shares = 0;
     for value in 1..7u8 {
         if value != 5 && set.has(u32::from(value * turns)) {
-            values |= 1 << value;
+            shares |= 1 << share_of(value, sides);
         }
     }
-    values
+    shares
 }
 
-/// The most that a degree has of the budget: that with the least branching value.
-fn most_part(values: u8, sides: u8) -> u8
+/// The most that a degree has of the budget: its greatest share, beyond the least.
+fn most_part(shares: u32, sides: u8) -> u8
     requires sides { sides ≤ 2 }
-    ensures most { (v : ℕ) → 1 ≤ v → v ≤ 6 → bit_at values v ≡ 1 → sides * (12 / v) ≤ result }
+    requires shares { (e : ℕ) → bit_at shares e ≡ 1 → e ≤ 10 * sides }
+    ensures most { (e : ℕ) → bit_at shares e ≡ 1 → e + 2 * sides ≤ result }
     ensures small { result ≤ sides * 12 }
-    ensures least { (v : ℕ) → 1 ≤ v → v ≤ 6 → IsLeastBit values v → sides * (12 / v) ≡ result }
 {
-    for value in 1..7u8 {
-        if (values >> value) & 1 == 1 {
-            return sides * part_of_side(value);
-        }
+    if shares == 0 {
+        return 0;
     }
-    0
+    shares.ilog2() as u8 + 2 * sides
 }
 
 /// What a table tells of the degree of a pair at a chamber whose cell is walked, where chamber 1 has the place `first`.
@@ -121,13 +114,13 @@ fn place_of(table: &Involutions, set: &Allowed, pair: Pair, first: u8, chamber: 
     let shape = table.cell(pair, chamber);
     let turns = shape.r as u8;
     let sides = sides_of(&shape, chamber);
-    let values = values_of(set, turns);
+    let shares = shares_of(set, turns, sides);
     Place {
         root: first + (shape.least - 1) as u8,
         turns,
         sides,
-        most: most_part(values, sides),
-        values,
+        most: most_part(shares, sides),
+        shares,
     }
 }
 
@@ -137,14 +130,13 @@ fn beside(place: &Place) -> Place
     ensures turns { result.turns ≡ place.now.turns }
     ensures sides { result.sides ≡ 0 }
     ensures most { result.most ≡ 0 }
-    ensures values { result.values ≡ place.now.values }
 {
     Place {
         root: place.root,
         turns: place.turns,
         sides: 0,
         most: 0,
-        values: place.values,
+        shares: 0,
     }
 }
 

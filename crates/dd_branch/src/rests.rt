@@ -1,6 +1,6 @@
-ghost use Rattle.std.specs.Prelude.{◌≡◌, ◌↔◌, ℕ, ◌≤◌, ◌<◌, IsTrue, length, slice_index, slice_index_or};
+ghost use Rattle.std.specs.Prelude.{◌≡◌, ℕ, ◌+◌, ◌≤◌, ◌<◌, length, slice_index, slice_index_or};
 ghost use Rattle.std.specs.Int.{bit_at};
-ghost use Rattle.dd_branch.specs.Rests.{AreRests, HasSurplusWith};
+ghost use Rattle.dd_branch.specs.Rests.{AreRests, HasRest, HasSurplusWith};
 ghost use Rattle.dd_branch.specs.declared.places.Place.{Place as Known};
 
 use crate::places::Place;
@@ -12,23 +12,23 @@ pub(crate) struct Rests {
     pub(crate) most: [u16; 73],
     /// At each place, what it and the later places have at least: 2 for each side, that with the branching value 6.
     pub(crate) least: [u16; 73],
-    /// At each place, what it and the later places may have beyond that, as bits. 64 and more is not told.
+    /// At each place, what it and the later places may have beyond that, as bits from the top on: that of 0 is the
+    /// highest. 64 and more is not told.
     pub(crate) surplus: [u64; 73],
 }
 
 /// What the degrees from a place on may have beyond their least, by what the later ones may have.
 fn surplus_with(place: &Place, later: u64) -> u64
-    requires { place.now.sides ≤ 2 }
     ensures { HasSurplusWith place.now later result }
 {
     if place.sides == 0 {
         return later;
     }
     let mut all = 0;
-    for value in 1..7u8 {
-        if place.allows(value) {
-            all |= later << place.beyond_least(value);
-        }
+    let mut shares = u64::from(place.shares);
+    while shares != 0 {
+        all |= later >> shares.trailing_zeros();
+        shares &= shares - 1;
     }
     all
 }
@@ -47,7 +47,7 @@ impl Rests {
         let mut least = [0; 73];
         let mut surplus = [0; 73];
         let mut place = places.len();
-        surplus[place] = 1;
+        surplus[place] = 1 << 63;
         while place > 0 {
             place -= 1;
             most[place] = most[place + 1] + u16::from(places[place].most);
@@ -61,12 +61,25 @@ impl Rests {
         }
     }
 
-    /// Whether the degrees from a place on may have so much beyond their least. Of 64 and more that is not told.
-    pub(crate) fn may_exceed_by(&self, place: usize, surplus: u16) -> bool
-        requires { place < length self.now.surplus }
-        ensures { IsTrue result
-            ↔ (surplus < 64 → bit_at (slice_index self.now.surplus place) surplus ≡ 1) }
+    /// Those of the shares of a place, as bits, that leave to the later places what these may have, where so much is
+    /// left for all. From 64 on that is not told, and the most that they may have decides.
+    pub(crate) fn fitting(&self, later: usize, shares: u32, left: u16) -> u64
+        requires least { later < length self.now.least }
+        requires most { later < length self.now.most }
+        requires surplus { later < length self.now.surplus }
+        requires small { left + slice_index self.now.least later ≤ 4096 }
+        ensures within { (e : ℕ) → bit_at result e ≡ 1 → (bit_at shares e ≡ 1) × (e ≤ left) }
+        ensures all { (e rest : ℕ) → e + rest ≡ left → bit_at shares e ≡ 1
+            → HasRest self.now later rest → bit_at result e ≡ 1 }
     {
-        surplus >= 64 || (self.surplus[place] >> surplus) & 1 == 1
+        let shares = u64::from(shares);
+        if left < 64 {
+            return shares & (self.surplus[later] >> (63 - left));
+        }
+        let short = (left + self.least[later]).saturating_sub(self.most[later]);
+        if short > 31 {
+            return 0;
+        }
+        shares >> short << short
     }
 }

@@ -36,5 +36,5 @@ returns-in-Some c =
       is = place_beside c.args.table.now c.requires.three.involutions c.args.set.now c.args.pair c.args.first c.args.chamber e
           (slice_index_or xs (c.args.first + e - 1) no_place) c.beside-place.result c.requires.chamber is
           (told_before c.args.table.now c.args.set.now c.args.pair c.args.first c.args.chamber e xs no_place near.0 is.smaller before)
-          c.beside-place.ensures.root c.beside-place.ensures.turns c.beside-place.ensures.sides c.beside-place.ensures.most c.beside-place.ensures.values;
+          c.beside-place.ensures.root c.beside-place.ensures.turns c.beside-place.ensures.sides c.beside-place.ensures.most;
     }

@@ -1,6 +1,6 @@
-use Rattle.std.proofs.Common.{◌≤◌, refl, arith}
+use Rattle.std.proofs.Common.{◌-◌, ◌*◌, ◌/◌, ◌≤◌, refl, arith}
 use Rattle.dd_branch.proofs.Beginnings.{few_turns_of}
-use Rattle.dd_branch.proofs.Choices.{value_of, value_told}
+use Rattle.dd_branch.proofs.Choices.{share_at_most, share_exists, share_told}
 use Rattle.dd_branch.proofs.places.place_of.Goals as goal
 use Rattle.dd_branch.proofs.places.place_of.Goals.{After-cell-shape}
 
@@ -10,9 +10,12 @@ few c = few_turns_of c.args.table.now c.requires.three.involutions c.args.pair c
 pub overflow_cast-turns : goal.overflow_cast-turns
 overflow_cast-turns c = let low = few c in omega (arith, low)
 
-pub values_of-values-requires : goal.values_of-values-requires
-values_of-values-requires c =
+pub shares_of-shares-requires-clause-turns : goal.shares_of-shares-requires-clause-turns
+shares_of-shares-requires-clause-turns c =
     few_turns_of c.args.table.now c.requires.three.involutions c.args.pair c.args.chamber c.cell-shape.result c.requires.chamber c.requires.small c.cell-shape.ensures
+
+pub most_part-requires-clause-shares : goal.most_part-requires-clause-shares
+most_part-requires-clause-shares c e told = share_at_most c.sides_of-sides.result e (c.shares_of-shares.ensures.told e told).branching
 
 pub returns : goal.returns
 returns c =
@@ -26,13 +29,15 @@ returns c =
       turns = refl;
       few = few_turns_of c.args.table.now c.requires.three.involutions c.args.pair c.args.chamber c.cell-shape.result c.requires.chamber c.requires.small shape;
       sides = c.sides_of-sides.ensures.sides;
-      values = c.values_of-values.ensures;
+      shares = λ some. c.shares_of-shares.ensures;
       bounds = record {
         most = λ m choice.
-            let value = value_of choice.value choice.crystallographic in
-            c.most_part.ensures.most choice.value value.low value.high (value_told c.args.set.now c.cell-shape.result.r c.values_of-values.result m c.values_of-values.ensures choice);
+            let sides' = c.sides_of-sides.result in
+            let share = sides' * (12 / choice.value) - 2 * sides' in
+            let beyond = share_exists sides' choice.value choice.crystallographic in
+            let up = c.most_part.ensures.most share (share_told c.args.set.now c.cell-shape.result.r sides' c.shares_of-shares.result m share c.shares_of-shares.ensures choice beyond) in
+            omega (arith, up, beyond);
         sides = sides;
         most_small = c.most_part.ensures.small;
-        least = c.most_part.ensures.least;
       };
     }

@@ -1,40 +1,42 @@
-use Rattle.std.proofs.Common.{◌≡◌, ◌+◌, ◌*◌, ◌/◌, ◌^◌, ◌%◌, sym, ap, ◌∙◌, ⊎_elim, arith}
-use Rattle.std.proofs.lemmas.Bool.{cases_lt}
-use Rattle.std.specs.Int.{bit_at}
-use Rattle.dd_branch.proofs.Bits.{bit_or_left, bit_or_right, bit_shifted}
+use Rattle.std.proofs.Common.{◌≡◌, ◌≢◌, ◌+◌, ◌/◌, ◌^◌, ◌<◌, w64, sym, ap, ◌∙◌, ⊎_elim, arith, rules}
+use Rattle.std.proofs.lemmas.Bool.{cases_eq}
+use Rattle.std.proofs.lemmas.Nat.Bits.{bit_at-zero}
+use Rattle.std.specs.Int.{bit_at, trailing_zeros}
+use Rattle.dd_invol.proofs.LowestBits.{dropped_other, lowest_bit}
+use Rattle.dd_branch.proofs.Bits.{bit_lower, bit_or_left, bit_or_right}
 use Rattle.dd_branch.proofs.rests.surplus_with.Goals as goal
-use Rattle.dd_branch.proofs.rests.surplus_with.Goals.{then-allows, else-allows}
 
-pub loop-value-preserved : goal.loop-value-preserved
-loop-value-preserved c = record {
-  told = λ v e f some less told there beyond small.
-      let x = c.args.place.now in
-      let n = c.loop-value.value in
-      let later = c.args.later in
-      elim c.if-allows.branch [
-        | then-allows w ↦
-            let s = w.beyond_least.result in
-            ap (λ bits. bit_at bits f) w.all-is ∙ ⊎_elim
-            (λ early. bit_or_left c.loop-value.all (later * 2 ^ s % 2 ^ 64) f (c.loop-value.invariant.told v e f some early told there beyond small))
-            (λ late.
-            let same : v ≡ n = omega (arith, less, late) in
-            let taken : s + 2 * x.sides ≡ x.sides * (12 / v) = w.beyond_least.ensures.taken ∙ ap (λ k. x.sides * (12 / k)) (sym same) in
-            let shifted : e + s ≡ f = omega (arith, taken, beyond) in
-            bit_or_right c.loop-value.all (later * 2 ^ s % 2 ^ 64) f (ap (bit_at (later * 2 ^ s % 2 ^ 64)) (sym shifted) ∙ bit_shifted later s e (omega (arith, shifted, small)) ∙ there))
-            (cases_lt v n)
-        | else-allows w ↦
-            ap (λ bits. bit_at bits f) w.all-is ∙ ⊎_elim
-            (λ early. c.loop-value.invariant.told v e f some early told there beyond small)
-            (λ late.
-            let same : v ≡ n = omega (arith, less, late) in
-            let hit = c.allows.ensures.1 (ap (bit_at x.values) (sym same) ∙ told) in
-            let no' = w.if-allows.false in
-            cc)
-            (cases_lt v n)
-      ];
+pub returns-then-place-eq0 : goal.returns-then-place-eq0
+returns-then-place-eq0 c share e f none told there sum =
+    let zero_ = none c.if-place-eq0.true in
+    let same : f ≡ e = omega (arith, zero_, sum) in
+    ap (bit_at c.args.later) same ∙ there
+
+pub loop-shares-init : goal.loop-shares-init
+loop-shares-init c = record {
+  told = λ share e f told gone there sum. absurd (let same = ap (λ n. bit_at n share) c.from-shares.ensures in omega (arith, told, gone, same));
 }
 
+pub loop-shares-preserved : goal.loop-shares-preserved
+loop-shares-preserved c =
+    let n = c.loop-shares.shares in
+    let later = c.args.later in
+    let all = c.loop-shares.all in
+    let k = trailing_zeros w64 n in
+    let wide : n < 2 ^ 64 = search rules in
+    let some = c.loop-shares-test.true in
+    let is = lowest_bit n (omega (arith, some)) wide in
+    record {
+      told = λ share e f told gone there sum. ⊎_elim
+          (λ (here : share ≡ k).
+          let at : f + k ≡ e = omega (arith, here, sum) in
+          bit_or_right all (later / 2 ^ k) f (bit_lower later k f ∙ ap (bit_at later) at ∙ there))
+          (λ (other : share ≢ k). bit_or_left all (later / 2 ^ k) f (c.loop-shares.invariant.told share e f told (sym (dropped_other n k share is other) ∙ gone) there sum))
+          (cases_eq share k);
+    }
+
 pub returns : goal.returns
-returns c v e f some few told there beyond small =
-    let past = c.loop-value-test.false in
-    c.loop-value.invariant.told v e f some (omega (arith, past, few)) told there beyond small
+returns c share e f none told there sum =
+    let some = c.if-place-eq0.false in
+    let end = c.loop-shares-test.false in
+    c.loop-shares.invariant.told share e f (told (omega (arith, some))) (ap (λ n. bit_at n share) end ∙ bit_at-zero share) there sum

@@ -1,152 +1,131 @@
-use Rattle.std.proofs.Common.{◌≡◌, ◌+◌, ◌*◌, ◌/◌, ◌<◌, ◌≤◌, get_or, refl, sym, ap, ◌∙◌, subst, arith}
+use Rattle.std.proofs.Common.{◌≡◌, ◌-◌, ◌*◌, ◌%◌, ◌^◌, ◌<◌, ◌≤◌, List, refl, sym, ap, ◌∙◌, subst, arith}
+use Rattle.std.proofs.lemmas.Nat.{one_shl}
 use Rattle.dd_model.specs.Symbol.{Symbol}
 use Rattle.dd_model.specs.Wanted.{IsMember}
-use Rattle.dd_invol.specs.Under.{Appends, AreUnderBefore, next_number}
-use Rattle.dd_branch.specs.Assignment.{IsAssignment, IsAtRoot, IsMemberUnder, next_place, prefix_of, shortened, told}
+use Rattle.dd_invol.specs.Under.{Appends, AreUnder}
+use Rattle.dd_invol.proofs.Prefixes.{appends_dead}
+use Rattle.dd_branch.specs.Assignment.{next_place, prefix_of, shortened, told}
 use Rattle.dd_branch.specs.Budget.{no_place}
-use Rattle.dd_branch.specs.Entered.{HasBudget, HasEntered}
-use Rattle.dd_branch.specs.Choice.{IsChoice}
+use Rattle.dd_branch.specs.Choice.{HasBranching, IsChoice}
+use Rattle.dd_branch.specs.Entered.{HasEntered}
 use Rattle.dd_branch.specs.declared.assignment.Assignment.{Assignment}
 use Rattle.dd_branch.specs.declared.places.Place.{Place}
-use Rattle.dd_branch.proofs.Advancing.{all_values, budget_more, degree_small, first_value, found_entered, no_more_values, sound_next, value_found, value_refused, with_list}
-use Rattle.dd_branch.proofs.Finishing.{left_small, some_left}
+use Rattle.dd_branch.proofs.Advancing.{IsDegreeWith, budget_more, found_entered, part_of_degree, some_sides, sound_next, tile_choice, vertex_choice, with_list}
+use Rattle.dd_branch.proofs.Bits.{bit_left, highest_set}
+use Rattle.dd_branch.proofs.Finishing.{HasTried, all_tried, back_through, found_told, none_at_end, none_tried, share_fits, share_tried, whole_here}
 use Rattle.dd_branch.proofs.assignment.Assignment.+add_members.Goals as goal
-use Rattle.dd_branch.proofs.assignment.Assignment.+add_members.Goals.{then-may_stand+in_ok-add_members, else-may_stand}
+use Rattle.dd_branch.proofs.assignment.Assignment.+add_members.Goals.{then-len+in_ok-add_members, else-len+then-left-eq0+in_ok-add_member, else-len+else-left-eq0}
 
-pub needs_most-requires-clause-small : goal.needs_most-requires-clause-small
-needs_most-requires-clause-small t c = let small = left_small c.args.self.now c.args.left c.requires.ready c.requires.budget in omega (arith, small)
+pub loop-fitting-init : goal.loop-fitting-init
+loop-fitting-init t c = record { same = refl; left_over = λ e there. there; tried = none_tried c.args.self.now c.args.left c.args.fitting c.requires.fitting c.args.list.now }
 
-pub loop-value-init : goal.loop-value-init
-loop-value-init t c =
+pub degree_with-requires-clause-sides : goal.degree_with-requires-clause-sides
+degree_with-requires-clause-sides t c =
     let a = c.args.self.now in
-    let room = some_left a c.args.left c.needs_most.result c.requires.ready c.requires.budget c.needs_most.ensures c.if-needs_most.false in
-    record { same = refl; list = first_value a c.requires.ready room c.args.list.now }
+    subst (λ (x : Place). (1 ≤ x.sides) × (x.sides ≤ 2)) (sym c.next_place-place.ensures)
+    (some_sides a c.requires.ready c.requires.room c.requires.root, (sound_next a c.requires.ready (told a) no_place c.requires.room).sides)
 
-pub may_stand-requires-clause-ready : goal.may_stand-requires-clause-ready
-may_stand-requires-clause-ready t c = subst IsAssignment (sym c.loop-value.invariant.same) c.requires.ready
-
-pub may_stand-requires-clause-room : goal.may_stand-requires-clause-room
-may_stand-requires-clause-room t c =
-    subst (λ (x : Assignment). told x < 2 * x.table.size) (sym c.loop-value.invariant.same)
-    (some_left c.args.self.now c.args.left c.needs_most.result c.requires.ready c.requires.budget c.needs_most.ensures c.if-needs_most.false)
-
-pub may_stand-requires-clause-place : goal.may_stand-requires-clause-place
-may_stand-requires-clause-place t c = c.next_place-place.ensures ∙ ap next_place (sym c.loop-value.invariant.same)
-
-pub overflow_mul-value : goal.overflow_mul-value
-overflow_mul-value t c =
+pub degree_with-requires-clause-turns : goal.degree_with-requires-clause-turns
+degree_with-requires-clause-turns t c =
     let a = c.args.self.now in
-    let room = some_left a c.args.left c.needs_most.result c.requires.ready c.requires.budget c.needs_most.ensures c.if-needs_most.false in
-    let test = c.loop-value-test.true in
-    let small = degree_small a c.loop-value.value c.requires.ready room (omega (arith, test)) in
-    let same = ap (λ (x : Place). c.loop-value.value * x.turns) c.next_place-place.ensures in
-    omega (arith, small, same)
+    subst (λ (x : Place). x.turns ≤ 36) (sym c.next_place-place.ensures) (sound_next a c.requires.ready (told a) no_place c.requires.room).few
 
-pub enter-requires-clause-ready : goal.enter-requires-clause-ready
-enter-requires-clause-ready t c = subst IsAssignment (sym c.loop-value.invariant.same) c.requires.ready
-
-pub enter-requires-clause-room : goal.enter-requires-clause-room
-enter-requires-clause-room t c =
-    subst (λ (x : Assignment). told x < 2 * x.table.size) (sym c.loop-value.invariant.same)
-    (some_left c.args.self.now c.args.left c.needs_most.result c.requires.ready c.requires.budget c.needs_most.ensures c.if-needs_most.false)
-
-pub enter-requires-clause-root : goal.enter-requires-clause-root
-enter-requires-clause-root t c = subst IsAtRoot (sym c.loop-value.invariant.same) c.requires.root
+pub degree_with-requires-clause-share : goal.degree_with-requires-clause-share
+degree_with-requires-clause-share t c =
+    let k = c.ilog2-share.result in
+    let there = c.loop-fitting.invariant.left_over k (highest_set c.loop-fitting.fitting k c.ilog2-share.ensures.power_le c.ilog2-share.ensures.next_power_gt) in
+    let fits = share_fits c.args.self.now c.args.left c.args.fitting k c.requires.ready c.requires.room c.requires.root c.requires.fitting there in
+    subst (λ (x : Place). HasBranching x.sides k) (sym c.next_place-place.ensures) fits.branching
 
 pub enter-requires-clause-tile : goal.enter-requires-clause-tile
-enter-requires-clause-tile t c low =
-    let place : c.next_place-place.result ≡ next_place c.loop-value.self = c.next_place-place.ensures ∙ ap next_place (sym c.loop-value.invariant.same) in
-    subst (λ (x : Place). IsChoice c.loop-value.self.request.faces (next_place c.loop-value.self).turns (c.loop-value.value * x.turns)) (sym place) (c.if-may_stand.ensures.tile low)
+enter-requires-clause-tile t c =
+    let a = c.args.self.now in
+    let k = c.ilog2-share.result in
+    let m = c.degree_with.result in
+    let there = c.loop-fitting.invariant.left_over k (highest_set c.loop-fitting.fitting k c.ilog2-share.ensures.power_le c.ilog2-share.ensures.next_power_gt) in
+    let fits = share_fits a c.args.left c.args.fitting k c.requires.ready c.requires.room c.requires.root c.requires.fitting there in
+    let with = subst (λ (x : Place). IsDegreeWith x k m) c.next_place-place.ensures c.degree_with.ensures in
+    subst (λ (y : Assignment). told y < y.table.size → IsChoice y.request.faces (next_place y).turns m) (sym c.loop-fitting.invariant.same)
+    (tile_choice a k m c.requires.ready c.requires.room c.requires.root fits.told_ with)
 
 pub enter-requires-clause-vertex : goal.enter-requires-clause-vertex
-enter-requires-clause-vertex t c high =
-    let place : c.next_place-place.result ≡ next_place c.loop-value.self = c.next_place-place.ensures ∙ ap next_place (sym c.loop-value.invariant.same) in
-    subst (λ (x : Place). IsChoice c.loop-value.self.request.degrees (next_place c.loop-value.self).turns (c.loop-value.value * x.turns)) (sym place) (c.if-may_stand.ensures.vertex high)
-
-pub beyond_least-requires-clause-sides : goal.beyond_least-requires-clause-sides
-beyond_least-requires-clause-sides t c =
+enter-requires-clause-vertex t c =
     let a = c.args.self.now in
-    let room = some_left a c.args.left c.needs_most.result c.requires.ready c.requires.budget c.needs_most.ensures c.if-needs_most.false in
-    subst (λ (x : Place). x.sides ≤ 2) (sym c.next_place-place.ensures) (sound_next a c.requires.ready (told a) no_place room).sides
+    let k = c.ilog2-share.result in
+    let m = c.degree_with.result in
+    let there = c.loop-fitting.invariant.left_over k (highest_set c.loop-fitting.fitting k c.ilog2-share.ensures.power_le c.ilog2-share.ensures.next_power_gt) in
+    let fits = share_fits a c.args.left c.args.fitting k c.requires.ready c.requires.room c.requires.root c.requires.fitting there in
+    let with = subst (λ (x : Place). IsDegreeWith x k m) c.next_place-place.ensures c.degree_with.ensures in
+    subst (λ (y : Assignment). y.table.size ≤ told y → IsChoice y.request.degrees (next_place y).turns m) (sym c.loop-fitting.invariant.same)
+    (vertex_choice a k m c.requires.ready c.requires.room c.requires.root fits.told_ with)
 
-pub leaves_too_much-requires-clause-small : goal.leaves_too_much-requires-clause-small
-leaves_too_much-requires-clause-small t c = let small = left_small c.args.self.now c.args.left c.requires.ready c.requires.budget in omega (arith, small)
+pub overflow_sub-left : goal.overflow_sub-left
+overflow_sub-left t c =
+    let k = c.ilog2-share.result in
+    let there = c.loop-fitting.invariant.left_over k (highest_set c.loop-fitting.fitting k c.ilog2-share.ensures.power_le c.ilog2-share.ensures.next_power_gt) in
+    let fits = (share_fits c.args.self.now c.args.left c.args.fitting k c.requires.ready c.requires.room c.requires.root c.requires.fitting there).fits in
+    let same = c.from.ensures in
+    omega (arith, fits, same)
 
-pub may_stand-requires-clause-budget : goal.may_stand-requires-clause-budget
-may_stand-requires-clause-budget t c = subst (λ y. HasBudget y c.args.left) (sym c.loop-value.invariant.same) c.requires.budget
+pub go_down-left-requires-clause-budget : goal.go_down-left-requires-clause-budget
+go_down-left-requires-clause-budget t c =
+    let a = c.args.self.now in
+    let k = c.ilog2-share.result in
+    let m = c.degree_with.result in
+    let there = c.loop-fitting.invariant.left_over k (highest_set c.loop-fitting.fitting k c.ilog2-share.ensures.power_le c.ilog2-share.ensures.next_power_gt) in
+    let fits = share_fits a c.args.left c.args.fitting k c.requires.ready c.requires.room c.requires.root c.requires.fitting there in
+    let with = subst (λ (x : Place). IsDegreeWith x k m) c.next_place-place.ensures c.degree_with.ensures in
+    let entered = subst (λ (y : Assignment). HasEntered y m c.enter.new.self) c.loop-fitting.invariant.same c.enter.ensures.entered in
+    let part = part_of_degree a k m c.requires.ready c.requires.room fits.branching with in
+    let budget = budget_more a c.enter.new.self m c.args.left k c.requires.ready c.requires.room c.requires.budget part entered fits.fits in
+    let same = c.from.ensures in
+    omega (arith, budget, same)
 
-pub may_stand-requires-clause-taken : goal.may_stand-requires-clause-taken
-may_stand-requires-clause-taken t c =
-    let place : c.next_place-place.result ≡ next_place c.loop-value.self = c.next_place-place.ensures ∙ ap next_place (sym c.loop-value.invariant.same) in
-    subst (λ (y : Place). c.from-taken.result + 2 * y.sides ≡ y.sides * (12 / c.loop-value.value)) place (ap (λ n. n + 2 * c.next_place-place.result.sides) c.from-taken.ensures ∙ c.beyond_least.ensures.taken)
+-- what came of the degrees below
+record IsDone (below new : Assignment) (old list : List Symbol) : Type 0 where
+  same : new ≡ below
+  found : Appends (AreUnder (IsMember below.request) below.table.size (prefix_of below)) old list
 
-pub add_members-requires : goal.add_members-requires
-add_members-requires t c =
+pub loop-fitting-preserved : goal.loop-fitting-preserved
+loop-fitting-preserved t c =
     let a = c.args.self.now in
     let b = c.enter.new.self in
-    let x = c.loop-value.self in
-    let v = c.loop-value.value in
-    let same = c.loop-value.invariant.same in
-    let place : c.next_place-place.result ≡ next_place x = c.next_place-place.ensures ∙ ap next_place (sym same) in
-    let room = some_left a c.args.left c.needs_most.result c.requires.ready c.requires.budget c.needs_most.ensures c.if-needs_most.false in
-    let is = subst IsAssignment (sym same) c.requires.ready in
-    let room' = subst (λ (y : Assignment). told y < 2 * y.table.size) (sym same) room in
-    let entered = subst (λ (y : Place). HasEntered x (v * y.turns) b) place c.enter.ensures.entered in
-    let takes = subst (λ (y : Place). c.from-taken.result + 2 * y.sides ≡ y.sides * (12 / v)) place (ap (λ n. n + 2 * c.next_place-place.result.sides) c.from-taken.ensures ∙ c.beyond_least.ensures.taken) in
-    let budget = subst (λ y. HasBudget y c.args.left) (sym same) c.requires.budget in
-    let fits = c.if-may_stand.ensures.room in
-    let more = budget_more x b v c.args.left c.from-taken.result is room' budget takes entered fits (c.if-leaves_too_much.ensures.enough fits) in
-    let longer = entered.longer in
-    let size = ap (λ (y : Assignment). y.table.size) (entered.back ∙ same) in
-    let start = ap told same in
-    (omega (arith, longer, size, start, room), (c.enter.ensures.ready, (c.enter.ensures.root, more)))
-
-pub loop-value-preserved : goal.loop-value-preserved
-loop-value-preserved t c =
-    let a = c.args.self.now in
-    let v = c.loop-value.value in
-    let r = (next_place a).turns in
-    let i = c.loop-value.invariant in
-    let test = c.loop-value-test.true in
-    let room = some_left a c.args.left c.needs_most.result c.requires.ready c.requires.budget c.needs_most.ensures c.if-needs_most.false in
-    elim c.if-may_stand.branch [
-      | then-may_stand+in_ok-add_members w ↦
-          let m = v * c.next_place-place.result.turns in
-          let degree : m ≡ v * r = ap (λ (x : Place). v * x.turns) c.next_place-place.ensures in
-          let entered = subst (λ x. HasEntered x m w.enter.new.self) i.same w.enter.ensures.entered in
-          let found = found_entered a w.enter.new.self m entered c.loop-value.list w.add_members.new.list w.in_ok-add_members.ensures.list in
-          let back : shortened w.enter.new.self c.len-next.result ≡ a = ap (shortened w.enter.new.self) c.len-next.ensures.value ∙ entered.back in
-          record {
-            same = w.self-is ∙ ap (λ xs. with_list w.add_members.new.self xs) w.truncate.ensures.items ∙ ap (λ x. shortened x c.len-next.result) w.in_ok-add_members.ensures.same ∙ back;
-            list = subst (λ l. Appends (AreUnderBefore (IsMember a.request) a.table.size (prefix_of a) ((v + 1) * r)) c.args.list.now l) (sym w.list-is)
-                (value_found a v m c.requires.ready room (omega (arith, test)) degree c.args.list.now c.loop-value.list w.add_members.new.list i.list found);
-          }
-      | else-may_stand w ↦
-          let dead = subst (λ (x : Assignment). (s : Symbol) → IsMemberUnder x (prefix_of x) s → next_number (prefix_of x) s ≡ v * (next_place x).turns → ⊥) i.same w.if-may_stand.ensures.dead in
-          record {
-            same = w.self-is ∙ i.same;
-            list = subst (λ l. Appends (AreUnderBefore (IsMember a.request) a.table.size (prefix_of a) ((v + 1) * r)) c.args.list.now l) (sym w.list-is)
-                (value_refused a v c.requires.ready room dead c.args.list.now c.loop-value.list i.list);
-          }
-    ]
-
-pub returns-then-leaves_too_much-clause-list : goal.returns-then-leaves_too_much-clause-list
-returns-then-leaves_too_much-clause-list t c =
-    let a = c.args.self.now in
-    let v = c.loop-value.value in
-    let i = c.loop-value.invariant in
-    let low = c.loop-value.auto.value in
-    let room = some_left a c.args.left c.needs_most.result c.requires.ready c.requires.budget c.needs_most.ensures c.if-needs_most.false in
-    let takes = subst (λ (y : Place). c.from-taken.result + 2 * y.sides ≡ y.sides * (12 / v)) c.next_place-place.ensures (ap (λ n. n + 2 * c.next_place-place.result.sides) c.from-taken.ensures ∙ c.beyond_least.ensures.taken) in
-    let short = subst (λ (y : Assignment). c.from-taken.result + get_or y.rests.most (told y + 1) 0 < c.args.left + get_or y.rests.least (told y + 1) 0) i.same c.if-leaves_too_much.ensures.more in
-    no_more_values a v c.args.left c.from-taken.result c.requires.ready room c.requires.budget takes (omega (arith, low)) short c.args.list.now c.loop-value.list i.list
-
-pub returns-clause-same : goal.returns-clause-same
-returns-clause-same t c = c.loop-value.invariant.same
+    let d = c.go_down-left.new.self in
+    let n = c.loop-fitting.fitting in
+    let k = c.ilog2-share.result in
+    let m = c.degree_with.result in
+    let low = c.ilog2-share.ensures.power_le in
+    let high = c.ilog2-share.ensures.next_power_gt in
+    let there = c.loop-fitting.invariant.left_over k (highest_set n k low high) in
+    let fits = share_fits a c.args.left c.args.fitting k c.requires.ready c.requires.room c.requires.root c.requires.fitting there in
+    let with = subst (λ (x : Place). IsDegreeWith x k m) c.next_place-place.ensures c.degree_with.ensures in
+    let entered = subst (λ (y : Assignment). HasEntered y m b) c.loop-fitting.invariant.same c.enter.ensures.entered in
+    let has = fits.branching in
+    let done : IsDone d c.if-len.self c.loop-fitting.list c.if-len.list = elim c.if-len.branch [
+      | then-len+in_ok-add_members w ↦ record {
+        same = w.self-is ∙ w.in_ok-add_members.ensures.same;
+        found = subst (Appends (AreUnder (IsMember d.request) d.table.size (prefix_of d)) c.loop-fitting.list) (sym w.list-is) w.in_ok-add_members.ensures.list;
+      }
+      | else-len+then-left-eq0+in_ok-add_member w ↦ record {
+        same = w.self-is;
+        found = subst (Appends (AreUnder (IsMember d.request) d.table.size (prefix_of d)) c.loop-fitting.list) (sym w.list-is) w.in_ok-add_member.ensures;
+      }
+      | else-len+else-left-eq0 w ↦ record {
+        same = w.self-is;
+        found = subst (Appends (AreUnder (IsMember d.request) d.table.size (prefix_of d)) c.loop-fitting.list) (sym w.list-is)
+            (appends_dead (IsMember d.request) d.table.size (prefix_of d) c.loop-fitting.list
+            (none_at_end d c.go_down-left.result.0 c.go_down-left.ensures.ready (whole_here d c.len.result c.len-in-loop-fitting.result c.go_down-left.ensures.ready w.if-len.false c.len.ensures.value c.len-in-loop-fitting.ensures.value) c.go_down-left.ensures.budget w.if-left-eq0.false));
+      }
+    ] in
+    let back : shortened d c.len-next.result ≡ a = ap (shortened d) c.len-next.ensures.value ∙ back_through a b d m entered c.go_down-left.ensures.told in
+    let one : 1 * 2 ^ k % 2 ^ 64 ≡ 2 ^ k = one_shl k 64 c.ilog2-share.ensures.bound in
+    let found = found_entered a b m entered c.loop-fitting.list c.if-len.list (found_told b d c.go_down-left.ensures.told c.loop-fitting.list c.if-len.list done.found) in
+    record {
+      same = ap (with_list c.if-len.self) c.truncate.ensures.items ∙ ap (λ (x : Assignment). shortened x c.len-next.result) done.same ∙ back;
+      left_over = λ e told_. c.loop-fitting.invariant.left_over e (bit_left n k e low high c.ilog2-share.ensures.bound told_);
+      tried = subst (λ y. HasTried a (n - y) c.args.list.now c.if-len.list) (sym one)
+          (share_tried a n k m c.requires.ready c.requires.room c.requires.root low high has (with has.value has.crystallographic has.beyond) c.args.list.now c.loop-fitting.list c.if-len.list c.loop-fitting.invariant.tried found);
+    }
 
 pub returns-clause-list : goal.returns-clause-list
-returns-clause-list t c =
-    let a = c.args.self.now in
-    let end = c.loop-value-test.false in
-    let room = some_left a c.args.left c.needs_most.result c.requires.ready c.requires.budget c.needs_most.ensures c.if-needs_most.false in
-    all_values a c.loop-value.value c.requires.ready room (omega (arith, end)) c.args.list.now c.loop-value.list c.loop-value.invariant.list
+returns-clause-list t c = all_tried c.args.self.now c.loop-fitting.fitting c.requires.ready c.requires.room c.loop-fitting-test.false c.args.list.now c.loop-fitting.list c.loop-fitting.invariant.tried

@@ -1,14 +1,17 @@
-use Rattle.std.proofs.Common.{◌≡◌, ◌*◌, ◌-◌, length}
-use Rattle.dd_model.specs.Wanted.{IsMember}
-use Rattle.dd_invol.specs.Under.{Appends, AreUnderBefore}
-use Rattle.dd_branch.specs.Assignment.{next_place, prefix_of}
+use Rattle.std.proofs.Common.{◌≡◌, ℕ, ◌*◌, ◌-◌, length}
+use Rattle.std.specs.Int.{bit_at}
+use Rattle.dd_branch.proofs.Finishing.{HasTried}
 use Rattle.dd_branch.proofs.assignment.Assignment.+add_members.Given as goal
 
 abbrev pub decreases-add_members : goal.decreases-add_members
 decreases-add_members l = 2 * l.self.now.table.size - length l.self.now.degrees.items
 
-abbrev pub invariant-loop-value : goal.invariant-loop-value
-invariant-loop-value l = record {
+abbrev pub invariant-loop-fitting : goal.invariant-loop-fitting
+invariant-loop-fitting l = record {
   same : l.self ≡ l.fn.self;
-  list : Appends (AreUnderBefore (IsMember l.fn.self.request) l.fn.self.table.size (prefix_of l.fn.self) (l.value * (next_place l.fn.self).turns)) l.fn.list l.list;
+  left_over : (e : ℕ) → bit_at l.fitting e ≡ 1 → bit_at l.fn.fitting e ≡ 1;
+  tried : HasTried l.fn.self l.fitting l.fn.list l.list;
 }
+
+abbrev pub decreases-loop-fitting : goal.decreases-loop-fitting
+decreases-loop-fitting l = l.fitting

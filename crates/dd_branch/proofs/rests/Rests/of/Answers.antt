@@ -1,4 +1,4 @@
-use Rattle.std.proofs.Common.{◌*◌, length, replicate, refl, ap, ◌∙◌, arith}
+use Rattle.std.proofs.Common.{◌*◌, ◌^◌, length, replicate, refl, ap, ◌∙◌, arith}
 use Rattle.std.proofs.lemmas.List.{get_or-set_same, length-set}
 use Rattle.std.specs.Int.{bit_at}
 use Rattle.dd_branch.proofs.RestSums.{none_yet, one_more, end_kept, still_none, still_small, surplus_more}
@@ -12,7 +12,7 @@ loop-place-init c = record {
   inside = omega arith;
   no_most = none_yet _ c.requires.few;
   no_least = none_yet _ c.requires.few;
-  no_surplus = ap (λ n. bit_at n 0) (get_or-set_same (replicate 73 0) (length c.args.places.now) 1 0 (let few = c.requires.few in omega (arith, few)));
+  no_surplus = ap (λ n. bit_at n 63) (get_or-set_same (replicate 73 0) (length c.args.places.now) (2 ^ 63) 0 (let few = c.requires.few in omega (arith, few)));
   most_small = let e = none_yet _ c.requires.few in omega (arith, e);
   least_small = let e = none_yet _ c.requires.few in omega (arith, e);
   each_most = λ j x low high. absurd (omega (arith, low, high));

@@ -12,7 +12,7 @@ invariant-loop-place l = record {
   inside : l.place ≤ length l.places;
   no_most : get_or l.most (length l.places) 0 ≡ 0;
   no_least : get_or l.least (length l.places) 0 ≡ 0;
-  no_surplus : bit_at (get_or l.surplus (length l.places) 0) 0 ≡ 1;
+  no_surplus : bit_at (get_or l.surplus (length l.places) 0) 63 ≡ 1;
   most_small : get_or l.most l.place 0 ≤ (length l.places - l.place) * 24;
   least_small : get_or l.least l.place 0 ≤ (length l.places - l.place) * 24;
   each_most : (j : ℕ) (x : Place) → l.place ≤ j → j < length l.places → get_or l.most j 0 ≡ get_or l.most (j + 1) 0 + (get_or l.places j x).most;
