@@ -26,7 +26,7 @@ use Rattle.dd_branch.proofs.Choices.{IsValue, choice_told, share_told, value_of}
 
 -- the assignment with other degrees
 abbrev pub with_list : Assignment → List ℕ → Assignment
-with_list a xs = record { alloc = a.alloc; request = a.request; table = a.table; ties = a.ties; places = a.places; rests = a.rests; degrees = record { items = xs } }
+with_list a xs = record { alloc = a.alloc; request = a.request; table = a.table; ties = a.ties; places = a.places; rests = a.rests; degrees = record { items = xs }; first = a.first }
 
 -- the assignment with one more
 abbrev pub with_degree : Assignment → ℕ → Assignment

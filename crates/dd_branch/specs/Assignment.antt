@@ -1,9 +1,10 @@
 -- How far a search for the degrees of a table has come.
-use Rattle.std.specs.Prelude.{◌≡◌, ℕ, ◌*◌, ◌<◌, ◌≤◌, List, ◌++◌, length, take, slice_index, slice_index_or, IfSome}
+use Rattle.std.specs.Prelude.{◌≡◌, ℕ, ◌-◌, ◌*◌, ◌<◌, ◌≤◌, List, ◌++◌, length, take, slice_index, slice_index_or, IfSome}
 use Rattle.dd_model.specs.declared.requests.Request.{Request}
 use Rattle.dd_model.specs.declared.pair.Pair.TheVariants.{Tile, Vertex}
 use Rattle.dd_model.specs.Symbol.{Symbol}
 use Rattle.dd_model.specs.Code.{code}
+use Rattle.dd_model.specs.Involutions.{HaveSameInvolutions}
 use Rattle.dd_model.specs.Wanted.{AtMost, IsMember}
 use Rattle.dd_canon.specs.Ties.{AreTies}
 use Rattle.dd_invol.specs.Table.{IsBareTable}
@@ -42,6 +43,7 @@ shortened a mark = record {
   places = a.places;
   rests = a.rests;
   degrees = record { items = take mark a.degrees.items };
+  first = a.first;
 }
 
 -- what the degrees that are told have of the budget
@@ -74,6 +76,10 @@ pub record IsAssignment (a : Assignment) : Type 0 where
   pub rests : AreRests a.places.items a.rests
   pub short : told a ≤ 2 * a.table.size
   pub each : (j : ℕ) (x : Place) → j < told a → IsTold a.request a.table.size a.degrees.items j (slice_index_or a.places.items j x)
+
+-- A list that is longer than it was when the table came ends with a symbol that has the table's involutions.
+abbrev pub HasLast : Assignment → List Symbol → Type 0
+HasLast a list = a.first < length list → (s : Symbol) → s ≡ slice_index_or list (length list - 1) s → HaveSameInvolutions a.table s
 
 -- The next degree is that of the least chamber of a cell.
 abbrev pub IsAtRoot : Assignment → Type 0

@@ -3,13 +3,14 @@ ghost use Rattle.std.specs.Bool.{OnTrue, OnFalse};
 ghost use Rattle.dd_model.specs.Symbol.{Symbol as Tiling};
 ghost use Rattle.dd_model.specs.Small.{IsSmallSymbol};
 ghost use Rattle.dd_symbol.specs.Images.{with_degrees};
+ghost use Rattle.dd_list.specs.Lists.{with_told};
 ghost use Rattle.dd_canon.specs.Ties.{AreTies, IsLeastFrom};
 ghost use Rattle.dd_model.specs.Minimal.{Minimal};
 ghost use Rattle.dd_model.specs.Wanted.{IsMember};
 ghost use Rattle.dd_invol.specs.Table.{IsBareTable};
 ghost use Rattle.dd_invol.specs.Under.{next_number, AreUnder, Appends};
 ghost use Rattle.dd_branch.specs.Choice.{IsChoice};
-ghost use Rattle.dd_branch.specs.Assignment.{HasLimits, IsAssignment, IsAtRoot, IsMemberUnder, next_place, prefix_of, spent_by, told};
+ghost use Rattle.dd_branch.specs.Assignment.{HasLast, HasLimits, IsAssignment, IsAtRoot, IsMemberUnder, next_place, prefix_of, spent_by, told};
 ghost use Rattle.dd_branch.specs.Place.{ArePlaces};
 ghost use Rattle.dd_branch.specs.Automorphism.{AreAutomorphisms};
 ghost use Rattle.dd_branch.specs.Entered.{AreFitting, HasBudget, HasEntered, HasForced, HasTold};
@@ -41,6 +42,8 @@ pub(crate) struct Assignment {
     rests: Rests,
     /// The degrees that are told.
     pub(crate) degrees: ArrayVec<u8, 72>,
+    /// How many symbols the list had when the table came to which the members go.
+    pub(crate) first: usize,
 }
 
 impl Assignment {
@@ -51,6 +54,7 @@ impl Assignment {
         ties: Ties,
         places: ArrayVec<Place, 72>,
         q: &Request,
+        first: usize,
     ) -> Assignment
         requires table { IsBareTable table }
         requires limits { HasLimits q.now table }
@@ -63,6 +67,7 @@ impl Assignment {
         ensures request { result.request ≡ q.now }
         ensures table { result.table ≡ table }
         ensures none { result.degrees.items ≡ [] }
+        ensures first { result.first ≡ first }
     {
         Assignment {
             alloc,
@@ -72,6 +77,7 @@ impl Assignment {
             rests: Rests::of(places.as_slice()),
             places,
             degrees: ArrayVec::new(),
+            first,
         }
     }
 
@@ -175,19 +181,37 @@ impl Assignment {
         is_minimal(self.alloc, &symbol)
     }
 
+    /// Puts the symbol with the degrees that are told at the end of a list. Only the first one of the
+    /// table needs the table.
+    fn push(&self, list: &mut SymbolList) -> Result<(), Memory>
+        requires small { IsSmallSymbol (with_told self.now.table self.now.degrees.items) }
+        requires last { HasLast self.now list.old }
+        ensures list { OnOk result
+            (list.new ≡ list.old ++ with_told self.now.table self.now.degrees.items ∷ []) }
+        ensures last { OnOk result (HasLast self.now list.new) }
+    {
+        let degrees = self.degrees.as_slice();
+        if list.len() > self.first {
+            return list.push_alike(degrees);
+        }
+        list.push(&self.table, degrees)
+    }
+
     /// Adds the member with the degrees that are told, if there is one.
     fn add_member(&self, list: &mut SymbolList) -> Result<(), Memory>
         requires ready { IsAssignment self.now }
         requires whole { told self.now ≡ 2 * self.now.table.size }
         requires flat { spent_by self.now ≡ 6 * self.now.table.size }
-        ensures { OnOk result (Appends (AreUnder (IsMember self.now.request) self.now.table.size
-            (prefix_of self.now)) list.old list.new) }
+        requires last { HasLast self.now list.old }
+        ensures list { OnOk result (Appends (AreUnder (IsMember self.now.request)
+            self.now.table.size (prefix_of self.now)) list.old list.new) }
+        ensures last { OnOk result (HasLast self.now list.new) }
     {
         let (m01, m12) = self.degrees.as_slice().split_at(self.size());
         if !self.is_asked(m01, m12)? {
             return Ok(());
         }
-        list.push(&self.table, m01, m12)
+        self.push(list)
     }
 
     /// Tells degrees while one share alone fits. What is then left of the budget, and the shares of the next degree
@@ -230,7 +254,9 @@ impl Assignment {
         requires root { IsAtRoot self.old }
         requires budget { HasBudget self.old left }
         requires fitting { AreFitting self.old left fitting }
+        requires last { HasLast self.old list.old }
         ensures same { OnOk result (self.new ≡ self.old) }
+        ensures last { OnOk result (HasLast self.old list.new) }
         ensures list { OnOk result (Appends
             (AreUnder (IsMember self.old.request) self.old.table.size (prefix_of self.old))
             list.old list.new) }
@@ -258,6 +284,7 @@ impl Assignment {
         requires ready { IsAssignment self.old }
         requires root { IsAtRoot self.old }
         requires none { self.old.degrees.items ≡ [] }
+        requires first { self.old.first ≡ length list.old }
         ensures { OnOk result (Appends (AreUnder (IsMember self.old.request) self.old.table.size
             (prefix_of self.old)) list.old list.new) }
     {

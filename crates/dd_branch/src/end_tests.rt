@@ -75,7 +75,7 @@ fn ends_of(alloc: Global, request: &Request, table: Table) -> Result<u64, Fail> 
         starts: ties,
         automorphisms: None,
     };
-    let mut search = Assignment::new(alloc, table, ties, places, request);
+    let mut search = Assignment::new(alloc, table, ties, places, request, 0);
     Ok(count_all_ends(&mut search))
 }
 

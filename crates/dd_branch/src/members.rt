@@ -55,7 +55,7 @@ pub(crate) fn add_tied(
         return Ok(());
     }
     let ties = Ties::of(alloc, table.symbol(), ties)?;
-    Assignment::new(alloc, table, ties, places, q).add_all(list)
+    Assignment::new(alloc, table, ties, places, q, list.len()).add_all(list)
 }
 
 /// Adds all members of a request's catalogue that have the involutions of a table, ascending.

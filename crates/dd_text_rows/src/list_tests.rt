@@ -9,11 +9,7 @@ use std::process::Abort;
 use std::test::Fail;
 
 /// Involutions, the degrees of the tiles and of the vertices, and the code that they make.
-type Row = (
-    [&'static [u32]; 3],
-    &'static [u8],
-    &'static [u32],
-);
+type Row = ([&'static [u32]; 3], &'static [u8], &'static [u32]);
 
 /// Of the first two only the degrees differ.
 const ROWS: [Row; 3] = [

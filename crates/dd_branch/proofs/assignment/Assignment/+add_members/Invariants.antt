@@ -1,5 +1,6 @@
 use Rattle.std.proofs.Common.{◌≡◌, ℕ, ◌*◌, ◌-◌, length}
 use Rattle.std.specs.Int.{bit_at}
+use Rattle.dd_branch.specs.Assignment.{HasLast}
 use Rattle.dd_branch.proofs.Finishing.{HasTried}
 use Rattle.dd_branch.proofs.assignment.Assignment.+add_members.Given as goal
 
@@ -10,6 +11,7 @@ abbrev pub invariant-loop-fitting : goal.invariant-loop-fitting
 invariant-loop-fitting l = record {
   same : l.self ≡ l.fn.self;
   left_over : (e : ℕ) → bit_at l.fitting e ≡ 1 → bit_at l.fn.fitting e ≡ 1;
+  last : HasLast l.fn.self l.list;
   tried : HasTried l.fn.self l.fitting l.fn.list l.list;
 }
 

@@ -8,7 +8,7 @@ use Rattle.dd_canon.specs.Ties.{IsLeastFrom}
 use Rattle.dd_invol.proofs.Prefixes.{appends_dead}
 use Rattle.dd_invol.proofs.TiedTables.{ties_of_least}
 use Rattle.dd_symbol.specs.Images.{with_degrees}
-use Rattle.dd_branch.specs.Assignment.{IsMemberUnder, prefix_of}
+use Rattle.dd_branch.specs.Assignment.{prefix_of}
 use Rattle.dd_branch.proofs.Leaves.{appends_leaf, leaf_is, leaf_is_member, leaf_least, leaf_small, under_leaf}
 use Rattle.dd_branch.proofs.assignment.Assignment.add_member.Goals as goal
 
@@ -17,13 +17,11 @@ is_asked-requires-clause-small c =
     let same = leaf_is c.args.self.now c.as_slice.result.now c.split_at.result.0.now c.split_at.result.1.now c.size.result c.as_slice.ensures.value c.size.ensures c.split_at.ensures.front c.split_at.ensures.back in
     subst IsSmallSymbol (sym same) (leaf_small c.args.self.now c.requires.ready c.requires.whole)
 
-pub push-requires : goal.push-requires
-push-requires c =
-    let same = leaf_is c.args.self.now c.as_slice.result.now c.split_at.result.0.now c.split_at.result.1.now c.size.result c.as_slice.ensures.value c.size.ensures c.split_at.ensures.front c.split_at.ensures.back in
-    subst IsSmallSymbol (sym same) (leaf_small c.args.self.now c.requires.ready c.requires.whole)
+pub push-requires-clause-small : goal.push-requires-clause-small
+push-requires-clause-small c = leaf_small c.args.self.now c.requires.ready c.requires.whole
 
-pub returns-then-not-branch : goal.returns-then-not-branch
-returns-then-not-branch c =
+pub returns-then-not-branch-clause-list : goal.returns-then-not-branch-clause-list
+returns-then-not-branch-clause-list c =
     let a = c.args.self.now in
     let same = leaf_is c.args.self.now c.as_slice.result.now c.split_at.result.0.now c.split_at.result.1.now c.size.result c.as_slice.ensures.value c.size.ensures c.split_at.ensures.front c.split_at.ensures.back in
     let ties = c.requires.ready.ties in
@@ -34,12 +32,12 @@ returns-then-not-branch c =
     let yes' = c.in_ok-is_asked.ensures.1 (subst (λ (u : Symbol). IsLeastFrom u a.ties.starts.items) is own, subst (λ (u : Symbol). IsTrue a.request.minimal → Minimal u) is under.wanted.wanted.minimal) in
     let no' = c.if-not-branch.true in cc)
 
-pub returns : goal.returns
-returns c =
+pub returns-clause-list : goal.returns-clause-list
+returns-clause-list c =
     let a = c.args.self.now in
     let same = leaf_is c.args.self.now c.as_slice.result.now c.split_at.result.0.now c.split_at.result.1.now c.size.result c.as_slice.ensures.value c.size.ensures c.split_at.ensures.front c.split_at.ensures.back in
     let asked = c.in_ok-is_asked.ensures.0 c.if-not-branch.false in
     let minimal = subst (λ (s : Symbol). IsTrue a.request.minimal → Minimal s) same asked.1 in
     let least = leaf_least a c.requires.ready c.requires.whole (subst (λ (s : Symbol). IsLeastFrom s a.ties.starts.items) same asked.0) in
-    let is = subst (IsMemberUnder a (prefix_of a)) (sym same) (leaf_is_member a c.requires.ready c.requires.whole c.requires.flat minimal least) in
-    on_ok_weaker c.push.result (λ grown. appends_leaf a c.requires.ready c.requires.whole c.args.list.now c.push.new.self _ is grown) c.push.ensures.list
+    let is = leaf_is_member a c.requires.ready c.requires.whole c.requires.flat minimal least in
+    on_ok_weaker c.push.result (λ grown. appends_leaf a c.requires.ready c.requires.whole c.args.list.now c.push.new.list _ is grown) c.push.ensures.list
