@@ -6,13 +6,15 @@ ghost use Rattle.dd_board.specs.Desk.{AreJobsOf};
 
 use dd_front::{Entry, Finder, Members, State};
 use dd_model::{Job, Memory};
+use dd_ports::Gate;
 use std::alloc::Global;
 
-/// Does the jobs of a round one after the other, on this thread. Nobody else takes or steals one, so
-/// there is no board, no lock and no deque.
-pub(crate) fn do_alone<F: Finder>(
+/// Does the jobs of a round one after the other, on this thread, as worker 1. Nobody else takes or
+/// steals one, so there is no board, no lock and no deque.
+pub(crate) fn do_alone<F: Finder, G: Gate>(
     alloc: Global,
     finder: &F,
+    gate: &G,
     jobs: Vec<Job>,
 ) -> Result<Vec<Entry>, Memory>
     requires valid { IsValid (F.request finder.now) }
@@ -24,8 +26,9 @@ pub(crate) fn do_alone<F: Finder>(
     let mut entries = Vec::with_capacity(alloc, jobs.len())?;
     let mut number = 0;
     for job in jobs {
-        let members = Members::new(alloc, finder.find(alloc, &job)?)?;
         number += 1;
+        gate.enter(1, number);
+        let members = Members::new(alloc, finder.find(alloc, &job)?)?;
         entries.push(Entry {
             number,
             job,

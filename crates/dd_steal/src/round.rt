@@ -74,7 +74,7 @@ pub fn run_round<R: Threads + Wait + Sync, F: Finder + Sync, G: Gate + Sync>(
 {
     let workers = crew_size(alloc, finder, &jobs, workers)?;
     if workers == 1 {
-        return do_alone(alloc, finder, jobs);
+        return do_alone(alloc, finder, gate, jobs);
     }
     run_named::<Brand, Brand, Brand, Brand, Brand, Brand, R, F, G>(
         rt,
