@@ -25,6 +25,10 @@ use std::thread::Threads;
 /// How many workers a job may keep busy by its parts. More threads than that would be started for nothing.
 const WORKERS_A_JOB: u32 = 8;
 
+/// How many jobs one worker does before what it found is written: few, so that few members are held at once, and what is
+/// written is still near.
+const JOBS_ALONE: u32 = 4;
+
 /// How many of the workers a round of so many jobs has use for.
 fn useful_workers(workers: u32, jobs: usize) -> u32
     requires some { 1 ≤ workers }
@@ -90,9 +94,9 @@ fn pace_without_empty_jobs<F: Finder>(
     })
 }
 
-/// Does the next round of a front of which no checkpoint is kept, and answers whether there was one. Where several workers
-/// are to do it, jobs under which nothing is are not counted. After `Err`, which comes for want of memory alone, the front
-/// is as before.
+/// Does the next round of a front of which no checkpoint is kept, and answers whether there was one. One worker does a few
+/// jobs of it at a time; where several are to do it, jobs under which nothing is are not counted. After `Err`, which comes
+/// for want of memory alone, the front is as before.
 pub fn do_long_round<R: Threads + Wait + Sync, F: Finder + Sync, G: Gate + Sync>(
     rt: &R,
     alloc: Global,
@@ -114,7 +118,11 @@ pub fn do_long_round<R: Threads + Wait + Sync, F: Finder + Sync, G: Gate + Sync>
     ensures same { OnErr result (front.new ≡ front.old) }
 {
     if pace.workers == 1 {
-        return do_round(rt, alloc, finder, gate, pace, front);
+        let few = Pace {
+            workers: 1,
+            round: pace.round.min(JOBS_ALONE),
+        };
+        return do_round(rt, alloc, finder, gate, few, front);
     }
     let longer = pace_without_empty_jobs(alloc, finder, pace, front.entries())?;
     do_round(rt, alloc, finder, gate, longer, front)

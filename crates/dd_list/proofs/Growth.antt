@@ -1,18 +1,25 @@
--- A list that has grown tells the same of the old places.
-use Rattle.std.proofs.Common.{◌≡◌, ℕ, suc, ◌+◌, ◌-◌, ◌≤◌, ◌<◌, List, [], ◌∷◌, ◌++◌, take, drop, length, get_or, refl, sym, ap, ◌∙◌, subst, arith}
-use Rattle.std.proofs.lemmas.List.{append_assoc, append-nil, get_or_append_left, get_or-map, length-map, map_push, take-append-drop, take-append-le, drop-append-le, length-append, length-drop, take_at, take_all, drop_at}
+-- A list that has one symbol more tells the same of the old ones.
+use Rattle.std.proofs.Common.{◌≡◌, ℕ, ◌+◌, ◌-◌, ◌*◌, ◌≤◌, ◌<◌, cond, List, [], ◌∷◌, ◌++◌, take, drop, length, get_or, refl, sym, ap, ◌∙◌, subst, ⊎_elim, arith}
+use Rattle.std.specs.List.{All, count_by}
+use Rattle.std.specs.List.Sorted.{IsNonDecreasingBy}
+use Rattle.std.proofs.lemmas.Bool.{le-leb, lt-leb, cases_lt}
+use Rattle.std.proofs.lemmas.List.{append_assoc, get_or_append_left, get_or_push, take-append-drop, take-append-le, drop-append-le, length-append, length-drop, take_at, take_all, drop_at}
+use Rattle.std.proofs.lemmas.List.Elements.{All-push}
+use Rattle.std.proofs.lemmas.List.FromFn.{get_or-map-range_with_len, map-range_with_len_more}
+use Rattle.std.proofs.lemmas.List.Sorted.{IsNonDecreasingBy-push}
+use Rattle.std.proofs.lemmas.List.Sums.{sum_by_push, count_by-le-length}
 use Rattle.dd_model.specs.Symbol.{Symbol}
 use Rattle.dd_model.specs.Connected.{Connected}
+use Rattle.dd_model.specs.Involutions.{HaveSameInvolutions}
 use Rattle.dd_model.specs.Small.{IsSmallSymbol}
-use Rattle.dd_symbol.specs.Images.{of_rows, with_degrees}
-use Rattle.dd_symbol.proofs.TableLemmas.{with_same}
 use Rattle.dd_model.proofs.SameInvolutions.{connected-same, same-sym}
-use Rattle.std.proofs.lemmas.List.Elements.{All-push}
-use Rattle.std.specs.declared.result.Result.{Result}
-use Rattle.std.specs.declared.result.Result.TheVariants.{Ok, Err}
-use Rattle.std.specs.Prelude.{OnOk, OnErr}
-use Rattle.dd_list.specs.Lists.{table_at, with_bytes, symbol_at, listed, place_of, with_told, IsPlace, AreListed, HasGrown, IsTableOf}
-use Rattle.dd_list.specs.declared.symbol_list.Place.{Place}
+use Rattle.dd_symbol.specs.Images.{with_degrees}
+use Rattle.dd_symbol.proofs.TableLemmas.{with_same}
+use Rattle.dd_list.specs.Lists.{with_told, with_bytes, no_series, series_at, series_of, begins_by, degrees_in, symbol_of, listed, IsPlace, AreListed, IsLast, HasBegun}
+use Rattle.dd_list.specs.declared.series.Series.{Series}
+use Rattle.dd_list.proofs.Places.{all_pass, same_made, degrees_on, count_of}
+
+-- ## Old symbols
 
 -- a part of the old bytes
 part_kept : (bytes rest : List ℕ) (at n : ℕ) → at + n ≤ length bytes → take n (drop at (bytes ++ rest)) ≡ take n (drop at bytes)
@@ -20,153 +27,206 @@ part_kept bytes rest at n within =
     let left = length-drop at bytes in
     ap (take n) (drop-append-le at bytes rest (omega arith)) ∙ take-append-le n (drop at bytes) rest (omega arith)
 
--- a place of old bytes and tables
-symbol_kept : (tables more : List Symbol) (bytes rest : List ℕ) (p : Place) → IsPlace tables bytes p
-    → symbol_at (tables ++ more) (bytes ++ rest) p ≡ symbol_at tables bytes p
-symbol_kept tables more bytes rest p is =
-    let t = table_at tables p.table in
-    let within = is.degrees in
-    ap (with_bytes (bytes ++ rest) p.degrees) (get_or_append_left tables more (of_rows 0 []) p.table is.table)
-    ∙ ap (λ ms. with_degrees t ms (take t.size (drop (p.degrees + t.size) (bytes ++ rest)))) (part_kept bytes rest p.degrees t.size (omega arith))
-    ∙ ap (with_degrees t (take t.size (drop p.degrees bytes))) (part_kept bytes rest (p.degrees + t.size) t.size (omega arith))
+bytes_kept : (bytes rest : List ℕ) (at : ℕ) (t : Symbol) → at + 2 * t.size ≤ length bytes → with_bytes (bytes ++ rest) at t ≡ with_bytes bytes at t
+bytes_kept bytes rest at t within =
+    ap (λ ms. with_degrees t ms (take t.size (drop (at + t.size) (bytes ++ rest)))) (part_kept bytes rest at t.size (omega arith))
+    ∙ ap (with_degrees t (take t.size (drop at bytes))) (part_kept bytes rest (at + t.size) t.size (omega arith))
 
-place_kept : (tables more : List Symbol) (bytes rest : List ℕ) (p : Place) → IsPlace tables bytes p → IsPlace (tables ++ more) (bytes ++ rest) p
-place_kept tables more bytes rest p is =
-    let kept = symbol_kept tables more bytes rest p is in
-    let size = ap (λ s. s.size) kept in
-    let within = is.degrees in
-    let known = is.table in
-    let longer = length-append bytes rest in
-    let more_tables = length-append tables more in
+symbol_kept : (series more : List Series) (bytes rest : List ℕ) (k : ℕ) → series_of more k ≡ series_of series k → IsPlace series bytes k
+    → symbol_of more (bytes ++ rest) k ≡ symbol_of series bytes k
+symbol_kept series more bytes rest k same is =
+    let one = series_of series k in
+    ap (λ it. with_bytes (bytes ++ rest) (degrees_in it k) it.table) same ∙ bytes_kept bytes rest (degrees_in one k) one.table is.degrees
+
+longer_within : (n : ℕ) (bytes rest : List ℕ) → n ≤ length bytes → n ≤ length (bytes ++ rest)
+longer_within n bytes rest within = omega (arith, length-append bytes rest)
+
+place_kept : (series more : List Series) (bytes rest : List ℕ) (k : ℕ) → series_of more k ≡ series_of series k → 1 ≤ count_by (begins_by k) more
+    → IsPlace series bytes k → IsPlace more (bytes ++ rest) k
+place_kept series more bytes rest k same some is =
+    let one = series_of series k in
+    let kept = symbol_kept series more bytes rest k same is in
     record {
-      table = omega arith;
-      degrees = omega arith;
+      some = some;
+      degrees = subst (λ it. degrees_in it k + 2 * it.table.size ≤ length (bytes ++ rest)) (sym same)
+          (longer_within (degrees_in one k + 2 * one.table.size) bytes rest is.degrees);
       small = subst IsSmallSymbol (sym kept) is.small;
       connected = subst Connected (sym kept) is.connected;
     }
 
-listed_kept : (tables more : List Symbol) (bytes rest : List ℕ) (places : List Place) → AreListed tables bytes places
-    → listed (tables ++ more) (bytes ++ rest) places ≡ listed tables bytes places
-listed_kept tables more bytes rest [] are = refl
-listed_kept tables more bytes rest (p ∷ ps) are =
-    ap (λ s. s ∷ listed (tables ++ more) (bytes ++ rest) ps) (symbol_kept tables more bytes rest p (are 0 p (omega arith)))
-    ∙ ap (λ ss. symbol_at tables bytes p ∷ ss) (listed_kept tables more bytes rest ps (λ k d h. are (suc k) d (omega arith)))
+-- ## The series that has the next symbol
 
-pub not_grown : {A : Type 0} (xs : List A) → HasGrown xs xs
-not_grown xs = record { rest = []; items = sym (append-nil xs) }
+-- the last series, in which the next symbol is
+pub record IsNext (t : Symbol) (series more : List Series) (bytes : List ℕ) (n : ℕ) : Type 0 where
+  pub ascending : IsNonDecreasingBy (λ one. one.first) more
+  pub begun : All (λ one. one.first < n + 1) more
+  pub same : (k : ℕ) → k < n → series_of more k ≡ series_of series k
+  pub some : (k : ℕ) → k < n → 1 ≤ count_by (begins_by k) more
+  pub last : IsLast t more
+  pub ended : degrees_in (series_at more (length more - 1)) n ≡ length bytes
 
--- the old places have the same symbols
-pub same_symbols : (tables tables' : List Symbol) (bytes bytes' : List ℕ) (places : List Place) → HasGrown tables tables' → HasGrown bytes bytes'
-    → AreListed tables bytes places → listed tables' bytes' places ≡ listed tables bytes places
-same_symbols tables tables' bytes bytes' places more rest are =
-    ap (λ ts. listed ts bytes' places) more.items
-    ∙ ap (λ bs. listed (tables ++ more.rest) bs places) rest.items
-    ∙ listed_kept tables more.rest bytes rest.rest places are
+go_on : (t : Symbol) (series : List Series) (bytes : List ℕ) (n : ℕ) → AreListed series bytes n → IsLast t series → IsNext t series series bytes n
+go_on t series bytes n are last = record {
+  ascending = are.ascending;
+  begun = λ k d h. let low = are.begun k d h in omega arith;
+  same = λ k h. refl;
+  some = λ k h. (are.places k h).some;
+  last = last;
+  ended = are.ended last.some;
+}
 
-pub same_places : (tables tables' : List Symbol) (bytes bytes' : List ℕ) (places : List Place) → HasGrown tables tables' → HasGrown bytes bytes'
-    → AreListed tables bytes places → AreListed tables' bytes' places
-same_places tables tables' bytes bytes' places more rest are k d h =
-    subst (λ ts. IsPlace ts bytes' (get_or places k d)) (sym more.items)
-    (subst (λ bs. IsPlace (tables ++ more.rest) bs (get_or places k d)) (sym rest.items)
-    (place_kept tables more.rest bytes rest.rest (get_or places k d) (are k d h)))
+module _ (t : Symbol) (series : List Series) (bytes : List ℕ) (n : ℕ) (are : AreListed series bytes n) where
+  abbrev new : Series
+  new = record { table = t; first = n; degrees = length bytes }
 
--- the symbol whose degrees were appended
-symbol_put : (s : Symbol) (tables : List Symbol) (bytes own : List ℕ) (k : ℕ) → IsTableOf s tables k → IsSmallSymbol (with_told s own)
-    → symbol_at tables (bytes ++ own) (place_of k (length bytes)) ≡ with_told s own
-symbol_put s tables bytes own k is small =
-    let t = table_at tables k in
-    let same = is.same in
-    let size = same.size in
-    let m01 = take s.size own in
-    let m12 = drop s.size own in
-    let tiles = small.symbol.table.m01_length in
-    let vertices = small.symbol.table.m12_length in
-    let parts : bytes ++ own ≡ bytes ++ (m01 ++ m12) = sym (ap (λ xs. bytes ++ xs) (take-append-drop s.size own)) in
-    let front : take t.size (drop (length bytes) (bytes ++ own)) ≡ m01 =
-    ap (λ bs. take t.size (drop (length bytes) bs)) parts ∙ ap (take t.size) (drop_at bytes (m01 ++ m12) (length bytes) refl) ∙ take_at m01 m12 t.size (omega arith) in
-    let past = length-append bytes m01 in
-    let back : take t.size (drop (length bytes + t.size) (bytes ++ own)) ≡ m12 =
-    ap (λ bs. take t.size (drop (length bytes + t.size) bs)) (parts ∙ sym (append_assoc bytes m01 m12))
-    ∙ ap (take t.size) (drop_at (bytes ++ m01) m12 (length bytes + t.size) (omega arith)) ∙ take_all t.size m12 (omega arith) in
-    λ i. record { size = size i; s0 = same.s0 i; s1 = same.s1 i; s2 = same.s2 i; m01 = front i; m12 = back i }
+  counts : (k : ℕ) → count_by (begins_by k) (series ++ new ∷ []) ≡ count_by (begins_by k) series + cond (begins_by k new) 1 0
+  counts k = sum_by_push (λ it. cond (begins_by k it) 1 0) series new
 
-place_put : (s : Symbol) (tables : List Symbol) (bytes own : List ℕ) (k : ℕ) → IsTableOf s tables k → IsSmallSymbol (with_told s own) → Connected s
-    → IsPlace tables (bytes ++ own) (place_of k (length bytes))
-place_put s tables bytes own k is small connected =
-    let put = symbol_put s tables bytes own k is small in
-    let tiles = small.symbol.table.m01_length in
-    let vertices = small.symbol.table.m12_length in
-    let size = is.same.size in
-    let parts = ap length (take-append-drop s.size own) in
-    let split = length-append (take s.size own) (drop s.size own) in
-    let whole = length-append bytes own in
-    record {
-      table = is.table;
-      degrees = omega arith;
-      small = subst IsSmallSymbol (sym put) small;
-      connected = subst Connected (sym put) (connected-same s (with_told s own) (with_same s (take s.size own) (drop s.size own)) connected);
-    }
+  count_kept : (k : ℕ) → k < n → count_by (begins_by k) (series ++ new ∷ []) ≡ count_by (begins_by k) series
+  count_kept k before =
+      let out = ap {B = ℕ} (λ b. cond b 1 0) (lt-leb n k before) in
+      omega (arith, counts k, out)
 
--- What there is after the symbol of a table was appended, or was not.
-module _ (s : Symbol) (tables tables' : List Symbol) (bytes bytes' own : List ℕ) (places places' : List Place) (k : ℕ)
-    (is : IsTableOf s tables' k) (small : IsSmallSymbol (with_told s own)) (connected : Connected s)
-    (more : HasGrown tables tables') (rest : HasGrown bytes bytes') (are : AreListed tables bytes places) where
-  old_at : (end : List ℕ) → HasGrown bytes end → AreListed tables' end places
-  old_at end h = same_places tables tables' bytes end places more h are
+  last_new : series_at (series ++ new ∷ []) (length (series ++ new ∷ []) - 1) ≡ new
+  last_new = get_or_push series new no_series (length (series ++ new ∷ []) - 1) (omega (arith, length-append series (new ∷ [])))
 
-  pub listed_after : {E : Type 0} (r : Result (Unit {0}) E) → OnOk r (bytes' ≡ bytes ++ own) → OnOk r (places' ≡ places ++ place_of k (length bytes) ∷ [])
-      → OnErr r (places' ≡ places) → AreListed tables' bytes' places'
-  listed_after (Err e) _ _ same = subst (AreListed tables' bytes') (sym same) (old_at bytes' rest)
-  listed_after (Ok u) degrees place _ =
-      subst (λ end. AreListed tables' end places') (sym degrees) (subst (AreListed tables' (bytes ++ own)) (sym place)
-      (All-push (IsPlace tables' (bytes ++ own)) places (place_of k (length bytes)) (old_at (bytes ++ own) (record { rest = own; items = refl }))
-      (place_put s tables' bytes own k is small connected)))
+  begin_new : IsNext t series (series ++ new ∷ []) bytes n
+  begin_new = record {
+    ascending = IsNonDecreasingBy-push (λ it. it.first) series new are.ascending
+        (λ d some. let low = are.begun (length series - 1) d (omega arith) in omega arith);
+    begun = All-push (λ it. it.first < n + 1) series new (λ k d h. let low = are.begun k d h in omega arith) (omega arith);
+    same = λ k h.
+        let is = are.places k h in
+        let within = count_by-le-length (begins_by k) series in
+        ap (λ m. series_at (series ++ new ∷ []) (m - 1)) (count_kept k h)
+        ∙ get_or_append_left series (new ∷ []) no_series (count_by (begins_by k) series - 1) (omega (arith, is.some));
+    some = λ k h. omega (arith, count_kept k h, (are.places k h).some);
+    last = record {
+      some = omega (arith, length-append series (new ∷ []));
+      same = subst (λ it. HaveSameInvolutions t it.table) (sym last_new) (record { size = refl; s0 = refl; s1 = refl; s2 = refl });
+    };
+    ended = ap (λ it. degrees_in it n) last_new ∙ (let none : n - n ≡ 0 = omega arith in let nothing = ap (λ m. 2 * t.size * m) none in omega (arith, nothing));
+  }
 
-  pub symbols_after : {E : Type 0} (r : Result (Unit {0}) E) (ss : List Symbol) → listed tables bytes places ≡ ss → OnOk r (bytes' ≡ bytes ++ own)
-      → OnOk r (places' ≡ places ++ place_of k (length bytes) ∷ []) → OnOk r (listed tables' bytes' places' ≡ ss ++ with_told s own ∷ [])
-  symbols_after (Err e) ss was _ _ = tt
-  symbols_after (Ok u) ss was degrees place =
-      let p = place_of k (length bytes) in
-      ap (listed tables' bytes') place
-      ∙ map_push (symbol_at tables' bytes') places p
-      ∙ ap (λ xs. xs ++ symbol_at tables' bytes' p ∷ []) (same_symbols tables tables' bytes bytes' places more rest are ∙ was)
-      ∙ ap (λ t. ss ++ t ∷ []) (ap (λ end. symbol_at tables' end p) degrees ∙ symbol_put s tables' bytes own k is small)
+pub next_of : (t : Symbol) (series more : List Series) (bytes : List ℕ) (n : ℕ) → AreListed series bytes n → HasBegun t n (length bytes) series more
+    → IsNext t series more bytes n
+next_of t series more bytes n are begun = ⊎_elim
+    (λ old. subst (λ it. IsNext t series it bytes n) (sym old.0) (go_on t series bytes n are old.1))
+    (λ added. subst (λ it. IsNext t series it bytes n) (sym added) (begin_new t series bytes n are))
+    begun
 
-  pub symbols_kept : {E : Type 0} (r : Result (Unit {0}) E) (ss : List Symbol) → listed tables bytes places ≡ ss → OnErr r (places' ≡ places)
-      → OnErr r (listed tables' bytes' places' ≡ ss)
-  symbols_kept (Ok u) ss was _ = tt
-  symbols_kept (Err e) ss was same = ap (listed tables' bytes') same ∙ same_symbols tables tables' bytes bytes' places more rest are ∙ was
+-- ## One symbol more
 
--- the last symbol of a list, and its table
-module _ (tables : List Symbol) (bytes : List ℕ) (places : List Place) (ss : List Symbol) (are : AreListed tables bytes places)
-    (was : listed tables bytes places ≡ ss) (some : 1 ≤ length ss) (p : Place) (here : p ≡ get_or places (length places - 1) p) where
-  count : length ss ≡ length places
-  count = ap length (sym was) ∙ length-map places (symbol_at tables bytes)
+module _ (t : Symbol) (series more : List Series) (bytes own : List ℕ) (n : ℕ) (are : AreListed series bytes n) (next : IsNext t series more bytes n)
+    (small : IsSmallSymbol (with_told t own)) (connected : Connected t) where
+  abbrev last : Series
+  last = series_at more (length more - 1)
 
-  low : length places - 1 < length places
-  low = let n = count in omega (arith, some)
+  same : HaveSameInvolutions t last.table
+  same = next.last.same
 
-  is_place : IsPlace tables bytes p
-  is_place = subst (IsPlace tables bytes) (sym here) (are (length places - 1) p low)
+  told : length own ≡ 2 * t.size
+  told =
+      let tiles = small.symbol.table.m01_length in
+      let vertices = small.symbol.table.m12_length in
+      omega (arith, ap length (take-append-drop t.size own), length-append (take t.size own) (drop t.size own))
 
-  last_is : (s : Symbol) → get_or ss (length ss - 1) s ≡ symbol_at tables bytes p
+  begins : last.first ≤ n
+  begins = let low = next.begun (length more - 1) no_series (let some = next.last.some in omega arith) in omega arith
+
+  all_begin : count_by (begins_by n) more ≡ length more
+  all_begin = all_pass (begins_by n) more (λ k d h. let low = next.begun k d h in le-leb (get_or more k d).first n (omega arith))
+
+  in_last : series_of more n ≡ last
+  in_last = ap (λ m. series_at more (m - 1)) all_begin
+
+  -- the degrees that were appended, read at the end of the old ones
+  told_there : with_bytes (bytes ++ own) (length bytes) last.table ≡ with_told t own
+  told_there =
+      let size = same.size in
+      let m01 = take t.size own in
+      let m12 = drop t.size own in
+      let tiles = small.symbol.table.m01_length in
+      let vertices = small.symbol.table.m12_length in
+      let parts : bytes ++ own ≡ bytes ++ (m01 ++ m12) = sym (ap (λ xs. bytes ++ xs) (take-append-drop t.size own)) in
+      let front : take last.table.size (drop (length bytes) (bytes ++ own)) ≡ m01 =
+      ap (λ bs. take last.table.size (drop (length bytes) bs)) parts ∙ ap (take last.table.size) (drop_at bytes (m01 ++ m12) (length bytes) refl)
+      ∙ take_at m01 m12 last.table.size (omega arith) in
+      let past = length-append bytes m01 in
+      let back : take last.table.size (drop (length bytes + last.table.size) (bytes ++ own)) ≡ m12 =
+      ap (λ bs. take last.table.size (drop (length bytes + last.table.size) bs)) (parts ∙ sym (append_assoc bytes m01 m12))
+      ∙ ap (take last.table.size) (drop_at (bytes ++ m01) m12 (length bytes + last.table.size) (omega arith)) ∙ take_all last.table.size m12 (omega arith) in
+      λ i. record { size = size i; s0 = same.s0 i; s1 = same.s1 i; s2 = same.s2 i; m01 = front i; m12 = back i }
+
+  symbol_put : symbol_of more (bytes ++ own) n ≡ with_told t own
+  symbol_put =
+      ap (λ it. with_bytes (bytes ++ own) (degrees_in it n) it.table) in_last
+      ∙ ap (λ at. with_bytes (bytes ++ own) at last.table) next.ended
+      ∙ told_there
+
+  place_put : IsPlace more (bytes ++ own) n
+  place_put = record {
+    some = omega (arith, all_begin, next.last.some);
+    degrees = subst (λ it. degrees_in it n + 2 * it.table.size ≤ length (bytes ++ own)) (sym in_last)
+        (omega (arith, next.ended, told, same.size, length-append bytes own));
+    small = subst IsSmallSymbol (sym symbol_put) small;
+    connected = subst Connected (sym symbol_put) (connected-same t (with_told t own) (with_same t (take t.size own) (drop t.size own)) connected);
+  }
+
+  pub listed_after : AreListed more (bytes ++ own) (n + 1)
+  listed_after = record {
+    ascending = next.ascending;
+    begun = next.begun;
+    ended = λ some. omega (arith, degrees_on last n 1 begins, next.ended, told, same.size, length-append bytes own);
+    few = omega (arith, are.few, told, small.symbol.table.chambers, length-append bytes own);
+    places = λ k h. ⊎_elim
+        (λ (old : k < n). place_kept series more bytes own k (next.same k old) (next.some k old) (are.places k old))
+        (λ (new : n ≤ k). let e : n ≡ k = omega arith in subst (IsPlace more (bytes ++ own)) e place_put)
+        (cases_lt k n);
+  }
+
+  pub symbols_after : listed more (bytes ++ own) (n + 1) ≡ listed series bytes n ++ with_told t own ∷ []
+  symbols_after =
+      map-range_with_len_more (symbol_of more (bytes ++ own)) 0 n n (omega arith)
+      ∙ ap (λ ss. ss ++ symbol_of more (bytes ++ own) n ∷ [])
+      (same_made (symbol_of more (bytes ++ own)) (symbol_of series bytes) n (λ k h. symbol_kept series more bytes own k (next.same k h) (are.places k h)))
+      ∙ ap (λ s. listed series bytes n ++ s ∷ []) symbol_put
+
+-- ## The last symbol
+
+module _ (series : List Series) (bytes : List ℕ) (n : ℕ) (ss : List Symbol) (are : AreListed series bytes n)
+    (was : listed series bytes n ≡ ss) (some : 1 ≤ length ss) where
+  count : length ss ≡ n
+  count = count_of series bytes n ss was
+
+  last_is : (s : Symbol) → get_or ss (length ss - 1) s ≡ symbol_of series bytes (n - 1)
   last_is s =
-      ap (λ xs. get_or xs (length xs - 1) s) (sym was)
-      ∙ ap (λ n. get_or (listed tables bytes places) (n - 1) s) (length-map places (symbol_at tables bytes))
-      ∙ get_or-map (symbol_at tables bytes) places (length places - 1) p s low
-      ∙ ap (symbol_at tables bytes) (sym here)
+      ap (λ m. get_or ss (m - 1) s) count
+      ∙ ap (λ xs. get_or xs (n - 1) s) (sym was)
+      ∙ get_or-map-range_with_len (symbol_of series bytes) 0 n (n - 1) (n - 1) s (let e = count in omega (arith, some)) (omega arith)
 
-  pub last_symbol : symbol_at tables bytes p ≡ get_or ss (length ss - 1) (symbol_at tables bytes p)
-  last_symbol = sym (last_is (symbol_at tables bytes p))
+  pub last_symbol : symbol_of series bytes (n - 1) ≡ get_or ss (length ss - 1) (symbol_of series bytes (n - 1))
+  last_symbol = sym (last_is (symbol_of series bytes (n - 1)))
 
-  pub only_last : (s : Symbol) → s ≡ get_or ss (length ss - 1) s → symbol_at tables bytes p ≡ s
+  pub only_last : (s : Symbol) → s ≡ get_or ss (length ss - 1) s → symbol_of series bytes (n - 1) ≡ s
   only_last s e = sym (e ∙ last_is s)
 
-  pub has_table : IsTableOf (symbol_at tables bytes p) tables p.table
-  has_table =
-      let t = table_at tables p.table in
-      let s = symbol_at tables bytes p in
-      record { table = is_place.table; same = same-sym t s (with_same t s.m01 s.m12) }
+  is_place : IsPlace series bytes (n - 1)
+  is_place = are.places (n - 1) (let e = count in omega (arith, some))
 
-  pub is_connected : Connected (symbol_at tables bytes p)
+  pub is_connected : Connected (symbol_of series bytes (n - 1))
   is_connected = is_place.connected
+
+  -- it is in the last series, which has begun by it
+  all_begin_by : count_by (begins_by (n - 1)) series ≡ length series
+  all_begin_by = all_pass (begins_by (n - 1)) series (λ k d h. let low = are.begun k d h in le-leb (get_or series k d).first (n - 1) (omega arith))
+
+  pub is_next : IsNext (symbol_of series bytes (n - 1)) series series bytes n
+  is_next =
+      let one = series_of series (n - 1) in
+      let s = symbol_of series bytes (n - 1) in
+      let there = ap (λ m. series_at series (m - 1)) all_begin_by in
+      go_on s series bytes n are (record {
+        some = omega (arith, all_begin_by, is_place.some);
+        same = subst (λ it. HaveSameInvolutions s it.table) there (same-sym one.table s (with_same one.table s.m01 s.m12));
+      })

@@ -1,2 +1,3 @@
 pub mod CodePlaces
+mod Places
 mod Growth

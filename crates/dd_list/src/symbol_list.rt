@@ -1,30 +1,24 @@
-ghost use Rattle.std.specs.Prelude.{◌≡◌, ◌++◌, ◌∷◌, [], ◌-◌, ◌≤◌, length, take, drop, slice_index_or, IsTrue, IfOk, OnOk, OnErr};
+ghost use Rattle.std.specs.Prelude.{◌≡◌, ◌++◌, ◌∷◌, [], ◌-◌, ◌≤◌, length, take, drop, slice_index_or, IsTrue, OnOk, OnErr};
 ghost use Rattle.dd_model.specs.Symbol.{Symbol as Tiling};
 ghost use Rattle.dd_model.specs.Connected.{Connected as AllReached};
 ghost use Rattle.dd_model.specs.Small.{IsSmallSymbol};
-ghost use Rattle.dd_list.specs.Lists.{HasGrown, IsTableOf, place_of, with_told};
+ghost use Rattle.dd_list.specs.Lists.{HasBegun, IsLast, with_told};
 
+use crate::series::Series;
 use crate::symbols::Symbols;
 use dd_model::Memory;
 use dd_symbol::{Connected, Symbol};
 use std::alloc::Global;
 use std::marker::Model;
 
-/// Which table a symbol has, and where its degrees begin.
-#[derive(Clone, Copy, Drop)]
-pub(crate) struct Place {
-    pub(crate) table: usize,
-    pub(crate) degrees: usize,
-}
-
 /// Connected symbols in order, with degrees of at most 255. Of symbols that follow each other and have
 /// the same involutions one is kept, their table, and of each of them the degrees of its tiles and
-/// vertices, two bytes a chamber, and where they are, in sixteen bytes.
+/// vertices alone, two bytes a chamber.
 #[derive(Drop)]
 pub struct SymbolList {
-    pub(crate) tables: Vec<Connected>,
+    pub(crate) series: Vec<Series>,
     pub(crate) degrees: Vec<u8>,
-    pub(crate) places: Vec<Place>,
+    pub(crate) count: usize,
 }
 
 impl Model for SymbolList {
@@ -34,55 +28,44 @@ impl Model for SymbolList {
 
     ghost Value = { List Tiling };
 
-    ghost view = { λ a. listed a.tables.items a.degrees.items a.places.items };
+    ghost view = { λ a. listed a.series.items a.degrees.items a.count };
 
-    ghost invariant = { λ a. AreListed a.tables.items a.degrees.items a.places.items };
+    ghost invariant = { λ a. AreListed a.series.items a.degrees.items a.count };
 }
 
-/// Whether the last table has the involutions of a symbol.
-fn has_last(tables: &[Connected], symbol: &Symbol) -> bool
-    ensures { IsTrue result → IsTableOf symbol.now tables.now (length tables.now - 1) }
+/// Whether the last series has the involutions of a symbol.
+fn has_last(series: &[Series], symbol: &Symbol) -> bool
+    ensures { IsTrue result → IsLast symbol.now series.now }
 {
-    match tables.last() {
-        Some(last) => last.symbol().has_involutions_of(symbol),
+    match series.last() {
+        Some(last) => last.table.symbol().has_involutions_of(symbol),
         None => false,
     }
 }
 
-/// The number of a table: that of the last one where the involutions are the same, else a copy is
-/// appended.
-fn place_table(tables: &mut Vec<Connected>, table: &Connected) -> Result<usize, Memory>
-    ensures grown { HasGrown tables.old.items tables.new.items }
-    ensures table { IfOk result (IsTableOf table.now tables.new.items) }
+/// Begins a series where the last one has other involutions than a table: so many symbols are before
+/// it, and so many bytes of degrees.
+fn begin(
+    series: &mut Vec<Series>,
+    table: &Connected,
+    first: usize,
+    degrees: usize,
+) -> Result<(), Memory>
+    ensures begun { OnOk result
+        (HasBegun table.now first degrees series.old.items series.new.items) }
+    ensures same { OnErr result (series.new.items ≡ series.old.items) }
     ensures connected { AllReached table.now }
 {
-    if !has_last(tables, table.symbol()) {
-        let copy = table.try_copy(*tables.allocator())?;
-        tables.push(copy)?;
+    if has_last(series, table.symbol()) {
+        return Ok(());
     }
-    Ok(tables.len() - 1)
-}
-
-/// Appends the symbol whose table has a number and whose degrees these are. At `Err` there are degrees
-/// that no symbol has.
-fn append(
-    degrees: &mut Vec<u8>,
-    places: &mut Vec<Place>,
-    table: usize,
-    own: &[u8],
-) -> Result<(), Memory>
-    ensures grown { HasGrown degrees.old.items degrees.new.items }
-    ensures degrees { OnOk result (degrees.new.items ≡ degrees.old.items ++ own.now) }
-    ensures place { OnOk result (places.new.items
-        ≡ places.old.items ++ place_of table (length degrees.old.items) ∷ []) }
-    ensures same { OnErr result (places.new.items ≡ places.old.items) }
-{
-    let place = Place {
+    let table = table.try_copy(*series.allocator())?;
+    series.push(Series {
         table,
-        degrees: degrees.len(),
-    };
-    degrees.extend_from_slice(own)?;
-    Ok(places.push(place)?)
+        first,
+        degrees,
+    })?;
+    Ok(())
 }
 
 impl SymbolList {
@@ -91,22 +74,22 @@ impl SymbolList {
         ensures { result ≡ [] }
     {
         SymbolList {
-            tables: Vec::new(alloc),
+            series: Vec::new(alloc),
             degrees: Vec::new(alloc),
-            places: Vec::new(alloc),
+            count: 0,
         }
     }
 
     /// The allocator.
     pub fn allocator(&self) -> &Global {
-        self.places.allocator()
+        self.degrees.allocator()
     }
 
     /// How many symbols there are.
     pub fn len(&self) -> usize
         ensures { result ≡ length self.now }
     {
-        self.places.len()
+        self.count
     }
 
     /// Appends the symbol with the involutions of a table and these degrees, those of the tiles at the
@@ -118,8 +101,11 @@ impl SymbolList {
             (self.new ≡ self.old ++ with_told table.now degrees.now ∷ []) }
         ensures same { OnErr result (self.new ≡ self.old) }
     {
-        let number = place_table(&mut self.tables, table)?;
-        append(&mut self.degrees, &mut self.places, number, degrees)
+        self.degrees.reserve(degrees.len())?;
+        begin(&mut self.series, table, self.count, self.degrees.len())?;
+        self.degrees.extend_from_slice(degrees)?;
+        self.count += 1;
+        Ok(())
     }
 
     /// Appends the symbol with the involutions of the last one and these degrees, as `push` has them. It
@@ -133,8 +119,9 @@ impl SymbolList {
             → self.new ≡ self.old ++ with_told s degrees.now ∷ []) }
         ensures same { OnErr result (self.new ≡ self.old) }
     {
-        let last = self.places[self.places.len() - 1];
-        append(&mut self.degrees, &mut self.places, last.table, degrees)
+        self.degrees.extend_from_slice(degrees)?;
+        self.count += 1;
+        Ok(())
     }
 
     /// All symbols.

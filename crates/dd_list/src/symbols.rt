@@ -1,12 +1,10 @@
 ghost use Rattle.std.specs.Prelude.{◌≡◌, ◌↔◌, ◌<◌, ◌≤◌, length, take, drop, slice_index_or, IsTrue, IfOk};
 ghost use Rattle.dd_model.specs.Symbol.{Symbol as Tiling};
-ghost use Rattle.dd_model.specs.Small.{IsSmallSymbol};
-ghost use Rattle.dd_model.specs.Connected.{Connected as AllReached};
-ghost use Rattle.dd_model.specs.Involutions.{HaveSameInvolutions};
 ghost use Rattle.dd_model.specs.Position.{IsBefore};
-ghost use Rattle.dd_symbol.specs.Images.{with_degrees};
 
+use crate::alike::Alike;
 use crate::listed::Listed;
+use crate::series::{end_before, next_after};
 use crate::symbol_list::SymbolList;
 use dd_model::{Memory, Position};
 use dd_symbol::Connected;
@@ -53,27 +51,20 @@ impl<'a> Symbols<'a> {
         )
     }
 
-    /// The table and the degrees of the symbol at a place, counted from 0.
-    pub fn get(&self, place: usize) -> Listed<'a>
+    /// The symbols from a place on, counted from 0, for which the list has one table.
+    pub fn alike_from(&self, place: usize) -> Alike<'a>
         requires { place < length self.now }
-        ensures symbol { with_degrees result.table.now result.m01.now result.m12.now
-            ≡ slice_index_or self.now place (with_degrees result.table.now result.m01.now
-            result.m12.now) }
-        ensures small { IsSmallSymbol (with_degrees result.table.now result.m01.now
-            result.m12.now) }
-        ensures connected { AllReached (with_degrees result.table.now result.m01.now
-            result.m12.now) }
+        ensures some { 1 ≤ length result }
+        ensures symbols { result ≡ take (length result) (drop place self.now) }
     {
         let list = self.list;
-        let at = list.places[self.start + place];
-        let table = &list.tables[at.table];
-        let size = table.symbol().size() as usize;
-        let degrees = &list.degrees[at.degrees..];
-        let (m01, later) = degrees.split_at(size);
-        Listed {
-            table,
-            m01,
-            m12: &later[..size],
+        let first = self.start + place;
+        let next = next_after(&list.series, first);
+        let series = &list.series[next - 1];
+        Alike {
+            table: &series.table,
+            degrees: series.degrees_from(&list.degrees, first),
+            count: end_before(&list.series, next, self.end) - first,
         }
     }
 
@@ -82,20 +73,8 @@ impl<'a> Symbols<'a> {
         requires { place < length self.now }
         ensures { IfOk result (λ symbol. symbol ≡ slice_index_or self.now place symbol) }
     {
-        let Listed { table, m01, m12 } = self.get(place);
+        let Listed { table, m01, m12 } = self.alike_from(place).get(0);
         table.with_known_degrees(alloc, m01, m12)
-    }
-
-    /// Whether the symbols at two places have one table, and so the same involutions.
-    pub fn have_one_table(&self, place: usize, other: usize) -> bool
-        requires place { place < length self.now }
-        requires other { other < length self.now }
-        ensures { (s t : Tiling) → s ≡ slice_index_or self.now place s
-            → t ≡ slice_index_or self.now other t → IsTrue result → HaveSameInvolutions s t }
-    {
-        let list = self.list;
-        let places = &list.places;
-        places[self.start + place].table == places[self.start + other].table
     }
 
     /// Whether the symbol at a place is before a position.
@@ -107,7 +86,7 @@ impl<'a> Symbols<'a> {
         let Position::At(first) = at else {
             return true;
         };
-        let symbol = self.get(place);
+        let symbol = self.alike_from(place).get(0);
         let size = symbol.table.symbol().size();
         size < first.size
             || size == first.size && symbol.is_smaller_where_they_differ(first.prefix.as_slice())

@@ -1,6 +1,4 @@
-ghost use Rattle.std.specs.Prelude.{◌≡◌, ◌-◌, ◌<◌, ◌≤◌, ℕ, length, slice_index_or, OnOk, OnErr};
-ghost use Rattle.dd_model.specs.Symbol.{Symbol};
-ghost use Rattle.dd_text.specs.Outline.{HasNumber, IsOutlineOf};
+ghost use Rattle.std.specs.Prelude.{◌≡◌, OnOk, OnErr};
 ghost use Rattle.dd_text.specs.Writing.{AddsLines, IsLonger};
 
 use crate::outline::Outline;
@@ -21,6 +19,7 @@ pub fn put_list(out: &mut Vec<u8>, before: u64, symbols: &Symbols<'_>) -> Result
     written
 }
 
+/// The outline of a line is made anew only where the next symbols of the list have another table.
 fn append_list(out: &mut Vec<u8>, before: u64, symbols: &Symbols<'_>) -> Result<(), Memory>
     ensures lines { OnOk result (AddsLines before symbols.now out.old.items out.new.items) }
     ensures longer { IsLonger out.old.items out.new.items }
@@ -29,27 +28,15 @@ fn append_list(out: &mut Vec<u8>, before: u64, symbols: &Symbols<'_>) -> Result<
         return Ok(());
     }
     let mut outline = Outline::new(*out.allocator(), u128::from(before))?;
-    for place in 0..symbols.len() {
-        outline_at(&mut outline, symbols, place)?;
-        let listed = symbols.get(place);
-        outline.advance()?;
-        outline.put_listed(out, &listed)?;
+    let mut place = 0;
+    while place < symbols.len() {
+        let alike = symbols.alike_from(place);
+        outline.make(alike.table().symbol())?;
+        for k in 0..alike.len() {
+            outline.advance()?;
+            outline.put_listed(out, &alike.get(k))?;
+        }
+        place += alike.len();
     }
     Ok(())
-}
-
-/// Goes on to the symbol at a place: the outline is made anew only where the one before has another
-/// table.
-#[inline(always)]
-fn outline_at(outline: &mut Outline, symbols: &Symbols<'_>, place: usize) -> Result<(), Memory>
-    requires { place < length symbols.now }
-    ensures { OnOk result ((k : ℕ) (s : Symbol) → HasNumber k outline.old
-        → ((t : Symbol) → 1 ≤ place → t ≡ slice_index_or symbols.now (place - 1) t
-        → IsOutlineOf k t outline.old)
-        → s ≡ slice_index_or symbols.now place s → IsOutlineOf k s outline.new) }
-{
-    if place > 0 && symbols.have_one_table(place - 1, place) {
-        return Ok(());
-    }
-    outline.make(symbols.get(place).table.symbol())
 }

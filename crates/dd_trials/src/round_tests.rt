@@ -40,8 +40,8 @@ fn rounds_of<R: Threads + Wait + Sync + Abort>(
     Ok(gate.rounds.load(Ordering::SeqCst))
 }
 
-// Two workers that keep no checkpoint pass over the jobs under which nothing is, which are most of them; one worker, and
-// workers that keep one, count each job.
+// Two workers that keep no checkpoint pass over the jobs under which nothing is, which are most of them; workers that keep
+// one count each job, and one worker does fewer of them at a time.
 #[test]
 fn rounds_of_several_workers_are_long(rt: HostRuntime) -> Result<(), Fail> {
     let alloc = rt.alloc();
@@ -59,7 +59,7 @@ fn rounds_of_several_workers_are_long(rt: HostRuntime) -> Result<(), Fail> {
         "c",
     ];
     let kept = rounds_of(&rt, alloc, &kept)?;
-    assert!(rt; 1 < free && free < alone / 2, "{free} of {alone}");
-    assert_eq!(rt; kept, alone);
+    assert!(rt; 1 < free && free < kept / 2, "{free} of {kept}");
+    assert!(rt; kept < alone / 2, "{kept} of {alone}");
     Ok(())
 }

@@ -1,60 +1,89 @@
-use Rattle.std.proofs.Common.{◌≡◌, ◌+◌, ◌-◌, ◌<◌, ◌^◌, get_or, subst, refl, ap, ◌∙◌, arith}
+use Rattle.std.proofs.Common.{◌≡◌, ◌+◌, ◌<◌, ◌^◌, take, drop, length, get_or, subst, sym, refl, ap, ◌∙◌, arith}
+use Rattle.std.proofs.lemmas.List.{get_or-take, get_or-drop, length-take, length-drop}
+use Rattle.dd_model.specs.Involutions.{HaveSameInvolutions}
 use Rattle.dd_symbol.specs.Images.{with_degrees}
-use Rattle.dd_text.specs.Outline.{IsOutlineOf, shared_by}
-use Rattle.dd_text.proofs.LineTexts.{number_within}
+use Rattle.dd_text.specs.Outline.{HasNumber, IsOutlineOf, shared_by}
+use Rattle.dd_text.specs.Writing.{AddsLines}
+use Rattle.dd_text.proofs.LineTexts.{number_within, outline_same}
 use Rattle.dd_text.proofs.LinesAdded.{one_line_more}
 use Rattle.dd_text.proofs.list_lines.append_list.Goals as goal
 
+pub loop-k-init : goal.loop-k-init
+loop-k-init c =
+    let place = c.loop-place.place in
+    let n = c.args.before + place in
+    let t = c.symbol.result.now in
+    let i = c.loop-place.invariant in
+    let o = c.make.new.self in
+    let made = c.in_ok-make.ensures n i.number in
+    let start : place ≡ place + 0 = omega arith in
+    let same : n ≡ c.args.before + (place + 0) = omega arith in
+    record {
+      lines = subst (λ j. AddsLines c.args.before (take j c.args.symbols.now) c.args.out.now.items c.loop-place.out.items) start i.lines;
+      number = subst (λ m. HasNumber m o) same (record { rest = shared_by t; numbered = made.numbered });
+      outline = λ j s low here.
+          let alike = c.table.ensures j s low in
+          let is = subst (λ u. HaveSameInvolutions u s) (sym c.symbol.ensures.same) (subst (HaveSameInvolutions c.table.result.now) (sym here) alike) in
+          subst (λ m. IsOutlineOf m s o) same (outline_same n t s o is made);
+    }
+
 pub advance-requires-clause-some : goal.advance-requires-clause-some
 advance-requires-clause-some c =
-    let l = c.get-listed.result in
-    let i = c.loop-place.invariant in
-    let at = c.in_ok-outline_at.ensures (c.args.before + c.loop-place.place) (with_degrees l.table.now l.m01.now l.m12.now) i.number i.outline c.get-listed.ensures.symbol in
-    let end = at.numbered.end_is in
+    let end = c.loop-k.invariant.number.numbered.end_is in
     omega arith
 
 pub advance-requires-clause-within : goal.advance-requires-clause-within
 advance-requires-clause-within c =
-    let l = c.get-listed.result in
-    let s = with_degrees l.table.now l.m01.now l.m12.now in
-    let k = c.args.before + c.loop-place.place in
-    let i = c.loop-place.invariant in
-    let o = c.outline_at.new.outline in
-    number_within k (shared_by s) o.head.items o.number_end (c.in_ok-outline_at.ensures k s i.number i.outline c.get-listed.ensures.symbol).numbered
+    let o = c.loop-k.outline in
+    let is = c.loop-k.invariant.number in
+    number_within (c.args.before + (c.loop-place.place + c.loop-k.k)) is.rest o.head.items o.number_end is.numbered
 
 pub put_listed-requires-clause-cells : goal.put_listed-requires-clause-cells
 put_listed-requires-clause-cells c =
-    let l = c.get-listed.result in
-    let s = with_degrees l.table.now l.m01.now l.m12.now in
-    let k = c.args.before + c.loop-place.place in
-    let i = c.loop-place.invariant in
-    let before = c.ranges.before.fits in
-    let place = c.loop-place.auto.place-end in
-    let small : k + 1 < 10 ^ 64 = omega arith in
-    (c.in_ok-advance.ensures k s small (c.in_ok-outline_at.ensures k s i.number i.outline c.get-listed.ensures.symbol)).cells
-
-pub loop-place-preserved : goal.loop-place-preserved
-loop-place-preserved c =
-    let ss = c.args.symbols.now in
     let place = c.loop-place.place in
-    let l = c.get-listed.result in
-    let t = with_degrees l.table.now l.m01.now l.m12.now in
-    let k = c.args.before + place in
-    let i = c.loop-place.invariant in
-    let before = c.ranges.before.fits in
-    let last = c.loop-place.auto.place-end in
-    let small : k + 1 < 10 ^ 64 = omega arith in
-    let next : k + 1 ≡ c.args.before + (place + 1) = omega arith in
-    let back : place + 1 - 1 ≡ place = omega arith in
-    let advanced = c.in_ok-advance.ensures k t small (c.in_ok-outline_at.ensures k t i.number i.outline c.get-listed.ensures.symbol) in
-    let put = subst (λ n. IsOutlineOf n t c.put_listed.new.self) next (c.in_ok-put_listed.ensures.outline (k + 1) t advanced) in
+    let k = c.loop-k.k in
+    let l = c.get.result in
+    let s = with_degrees l.table.now l.m01.now l.m12.now in
+    let n = c.args.before + (place + k) in
+    let first = c.ranges.before.fits in
+    let from = c.loop-place.auto.place-fits.fits in
+    let fits = c.len-k-end.type_inv in
+    let low = c.loop-k-test.true in
+    let small : n + 1 < 10 ^ 64 = omega arith in
+    let alike = c.alike_from-alike.result in
+    let there : k < length alike = let count = c.len-k-end.ensures in omega arith in
+    (c.in_ok-advance.ensures n s small (c.loop-k.invariant.outline k s there c.get.ensures.symbol)).cells
+
+pub loop-k-preserved : goal.loop-k-preserved
+loop-k-preserved c =
+    let place = c.loop-place.place in
+    let k = c.loop-k.k in
+    let l = c.get.result in
+    let s = with_degrees l.table.now l.m01.now l.m12.now in
+    let n = c.args.before + (place + k) in
+    let first = c.ranges.before.fits in
+    let from = c.loop-place.auto.place-fits.fits in
+    let fits = c.len-k-end.type_inv in
+    let low = c.loop-k-test.true in
+    let small : n + 1 < 10 ^ 64 = omega arith in
+    let alike = c.alike_from-alike.result in
+    let there : k < length alike = let count = c.len-k-end.ensures in omega arith in
+    let ss = c.args.symbols.now in
+    let i = c.loop-k.invariant in
+    let on : n + 1 ≡ c.args.before + (place + (k + 1)) = omega arith in
+    let next : place + k + 1 ≡ place + (k + 1) = omega arith in
+    let advanced = c.in_ok-advance.ensures n s small (i.outline k s there c.get.ensures.symbol) in
+    let put = subst (λ m. IsOutlineOf m s c.put_listed.new.self) on (c.in_ok-put_listed.ensures.outline (n + 1) s advanced) in
+    let read : s ≡ get_or ss (place + k) s =
+    c.get.ensures.symbol ∙ ap (λ xs. get_or xs k s) c.alike_from-alike.ensures.symbols
+    ∙ get_or-take (length alike) (drop place ss) k s there ∙ get_or-drop place ss k s in
+    let within : place + k < length ss =
+    omega (arith, there, ap length c.alike_from-alike.ensures.symbols, length-take (length alike) (drop place ss), length-drop place ss) in
     record {
-      lines = one_line_more c.args.before k place ss t c.args.out.now.items c.loop-place.out.items c.put_listed.new.out.items
-          (let size = c.len-place-end.ensures in let test = c.loop-place-test.true in omega arith) c.get-listed.ensures.symbol refl i.lines
-          (c.in_ok-put_listed.ensures.line (k + 1) advanced);
-      number = record { rest = shared_by t; numbered = put.numbered };
-      outline = λ s one here.
-          let there = here ∙ ap (λ j. get_or ss j s) back in
-          subst (λ n. IsOutlineOf n s c.put_listed.new.self) next
-          (c.in_ok-put_listed.ensures.outline (k + 1) s (c.in_ok-advance.ensures k s small (c.in_ok-outline_at.ensures k s i.number i.outline there)));
+      lines = subst (λ j. AddsLines c.args.before (take j ss) c.args.out.now.items c.put_listed.new.out.items) next
+          (one_line_more c.args.before n (place + k) ss s c.args.out.now.items c.loop-k.out.items c.put_listed.new.out.items within read refl i.lines
+          (c.in_ok-put_listed.ensures.line (n + 1) advanced));
+      number = record { rest = shared_by s; numbered = put.numbered };
+      outline = λ j t h here. subst (λ m. IsOutlineOf m t c.put_listed.new.self) on
+          (c.in_ok-put_listed.ensures.outline (n + 1) t (c.in_ok-advance.ensures n t small (i.outline j t h here)));
     }
