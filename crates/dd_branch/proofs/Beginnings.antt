@@ -22,7 +22,7 @@ use Rattle.dd_invol.proofs.Prefixes.{appends_none}
 use Rattle.dd_invol.proofs.TiedTables.{table_of_least}
 use Rattle.dd_model.proofs.SameInvolutions.{same-sym}
 use Rattle.dd_invol.proofs.TableFronts.{front_begins, begins_with_take}
-use Rattle.dd_branch.specs.Automorphism.{AreAutomorphisms}
+use Rattle.dd_ties.specs.Automorphism.{AreAutomorphisms}
 use Rattle.dd_branch.specs.Assignment.{HasLimits, IsAssignment, IsAtRoot, IsMemberUnder, prefix_of, told}
 use Rattle.dd_branch.specs.Budget.{no_place}
 use Rattle.dd_branch.specs.Members.{AreMembersWith}

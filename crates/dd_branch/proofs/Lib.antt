@@ -8,7 +8,6 @@ pub mod Leaves
 pub mod RestSums
 pub mod Advancing
 pub mod Finishing
-pub mod TurnedDegrees
 pub mod PlacesInCell
 pub mod PlaceTurns
 pub mod PlaceCells

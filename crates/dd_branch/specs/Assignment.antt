@@ -11,7 +11,7 @@ use Rattle.dd_invol.specs.Table.{IsBareTable}
 use Rattle.dd_invol.specs.Under.{IsUnder}
 use Rattle.dd_branch.specs.Budget.{no_place, spent}
 use Rattle.dd_branch.specs.Choice.{IsChoice}
-use Rattle.dd_branch.specs.Automorphism.{AreAutomorphisms}
+use Rattle.dd_ties.specs.Automorphism.{AreAutomorphisms}
 use Rattle.dd_branch.specs.Place.{ArePlaces}
 use Rattle.dd_branch.specs.Rests.{AreRests}
 use Rattle.dd_branch.specs.declared.places.Place.{Place}

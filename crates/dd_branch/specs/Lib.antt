@@ -2,7 +2,6 @@ pub mod Choice
 pub mod Place
 pub mod Budget
 pub mod Rests
-pub mod Automorphism
 pub mod Assignment
 pub mod Entered
 pub mod Members

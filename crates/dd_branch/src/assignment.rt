@@ -12,17 +12,17 @@ ghost use Rattle.dd_invol.specs.Under.{next_number, AreUnder, Appends};
 ghost use Rattle.dd_branch.specs.Choice.{IsChoice};
 ghost use Rattle.dd_branch.specs.Assignment.{HasLast, HasLimits, IsAssignment, IsAtRoot, IsMemberUnder, next_place, prefix_of, spent_by, told};
 ghost use Rattle.dd_branch.specs.Place.{ArePlaces};
-ghost use Rattle.dd_branch.specs.Automorphism.{AreAutomorphisms};
+ghost use Rattle.dd_ties.specs.Automorphism.{AreAutomorphisms};
 ghost use Rattle.dd_branch.specs.Entered.{AreFitting, HasBudget, HasEntered, HasForced, HasTold};
 
 use crate::minimality::is_minimal;
 use crate::places::Place;
 use crate::rests::Rests;
-use crate::ties::Ties;
 use arrayvec::ArrayVec;
 use dd_list::SymbolList;
 use dd_model::{Memory, Request};
 use dd_symbol::Connected;
+use dd_ties::Ties;
 use std::alloc::Global;
 
 /// A search for the degrees of a table: those of the first places are told. A degree is told at the

@@ -6,10 +6,10 @@ use crate::assignment::Assignment;
 use crate::limits::has_limits;
 use crate::members::degrees;
 use crate::places::all_places;
-use crate::ties::Ties;
 use dd_canon::tied_starts;
 use dd_invol::{Table, opening, tables_under};
 use dd_model::{Allowed, Job, Request};
+use dd_ties::Ties;
 use std::alloc::Global;
 use std::test::Fail;
 

@@ -2,7 +2,6 @@
 #![tactic(auto)]
 
 mod assignment;
-mod automorphisms;
 mod descent;
 mod laws;
 mod level;
@@ -13,7 +12,6 @@ mod minimality;
 mod places;
 mod rests;
 mod search;
-mod ties;
 
 pub use descent::Descent;
 pub use laws::{flat_symbols_have_small_shares, lists_under_an_opening_are_the_catalogue};

@@ -9,13 +9,13 @@ ghost use Rattle.dd_branch.specs.Place.{ArePlaces};
 use crate::assignment::Assignment;
 use crate::limits::has_limits;
 use crate::places::{Place, all_places, turns_of};
-use crate::ties::Ties;
 use arrayvec::ArrayVec;
 use dd_canon::tied_starts;
 use dd_invol::Table;
 use dd_list::SymbolList;
 use dd_model::{Memory, Request};
 use dd_symbol::Involutions;
+use dd_ties::Ties;
 use std::alloc::Global;
 
 /// The table with these involutions, which are known to be those of one, and what it tells of its

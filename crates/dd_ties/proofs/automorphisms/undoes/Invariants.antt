@@ -1,6 +1,6 @@
 use Rattle.std.proofs.Common.{◌≡◌, ℕ, ◌≤◌, length}
 use Rattle.dd_model.specs.Symbol.{item}
-use Rattle.dd_branch.proofs.automorphisms.undoes.Given as goal
+use Rattle.dd_ties.proofs.automorphisms.undoes.Given as goal
 
 abbrev pub invariant-loop-k : goal.invariant-loop-k
 invariant-loop-k l = record {

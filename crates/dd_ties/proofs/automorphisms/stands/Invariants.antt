@@ -1,8 +1,8 @@
 use Rattle.std.proofs.Common.{◌≡◌, drop}
 use Rattle.std.specs.Ordering.{nat_cmp}
 use Rattle.std.specs.Cmp.Lexicographic.{slice_cmp}
-use Rattle.dd_branch.specs.Automorphism.{along_list}
-use Rattle.dd_branch.proofs.automorphisms.stands.Given as goal
+use Rattle.dd_ties.specs.Automorphism.{along_list}
+use Rattle.dd_ties.proofs.automorphisms.stands.Given as goal
 
 abbrev pub invariant-loop-k : goal.invariant-loop-k
 invariant-loop-k l = record {

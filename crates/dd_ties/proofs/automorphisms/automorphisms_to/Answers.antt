@@ -1,7 +1,7 @@
 use Rattle.std.proofs.Common.{◌+◌, get_or, ap, length, ◌∙◌}
 use Rattle.std.proofs.lemmas.List.{get_or_default, length_push}
-use Rattle.dd_branch.proofs.TurnedDegrees.{automorphisms_more}
-use Rattle.dd_branch.proofs.automorphisms.automorphisms_to.Goals as goal
+use Rattle.dd_ties.proofs.TurnedDegrees.{automorphisms_more}
+use Rattle.dd_ties.proofs.automorphisms.automorphisms_to.Goals as goal
 
 pub to-requires-clause-start : goal.to-requires-clause-start
 to-requires-clause-start c =

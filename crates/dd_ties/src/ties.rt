@@ -6,7 +6,7 @@ ghost use Rattle.dd_model.specs.Small.{IsSmallSymbol};
 ghost use Rattle.dd_model.specs.Symbol.{IsChamber};
 ghost use Rattle.dd_symbol.specs.Images.{with_degrees};
 ghost use Rattle.dd_canon.specs.Ties.{IsLeastFrom};
-ghost use Rattle.dd_branch.specs.Automorphism.{AreAutomorphisms};
+ghost use Rattle.dd_ties.specs.Automorphism.{AreAutomorphisms};
 
 use crate::automorphisms::{Automorphism, automorphisms_to, none_is_smaller};
 use dd_canon::is_least_from_ties;
@@ -16,16 +16,16 @@ use std::alloc::Global;
 
 /// What is known of the chambers from which a table may be numbered as it stands.
 #[derive(Drop)]
-pub(crate) struct Ties {
+pub struct Ties {
     /// These chambers, without chamber 1.
-    pub(crate) starts: Vec<u32>,
+    pub starts: Vec<u32>,
     /// The automorphisms that send chamber 1 to each of them, if there is one to each.
-    pub(crate) automorphisms: Option<Vec<Automorphism>>,
+    pub automorphisms: Option<Vec<Automorphism>>,
 }
 
 impl Ties {
     /// Those of a table with these starts.
-    pub(crate) fn of(alloc: Global, s: &Symbol, starts: Vec<u32>) -> Result<Ties, Memory>
+    pub fn of(alloc: Global, s: &Symbol, starts: Vec<u32>) -> Result<Ties, Memory>
         requires small { s.now.size ≤ 36 }
         requires starts { (d : ℕ) → Contains starts.items d → IsChamber s.now d }
         ensures starts { IfOk result (λ ties. ties.starts ≡ starts) }
@@ -41,7 +41,7 @@ impl Ties {
 
     /// Whether no numbering of a table with some degrees from a start is smaller. Where the automorphisms are
     /// known the degrees alone decide, and no symbol is made.
-    pub(crate) fn are_least(
+    pub fn are_least(
         &self,
         alloc: Global,
         table: &Connected,

@@ -1,5 +1,5 @@
 use Rattle.std.proofs.Common.{◌≡◌, length}
-use Rattle.dd_branch.proofs.automorphisms.first_of.Given as goal
+use Rattle.dd_ties.proofs.automorphisms.first_of.Given as goal
 
 abbrev pub invariant-loop-k : goal.invariant-loop-k
 invariant-loop-k l = record {

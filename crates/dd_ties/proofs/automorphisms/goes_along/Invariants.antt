@@ -1,7 +1,7 @@
 use Rattle.std.proofs.Common.{◌≡◌, ℕ, ◌≤◌}
 use Rattle.dd_model.specs.Symbol.{item, op}
 use Rattle.dd_model.specs.declared.index.Index.{Index}
-use Rattle.dd_branch.proofs.automorphisms.goes_along.Given as goal
+use Rattle.dd_ties.proofs.automorphisms.goes_along.Given as goal
 
 abbrev pub invariant-loop-k : goal.invariant-loop-k
 invariant-loop-k l = record {

@@ -1,7 +1,7 @@
 use Rattle.std.proofs.Common.{◌≡◌, ℕ, ◌<◌, length, get_or}
-use Rattle.dd_branch.specs.Automorphism.{IsAutomorphism}
-use Rattle.dd_branch.specs.declared.automorphisms.Automorphism.{Automorphism}
-use Rattle.dd_branch.proofs.automorphisms.automorphisms_to.Given as goal
+use Rattle.dd_ties.specs.Automorphism.{IsAutomorphism}
+use Rattle.dd_ties.specs.declared.automorphisms.Automorphism.{Automorphism}
+use Rattle.dd_ties.proofs.automorphisms.automorphisms_to.Given as goal
 
 abbrev pub invariant-loop-k : goal.invariant-loop-k
 invariant-loop-k l = record {

@@ -2,10 +2,10 @@ use Rattle.std.proofs.Common.{◌+◌, drop, sym, ap, ◌∙◌, arith}
 use Rattle.std.specs.Ordering.{nat_cmp, ordering_then}
 use Rattle.std.specs.Cmp.Lexicographic.{slice_cmp}
 use Rattle.dd_model.proofs.Orders.{then_first}
-use Rattle.dd_branch.specs.Automorphism.{along_list}
+use Rattle.dd_ties.specs.Automorphism.{along_list}
 use Rattle.dd_canon.proofs.OrderLemmas.{then_second}
-use Rattle.dd_branch.proofs.TurnedDegrees.{stand_step, there_at}
-use Rattle.dd_branch.proofs.automorphisms.stands.Goals as goal
+use Rattle.dd_ties.proofs.TurnedDegrees.{stand_step, there_at}
+use Rattle.dd_ties.proofs.automorphisms.stands.Goals as goal
 
 pub overflow_sub-list : goal.overflow_sub-list
 overflow_sub-list c = (there_at c.args.own.now c.args.list.now c.loop-k.k c.requires.each c.loop-k-test.true).0

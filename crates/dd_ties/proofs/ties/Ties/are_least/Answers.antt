@@ -5,9 +5,9 @@ use Rattle.dd_model.proofs.SameInvolutions.{connected-same}
 use Rattle.dd_canon.specs.Ties.{IsLeastFrom}
 use Rattle.dd_symbol.specs.Images.{with_degrees}
 use Rattle.dd_symbol.proofs.TableLemmas.{with_same}
-use Rattle.dd_branch.specs.Automorphism.{AreAutomorphisms}
-use Rattle.dd_branch.proofs.TurnedDegrees.{least_by_automorphisms, automorphisms_with, visit_with, within_automorphism}
-use Rattle.dd_branch.proofs.ties.Ties.are_least.Goals as goal
+use Rattle.dd_ties.specs.Automorphism.{AreAutomorphisms}
+use Rattle.dd_ties.proofs.TurnedDegrees.{least_by_automorphisms, automorphisms_with, visit_with, within_automorphism}
+use Rattle.dd_ties.proofs.ties.Ties.are_least.Goals as goal
 
 pub none_is_smaller-requires-clause-tiles : goal.none_is_smaller-requires-clause-tiles
 none_is_smaller-requires-clause-tiles c j x low =

@@ -1,7 +1,7 @@
 use Rattle.std.proofs.Common.{ℕ, ◌<◌, get_or}
-use Rattle.dd_branch.specs.Automorphism.{IsBehind}
-use Rattle.dd_branch.specs.declared.automorphisms.Automorphism.{Automorphism}
-use Rattle.dd_branch.proofs.automorphisms.none_is_smaller.Given as goal
+use Rattle.dd_ties.specs.Automorphism.{IsBehind}
+use Rattle.dd_ties.specs.declared.automorphisms.Automorphism.{Automorphism}
+use Rattle.dd_ties.proofs.automorphisms.none_is_smaller.Given as goal
 
 abbrev pub invariant-loop-k : goal.invariant-loop-k
 invariant-loop-k l = record {

@@ -26,8 +26,8 @@ use Rattle.std.specs.Global.{Global}
 use Rattle.std.specs.declared.option.Option.{Option}
 use Rattle.std.specs.declared.option.Option.TheVariants.{None, Some}
 use Rattle.dd_canon.specs.Ties.{IsLeastFrom}
-use Rattle.dd_branch.specs.Automorphism.{AreAutomorphisms, IsBehind, IsAutomorphism, IsWithin, along_list}
-use Rattle.dd_branch.specs.declared.automorphisms.Automorphism.{Automorphism}
+use Rattle.dd_ties.specs.Automorphism.{AreAutomorphisms, IsBehind, IsAutomorphism, IsWithin, along_list}
+use Rattle.dd_ties.specs.declared.automorphisms.Automorphism.{Automorphism}
 
 -- the symbol with the degrees of the chambers to which its own are turned
 abbrev pub turned : Symbol → List ℕ → Symbol

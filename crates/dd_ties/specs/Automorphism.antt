@@ -6,7 +6,7 @@ use Rattle.std.specs.declared.cmp.Ordering.TheVariants.{Greater}
 use Rattle.dd_model.specs.declared.index.Index.{Index}
 use Rattle.dd_model.specs.Isomorphic.{IsBijection}
 use Rattle.dd_model.specs.Symbol.{Symbol, IsChamber, item, op}
-use Rattle.dd_branch.specs.declared.automorphisms.Automorphism.{Automorphism}
+use Rattle.dd_ties.specs.declared.automorphisms.Automorphism.{Automorphism}
 
 -- a list that goes along with the involutions, sends chamber 1 to d, and can be undone
 pub record IsAutomorphism (s : Symbol) (d : ℕ) (f : List ℕ) : Type 0 where

@@ -5,8 +5,8 @@ ghost use Rattle.std.specs.Cmp.Lexicographic.{slice_cmp};
 ghost use Rattle.dd_model.specs.Isomorphic.{Undoes};
 ghost use Rattle.dd_model.specs.Symbol.{IsChamber, item, op};
 ghost use Rattle.dd_model.specs.declared.index.Index.{Index as Involution};
-ghost use Rattle.dd_branch.specs.Automorphism.{AreAutomorphisms, IsBehind, IsAutomorphism, IsWithin, along_list};
-ghost use Rattle.dd_branch.specs.declared.automorphisms.Automorphism.{Automorphism as Turned};
+ghost use Rattle.dd_ties.specs.Automorphism.{AreAutomorphisms, IsBehind, IsAutomorphism, IsWithin, along_list};
+ghost use Rattle.dd_ties.specs.declared.automorphisms.Automorphism.{Automorphism as Turned};
 
 use arrayvec::ArrayVec;
 use dd_model::{Index, Memory};
@@ -16,8 +16,8 @@ use std::cmp::Ordering;
 
 /// Where each chamber of a table goes if chamber 1 goes to another one, and neighbors to neighbors.
 #[derive(Drop)]
-pub(crate) struct Automorphism {
-    pub(crate) chambers: ArrayVec<u8, 36>,
+pub struct Automorphism {
+    pub chambers: ArrayVec<u8, 36>,
 }
 
 /// The first numbers of some.
