@@ -26,7 +26,7 @@ fn room_for(members: &Members) -> usize {
     if symbols.len() == 0 {
         return 0;
     }
-    let line = 6 * symbols.get(0).table.symbol().size() as usize + 24;
+    let line = 6 * symbols.alike_from(0).table().symbol().size() as usize + 24;
     members.len().saturating_mul(line)
 }
 
