@@ -46,7 +46,7 @@ impl Descent {
     ghost use Rattle.dd_branch.specs.Descent.{IsDescent, HasDescended, shorter, with_paths};
     ghost use Rattle.dd_ends.specs.declared.sides.Sides.{Sides};
 
-    /// The search from the empty prefix, with the shares that the request allows.
+    /// The search from the empty prefix, with the shares that the request allows to tables of the size.
     pub fn new(
         alloc: Global,
         request: &Request,
@@ -61,12 +61,13 @@ impl Descent {
         ensures size { IfOk result (λ descent. size_of descent.stem ≡ size) }
         ensures empty { IfOk result (λ descent. prefix_of descent.stem ≡ []) }
     {
-        let levels = Levels::new(alloc, &Sides::start(classes, size))?;
+        let classes = classes.for_size(size);
+        let levels = Levels::new(alloc, &Sides::start(&classes))?;
         Ok(Descent {
             alloc,
             request: *request,
             stem: Stem::new(size),
-            classes: *classes,
+            classes,
             levels,
             starts: Starts::new(size),
         })

@@ -14,7 +14,7 @@ use dd_model::{Job, Memory, Request};
 use std::alloc::Global;
 
 /// The search for the members of the catalogue of a request, job by job, with the shares that the
-/// request allows.
+/// request allows, from which each job makes those for tables of its size.
 #[derive(Drop)]
 pub struct Search {
     request: Request,
@@ -29,7 +29,7 @@ impl Search {
     {
         Search {
             request: *request,
-            classes: PathShares::of(request),
+            classes: PathShares::of(request, 0),
         }
     }
 

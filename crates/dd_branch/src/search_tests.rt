@@ -126,7 +126,7 @@ fn nodes_of(alloc: Global, size: u8) -> Result<u64, Fail> {
     if !request.is_valid() || size == 0 || size > 36 {
         return Ok(0);
     }
-    let classes = PathShares::of(&request);
+    let classes = PathShares::of(&request, size);
     let mut descent = Descent::new(alloc, &request, &classes, size)?;
     Ok(count_nodes(&mut descent))
 }

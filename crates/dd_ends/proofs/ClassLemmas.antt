@@ -1,21 +1,36 @@
 -- The classes of paths that were joined or capped.
-use Rattle.std.proofs.Common.{◌≡◌, ◌≢◌, ℕ, ◌+◌, ◌-◌, ◌*◌, ◌/◌, ◌%◌, ◌<◌, ◌≤◌, ◌⊎◌, Bool, true, false, IsTrue, get_or, refl, sym, ap, ◌∙◌, subst, inl, inr, ⊎_elim, arith}
-use Rattle.std.proofs.lemmas.Bool.{cases_lt, cases_eq, le-leb, lt-leb}
+use Rattle.std.proofs.Common.{◌≡◌, ◌≢◌, ℕ, ◌+◌, ◌-◌, ◌*◌, ◌/◌, ◌%◌, ◌<◌, ◌≤◌, ◌⊎◌, Bool, true, false, IsTrue, List, get_or, length, length-set, set, refl, sym, ap, ◌∙◌, subst, inl, inr, ⊎_elim, arith}
+use Rattle.std.proofs.lemmas.Bool.{cases_lt, cases_eq, le-leb, lt-leb, eq-eqb, ne_eqb}
 use Rattle.std.proofs.Math.Nat.{div-zero, mul-div_cancel_left, mul-le-mul}
-use Rattle.std.specs.Prelude.{cond}
+use Rattle.std.proofs.lemmas.List.{get_or-set_same, get_or-set_other}
+use Rattle.std.specs.Prelude.{cond, nat_eq, leb}
 use Rattle.dd_model.specs.declared.pair.Pair.{Pair}
 use Rattle.dd_model.specs.declared.requests.Request.{Request}
 use Rattle.dd_shares.specs.Units.{share_unit}
-use Rattle.dd_ends.specs.Classes.{joined_class, turns_of, share_in, IsClassShare, IsClassWeight, IsWeightOf, IsWholeShare, IsClosedShare, IsCappedShare, IsJoinedShare}
+use Rattle.dd_ends.specs.Changes.{IsShareFrom}
+use Rattle.dd_ends.specs.Classes.{joined_class, turns_of, share_in, IsClassShare, IsClassWeight, AreClassWeights, IsWeightOf, IsWholeShare, IsClosedShare, IsCappedShare, IsJoinedShare}
 use Rattle.dd_ends.specs.declared.class_shares.ClassShares.{ClassShares}
 
 -- ## Tests of a class
 
-pub turns_capped : (c : ℕ) → 64 ≤ c → turns_of c ≡ c % 64
-turns_capped c high = ap (λ t. cond t (c % 64) ((c + 1) / 2)) (le-leb 64 c high)
+pub turns_capped : (n c : ℕ) → 64 ≤ c → turns_of n c ≡ c % 64
+turns_capped n c high = ap (λ t. cond t (c % 64) (cond (nat_eq c n) (cond (nat_eq (n % 2) 1) n ((n + 1) / 2)) ((c + 1) / 2))) (le-leb 64 c high)
 
-pub turns_open : (c : ℕ) → c < 64 → turns_of c ≡ (c + 1) / 2
-turns_open c low = ap (λ t. cond t (c % 64) ((c + 1) / 2)) (lt-leb 64 c low)
+-- half of the chambers, or all of them where these are all of a table of odd size
+pub turns_open : (n c : ℕ) → c < 64 → (turns_of n c ≡ (c + 1) / 2) ⊎ ((c ≡ n) × ((n % 2 ≡ 1) × (turns_of n c ≡ c)))
+turns_open n c low = ⊎_elim
+    (λ (all : c ≡ n). ⊎_elim
+    (λ (odd : n % 2 ≡ 1). inr (all, (odd, by_class ∙ whole all ∙ ap (λ t. cond t n ((n + 1) / 2)) (eq-eqb (n % 2) 1 odd) ∙ sym all)))
+    (λ (even : n % 2 ≢ 1). inl (by_class ∙ whole all ∙ ap (λ t. cond t n ((n + 1) / 2)) (ne_eqb (n % 2) 1 even) ∙ ap (λ m. (m + 1) / 2) (sym all)))
+    (cases_eq (n % 2) 1))
+    (λ (other : c ≢ n). inl (by_class ∙ ap (λ t. cond t (cond (nat_eq (n % 2) 1) n ((n + 1) / 2)) ((c + 1) / 2)) (ne_eqb c n other)))
+    (cases_eq c n)
+  where
+    by_class : turns_of n c ≡ cond (nat_eq c n) (cond (nat_eq (n % 2) 1) n ((n + 1) / 2)) ((c + 1) / 2)
+    by_class = ap (λ t. cond t (c % 64) (cond (nat_eq c n) (cond (nat_eq (n % 2) 1) n ((n + 1) / 2)) ((c + 1) / 2))) (lt-leb 64 c low)
+
+    whole : c ≡ n → cond (nat_eq c n) (cond (nat_eq (n % 2) 1) n ((n + 1) / 2)) ((c + 1) / 2) ≡ cond (nat_eq (n % 2) 1) n ((n + 1) / 2)
+    whole all = ap (λ t. cond t (cond (nat_eq (n % 2) 1) n ((n + 1) / 2)) ((c + 1) / 2)) (eq-eqb c n all)
 
 -- ## The class of two paths in one
 
@@ -59,16 +74,16 @@ class_of_both a b small also few = ⊎_elim
 -- ## Shares and weights by class
 
 -- the weight is made of the share
-pub class_weight_of : (q : Request) (p : Pair) (c v : ℕ) → IsClassShare q p c v → IsClassWeight q p c (c % 64 * v)
-class_weight_of q p c v is = ⊎_elim none some (cases_eq (c % 64) 0)
+pub class_weight_of : (q : Request) (p : Pair) (n c v : ℕ) → IsClassShare q p n c v → IsClassWeight q p n c (c % 64 * v)
+class_weight_of q p n c v is = ⊎_elim none some (cases_eq (c % 64) 0)
   where
-    none : c % 64 ≡ 0 → IsClassWeight q p c (c % 64 * v)
+    none : c % 64 ≡ 0 → IsClassWeight q p n c (c % 64 * v)
     none is_none =
         let product : c % 64 * v ≡ 0 * v = ap (λ n. n * v) is_none in
         let nothing : c % 64 * v ≡ 0 = omega (arith, product) in
         let share : c % 64 * v / (c % 64) ≡ 0 = ap (λ n. c % 64 * v / n) is_none ∙ div-zero (c % 64 * v) in
         record {
-          told = subst (IsClassShare q p c) (sym share) (record {
+          told = subst (IsClassShare q p n c) (sym share) (record {
             with_ends = λ low any. absurd (omega (arith, any, is_none));
             whole = λ turns any few at. absurd (omega (arith, any, few, at, is_none));
             small = omega arith;
@@ -76,10 +91,38 @@ class_weight_of q p c v is = ⊎_elim none some (cases_eq (c % 64) 0)
           whole = nothing ∙ sym (ap (λ n. c % 64 * n) share ∙ ap (λ n. n * 0) is_none);
         }
 
-    some : c % 64 ≢ 0 → IsClassWeight q p c (c % 64 * v)
+    some : c % 64 ≢ 0 → IsClassWeight q p n c (c % 64 * v)
     some any =
         let share : c % 64 * v / (c % 64) ≡ v = mul-div_cancel_left v (omega (arith, any)) in
-        record { told = subst (IsClassShare q p c) (sym share) is; whole = ap (λ n. c % 64 * n) (sym share) }
+        record { told = subst (IsClassShare q p n c) (sym share) is; whole = ap (λ n. c % 64 * n) (sym share) }
+
+-- paths that have all chambers of neither of two sizes have the same weights for both
+turns_elsewhere : (n c : ℕ) → c ≢ n → turns_of n c ≡ cond (leb 64 c) (c % 64) ((c + 1) / 2)
+turns_elsewhere n c other = ap (λ t. cond (leb 64 c) (c % 64) (cond t (cond (nat_eq (n % 2) 1) n ((n + 1) / 2)) ((c + 1) / 2))) (ne_eqb c n other)
+
+weight_elsewhere : (q : Request) (p : Pair) (n m c w : ℕ) → c ≢ n → c ≢ m → IsClassWeight q p n c w → IsClassWeight q p m c w
+weight_elsewhere q p n m c w here there is = record {
+  told = record {
+    with_ends = λ low some. subst (λ k. IsShareFrom q p k (w / (c % 64))) (turns_elsewhere n c here ∙ sym (turns_elsewhere m c there)) (is.told.with_ends low some);
+    whole = is.told.whole;
+    small = is.told.small;
+  };
+  whole = is.whole;
+}
+
+pub weights_for_size : (q : Request) (p : Pair) (n m a b : ℕ) (weights : List ℕ) → AreClassWeights q p n weights → n < length weights → m < length weights
+    → IsClassWeight q p m n a → IsClassWeight q p m m b → AreClassWeights q p m (set (set weights n a) m b)
+weights_for_size q p n m a b weights are room also first second = record {
+  each = λ c low. ⊎_elim
+      (λ (at : c ≡ m).
+      subst (λ k. IsClassWeight q p m k (get_or (set (set weights n a) m b) k 0)) (sym at)
+      (subst (IsClassWeight q p m m) (sym (get_or-set_same (set weights n a) m b 0 (let long = length-set weights n a in omega (arith, also, long)))) second))
+      (λ (not_m : c ≢ m). subst (IsClassWeight q p m c) (sym (get_or-set_other (set weights n a) m c b 0 not_m)) (⊎_elim
+      (λ (at : c ≡ n). subst (λ k. IsClassWeight q p m k (get_or (set weights n a) k 0)) (sym at) (subst (IsClassWeight q p m n) (sym (get_or-set_same weights n a 0 room)) first))
+      (λ (not_n : c ≢ n). subst (IsClassWeight q p m c) (sym (get_or-set_other weights n c a 0 not_n)) (weight_elsewhere q p n m c (get_or weights c 0) not_n not_m (are.each c low)))
+      (cases_eq c n)))
+      (cases_eq c m);
+}
 
 -- the share of a whole cell
 pub share_of_whole : (t : ClassShares) (turns : ℕ) → 1 ≤ turns → turns ≤ 36 → IsWholeShare t.request t.pair turns (share_in t.weights (128 + turns))
@@ -129,8 +172,8 @@ cycle_share t c low even = record {
 }
 
 -- the weight of few chambers is small
-pub weight_small : (q : Request) (p : Pair) (c k w : ℕ) → c % 64 ≤ k → IsClassWeight q p c w → w ≤ k * share_unit
-weight_small q p c k w few is =
+pub weight_small : (q : Request) (p : Pair) (n c k w : ℕ) → c % 64 ≤ k → IsClassWeight q p n c w → w ≤ k * share_unit
+weight_small q p n c k w few is =
     let most : c % 64 * (w / (c % 64)) ≤ k * share_unit = mul-le-mul few is.told.small in
     let all = is.whole in
     omega (arith, most, all)

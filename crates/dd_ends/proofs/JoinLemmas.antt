@@ -1,9 +1,9 @@
 -- Two paths that are joined.
-use Rattle.std.proofs.Common.{◌≡◌, ℕ, ◌+◌, ◌*◌, ◌/◌, ◌%◌, ◌≤◌, ◌⊎◌, Bool, IsTrue, refl, sym, ap, ◌∙◌, subst, inl, inr, ⊎_elim, arith}
-use Rattle.std.proofs.lemmas.Bool.{cases_eq}
+use Rattle.std.proofs.Common.{◌≡◌, ℕ, ◌+◌, ◌*◌, ◌/◌, ◌%◌, ◌<◌, ◌≤◌, ◌⊎◌, Bool, IsTrue, refl, sym, ap, ◌∙◌, subst, inl, inr, ⊎_elim, arith}
+use Rattle.std.proofs.lemmas.Bool.{cases_eq, cases_lt}
 use Rattle.dd_model.specs.declared.pair.Pair.{Pair}
 use Rattle.dd_model.specs.declared.requests.Request.{Request}
-use Rattle.dd_model.specs.Symbol.{Symbol, IsChamber, degree}
+use Rattle.dd_model.specs.Symbol.{Symbol, IsChamber, first, degree}
 use Rattle.dd_model.specs.Code.{count_from}
 use Rattle.dd_model.specs.Cell.{InCell, IsChain}
 use Rattle.dd_model.proofs.CellWalks.{in_cell-refl, in_cell-trans, in_cell-sym, in_cell-letter}
@@ -16,11 +16,12 @@ use Rattle.dd_shares.specs.Shares.{IsAllowed}
 use Rattle.dd_shares.specs.Units.{share_unit}
 use Rattle.dd_ends.specs.PathEnd.{PathEnd}
 use Rattle.dd_shares.proofs.Bounds.{wanted_allowed}
+use Rattle.dd_shares.proofs.OddSizes.{odd_fixes}
 use Rattle.dd_model.proofs.Branching.{degree-along_cell}
 use Rattle.dd_ends.proofs.ClosedLabels.{IsClosedLabel, share_of_closed}
 use Rattle.dd_ends.proofs.WithinLemmas.{letter_in_pair, within_first, within_second}
 use Rattle.dd_ends.proofs.EndLemmas.{inside_whole, chain-along, label_degree, label_degree_of_chain}
-use Rattle.dd_ends.proofs.LabelLemmas.{label_along, relabel_same, relabel_other, reshare_same, reshare_other, count_joined, count_stays, sum_joined}
+use Rattle.dd_ends.proofs.LabelLemmas.{label_along, relabel_same, relabel_other, reshare_same, reshare_other, count_joined, count_stays, sum_joined, whole_label}
 
 module _ (q : Request) (C : Symbol → Type 0) (n : ℕ) (p : Pair) (full : AreTables C n) (old new : ℕ → PathEnd) (total x y : ℕ) (are : ArePathEnds q C n p old total)
     (live : 1 ≤ (old x).chambers) (living : 1 ≤ (old y).chambers) (others : y ≡ x → ⊥) (no_end : y ≡ (old x).other → ⊥)
@@ -140,8 +141,8 @@ module _ (q : Request) (C : Symbol → Type 0) (n : ℕ) (p : Pair) (full : AreT
       (chambers ∙ count ∙ ap (λ l. count_label after l (count_from 1 n)) (sym (relabel_other are.label a b (x / 2) apart)) ∙ ap (λ m. count_label after (after (x / 2)) (count_from 1 m)) (sym (full s sought.1).1))
       few (λ _. chain (inl one) s sought.1) (λ low. absurd (omega (arith, low, high)))
 
-  -- the degree of the joined path is at least half of its chambers, and at least as many where a chamber is fixed
-  joined_degree : (k : ℕ) → HasTurns old x y k
+  -- the degree of the joined path is at least half of its chambers, and at least as many where its cell is a chain
+  joined_degree : (k : ℕ) → HasTurns n old x y k
       → (s : Symbol) → IsFound q C s → k ≤ degree s p (x / 2)
   joined_degree k few s sought =
       let c = sought.1 in
@@ -152,11 +153,24 @@ module _ (q : Request) (C : Symbol → Type 0) (n : ℕ) (p : Pair) (full : AreT
       let m = count in
       ⊎_elim
       (λ half. let bound = label_degree n s p after a (x / 2) is size hx near in let e : ((old x).chambers + (old y).chambers + 1) / 2 ≡ (count_label after a (count_from 1 n) + 1) / 2 = ap (λ j. (j + 1) / 2) m in omega (arith, half, bound, e))
-      (λ cap. let all = cap.1 in let bound = label_degree_of_chain n s p after a (x / 2) is size hx (chain cap.0 s c) near in omega (arith, all, bound, m))
+      (λ cap.
+      let all = cap.1 in
+      ⊎_elim
+      (λ fixed. let bound = label_degree_of_chain n s p after a (x / 2) is size hx (chain fixed s c) near in omega (arith, all, bound, m))
+      (λ whole. ⊎_elim
+      (λ (less : degree s p (x / 2) < n). absurd (odd_fixes s is.table.involutions (first p) (omega (arith, whole.1, size)) (λ d h fixed.
+      let at : IsInside n d = (h.0, let high = h.1 in omega (arith, high, size)) in
+      let there = near d at (whole_label after a 1 n (sym count ∙ whole.0) d at.0 (let high = at.1 in omega (arith, high))) in
+      let bound = label_degree_of_chain n s p after a (x / 2) is size hx (record { chamber = d; in_cell = there; fixed = inl fixed }) near in
+      let sum = whole.0 in
+      omega (arith, less, bound, m, sum))))
+      (λ enough. let sum = whole.0 in omega (arith, all, enough, sum))
+      (cases_lt (degree s p (x / 2)) n))
+      cap.0)
       few
 
   -- a share that is right for each degree that the path has room for
-  pub joined_share : (v k : ℕ) → HasTurns old x y k
+  pub joined_share : (v k : ℕ) → HasTurns n old x y k
       → ((m : ℕ) → IsAllowed q p m → k ≤ m → share_unit ≤ v * m) → (s : Symbol) → IsFound q C s → share_unit ≤ v * degree s p (x / 2)
   joined_share v k few right s sought =
       right (degree s p (x / 2)) (wanted_allowed q s p (x / 2) sought.0 (inside_whole n s (full s sought.1).1 (x / 2) (are.each x live).inside)) (joined_degree k few s sought)

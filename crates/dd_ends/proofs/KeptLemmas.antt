@@ -41,15 +41,15 @@ module _ (t : ClassShares) (which : (t.pair ≡ Tile) ⊎ (t.pair ≡ Vertex)) (
       kept_two t t.request P test t.pair xs more long x one.other i j n d flag one.other_inside first second
       (ends_closed t which P test (view t xs) total more are end y join other apart v share few (end_of t (Some n)) (end_of t (Some d)) (ap (λ k. k % 64) none) (ap (λ k. k % 64) also) sum)
 
-  pub connected_kept : (y : ℕ) (other : End) → AreTwoEnds t (view t xs) x one.other one.class.number y other.other other.class.number → y < 74
+  pub connected_kept : (y : ℕ) (other : End) → AreTwoEnds t (view t xs) x one.other one.class.number y other.other other.class.number → t.size ≡ P.size → y < 74
       → one.class.number % 64 + other.class.number % 64 ≤ 36 → (v a b i j : ℕ) (n o e d : End) → a ≡ x → b ≡ y → i ≡ one.other → j ≡ other.other → n.class.number ≡ 0 → o.class.number ≡ 0
       → IsBeyond one other.other (joined_class one.class.number other.class.number) e → IsBeyond other one.other (joined_class one.class.number other.class.number) d
       → IsJoin (Passes P test) t.pair x y → IsJoinedShare t.request t.pair t.weights one.class.number other.class.number v
       → more + (class_weight t one.class.number + class_weight t other.class.number) ≡ total + (one.class.number % 64 + other.class.number % 64) * v
       → AreEndsOf t.request P test t.pair (view t (set (set (set (set xs a n) b o) i e) j d)) more
-  connected_kept y other two y_flag few v a b i j n o e d first second third fourth none nor ahead back join share sum =
+  connected_kept y other two sized y_flag few v a b i j n o e d first second third fourth none nor ahead back join share sum =
       kept_four t t.request P test t.pair xs more long x y one.other other.other a b i j n o e d flag y_flag one.other_inside other.other_inside first second third fourth
-      (ends_connected t which P test (view t xs) total more are two few join v share (end_of t (Some n)) (end_of t (Some o)) (end_of t (Some e)) (end_of t (Some d))
+      (ends_connected t which P test (view t xs) total more are two sized few join v share (end_of t (Some n)) (end_of t (Some o)) (end_of t (Some e)) (end_of t (Some d))
       (ap (λ k. k % 64) none) (ap (λ k. k % 64) nor)
       (λ high. ap (λ k. k % 64) (ahead.fixed high)) (λ low i. path_end t (ahead.other low i) (ahead.class low i))
       (λ high. ap (λ k. k % 64) (back.fixed high)) (λ low i. path_end t (back.other low i) (back.class low i)) sum)

@@ -1,9 +1,10 @@
 -- Counts of labels, and sums of what labels tell.
-use Rattle.std.proofs.Common.{◌≡◌, ℕ, zero, suc, ◌+◌, ◌*◌, ◌≤◌, Bool, true, false, List, [], ◌∷◌, length, refl, sym, ap, ◌∙◌, subst, ⊎_elim, arith}
+use Rattle.std.proofs.Common.{◌≡◌, ℕ, zero, suc, ◌+◌, ◌*◌, ◌<◌, ◌≤◌, Bool, true, false, List, [], ◌∷◌, length, refl, sym, ap, ◌∙◌, subst, ⊎_elim, arith}
 use Rattle.std.proofs.lemmas.Bool.{cases_eq, eq-eqb, ne_eqb}
 use Rattle.std.proofs.lemmas.List.Sums.{sum_by-cons}
 use Rattle.std.specs.Prelude.{cond, nat_eq}
 use Rattle.std.specs.List.{AllByRecursion, filter, sum_by}
+use Rattle.dd_model.specs.Code.{count_from}
 use Rattle.dd_invol.specs.Distinct.{AreDistinct}
 use Rattle.dd_ends.specs.Labels.{count_label, relabel, reshare}
 
@@ -55,6 +56,32 @@ count_joined f a b apart (d ∷ ds) =
     omega (arith, x, z))
     (cases_eq (f d) b) in
     omega (arith, rest, new, one, other, here)
+
+-- where as many of n chambers have a label as there are, each of them has it
+count_within : (f : ℕ → ℕ) (l k n : ℕ) → count_label f l (count_from k n) ≤ n
+count_within f l k zero = omega arith
+count_within f l k (suc n) =
+    let first = sum_by-cons (λ x. cond (nat_eq (f x) l) 1 0) k (count_from (k + 1) n) in
+    let rest = count_within f l (k + 1) n in
+    ⊎_elim
+    (λ same. let one = picked (f k) l 1 0 same in omega (arith, first, rest, one))
+    (λ away. let none = passed (f k) l 1 0 away in omega (arith, first, rest, none))
+    (cases_eq (f k) l)
+
+pub whole_label : (f : ℕ → ℕ) (l k n : ℕ) → count_label f l (count_from k n) ≡ n → (d : ℕ) → k ≤ d → d < k + n → f d ≡ l
+whole_label f l k zero all d low high = absurd (omega (arith, low, high))
+whole_label f l k (suc n) all d low high =
+    let first = sum_by-cons (λ x. cond (nat_eq (f x) l) 1 0) k (count_from (k + 1) n) in
+    let rest = count_within f l (k + 1) n in
+    ⊎_elim
+    (λ same.
+    let one = picked (f k) l 1 0 same in
+    ⊎_elim
+    (λ here. ap f here ∙ same)
+    (λ further. whole_label f l (k + 1) n (omega (arith, all, first, one)) d (omega (arith, low, further)) (omega (arith, high)))
+    (cases_eq d k))
+    (λ away. let none = passed (f k) l 1 0 away in absurd (omega (arith, all, first, rest, none)))
+    (cases_eq (f k) l)
 
 -- other labels stay
 pub count_stays : (f : ℕ → ℕ) (a b l : ℕ) → (l ≡ a → ⊥) → (l ≡ b → ⊥) → (ds : List ℕ) → count_label (relabel f a b) l ds ≡ count_label f l ds

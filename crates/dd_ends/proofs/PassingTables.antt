@@ -34,7 +34,7 @@ passing_tables P test s is = (is.completes.table, is.completes.size)
 
 module _ (q : Request) (P : Symbol) (test : Symbol → Bool) (p : Pair) (old : ℕ → PathEnd) (total : ℕ) (are : AreEndsOf q P test p old total) where
   -- for each degree that a joined path has room for
-  pub linked_right : (x y k v : ℕ) → IsLink (Passes P test) p old x y → HasTurns old x y k → IsShareFrom q p k v → AreRight q P test p x v
+  pub linked_right : (x y k v : ℕ) → IsLink (Passes P test) p old x y → HasTurns P.size old x y k → IsShareFrom q p k v → AreRight q P test p x v
   linked_right x y k v link turns from s wanted is =
       joined_share q (Passes P test) P.size p (passing_tables P test) old old total x y are link.first_end link.second_end link.apart link.no_other link.side link.leads v k turns from.right s (wanted, is)
 
@@ -64,7 +64,7 @@ module _ (q : Request) (P : Symbol) (test : Symbol → Bool) (p : Pair) (old new
       ends_joined q (Passes P test) P.size p (passing_tables P test) old new total x y are link.first_end link.second_end link.apart link.no_other link.side link.leads
       v more (λ s found. right s found.0 found.1) small sums each
 
-  pub paths_joined : (x y k v : ℕ) → IsLink (Passes P test) p old x y → HasTurns old x y k → IsShareFrom q p k v → AreJoined old new x y v
+  pub paths_joined : (x y k v : ℕ) → IsLink (Passes P test) p old x y → HasTurns P.size old x y k → IsShareFrom q p k v → AreJoined old new x y v
       → more + (weight (old x) + weight (old y)) ≡ total + ((old x).chambers + (old y).chambers) * v → AreEndsOf q P test p new more
   paths_joined x y k v link turns from each sums = paths_linked x y v link (linked_right q P test p old total are x y k v link turns from) from.small each sums
 

@@ -87,9 +87,9 @@ module _ (t : ClassShares) (which : (t.pair ≡ Tile) ⊎ (t.pair ≡ Vertex)) (
     c : ℕ
     c = 64 + a % 64
 
-    from : a < 64 → IsShareFrom t.request t.pair (turns_of c) v
+    from : a < 64 → IsShareFrom t.request t.pair (turns_of t.size c) v
     unfolding c
-    from low = let some = end.some in subst (IsShareFrom t.request t.pair (turns_of c)) (sym (share.goes_on low)) ((t.are_told.each c (omega arith)).told.with_ends (omega arith) (omega (arith, some)))
+    from low = let some = end.some in subst (IsShareFrom t.request t.pair (turns_of t.size c)) (sym (share.goes_on low)) ((t.are_told.each c (omega arith)).told.with_ends (omega arith) (omega (arith, some)))
 
     fixed : IsFixedEnd (Passes P test) t.pair old x
     fixed = record { is_end = end_live t old end; fixed = join.leads }
@@ -100,8 +100,8 @@ module _ (t : ClassShares) (which : (t.pair ≡ Tile) ⊎ (t.pair ≡ Vertex)) (
         let own = end_chambers t old end in
         ⊎_elim
         (λ low.
-        let turns : turns_of c ≡ c % 64 = turns_capped c (omega arith) in
-        fixed_right t.request P test t.pair old total are x (turns_of c) v fixed (omega (arith, turns, own)) (from low))
+        let turns : turns_of t.size c ≡ c % 64 = turns_capped t.size c (omega arith) in
+        fixed_right t.request P test t.pair old total are x (turns_of t.size c) v fixed (omega (arith, turns, own)) (from low))
         (λ high.
         met_right t.request P test t.pair old total are x x a v which
         (record { is_end = end_live t old end; side = λ _ _. refl; leads = join.leads; which = inl (refl, (end_capped t old end).1 high) })
@@ -147,7 +147,7 @@ module _ (t : ClassShares) (which : (t.pair ≡ Tile) ⊎ (t.pair ≡ Vertex)) (
 
   -- ## An involution joins the ends of two paths
 
-  module _ {x m a y l b : ℕ} (two : AreTwoEnds t old x m a y l b) (few : a % 64 + b % 64 ≤ 36) (join : IsJoin (Passes P test) t.pair x y) (v : ℕ)
+  module _ {x m a y l b : ℕ} (two : AreTwoEnds t old x m a y l b) (sized : t.size ≡ P.size) (few : a % 64 + b % 64 ≤ 36) (join : IsJoin (Passes P test) t.pair x y) (v : ℕ)
       (share : IsJoinedShare t.request t.pair t.weights a b v) where
     both : IsClassOfBoth a b (joined_class a b)
     both = class_of_both a b two.one.low two.other.low (omega (arith, few))
@@ -171,20 +171,27 @@ module _ (t : ClassShares) (which : (t.pair ≡ Tile) ⊎ (t.pair ≡ Vertex)) (
       λ either. le-leb 64 (joined_class a b) (both.stays (⊎_elim (λ is. inl ((end_capped t old two.one).0 is)) (λ is. inr ((end_capped t old two.other).0 is)) either)),
     )
 
-    turns : HasTurns old x y (turns_of (joined_class a b))
+    turns : HasTurns P.size old x y (turns_of t.size (joined_class a b))
     turns =
         let c = joined_class a b in
         let all = together in
         ⊎_elim
-        (λ below. let e = turns_open c below in inl (omega (arith, e, below, all)))
-        (λ above. let e = turns_capped c above in inr (capped.0 (le-leb 64 c above), omega (arith, e, all)))
+        (λ below. ⊎_elim
+        (λ half. inl (omega (arith, half, below, all)))
+        (λ whole.
+        let is = whole.0 in
+        let odd = whole.1.0 in
+        let e = whole.1.1 in
+        inr (inr (omega (arith, is, below, all, sized), omega (arith, odd, sized)), omega (arith, e, below, all)))
+        (turns_open t.size c below))
+        (λ above. let e = turns_capped t.size c above in inr (inl (capped.0 (le-leb 64 c above)), omega (arith, e, all)))
         (cases_lt c 64)
 
-    from_joined : (a < 64) ⊎ (b < 64) → IsShareFrom t.request t.pair (turns_of (joined_class a b)) v
+    from_joined : (a < 64) ⊎ (b < 64) → IsShareFrom t.request t.pair (turns_of t.size (joined_class a b)) v
     from_joined low =
         let enough = both.chambers in
         let some = two.one.some in
-        subst (IsShareFrom t.request t.pair (turns_of (joined_class a b))) (sym (share.goes_on low)) ((t.are_told.each (joined_class a b) (let small = both.small in omega (arith, small))).told.with_ends both.small (omega (arith, enough, some)))
+        subst (IsShareFrom t.request t.pair (turns_of t.size (joined_class a b))) (sym (share.goes_on low)) ((t.are_told.each (joined_class a b) (let small = both.small in omega (arith, small))).told.with_ends both.small (omega (arith, enough, some)))
 
     pub right_connected : AreRight t.request P test t.pair x v
     right_connected =
@@ -193,7 +200,7 @@ module _ (t : ClassShares) (which : (t.pair ≡ Tile) ⊎ (t.pair ≡ Vertex)) (
         (λ high.
         linked_closed t.request P test t.pair old total are x y (joined_class a b) v which link ((end_capped t old two.one).1 high.0) ((end_capped t old two.other).1 high.1)
         (share.closed high.0 high.1) together (omega (arith, enough, few)) (both.stays (inl high.0)))
-        (λ low. linked_right t.request P test t.pair old total are x y (turns_of (joined_class a b)) v link turns (from_joined low))
+        (λ low. linked_right t.request P test t.pair old total are x y (turns_of t.size (joined_class a b)) v link turns (from_joined low))
         (either_open a b)
 
     pub small_connected : v ≤ share_unit

@@ -49,7 +49,7 @@ join_of_none P p x y = record { side = λ s c. absurd (no c.passed); leads = λ 
 module _ (t : ClassShares) (P : Symbol) (side : Side) (kept : IsSide t P side) where
   -- what holds in all completions holds in those that pass a test
   pub passing : (test : Symbol → Bool) → AreEndsOf t.request P test t.pair (ends_of t side) side.total
-  passing test = ends_of_fewer t.request P P (λ _. true) test t.pair (ends_of t side) side.total refl (λ s is. record { completes = is.completes; passed = refl }) kept
+  passing test = ends_of_fewer t.request P P (λ _. true) test t.pair (ends_of t side) side.total refl (λ s is. record { completes = is.completes; passed = refl }) kept.ends
 
   pub sum_as_kept : (test : Symbol → Bool) → IsSumOf t P test side.total
   sum_as_kept test = record { ends = ends_of t side; are = passing test }
@@ -59,11 +59,11 @@ module _ (t : ClassShares) (P : Symbol) (side : Side) (kept : IsSide t P side) w
 
   pub weight_within : {x m a : ℕ} → IsAnEnd t (ends_of t side) x m a → class_weight t a ≤ side.total
   weight_within {x} end =
-      subst (λ e. weight e ≤ side.total) end.told (one_within t.request P (λ _. true) t.pair (ends_of t side) side.total kept x (end_live t (ends_of t side) end))
+      subst (λ e. weight e ≤ side.total) end.told (one_within t.request P (λ _. true) t.pair (ends_of t side) side.total kept.ends x (end_live t (ends_of t side) end))
 
   pub few_in_path : {x m a : ℕ} → IsAnEnd t (ends_of t side) x m a → P.size ≤ 36 → a % 64 ≤ 36
   few_in_path {x} end small =
-      let within = one_path_within t.request P (λ _. true) t.pair (ends_of t side) side.total x kept (end_live t (ends_of t side) end) in
+      let within = one_path_within t.request P (λ _. true) t.pair (ends_of t side) side.total x kept.ends (end_live t (ends_of t side) end) in
       let mine = end_chambers t (ends_of t side) end in
       omega (arith, within, mine, small)
 
@@ -101,14 +101,14 @@ module _ (t : ClassShares) (P : Symbol) (side : Side) (kept : IsSide t P side) w
 
     pub weights_within : class_weight t a + class_weight t b ≤ side.total
     weights_within =
-        let both = two_within t.request P (λ _. true) t.pair (ends_of t side) side.total kept x y live living two.apart no_end in
+        let both = two_within t.request P (λ _. true) t.pair (ends_of t side) side.total kept.ends x y live living two.apart no_end in
         let mine = end_weight t (ends_of t side) two.one in
         let yours = end_weight t (ends_of t side) two.other in
         omega (arith, both, mine, yours)
 
     pub few_chambers : P.size ≤ 36 → a % 64 + b % 64 ≤ 36
     few_chambers small =
-        let both = chambers_within t.request P (λ _. true) t.pair (ends_of t side) side.total x y kept live living two.apart no_end in
+        let both = chambers_within t.request P (λ _. true) t.pair (ends_of t side) side.total x y kept.ends live living two.apart no_end in
         let mine = end_chambers t (ends_of t side) two.one in
         let yours = end_chambers t (ends_of t side) two.other in
         omega (arith, both, mine, yours, small)
@@ -122,7 +122,7 @@ module _ (t : ClassShares) (P : Symbol) (side : Side) (kept : IsSide t P side) w
     unfolding far_end
     sum_connected which few v share test more join sum = record {
       ends = connected (ends_of t side) x y m l (path_end t 0 0) (path_end t 0 0) (far_end a l) (far_end b m);
-      are = ends_connected t which P test (ends_of t side) side.total more (passing test) two few join v share
+      are = ends_connected t which P test (ends_of t side) side.total more (passing test) two kept.sized few join v share
           (path_end t 0 0) (path_end t 0 0) (far_end a l) (far_end b m) refl refl (gone a l) (there a l) (gone b m) (there b m) sum;
     }
       where

@@ -30,12 +30,16 @@ pub record IsLink (C : Symbol → Type 0) (p : Pair) (ends : ℕ → PathEnd) (x
   pub side : (s : Symbol) → C s → y % 2 ≡ x % 2
   pub leads : (s : Symbol) → C s → led s p x ≡ y / 2
 
--- k is at most half of the number of chambers of two paths, or all of it where an involution fixes one of them: a cell with these
--- chambers has no smaller degree
-abbrev pub HasTurns : (ℕ → PathEnd) → ℕ → ℕ → ℕ → Type 0
-HasTurns ends x y k = (k ≤ ((ends x).chambers + (ends y).chambers + 1) / 2)
-    ⊎ ((IsTrue (ends x).is_capped ⊎ IsTrue (ends y).is_capped)
-    × (k ≤ (ends x).chambers + (ends y).chambers))
+-- an involution fixes one of the chambers of two paths, or these are all n chambers, and n is odd
+abbrev pub AreOfChain : ℕ → (ℕ → PathEnd) → ℕ → ℕ → Type 0
+AreOfChain n ends x y = (IsTrue (ends x).is_capped ⊎ IsTrue (ends y).is_capped)
+    ⊎ (((ends x).chambers + (ends y).chambers ≡ n) × (n % 2 ≡ 1))
+
+-- k is at most half of the number of chambers of two paths, or all of it where they are of a chain: a cell with these chambers has
+-- no smaller degree
+abbrev pub HasTurns : ℕ → (ℕ → PathEnd) → ℕ → ℕ → ℕ → Type 0
+HasTurns n ends x y k = (k ≤ ((ends x).chambers + (ends y).chambers + 1) / 2)
+    ⊎ (AreOfChain n ends x y × (k ≤ (ends x).chambers + (ends y).chambers))
 
 -- what stands at the other end of one of two paths that are joined
 pub record IsJoined (old : ℕ → PathEnd) (x y v mate : ℕ) (e : PathEnd) : Type 0 where

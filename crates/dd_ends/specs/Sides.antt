@@ -29,13 +29,10 @@ end_of t (Some e) = path_end t e.other e.class.number
 abbrev pub ends_of : ClassShares → Side → ℕ → PathEnd
 ends_of t side x = end_of t (slice_get side.ends x)
 
--- the ends of the paths of a pair in all completions of a partial table that pass a test, and the sum of all shares
-abbrev pub IsSideOf : ClassShares → Symbol → (Symbol → Bool) → Side → Type 0
-IsSideOf t partial test side = AreEndsOf t.request partial test t.pair (ends_of t side) side.total
-
--- the same in all completions
-abbrev pub IsSide : ClassShares → Symbol → Side → Type 0
-IsSide t partial side = IsSideOf t partial (λ _. true) side
+-- the ends of the paths of a pair in all completions of a partial table, whose size is that of the shares, and the sum of all
+pub record IsSide (t : ClassShares) (partial : Symbol) (side : Side) : Type 0 where
+  pub sized : t.size ≡ partial.size
+  pub ends : AreEndsOf t.request partial (λ _. true) t.pair (ends_of t side) side.total
 
 -- the same in all completions of some table that is not too large
 pub record IsSideOfSome (t : ClassShares) (side : Side) : Type 0 where

@@ -1,6 +1,7 @@
 ghost use Rattle.std.specs.Prelude.{◌≡◌, ◌+◌, ◌%◌, ◌*◌, ◌≤◌, ◌<◌, IsTrue};
 ghost use Rattle.dd_shares.specs.Units.{share_unit};
-ghost use Rattle.dd_ends.specs.Classes.{share_in, IsClassShare, IsClassWeight, AreClassWeights};
+ghost use Rattle.dd_ends.specs.Classes.{share_in, turns_of};
+ghost use Rattle.dd_ends.specs.Classes.{IsClassShare, IsClassWeight, AreClassWeights};
 ghost use Rattle.dd_ends.specs.Classes.{IsWeightOf, IsWholeShare};
 ghost use Rattle.dd_ends.specs.Classes.{IsClosedShare, IsCappedShare, IsJoinedShare};
 
@@ -8,8 +9,9 @@ use crate::class::Class;
 use dd_model::{Pair, Request};
 use dd_shares::{WholeCell, least_degree, share_of, share_of_cell};
 
-/// What the chambers of the paths of a pair have together: for each class of paths with ends, as many
-/// shares as it has chambers, each that of the least degree which a request allows; and after those,
+/// What the chambers of the paths of a pair have together in tables of a size: for each class of paths
+/// with ends, as many shares as it has chambers, each that of the least degree which a request allows
+/// and which a cell with these chambers has room for; and after those,
 /// for each number of turns, what as many chambers of a whole cell have, which is 0 where the request
 /// allows it no degree. What two paths have that are joined stands at the sum of their classes, also
 /// where the path that they make has no ends.
@@ -17,48 +19,80 @@ use dd_shares::{WholeCell, least_degree, share_of, share_of_cell};
 pub(crate) struct ClassShares {
     pub(crate) request: Request,
     pub(crate) pair: Pair,
+    pub(crate) size: u8,
     weights: [u64; 192],
-    ghost are_told: { AreClassWeights request pair weights },
+    ghost few: { size ≤ 36 },
+    ghost are_told: { AreClassWeights request pair size weights },
+}
+
+/// How many turns a cell with the chambers of a path of a class has at least, in tables of a size.
+fn least_turns(size: u8, class: u8) -> u32
+    requires { class < 128 }
+    ensures { result ≡ turns_of size class }
+{
+    let chambers = u32::from(class % 64);
+    if class >= 64 || class == size && size % 2 == 1 {
+        return chambers;
+    }
+    (chambers + 1) / 2
 }
 
 /// The share of the chambers of a path of a class, or of a whole cell.
-fn share_of_class(request: &Request, pair: Pair, class: u8) -> u64
+fn share_of_class(request: &Request, pair: Pair, size: u8, class: u8) -> u64
     requires { class < 192 }
-    ensures { IsClassShare request.now pair class result }
+    ensures { IsClassShare request.now pair size class result }
 {
     if class >= 128 {
         return share_of_cell(request, pair, (class - 128).clamp(1, 36));
     }
-    let chambers = u32::from(class % 64);
-    let turns = if class >= 64 {
-        chambers
-    } else {
-        (chambers + 1) / 2
-    };
+    let turns = least_turns(size, class);
     share_of(least_degree(request, pair, turns.clamp(1, 36)))
 }
 
 /// What the chambers of a path of a class, or as many of a whole cell as it has turns, have together.
-fn weight_of_class(request: &Request, pair: Pair, class: u8) -> u64
+fn weight_of_class(request: &Request, pair: Pair, size: u8, class: u8) -> u64
     requires { class < 192 }
-    ensures { IsClassWeight request.now pair class result }
+    ensures { IsClassWeight request.now pair size class result }
 {
-    u64::from(class % 64) * share_of_class(request, pair, class)
+    u64::from(class % 64) * share_of_class(request, pair, size, class)
 }
 
 impl ClassShares {
-    /// Those that a request allows.
-    pub(crate) fn of(request: &Request, pair: Pair) -> ClassShares
+    /// Those that a request allows in tables of a size.
+    pub(crate) fn of(request: &Request, pair: Pair, size: u8) -> ClassShares
+        requires { size ≤ 36 }
         ensures request { result.request ≡ request.now }
         ensures pair { result.pair ≡ pair }
+        ensures size { result.size ≡ size }
     {
         let mut weights = [0; 192];
         for class in 0..192u8 {
-            weights[usize::from(class)] = weight_of_class(request, pair, class);
+            weights[usize::from(class)] = weight_of_class(request, pair, size, class);
         }
         ClassShares {
             request: *request,
             pair,
+            size,
+            weights,
+        }
+    }
+
+    /// Those of tables of another size. Only paths with all chambers of a table of either size may have
+    /// others than before.
+    pub(crate) fn for_size(&self, size: u8) -> ClassShares
+        requires { size ≤ 36 }
+        ensures request { result.request ≡ self.now.request }
+        ensures pair { result.pair ≡ self.now.pair }
+        ensures size { result.size ≡ size }
+    {
+        let mut weights = self.weights;
+        let before = self.size;
+        weights[usize::from(before)] = weight_of_class(&self.request, self.pair, size, before);
+        weights[usize::from(size)] = weight_of_class(&self.request, self.pair, size, size);
+        ClassShares {
+            request: self.request,
+            pair: self.pair,
+            size,
             weights,
         }
     }

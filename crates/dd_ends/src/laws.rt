@@ -14,12 +14,12 @@ ghost use Rattle.dd_ends.specs.PathEnd.{PathEnd, weight};
 
 /// Where an involution joins two paths in all of some tables, their chambers have one share from
 /// then on: one that is right for each allowed degree from half of their number on, or from all of
-/// it where an involution fixes one of them. The total loses what the chambers had, and gains what
-/// they have.
+/// it where an involution fixes one of them, or where they are all chambers and their number is odd.
+/// The total loses what the chambers had, and gains what they have.
 pub fn joined_paths_have_one_share()
     ensures { (q : Request) (P : Symbol) (test : Symbol → Bool) (p : Pair)
         → (old new : ℕ → PathEnd) (total more x y k v : ℕ) → AreEndsOf q P test p old total
-        → IsLink (Passes P test) p old x y → HasTurns old x y k → IsShareFrom q p k v
+        → IsLink (Passes P test) p old x y → HasTurns P.size old x y k → IsShareFrom q p k v
         → AreJoined old new x y v
         → more + (weight (old x) + weight (old y))
         ≡ total + ((old x).chambers + (old y).chambers) * v

@@ -25,10 +25,11 @@ pub(crate) struct Side {
 
 impl Side {
     /// The paths of tables of which nothing is known: each chamber is one.
-    pub(crate) fn start(shares: &ClassShares, size: u8) -> Side
-        requires { size ≤ 36 }
-        ensures { (partial : Tiling) → partial.size ≡ size → IsSide shares.now partial result }
+    pub(crate) fn start(shares: &ClassShares) -> Side
+        ensures { (partial : Tiling) → partial.size ≡ shares.now.size
+            → IsSide shares.now partial result }
     {
+        let size = shares.size;
         let class = Class::of(1);
         let mut ends = [End::none(); 74];
         for k in 0..size {

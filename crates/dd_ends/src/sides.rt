@@ -28,14 +28,14 @@ pub struct Sides {
 }
 
 impl Sides {
-    /// Those of a table of a size of which nothing is known.
-    pub fn start(classes: &PathShares, size: u8) -> Sides
-        requires { size ≤ 36 }
-        ensures { (partial : Tiling) → partial.size ≡ size → AreSides classes.now partial result }
+    /// Those of a table of which nothing but the size is known.
+    pub fn start(classes: &PathShares) -> Sides
+        ensures { (partial : Tiling) → partial.size ≡ classes.now.size
+            → AreSides classes.now partial result }
     {
         Sides {
-            tiles: Side::start(&classes.tiles, size),
-            vertices: Side::start(&classes.vertices, size),
+            tiles: Side::start(&classes.tiles),
+            vertices: Side::start(&classes.vertices),
         }
     }
 

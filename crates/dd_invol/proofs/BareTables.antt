@@ -8,8 +8,8 @@ use Rattle.std.specs.declared.cmp.Ordering.TheVariants.{Less}
 use Rattle.std.proofs.lemmas.Map.Lookups.{exact_bytes}
 use Rattle.dd_model.specs.declared.index.Index.TheVariants.{Zero, One, Two}
 use Rattle.dd_model.specs.declared.pair.Pair.{Pair}
-use Rattle.dd_model.specs.declared.pair.Pair.TheVariants.{Tile, Vertex}
-use Rattle.dd_model.specs.Symbol.{Symbol, IsTable, IsSymbol, IsChamber, item, operation}
+use Rattle.dd_model.specs.declared.pair.Pair.TheVariants.{Tile, Vertex, Edge}
+use Rattle.dd_model.specs.Symbol.{Symbol, IsTable, IsSymbol, IsChamber, item, operation, HasDegree}
 use Rattle.dd_model.specs.Connected.{Connected}
 use Rattle.dd_model.specs.Cell.{IsPeriod}
 use Rattle.dd_model.specs.Lists.{Begins}
@@ -95,24 +95,27 @@ pub record HasBare (s : Symbol) : Type 0 where
   pub table : Symbol
   pub bare : IsBare s table
 
-pub bare_exists : (s : Symbol) → IsOrderly s → HasBare s
-bare_exists s is =
-    let tiles = periods_of s is.table Tile in
-    let vertices = periods_of s is.table Vertex in
+pub bare_of_table : (s : Symbol) → IsTable s → Connected s → ((d : ℕ) → IsChamber s d → HasDegree s Edge d) → HasBare s
+bare_of_table s is connected commuting =
+    let tiles = periods_of s is Tile in
+    let vertices = periods_of s is Vertex in
     let t = with_degrees s tiles.list vertices.list in
     let same : HaveSameInvolutions s t = record { size = refl; s0 = refl; s1 = refl; s2 = refl } in
-    let table = table_with s tiles.list vertices.list is.table tiles.whole vertices.whole same in
+    let table = table_with s tiles.list vertices.list is tiles.whole vertices.whole same in
     let faces : HasPeriods t Tile = record { each = λ d h. period-same s t same Tile d (item tiles.list d) (tiles.each d h.0 h.1) } in
     let degrees : HasPeriods t Vertex = record { each = λ d h. period-same s t same Vertex d (item vertices.list d) (vertices.each d h.0 h.1) } in
     record {
       table = t;
       bare = record {
-        symbol = symbol_of_periods t table (commuting-same s t same is.commuting) faces degrees;
-        connected = connected-same s t same is.connected;
+        symbol = symbol_of_periods t table (commuting-same s t same commuting) faces degrees;
+        connected = connected-same s t same connected;
         unbranched = unbranched_of_periods t table.involutions faces degrees;
         same = same;
       };
     }
+
+pub bare_exists : (s : Symbol) → IsOrderly s → HasBare s
+bare_exists s is = bare_of_table s is.table is.connected is.commuting
 
 -- The involutions of a table, followed by the least numbers of turns.
 pub record IsBuiltBare (t : Symbol) : Type 0 where

@@ -1,3 +1,4 @@
+pub mod ImageCells
 pub mod LowestBits
 pub mod Places
 pub mod Prefixes
@@ -30,3 +31,6 @@ pub mod BareTables
 pub mod TiedTables
 pub mod WholeTables
 pub mod WholeStems
+pub mod LeastStems
+pub mod SoughtStems
+pub mod WalkTables

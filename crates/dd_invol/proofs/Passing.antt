@@ -11,14 +11,16 @@ use Rattle.dd_model.specs.Lists.{Begins}
 use Rattle.dd_model.specs.Code.{code}
 use Rattle.dd_model.specs.FirstVisit.{rows}
 use Rattle.dd_model.specs.Partial.{Completes}
-use Rattle.dd_model.proofs.Ascending.{begins_at}
-use Rattle.dd_model.proofs.Codes.{length-flat_images}
+use Rattle.dd_model.proofs.Ascending.{begins_at, begins_from}
+use Rattle.dd_model.proofs.Codes.{length-flat_images, length-code}
 use Rattle.dd_canon.specs.Traversal.{unnumbered, IsVisit, IsMeeting, IsTraversal}
 use Rattle.dd_canon.proofs.Traversals.{advance, begin, falls_behind}
 use Rattle.dd_invol.specs.Places.{index_at}
+use Rattle.dd_invol.specs.Open.{IsAgreeing, IsShut, HasUnknown}
 use Rattle.dd_invol.specs.Passed.{IsPassed}
+use Rattle.dd_invol.specs.Rows.{HasNumberAt}
 use Rattle.dd_invol.proofs.Places.{code_at, images_at}
-use Rattle.dd_invol.proofs.Traversing.{AreInside, IsMetAt}
+use Rattle.dd_invol.proofs.Traversing.{AreInside, ReadsSo, IsMetAt}
 
 -- ## Numbers of the first n chambers alone
 
@@ -167,3 +169,45 @@ passed_here partial prefix xs ys old number start u image k m next before more =
           (passing_step partial t prefix xs ys (take partial.size old) number u image k m next full begins (before.all t full begins))
           greater a.isomorphism (ap (item a.map) first ∙ a.start_first) a.first_visit;
     }
+
+-- a prefix that is read to its end
+pub agreeing_here : (partial : Symbol) (prefix order number : List ℕ) (start u : ℕ) → length prefix ≤ u → length prefix ≤ 3 * partial.size → ReadsSo partial prefix order u
+    → IsPassing partial prefix start order number u → IsAgreeing partial prefix start
+agreeing_here partial prefix order number start u whole short reads passing = record {
+  same = λ t full begins v a.
+      let tr = passing.all t full begins in
+      let f = a.map in
+      let iso = a.isomorphism in
+      let ext = (tr.forced v f iso (ap (item f) passing.first ∙ a.start_first) a.first_visit).0 in
+      let size = iso.size in
+      let own = full.size in
+      let long = length-code v a.table in
+      begins_from prefix (code v) (omega (arith, long, size, own, short)) (λ w low.
+      let i = index_at (w % 3) in
+      let k = 1 + w / 3 in
+      let e = get_or prefix w 0 in
+      let r = reads.same w (omega (arith, low, whole)) in
+      code_at v w (omega (arith, low, short, size, own))
+      ∙ ap (op v i) (sym (ext.begins k (omega arith) r.reads.chamber))
+      ∙ sym (iso.morphism.op i (item order k) (tr.visit.within k (omega arith) r.reads.chamber))
+      ∙ ap (item f) (full.images i (item order k) r.known ∙ r.reads.is)
+      ∙ ext.begins e r.reads.positive r.reads.image);
+}
+
+-- a prefix whose first chambers lead to no others
+pub shut_here : (partial : Symbol) (prefix order : List ℕ) (row : ℕ) → 1 ≤ length order → length order ≤ row → 3 * row < length prefix → ReadsSo partial prefix order (3 * row) → IsShut prefix
+shut_here partial prefix order row some past within reads = record {
+  chambers = row;
+  some = omega (arith, some, past);
+  within = within;
+  few = λ u low. let image = (reads.same u low).reads.image in omega (arith, image, past);
+}
+
+-- an image that is not known
+pub unknown_here : (partial : Symbol) (place number : ℕ) → place < 3 * partial.size → HasNumberAt place number partial → number ≡ 0 → HasUnknown partial
+unknown_here partial place number low told none = record {
+  index = index_at (place % 3);
+  chamber = 1 + place / 3;
+  inside = (omega arith, omega (arith, low));
+  none = told ∙ none;
+}

@@ -22,7 +22,7 @@ use Rattle.dd_invol.specs.Stem.{Any, prefix_of, size_of}
 use Rattle.dd_invol.specs.Table.{HasNoTable, IsTableOf}
 use Rattle.dd_model.specs.Involutions.{HaveSameInvolutions}
 use Rattle.dd_invol.specs.Under.{IsUnder, HasNothingUnder, HasNoNumberFrom, SkipsTo, next_number}
-use Rattle.dd_invol.specs.Walk.{IsSought, IsListed, IsPast, IsNext, HasNoneLeft, IsLeastNext, here}
+use Rattle.dd_invol.specs.Walk.{IsSought, IsListed, IsPast, IsNext, IsAhead, HasNoneLeft, IsLeastNext, here}
 use Rattle.dd_model.proofs.Ascending.{begins_at, begins_length, begins_from, begins_more, begins_less, agree_from, less_at}
 use Rattle.dd_invol.proofs.Prefixes.{below_next}
 use Rattle.dd_invol.proofs.TableFronts.{front_same}
@@ -196,6 +196,15 @@ pub moved_none : (old new : Growing) (number : ℕ) (bound : List ℕ) → IsLon
     → HasNoneLeft new.request (here new.stem) bound → HasNoneLeft old.request (extended (here old.stem) number) bound
 moved_none old new number bound is none =
     subst (λ job. HasNoneLeft old.request job bound) (here_longer old new number is) (subst (λ q. HasNoneLeft q (here new.stem) bound) is.same_request none)
+
+-- the same of the images of the next table
+pub moved_ahead : (old new : Growing) (number : ℕ) (bound images : List ℕ) → IsLonger (λ t. t.request) (λ t. size_of t.stem) (λ t. prefix_of t.stem) number old new
+    → IsAhead new.request (here new.stem) bound images → IsAhead old.request (extended (here old.stem) number) bound images
+moved_ahead old new number bound images is ahead = record { table = ahead.table; next = moved_next old new number bound ahead.table is ahead.next; images_are = ahead.images_are }
+
+pub ahead_found : (q : Request) (job : Job) (bound : List ℕ) (k m : ℕ) (images : List ℕ) → length job.prefix < 3 * job.size → SkipsTo Any job.size job.prefix k m
+    → HasNoneBelow q job bound k → IsAhead q (extended job m) bound images → IsAhead q job bound images
+ahead_found q job bound k m images short skips old ahead = record { table = ahead.table; next = next_found q job bound k m ahead.table short skips old ahead.next; images_are = ahead.images_are }
 
 -- what an option with a value says, and one without
 pub with_some : {A : Type 0} (o : Option A) (P : Type 0) (Q : A → Type 0) (x : A) → o ≡ Some x → MatchOption o P Q → Q x

@@ -4,26 +4,22 @@ use Rattle.std.proofs.Math.Nat.{mul-le-mul_left, pow-succ', pow-zero}
 use Rattle.std.proofs.lemmas.Bool.{cases_lt, cases_eq}
 use Rattle.std.proofs.lemmas.List.{append_assoc}
 use Rattle.std.proofs.lemmas.List.Elements.{Contains-append_left, Contains-append_cases, Contains-push}
-use Rattle.std.proofs.lemmas.Grind.{flat_map-append}
 use Rattle.std.proofs.lemmas.Cmp.{nat_list_cmp_total}
 use Rattle.std.proofs.lemmas.Map.Lookups.{exact_bytes}
-use Rattle.std.specs.List.{AllByRecursion, Contains, flat_map}
+use Rattle.std.specs.List.{AllByRecursion, Contains}
 use Rattle.std.specs.Ordering.{nat_cmp, ordering_then, ordering_reverse}
 use Rattle.std.specs.Cmp.Lexicographic.{slice_cmp}
 use Rattle.std.specs.declared.cmp.Ordering.{Ordering}
 use Rattle.std.specs.declared.cmp.Ordering.TheVariants.{Less, Equal, Greater}
-use Rattle.dd_model.specs.declared.index.Index.TheVariants.{Zero, One, Two}
-use Rattle.dd_model.specs.Symbol.{Symbol, op}
+use Rattle.dd_model.specs.Symbol.{Symbol}
 use Rattle.dd_model.specs.Lists.{Begins}
-use Rattle.dd_model.specs.Code.{code, all_images, images, count_from, IsBelow}
-use Rattle.dd_model.specs.FirstVisit.{rows}
+use Rattle.dd_model.specs.Code.{code, all_images, IsBelow}
 use Rattle.dd_model.specs.Wanted.{IsAscending}
 use Rattle.dd_model.specs.declared.jobs.Job.{Job}
 use Rattle.dd_model.specs.declared.requests.Request.{Request}
 use Rattle.dd_model.proofs.Codes.{length-flat_images}
 use Rattle.dd_model.proofs.LeastForms.{below_back}
 use Rattle.dd_model.proofs.Lists.{Contains-one}
-use Rattle.dd_model.proofs.CountFrom.{count_from-more}
 use Rattle.dd_model.proofs.Orders.{nat_cmp-same, list_not_below_both, list_not_below_itself}
 use Rattle.dd_model.specs.Involutions.{HaveSameInvolutions}
 use Rattle.dd_invol.specs.Walk.{IsListed, IsPast, IsNext, HasNoneLeft, AreListed, Walking}
@@ -32,25 +28,6 @@ use Rattle.dd_invol.proofs.Places.{chamber_at}
 use Rattle.dd_invol.proofs.TableFronts.{front_same}
 use Rattle.dd_invol.proofs.Unbranched.{unbranched_unique}
 use Rattle.dd_invol.proofs.WalkLemmas.{front_at, begins_appended}
-
--- ## The images of a table as a list
-
-rows_last : (s : Symbol) (n : ℕ) → rows s 1 (n + 1) ≡ rows s 1 n ++ images s (n + 1)
-rows_last s n =
-    let e : 1 + n ≡ n + 1 = omega arith in
-    ap (λ ds. rows_of s ds) (count_from-more 1 n) ∙ flat_map-append (images s) (count_from 1 n) ((1 + n) ∷ []) ∙ ap (λ d. rows s 1 n ++ images s d) e
-  where
-    rows_of : Symbol → List ℕ → List ℕ
-    rows_of s ds = flat_map (images s) ds
-
--- a row that is pushed number by number
-pub row_pushed : (s : Symbol) (n a b c : ℕ) (xs us vs ws : List ℕ) → xs ≡ rows s 1 n → us ≡ xs ++ a ∷ [] → vs ≡ us ++ b ∷ [] → ws ≡ vs ++ c ∷ []
-    → a ≡ op s Zero (n + 1) → b ≡ op s One (n + 1) → c ≡ op s Two (n + 1) → ws ≡ rows s 1 (n + 1)
-row_pushed s n a b c xs us vs ws is first second third ea eb ec =
-    let joined : ws ≡ xs ++ a ∷ b ∷ c ∷ [] =
-    third ∙ ap (λ ys. ys ++ c ∷ []) (second ∙ ap (λ ys. ys ++ b ∷ []) first ∙ append_assoc xs (a ∷ []) (b ∷ [])) ∙ append_assoc xs (a ∷ b ∷ []) (c ∷ []) in
-    let row : a ∷ b ∷ c ∷ [] ≡ images s (n + 1) = λ x. ea x ∷ eb x ∷ ec x ∷ [] in
-    joined ∙ ap (λ ys. ys ++ a ∷ b ∷ c ∷ []) is ∙ ap (λ ys. rows s 1 n ++ ys) row ∙ sym (rows_last s n)
 
 -- ## Lists as in a dictionary
 

@@ -58,7 +58,7 @@ at_each : (a b : Symbol) (i : Index) → ((d : ℕ) → 1 ≤ d → op a i d ≢
 at_each a b i h zero some = h 1 (omega arith) some
 at_each a b i h (suc d) some = h (suc d) (omega arith) some
 
-whole_completes : (stem : Stem) (t : Symbol) → IsStem stem → length (prefix_of stem) ≡ 3 * size_of stem → IsTable t → Connected t → t.size ≡ size_of stem → Begins (prefix_of stem) (code t) → Completes (partial_of stem.rows) t
+pub whole_completes : (stem : Stem) (t : Symbol) → IsStem stem → length (prefix_of stem) ≡ 3 * size_of stem → IsTable t → Connected t → t.size ≡ size_of stem → Begins (prefix_of stem) (code t) → Completes (partial_of stem.rows) t
 whole_completes stem t is whole table con size begins = record {
   table = table;
   connected = con;

@@ -7,6 +7,7 @@ pub mod Mosts
 pub mod Distinct
 pub mod Beaten
 pub mod Passed
+pub mod Open
 pub mod Rows
 pub mod Commuting
 pub mod Visit

@@ -7,6 +7,7 @@ use Rattle.dd_model.specs.Connected.{Connected}
 use Rattle.dd_model.specs.Cell.{IsBranching}
 use Rattle.dd_model.specs.Lists.{Begins}
 use Rattle.dd_model.specs.Code.{code}
+use Rattle.dd_model.specs.FirstVisit.{LeastTable}
 use Rattle.dd_model.specs.Involutions.{HaveSameInvolutions}
 use Rattle.dd_symbol.specs.Images.{of_rows, with_degrees}
 
@@ -49,6 +50,12 @@ pub record IsTableOf (n : ℕ) (numbers : List ℕ) (t : Symbol) : Type 0 where
   pub bare : IsBareTable t
   pub size : t.size ≡ n
   pub begins : Begins numbers (code t)
+
+-- a table of n chambers whose code begins with the numbers, of which no renumbering is smaller
+pub record HasLeastTable (n : ℕ) (numbers : List ℕ) : Type 0 where
+  pub table : Symbol
+  pub of : IsTableOf n numbers table
+  pub least : LeastTable table
 
 -- the images of n chambers under an involution, in numbers that stand in the order of codes
 abbrev pub images_of : ℕ → List ℕ → Index → List ℕ

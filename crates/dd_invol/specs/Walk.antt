@@ -1,5 +1,5 @@
 -- A walk over tables, one after another.
-use Rattle.std.specs.Prelude.{◌≡◌, ◌≢◌, ◌↔◌, ℕ, ◌<◌, ◌≤◌, List, length, slice_index}
+use Rattle.std.specs.Prelude.{◌≡◌, ◌≢◌, ◌⊎◌, ◌↔◌, ℕ, ◌<◌, ◌≤◌, List, [], length, slice_index}
 use Rattle.std.specs.List.{Contains}
 use Rattle.std.specs.Ordering.{nat_cmp}
 use Rattle.std.specs.Cmp.Lexicographic.{slice_cmp}
@@ -16,7 +16,7 @@ use Rattle.dd_model.specs.Wanted.{AtMost, IsAscending}
 use Rattle.dd_model.specs.declared.requests.Request.{Request}
 use Rattle.dd_model.specs.declared.jobs.Job.{Job}
 use Rattle.dd_invol.specs.Stem.{prefix_of, size_of}
-use Rattle.dd_invol.specs.Table.{IsUnbranched}
+use Rattle.dd_invol.specs.Table.{IsUnbranched, IsTableOf}
 use Rattle.dd_model.specs.Involutions.{HaveSameInvolutions}
 use Rattle.dd_invol.specs.declared.stem.Stem.{Stem}
 
@@ -45,6 +45,12 @@ pub record IsNext (q : Request) (job : Job) (numbers : List ℕ) (t : Symbol) : 
   pub past : IsPast numbers t
   pub first : (s : Symbol) → IsListed q job s → IsPast numbers s → code_cmp t s ≢ Greater
 
+-- the images of the first of the listed tables past some numbers
+pub record IsAhead (q : Request) (job : Job) (numbers images : List ℕ) : Type 0 where
+  pub table : Symbol
+  pub next : IsNext q job numbers table
+  pub images_are : all_images table ≡ images
+
 -- no listed table is past some numbers
 abbrev pub HasNoneLeft : Request → Job → List ℕ → Type 0
 HasNoneLeft q job numbers = (s : Symbol) → IsListed q job s → IsPast numbers s → ⊥
@@ -60,15 +66,38 @@ pub record HasTable (q : Request) (job : Job) (s : Symbol) : Type 0 where
   pub listed : IsListed q job table
   pub same : HaveSameInvolutions s table
 
--- What a walk goes over, and the images of the table that it gave last: no numbers before the first one.
+-- What a walk goes over, and the images of the table where it stands: no numbers before the first one.
 pub record Walking : Type 0 where
   pub request : Request
   pub job : Job
   pub last : List ℕ
 
--- the walk after it gave a table
+-- the walk stands at a listed table, whose images are the last ones
+pub record StandsAt (w : Walking) (t : Symbol) : Type 0 where
+  pub listed : IsListed w.request w.job t
+  pub images : all_images t ≡ w.last
+
+-- the walk after it came to a table
 abbrev pub after : Walking → Symbol → Walking
 after w t = record { request = w.request; job = w.job; last = all_images t }
+
+-- the walk has come to the first listed table past where it stood
+pub record HasAdvanced (old new : Walking) : Type 0 where
+  pub table : Symbol
+  pub next : IsNext old.request old.job old.last table
+  pub moved : new ≡ after old table
+
+-- there is a listed table with these images
+pub record IsReached (q : Request) (job : Job) (images : List ℕ) : Type 0 where
+  pub table : Symbol
+  pub listed : IsListed q job table
+  pub images_are : all_images table ≡ images
+
+-- the table of a whole prefix is sought
+pub record HasSought (q : Request) (job : Job) : Type 0 where
+  pub table : Symbol
+  pub of : IsTableOf job.size job.prefix table
+  pub sought : IsSought q table
 
 -- the job of a stem
 abbrev pub here : Stem → Job
@@ -78,7 +107,8 @@ here stem = record { size = size_of stem; prefix = prefix_of stem }
 abbrev pub IsLeastNext : List ℕ → List ℕ → ℕ → Type 0
 IsLeastNext prefix numbers k = (xs : List ℕ) → Begins prefix xs → length prefix < length xs → slice_cmp nat_cmp numbers xs ≡ Less → k ≤ slice_index xs (length prefix)
 
--- a request, and a job of it
-pub record IsWalk (q : Request) (job : Job) : Type 0 where
+-- a request, a job of it, and no images or those of a listed table
+pub record IsWalk (q : Request) (job : Job) (last : List ℕ) : Type 0 where
   pub valid : IsValid q
   pub job_of : IsJobOf q job
+  pub stands : (last ≡ []) ⊎ IsReached q job last

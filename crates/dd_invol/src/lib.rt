@@ -1,6 +1,7 @@
 //! Prefixes of codes, and the tables of involutions under them.
 #![tactic(auto)]
 
+mod cells;
 mod laws;
 mod next_table;
 mod numbering;

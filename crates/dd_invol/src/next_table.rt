@@ -1,24 +1,42 @@
-ghost use Rattle.std.specs.Prelude.{◌≡◌, ◌↔◌, ◌*◌, ◌≤◌, IsTrue, IfOk, OnOk, MatchOption, length};
+ghost use Rattle.std.specs.Prelude.{◌≡◌, ◌↔◌, ◌*◌, ◌≤◌, List, ℕ, IsTrue, MatchOption, length};
+ghost use Rattle.std.specs.Bool.{OnTrue, OnFalse};
+ghost use Rattle.dd_model.specs.Symbol.{AreInvolutions};
+ghost use Rattle.dd_model.specs.Wanted.{AtMost};
+ghost use Rattle.dd_model.specs.declared.pair.Pair.TheVariants.{Tile, Vertex};
+ghost use Rattle.dd_symbol.specs.Images.{of_rows};
 ghost use Rattle.dd_invol.specs.Stem.{IsStem, prefix_of, size_of};
-ghost use Rattle.dd_invol.specs.Walk.{IsSought, IsNext, HasNoneLeft, IsLeastNext, here};
+ghost use Rattle.dd_invol.specs.Walk.{HasSought, IsAhead, HasNoneLeft, IsLeastNext, here};
 
-use crate::table::Table;
+use crate::cells::has_at_most;
 use crate::tables::Tables;
-use dd_canon::is_least;
-use dd_cells::has_at_most;
-use dd_model::{Memory, Pair, Request};
-use std::alloc::Global;
+use arrayvec::ArrayVec;
+use dd_model::{Pair, Request};
 
-/// Whether a table is one that a request asks for.
-fn is_sought(alloc: Global, request: &Request, table: &Table) -> Result<bool, Memory>
-    ensures { IfOk result (λ yes. IsTrue yes ↔ IsSought request.now table.now) }
+/// Whether all images, in the order of codes, have no more cells than a request asks for.
+fn has_limits(size: u8, images: &[u8], request: &Request) -> bool
+    requires size { size ≤ 36 }
+    requires whole { length images.now ≡ 3 * size }
+    requires involutions { AreInvolutions (of_rows size images.now) }
+    ensures { IsTrue result ↔ (AtMost (of_rows size images.now) Tile request.now.tiles
+        × AtMost (of_rows size images.now) Vertex request.now.vertices) }
 {
-    let symbol = table.symbol();
-    Ok(
-        has_at_most(symbol, Pair::Tile, request.tiles)
-            && has_at_most(symbol, Pair::Vertex, request.vertices)
-            && is_least(alloc, symbol)?,
-    )
+    has_at_most(size, images, Pair::Tile, request.tiles)
+        && has_at_most(size, images, Pair::Vertex, request.vertices)
+}
+
+/// Whether the whole prefix of a search is that of a table that its request asks for.
+fn is_sought(tables: &mut Tables) -> bool
+    requires stem { IsStem tables.old.stem }
+    requires whole { length (prefix_of tables.old.stem) ≡ 3 * size_of tables.old.stem }
+    ensures same { tables.new ≡ tables.old }
+    ensures sought { OnTrue result (HasSought tables.old.request (here tables.old.stem)) }
+    ensures none { OnFalse result ((bound : List ℕ)
+        → HasNoneLeft tables.old.request (here tables.old.stem) bound) }
+{
+    if !tables.is_least() {
+        return false;
+    }
+    has_limits(tables.size(), tables.prefix(), tables.request())
 }
 
 /// The least number that may come after a prefix in images that come after a bound.
@@ -31,53 +49,58 @@ fn least_next(prefix: &[u8], bound: &[u8]) -> u8
     bound[prefix.len()]
 }
 
-/// The table of a whole prefix, where it is sought and comes after a bound.
-fn table_past(alloc: Global, tables: &Tables, bound: &[u8]) -> Result<Option<Table>, Memory>
-    requires stem { IsStem tables.now.stem }
-    requires whole { length (prefix_of tables.now.stem) ≡ 3 * size_of tables.now.stem }
-    ensures { IfOk result (λ found. MatchOption found
-        (HasNoneLeft tables.now.request (here tables.now.stem) bound.now)
-        (λ table. IsNext tables.now.request (here tables.now.stem) bound.now table)) }
+/// The same numbers, for a caller that keeps them.
+fn kept(numbers: &[u8]) -> ArrayVec<u8, 108>
+    requires { length numbers.now ≤ 108 }
+    ensures { result.items ≡ numbers.now }
 {
-    let numbers = tables.prefix();
-    if !bound.cmp(numbers).is_lt() {
-        return Ok(None);
+    let mut images = ArrayVec::new();
+    for number in numbers {
+        images.push(*number);
     }
-    let Some(table) = Table::of(alloc, tables.size(), numbers)? else {
-        return Ok(None);
-    };
-    if !is_sought(alloc, tables.request(), &table)? {
-        return Ok(None);
-    }
-    Ok(Some(table))
+    images
 }
 
-/// The first table under the prefix of a search that is sought and comes after a bound.
-pub(crate) fn first_past(
-    alloc: Global,
-    tables: &mut Tables,
-    bound: &[u8],
-) -> Result<Option<Table>, Memory>
-    requires { IsStem tables.old.stem }
-    ensures same { OnOk result (tables.new ≡ tables.old) }
-    ensures found { IfOk result (λ found. MatchOption found
+/// The images of the table of a whole prefix, where it is sought and comes after a bound.
+fn images_past(tables: &mut Tables, bound: &[u8]) -> Option<ArrayVec<u8, 108>>
+    requires stem { IsStem tables.old.stem }
+    requires whole { length (prefix_of tables.old.stem) ≡ 3 * size_of tables.old.stem }
+    ensures same { tables.new ≡ tables.old }
+    ensures found { MatchOption result
         (HasNoneLeft tables.old.request (here tables.old.stem) bound.now)
-        (λ table. IsNext tables.old.request (here tables.old.stem) bound.now table)) }
+        (λ images. IsAhead tables.old.request (here tables.old.stem) bound.now images.items) }
+{
+    if !bound.cmp(tables.prefix()).is_lt() {
+        return None;
+    }
+    if !is_sought(tables) {
+        return None;
+    }
+    Some(kept(tables.prefix()))
+}
+
+/// The images of the first table under the prefix of a search that is sought and comes after a bound.
+pub(crate) fn first_past(tables: &mut Tables, bound: &[u8]) -> Option<ArrayVec<u8, 108>>
+    requires { IsStem tables.old.stem }
+    ensures same { tables.new ≡ tables.old }
+    ensures found { MatchOption result
+        (HasNoneLeft tables.old.request (here tables.old.stem) bound.now)
+        (λ images. IsAhead tables.old.request (here tables.old.stem) bound.now images.items) }
 {
     if tables.is_whole() {
-        return table_past(alloc, tables, bound);
+        return images_past(tables, bound);
     }
     let mark = tables.mark();
     let mut k = least_next(tables.prefix(), bound);
     while let Some(number) = tables.next_from(k) {
         if tables.enter(number) {
-            let found = first_past(alloc, tables, bound)?;
+            let found = first_past(tables, bound);
             tables.leave(mark);
-            if let Some(table) = found {
-                return Ok(Some(table));
+            if let Some(images) = found {
+                return Some(images);
             }
         }
         k = number + 1;
     }
-    Ok(None)
+    None
 }

@@ -4,6 +4,7 @@ ghost use Rattle.std.specs.Int.{bit_at};
 ghost use Rattle.dd_model.specs.Symbol.{op};
 ghost use Rattle.dd_invol.specs.FirstVisit.{AreMet};
 ghost use Rattle.dd_invol.specs.Rows.{partial_of, depth_of, IsReady};
+ghost use Rattle.dd_invol.specs.Table.{HasLeastTable};
 ghost use Rattle.dd_invol.specs.Visit.{IsVisiting};
 ghost use Rattle.dd_invol.specs.Under.{HasNothingUnder, HasNoNumberFrom, SkipsTo};
 
@@ -220,6 +221,29 @@ impl Stem {
             }
         }
         false
+    }
+
+    /// Whether the images, which are all told, are those of a least table: the chambers come in the order
+    /// of their first visits, all of them are met, and the traversal from no start reads smaller.
+    pub(crate) fn is_least(&self, visit: &mut Visit) -> bool
+        requires stem { IsStem self.now }
+        requires whole { length (prefix_of self.now) ≡ 3 * size_of self.now }
+        requires visiting { IsVisiting visit.old }
+        ensures visiting { IsVisiting visit.new }
+        ensures least { OnTrue result (HasLeastTable (size_of self.now) (prefix_of self.now)) }
+        ensures none { OnFalse result
+            (HasNothingUnder Any (size_of self.now) (prefix_of self.now)) }
+    {
+        if !self.prefix.grows() || !self.meets_all() {
+            return false;
+        }
+        for k in 1..self.rows.size() {
+            let standing = stand(&self.rows, self.prefix.as_slice(), k + 1, visit);
+            if let Standing::Smaller = standing {
+                return false;
+            }
+        }
+        true
     }
 
     /// Puts a number at the end with what follows from it, unless nothing is under the longer

@@ -33,6 +33,7 @@ impl Tables {
     ghost use Rattle.dd_invol.specs.Visit.{IsVisiting};
     ghost use Rattle.dd_invol.specs.Rows.{depth_of};
     ghost use Rattle.dd_invol.specs.Stem.{Any, IsStem, prefix_of, size_of};
+    ghost use Rattle.dd_invol.specs.Table.{HasLeastTable};
     ghost use Rattle.dd_invol.specs.Growth.{asked_of, size_at, prefix_at, taken_back};
 
     /// The search from the empty prefix.
@@ -97,6 +98,19 @@ impl Tables {
         ensures { result ≡ depth_of self.now.stem.rows }
     {
         self.stem.mark()
+    }
+
+    /// Whether the images, which are all told, are those of a least table.
+    pub(crate) fn is_least(&mut self) -> bool
+        requires stem { IsStem self.old.stem }
+        requires whole { length (prefix_of self.old.stem) ≡ 3 * size_of self.old.stem }
+        ensures same { self.new ≡ self.old }
+        ensures least { OnTrue result
+            (HasLeastTable (size_of self.old.stem) (prefix_of self.old.stem)) }
+        ensures none { OnFalse result
+            (HasNothingUnder Any (size_of self.old.stem) (prefix_of self.old.stem)) }
+    {
+        self.stem.is_least(&mut self.visit)
     }
 
     /// The least number from k on that may come next; None where no such number may come.

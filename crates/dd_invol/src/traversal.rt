@@ -1,7 +1,8 @@
-ghost use Rattle.std.specs.Prelude.{◌≡◌, ◌+◌, ◌-◌, [], ◌∷◌, ◌++◌, ◌≤◌, length, set};
+ghost use Rattle.std.specs.Prelude.{◌≡◌, ℕ, ◌+◌, ◌-◌, ◌*◌, [], ◌∷◌, ◌++◌, ◌≤◌, length, set};
 ghost use Rattle.dd_model.specs.Symbol.{item};
 ghost use Rattle.dd_canon.specs.Traversal.{IsMeeting};
 ghost use Rattle.dd_invol.specs.Beaten.{IsBeaten};
+ghost use Rattle.dd_invol.specs.Open.{IsOpen};
 ghost use Rattle.dd_invol.specs.Passed.{IsPassed};
 ghost use Rattle.dd_invol.specs.Rows.{partial_of, IsReady};
 ghost use Rattle.dd_invol.specs.Visit.{IsVisiting};
@@ -92,8 +93,10 @@ pub(crate) fn stand(rows: &Rows, prefix: &[u8], start: u8, visit: &mut Visit) ->
     requires ready { IsReady rows.now }
     requires visiting { IsVisiting visit.old }
     requires start { (1 ≤ start) × (start ≤ (partial_of rows.now).size) }
-    requires short { length prefix.now ≤ 108 }
+    requires short { length prefix.now ≤ 3 * (partial_of rows.now).size }
     ensures visiting { IsVisiting visit.new }
+    ensures open { (place : ℕ) → result ≡ Standing.Open place
+        → IsOpen (partial_of rows.now) prefix.now start }
     ensures beaten { result ≡ Standing.Smaller → IsBeaten (partial_of rows.now) prefix.now }
     ensures larger { result ≡ Standing.Larger → IsPassed (partial_of rows.now) prefix.now start }
 {

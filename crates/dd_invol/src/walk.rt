@@ -1,9 +1,9 @@
-ghost use Rattle.std.specs.Prelude.{◌≡◌, [], ◌*◌, ◌≤◌, List, IfOk, IfSome, IfNone, OnErr, MatchOption, length};
-ghost use Rattle.dd_model.specs.Symbol.{IsSymbol};
+ghost use Rattle.std.specs.Bool.{OnTrue, OnFalse};
+ghost use Rattle.std.specs.Prelude.{◌≡◌, ◌≢◌, [], List, IfOk, IfSome, IfNone, OnErr, MatchOption};
 ghost use Rattle.dd_model.specs.Code.{all_images};
 ghost use Rattle.dd_model.specs.Request.{IsValid};
 ghost use Rattle.dd_model.specs.Jobs.{IsJobOf};
-ghost use Rattle.dd_invol.specs.Walk.{IsNext, HasNoneLeft, AreListed};
+ghost use Rattle.dd_invol.specs.Walk.{IsAhead, IsListed, IsNext, HasNoneLeft, AreListed};
 
 use crate::next_table::first_past;
 use crate::splits::stem_of;
@@ -11,49 +11,15 @@ use crate::table::Table;
 use crate::tables::Tables;
 use crate::traversal::Visit;
 use arrayvec::ArrayVec;
-use dd_model::{Index, Job, Memory, Request};
+use dd_model::{Job, Memory, Request};
 use std::alloc::Global;
 use std::marker::Model;
-
-/// The images of a table, in the order of its code.
-fn images_of_table(table: &Table) -> ArrayVec<u8, 108>
-    ensures { result.items ≡ all_images table.now }
-{
-    let mut images = ArrayVec::new();
-    for k in 0..table.size() {
-        let chamber = k + 1;
-        images.push(table.at(Index::Zero, chamber) as u8);
-        images.push(table.at(Index::One, chamber) as u8);
-        images.push(table.at(Index::Two, chamber) as u8);
-    }
-    images
-}
-
-/// The first listed table past some numbers.
-fn first_listed(
-    alloc: Global,
-    request: &Request,
-    job: &Job,
-    last: &[u8],
-) -> Result<Option<Table>, Memory>
-    requires size { (1 ≤ job.now.size) × (job.now.size ≤ 36) }
-    requires short { length job.now.prefix ≤ 3 * job.now.size }
-    ensures { IfOk result (λ found. MatchOption found
-        (HasNoneLeft request.now job.now last.now)
-        (λ table. IsNext request.now job.now last.now table)) }
-{
-    let mut visit = Visit::new();
-    let Some(stem) = stem_of(job, &mut visit) else {
-        return Ok(None);
-    };
-    let mut tables = Tables::from_stem(request, stem, visit);
-    first_past(alloc, &mut tables, last)
-}
 
 /// A walk over the tables that a request and a job ask for: connected ones of the job's size with
 /// s0 s2 = s2 s0, whose codes begin with the job's prefix, of which no renumbering is smaller, and
 /// with no more classes of tiles and of vertices than the request allows. They come in the order
-/// of their codes, each once.
+/// of their codes, each once. The walk stands at the table to which it came last, and keeps its
+/// images alone, so that no memory is taken where it goes on.
 #[derive(Drop)]
 pub struct Walk {
     alloc: Global,
@@ -71,13 +37,13 @@ impl Model for Walk {
 
     ghost view = { λ a. record { request = a.request; job = a.job; last = a.last.items } };
 
-    ghost invariant = { λ a. IsWalk a.request a.job };
+    ghost invariant = { λ a. IsWalk a.request a.job a.last.items };
 }
 
 impl Walk {
-    ghost use Rattle.dd_invol.specs.Walk.{after};
+    ghost use Rattle.dd_invol.specs.Walk.{after, HasAdvanced, IsReached, StandsAt};
 
-    /// The walk that has given no table.
+    /// The walk that has come to no table yet.
     pub fn start(alloc: Global, request: &Request, job: &Job) -> Result<Walk, Memory>
         requires valid { IsValid request.now }
         requires job { IsJobOf request.now job.now }
@@ -93,22 +59,74 @@ impl Walk {
         })
     }
 
-    /// The next table; None where all have been given. After an error the walk stands where it
-    /// stood.
+    /// The images of the next table; None where the walk came to all.
+    fn ahead(&self) -> Option<ArrayVec<u8, 108>>
+        ensures { MatchOption result
+            (HasNoneLeft self.now.request self.now.job self.now.last)
+            (λ images. IsAhead self.now.request self.now.job self.now.last images.items) }
+    {
+        let mut visit = Visit::new();
+        let Some(stem) = stem_of(&self.job, &mut visit) else {
+            return None;
+        };
+        let mut tables = Tables::from_stem(&self.request, stem, visit);
+        first_past(&mut tables, self.last.as_slice())
+    }
+
+    /// The table with some images, which are known to be those of a listed one.
+    fn table_of(&self, images: &[u8]) -> Result<Table, Memory>
+        requires { IsReached self.now.request self.now.job images.now }
+        ensures listed { IfOk result (λ table. IsListed self.now.request self.now.job table) }
+        ensures images { IfOk result (λ table. all_images table ≡ images.now) }
+    {
+        let Some(table) = Table::of(self.alloc, self.job.size as u8, images)? else {
+            unreachable!()
+        };
+        Ok(table)
+    }
+
+    /// Goes on to the next table; false where it came to all. It takes no memory.
+    pub fn advance(&mut self) -> bool
+        ensures moved { OnTrue result (HasAdvanced self.old self.new) }
+        ensures stands { OnTrue result (self.new.last ≢ []) }
+        ensures ended { OnFalse result
+            (HasNoneLeft self.old.request self.old.job self.old.last) }
+        ensures same { OnFalse result (self.new ≡ self.old) }
+    {
+        let Some(images) = self.ahead() else {
+            return false;
+        };
+        self.last = images;
+        true
+    }
+
+    /// The table where the walk stands.
+    pub fn table(&self) -> Result<Table, Memory>
+        requires { self.now.last ≢ [] }
+        ensures { IfOk result (λ table. StandsAt self.now table) }
+    {
+        self.table_of(self.last.as_slice())
+    }
+
+    /// The next table, where the walk then stands; None where it came to all. After an error it
+    /// stands where it stood.
     pub fn next(&mut self) -> Result<Option<Table>, Memory>
         ensures found { IfOk result (λ found. MatchOption found
             (HasNoneLeft self.old.request self.old.job self.old.last)
             (λ table. IsNext self.old.request self.old.job self.old.last table)) }
         ensures given { IfOk result
             (λ found. IfSome found (λ table. self.new ≡ after self.old table)) }
+        ensures stands { IfOk result
+            (λ found. IfSome found (λ _. self.new.last ≢ [])) }
         ensures ended { IfOk result (λ found. IfNone found (self.new ≡ self.old)) }
         ensures failed { OnErr result (self.new ≡ self.old) }
     {
-        let found = first_listed(self.alloc, &self.request, &self.job, self.last.as_slice())?;
-        if let Some(table) = &found {
-            self.last = images_of_table(table);
-        }
-        Ok(found)
+        let Some(images) = self.ahead() else {
+            return Ok(None);
+        };
+        let table = self.table_of(images.as_slice())?;
+        self.last = images;
+        Ok(Some(table))
     }
 }
 

@@ -2,7 +2,7 @@ ghost use Rattle.std.specs.Prelude.{◌≡◌};
 ghost use Rattle.dd_invol.specs.Stem.{IsStem};
 ghost use Rattle.dd_invol.specs.Visit.{IsVisiting};
 
-use dd_invol::{Stem, Table, Visit, children, is_opening, opening, tables_under};
+use dd_invol::{Stem, Table, Visit, Walk, children, is_opening, opening, tables_under};
 use dd_model::{Allowed, Index, Job, Prefix, Request};
 use std::alloc::Global;
 use std::test::Fail;
@@ -235,6 +235,40 @@ fn a_walk_ascends(rt: HostRuntime) -> Result<(), Fail> {
         firsts.as_slice(),
         [[1, 1, 2], [1, 2, 1], [1, 2, 2]].as_slice()
     );
+    Ok(())
+}
+
+/// The images of chamber 1 in each table to which a walk goes on in three calls, and whether a fourth
+/// one finds none.
+fn advanced(alloc: Global, q: &Request, job: &Job) -> Result<(Vec<[u32; 3]>, bool), Fail> {
+    let mut firsts = Vec::new(alloc);
+    let fits = job.prefix.as_slice().len() as u64 <= 3 * job.size as u64;
+    if !q.is_valid() || job.size == 0 || job.size > q.chambers || !fits {
+        return Ok((firsts, false));
+    }
+    let mut walk = Walk::start(alloc, q, job)?;
+    for _ in 0..3 {
+        if walk.advance() {
+            let table = walk.table()?;
+            let symbol = table.symbol().symbol();
+            firsts.push([
+                symbol.op(Index::Zero, 1),
+                symbol.op(Index::One, 1),
+                symbol.op(Index::Two, 1),
+            ])?;
+        }
+    }
+    Ok((firsts, !walk.advance()))
+}
+
+#[test]
+fn a_walk_advances(rt: HostRuntime) -> Result<(), Fail> {
+    let (firsts, ended) = advanced(rt.alloc(), &asked(2), &job(rt.alloc(), 2, &[1])?)?;
+    assert_eq!(rt;
+        firsts.as_slice(),
+        [[1, 1, 2], [1, 2, 1], [1, 2, 2]].as_slice()
+    );
+    assert!(rt; ended);
     Ok(())
 }
 

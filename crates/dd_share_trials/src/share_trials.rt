@@ -30,8 +30,8 @@ fn is_empty(tiles: u32, least: u32, size: u8) -> bool
     requires size { (1 ≤ size) × (size ≤ 36) }
 {
     let rows = Rows::empty(size);
-    let classes = PathShares::of(&asked(tiles, least));
-    Sides::start(&classes, size).rules_out(&classes, &rows)
+    let classes = PathShares::of(&asked(tiles, least), size);
+    Sides::start(&classes).rules_out(&classes, &rows)
 }
 
 #[test]
@@ -67,8 +67,8 @@ fn put(rows: &mut Rows, classes: &PathShares, sides: &mut Sides, place: u8, numb
 fn answers() -> [bool; 6] {
     let empty = Rows::empty(6);
     let mut rows = Rows::empty(6);
-    let classes = PathShares::of(&asked(0, 4));
-    let start = Sides::start(&classes, 6);
+    let classes = PathShares::of(&asked(0, 4), 6);
+    let start = Sides::start(&classes);
     let mut sides = start;
     let before = sides.rules_out(&classes, &rows);
     let one = put(&mut rows, &classes, &mut sides, 0, 2);
@@ -106,8 +106,8 @@ fn is_empty_with_a_tile(tiles: u32, least: u32) -> bool
     requires { (1 ≤ least) × (least ≤ 36) }
 {
     let mut rows = Rows::empty(3);
-    let classes = PathShares::of(&asked(tiles, least));
-    let mut sides = Sides::start(&classes, 3);
+    let classes = PathShares::of(&asked(tiles, least), 3);
+    let mut sides = Sides::start(&classes);
     put(&mut rows, &classes, &mut sides, 0, 1)
         && put(&mut rows, &classes, &mut sides, 1, 1)
         && sides.rules_out(&classes, &rows)
@@ -131,8 +131,8 @@ fn answers_for_pentagons() -> [bool; 3] {
     let mut request = asked(0, 3);
     request.faces = faces;
     let mut rows = Rows::empty(20);
-    let classes = PathShares::of(&request);
-    let mut sides = Sides::start(&classes, 20);
+    let classes = PathShares::of(&request, 20);
+    let mut sides = Sides::start(&classes);
     let before = sides.rules_out(&classes, &rows);
     let put_in = put(&mut rows, &classes, &mut sides, 0, 2)
         && put(&mut rows, &classes, &mut sides, 1, 1);
@@ -153,8 +153,8 @@ fn is_empty_with_a_chain(size: u8) -> bool
     requires { (1 ≤ size) × (size ≤ 36) }
 {
     let mut rows = Rows::empty(size);
-    let classes = PathShares::of(&asked(1, 3));
-    let mut sides = Sides::start(&classes, size);
+    let classes = PathShares::of(&asked(1, 3), size);
+    let mut sides = Sides::start(&classes);
     put(&mut rows, &classes, &mut sides, 0, 1) && sides.rules_out(&classes, &rows)
 }
 
@@ -225,8 +225,8 @@ fn nodes_of(tiles: u32, least: u32, size: u8) -> u64
 {
     let mut stem = Stem::new(size);
     let mut visit = Visit::new();
-    let classes = PathShares::of(&asked(tiles, least));
-    let start = Sides::start(&classes, size);
+    let classes = PathShares::of(&asked(tiles, least), size);
+    let start = Sides::start(&classes);
     count_nodes(&mut stem, &mut visit, &classes, &start, 0)
 }
 
@@ -245,12 +245,15 @@ fn nodes_up_to(tiles: u32, least: u32, size: u8) -> u64
 #[test]
 fn a_search_turns_back_in_time(rt: HostRuntime) -> Result<(), Fail> {
     assert_eq!(rt; nodes_of(0, 3, 6), 296);
+    assert_eq!(rt; nodes_of(0, 3, 7), 257);
     assert_eq!(rt; nodes_of(0, 3, 8), 999);
+    assert_eq!(rt; nodes_of(0, 3, 9), 1017);
     assert_eq!(rt; nodes_of(0, 3, 10), 3019);
+    assert_eq!(rt; nodes_of(0, 3, 11), 3448);
     assert_eq!(rt; nodes_of(0, 3, 12), 9716);
     assert_eq!(rt; nodes_of(1, 3, 12), 121);
     assert_eq!(rt; nodes_of(1, 3, 13), 0);
-    assert_eq!(rt; nodes_up_to(2, 3, 12), 5820);
-    assert_eq!(rt; nodes_up_to(0, 1, 9), 4784);
+    assert_eq!(rt; nodes_up_to(2, 3, 12), 5815);
+    assert_eq!(rt; nodes_up_to(0, 1, 9), 4769);
     Ok(())
 }

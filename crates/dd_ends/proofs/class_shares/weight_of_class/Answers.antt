@@ -7,4 +7,4 @@ pub returns : goal.returns
 returns c =
     let q = c.args.request.now in
     let v = c.share_of_class.result in
-    subst (IsClassWeight q c.args.pair c.args.class) (ap (λ n. n * v) (sym c.from.ensures)) (class_weight_of q c.args.pair c.args.class v c.share_of_class.ensures)
+    subst (IsClassWeight q c.args.pair c.args.size c.args.class) (ap (λ n. n * v) (sym c.from.ensures)) (class_weight_of q c.args.pair c.args.size c.args.class v c.share_of_class.ensures)

@@ -5,11 +5,11 @@ use Rattle.dd_invol.specs.Stem.{Any, prefix_of, size_of}
 use Rattle.dd_invol.specs.Rows.{depth_of}
 use Rattle.dd_invol.specs.Under.{HasNothingUnder, HasNoNumberFrom, SkipsTo}
 use Rattle.dd_invol.specs.Growth.{taken_back}
-use Rattle.dd_invol.specs.Walk.{here, HasNoneLeft, IsNext, IsLeastNext}
+use Rattle.dd_invol.specs.Walk.{here, HasNoneLeft, IsAhead, IsLeastNext}
 use Rattle.dd_invol.proofs.SearchSteps.{not_whole}
-use Rattle.dd_invol.proofs.WalkLemmas.{none_before, none_dead, none_listed, next_found, none_left, moved_next, moved_none, with_some, with_none}
+use Rattle.dd_invol.proofs.WalkLemmas.{none_before, none_dead, none_listed, ahead_found, none_left, moved_ahead, moved_none, with_some, with_none}
 use Rattle.dd_invol.proofs.next_table.+first_past.Goals as goal
-use Rattle.dd_invol.proofs.next_table.+first_past.Goals.{then-enter+in_ok-found+in_default-found, else-enter}
+use Rattle.dd_invol.proofs.next_table.+first_past.Goals.{then-enter+in_default-found, else-enter}
 
 pub loop-number-init : goal.loop-number-init
 loop-number-init t c =
@@ -32,8 +32,9 @@ returns-in-Some-found-clause-found t c =
     let longer = subst (λ s. IsLonger (λ t. t.request) (λ t. size_of t.stem) (λ t. prefix_of t.stem) m s c.enter.new.self) i.same c.if-enter.ensures.alive in
     let bound = c.args.bound.now in
     let new = c.enter.new.self in
-    let found = with_some c.in_ok-found.found (HasNoneLeft new.request (here new.stem) bound) (IsNext new.request (here new.stem) bound) c.in-Some-found.table c.in-Some-found.is c.in_ok-found.ensures.found in
-    next_found S.request (here S.stem) bound c.loop-number.k m c.in-Some-found.table i.short skips i.none (moved_next S new m bound c.in-Some-found.table longer found)
+    let images = c.in-Some-found.images.items in
+    let found = with_some c.first_past-found.result (HasNoneLeft new.request (here new.stem) bound) (λ images. IsAhead new.request (here new.stem) bound images.items) c.in-Some-found.images c.in-Some-found.is c.first_past-found.ensures.found in
+    ahead_found S.request (here S.stem) bound c.loop-number.k m images i.short skips i.none (moved_ahead S new m bound images longer found)
 
 pub loop-number-preserved : goal.loop-number-preserved
 loop-number-preserved t c =
@@ -42,14 +43,14 @@ loop-number-preserved t c =
     let m = c.in-Some.number in
     let skips : SkipsTo Any (size_of S.stem) (prefix_of S.stem) c.loop-number.k m = subst (λ s. SkipsTo Any (size_of s.stem) (prefix_of s.stem) c.loop-number.k m) i.same c.in-Some.ensures in
     elim c.if-enter.branch [
-      | then-enter+in_ok-found+in_default-found w ↦
+      | then-enter+in_default-found w ↦
           let bound = c.args.bound.now in
           let new = c.enter.new.self in
           let longer = subst (λ s. IsLonger (λ t. t.request) (λ t. size_of t.stem) (λ t. prefix_of t.stem) m s new) i.same w.if-enter.ensures.alive in
           let back = subst (λ s. taken_back new (depth_of s.stem.rows) ≡ s) i.same w.if-enter.ensures.undone in
-          let nothing = with_none w.in_ok-found.found (HasNoneLeft new.request (here new.stem) bound) (IsNext new.request (here new.stem) bound) w.in_default-found.is w.in_ok-found.ensures.found in
+          let nothing = with_none w.first_past-found.result (HasNoneLeft new.request (here new.stem) bound) (λ images. IsAhead new.request (here new.stem) bound images.items) w.in_default-found.is w.first_past-found.ensures.found in
           record {
-            same = w.tables-is ∙ w.leave.ensures ∙ ap (λ s. taken_back s c.mark-mark.result) w.in_ok-found.ensures.same ∙ ap (taken_back new) i.mark ∙ back;
+            same = w.tables-is ∙ w.leave.ensures ∙ ap (λ s. taken_back s c.mark-mark.result) w.first_past-found.ensures.same ∙ ap (taken_back new) i.mark ∙ back;
             short = i.short;
             mark = i.mark;
             none = none_dead S.request (here S.stem) bound c.loop-number.k m i.short skips i.none (moved_none S new m bound longer nothing);

@@ -1,9 +1,9 @@
-use Rattle.std.proofs.Common.{◌≡◌, ℕ, ◌+◌, ◌-◌, ◌*◌, ◌/◌, ◌%◌, ◌≢◌, ◌<◌, ◌≤◌, List, length, get_or, sym, ap, ◌∙◌, arith}
+use Rattle.std.proofs.Common.{◌≡◌, ℕ, ◌+◌, ◌-◌, ◌*◌, ◌/◌, ◌%◌, ◌≢◌, ◌<◌, ◌≤◌, List, length, get_or, sym, ap, ◌∙◌, inl, inr, arith}
 use Rattle.dd_model.specs.Symbol.{Symbol, op}
 use Rattle.dd_canon.specs.Traversal.{IsVisit, IsMeeting}
 use Rattle.dd_invol.specs.Places.{index_at}
 use Rattle.dd_invol.specs.Rows.{partial_of, HasNumberAt}
-use Rattle.dd_invol.proofs.Passing.{ReadsNext, passing_begun, passing_more, passed_here}
+use Rattle.dd_invol.proofs.Passing.{ReadsNext, passing_begun, passing_more, passed_here, agreeing_here, unknown_here}
 use Rattle.dd_invol.proofs.Traversing.{AreInside, extends_met, inside_begun, inside_met, met_at, reads_more, beats_here}
 use Rattle.dd_invol.proofs.traversal.stand.Goals as goal
 
@@ -39,6 +39,7 @@ loop-place-init c =
       inside = inside;
       reads = record { same = λ v low. absurd (omega arith) };
       passing = passing_begun P c.args.prefix.now c.begin.new.self.order.items c.begin.new.self.number c.args.start 36 c.requires.ready.small c.begin.ensures.order c.begin.ensures.visiting.visit inside;
+      some = let order = c.begin.ensures.order in let one = ap length order in omega (arith, one);
       begun = omega arith;
     }
 
@@ -75,7 +76,29 @@ loop-offset-preserved c =
       inside = next.inside;
       reads = reads_more P c.args.prefix.now _ _ _ c.loop-offset.place _ c.meet-number.result next.at i.reads (omega arith);
       passing = passing_more P c.args.prefix.now _ _ c.loop-offset.visit.number _ c.args.start c.loop-offset.place _ c.meet-number.result 36 next i.passing (omega arith);
+      some = let some = i.some in omega (arith, some, longer);
       low = omega arith;
       first = i.first ∙ ap (λ d. 3 * (d - 1)) (sym (grown.same c.loop-place.row low));
       within = omega arith;
     }
+
+pub returns-then-place-prefix-clause-open : goal.returns-then-place-prefix-clause-open
+returns-then-place-prefix-clause-open c _ _ =
+    let i = c.loop-offset.invariant in
+    inl (agreeing_here (partial_of c.args.rows.now) c.args.prefix.now c.loop-offset.visit.order.items c.loop-offset.visit.number c.args.start c.loop-offset.place
+    c.if-place-prefix.true c.requires.short i.reads i.passing)
+
+pub returns-then-image-eq0-clause-open : goal.returns-then-image-eq0-clause-open
+returns-then-image-eq0-clause-open c _ _ =
+    let i = c.loop-offset.invariant in
+    let chamber = (i.inside.inside c.loop-place.row i.low).1 in
+    let first = i.first in
+    let test = c.loop-offset-test.true in
+    let low = (i.inside.inside c.loop-place.row i.low).0 in
+    inr (inr (unknown_here (partial_of c.args.rows.now) _ c.number_at-image.result (omega (arith, chamber, low, first, test)) c.number_at-image.ensures.number c.if-image-eq0.true))
+
+pub returns-clause-open : goal.returns-clause-open
+returns-clause-open c _ _ =
+    let i = c.loop-place.invariant in
+    inl (agreeing_here (partial_of c.args.rows.now) c.args.prefix.now c.loop-place.visit.order.items c.loop-place.visit.number c.args.start c.loop-place.place
+    c.loop-place-test.false c.requires.short i.reads i.passing)

@@ -1,4 +1,4 @@
-use Rattle.std.proofs.Common.{◌≡◌, ◌+◌, ◌-◌, ◌*◌, ◌<◌, length, get_or}
+use Rattle.std.proofs.Common.{◌≡◌, ◌+◌, ◌-◌, ◌*◌, ◌<◌, ◌≤◌, length, get_or}
 use Rattle.dd_invol.specs.Rows.{partial_of}
 use Rattle.dd_invol.specs.Visit.{IsVisiting}
 use Rattle.dd_invol.proofs.Passing.{IsPassing}
@@ -11,6 +11,7 @@ invariant-loop-place l = record {
   inside : AreInside (partial_of l.rows).size l.visit.order.items;
   reads : ReadsSo (partial_of l.rows) l.prefix l.visit.order.items l.place;
   passing : IsPassing (partial_of l.rows) l.prefix l.start l.visit.order.items l.visit.number l.place;
+  some : 1 ≤ length l.visit.order.items;
   begun : l.place ≡ 3 * l.row;
 }
 
@@ -20,6 +21,7 @@ invariant-loop-offset l = record {
   inside : AreInside (partial_of l.rows).size l.visit.order.items;
   reads : ReadsSo (partial_of l.rows) l.prefix l.visit.order.items l.place;
   passing : IsPassing (partial_of l.rows) l.prefix l.start l.visit.order.items l.visit.number l.place;
+  some : 1 ≤ length l.visit.order.items;
   low : l.row < length l.visit.order.items;
   first : l.first ≡ 3 * (get_or l.visit.order.items l.row 0 - 1);
   within : l.place ≡ 3 * l.row + l.offset;

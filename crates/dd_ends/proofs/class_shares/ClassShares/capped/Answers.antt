@@ -20,4 +20,4 @@ returns-clause-small c =
     let t = c.args.self.now in
     let k = c.place.result + 64 in
     let low = c.place.ensures.inside in
-    weight_small t.request t.pair k 64 (get_or t.weights k 0) (omega arith) (t.are_told.each k (omega (arith, low)))
+    weight_small t.request t.pair t.size k 64 (get_or t.weights k 0) (omega arith) (t.are_told.each k (omega (arith, low)))

@@ -28,4 +28,4 @@ returns-clause-small c =
     let first = c.args.one.small in
     let second = c.args.other.small in
     let k = c.place.result + c.place-2.result in
-    weight_small t.request t.pair k 64 (get_or t.weights k 0) (omega arith) (t.are_told.each k (omega (arith, few, one, other, first, second)))
+    weight_small t.request t.pair t.size k 64 (get_or t.weights k 0) (omega arith) (t.are_told.each k (omega (arith, few, one, other, first, second)))

@@ -19,7 +19,7 @@ loop-class-preserved c =
       room = length-set xs k v ∙ room;
       each = λ d below. ⊎_elim
           (λ (here : d ≡ k).
-          subst (IsClassWeight q p d) (sym (ap (λ j. get_or (set xs k v) j 0) here ∙ get_or-set_same xs k v 0 low)) (subst (λ e. IsClassWeight q p e v) (sym (here ∙ at)) c.weight_of_class.ensures))
-          (λ (other : d ≢ k). subst (IsClassWeight q p d) (sym (get_or-set_other xs k d v 0 other)) (c.loop-class.invariant.each d (omega (arith, below, at, other))))
+          subst (IsClassWeight q p c.args.size d) (sym (ap (λ j. get_or (set xs k v) j 0) here ∙ get_or-set_same xs k v 0 low)) (subst (λ e. IsClassWeight q p c.args.size e v) (sym (here ∙ at)) c.weight_of_class.ensures))
+          (λ (other : d ≢ k). subst (IsClassWeight q p c.args.size d) (sym (get_or-set_other xs k d v 0 other)) (c.loop-class.invariant.each d (omega (arith, below, at, other))))
           (cases_eq d k);
     }

@@ -27,7 +27,7 @@ returns-clause-total c s sought =
     let census = c.of-census.result in
     let bound = c.in-Some.ensures.some s t.pair (sought.completes.size ∙ sym c.size.ensures)
     (has_room q P t.pair census c.args.limit c.requires.pair (c.requires.asked) some c.of-census.ensures.census s sought) in
-    let kept = total_bounds q P (λ _. true) t.pair (ends_of t side) side.total c.requires.pair (λ s full. refl) c.requires.kept s sought in
+    let kept = total_bounds q P (λ _. true) t.pair (ends_of t side) side.total c.requires.pair (λ s full. refl) c.requires.kept.ends s sought in
     subst (BoundsReciprocals s t.pair) (sym c.min.ensures) (bounds_least s t.pair c.in-Some.bound side.total bound kept)
 
 pub returns-clause-small : goal.returns-clause-small
