@@ -14,7 +14,8 @@ use Rattle.dd_model.specs.Wanted.{AtMost}
 use Rattle.dd_model.proofs.SameInvolutions.{same-sym, involutions-same}
 use Rattle.dd_symbol.specs.Images.{of_rows}
 use Rattle.dd_invol.specs.Table.{IsTableOf, HasLeastTable}
-use Rattle.dd_invol.specs.Walk.{HasSought, IsAhead, HasNoneLeft}
+use Rattle.dd_invol.specs.Walk.{HasNoneLeft}
+use Rattle.dd_invol.specs.NextTable.{HasSought, IsAhead}
 use Rattle.dd_invol.proofs.BareTables.{at_most_alike}
 use Rattle.dd_invol.proofs.TableFronts.{told_same}
 use Rattle.dd_invol.proofs.WalkLemmas.{front_is, next_read, none_sought}

@@ -22,7 +22,8 @@ use Rattle.dd_invol.specs.Stem.{Any, prefix_of, size_of}
 use Rattle.dd_invol.specs.Table.{HasNoTable, IsTableOf}
 use Rattle.dd_model.specs.Involutions.{HaveSameInvolutions}
 use Rattle.dd_invol.specs.Under.{IsUnder, HasNothingUnder, HasNoNumberFrom, SkipsTo, next_number}
-use Rattle.dd_invol.specs.Walk.{IsSought, IsListed, IsPast, IsNext, IsAhead, HasNoneLeft, IsLeastNext, here}
+use Rattle.dd_invol.specs.Walk.{IsSought, IsListed, IsPast, IsNext, HasNoneLeft}
+use Rattle.dd_invol.specs.NextTable.{IsAhead, IsLeastNext, here}
 use Rattle.dd_model.proofs.Ascending.{begins_at, begins_length, begins_from, begins_more, begins_less, agree_from, less_at}
 use Rattle.dd_invol.proofs.Prefixes.{below_next}
 use Rattle.dd_invol.proofs.TableFronts.{front_same}

@@ -8,7 +8,8 @@ use Rattle.dd_model.specs.Lists.{Begins}
 use Rattle.dd_model.specs.Symbol.{Symbol, IsSymbol}
 use Rattle.dd_model.proofs.Codes.{length-flat_images}
 use Rattle.dd_invol.specs.Table.{IsUnbranched, IsTableOf, HasNoTable}
-use Rattle.dd_invol.specs.Walk.{IsListed, IsNext, IsAhead, IsReached}
+use Rattle.dd_invol.specs.Walk.{IsListed, IsNext, IsReached}
+use Rattle.dd_invol.specs.NextTable.{IsAhead}
 use Rattle.dd_invol.proofs.TableFronts.{front_same}
 use Rattle.dd_invol.proofs.Unbranched.{unbranched_unique}
 use Rattle.dd_invol.proofs.WalkOrder.{own_begins}

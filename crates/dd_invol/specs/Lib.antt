@@ -18,3 +18,4 @@ pub mod Children
 pub mod Table
 pub mod Ties
 pub mod Walk
+pub mod NextTable

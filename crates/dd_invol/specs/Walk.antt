@@ -1,5 +1,5 @@
 -- A walk over tables, one after another.
-use Rattle.std.specs.Prelude.{◌≡◌, ◌≢◌, ◌⊎◌, ◌↔◌, ℕ, ◌<◌, ◌≤◌, List, [], length, slice_index}
+use Rattle.std.specs.Prelude.{◌≡◌, ◌≢◌, ◌⊎◌, ◌↔◌, ℕ, List, []}
 use Rattle.std.specs.List.{Contains}
 use Rattle.std.specs.Ordering.{nat_cmp}
 use Rattle.std.specs.Cmp.Lexicographic.{slice_cmp}
@@ -15,10 +15,8 @@ use Rattle.dd_model.specs.Jobs.{IsJobOf}
 use Rattle.dd_model.specs.Wanted.{AtMost, IsAscending}
 use Rattle.dd_model.specs.declared.requests.Request.{Request}
 use Rattle.dd_model.specs.declared.jobs.Job.{Job}
-use Rattle.dd_invol.specs.Stem.{prefix_of, size_of}
-use Rattle.dd_invol.specs.Table.{IsUnbranched, IsTableOf}
+use Rattle.dd_invol.specs.Table.{IsUnbranched}
 use Rattle.dd_model.specs.Involutions.{HaveSameInvolutions}
-use Rattle.dd_invol.specs.declared.stem.Stem.{Stem}
 
 -- what a request asks of a table: that no renumbering is smaller, and that it has no more tiles and vertices than asked for
 pub record IsSought (q : Request) (t : Symbol) : Type 0 where
@@ -44,12 +42,6 @@ pub record IsNext (q : Request) (job : Job) (numbers : List ℕ) (t : Symbol) : 
   pub listed : IsListed q job t
   pub past : IsPast numbers t
   pub first : (s : Symbol) → IsListed q job s → IsPast numbers s → code_cmp t s ≢ Greater
-
--- the images of the first of the listed tables past some numbers
-pub record IsAhead (q : Request) (job : Job) (numbers images : List ℕ) : Type 0 where
-  pub table : Symbol
-  pub next : IsNext q job numbers table
-  pub images_are : all_images table ≡ images
 
 -- no listed table is past some numbers
 abbrev pub HasNoneLeft : Request → Job → List ℕ → Type 0
@@ -92,20 +84,6 @@ pub record IsReached (q : Request) (job : Job) (images : List ℕ) : Type 0 wher
   pub table : Symbol
   pub listed : IsListed q job table
   pub images_are : all_images table ≡ images
-
--- the table of a whole prefix is sought
-pub record HasSought (q : Request) (job : Job) : Type 0 where
-  pub table : Symbol
-  pub of : IsTableOf job.size job.prefix table
-  pub sought : IsSought q table
-
--- the job of a stem
-abbrev pub here : Stem → Job
-here stem = record { size = size_of stem; prefix = prefix_of stem }
-
--- Lists past some numbers that begin with a prefix have k or more next.
-abbrev pub IsLeastNext : List ℕ → List ℕ → ℕ → Type 0
-IsLeastNext prefix numbers k = (xs : List ℕ) → Begins prefix xs → length prefix < length xs → slice_cmp nat_cmp numbers xs ≡ Less → k ≤ slice_index xs (length prefix)
 
 -- a request, a job of it, and no images or those of a listed table
 pub record IsWalk (q : Request) (job : Job) (last : List ℕ) : Type 0 where

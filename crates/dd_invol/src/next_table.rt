@@ -5,7 +5,8 @@ ghost use Rattle.dd_model.specs.Wanted.{AtMost};
 ghost use Rattle.dd_model.specs.declared.pair.Pair.TheVariants.{Tile, Vertex};
 ghost use Rattle.dd_symbol.specs.Images.{of_rows};
 ghost use Rattle.dd_invol.specs.Stem.{IsStem, prefix_of, size_of};
-ghost use Rattle.dd_invol.specs.Walk.{HasSought, IsAhead, HasNoneLeft, IsLeastNext, here};
+ghost use Rattle.dd_invol.specs.Walk.{HasNoneLeft};
+ghost use Rattle.dd_invol.specs.NextTable.{HasSought, IsAhead, IsLeastNext, here};
 
 use crate::cells::has_at_most;
 use crate::tables::Tables;

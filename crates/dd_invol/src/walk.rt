@@ -3,7 +3,8 @@ ghost use Rattle.std.specs.Prelude.{◌≡◌, ◌≢◌, [], List, IfOk, IfSome
 ghost use Rattle.dd_model.specs.Code.{all_images};
 ghost use Rattle.dd_model.specs.Request.{IsValid};
 ghost use Rattle.dd_model.specs.Jobs.{IsJobOf};
-ghost use Rattle.dd_invol.specs.Walk.{IsAhead, IsListed, IsNext, HasNoneLeft, AreListed};
+ghost use Rattle.dd_invol.specs.Walk.{IsListed, IsNext, HasNoneLeft, AreListed};
+ghost use Rattle.dd_invol.specs.NextTable.{IsAhead};
 
 use crate::next_table::first_past;
 use crate::splits::stem_of;

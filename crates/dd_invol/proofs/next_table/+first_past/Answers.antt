@@ -5,7 +5,8 @@ use Rattle.dd_invol.specs.Stem.{Any, prefix_of, size_of}
 use Rattle.dd_invol.specs.Rows.{depth_of}
 use Rattle.dd_invol.specs.Under.{HasNothingUnder, HasNoNumberFrom, SkipsTo}
 use Rattle.dd_invol.specs.Growth.{taken_back}
-use Rattle.dd_invol.specs.Walk.{here, HasNoneLeft, IsAhead, IsLeastNext}
+use Rattle.dd_invol.specs.Walk.{HasNoneLeft}
+use Rattle.dd_invol.specs.NextTable.{here, IsAhead, IsLeastNext}
 use Rattle.dd_invol.proofs.SearchSteps.{not_whole}
 use Rattle.dd_invol.proofs.WalkLemmas.{none_before, none_dead, none_listed, ahead_found, none_left, moved_ahead, moved_none, with_some, with_none}
 use Rattle.dd_invol.proofs.next_table.+first_past.Goals as goal

@@ -1,7 +1,7 @@
 use Rattle.std.proofs.Common.{◌≡◌, ◌-◌, ◌*◌, ◌<◌, length}
 use Rattle.dd_invol.specs.Rows.{depth_of}
 use Rattle.dd_invol.specs.Stem.{prefix_of, size_of}
-use Rattle.dd_invol.specs.Walk.{here}
+use Rattle.dd_invol.specs.NextTable.{here}
 use Rattle.dd_invol.proofs.WalkLemmas.{HasNoneBelow}
 use Rattle.dd_invol.proofs.next_table.+first_past.Given as goal
 

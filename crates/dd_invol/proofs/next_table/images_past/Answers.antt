@@ -4,7 +4,7 @@ use Rattle.std.specs.Cmp.Lexicographic.{slice_cmp}
 use Rattle.std.specs.declared.cmp.Ordering.{Ordering}
 use Rattle.std.specs.declared.cmp.Ordering.TheVariants.{Less, Equal, Greater}
 use Rattle.dd_invol.specs.Stem.{prefix_of}
-use Rattle.dd_invol.specs.Walk.{here}
+use Rattle.dd_invol.specs.NextTable.{here}
 use Rattle.dd_invol.proofs.SoughtStems.{ahead_here}
 use Rattle.dd_invol.proofs.WalkLemmas.{none_past}
 use Rattle.dd_invol.proofs.next_table.images_past.Goals as goal
