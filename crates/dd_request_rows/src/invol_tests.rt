@@ -238,36 +238,43 @@ fn a_walk_ascends(rt: HostRuntime) -> Result<(), Fail> {
     Ok(())
 }
 
-/// The images of chamber 1 in each table to which a walk goes on in three calls, and whether a fourth
-/// one finds none.
-fn advanced(alloc: Global, q: &Request, job: &Job) -> Result<(Vec<[u32; 3]>, bool), Fail> {
-    let mut firsts = Vec::new(alloc);
+/// The images of the first two chambers of a table, in the order of its code.
+fn images_of(table: &Table) -> [u32; 6] {
+    let symbol = table.symbol().symbol();
+    if symbol.size() < 2 {
+        return [0; 6];
+    }
+    [
+        symbol.op(Index::Zero, 1),
+        symbol.op(Index::One, 1),
+        symbol.op(Index::Two, 1),
+        symbol.op(Index::Zero, 2),
+        symbol.op(Index::One, 2),
+        symbol.op(Index::Two, 2),
+    ]
+}
+
+/// The images of the tables to which a walk goes on in three calls, and whether a fourth one finds none.
+fn advanced(alloc: Global, q: &Request, job: &Job) -> Result<(Vec<[u32; 6]>, bool), Fail> {
+    let mut images = Vec::new(alloc);
     let fits = job.prefix.as_slice().len() as u64 <= 3 * job.size as u64;
     if !q.is_valid() || job.size == 0 || job.size > q.chambers || !fits {
-        return Ok((firsts, false));
+        return Ok((images, false));
     }
     let mut walk = Walk::start(alloc, q, job)?;
     for _ in 0..3 {
         if walk.advance() {
-            let table = walk.table()?;
-            let symbol = table.symbol().symbol();
-            firsts.push([
-                symbol.op(Index::Zero, 1),
-                symbol.op(Index::One, 1),
-                symbol.op(Index::Two, 1),
-            ])?;
+            images.push(images_of(&walk.table()?))?;
         }
     }
-    Ok((firsts, !walk.advance()))
+    Ok((images, !walk.advance()))
 }
 
 #[test]
 fn a_walk_advances(rt: HostRuntime) -> Result<(), Fail> {
-    let (firsts, ended) = advanced(rt.alloc(), &asked(2), &job(rt.alloc(), 2, &[1])?)?;
-    assert_eq!(rt;
-        firsts.as_slice(),
-        [[1, 1, 2], [1, 2, 1], [1, 2, 2]].as_slice()
-    );
+    let (images, ended) = advanced(rt.alloc(), &asked(2), &job(rt.alloc(), 2, &[1])?)?;
+    let expected = [[1, 1, 2, 2, 2, 1], [1, 2, 1, 2, 1, 2], [1, 2, 2, 2, 1, 1]];
+    assert_eq!(rt; images.as_slice(), expected.as_slice());
     assert!(rt; ended);
     Ok(())
 }
