@@ -8,7 +8,7 @@ ghost use Rattle.dd_canon.specs.Traversal.{IsVisit, IsMeeting, IsExtension, IsTr
 
 use crate::steps::Steps;
 use dd_model::{Memory, Pair};
-use dd_symbol::{Connected, Symbol};
+use dd_symbol::{Connected, SymbolRef};
 use std::alloc::Global;
 use std::cmp::Ordering;
 use std::sync::ledger::Ledger;
@@ -44,7 +44,7 @@ impl Visit {
     }
 
     /// A chamber without a number gets the next one.
-    fn add(&mut self, s: &Connected, chamber: u32) -> u32
+    fn add(&mut self, s: &SymbolRef<'_>, chamber: u32) -> u32
         requires ready { IsReady s.now self.old }
         requires chamber { IsChamber s.now chamber }
         requires none { item self.old.number.items chamber ≡ 0 }
@@ -61,7 +61,7 @@ impl Visit {
     }
 
     /// The start alone has a number.
-    fn begin(&mut self, s: &Connected, start: u32)
+    fn begin(&mut self, s: &SymbolRef<'_>, start: u32)
         requires ready { IsReady s.now self.old }
         requires start { IsChamber s.now start }
         ensures ready { IsReady s.now self.new }
@@ -74,7 +74,7 @@ impl Visit {
     }
 
     /// The number of a chamber, the next one where it has none.
-    fn meet(&mut self, s: &Connected, chamber: u32) -> u32
+    fn meet(&mut self, s: &SymbolRef<'_>, chamber: u32) -> u32
         requires ready { IsReady s.now self.old }
         requires chamber { IsChamber s.now chamber }
         ensures ready { IsReady s.now self.new }
@@ -91,7 +91,7 @@ impl Visit {
     /// The number of an image, compared with another number after what stands before it.
     fn step<L: Ledger>(
         &mut self,
-        s: &Connected,
+        s: &SymbolRef<'_>,
         image: u32,
         own: u32,
         so_far: Ordering,
@@ -111,8 +111,8 @@ impl Visit {
     /// The three images of the chamber with number k, as long as they do not fall behind.
     fn row<L: Ledger>(
         &mut self,
-        s: &Connected,
-        form: &Symbol,
+        s: &SymbolRef<'_>,
+        form: &SymbolRef<'_>,
         k: u32,
         so_far: Ordering,
         steps: &mut Steps<L>,
@@ -130,7 +130,7 @@ impl Visit {
             (λ u. rows u (k + 1) (s.now.size - k)) result }
         ensures count { steps.new ≤ steps.old + 3 }
     {
-        let images = s.symbol().images(self.chamber(k));
+        let images = s.images(self.chamber(k));
         let own = form.images(k);
         let zero = self.step(s, images[0], own[0], so_far, steps);
         if zero.is_gt() {
@@ -144,7 +144,12 @@ impl Visit {
     }
 
     /// The rows of all chambers, as long as they do not fall behind.
-    fn rows<L: Ledger>(&mut self, s: &Connected, form: &Symbol, steps: &mut Steps<L>) -> Ordering
+    fn rows<L: Ledger>(
+        &mut self,
+        s: &SymbolRef<'_>,
+        form: &SymbolRef<'_>,
+        steps: &mut Steps<L>,
+    ) -> Ordering
         requires ready { IsReady s.now self.old }
         requires traversal { IsTraversal s.now form.now
             self.old.order.items self.old.number.items 1 (λ u. rows u 1 s.now.size) Equal }
@@ -156,7 +161,7 @@ impl Visit {
         ensures count { steps.new ≤ steps.old + 3 * s.now.size }
     {
         let mut so_far = Ordering::Equal;
-        for k in 0..s.symbol().size() {
+        for k in 0..s.size() {
             so_far = self.row(s, form, k + 1, so_far, steps);
             if so_far.is_gt() {
                 return so_far;
@@ -168,8 +173,8 @@ impl Visit {
     /// The degrees of a pair in the order of the numbers.
     fn degrees<L: Ledger>(
         &self,
-        s: &Connected,
-        form: &Symbol,
+        s: &SymbolRef<'_>,
+        form: &SymbolRef<'_>,
         pair: Pair,
         steps: &mut Steps<L>,
     ) -> Ordering
@@ -180,9 +185,9 @@ impl Visit {
             → result ≡ slice_cmp nat_cmp (degree_list t pair) (degree_list form.now pair) }
         ensures count { steps.new ≤ steps.old + s.now.size }
     {
-        for k in 0..s.symbol().size() {
+        for k in 0..s.size() {
             let chamber = self.chamber(k + 1);
-            let own = s.symbol().degree(pair, chamber);
+            let own = s.degree(pair, chamber);
             let order = steps.compare(own, form.degree(pair, k + 1));
             if order.is_ne() {
                 return order;
@@ -208,16 +213,17 @@ impl Visit {
             → IsWhole s.now start self.new.order.items self.new.number.items }
         ensures count { steps.new ≤ steps.old + 5 * s.now.size }
     {
-        let form = form.symbol();
-        self.begin(s, start);
-        let rows = self.rows(s, form, steps);
+        let from = s.lend();
+        let to = form.lend();
+        self.begin(&from, start);
+        let rows = self.rows(&from, &to, steps);
         if rows.is_ne() {
             return rows;
         }
-        let m01 = self.degrees(s, form, Pair::Tile, steps);
+        let m01 = self.degrees(&from, &to, Pair::Tile, steps);
         if m01.is_ne() {
             return m01;
         }
-        self.degrees(s, form, Pair::Vertex, steps)
+        self.degrees(&from, &to, Pair::Vertex, steps)
     }
 }

@@ -2,8 +2,15 @@
 use Rattle.std.specs.Prelude.{ℕ, List}
 use Rattle.dd_symbol.specs.declared.numbers.Held.{Held}
 use Rattle.dd_symbol.specs.declared.numbers.Held.TheVariants.{Bytes, Words}
+use Rattle.dd_symbol.specs.declared.numbers_ref.NumbersRef.{NumbersRef}
+use Rattle.dd_symbol.specs.declared.numbers_ref.NumbersRef.TheVariants.{Bytes as LentBytes, Words as LentWords}
 
 -- the numbers, in whichever form they are kept
 abbrev pub held_items : Held → List ℕ
 held_items (Bytes bytes) = bytes.items
 held_items (Words words) = words.items
+
+-- the numbers that are lent
+abbrev pub lent_items : NumbersRef → List ℕ
+lent_items (LentBytes bytes) = bytes.now
+lent_items (LentWords words) = words.now

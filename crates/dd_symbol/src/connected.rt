@@ -3,6 +3,7 @@ ghost use Rattle.dd_model.specs.Isomorphic.{IsBijection, IsIsomorphism};
 ghost use Rattle.dd_symbol.specs.Images.{with_degrees};
 
 use crate::symbol::Symbol;
+use crate::symbol_ref::SymbolRef;
 use dd_model::Memory;
 use std::alloc::Global;
 use std::marker::Model;
@@ -43,6 +44,14 @@ impl Connected {
         ensures connected { AllReached self.now }
     {
         &self.symbol
+    }
+
+    /// The same symbol, for a reader of many of its numbers.
+    pub fn lend(&self) -> SymbolRef<'_>
+        ensures same { result ≡ self.now }
+        ensures symbol { IsSmallSymbol self.now }
+    {
+        self.symbol.lend()
     }
 
     /// Chamber D becomes chamber map(D).

@@ -53,7 +53,7 @@ impl Involutions {
     ghost use Rattle.dd_symbol.specs.Images.{of_rows, with_degrees, AreThreeInvolutions};
     ghost use Rattle.dd_symbol.specs.Refusals.{IsInvolutionsFault};
     ghost use Rattle.dd_model.specs.Symbol.{AreInvolutions, IsChamber, act, item, turn};
-    ghost use Rattle.dd_model.specs.Code.{code, images};
+    ghost use Rattle.dd_model.specs.Code.{code};
     ghost use Rattle.dd_model.specs.Involutions.{HaveSameInvolutions};
 
     /// The involutions with these images, s0, s1 and s2 of chamber 1, then those of chamber 2 and so
@@ -143,36 +143,6 @@ impl Involutions {
         ensures three { AreThreeInvolutions self.now }
     {
         self.rows.image(i, chamber)
-    }
-
-    /// The three images of a chamber.
-    pub(crate) fn images(&self, chamber: u32) -> [u32; 3]
-        requires { IsChamber self.now chamber }
-        ensures { result ≡ images self.now chamber }
-    {
-        self.rows.images(chamber)
-    }
-
-    /// The degree of the tile at a chamber, where degrees follow.
-    pub(crate) fn tile(&self, chamber: u32) -> u32
-        requires low { 1 ≤ chamber }
-        requires high { chamber ≤ length self.now.m01 }
-        ensures { result ≡ item self.now.m01 chamber }
-    {
-        self.rows
-            .numbers
-            .get(3 * self.rows.size as usize + chamber as usize - 1)
-    }
-
-    /// The degree of the vertex at a chamber, where degrees follow.
-    pub(crate) fn vertex(&self, chamber: u32) -> u32
-        requires low { 1 ≤ chamber }
-        requires high { chamber ≤ length self.now.m12 }
-        ensures { result ≡ item self.now.m12 chamber }
-    {
-        self.rows
-            .numbers
-            .get(4 * self.rows.size as usize + chamber as usize - 1)
     }
 
     /// The number at a place of the code.

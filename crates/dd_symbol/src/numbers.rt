@@ -2,6 +2,7 @@ ghost use Rattle.std.specs.Prelude.{◌≡◌, ◌+◌, ◌<◌, ◌≤◌, ◌�
 ghost use Rattle.std.specs.Ordering.{nat_cmp};
 ghost use Rattle.std.specs.Cmp.Lexicographic.{slice_cmp};
 
+use crate::numbers_ref::NumbersRef;
 use dd_model::Memory;
 use smallvec::SmallVec;
 use std::alloc::Global;
@@ -48,6 +49,8 @@ fn add_bytes(words: &mut Vec<u32>, bytes: &[u8]) -> Result<(), Memory>
 }
 
 impl Numbers {
+    ghost use Rattle.dd_symbol.specs.Numbers.{lent_items};
+
     /// No numbers, with room for some in bytes.
     pub(crate) fn with_room(alloc: Global, room: usize) -> Result<Numbers, Memory>
         ensures { IfOk result (λ it. it ≡ []) }
@@ -67,37 +70,22 @@ impl Numbers {
         }
     }
 
+    /// The same numbers, for a reader that asks once in which form they are kept.
+    pub(crate) fn lend(&self) -> NumbersRef<'_>
+        ensures { lent_items result ≡ self.now }
+    {
+        match &self.held {
+            Held::Bytes(bytes) => NumbersRef::Bytes(bytes.as_slice()),
+            Held::Words(words) => NumbersRef::Words(words),
+        }
+    }
+
     /// The number at a place, counted from 0.
     pub(crate) fn get(&self, place: usize) -> u32
         requires { place < length self.now }
         ensures { result ≡ slice_index self.now place }
     {
-        match &self.held {
-            Held::Bytes(bytes) => {
-                let bytes = bytes.as_slice();
-                u32::from(bytes[place])
-            }
-            Held::Words(words) => words[place],
-        }
-    }
-
-    /// The number at a place, and the two after it.
-    pub(crate) fn three_from(&self, place: usize) -> [u32; 3]
-        requires { place + 2 < length self.now }
-        ensures { result ≡ slice_index self.now place ∷ slice_index self.now (place + 1)
-            ∷ slice_index self.now (place + 2) ∷ [] }
-    {
-        match &self.held {
-            Held::Bytes(bytes) => {
-                let bytes = bytes.as_slice();
-                [
-                    u32::from(bytes[place]),
-                    u32::from(bytes[place + 1]),
-                    u32::from(bytes[place + 2]),
-                ]
-            }
-            Held::Words(words) => [words[place], words[place + 1], words[place + 2]],
-        }
+        self.lend().get(place)
     }
 
     /// A copy in words.

@@ -17,7 +17,6 @@ pub(crate) struct Rows {
 impl Rows {
     ghost use Rattle.dd_symbol.specs.Images.{rows_of, of_rows};
     ghost use Rattle.dd_model.specs.Symbol.{IsChamber, op};
-    ghost use Rattle.dd_model.specs.Code.{images};
 
     /// The rows with these images, s0, s1 and s2 of chamber 1, then those of chamber 2 and so on, and
     /// with room for degrees.
@@ -57,13 +56,5 @@ impl Rows {
             Index::One => self.numbers.get(row + 1),
             Index::Two => self.numbers.get(row + 2),
         }
-    }
-
-    /// The three images of a chamber.
-    pub(crate) fn images(&self, chamber: u32) -> [u32; 3]
-        requires { IsChamber (rows_of self.now) chamber }
-        ensures { result ≡ images (rows_of self.now) chamber }
-    {
-        self.numbers.three_from(3 * (chamber as usize - 1))
     }
 }

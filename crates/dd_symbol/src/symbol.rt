@@ -5,6 +5,7 @@ ghost use Rattle.dd_model.specs.Code.{code_cmp};
 use crate::involutions::Involutions;
 use crate::maps::inverse;
 use crate::shapes::CellShape;
+use crate::symbol_ref::SymbolRef;
 use crate::table::Table;
 use dd_model::{Code, Index, Memory, Pair, Position};
 use std::alloc::Global;
@@ -58,6 +59,13 @@ impl Symbol {
         self.table.size()
     }
 
+    /// The same symbol, for a reader of many of its numbers.
+    pub(crate) fn lend(&self) -> SymbolRef<'_>
+        ensures { result ≡ self.now }
+    {
+        self.table.lend()
+    }
+
     /// The three involutions.
     pub fn involutions(&self) -> &Involutions
         ensures { result.now ≡ self.now }
@@ -79,7 +87,7 @@ impl Symbol {
         requires { IsChamber self.now chamber }
         ensures { result ≡ images self.now chamber }
     {
-        self.table.involutions.images(chamber)
+        self.lend().images(chamber)
     }
 
     /// The degree of the tile at a chamber.

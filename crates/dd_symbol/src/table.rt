@@ -2,6 +2,7 @@ ghost use Rattle.std.specs.Prelude.{◌≡◌, ◌≤◌, length, IfOk};
 ghost use Rattle.dd_symbol.specs.Images.{AreThreeInvolutions};
 
 use crate::involutions::Involutions;
+use crate::symbol_ref::SymbolRef;
 use dd_model::{Code, Memory, Pair};
 use std::alloc::Global;
 use std::cmp::Ordering;
@@ -30,16 +31,23 @@ impl Table {
         self.involutions.size()
     }
 
+    /// The same lists, for a reader of many numbers.
+    pub(crate) fn lend(&self) -> SymbolRef<'_>
+        ensures { result ≡ symbol_of self.now }
+    {
+        let rows = &self.involutions.rows;
+        SymbolRef {
+            numbers: rows.numbers.lend(),
+            size: rows.size,
+        }
+    }
+
     /// The degree of a pair at a chamber, which for edges is 2.
     pub(crate) fn degree(&self, pair: Pair, chamber: u32) -> u32
         requires { IsChamber (symbol_of self.now) chamber }
         ensures { result ≡ degree (symbol_of self.now) pair chamber }
     {
-        match pair {
-            Pair::Tile => self.involutions.tile(chamber),
-            Pair::Vertex => self.involutions.vertex(chamber),
-            Pair::Edge => 2,
-        }
+        self.lend().degree(pair, chamber)
     }
 
     /// The branching value of a pair at a chamber.

@@ -10,8 +10,7 @@ use Rattle.dd_canon.proofs.visits.Visit.degrees.Goals as goal
 
 pub degree-own-requires : goal.degree-own-requires
 degree-own-requires g c =
-    let size : c.symbol.result.now.size ≡ c.args.s.now.size = ap (λ (t : Symbol). t.size) c.symbol.ensures.same in
-    rw (c.chamber-chamber.ensures, c.symbol-in-loop-k.ensures.same)
+    rw c.chamber-chamber.ensures
     (c.requires.visit.within (c.loop-k.k + 1) (omega arith) (omega arith))
 
 pub returns-then-is_ne-clause-order : goal.returns-then-is_ne-clause-order
@@ -21,7 +20,6 @@ returns-then-is_ne-clause-order g c t f ext =
     let p = c.args.pair in
     let k = c.loop-k.k in
     let order = c.args.self.now.order.items in
-    let size : c.symbol.result.now.size ≡ s.size = ap (λ (t : Symbol). t.size) c.symbol.ensures.same in
     let e : c.compare-order.result ≡ nat_cmp (degree s p (item order (k + 1))) (degree b p (k + 1)) = cc in
     then_first c.compare-order.result (slice_cmp nat_cmp (drop (k + 1) (degree_list t p)) (drop (k + 1) (degree_list b p))) (cc)
     ∙ sym (degree_step s b t p f order c.args.self.now.number.items k c.compare-order.result c.requires.visit c.requires.full c.requires.size ext (omega arith) e)
@@ -35,7 +33,6 @@ loop-k-preserved g c = record {
       let p = c.args.pair in
       let k = c.loop-k.k in
       let order = c.args.self.now.order.items in
-      let size : c.symbol.result.now.size ≡ s.size = ap (λ (t : Symbol). t.size) c.symbol.ensures.same in
       let e : c.compare-order.result ≡ nat_cmp (degree s p (item order (k + 1))) (degree b p (k + 1)) = cc in
       sym (then_second c.compare-order.result (slice_cmp nat_cmp (drop (k + 1) (degree_list t p)) (drop (k + 1) (degree_list b p))) (cc))
       ∙ sym (degree_step s b t p f order c.args.self.now.number.items k c.compare-order.result c.requires.visit c.requires.full c.requires.size ext (omega arith) e)
@@ -46,6 +43,5 @@ loop-k-preserved g c = record {
 pub returns-clause-order : goal.returns-clause-order
 returns-clause-order g c t f ext =
     let s = c.args.s.now in
-    let size : c.symbol.result.now.size ≡ s.size = ap (λ (t : Symbol). t.size) c.symbol.ensures.same in
     sym (degree_end s c.args.form.now t c.args.pair f c.args.self.now.order.items c.loop-k.k c.requires.size ext (omega arith))
     ∙ c.loop-k.invariant.order t f ext

@@ -23,7 +23,7 @@ images-images-requires g c =
     next_row s c.args.form.now order c.args.self.now.number.items k (λ u. rows u k (suc (s.size - k))) c.args.so_far
     c.requires.ready.symbol.symbol.table c.requires.ready.connected c.requires.traversal c.requires.high in
     let inside : IsChamber s (item order k) = c.requires.ready.visit.within k c.requires.low here in
-    subst (λ t. IsChamber t c.chamber.result) (sym c.symbol.ensures.same) (subst (IsChamber s) (sym c.chamber.ensures) inside)
+    subst (IsChamber s) (sym c.chamber.ensures) inside
 
 pub step-zero-requires-clause-image : goal.step-zero-requires-clause-image
 step-zero-requires-clause-image g c =
@@ -36,7 +36,7 @@ step-zero-requires-clause-image g c =
     let inside : IsChamber s (item order k) = c.requires.ready.visit.within k c.requires.low here in
     let there = subst (IsChamber s) (sym c.chamber.ensures) inside in
     let image : get_or c.images-images.result 0 0 ≡ op s Zero c.chamber.result =
-    ap (λ xs. get_or xs 0 0) (c.images-images.ensures ∙ ap (λ t. images t c.chamber.result) c.symbol.ensures.same) in
+    ap (λ xs. get_or xs 0 0) c.images-images.ensures in
     subst (IsChamber s) (sym image) ((c.requires.ready.symbol.symbol.table.involutions Zero).within c.chamber.result there)
 
 pub step-one-requires-clause-image : goal.step-one-requires-clause-image
@@ -50,7 +50,7 @@ step-one-requires-clause-image g c =
     let inside : IsChamber s (item order k) = c.requires.ready.visit.within k c.requires.low here in
     let there = subst (IsChamber s) (sym c.chamber.ensures) inside in
     let image : get_or c.images-images.result 1 0 ≡ op s One c.chamber.result =
-    ap (λ xs. get_or xs 1 0) (c.images-images.ensures ∙ ap (λ t. images t c.chamber.result) c.symbol.ensures.same) in
+    ap (λ xs. get_or xs 1 0) c.images-images.ensures in
     subst (IsChamber s) (sym image) ((c.requires.ready.symbol.symbol.table.involutions One).within c.chamber.result there)
 
 pub step-requires-clause-image : goal.step-requires-clause-image
@@ -64,7 +64,7 @@ step-requires-clause-image g c =
     let inside : IsChamber s (item order k) = c.requires.ready.visit.within k c.requires.low here in
     let there = subst (IsChamber s) (sym c.chamber.ensures) inside in
     let image : get_or c.images-images.result 2 0 ≡ op s Two c.chamber.result =
-    ap (λ xs. get_or xs 2 0) (c.images-images.ensures ∙ ap (λ t. images t c.chamber.result) c.symbol.ensures.same) in
+    ap (λ xs. get_or xs 2 0) c.images-images.ensures in
     subst (IsChamber s) (sym image) ((c.requires.ready.symbol.symbol.table.involutions Two).within c.chamber.result there)
 
 pub returns-then-is_gt-clause-ongoing : goal.returns-then-is_gt-clause-ongoing
@@ -78,7 +78,7 @@ returns-then-is_gt-clause-ongoing g c =
     let inv = c.requires.ready.symbol.symbol.table.involutions in
     let here : k ≤ length order =
     next_row s b order number k (λ u. rows u k (suc n)) c.args.so_far c.requires.ready.symbol.symbol.table c.requires.ready.connected c.requires.traversal c.requires.high in
-    let read : c.images-images.result ≡ images s c.chamber.result = c.images-images.ensures ∙ ap (λ t. images t c.chamber.result) c.symbol.ensures.same in
+    let read : c.images-images.result ≡ images s c.chamber.result = c.images-images.ensures in
     let own = c.images-own.ensures in
     let order1 = c.step-zero.new.self.order.items in
     let number1 = c.step-zero.new.self.number.items in
@@ -99,7 +99,7 @@ returns-then-is_gt-2-clause-ongoing g c =
     let inv = c.requires.ready.symbol.symbol.table.involutions in
     let here : k ≤ length order =
     next_row s b order number k (λ u. rows u k (suc n)) c.args.so_far c.requires.ready.symbol.symbol.table c.requires.ready.connected c.requires.traversal c.requires.high in
-    let read : c.images-images.result ≡ images s c.chamber.result = c.images-images.ensures ∙ ap (λ t. images t c.chamber.result) c.symbol.ensures.same in
+    let read : c.images-images.result ≡ images s c.chamber.result = c.images-images.ensures in
     let own = c.images-own.ensures in
     let order1 = c.step-zero.new.self.order.items in
     let number1 = c.step-zero.new.self.number.items in
@@ -128,7 +128,7 @@ returns-clause-ongoing g c =
     let inv = c.requires.ready.symbol.symbol.table.involutions in
     let here : k ≤ length order =
     next_row s b order number k (λ u. rows u k (suc n)) c.args.so_far c.requires.ready.symbol.symbol.table c.requires.ready.connected c.requires.traversal c.requires.high in
-    let read : c.images-images.result ≡ images s c.chamber.result = c.images-images.ensures ∙ ap (λ t. images t c.chamber.result) c.symbol.ensures.same in
+    let read : c.images-images.result ≡ images s c.chamber.result = c.images-images.ensures in
     let own = c.images-own.ensures in
     let order1 = c.step-zero.new.self.order.items in
     let number1 = c.step-zero.new.self.number.items in

@@ -22,7 +22,6 @@ pub row-so_far-requires-clause-traversal : goal.row-so_far-requires-clause-trave
 row-so_far-requires-clause-traversal g c =
     let s = c.args.s.now in
     let k = c.loop-k.k in
-    let size : c.symbol.result.now.size ≡ s.size = ap (λ (t : Symbol). t.size) c.symbol.ensures.same in
     let e : s.size - k ≡ suc (s.size - (k + 1)) = omega arith in
     subst (λ n. IsTraversal s c.args.form.now c.loop-k.self.order.items c.loop-k.self.number.items (k + 1) (λ u. rows u (k + 1) n) c.loop-k.so_far) e c.loop-k.invariant.traversal
 
@@ -50,5 +49,4 @@ pub returns-clause-ongoing : goal.returns-clause-ongoing
 returns-clause-ongoing g c =
     let s = c.args.s.now in
     let k = c.loop-k.k in
-    let size : c.symbol.result.now.size ≡ s.size = ap (λ (t : Symbol). t.size) c.symbol.ensures.same in
     last_row s c.args.form.now _ c.loop-k.self.order.items c.loop-k.self.number.items k c.loop-k.so_far c.loop-k.invariant.traversal (omega arith) c.loop-k.invariant.start
