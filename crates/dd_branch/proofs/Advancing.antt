@@ -10,8 +10,8 @@ use Rattle.dd_model.specs.declared.pair.Pair.TheVariants.{Tile, Vertex}
 use Rattle.dd_model.specs.Symbol.{Symbol}
 use Rattle.dd_model.specs.Code.{code}
 use Rattle.dd_model.specs.Wanted.{IsCrystallographic, IsMember}
-use Rattle.dd_invol.specs.Under.{Appends, AreUnder, next_number}
-use Rattle.dd_invol.proofs.Prefixes.{extended, shortened as prefix_shortened}
+use Rattle.dd_find.specs.Under.{Appends, AreUnder, next_number}
+use Rattle.dd_find.proofs.Prefixes.{extended, shortened as prefix_shortened}
 use Rattle.dd_cells.proofs.ReciprocalSums.{quotient_is}
 use Rattle.dd_branch.specs.Budget.{no_place, spent, twelfths}
 use Rattle.dd_branch.specs.Choice.{HasBranching, HasShares, IsChoice}

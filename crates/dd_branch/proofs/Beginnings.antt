@@ -16,9 +16,9 @@ use Rattle.dd_symbol.specs.declared.shapes.CellShape.{CellShape}
 use Rattle.dd_cells.proofs.MemberLemmas.{period_from_turns}
 use Rattle.dd_canon.specs.Ties.{AreTies}
 use Rattle.dd_invol.specs.Table.{IsBareTable}
-use Rattle.dd_invol.specs.Under.{Appends, AreUnder}
-use Rattle.dd_invol.proofs.Follows.{member_orderly}
-use Rattle.dd_invol.proofs.Prefixes.{appends_none}
+use Rattle.dd_find.specs.Under.{Appends, AreUnder}
+use Rattle.dd_partial.proofs.Follows.{member_orderly}
+use Rattle.dd_find.proofs.Prefixes.{appends_none}
 use Rattle.dd_invol.proofs.TiedTables.{table_of_least}
 use Rattle.dd_model.proofs.SameInvolutions.{same-sym}
 use Rattle.dd_invol.proofs.TableFronts.{front_begins, begins_with_take}

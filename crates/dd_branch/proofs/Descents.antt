@@ -12,17 +12,17 @@ use Rattle.dd_model.specs.Wanted.{IsMember}
 use Rattle.dd_model.specs.Jobs.{IsMemberUnder, AreMembersUnder}
 use Rattle.dd_model.specs.declared.requests.Request.{Request}
 use Rattle.dd_model.specs.declared.jobs.Job.{Job}
-use Rattle.dd_invol.specs.Under.{IsUnder, HasNothingUnder, AreUnder, Appends}
+use Rattle.dd_find.specs.Under.{IsUnder, HasNothingUnder, AreUnder, Appends}
 use Rattle.dd_invol.specs.Table.{IsBareTable, IsTableOf, told}
-use Rattle.dd_invol.specs.Rows.{partial_of, depth_of, unwound, HasNumberAt}
-use Rattle.dd_invol.specs.Stem.{Any, IsStem, HasAbsorbed, prefix_of, size_of, cut_to, shortened}
-use Rattle.dd_invol.proofs.Absorbing.{absorbed_under}
-use Rattle.dd_invol.proofs.Stems.{any_under}
-use Rattle.dd_invol.proofs.Places.{code_at}
-use Rattle.dd_invol.proofs.Prefixes.{none_under, shortened as shortened_under}
-use Rattle.dd_invol.specs.declared.rows.Rows.{Rows}
-use Rattle.dd_invol.specs.declared.stem.Stem.{Stem}
-use Rattle.dd_invol.proofs.Follows.{member_orderly}
+use Rattle.dd_partial.specs.Rows.{partial_of, depth_of, unwound, HasNumberAt}
+use Rattle.dd_partial.specs.Stem.{Any, IsStem, HasAbsorbed, prefix_of, size_of, cut_to, shortened}
+use Rattle.dd_partial.proofs.Absorbing.{absorbed_under}
+use Rattle.dd_partial.proofs.Stems.{any_under}
+use Rattle.dd_partial.proofs.Places.{code_at}
+use Rattle.dd_find.proofs.Prefixes.{none_under, shortened as shortened_under}
+use Rattle.dd_partial.specs.declared.rows.Rows.{Rows}
+use Rattle.dd_partial.specs.declared.stem.Stem.{Stem}
+use Rattle.dd_partial.proofs.Follows.{member_orderly}
 use Rattle.dd_invol.proofs.TableFronts.{front_same, front_begins}
 use Rattle.dd_invol.proofs.TableLemmas.{table_of_told}
 use Rattle.dd_symbol.specs.Images.{of_rows}

@@ -9,9 +9,9 @@ use Rattle.std.specs.Int.Bits.{bit_and}
 use Rattle.dd_model.specs.Symbol.{Symbol}
 use Rattle.dd_model.specs.Wanted.{IsCrystallographic, IsMember}
 use Rattle.dd_model.proofs.WantedDegrees.{by_value}
-use Rattle.dd_invol.specs.Under.{Appends, AreUnder, AreUnderBefore, next_number}
-use Rattle.dd_invol.proofs.LowestBits.{dropped_other, lowest_bit}
-use Rattle.dd_invol.proofs.Prefixes.{appends_all, appends_first, appends_next, extended, shortened as prefix_shortened}
+use Rattle.dd_find.specs.Under.{Appends, AreUnder, AreUnderBefore, next_number}
+use Rattle.dd_find.proofs.LowestBits.{dropped_other, lowest_bit}
+use Rattle.dd_find.proofs.Prefixes.{appends_all, appends_first, appends_next, extended, shortened as prefix_shortened}
 use Rattle.dd_branch.specs.Budget.{no_place}
 use Rattle.dd_branch.specs.Choice.{HasBranching}
 use Rattle.dd_branch.specs.Assignment.{IsAssignment, IsAtRoot, IsMemberUnder, next_place, prefix_of, shortened, told}

@@ -7,7 +7,7 @@ use Rattle.dd_model.specs.Symbol.{Symbol, IsTable}
 use Rattle.std.specs.List.{Contains}
 use Rattle.dd_model.specs.Lists.{Begins}
 use Rattle.dd_model.proofs.Lists.{Contains-one}
-use Rattle.dd_invol.specs.Under.{Appends, AreUnder}
+use Rattle.dd_find.specs.Under.{Appends, AreUnder}
 use Rattle.dd_model.specs.Code.{code, all_images, Least}
 use Rattle.dd_model.specs.Minimal.{Minimal}
 use Rattle.dd_model.specs.Small.{IsSmallSymbol}
@@ -19,7 +19,7 @@ use Rattle.dd_symbol.specs.Images.{with_degrees}
 use Rattle.dd_symbol.proofs.TableLemmas.{with_same}
 use Rattle.dd_canon.specs.Ties.{IsLeastFrom}
 use Rattle.dd_invol.proofs.TiedTables.{least_of_ties}
-use Rattle.dd_invol.proofs.Follows.{member_orderly}
+use Rattle.dd_partial.proofs.Follows.{member_orderly}
 use Rattle.dd_branch.specs.Assignment.{IsAssignment, IsMemberUnder, degree_at, prefix_of, spent_by, told}
 use Rattle.dd_branch.specs.Budget.{no_place, spent}
 use Rattle.dd_branch.specs.declared.assignment.Assignment.{Assignment}

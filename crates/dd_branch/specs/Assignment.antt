@@ -8,7 +8,7 @@ use Rattle.dd_model.specs.Involutions.{HaveSameInvolutions}
 use Rattle.dd_model.specs.Wanted.{AtMost, IsMember}
 use Rattle.dd_canon.specs.Ties.{AreTies}
 use Rattle.dd_invol.specs.Table.{IsBareTable}
-use Rattle.dd_invol.specs.Under.{IsUnder}
+use Rattle.dd_find.specs.Under.{IsUnder}
 use Rattle.dd_branch.specs.Budget.{no_place, spent}
 use Rattle.dd_branch.specs.Choice.{IsChoice}
 use Rattle.dd_ties.specs.Automorphism.{AreAutomorphisms}

@@ -8,7 +8,7 @@ ghost use Rattle.dd_canon.specs.Ties.{AreTies, IsLeastFrom};
 ghost use Rattle.dd_model.specs.Minimal.{Minimal};
 ghost use Rattle.dd_model.specs.Wanted.{IsMember};
 ghost use Rattle.dd_invol.specs.Table.{IsBareTable};
-ghost use Rattle.dd_invol.specs.Under.{next_number, AreUnder, Appends};
+ghost use Rattle.dd_find.specs.Under.{next_number, AreUnder, Appends};
 ghost use Rattle.dd_branch.specs.Choice.{IsChoice};
 ghost use Rattle.dd_branch.specs.Assignment.{HasLast, HasLimits, IsAssignment, IsAtRoot, IsMemberUnder, next_place, prefix_of, spent_by, told};
 ghost use Rattle.dd_branch.specs.Place.{ArePlaces};

@@ -2,14 +2,16 @@ ghost use Rattle.std.specs.Prelude.{◌≡◌, ℕ, ◌*◌, ◌+◌, ◌≤◌,
 ghost use Rattle.std.specs.Bool.{OnTrue, OnFalse};
 ghost use Rattle.dd_model.specs.Request.{IsValid};
 ghost use Rattle.dd_model.specs.Wanted.{IsMember};
-ghost use Rattle.dd_invol.specs.Under.{HasNothingUnder};
+ghost use Rattle.dd_find.specs.Under.{HasNothingUnder};
 
 use crate::levels::Levels;
 use crate::members::{add_tied, with_places};
 use dd_ends::{PathShares, Sides};
-use dd_invol::{CollectingSearch, PrefixSearch, Starts, Stem, can_follow};
+use dd_find::{CollectingSearch, PrefixSearch};
+use dd_invol::{involutions, ties};
 use dd_list::SymbolList;
 use dd_model::{Memory, Request};
+use dd_partial::{Starts, Stem, can_follow};
 use dd_shares::parity_rules_out;
 use std::alloc::Global;
 use std::marker::Model;
@@ -41,8 +43,8 @@ impl Model for Descent {
 }
 
 impl Descent {
-    ghost use Rattle.dd_invol.specs.Rows.{IsReady, depth_of};
-    ghost use Rattle.dd_invol.specs.Stem.{prefix_of, size_of};
+    ghost use Rattle.dd_partial.specs.Rows.{IsReady, depth_of};
+    ghost use Rattle.dd_partial.specs.Stem.{prefix_of, size_of};
     ghost use Rattle.dd_branch.specs.Descent.{IsDescent, HasDescended, shorter, with_paths};
     ghost use Rattle.dd_ends.specs.declared.sides.Sides.{Sides};
 
@@ -270,7 +272,7 @@ impl Descent {
 }
 
 impl PrefixSearch for Descent {
-    ghost use Rattle.dd_invol.specs.Stem.{prefix_of, size_of};
+    ghost use Rattle.dd_partial.specs.Stem.{prefix_of, size_of};
     ghost use Rattle.dd_branch.specs.Descent.{IsDescent, shorter};
 
     ghost request = { λ d. d.request };
@@ -297,6 +299,7 @@ impl PrefixSearch for Descent {
         self.levels.len()
     }
 
+    #[inline(always)]
     fn candidates(&self) -> u64 {
         let place = self.stem.prefix().len() as u8;
         let numbers = self.stem.candidates();
@@ -318,10 +321,10 @@ impl PrefixSearch for Descent {
 
 impl CollectingSearch for Descent {
     fn add(&mut self, list: &mut SymbolList) -> Result<(), Memory> {
-        let Some(ties) = self.stem.ties(self.alloc)? else {
+        let Some(ties) = ties(&self.stem, self.alloc)? else {
             return Ok(());
         };
-        let involutions = self.stem.involutions(self.alloc)?;
+        let involutions = involutions(&self.stem, self.alloc)?;
         let (table, places) = with_places(involutions, &self.request)?;
         add_tied(self.alloc, table, ties, places, &self.request, list)
     }
@@ -329,7 +332,7 @@ impl CollectingSearch for Descent {
 
 #[cfg(test)]
 impl Descent {
-    ghost use Rattle.dd_invol.specs.Rows.{depth_of};
+    ghost use Rattle.dd_partial.specs.Rows.{depth_of};
 
     /// How many images are known in the table.
     pub(crate) fn known(&self) -> usize

@@ -2,14 +2,14 @@ ghost use Rattle.std.specs.Prelude.{◌≡◌, ◌-◌, ◌≤◌, ◌<◌, [], 
 ghost use Rattle.std.specs.List.{slice_get};
 ghost use Rattle.std.specs.declared.option.Option.TheVariants.{Some};
 ghost use Rattle.dd_model.specs.Symbol.{Symbol as Tiling};
-ghost use Rattle.dd_invol.specs.Rows.{partial_of, IsReady};
+ghost use Rattle.dd_partial.specs.Rows.{partial_of, IsReady};
 ghost use Rattle.dd_shares.specs.Shares.{IsSought};
 ghost use Rattle.dd_ends.specs.Kept.{AreSides};
 
 use crate::level::Level;
 use dd_ends::{PathShares, Sides};
-use dd_invol::Rows;
 use dd_model::Memory;
+use dd_partial::Rows;
 use std::alloc::Global;
 use std::marker::Model;
 

@@ -1,7 +1,7 @@
 ghost use Rattle.std.specs.Prelude.{IfOk, OnOk};
 ghost use Rattle.dd_canon.specs.Ties.{AreTies};
 ghost use Rattle.dd_invol.specs.Table.{AreOfTable, IsBareTable};
-ghost use Rattle.dd_invol.specs.Under.{Appends};
+ghost use Rattle.dd_find.specs.Under.{Appends};
 ghost use Rattle.dd_model.specs.Involutions.{HaveSameInvolutions};
 ghost use Rattle.dd_branch.specs.Members.{AreMembersWith};
 ghost use Rattle.dd_branch.specs.Place.{ArePlaces};

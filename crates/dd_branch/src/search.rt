@@ -3,12 +3,13 @@ ghost use Rattle.std.specs.Prelude.{◌≡◌, ◌*◌, ◌≤◌, ◌<◌, [], 
 ghost use Rattle.dd_model.specs.Request.{IsValid};
 ghost use Rattle.dd_model.specs.Jobs.{IsJobOf, AreExtensions, AreMembersUnder};
 ghost use Rattle.dd_model.specs.Wanted.{IsMember};
-ghost use Rattle.dd_invol.specs.Under.{AreUnder, Appends};
+ghost use Rattle.dd_find.specs.Under.{AreUnder, Appends};
 
 use crate::descent::Descent;
 use dd_ends::PathShares;
+use dd_find::find;
 use dd_front::Finder;
-use dd_invol::{child, find, may_have_tables};
+use dd_invol::{child, may_have_tables};
 use dd_list::SymbolList;
 use dd_model::{Job, Memory, Request};
 use std::alloc::Global;

@@ -20,9 +20,9 @@ use Rattle.dd_model.proofs.Codes.{length-code, length-flat_images}
 use Rattle.dd_model.proofs.Lists.{all_from_members, each_of}
 use Rattle.dd_model.proofs.AllowedLemmas.{in_small}
 use Rattle.dd_invol.specs.Opening.{IsOpeningJob}
-use Rattle.dd_invol.proofs.Growth.{begins_take}
+use Rattle.dd_partial.proofs.Growth.{begins_take}
 use Rattle.dd_invol.proofs.OpeningLaws.{covered}
-use Rattle.dd_invol.proofs.Places.{chamber_at}
+use Rattle.dd_partial.proofs.Places.{chamber_at}
 use Rattle.dd_check.specs.Places.{opening_job, IsWholePlace, IsPlace}
 use Rattle.dd_check.specs.Ranges.{IsFromTo, IsJobInRange, IsInRange}
 use Rattle.dd_chain.specs.Puts.{IsStop}

@@ -9,8 +9,8 @@ use Rattle.dd_model.specs.Code.{count_from}
 use Rattle.dd_model.specs.Cell.{InCell, IsChain}
 use Rattle.dd_model.proofs.Branching.{degree-along_cell}
 use Rattle.dd_model.proofs.CellWalks.{in_cell-refl, in_cell-trans}
-use Rattle.dd_invol.specs.Distinct.{AreDistinct}
-use Rattle.dd_invol.proofs.Orders.{distinct-count_from}
+use Rattle.dd_partial.specs.Distinct.{AreDistinct}
+use Rattle.dd_partial.proofs.Orders.{distinct-count_from}
 use Rattle.dd_ends.specs.Ends.{IsInside, AreTables, IsFound, IsWithin, IsOpenAt, IsPathEnd, ArePathEnds, led}
 use Rattle.dd_ends.specs.Changes.{IsElsewhere, IsRenewed}
 use Rattle.dd_ends.specs.Labels.{count_label, reshare}

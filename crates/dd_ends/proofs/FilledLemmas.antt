@@ -3,10 +3,10 @@ use Rattle.std.proofs.Common.{◌≡◌, ◌≢◌, ℕ, zero, suc, ◌+◌, ◌
 use Rattle.std.proofs.lemmas.List.{get_or-take, get_or-drop, length-take-le}
 use Rattle.dd_model.specs.Partial.{Completes}
 use Rattle.dd_model.specs.Symbol.{Symbol, op}
-use Rattle.dd_invol.specs.Places.{index_at}
-use Rattle.dd_invol.specs.Rows.{partial_of, last_of, popped, unwind, HasNumberAt, IsReady}
-use Rattle.dd_invol.specs.declared.rows.Rows.{Rows}
-use Rattle.dd_invol.proofs.RowsLemmas.{told_at}
+use Rattle.dd_partial.specs.Places.{index_at}
+use Rattle.dd_partial.specs.Rows.{partial_of, last_of, popped, unwind, HasNumberAt, IsReady}
+use Rattle.dd_partial.specs.declared.rows.Rows.{Rows}
+use Rattle.dd_partial.proofs.RowsLemmas.{told_at}
 use Rattle.dd_ends.specs.Kept.{IsImage}
 use Rattle.dd_ends.specs.declared.link.Link.{Link}
 use Rattle.dd_shares.proofs.GrowthLemmas.{cleared_or_same}

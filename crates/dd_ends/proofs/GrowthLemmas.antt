@@ -2,8 +2,8 @@
 use Rattle.std.proofs.Common.{◌≡◌, sym, ◌∙◌}
 use Rattle.std.specs.Prelude.{true}
 use Rattle.dd_model.specs.Symbol.{Symbol}
-use Rattle.dd_invol.specs.Rows.{partial_of, depth_of, unwound}
-use Rattle.dd_invol.specs.declared.rows.Rows.{Rows}
+use Rattle.dd_partial.specs.Rows.{partial_of, depth_of, unwound}
+use Rattle.dd_partial.specs.declared.rows.Rows.{Rows}
 use Rattle.dd_shares.proofs.GrowthLemmas.{completes_shorter}
 use Rattle.dd_ends.specs.Kept.{Shares, AreKept}
 use Rattle.dd_ends.specs.Passing.{Passes}

@@ -5,7 +5,7 @@ use Rattle.std.proofs.lemmas.List.Sums.{sum_by-cons}
 use Rattle.std.specs.Prelude.{cond, nat_eq}
 use Rattle.std.specs.List.{AllByRecursion, filter, sum_by}
 use Rattle.dd_model.specs.Code.{count_from}
-use Rattle.dd_invol.specs.Distinct.{AreDistinct}
+use Rattle.dd_partial.specs.Distinct.{AreDistinct}
 use Rattle.dd_ends.specs.Labels.{count_label, relabel, reshare}
 
 picked : (a b x y : ℕ) → a ≡ b → cond (nat_eq a b) x y ≡ x

@@ -1,8 +1,8 @@
-ghost use Rattle.dd_invol.specs.Rows.{IsReady};
+ghost use Rattle.dd_partial.specs.Rows.{IsReady};
 
 use crate::class::Class;
-use dd_invol::Rows;
 use dd_model::Pair;
+use dd_partial::Rows;
 use dd_shares::{SHARE_UNIT, WholeCell};
 
 /// The whole cells of a pair, their chambers, what they add at most, the paths with one fixed end, the

@@ -3,15 +3,15 @@ ghost use Rattle.std.specs.Prelude.{◌≡◌, ◌⊎◌, ◌+◌, ◌*◌, ◌�
 ghost use Rattle.dd_model.specs.Symbol.{Symbol as Tiling};
 ghost use Rattle.dd_model.specs.Wanted.{AtMost, Wanted};
 ghost use Rattle.dd_model.specs.declared.pair.Pair.TheVariants.{Tile, Vertex};
-ghost use Rattle.dd_invol.specs.Rows.{partial_of, IsReady};
+ghost use Rattle.dd_partial.specs.Rows.{partial_of, IsReady};
 ghost use Rattle.dd_shares.specs.Shares.{BoundsReciprocals, IsSought, IsTotal};
 ghost use Rattle.dd_shares.specs.Units.{share_unit};
 ghost use Rattle.dd_ends.specs.Sides.{IsSide};
 
 use crate::class_shares::ClassShares;
 use crate::side::Side;
-use dd_invol::Rows;
 use dd_model::{Pair, Request};
+use dd_partial::Rows;
 use dd_shares::{SHARE_UNIT, WholeCell};
 
 /// At most so many cells of a pair are asked for; 0 sets no limit.

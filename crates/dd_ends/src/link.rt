@@ -1,5 +1,5 @@
 ghost use Rattle.std.specs.Prelude.{◌≡◌, ◌+◌, ◌*◌, ◌/◌, ◌%◌, ◌≤◌, ◌<◌};
-ghost use Rattle.dd_invol.specs.Places.{index_at};
+ghost use Rattle.dd_partial.specs.Places.{index_at};
 
 use dd_model::Index;
 

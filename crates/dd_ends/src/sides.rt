@@ -2,7 +2,7 @@ ghost use Rattle.std.specs.Prelude.{◌≡◌, ℕ, ◌+◌, ◌*◌, ◌≤◌,
 ghost use Rattle.std.specs.Int.{bit_at};
 ghost use Rattle.dd_model.specs.Partial.{Completes};
 ghost use Rattle.dd_model.specs.Symbol.{Symbol as Tiling};
-ghost use Rattle.dd_invol.specs.Rows.{partial_of, IsReady, HasNumberAt};
+ghost use Rattle.dd_partial.specs.Rows.{partial_of, IsReady, HasNumberAt};
 ghost use Rattle.dd_shares.specs.Shares.{IsSought};
 ghost use Rattle.dd_shares.specs.Units.{share_unit};
 ghost use Rattle.dd_ends.specs.Kept.{AreSides, AreSidesOfSome, IsImage};
@@ -12,8 +12,8 @@ ghost use Rattle.dd_ends.specs.Sides.{IsSumOf};
 use crate::link::Link;
 use crate::path_shares::PathShares;
 use crate::side::Side;
-use dd_invol::Rows;
 use dd_model::{Index, Request};
+use dd_partial::Rows;
 use dd_shares::SHARE_UNIT;
 
 /// The paths of both pairs of a table that a search fills, with two shares for each chamber, one for

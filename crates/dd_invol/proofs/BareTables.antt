@@ -25,13 +25,13 @@ use Rattle.dd_model.proofs.Isomorphisms.{inverse_isomorphism}
 use Rattle.dd_model.proofs.Carried.{branching-along}
 use Rattle.dd_model.proofs.CellWalks.{has_period}
 use Rattle.dd_model.proofs.LeastForms.{below_back, not_above, copy_is_symbol}
-use Rattle.dd_invol.specs.Orderly.{IsOrderly}
+use Rattle.dd_find.specs.Orderly.{IsOrderly}
 use Rattle.dd_invol.specs.Table.{AreOfTable, IsBareTable, IsUnbranched}
 use Rattle.dd_model.specs.Involutions.{HaveSameInvolutions}
 use Rattle.dd_invol.specs.Walk.{IsListed, HasTable}
 use Rattle.dd_model.proofs.Ascending.{begins_at, begins_from}
 use Rattle.dd_model.proofs.Codes.{length-code}
-use Rattle.dd_invol.proofs.Follows.{member_orderly}
+use Rattle.dd_partial.proofs.Follows.{member_orderly}
 use Rattle.dd_model.proofs.SameInvolutions.{op-same, same-sym, chamber-same, involutions-same, connected-same, period-same}
 use Rattle.dd_symbol.specs.Building.{IsConnectedSymbol}
 use Rattle.dd_symbol.specs.Cells.{ArePeriods}

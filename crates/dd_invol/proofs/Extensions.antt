@@ -10,18 +10,18 @@ use Rattle.dd_model.specs.Lists.{Begins}
 use Rattle.dd_model.specs.Code.{code}
 use Rattle.dd_model.specs.declared.jobs.Job.{Job}
 use Rattle.dd_model.specs.declared.requests.Request.{Request}
-use Rattle.dd_invol.specs.FirstVisit.{IsFirstVisitPrefix, CanFollow}
+use Rattle.dd_partial.specs.FirstVisit.{IsFirstVisitPrefix, CanFollow}
 use Rattle.dd_model.specs.Jobs.{IsJobBelow, AreAscendingJobs, extended}
 use Rattle.dd_model.specs.Jobs.{IsMemberUnder, AreExtensions, AreChildren}
 use Rattle.dd_model.proofs.Lists.{Contains-one}
 use Rattle.dd_model.proofs.Ascending.{begins_from, begins_less}
-use Rattle.dd_invol.proofs.Growth.{begins_take}
-use Rattle.dd_invol.proofs.Follows.{member_orderly}
-use Rattle.dd_invol.proofs.FirstVisits.{first_less, old_at}
-use Rattle.dd_invol.proofs.CodeFronts.{front_first_visit}
+use Rattle.dd_partial.proofs.Growth.{begins_take}
+use Rattle.dd_partial.proofs.Follows.{member_orderly}
+use Rattle.dd_partial.proofs.FirstVisits.{first_less, old_at}
+use Rattle.dd_partial.proofs.CodeFronts.{front_first_visit}
 use Rattle.dd_invol.proofs.JobLists.{below_by_number, jobs_one_after_another}
-use Rattle.dd_invol.specs.Under.{HasNothingUnder}
-use Rattle.dd_invol.specs.Stem.{Any}
+use Rattle.dd_find.specs.Under.{HasNothingUnder}
+use Rattle.dd_partial.specs.Stem.{Any}
 
 -- Nothing is under a prefix that is not in the order of first visits.
 pub none_out_of_order : (q : Request) (job : Job) (k : ℕ) → length job.prefix < 3 * job.size → (CanFollow job.size job.prefix k → ⊥) → (s : Symbol) → IsMemberUnder q (extended job k) s → ⊥

@@ -5,7 +5,7 @@ use Rattle.dd_model.specs.declared.pair.Pair.{Pair}
 use Rattle.dd_model.specs.Symbol.{Symbol, AreInvolutions, IsChamber, op}
 use Rattle.dd_model.specs.Cell.{InCell, IsLeastOfCell}
 use Rattle.dd_symbol.specs.Images.{of_rows}
-use Rattle.dd_invol.specs.Places.{place}
+use Rattle.dd_partial.specs.Places.{place}
 use Rattle.dd_invol.proofs.TableFronts.{rows_at}
 
 -- what stands at the place of a chamber is its image

@@ -11,15 +11,15 @@ use Rattle.std.specs.declared.cmp.Ordering.TheVariants.{Less, Equal}
 use Rattle.dd_model.specs.Lists.{Begins}
 use Rattle.dd_model.specs.declared.jobs.Job.{Job}
 use Rattle.dd_model.specs.declared.requests.Request.{Request}
-use Rattle.dd_invol.specs.FirstVisit.{IsFirstVisitPrefix, CanFollow}
+use Rattle.dd_partial.specs.FirstVisit.{IsFirstVisitPrefix, CanFollow}
 use Rattle.dd_model.specs.Jobs.{IsJobBelow, AreAscendingJobs}
 use Rattle.dd_model.proofs.Lists.{Contains-none, Contains-one, all_from_members}
 use Rattle.dd_model.proofs.Orders.{nat_cmp-same}
 use Rattle.dd_invol.specs.Opening.{IsOpening, IsJobUnder, AreJobsUnder}
-use Rattle.dd_invol.specs.Under.{Appends}
+use Rattle.dd_find.specs.Under.{Appends}
 use Rattle.dd_model.proofs.Ascending.{all-append, less_at, agree_from, begins_more, begins_less, begins_itself, same_when_whole}
-use Rattle.dd_invol.proofs.Growth.{begins_take}
-use Rattle.dd_invol.proofs.FirstVisits.{first_less, first_front}
+use Rattle.dd_partial.proofs.Growth.{begins_take}
+use Rattle.dd_partial.proofs.FirstVisits.{first_less, first_front}
 
 pub jobs_one_after_another : (xs ys : List Job) → AreAscendingJobs xs → AreAscendingJobs ys → ((j k : Job) → Contains xs j → Contains ys k → IsJobBelow j k) → AreAscendingJobs (xs ++ ys)
 jobs_one_after_another [] ys hx hy below = hy

@@ -7,18 +7,18 @@ use Rattle.dd_model.specs.Symbol.{Symbol}
 use Rattle.dd_model.specs.FirstVisit.{Grows}
 use Rattle.dd_model.proofs.LeastForms.{least_as_table, not_above, copy_is_symbol}
 use Rattle.dd_canon.specs.Ties.{IsLeastFrom}
-use Rattle.dd_invol.specs.FirstVisit.{AreMet, greatest}
-use Rattle.dd_invol.specs.Open.{IsAgreeing, IsShut, HasUnknown, IsOpen}
-use Rattle.dd_invol.specs.Passed.{IsPassed}
-use Rattle.dd_invol.specs.Places.{place}
-use Rattle.dd_invol.specs.Rows.{partial_of}
-use Rattle.dd_invol.specs.Stem.{IsStem, prefix_of, size_of}
+use Rattle.dd_partial.specs.FirstVisit.{AreMet, greatest}
+use Rattle.dd_partial.specs.Open.{IsAgreeing, IsShut, HasUnknown, IsOpen}
+use Rattle.dd_partial.specs.Passed.{IsPassed}
+use Rattle.dd_partial.specs.Places.{place}
+use Rattle.dd_partial.specs.Rows.{partial_of}
+use Rattle.dd_partial.specs.Stem.{IsStem, prefix_of, size_of}
 use Rattle.dd_invol.specs.Table.{IsTableOf, HasLeastTable}
-use Rattle.dd_invol.specs.declared.stem.Stem.{Stem}
-use Rattle.dd_invol.specs.declared.traversal.Standing.{Standing}
-use Rattle.dd_invol.specs.declared.traversal.Standing.TheVariants.{Smaller, Larger, Open}
+use Rattle.dd_partial.specs.declared.stem.Stem.{Stem}
+use Rattle.dd_partial.specs.declared.traversal.Standing.{Standing}
+use Rattle.dd_partial.specs.declared.traversal.Standing.TheVariants.{Smaller, Larger, Open}
 use Rattle.dd_invol.proofs.BareTables.{IsBare, bare_of_table, unbranched_along}
-use Rattle.dd_invol.proofs.Filling.{from_place}
+use Rattle.dd_partial.proofs.Filling.{from_place}
 use Rattle.dd_invol.proofs.TableFronts.{front_same, front_begins, place_inside}
 use Rattle.dd_invol.proofs.TiedTables.{least_of_ties}
 use Rattle.dd_invol.proofs.Unbranched.{unbranched_unique}

@@ -13,14 +13,14 @@ use Rattle.dd_model.specs.Joined.{AreUnderJobs, IsUnderOne}
 use Rattle.dd_model.specs.declared.jobs.Job.{Job}
 use Rattle.dd_model.specs.declared.requests.Request.{Request}
 use Rattle.dd_model.proofs.LeastForms.{least_as_table}
-use Rattle.dd_invol.specs.Orderly.{IsOrderly}
+use Rattle.dd_find.specs.Orderly.{IsOrderly}
 use Rattle.dd_invol.specs.Opening.{IsOpeningJob, IsOpening, IsCoveredBy}
 use Rattle.dd_model.proofs.Ascending.{begins_from, same_when_whole}
 use Rattle.dd_model.proofs.Lists.{Contains-head, Contains-later, all_from_members, each_of}
 use Rattle.dd_model.proofs.Orders.{job_not_below_itself}
 use Rattle.dd_model.proofs.Codes.{length-code}
-use Rattle.dd_invol.proofs.Growth.{begins_take}
-use Rattle.dd_invol.proofs.CodeFronts.{front_first_visit}
+use Rattle.dd_partial.proofs.Growth.{begins_take}
+use Rattle.dd_partial.proofs.CodeFronts.{front_first_visit}
 
 orderly : (s : Symbol) → IsSymbol s → Connected s → Least s → IsOrderly s
 orderly s is connected least = record { table = is.table; connected = connected; commuting = λ d h. is.degrees Edge d h; least = least_as_table s is least }

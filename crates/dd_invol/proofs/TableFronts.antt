@@ -7,15 +7,15 @@ use Rattle.dd_model.specs.Symbol.{Symbol, IsTable, op, operation}
 use Rattle.dd_model.specs.Lists.{Begins}
 use Rattle.dd_model.specs.Code.{code, all_images}
 use Rattle.dd_model.proofs.Codes.{length-flat_images, length-code}
-use Rattle.dd_invol.specs.Places.{index_at, place}
+use Rattle.dd_partial.specs.Places.{index_at, place}
 use Rattle.dd_symbol.specs.Images.{of_rows}
 use Rattle.dd_symbol.proofs.TableLemmas.{item-first, item-column, lengths}
 use Rattle.dd_invol.specs.Table.{images_of, told}
 use Rattle.dd_model.specs.Involutions.{HaveSameInvolutions}
 use Rattle.dd_model.proofs.Ascending.{begins_at, begins_from}
-use Rattle.dd_invol.proofs.Places.{code_at}
-use Rattle.dd_invol.proofs.CodeFronts.{image_at}
-use Rattle.dd_invol.proofs.RowsLemmas.{chamber_of_place}
+use Rattle.dd_partial.proofs.Places.{code_at}
+use Rattle.dd_partial.proofs.CodeFronts.{image_at}
+use Rattle.dd_partial.proofs.RowsLemmas.{chamber_of_place}
 use Rattle.dd_model.proofs.SameInvolutions.{op-same}
 
 -- the first 3n numbers of two lists are the same

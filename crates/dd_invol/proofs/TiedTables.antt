@@ -22,7 +22,7 @@ use Rattle.dd_model.proofs.SameInvolutions.{same-sym}
 use Rattle.dd_canon.specs.Ties.{AreTies, IsLeastFrom}
 use Rattle.dd_invol.specs.Table.{IsUnbranched}
 use Rattle.dd_invol.proofs.BareTables.{IsBare, bare_least, carried, images_alike, unbranched_along}
-use Rattle.dd_invol.proofs.Follows.{member_orderly}
+use Rattle.dd_partial.proofs.Follows.{member_orderly}
 use Rattle.dd_invol.proofs.TableFronts.{front_same}
 use Rattle.dd_invol.proofs.Unbranched.{unbranched_unique}
 use Rattle.dd_invol.proofs.WalkOrder.{below_by_images, length-front, own_begins, three, turned_round}

@@ -24,7 +24,7 @@ use Rattle.dd_model.proofs.Orders.{nat_cmp-same, list_not_below_both, list_not_b
 use Rattle.dd_model.specs.Involutions.{HaveSameInvolutions}
 use Rattle.dd_invol.specs.Walk.{IsListed, IsPast, IsNext, HasNoneLeft, AreListed, Walking}
 use Rattle.dd_model.proofs.Ascending.{ascending-append}
-use Rattle.dd_invol.proofs.Places.{chamber_at}
+use Rattle.dd_partial.proofs.Places.{chamber_at}
 use Rattle.dd_invol.proofs.TableFronts.{front_same}
 use Rattle.dd_invol.proofs.Unbranched.{unbranched_unique}
 use Rattle.dd_invol.proofs.WalkLemmas.{front_at, begins_appended}
@@ -84,7 +84,7 @@ pub record AreGiven (q : Request) (job : Job) (last : List ℕ) (ts : List Symbo
   pub ascending : IsAscending ts
   pub members : (t : Symbol) → Contains ts t ↔ (IsListed q job t × (IsPast last t → ⊥))
 
-some_past : (xs : List ℕ) → 1 ≤ length xs → slice_cmp nat_cmp [] xs ≡ Less
+pub some_past : (xs : List ℕ) → 1 ≤ length xs → slice_cmp nat_cmp [] xs ≡ Less
 some_past [] low = absurd (omega arith)
 some_past (x ∷ xs) low = refl
 

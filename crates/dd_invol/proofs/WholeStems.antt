@@ -13,20 +13,20 @@ use Rattle.dd_model.specs.FirstVisit.{Grows}
 use Rattle.dd_model.specs.Partial.{Completes}
 use Rattle.dd_model.proofs.Ascending.{begins_at}
 use Rattle.dd_model.proofs.LeastForms.{least_first_visit}
-use Rattle.dd_invol.specs.FirstVisit.{AreMet, greatest}
-use Rattle.dd_invol.specs.Places.{place}
-use Rattle.dd_invol.specs.Rows.{partial_of, IsReady}
-use Rattle.dd_invol.specs.Under.{HasNothingUnder}
-use Rattle.dd_invol.specs.Passed.{IsPassed}
-use Rattle.dd_invol.specs.Stem.{Any, IsStem, prefix_of, size_of}
+use Rattle.dd_partial.specs.FirstVisit.{AreMet, greatest}
+use Rattle.dd_partial.specs.Places.{place}
+use Rattle.dd_partial.specs.Rows.{partial_of, IsReady}
+use Rattle.dd_find.specs.Under.{HasNothingUnder}
+use Rattle.dd_partial.specs.Passed.{IsPassed}
+use Rattle.dd_partial.specs.Stem.{Any, IsStem, prefix_of, size_of}
 use Rattle.dd_invol.specs.Ties.{AreTiesOf}
-use Rattle.dd_invol.specs.declared.rows.Rows.{Rows}
-use Rattle.dd_invol.specs.declared.stem.Stem.{Stem}
-use Rattle.dd_invol.proofs.CodeFronts.{image_at, leads_out}
-use Rattle.dd_invol.proofs.Commuting.{op_small}
-use Rattle.dd_invol.proofs.Filling.{from_place}
-use Rattle.dd_invol.proofs.Growth.{begins_take}
-use Rattle.dd_invol.proofs.RowsLemmas.{leads_back, op_past}
+use Rattle.dd_partial.specs.declared.rows.Rows.{Rows}
+use Rattle.dd_partial.specs.declared.stem.Stem.{Stem}
+use Rattle.dd_partial.proofs.CodeFronts.{image_at, leads_out}
+use Rattle.dd_partial.proofs.Commuting.{op_small}
+use Rattle.dd_partial.proofs.Filling.{from_place}
+use Rattle.dd_partial.proofs.Growth.{begins_take}
+use Rattle.dd_partial.proofs.RowsLemmas.{leads_back, op_past}
 use Rattle.dd_invol.proofs.TableFronts.{place_inside}
 use Rattle.dd_invol.proofs.WalkLemmas.{front_is}
 use Rattle.dd_invol.proofs.WholeTables.{table_of_stem}
@@ -135,3 +135,7 @@ ties_of_open stem ds is whole grows met open_ = record {
             (open_.others d (omega (arith, low, other)) (omega (arith, high, size)));
       };
 }
+
+-- what is said of the rows and the numbers of a stem
+pub of_stem : (P : Rows → List ℕ → Type 0) (stem : Stem) (rows : Rows) (numbers : List ℕ) → rows ≡ stem.rows → numbers ≡ prefix_of stem → P rows numbers → P stem.rows (prefix_of stem)
+of_stem P stem rows numbers same equal is = subst (P stem.rows) equal (subst (λ r. P r numbers) same is)

@@ -10,16 +10,16 @@ use Rattle.dd_model.specs.Symbol.{Symbol, IsChamber, AreInvolutions, HasDegree, 
 use Rattle.dd_model.specs.Connected.{IsReached}
 use Rattle.dd_model.specs.FirstVisit.{Grows}
 use Rattle.dd_model.proofs.Words.{act-append}
-use Rattle.dd_invol.specs.Places.{index_at, place}
-use Rattle.dd_invol.specs.FirstVisit.{AreMet}
-use Rattle.dd_invol.specs.Rows.{partial_of}
-use Rattle.dd_invol.specs.Stem.{IsStem, prefix_of, size_of}
+use Rattle.dd_partial.specs.Places.{index_at, place}
+use Rattle.dd_partial.specs.FirstVisit.{AreMet}
+use Rattle.dd_partial.specs.Rows.{partial_of}
+use Rattle.dd_partial.specs.Stem.{IsStem, prefix_of, size_of}
 use Rattle.dd_invol.specs.Table.{HasTable, told}
-use Rattle.dd_invol.specs.declared.stem.Stem.{Stem}
-use Rattle.dd_invol.proofs.CodeFronts.{grows_take, stands}
-use Rattle.dd_invol.proofs.Commuting.{op_small, ready_leads_back}
-use Rattle.dd_invol.proofs.Filling.{from_place}
-use Rattle.dd_invol.proofs.RowsLemmas.{place_of_place}
+use Rattle.dd_partial.specs.declared.stem.Stem.{Stem}
+use Rattle.dd_partial.proofs.CodeFronts.{grows_take, stands}
+use Rattle.dd_partial.proofs.Commuting.{op_small, ready_leads_back}
+use Rattle.dd_partial.proofs.Filling.{from_place}
+use Rattle.dd_partial.proofs.RowsLemmas.{place_of_place}
 use Rattle.dd_invol.proofs.TableFronts.{lengths_told, place_inside, told_at, told_begins}
 
 -- ## Connectedness

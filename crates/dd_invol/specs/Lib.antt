@@ -1,17 +1,3 @@
-pub mod Places
-pub mod Orderly
-pub mod Under
-pub mod Search
-pub mod FirstVisit
-pub mod Mosts
-pub mod Distinct
-pub mod Beaten
-pub mod Passed
-pub mod Open
-pub mod Rows
-pub mod Commuting
-pub mod Visit
-pub mod Stem
 pub mod Growth
 pub mod Opening
 pub mod Children
@@ -19,3 +5,4 @@ pub mod Table
 pub mod Ties
 pub mod Walk
 pub mod NextTable
+pub mod TableSearch

@@ -1,17 +1,13 @@
 -- The next table of a walk, as a search comes to it: jobs of stems, and what comes after some numbers.
-use Rattle.std.specs.Prelude.{◌≡◌, ℕ, ◌<◌, ◌≤◌, List, length, slice_index}
-use Rattle.std.specs.Ordering.{nat_cmp}
-use Rattle.std.specs.Cmp.Lexicographic.{slice_cmp}
-use Rattle.std.specs.declared.cmp.Ordering.TheVariants.{Less}
+use Rattle.std.specs.Prelude.{◌≡◌, ℕ, List}
 use Rattle.dd_model.specs.Symbol.{Symbol}
-use Rattle.dd_model.specs.Lists.{Begins}
 use Rattle.dd_model.specs.Code.{all_images}
 use Rattle.dd_model.specs.declared.requests.Request.{Request}
 use Rattle.dd_model.specs.declared.jobs.Job.{Job}
-use Rattle.dd_invol.specs.Stem.{prefix_of, size_of}
+use Rattle.dd_partial.specs.Stem.{prefix_of, size_of}
 use Rattle.dd_invol.specs.Table.{IsTableOf}
 use Rattle.dd_invol.specs.Walk.{IsSought, IsNext}
-use Rattle.dd_invol.specs.declared.stem.Stem.{Stem}
+use Rattle.dd_partial.specs.declared.stem.Stem.{Stem}
 
 -- the images of the first of the listed tables past some numbers
 pub record IsAhead (q : Request) (job : Job) (numbers images : List ℕ) : Type 0 where
@@ -29,6 +25,7 @@ pub record HasSought (q : Request) (job : Job) : Type 0 where
 abbrev pub here : Stem → Job
 here stem = record { size = size_of stem; prefix = prefix_of stem }
 
--- Lists past some numbers that begin with a prefix have k or more next.
-abbrev pub IsLeastNext : List ℕ → List ℕ → ℕ → Type 0
-IsLeastNext prefix numbers k = (xs : List ℕ) → Begins prefix xs → length prefix < length xs → slice_cmp nat_cmp numbers xs ≡ Less → k ≤ slice_index xs (length prefix)
+-- the table of a whole prefix is sought, and these are its images
+pub record IsSoughtAt (q : Request) (job : Job) (images : List ℕ) : Type 0 where
+  pub has : HasSought q job
+  pub images_are : images ≡ job.prefix

@@ -6,7 +6,7 @@ use Rattle.dd_model.specs.Lists.{Begins}
 use Rattle.dd_model.specs.Code.{code}
 use Rattle.dd_model.specs.declared.requests.Request.{Request}
 use Rattle.dd_model.specs.declared.jobs.Job.{Job}
-use Rattle.dd_invol.specs.FirstVisit.{IsFirstVisitPrefix}
+use Rattle.dd_partial.specs.FirstVisit.{IsFirstVisitPrefix}
 use Rattle.dd_model.specs.Jobs.{AreAscendingJobs}
 
 -- a first-visit prefix of exactly nine numbers, or of three times the size where that is less

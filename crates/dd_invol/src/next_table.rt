@@ -4,9 +4,9 @@ ghost use Rattle.dd_model.specs.Symbol.{AreInvolutions};
 ghost use Rattle.dd_model.specs.Wanted.{AtMost};
 ghost use Rattle.dd_model.specs.declared.pair.Pair.TheVariants.{Tile, Vertex};
 ghost use Rattle.dd_symbol.specs.Images.{of_rows};
-ghost use Rattle.dd_invol.specs.Stem.{IsStem, prefix_of, size_of};
+ghost use Rattle.dd_partial.specs.Stem.{IsStem, prefix_of, size_of};
 ghost use Rattle.dd_invol.specs.Walk.{HasNoneLeft};
-ghost use Rattle.dd_invol.specs.NextTable.{HasSought, IsAhead, IsLeastNext, here};
+ghost use Rattle.dd_invol.specs.NextTable.{HasSought, IsSoughtAt, here};
 
 use crate::cells::has_at_most;
 use crate::tables::Tables;
@@ -40,18 +40,8 @@ fn is_sought(tables: &mut Tables) -> bool
     has_limits(tables.size(), tables.prefix(), tables.request())
 }
 
-/// The least number that may come after a prefix in images that come after a bound.
-fn least_next(prefix: &[u8], bound: &[u8]) -> u8
-    ensures { IsLeastNext prefix.now bound.now result }
-{
-    if prefix.len() >= bound.len() || !bound.starts_with(prefix) {
-        return 0;
-    }
-    bound[prefix.len()]
-}
-
 /// The same numbers, for a caller that keeps them.
-fn kept(numbers: &[u8]) -> ArrayVec<u8, 108>
+pub(crate) fn kept(numbers: &[u8]) -> ArrayVec<u8, 108>
     requires { length numbers.now ≤ 108 }
     ensures { result.items ≡ numbers.now }
 {
@@ -62,46 +52,17 @@ fn kept(numbers: &[u8]) -> ArrayVec<u8, 108>
     images
 }
 
-/// The images of the table of a whole prefix, where it is sought and comes after a bound.
-fn images_past(tables: &mut Tables, bound: &[u8]) -> Option<ArrayVec<u8, 108>>
+/// The images of the table of a whole prefix, where it is sought.
+pub(crate) fn images_here(tables: &mut Tables) -> Option<ArrayVec<u8, 108>>
     requires stem { IsStem tables.old.stem }
     requires whole { length (prefix_of tables.old.stem) ≡ 3 * size_of tables.old.stem }
     ensures same { tables.new ≡ tables.old }
     ensures found { MatchOption result
-        (HasNoneLeft tables.old.request (here tables.old.stem) bound.now)
-        (λ images. IsAhead tables.old.request (here tables.old.stem) bound.now images.items) }
+        ((bound : List ℕ) → HasNoneLeft tables.old.request (here tables.old.stem) bound)
+        (λ images. IsSoughtAt tables.old.request (here tables.old.stem) images.items) }
 {
-    if !bound.cmp(tables.prefix()).is_lt() {
-        return None;
-    }
     if !is_sought(tables) {
         return None;
     }
     Some(kept(tables.prefix()))
-}
-
-/// The images of the first table under the prefix of a search that is sought and comes after a bound.
-pub(crate) fn first_past(tables: &mut Tables, bound: &[u8]) -> Option<ArrayVec<u8, 108>>
-    requires { IsStem tables.old.stem }
-    ensures same { tables.new ≡ tables.old }
-    ensures found { MatchOption result
-        (HasNoneLeft tables.old.request (here tables.old.stem) bound.now)
-        (λ images. IsAhead tables.old.request (here tables.old.stem) bound.now images.items) }
-{
-    if tables.is_whole() {
-        return images_past(tables, bound);
-    }
-    let mark = tables.mark();
-    let mut k = least_next(tables.prefix(), bound);
-    while let Some(number) = tables.next_from(k) {
-        if tables.enter(number) {
-            let found = first_past(tables, bound);
-            tables.leave(mark);
-            if let Some(images) = found {
-                return Some(images);
-            }
-        }
-        k = number + 1;
-    }
-    None
 }

@@ -1,12 +1,12 @@
 ghost use Rattle.std.specs.Prelude.{◌≡◌, ◌↔◌, ℕ, ◌+◌, ◌*◌, ◌≤◌, ◌<◌, [], min, IsTrue, IfOk, OnOk, length};
 ghost use Rattle.dd_model.specs.Request.{IsValid};
-ghost use Rattle.dd_invol.specs.FirstVisit.{IsFirstVisitPrefix};
+ghost use Rattle.dd_partial.specs.FirstVisit.{IsFirstVisitPrefix};
 ghost use Rattle.dd_invol.specs.Opening.{IsOpeningJob, IsOpening, AreJobsUnder};
-ghost use Rattle.dd_invol.specs.Under.{Appends};
+ghost use Rattle.dd_find.specs.Under.{Appends};
 
-use crate::numbering::{can_follow, greatest, is_first_visit};
 use arrayvec::ArrayVec;
 use dd_model::{Job, Memory, Prefix, Request};
+use dd_partial::{can_follow, greatest, is_first_visit};
 use std::alloc::Global;
 
 /// How many numbers the prefixes of an opening have.

@@ -3,14 +3,12 @@ ghost use Rattle.std.specs.Bool.{OnFalse};
 ghost use Rattle.dd_model.specs.Request.{IsValid};
 ghost use Rattle.dd_model.specs.Jobs.{extended, AreExtensions, AreChildren};
 ghost use Rattle.dd_invol.specs.Children.{IsStemOf};
-ghost use Rattle.dd_invol.specs.Stem.{Any, IsStem, prefix_of, size_of};
-ghost use Rattle.dd_invol.specs.Under.{HasNothingUnder};
-ghost use Rattle.dd_invol.specs.Visit.{IsVisiting};
+ghost use Rattle.dd_partial.specs.Stem.{Any, IsStem, prefix_of, size_of};
+ghost use Rattle.dd_find.specs.Under.{HasNothingUnder};
+ghost use Rattle.dd_partial.specs.Visit.{IsVisiting};
 
-use crate::numbering::can_follow;
-use crate::stem::Stem;
-use crate::traversal::Visit;
 use dd_model::{Job, Memory, Prefix, Request};
+use dd_partial::{Stem, Visit, can_follow};
 use std::alloc::Global;
 
 /// A job with one number more.

@@ -1,6 +1,5 @@
 ghost use Rattle.std.specs.Prelude.{◌≡◌, ℕ, ◌*◌, ◌≤◌, IfOk, MatchOption, length};
 
-use crate::stem::Stem;
 use dd_model::{Index, Memory, Pair};
 use dd_symbol::{Connected, Involutions, build_fitting, build_known};
 use std::alloc::Global;
@@ -89,30 +88,12 @@ impl Table {
     {
         &self.symbol
     }
+
     /// The same symbol, for a caller that keeps it.
     pub fn into_symbol(self) -> Connected
         ensures same { result ≡ self }
         ensures table { IsBareTable self }
     {
         self.symbol
-    }
-}
-
-impl Stem {
-    ghost use Rattle.dd_invol.specs.Stem.{IsStem, prefix_of, size_of};
-    ghost use Rattle.dd_invol.specs.Table.{AreOfTable, HasTable};
-    ghost use Rattle.dd_symbol.specs.Images.{of_rows};
-
-    /// The involutions of all images, which are known to be those of a table. Nothing is tested.
-    pub fn involutions(&self, alloc: Global) -> Result<Involutions, Memory>
-        requires stem { IsStem self.now }
-        requires whole { length (prefix_of self.now) ≡ 3 * size_of self.now }
-        requires some { HasTable (size_of self.now) (prefix_of self.now) }
-        ensures same { IfOk result
-            (λ it. it ≡ of_rows (size_of self.now) (prefix_of self.now)) }
-        ensures table { IfOk result (λ it. AreOfTable it) }
-    {
-        let size = u32::from(self.size());
-        Involutions::from_known_bytes(alloc, self.prefix(), size)
     }
 }

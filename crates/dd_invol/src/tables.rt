@@ -1,11 +1,11 @@
-ghost use Rattle.std.specs.Prelude.{◌≡◌, ◌↔◌, ◌*◌, ◌≤◌, ◌<◌, [], ◌∷◌, ◌++◌, IsTrue, MatchOption, length};
+ghost use Rattle.std.specs.Prelude.{◌≡◌, ◌*◌, ◌≤◌, [], length};
 ghost use Rattle.std.specs.Bool.{OnTrue, OnFalse};
-ghost use Rattle.dd_invol.specs.Search.{IsLonger};
-ghost use Rattle.dd_invol.specs.Under.{HasNothingUnder, HasNoNumberFrom, SkipsTo};
+ghost use Rattle.dd_find.specs.Under.{HasNothingUnder};
 
-use crate::stem::Stem;
-use crate::traversal::Visit;
+use crate::whole_stems::is_least;
+use dd_find::PrefixSearch;
 use dd_model::Request;
+use dd_partial::{Stem, Visit};
 use std::marker::Model;
 
 /// A search for tables of one size, of which nothing but leastness is asked: a stem that grows and
@@ -22,7 +22,7 @@ impl Model for Tables {
 
     ghost Value = { Growing };
 
-    ghost use Rattle.dd_invol.specs.Visit.{IsVisiting};
+    ghost use Rattle.dd_partial.specs.Visit.{IsVisiting};
 
     ghost view = { λ a. record { request = a.request; stem = a.stem } };
 
@@ -30,9 +30,9 @@ impl Model for Tables {
 }
 
 impl Tables {
-    ghost use Rattle.dd_invol.specs.Visit.{IsVisiting};
-    ghost use Rattle.dd_invol.specs.Rows.{depth_of};
-    ghost use Rattle.dd_invol.specs.Stem.{Any, IsStem, prefix_of, size_of};
+    ghost use Rattle.dd_partial.specs.Visit.{IsVisiting};
+    ghost use Rattle.dd_partial.specs.Rows.{depth_of};
+    ghost use Rattle.dd_partial.specs.Stem.{Any, IsStem, prefix_of, size_of};
     ghost use Rattle.dd_invol.specs.Table.{HasLeastTable};
     ghost use Rattle.dd_invol.specs.Growth.{asked_of, size_at, prefix_at, taken_back};
 
@@ -85,21 +85,6 @@ impl Tables {
         self.stem.prefix()
     }
 
-    /// Whether all images are told.
-    pub(crate) fn is_whole(&self) -> bool
-        requires { IsStem self.now.stem }
-        ensures { IsTrue result ↔ (length (prefix_of self.now.stem) ≡ 3 * size_of self.now.stem) }
-    {
-        self.stem.is_whole()
-    }
-
-    /// How much has been put into the table.
-    pub(crate) fn mark(&self) -> usize
-        ensures { result ≡ depth_of self.now.stem.rows }
-    {
-        self.stem.mark()
-    }
-
     /// Whether the images, which are all told, are those of a least table.
     pub(crate) fn is_least(&mut self) -> bool
         requires stem { IsStem self.old.stem }
@@ -110,40 +95,48 @@ impl Tables {
         ensures none { OnFalse result
             (HasNothingUnder Any (size_of self.old.stem) (prefix_of self.old.stem)) }
     {
-        self.stem.is_least(&mut self.visit)
+        is_least(&self.stem, &mut self.visit)
+    }
+}
+
+impl PrefixSearch for Tables {
+    ghost use Rattle.dd_partial.specs.Rows.{depth_of};
+    ghost use Rattle.dd_partial.specs.Stem.{Any, IsStem};
+    ghost use Rattle.dd_invol.specs.Growth.{asked_of, size_at, prefix_at, taken_back};
+
+    ghost request = { λ t. asked_of t };
+
+    ghost wanted = { λ q s. Any s };
+
+    ghost size = { λ t. size_at t };
+
+    ghost prefix = { λ t. prefix_at t };
+
+    ghost end = { λ n. 3 * n };
+
+    ghost depth = { λ t. depth_of t.stem.rows };
+
+    ghost undone = { λ t mark. taken_back t mark };
+
+    ghost valid = { λ t. IsStem t.stem };
+
+    fn is_whole(&self) -> bool {
+        self.stem.is_whole()
     }
 
-    /// The least number from k on that may come next; None where no such number may come.
-    pub(crate) fn next_from(&self, k: u8) -> Option<u8>
-        requires stem { IsStem self.now.stem }
-        requires room { length (prefix_of self.now.stem) < 3 * size_of self.now.stem }
-        ensures { MatchOption result
-            (HasNoNumberFrom Any (size_of self.now.stem) (prefix_of self.now.stem) k)
-            (λ m. SkipsTo Any (size_of self.now.stem) (prefix_of self.now.stem) k m) }
-    {
-        self.stem.next_from(k)
+    fn mark(&self) -> usize {
+        self.stem.mark()
     }
 
-    /// Puts a number at the end, unless it is sure that nothing is under the longer prefix.
-    pub(crate) fn enter(&mut self, number: u8) -> bool
-        requires stem { IsStem self.old.stem }
-        requires room { length (prefix_of self.old.stem) < 3 * size_of self.old.stem }
-        ensures valid { IsStem self.new.stem }
-        ensures alive { OnTrue result (IsLonger asked_of size_at prefix_at number self.old self.new) }
-        ensures undone { OnTrue result
-            (taken_back self.new (depth_of self.old.stem.rows) ≡ self.old) }
-        ensures same { OnFalse result (self.new ≡ self.old) }
-        ensures dead { OnFalse result (HasNothingUnder Any (size_of self.old.stem)
-            (prefix_of self.old.stem ++ number ∷ [])) }
-    {
+    fn candidates(&self) -> u64 {
+        self.stem.candidates()
+    }
+
+    fn enter(&mut self, number: u8) -> bool {
         self.stem.enter(number, &mut self.visit)
     }
 
-    /// Takes away the last number, and what was put into the table after a mark.
-    pub(crate) fn leave(&mut self, mark: usize)
-        requires { IsStem self.old.stem }
-        ensures { self.new ≡ taken_back self.old mark }
-    {
+    fn leave(&mut self, mark: usize) {
         self.stem.leave(mark);
     }
 }

@@ -1,16 +1,13 @@
 ghost use Rattle.std.specs.Bool.{OnTrue, OnFalse};
-ghost use Rattle.std.specs.Prelude.{◌≡◌, ◌≢◌, [], List, IfOk, IfSome, IfNone, OnErr, MatchOption};
+ghost use Rattle.std.specs.Prelude.{◌≡◌, ◌≢◌, [], IfOk, IfSome, IfNone, OnErr, MatchOption};
 ghost use Rattle.dd_model.specs.Code.{all_images};
 ghost use Rattle.dd_model.specs.Request.{IsValid};
 ghost use Rattle.dd_model.specs.Jobs.{IsJobOf};
 ghost use Rattle.dd_invol.specs.Walk.{IsListed, IsNext, HasNoneLeft, AreListed};
-ghost use Rattle.dd_invol.specs.NextTable.{IsAhead};
 
-use crate::next_table::first_past;
-use crate::splits::stem_of;
+use crate::next_table::kept;
 use crate::table::Table;
-use crate::tables::Tables;
-use crate::traversal::Visit;
+use crate::table_search::TableSearch;
 use arrayvec::ArrayVec;
 use dd_model::{Job, Memory, Request};
 use std::alloc::Global;
@@ -19,14 +16,16 @@ use std::marker::Model;
 /// A walk over the tables that a request and a job ask for: connected ones of the job's size with
 /// s0 s2 = s2 s0, whose codes begin with the job's prefix, of which no renumbering is smaller, and
 /// with no more classes of tiles and of vertices than the request allows. They come in the order
-/// of their codes, each once. The walk stands at the table to which it came last, and keeps its
-/// images alone, so that no memory is taken where it goes on.
+/// of their codes, each once. The walk stands at the table to which it came last. Its search may be
+/// one table ahead, where there was no memory for that table; all its room lies in the walk itself,
+/// so that no memory is taken where it goes on.
 #[derive(Drop)]
 pub struct Walk {
     alloc: Global,
     request: Request,
     job: Job,
     last: ArrayVec<u8, 108>,
+    search: TableSearch,
 }
 
 impl Model for Walk {
@@ -34,11 +33,11 @@ impl Model for Walk {
 
     ghost Value = { Walking };
 
-    ghost use Rattle.dd_invol.specs.Walk.{IsWalk};
+    ghost use Rattle.dd_invol.specs.TableSearch.{IsSearched};
 
     ghost view = { λ a. record { request = a.request; job = a.job; last = a.last.items } };
 
-    ghost invariant = { λ a. IsWalk a.request a.job a.last.items };
+    ghost invariant = { λ a. IsSearched a.request a.job a.last.items a.search };
 }
 
 impl Walk {
@@ -57,21 +56,8 @@ impl Walk {
             request: *request,
             job: job.try_copy()?,
             last: ArrayVec::new(),
+            search: TableSearch::start(request, job),
         })
-    }
-
-    /// The images of the next table; None where the walk came to all.
-    fn ahead(&self) -> Option<ArrayVec<u8, 108>>
-        ensures { MatchOption result
-            (HasNoneLeft self.now.request self.now.job self.now.last)
-            (λ images. IsAhead self.now.request self.now.job self.now.last images.items) }
-    {
-        let mut visit = Visit::new();
-        let Some(stem) = stem_of(&self.job, &mut visit) else {
-            return None;
-        };
-        let mut tables = Tables::from_stem(&self.request, stem, visit);
-        first_past(&mut tables, self.last.as_slice())
     }
 
     /// The table with some images, which are known to be those of a listed one.
@@ -94,10 +80,10 @@ impl Walk {
             (HasNoneLeft self.old.request self.old.job self.old.last) }
         ensures same { OnFalse result (self.new ≡ self.old) }
     {
-        let Some(images) = self.ahead() else {
+        if !self.search.come_past(self.last.as_slice()) {
             return false;
-        };
-        self.last = images;
+        }
+        self.last = kept(self.search.seen.as_slice());
         true
     }
 
@@ -122,9 +108,10 @@ impl Walk {
         ensures ended { IfOk result (λ found. IfNone found (self.new ≡ self.old)) }
         ensures failed { OnErr result (self.new ≡ self.old) }
     {
-        let Some(images) = self.ahead() else {
+        if !self.search.come_past(self.last.as_slice()) {
             return Ok(None);
-        };
+        }
+        let images = kept(self.search.seen.as_slice());
         let table = self.table_of(images.as_slice())?;
         self.last = images;
         Ok(Some(table))

@@ -1,9 +1,10 @@
 ghost use Rattle.std.specs.Prelude.{◌≡◌};
-ghost use Rattle.dd_invol.specs.Stem.{IsStem};
-ghost use Rattle.dd_invol.specs.Visit.{IsVisiting};
+ghost use Rattle.dd_partial.specs.Stem.{IsStem};
+ghost use Rattle.dd_partial.specs.Visit.{IsVisiting};
 
-use dd_invol::{Stem, Table, Visit, Walk, children, is_opening, opening, tables_under};
+use dd_invol::{Table, Walk, children, is_opening, opening, tables_under};
 use dd_model::{Allowed, Index, Job, Prefix, Request};
+use dd_partial::{Stem, Visit};
 use std::alloc::Global;
 use std::test::Fail;
 
@@ -122,13 +123,15 @@ fn count_whole(stem: &mut Stem, visit: &mut Visit) -> u64
     }
     let mark = stem.mark();
     let mut count = 0;
-    let mut k = 0;
-    while let Some(number) = stem.next_from(k) {
+    let numbers = stem.candidates();
+    for number in 0..37u8 {
+        if (numbers >> number) & 1 == 0 {
+            continue;
+        }
         if stem.enter(number, visit) {
             count = count_whole(stem, visit).saturating_add(count);
             stem.leave(mark);
         }
-        k = number + 1;
     }
     count
 }

@@ -1,12 +1,12 @@
 ghost use Rattle.std.specs.Prelude.{◌≡◌, ◌*◌, ◌<◌, ◌≤◌};
-ghost use Rattle.dd_invol.specs.Rows.{partial_of, IsReady};
-ghost use Rattle.dd_invol.specs.Stem.{IsStem};
-ghost use Rattle.dd_invol.specs.Visit.{IsVisiting};
+ghost use Rattle.dd_partial.specs.Rows.{partial_of, IsReady};
+ghost use Rattle.dd_partial.specs.Stem.{IsStem};
+ghost use Rattle.dd_partial.specs.Visit.{IsVisiting};
 ghost use Rattle.dd_ends.specs.Kept.{AreSides};
 
 use dd_ends::{PathShares, Sides};
-use dd_invol::{Rows, Stem, Visit};
 use dd_model::{Allowed, Request};
+use dd_partial::{Rows, Stem, Visit};
 use dd_shares::parity_rules_out;
 use std::test::Fail;
 
@@ -207,13 +207,15 @@ fn count_nodes(
     if stem.is_whole() {
         return count;
     }
-    let mut k = 0;
-    while let Some(number) = stem.next_from(k) {
+    let numbers = stem.candidates();
+    for number in 0..37u8 {
+        if (numbers >> number) & 1 == 0 {
+            continue;
+        }
         if stem.enter(number, visit) {
             count = count_nodes(stem, visit, classes, &sides, here).saturating_add(count);
             stem.leave(here);
         }
-        k = number + 1;
     }
     count
 }

@@ -14,8 +14,8 @@ use Rattle.dd_model.proofs.CellLists.{increasing-head, increasing-tail}
 use Rattle.dd_model.proofs.Branching.{degree_same}
 use Rattle.dd_cells.specs.Cells.{AreMembers}
 use Rattle.dd_cells.proofs.CellSums.{AreRoots, has_roots, members_at, members_at_are, sum_over_cells, sum_by_same}
-use Rattle.dd_invol.specs.Distinct.{AreDistinct}
-use Rattle.dd_invol.proofs.Distinct.{all_from}
+use Rattle.dd_partial.specs.Distinct.{AreDistinct}
+use Rattle.dd_partial.proofs.Distinct.{all_from}
 use Rattle.dd_cells.proofs.FixedFlags.{one_if, flags_of_chain}
 use Rattle.dd_model.proofs.CellWalks.{has_period}
 use Rattle.dd_model.proofs.Lists.{Contains-head, Contains-later, Contains-cases}

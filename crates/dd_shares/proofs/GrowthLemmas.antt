@@ -4,10 +4,10 @@ use Rattle.std.proofs.lemmas.Bool.{cases_lt}
 use Rattle.dd_model.specs.declared.index.Index.{Index}
 use Rattle.dd_model.specs.Symbol.{Symbol, op}
 use Rattle.dd_model.specs.Partial.{Completes}
-use Rattle.dd_invol.specs.Places.{place, back_of}
-use Rattle.dd_invol.specs.declared.rows.Rows.{Rows}
-use Rattle.dd_invol.specs.Rows.{partial_of, depth_of, cleared, last_of, popped, unwind, unwound}
-use Rattle.dd_invol.proofs.RowsLemmas.{op_partial, op_past}
+use Rattle.dd_partial.specs.Places.{place, back_of}
+use Rattle.dd_partial.specs.declared.rows.Rows.{Rows}
+use Rattle.dd_partial.specs.Rows.{partial_of, depth_of, cleared, last_of, popped, unwind, unwound}
+use Rattle.dd_partial.proofs.RowsLemmas.{op_partial, op_past}
 
 -- a list with a place set to zero
 zero_or_same : (xs : List ℕ) (t u : ℕ) → (get_or (set xs t 0) u 0 ≡ get_or xs u 0) ⊎ (get_or (set xs t 0) u 0 ≡ 0)

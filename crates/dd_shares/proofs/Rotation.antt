@@ -8,8 +8,8 @@ use Rattle.dd_model.specs.Cell.{InCell, IsChain, IsPeriod, turned}
 use Rattle.dd_model.proofs.CellWalks.{IsMet, met_from_in_cell}
 use Rattle.dd_model.proofs.Turns.{period_exists}
 use Rattle.dd_cells.proofs.ChainLemmas.{place_in_chain}
-use Rattle.dd_invol.specs.Distinct.{AreDistinct}
-use Rattle.dd_invol.proofs.Distinct.{Hits, distinct_values, all_map}
+use Rattle.dd_partial.specs.Distinct.{AreDistinct}
+use Rattle.dd_partial.proofs.Distinct.{Hits, distinct_values, all_map}
 
 -- the least number of turns that fixes a chamber, which is at most the degree
 record HasRounds (s : Symbol) (p : Pair) (d : ℕ) : Type 0 where

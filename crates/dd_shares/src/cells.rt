@@ -1,10 +1,10 @@
 ghost use Rattle.std.specs.Prelude.{◌≡◌, ◌⊎◌, ◌↔◌, ◌*◌, ◌≤◌, IsTrue};
 ghost use Rattle.std.specs.Option.{IfSome};
-ghost use Rattle.dd_invol.specs.Rows.{partial_of, IsReady};
+ghost use Rattle.dd_partial.specs.Rows.{partial_of, IsReady};
 ghost use Rattle.dd_shares.specs.Turning.{IsTurn, IsWholeCell};
 
-use dd_invol::Rows;
 use dd_model::Pair;
+use dd_partial::Rows;
 
 /// The two chambers to which the steps of one turn lead, and whether one of them stays in its place.
 #[derive(Clone, Copy, Drop)]

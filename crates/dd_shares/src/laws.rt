@@ -10,7 +10,7 @@ ghost use Rattle.dd_model.specs.declared.index.Index.{Index};
 ghost use Rattle.dd_model.specs.declared.index.Index.TheVariants.{Zero};
 ghost use Rattle.dd_model.specs.declared.pair.Pair.{Pair};
 ghost use Rattle.dd_model.specs.declared.pair.Pair.TheVariants.{Tile, Vertex};
-ghost use Rattle.dd_invol.specs.Distinct.{AreDistinct};
+ghost use Rattle.dd_partial.specs.Distinct.{AreDistinct};
 ghost use Rattle.dd_cells.specs.Cells.{AreMembers};
 ghost use Rattle.dd_shares.specs.Closed.{fixed_flags};
 

@@ -2,10 +2,10 @@ ghost use Rattle.std.specs.Prelude.{IsTrue};
 ghost use Rattle.dd_model.specs.Symbol.{Symbol as Tiling};
 ghost use Rattle.dd_model.specs.Partial.{Completes};
 ghost use Rattle.dd_model.specs.FirstVisit.{LeastTable};
-ghost use Rattle.dd_invol.specs.Rows.{partial_of, IsReady};
+ghost use Rattle.dd_partial.specs.Rows.{partial_of, IsReady};
 
-use dd_invol::Rows;
 use dd_model::Index;
+use dd_partial::Rows;
 
 /// Whether it is sure that no least table completes the table: its size is odd, and s0 moves
 /// chamber 1.

@@ -2,7 +2,7 @@ use Rattle.std.proofs.Common.{◌≡◌, ◌≢◌, ◌+◌, ◌/◌, ◌^◌, �
 use Rattle.std.proofs.lemmas.Bool.{cases_eq}
 use Rattle.std.proofs.lemmas.Nat.Bits.{bit_at-zero}
 use Rattle.std.specs.Int.{bit_at, trailing_zeros}
-use Rattle.dd_invol.proofs.LowestBits.{dropped_other, lowest_bit}
+use Rattle.dd_find.proofs.LowestBits.{dropped_other, lowest_bit}
 use Rattle.dd_branch.proofs.Bits.{bit_lower, bit_or_left, bit_or_right}
 use Rattle.dd_branch.proofs.rests.surplus_with.Goals as goal
 

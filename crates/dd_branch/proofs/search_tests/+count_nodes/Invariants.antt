@@ -1,5 +1,5 @@
 use Rattle.std.proofs.Common.{◌≡◌, ◌-◌, ◌*◌, ◌<◌, length}
-use Rattle.dd_invol.specs.Stem.{prefix_of, size_of}
+use Rattle.dd_partial.specs.Stem.{prefix_of, size_of}
 use Rattle.dd_branch.specs.Descent.{IsDescent}
 use Rattle.dd_branch.proofs.search_tests.+count_nodes.Given as goal
 

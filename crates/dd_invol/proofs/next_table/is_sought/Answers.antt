@@ -4,7 +4,7 @@ use Rattle.dd_model.specs.Wanted.{AtMost}
 use Rattle.dd_model.specs.declared.pair.Pair.TheVariants.{Tile, Vertex}
 use Rattle.dd_model.specs.declared.requests.Request.{Request}
 use Rattle.dd_symbol.specs.Images.{of_rows}
-use Rattle.dd_invol.specs.Stem.{prefix_of, size_of}
+use Rattle.dd_partial.specs.Stem.{prefix_of, size_of}
 use Rattle.dd_invol.specs.NextTable.{here}
 use Rattle.dd_invol.proofs.SoughtStems.{involutions_of_least, sought_of_least, none_of_least}
 use Rattle.dd_invol.proofs.WalkLemmas.{none_listed}

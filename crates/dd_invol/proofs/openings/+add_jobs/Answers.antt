@@ -1,9 +1,9 @@
 use Rattle.std.proofs.Common.{rules, ◌≡◌, ℕ, IsTrue, false, List, ◌+◌, ◌-◌, ◌*◌, ◌≤◌, ◌<◌, ◌++◌, ◌∷◌, [], min, length, take, refl, sym, ap, ◌∙◌, subst, arith}
 use Rattle.std.proofs.lemmas.List.{take_at, length_push}
-use Rattle.dd_invol.specs.FirstVisit.{IsFirstVisitPrefix, CanFollow, greatest}
+use Rattle.dd_partial.specs.FirstVisit.{IsFirstVisitPrefix, CanFollow, greatest}
 use Rattle.dd_invol.specs.Opening.{AreJobsUnder}
-use Rattle.dd_invol.specs.Under.{Appends}
-use Rattle.dd_invol.proofs.FirstVisits.{first_more}
+use Rattle.dd_find.specs.Under.{Appends}
+use Rattle.dd_partial.proofs.FirstVisits.{first_more}
 use Rattle.dd_invol.proofs.JobLists.{AreJobsBefore, adds_none, adds_more, adds_skip, adds_all, adds_whole}
 use Rattle.dd_invol.proofs.openings.+add_jobs.Goals as goal
 use Rattle.dd_invol.proofs.openings.+add_jobs.Goals.{then-can_follow+in_ok-add_jobs, else-can_follow}

@@ -1,5 +1,5 @@
 use Rattle.std.proofs.Common.{◌≡◌, ◌+◌, ◌-◌, ◌*◌, ◌<◌, min, length}
-use Rattle.dd_invol.specs.Under.{Appends}
+use Rattle.dd_find.specs.Under.{Appends}
 use Rattle.dd_invol.proofs.JobLists.{AreJobsBefore}
 use Rattle.dd_invol.proofs.openings.+add_jobs.Given as goal
 

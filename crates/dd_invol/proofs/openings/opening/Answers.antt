@@ -1,6 +1,6 @@
 use Rattle.std.proofs.Common.{◌≡◌, ◌+◌, ◌*◌, min, subst, arith}
 use Rattle.dd_invol.specs.Opening.{AreJobsUnder}
-use Rattle.dd_invol.specs.Under.{Appends}
+use Rattle.dd_find.specs.Under.{Appends}
 use Rattle.dd_invol.proofs.JobLists.{AreOpeningBelow, opening_more, opening_whole}
 use Rattle.dd_invol.proofs.openings.opening.Goals as goal
 

@@ -1,6 +1,6 @@
 use Rattle.std.proofs.Common.{◌+◌}
 use Rattle.dd_invol.specs.Children.{IsStemOf}
-use Rattle.dd_invol.specs.Visit.{IsVisiting}
+use Rattle.dd_partial.specs.Visit.{IsVisiting}
 use Rattle.dd_invol.proofs.Extensions.{AreExtensionsBelow}
 use Rattle.dd_invol.proofs.splits.extensions.Given as goal
 

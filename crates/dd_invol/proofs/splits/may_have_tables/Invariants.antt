@@ -1,5 +1,5 @@
 use Rattle.std.proofs.Common.{◌≡◌, take}
-use Rattle.dd_invol.specs.Stem.{IsStem, prefix_of, size_of}
+use Rattle.dd_partial.specs.Stem.{IsStem, prefix_of, size_of}
 use Rattle.dd_invol.proofs.splits.may_have_tables.Given as goal
 
 abbrev pub invariant-loop-number : goal.invariant-loop-number

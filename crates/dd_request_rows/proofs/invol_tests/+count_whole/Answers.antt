@@ -1,19 +1,17 @@
 use Rattle.std.proofs.Common.{◌≡◌, sym, ap, ◌∙◌, subst, arith}
-use Rattle.dd_invol.specs.Rows.{depth_of}
-use Rattle.dd_invol.specs.Stem.{shortened}
-use Rattle.dd_invol.specs.Visit.{IsVisiting}
-use Rattle.dd_invol.specs.declared.stem.Stem.{Stem}
+use Rattle.dd_partial.specs.Rows.{depth_of}
+use Rattle.dd_partial.specs.Stem.{shortened}
+use Rattle.dd_partial.specs.Visit.{IsVisiting}
+use Rattle.dd_partial.specs.declared.stem.Stem.{Stem}
 use Rattle.dd_request_rows.proofs.invol_tests.+count_whole.Goals as goal
 use Rattle.dd_request_rows.proofs.invol_tests.+count_whole.Goals.{then-enter, else-enter}
 
 pub loop-number-preserved : goal.loop-number-preserved
 loop-number-preserved t c =
     let i = c.loop-number.invariant in
-    let small = c.in-Some.ensures.small in
     let mark = i.mark ∙ ap (λ (s : Stem). depth_of s.rows) (sym i.same) in
     elim c.if-enter.branch [
       | then-enter w ↦ record {
-        small = omega arith;
         same = w.stem-is ∙ w.leave.ensures ∙ ap (λ (s : Stem). shortened s c.mark-mark.result) w.count_whole.ensures.stem ∙ ap (shortened c.enter.new.self) mark ∙ w.if-enter.ensures.undone ∙ i.same;
         stem = i.stem;
         visiting = subst IsVisiting (sym w.visit-is) w.count_whole.ensures.visiting;
@@ -21,7 +19,6 @@ loop-number-preserved t c =
         mark = i.mark;
       }
       | else-enter w ↦ record {
-        small = omega arith;
         same = w.stem-is ∙ w.if-enter.ensures.same ∙ i.same;
         stem = i.stem;
         visiting = subst IsVisiting (sym w.visit-is) c.enter.ensures.visiting;

@@ -1,7 +1,7 @@
 use Rattle.std.proofs.Common.{◌≡◌, ◌-◌, ◌*◌, ◌<◌, ◌≤◌, length}
-use Rattle.dd_invol.specs.Rows.{depth_of}
-use Rattle.dd_invol.specs.Stem.{IsStem, prefix_of, size_of}
-use Rattle.dd_invol.specs.Visit.{IsVisiting}
+use Rattle.dd_partial.specs.Rows.{depth_of}
+use Rattle.dd_partial.specs.Stem.{IsStem, prefix_of, size_of}
+use Rattle.dd_partial.specs.Visit.{IsVisiting}
 use Rattle.dd_request_rows.proofs.invol_tests.+count_whole.Given as goal
 
 abbrev pub decreases-count_whole : goal.decreases-count_whole
@@ -9,13 +9,9 @@ decreases-count_whole l = 3 * size_of l.stem.now - length (prefix_of l.stem.now)
 
 abbrev pub invariant-loop-number : goal.invariant-loop-number
 invariant-loop-number l = record {
-  small : l.k ≤ 217;
   same : l.stem ≡ l.fn.stem;
   stem : IsStem l.fn.stem;
   visiting : IsVisiting l.visit;
   short : length (prefix_of l.fn.stem) < 3 * size_of l.fn.stem;
   mark : l.mark ≡ depth_of l.fn.stem.rows;
 }
-
-abbrev pub decreases-loop-number : goal.decreases-loop-number
-decreases-loop-number l = 217 - l.k

@@ -1,7 +1,7 @@
 use Rattle.std.proofs.Common.{◌≡◌, ◌-◌, ◌*◌, ◌<◌, ◌≤◌, length}
-use Rattle.dd_invol.specs.Rows.{partial_of, depth_of}
-use Rattle.dd_invol.specs.Stem.{IsStem, prefix_of, size_of}
-use Rattle.dd_invol.specs.Visit.{IsVisiting}
+use Rattle.dd_partial.specs.Rows.{partial_of, depth_of}
+use Rattle.dd_partial.specs.Stem.{IsStem, prefix_of, size_of}
+use Rattle.dd_partial.specs.Visit.{IsVisiting}
 use Rattle.dd_ends.specs.Kept.{AreSides}
 use Rattle.dd_share_trials.proofs.share_trials.+count_nodes.Given as goal
 
@@ -10,7 +10,6 @@ decreases-count_nodes l = 3 * size_of l.stem.now - length (prefix_of l.stem.now)
 
 abbrev pub invariant-loop-number : goal.invariant-loop-number
 invariant-loop-number l = record {
-  small : l.k ≤ 217;
   same : l.stem ≡ l.fn.stem;
   stem : IsStem l.fn.stem;
   visiting : IsVisiting l.visit;
@@ -18,6 +17,3 @@ invariant-loop-number l = record {
   short : length (prefix_of l.fn.stem) < 3 * size_of l.fn.stem;
   here : l.here ≡ depth_of l.fn.stem.rows;
 }
-
-abbrev pub decreases-loop-number : goal.decreases-loop-number
-decreases-loop-number l = 217 - l.k

@@ -1,5 +1,5 @@
 use Rattle.std.proofs.Common.{sym, ◌∙◌}
-use Rattle.dd_invol.specs.Rows.{partial_of}
+use Rattle.dd_partial.specs.Rows.{partial_of}
 use Rattle.dd_share_trials.proofs.share_trials.answers_for_pentagons.Goals as goal
 
 pub rules_out-before-requires-clause-kept : goal.rules_out-before-requires-clause-kept

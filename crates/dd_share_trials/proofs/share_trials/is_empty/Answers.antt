@@ -1,5 +1,5 @@
 use Rattle.std.proofs.Common.{sym, ◌∙◌}
-use Rattle.dd_invol.specs.Rows.{partial_of}
+use Rattle.dd_partial.specs.Rows.{partial_of}
 use Rattle.dd_share_trials.proofs.share_trials.is_empty.Goals as goal
 
 pub rules_out-requires-clause-kept : goal.rules_out-requires-clause-kept

@@ -1,5 +1,5 @@
 use Rattle.std.proofs.Common.{sym, ◌∙◌}
-use Rattle.dd_invol.specs.Rows.{partial_of}
+use Rattle.dd_partial.specs.Rows.{partial_of}
 use Rattle.dd_share_trials.proofs.share_trials.is_empty_with_a_chain.Goals as goal
 
 pub put-requires-clause-kept : goal.put-requires-clause-kept

@@ -1,5 +1,5 @@
 use Rattle.std.proofs.Common.{sym, ◌∙◌}
-use Rattle.dd_invol.specs.Rows.{partial_of}
+use Rattle.dd_partial.specs.Rows.{partial_of}
 use Rattle.dd_share_trials.proofs.share_trials.nodes_of.Goals as goal
 
 pub count_nodes-requires-clause-kept : goal.count_nodes-requires-clause-kept

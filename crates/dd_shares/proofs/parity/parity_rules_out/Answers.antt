@@ -1,7 +1,7 @@
 use Rattle.std.proofs.Common.{◌≡◌, ◌≢◌, ◌%◌, ◌<◌, ap, ◌∙◌, arith}
 use Rattle.dd_model.specs.declared.index.Index.TheVariants.{Zero}
 use Rattle.dd_model.specs.Symbol.{op}
-use Rattle.dd_invol.specs.Rows.{partial_of}
+use Rattle.dd_partial.specs.Rows.{partial_of}
 use Rattle.dd_shares.proofs.OddSizes.{odd_first}
 use Rattle.dd_shares.proofs.parity.parity_rules_out.Goals as goal
 

@@ -2,8 +2,8 @@ use Rattle.std.proofs.Common.{rules, ◌≡◌, ◌-◌, ◌*◌, ◌%◌, ◌^�
 use Rattle.std.proofs.lemmas.Nat.{one_shl}
 use Rattle.dd_model.specs.Symbol.{Symbol}
 use Rattle.dd_model.specs.Wanted.{IsMember}
-use Rattle.dd_invol.specs.Under.{Appends, AreUnder}
-use Rattle.dd_invol.proofs.Prefixes.{appends_dead}
+use Rattle.dd_find.specs.Under.{Appends, AreUnder}
+use Rattle.dd_find.proofs.Prefixes.{appends_dead}
 use Rattle.dd_branch.specs.Assignment.{HasLast, next_place, prefix_of, shortened, told}
 use Rattle.dd_branch.specs.Budget.{no_place}
 use Rattle.dd_branch.specs.Choice.{HasBranching, IsChoice}

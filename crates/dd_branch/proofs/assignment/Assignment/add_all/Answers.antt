@@ -1,5 +1,5 @@
 use Rattle.dd_model.specs.Wanted.{IsMember}
-use Rattle.dd_invol.proofs.Prefixes.{appends_dead}
+use Rattle.dd_find.proofs.Prefixes.{appends_dead}
 use Rattle.dd_branch.specs.Assignment.{prefix_of}
 use Rattle.dd_branch.proofs.assignment.Assignment.add_all.Goals as goal
 

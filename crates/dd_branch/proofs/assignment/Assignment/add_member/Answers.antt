@@ -5,7 +5,7 @@ use Rattle.dd_model.specs.Small.{IsSmallSymbol}
 use Rattle.dd_model.specs.Symbol.{Symbol}
 use Rattle.dd_model.specs.Wanted.{IsMember}
 use Rattle.dd_canon.specs.Ties.{IsLeastFrom}
-use Rattle.dd_invol.proofs.Prefixes.{appends_dead}
+use Rattle.dd_find.proofs.Prefixes.{appends_dead}
 use Rattle.dd_invol.proofs.TiedTables.{ties_of_least}
 use Rattle.dd_symbol.specs.Images.{with_degrees}
 use Rattle.dd_branch.specs.Assignment.{prefix_of}

@@ -1,9 +1,9 @@
 use Rattle.std.proofs.Common.{◌≡◌, [], ◌∷◌, ◌++◌, not, sym, ap, ◌∙◌, subst, arith}
 use Rattle.std.proofs.lemmas.Bool.{OnTrue_from, OnFalse_from, not-false}
 use Rattle.dd_model.specs.Wanted.{IsMember}
-use Rattle.dd_invol.specs.Stem.{prefix_of, size_of}
-use Rattle.dd_invol.specs.Under.{HasNothingUnder}
-use Rattle.dd_invol.proofs.Absorbing.{absorbed_none}
+use Rattle.dd_partial.specs.Stem.{prefix_of, size_of}
+use Rattle.dd_find.specs.Under.{HasNothingUnder}
+use Rattle.dd_partial.proofs.Absorbing.{absorbed_none}
 use Rattle.dd_branch.specs.Descent.{Descending, IsDescent}
 use Rattle.dd_branch.proofs.Descents.{IsPut, put_descent}
 use Rattle.dd_branch.proofs.Splits.{none_where_no_table}

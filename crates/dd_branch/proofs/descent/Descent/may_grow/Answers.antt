@@ -1,7 +1,7 @@
 use Rattle.std.proofs.Common.{◌≡◌, IsTrue, false, sym, ap, subst}
 use Rattle.dd_model.specs.Wanted.{IsMember}
-use Rattle.dd_invol.specs.FirstVisit.{CanFollow}
-use Rattle.dd_invol.specs.Stem.{prefix_of, size_of}
+use Rattle.dd_partial.specs.FirstVisit.{CanFollow}
+use Rattle.dd_partial.specs.Stem.{prefix_of, size_of}
 use Rattle.dd_invol.proofs.Extensions.{none_cannot}
 use Rattle.dd_branch.specs.Descent.{Descending}
 use Rattle.dd_branch.proofs.Splits.{none_where_no_table}

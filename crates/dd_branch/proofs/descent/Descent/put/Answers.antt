@@ -1,8 +1,8 @@
 use Rattle.std.proofs.Common.{◌≡◌, ◌+◌, List, [], ◌∷◌, ◌++◌, length, length-append, refl, sym, ap, ◌∙◌, subst, arith}
 use Rattle.dd_model.specs.Wanted.{IsMember}
-use Rattle.dd_invol.specs.Rows.{depth_of}
-use Rattle.dd_invol.specs.Stem.{prefix_of, size_of}
-use Rattle.dd_invol.specs.Under.{HasNothingUnder}
+use Rattle.dd_partial.specs.Rows.{depth_of}
+use Rattle.dd_partial.specs.Stem.{prefix_of, size_of}
+use Rattle.dd_find.specs.Under.{HasNothingUnder}
 use Rattle.dd_ends.specs.Kept.{with_sides}
 use Rattle.dd_branch.specs.Descent.{Descending, IsDescent, HasDescended, shorter}
 use Rattle.dd_branch.specs.declared.level.Level.{Level}

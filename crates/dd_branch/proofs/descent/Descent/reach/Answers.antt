@@ -1,8 +1,8 @@
 use Rattle.std.proofs.Common.{◌≡◌, ◌+◌, ◌++◌, ◌∷◌, [], get_or, take, sym, ap, ◌∙◌, subst, arith}
 use Rattle.std.proofs.lemmas.List.{take_more}
 use Rattle.dd_model.specs.Wanted.{IsMember}
-use Rattle.dd_invol.specs.Stem.{prefix_of, size_of}
-use Rattle.dd_invol.specs.Under.{HasNothingUnder}
+use Rattle.dd_partial.specs.Stem.{prefix_of, size_of}
+use Rattle.dd_find.specs.Under.{HasNothingUnder}
 use Rattle.dd_branch.proofs.Descents.{no_member_under_front}
 use Rattle.dd_branch.proofs.descent.Descent.reach.Goals as goal
 

@@ -1,7 +1,7 @@
 use Rattle.std.proofs.Common.{[], ◌∷◌, ◌++◌, ◌*◌, ◌<◌, length, sym, ap, subst}
 use Rattle.dd_model.specs.Wanted.{IsMember}
-use Rattle.dd_invol.specs.Stem.{prefix_of, size_of}
-use Rattle.dd_invol.specs.Under.{HasNothingUnder}
+use Rattle.dd_partial.specs.Stem.{prefix_of, size_of}
+use Rattle.dd_find.specs.Under.{HasNothingUnder}
 use Rattle.dd_branch.specs.Descent.{Descending, IsDescent}
 use Rattle.dd_branch.proofs.Descents.{none_with_number}
 use Rattle.dd_branch.proofs.descent.Descent.shares_refuse.Goals as goal

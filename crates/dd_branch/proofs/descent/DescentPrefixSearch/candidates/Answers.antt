@@ -3,8 +3,8 @@ use Rattle.std.proofs.lemmas.Bool.{cases_eq}
 use Rattle.std.proofs.lemmas.Nat.Bits.{bit_at-lt}
 use Rattle.std.specs.Int.{bit_at}
 use Rattle.dd_model.specs.Wanted.{IsMember}
-use Rattle.dd_invol.specs.Stem.{prefix_of, size_of}
-use Rattle.dd_invol.specs.Under.{HasNothingUnder}
+use Rattle.dd_partial.specs.Stem.{prefix_of, size_of}
+use Rattle.dd_find.specs.Under.{HasNothingUnder}
 use Rattle.dd_branch.specs.Descent.{Descending, IsDescent}
 use Rattle.dd_branch.proofs.Descents.{none_with_number}
 use Rattle.dd_branch.proofs.Splits.{none_where_no_table}

@@ -1,6 +1,6 @@
 use Rattle.std.proofs.Common.{◌∙◌}
 use Rattle.dd_model.specs.Wanted.{IsMember}
-use Rattle.dd_invol.proofs.Prefixes.{appends_dead}
+use Rattle.dd_find.proofs.Prefixes.{appends_dead}
 use Rattle.dd_branch.proofs.Descents.{dead_job, added_members}
 use Rattle.dd_branch.proofs.search.Search.add_members.Goals as goal
 

@@ -1,9 +1,9 @@
 use Rattle.std.proofs.Common.{[], refl}
 use Rattle.dd_model.specs.Jobs.{AreMembersUnder}
 use Rattle.dd_model.specs.Wanted.{IsMember}
-use Rattle.dd_invol.specs.Under.{HasNothingUnder}
-use Rattle.dd_invol.specs.Stem.{size_of}
-use Rattle.dd_invol.proofs.Filling.{on_false_from}
+use Rattle.dd_find.specs.Under.{HasNothingUnder}
+use Rattle.dd_partial.specs.Stem.{size_of}
+use Rattle.dd_partial.proofs.Filling.{on_false_from}
 use Rattle.dd_branch.proofs.Descents.{dead_job, found_none}
 use Rattle.dd_branch.proofs.search.Search.reaches.Goals as goal
 

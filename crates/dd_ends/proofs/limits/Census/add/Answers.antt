@@ -1,5 +1,5 @@
 use Rattle.std.proofs.Common.{◌+◌, ◌*◌, ◌≤◌, sym, ◌∙◌, subst, arith}
-use Rattle.dd_invol.specs.Rows.{partial_of}
+use Rattle.dd_partial.specs.Rows.{partial_of}
 use Rattle.dd_model.specs.Symbol.{first, second}
 use Rattle.dd_shares.specs.Closed.{AreWhole, IsWhole}
 use Rattle.dd_shares.specs.Units.{share_unit}

@@ -1,5 +1,5 @@
 use Rattle.std.proofs.Common.{arith}
-use Rattle.dd_invol.specs.Rows.{partial_of}
+use Rattle.dd_partial.specs.Rows.{partial_of}
 use Rattle.dd_ends.proofs.CensusLemmas.{census_of_more}
 use Rattle.dd_ends.proofs.limits.Census.of.Goals as goal
 

@@ -1,5 +1,5 @@
 use Rattle.std.proofs.Common.{◌≤◌}
-use Rattle.dd_invol.specs.Rows.{partial_of}
+use Rattle.dd_partial.specs.Rows.{partial_of}
 use Rattle.dd_ends.specs.Census.{IsCensus, IsSmall}
 use Rattle.dd_ends.proofs.limits.Census.of.Given as goal
 

@@ -1,6 +1,6 @@
 use Rattle.std.proofs.Common.{refl, sym, ◌∙◌, subst, arith}
 use Rattle.std.specs.Prelude.{true}
-use Rattle.dd_invol.specs.Rows.{partial_of}
+use Rattle.dd_partial.specs.Rows.{partial_of}
 use Rattle.dd_shares.specs.Shares.{BoundsReciprocals}
 use Rattle.dd_shares.proofs.WholeShares.{bounds_least}
 use Rattle.dd_ends.specs.Sides.{ends_of}

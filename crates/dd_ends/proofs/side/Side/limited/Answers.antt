@@ -1,6 +1,6 @@
 use Rattle.std.proofs.Common.{refl}
 use Rattle.std.specs.Prelude.{true}
-use Rattle.dd_invol.specs.Rows.{partial_of}
+use Rattle.dd_partial.specs.Rows.{partial_of}
 use Rattle.dd_ends.specs.Sides.{ends_of}
 use Rattle.dd_ends.proofs.PassingTables.{total_bounds}
 use Rattle.dd_ends.proofs.SumLemmas.{total_small}

@@ -1,5 +1,5 @@
 use Rattle.std.proofs.Common.{◌+◌, ◌*◌, ◌<◌, true, refl, subst}
-use Rattle.dd_invol.specs.Rows.{partial_of}
+use Rattle.dd_partial.specs.Rows.{partial_of}
 use Rattle.dd_shares.specs.Units.{share_unit}
 use Rattle.dd_ends.proofs.LinkLemmas.{none_of_sums}
 use Rattle.dd_ends.proofs.SumLemmas.{sum_as_kept, total_small}

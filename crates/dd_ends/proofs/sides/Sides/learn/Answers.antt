@@ -1,4 +1,4 @@
-use Rattle.dd_invol.specs.Rows.{partial_of}
+use Rattle.dd_partial.specs.Rows.{partial_of}
 use Rattle.dd_ends.proofs.FilledLemmas.{filled_image}
 use Rattle.dd_ends.proofs.sides.Sides.learn.Goals as goal
 

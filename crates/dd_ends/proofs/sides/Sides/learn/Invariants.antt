@@ -1,4 +1,4 @@
-use Rattle.dd_invol.specs.Rows.{partial_of}
+use Rattle.dd_partial.specs.Rows.{partial_of}
 use Rattle.dd_ends.specs.Kept.{AreSides}
 use Rattle.dd_ends.proofs.sides.Sides.learn.Given as goal
 

@@ -2,8 +2,8 @@ use Rattle.std.proofs.Common.{◌+◌, ◌*◌, ◌/◌, ◌%◌, ◌<◌, sym, 
 use Rattle.std.proofs.lemmas.Bool.{eq-eqb, eqb-true}
 use Rattle.std.specs.Prelude.{Bool, nat_eq}
 use Rattle.dd_model.specs.Symbol.{Symbol, op}
-use Rattle.dd_invol.specs.Places.{index_at}
-use Rattle.dd_invol.specs.Rows.{partial_of}
+use Rattle.dd_partial.specs.Places.{index_at}
+use Rattle.dd_partial.specs.Rows.{partial_of}
 use Rattle.dd_shares.specs.Units.{share_unit}
 use Rattle.dd_ends.specs.Kept.{IsImage}
 use Rattle.dd_ends.specs.Passing.{Passes}

@@ -3,7 +3,7 @@ use Rattle.std.proofs.lemmas.Bool.{cases_eq}
 use Rattle.std.proofs.lemmas.Nat.Bits.{bit_at-lt, bit_at_and, bit_at_set_same, bit_at_set_other}
 use Rattle.std.specs.Int.{bit_at, trailing_zeros}
 use Rattle.std.specs.Int.Bits.{bit_and, bit_or}
-use Rattle.dd_invol.proofs.LowestBits.{IsLowestBit, lowest_bit, lowest_below, dropped_other}
+use Rattle.dd_find.proofs.LowestBits.{IsLowestBit, lowest_bit, lowest_below, dropped_other}
 use Rattle.dd_ends.proofs.sides.Sides.sieve.Goals as goal
 
 lowest : (left : ℕ) → left ≢ 0 → left < 2 ^ 64 → IsLowestBit left (trailing_zeros w64 left)

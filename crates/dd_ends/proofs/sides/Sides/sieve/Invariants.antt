@@ -1,7 +1,7 @@
 use Rattle.std.proofs.Common.{◌≡◌, ℕ, ◌≤◌}
 use Rattle.std.specs.Int.{bit_at}
 use Rattle.dd_model.specs.Symbol.{Symbol}
-use Rattle.dd_invol.specs.Rows.{partial_of, HasNumberAt}
+use Rattle.dd_partial.specs.Rows.{partial_of, HasNumberAt}
 use Rattle.dd_shares.specs.Shares.{IsSought}
 use Rattle.dd_ends.proofs.sides.Sides.sieve.Given as goal
 

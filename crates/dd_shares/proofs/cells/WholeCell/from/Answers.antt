@@ -1,5 +1,5 @@
 use Rattle.std.proofs.Common.{min, ◌≡◌, ◌↔◌, ◌⊎◌, suc, ◌+◌, IsTrue, ap, ◌∙◌, subst, arith}
-use Rattle.dd_invol.specs.Rows.{partial_of}
+use Rattle.dd_partial.specs.Rows.{partial_of}
 use Rattle.dd_shares.specs.Turning.{AreTurns, IsLeastMet}
 use Rattle.dd_shares.proofs.TurnLemmas.{no_turns, one_more_turn, none_met, one_more_met, whole_from_turns, either_first, either_second}
 use Rattle.dd_shares.proofs.cells.WholeCell.from.Goals as goal

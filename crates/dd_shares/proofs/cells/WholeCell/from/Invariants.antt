@@ -1,5 +1,5 @@
 use Rattle.std.proofs.Common.{◌≤◌}
-use Rattle.dd_invol.specs.Rows.{partial_of}
+use Rattle.dd_partial.specs.Rows.{partial_of}
 use Rattle.dd_shares.specs.Turning.{AreTurns, IsLeastMet}
 use Rattle.dd_shares.proofs.cells.WholeCell.from.Given as goal
 

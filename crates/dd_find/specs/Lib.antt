@@ -1,0 +1,4 @@
+pub mod Orderly
+pub mod Under
+pub mod Search
+pub mod Levels

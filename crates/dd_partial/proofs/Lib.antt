@@ -1,0 +1,17 @@
+pub mod Places
+pub mod Distinct
+pub mod Orders
+pub mod Leastness
+pub mod RowsLemmas
+pub mod Filling
+pub mod Commuting
+pub mod Traversing
+pub mod Passing
+pub mod Follows
+pub mod Growth
+pub mod MostLemmas
+pub mod FirstVisits
+pub mod CodeFronts
+pub mod Stems
+pub mod Candidates
+pub mod Absorbing

@@ -1,0 +1,11 @@
+pub mod Places
+pub mod FirstVisit
+pub mod Mosts
+pub mod Distinct
+pub mod Beaten
+pub mod Passed
+pub mod Open
+pub mod Rows
+pub mod Commuting
+pub mod Visit
+pub mod Stem
