@@ -221,10 +221,6 @@ dead_job q job d xs request size prefix none =
     subst (HasNothingUnder (IsMember q) job.size) prefix
     (subst (λ n. HasNothingUnder (IsMember q) n xs) size (subst (λ r. HasNothingUnder (IsMember r) (size_of d.stem) xs) request none))
 
--- where no table is under a job, no member is
-pub no_table_of_job : (q : Request) (job : Job) → HasNothingUnder Any job.size job.prefix → HasNothingUnder (IsMember q) job.size job.prefix
-no_table_of_job q job none s under = none s (any_under (IsMember q) job.size job.prefix s under)
-
 -- a search that has come to a job's prefix, and what it added
 pub added_members : (q : Request) (job : Job) (d : Descending) (old new : List Symbol) → d.request ≡ q → size_of d.stem ≡ job.size → prefix_of d.stem ≡ job.prefix
     → Appends (AreUnder (IsMember d.request) (size_of d.stem) (prefix_of d.stem)) old new → Appends (AreUnder (IsMember q) job.size job.prefix) old new

@@ -14,6 +14,7 @@ pub mod PlaceCells
 pub mod Beginnings
 mod LevelLists
 pub mod Descents
+pub mod GoingBack
 pub mod Splits
 pub mod FirstMembers
 pub mod Emissions

@@ -1,5 +1,5 @@
 -- A search that goes down from a prefix to longer ones.
-use Rattle.std.specs.Prelude.{◌≡◌, ℕ, ◌-◌, ◌*◌, ◌≤◌, List, [], ◌∷◌, ◌++◌, length, take}
+use Rattle.std.specs.Prelude.{◌≡◌, ℕ, zero, suc, ◌-◌, ◌*◌, ◌≤◌, List, [], ◌∷◌, ◌++◌, length, take}
 use Rattle.std.specs.List.{slice_get}
 use Rattle.std.specs.declared.option.Option.{Option}
 use Rattle.std.specs.declared.option.Option.TheVariants.{None, Some}
@@ -49,6 +49,16 @@ pub record IsDescent (d : Descending) : Type 0 where
   pub kept : AreKept (partial_of d.stem.rows) d.shares
   pub same_request : d.shares.classes.request ≡ d.request
   pub room : length d.levels ≤ length (prefix_of d.stem)
+
+-- the search as it was before its last so many numbers
+abbrev pub gone_back : ℕ → Descending → Descending
+gone_back zero d = d
+gone_back (suc k) d = gone_back k (shorter d)
+
+-- At each level that it has on the way back it is a search, and at the first one its prefix is empty.
+pub record GoesBack (d : Descending) : Type 0 where
+  pub levels : (k : ℕ) → k ≤ length d.levels → IsDescent (gone_back k d)
+  pub empty : prefix_of (gone_back (length d.levels) d).stem ≡ []
 
 -- the search with a number more at the end of its prefix, and with what follows from it
 abbrev pub HasDescended : ℕ → Descending → Descending → Type 0

@@ -7,3 +7,4 @@ pub mod Entered
 pub mod Members
 pub mod Levels
 pub mod Descent
+pub mod Search

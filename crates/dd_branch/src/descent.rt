@@ -1,16 +1,18 @@
-ghost use Rattle.std.specs.Prelude.{◌≡◌, ℕ, ◌*◌, ◌+◌, ◌≤◌, ◌<◌, [], ◌∷◌, ◌++◌, IsTrue, IfOk, length};
+ghost use Rattle.std.specs.Prelude.{◌≡◌, ℕ, ◌*◌, ◌+◌, ◌≤◌, ◌<◌, [], ◌∷◌, ◌++◌, IsTrue, IfOk, OnOk, length};
 ghost use Rattle.std.specs.Bool.{OnTrue, OnFalse};
 ghost use Rattle.dd_model.specs.Request.{IsValid};
 ghost use Rattle.dd_model.specs.Wanted.{IsMember};
-ghost use Rattle.dd_find.specs.Under.{HasNothingUnder};
+ghost use Rattle.dd_model.specs.Jobs.{AreExtensions};
+ghost use Rattle.dd_model.specs.Lists.{Begins};
+ghost use Rattle.dd_find.specs.Under.{AreUnder, Appends, HasNothingUnder};
 
 use crate::levels::Levels;
 use crate::members::{add_tied, with_places};
 use dd_ends::{PathShares, Sides};
-use dd_find::{CollectingSearch, PrefixSearch};
-use dd_invol::{involutions, ties};
+use dd_find::{CollectingSearch, PrefixSearch, find};
+use dd_invol::{child, involutions, ties};
 use dd_list::SymbolList;
-use dd_model::{Memory, Request};
+use dd_model::{Job, Memory, Request};
 use dd_partial::{Starts, Stem, can_follow};
 use dd_shares::parity_rules_out;
 use std::alloc::Global;
@@ -45,7 +47,7 @@ impl Model for Descent {
 impl Descent {
     ghost use Rattle.dd_partial.specs.Rows.{IsReady, depth_of};
     ghost use Rattle.dd_partial.specs.Stem.{prefix_of, size_of};
-    ghost use Rattle.dd_branch.specs.Descent.{IsDescent, HasDescended, shorter, with_paths};
+    ghost use Rattle.dd_branch.specs.Descent.{IsDescent, HasDescended, GoesBack, shorter, with_paths};
     ghost use Rattle.dd_ends.specs.declared.sides.Sides.{Sides};
 
     /// The search from the empty prefix, with the shares that the request allows to tables of the size.
@@ -62,6 +64,7 @@ impl Descent {
         ensures request { IfOk result (λ descent. descent.request ≡ request.now) }
         ensures size { IfOk result (λ descent. size_of descent.stem ≡ size) }
         ensures empty { IfOk result (λ descent. prefix_of descent.stem ≡ []) }
+        ensures levels { IfOk result (λ descent. descent.levels ≡ []) }
     {
         let classes = classes.for_size(size);
         let levels = Levels::new(alloc, &Sides::start(&classes))?;
@@ -73,6 +76,13 @@ impl Descent {
             levels,
             starts: Starts::new(size),
         })
+    }
+
+    /// The number of chambers.
+    pub(crate) fn size(&self) -> u8
+        ensures { result ≡ size_of self.now.stem }
+    {
+        self.stem.size()
     }
 
     /// Whether the shares tell, before a number is put in, that no member is under the prefix with it.
@@ -178,14 +188,46 @@ impl Descent {
         self.levels.drop_last();
     }
 
-    /// Puts a number at the end of the prefix, unless it is sure that no member is under the longer
-    /// one. No level is kept.
-    fn grow(&mut self, number: u8) -> bool
+    /// Puts a number at the end of the prefix, and none that is known after it, with a level for what
+    /// there was, unless commuting forbids the number or the next chamber is then one that was not met.
+    fn put_alone(&mut self, number: u8, numbers: usize, rows: usize) -> bool
         requires descent { IsDescent self.old }
+        requires numbers { numbers ≡ length (prefix_of self.old.stem) }
+        requires rows { rows ≡ depth_of self.old.stem.rows }
         requires room { length (prefix_of self.old.stem) < 3 * size_of self.old.stem }
         ensures descent { OnTrue result (IsDescent self.new) }
         ensures request { OnTrue result (self.new.request ≡ self.old.request) }
         ensures size { OnTrue result (size_of self.new.stem ≡ size_of self.old.stem) }
+        ensures longer { OnTrue result
+            (prefix_of self.new.stem ≡ prefix_of self.old.stem ++ number ∷ []) }
+        ensures some { OnTrue result (1 ≤ length self.new.levels) }
+        ensures undone { OnTrue result ((sides : Sides)
+            → shorter (with_paths self.new sides) ≡ self.old) }
+        ensures same { OnFalse result (self.new ≡ self.old) }
+        ensures dead { OnFalse result
+            (HasNothingUnder (IsMember self.old.request) (size_of self.old.stem)
+            (prefix_of self.old.stem ++ number ∷ [])) }
+    {
+        if !self.stem.put(number) {
+            return false;
+        }
+        if self.stem.is_stuck() {
+            self.stem.cut(numbers, rows);
+            return false;
+        }
+        let starts = self.starts.mark();
+        self.levels.push(numbers, rows, starts);
+        true
+    }
+
+    /// Puts a number at the end of the prefix, and none that is known after it, unless it is sure that
+    /// no member is under the longer prefix.
+    fn grow(&mut self, number: u8) -> bool
+        requires back { GoesBack self.old }
+        requires room { length (prefix_of self.old.stem) < 3 * size_of self.old.stem }
+        ensures back { GoesBack self.new }
+        ensures request { self.new.request ≡ self.old.request }
+        ensures size { size_of self.new.stem ≡ size_of self.old.stem }
         ensures longer { OnTrue result
             (prefix_of self.new.stem ≡ prefix_of self.old.stem ++ number ∷ []) }
         ensures dead { OnFalse result
@@ -194,10 +236,14 @@ impl Descent {
     {
         let numbers = self.stem.prefix().len();
         let rows = self.stem.mark();
-        if !self.stem.put(number) {
+        if !self.put_alone(number, numbers, rows) {
             return false;
         }
-        !self.is_dead(numbers, rows)
+        if self.is_dead(numbers, rows) {
+            self.drop_level();
+            return false;
+        }
+        true
     }
 
     /// Puts a number at the end of the prefix, and all that are known after it, unless it is sure
@@ -249,25 +295,80 @@ impl Descent {
         true
     }
 
-    /// Puts the numbers of a prefix in, one after the other, unless it is sure that no member is
-    /// under it.
+    /// Goes back until its prefix begins another one.
+    fn go_back(&mut self, prefix: &[u8])
+        requires { GoesBack self.old }
+        ensures back { GoesBack self.new }
+        ensures request { self.new.request ≡ self.old.request }
+        ensures size { size_of self.new.stem ≡ size_of self.old.stem }
+        ensures begins { Begins (prefix_of self.new.stem) prefix.now }
+    {
+        while !prefix.starts_with(self.stem.prefix()) {
+            self.drop_level();
+        }
+    }
+
+    /// Goes to a prefix from the one where it stands: back to where both begin with the same numbers,
+    /// and on number by number, unless it is sure that no member is under the prefix.
     pub fn reach(&mut self, prefix: &[u8]) -> bool
-        requires descent { IsDescent self.old }
-        requires empty { prefix_of self.old.stem ≡ [] }
+        requires back { GoesBack self.old }
         requires short { length prefix.now ≤ 3 * size_of self.old.stem }
-        ensures descent { OnTrue result (IsDescent self.new) }
-        ensures request { OnTrue result (self.new.request ≡ self.old.request) }
-        ensures size { OnTrue result (size_of self.new.stem ≡ size_of self.old.stem) }
+        ensures back { GoesBack self.new }
+        ensures request { self.new.request ≡ self.old.request }
+        ensures size { size_of self.new.stem ≡ size_of self.old.stem }
         ensures prefix { OnTrue result (prefix_of self.new.stem ≡ prefix.now) }
         ensures dead { OnFalse result
             (HasNothingUnder (IsMember self.old.request) (size_of self.old.stem) prefix.now) }
     {
-        for number in prefix {
-            if !self.grow(*number) {
+        self.go_back(prefix);
+        for place in self.stem.prefix().len()..prefix.len() {
+            if !self.grow(prefix[place]) {
                 return false;
             }
         }
         true
+    }
+
+    /// Adds the members under a prefix. It stays a call of its own, so that the search has the
+    /// processor's registers to itself.
+    #[inline(never)]
+    pub(crate) fn add_under(&mut self, prefix: &[u8], list: &mut SymbolList) -> Result<(), Memory>
+        requires back { GoesBack self.old }
+        requires short { length prefix.now ≤ 3 * size_of self.old.stem }
+        ensures back { OnOk result (GoesBack self.new) }
+        ensures request { OnOk result (self.new.request ≡ self.old.request) }
+        ensures list { OnOk result (Appends
+            (AreUnder (IsMember self.old.request) (size_of self.old.stem) prefix.now)
+            list.old list.new) }
+    {
+        if !self.reach(prefix) {
+            return Ok(());
+        }
+        find(self, list)
+    }
+
+    /// The jobs with one number more than a job under which a member may be. It looks one number
+    /// further for each of them.
+    pub(crate) fn extensions(&mut self, job: &Job) -> Result<Vec<Job>, Memory>
+        requires back { GoesBack self.old }
+        requires size { size_of self.old.stem ≡ job.now.size }
+        requires shorter { length job.now.prefix < 3 * job.now.size }
+        ensures back { OnOk result (GoesBack self.new) }
+        ensures request { OnOk result (self.new.request ≡ self.old.request) }
+        ensures jobs { IfOk result
+            (λ jobs. AreExtensions self.old.request job.now jobs.items) }
+    {
+        let mut jobs = Vec::new(self.alloc);
+        if !self.reach(job.prefix.as_slice()) {
+            return Ok(jobs);
+        }
+        for k in 0..job.size as u8 {
+            let number = k + 1;
+            if self.may_grow(number) {
+                jobs.push(child(self.alloc, job, number)?)?;
+            }
+        }
+        Ok(jobs)
     }
 }
 

@@ -4,113 +4,142 @@ ghost use Rattle.dd_model.specs.Request.{IsValid};
 ghost use Rattle.dd_model.specs.Jobs.{IsJobOf, AreExtensions, AreMembersUnder};
 ghost use Rattle.dd_model.specs.Wanted.{IsMember};
 ghost use Rattle.dd_find.specs.Under.{AreUnder, Appends};
+ghost use Rattle.dd_partial.specs.Stem.{size_of};
+ghost use Rattle.dd_branch.specs.Descent.{GoesBack};
 
 use crate::descent::Descent;
 use dd_ends::PathShares;
-use dd_find::find;
 use dd_front::Finder;
-use dd_invol::{child, may_have_tables};
+use dd_invol::child;
 use dd_list::SymbolList;
 use dd_model::{Job, Memory, Request};
 use std::alloc::Global;
+use std::marker::Model;
 
 /// The search for the members of the catalogue of a request, job by job, with the shares that the
-/// request allows, from which each job makes those for tables of its size.
+/// request allows, from which those for tables of a size are made. What it has put in for one job it
+/// keeps for the next of the same size, whose prefix mostly begins with the same numbers.
 #[derive(Drop)]
 pub struct Search {
     request: Request,
     classes: PathShares,
-    ghost same_request: { classes.request ≡ request },
+    kept: Option<Box<Descent>>,
+}
+
+impl Model for Search {
+    ghost use Rattle.dd_model.specs.declared.requests.Request.{Request as Asked};
+    ghost use Rattle.dd_branch.specs.Search.{HasKept};
+
+    ghost Value = { Asked };
+
+    ghost view = { λ a. a.request };
+
+    ghost invariant = { λ a. HasKept a.request a.classes a.kept };
 }
 
 impl Search {
     /// The search for a request.
     pub fn new(request: &Request) -> Search
-        ensures { result.request ≡ request.now }
+        ensures { result ≡ request.now }
     {
         Search {
             request: *request,
             classes: PathShares::of(request, 0),
+            kept: None,
         }
     }
 
-    /// Adds the members under a job. It stays a call of its own, so that the room for the search is
-    /// made only where it is called.
+    /// A search from the empty prefix. It stays a call of its own, so that the room for it is made
+    /// only where it is called.
     #[inline(never)]
-    fn add_members(&self, alloc: Global, job: &Job, list: &mut SymbolList) -> Result<(), Memory>
-        requires valid { IsValid self.now.request }
-        requires job { IsJobOf self.now.request job.now }
-        ensures { OnOk result (Appends
-            (AreUnder (IsMember self.now.request) job.now.size job.now.prefix)
+    fn begin(&self, alloc: Global, size: u8) -> Result<Box<Descent>, Memory>
+        requires valid { IsValid self.now }
+        requires size { (1 ≤ size) × (size ≤ 36) }
+        ensures back { IfOk result (λ descent. GoesBack descent.value) }
+        ensures request { IfOk result (λ descent. descent.value.request ≡ self.now) }
+        ensures size { IfOk result (λ descent. size_of descent.value.stem ≡ size) }
+    {
+        let descent = Descent::new(alloc, &self.request, &self.classes, size)?;
+        Ok(Box::new(alloc, descent)?)
+    }
+
+    /// The search that the last job has left, where that was of the same size; else a new one.
+    fn take(&mut self, alloc: Global, size: u8) -> Result<Box<Descent>, Memory>
+        requires valid { IsValid self.old }
+        requires size { (1 ≤ size) × (size ≤ 36) }
+        ensures same { self.new ≡ self.old }
+        ensures back { IfOk result (λ descent. GoesBack descent.value) }
+        ensures request { IfOk result (λ descent. descent.value.request ≡ self.old) }
+        ensures size { IfOk result (λ descent. size_of descent.value.stem ≡ size) }
+    {
+        if let Some(descent) = self.kept.take() {
+            if descent.size() == size {
+                return Ok(descent);
+            }
+        }
+        self.begin(alloc, size)
+    }
+
+    /// Adds the members under a job.
+    fn add_members(&mut self, alloc: Global, job: &Job, list: &mut SymbolList) -> Result<(), Memory>
+        requires valid { IsValid self.old }
+        requires job { IsJobOf self.old job.now }
+        ensures same { self.new ≡ self.old }
+        ensures list { OnOk result (Appends
+            (AreUnder (IsMember self.old) job.now.size job.now.prefix)
             list.old list.new) }
     {
-        let mut descent = Descent::new(alloc, &self.request, &self.classes, job.size as u8)?;
-        if !descent.reach(job.prefix.as_slice()) {
-            return Ok(());
-        }
-        find(&mut descent, list)?;
+        let mut descent = self.take(alloc, job.size as u8)?;
+        descent.add_under(job.prefix.as_slice(), list)?;
+        self.kept = Some(descent);
         Ok(())
     }
 
-    /// Whether the search comes as far as to a job. Where it does not, no member is under it.
-    #[inline(never)]
-    fn reaches(&self, alloc: Global, job: &Job) -> Result<bool, Memory>
-        requires valid { IsValid self.now.request }
-        requires job { IsJobOf self.now.request job.now }
-        ensures { IfOk result (λ may. OnFalse may
-            (AreMembersUnder self.now.request job.now [])) }
-    {
-        let mut descent = Descent::new(alloc, &self.request, &self.classes, job.size as u8)?;
-        Ok(descent.reach(job.prefix.as_slice()))
-    }
-
-    /// The jobs with one number more under which a member may be. The search goes down to the job
-    /// once, and looks one number further for each of them.
-    fn extensions(&self, alloc: Global, job: &Job) -> Result<Vec<Job>, Memory>
-        requires valid { IsValid self.now.request }
-        requires job { IsJobOf self.now.request job.now }
+    /// The jobs with one number more under which a member may be.
+    fn extensions(&mut self, alloc: Global, job: &Job) -> Result<Vec<Job>, Memory>
+        requires valid { IsValid self.old }
+        requires job { IsJobOf self.old job.now }
         requires shorter { length job.now.prefix < 3 * job.now.size }
-        ensures { IfOk result (λ jobs. AreExtensions self.now.request job.now jobs.items) }
+        ensures same { self.new ≡ self.old }
+        ensures jobs { IfOk result
+            (λ jobs. AreExtensions self.old job.now jobs.items) }
     {
-        let mut jobs = Vec::new(alloc);
-        let mut descent = Descent::new(alloc, &self.request, &self.classes, job.size as u8)?;
-        if !descent.reach(job.prefix.as_slice()) {
-            return Ok(jobs);
-        }
-        for k in 0..job.size as u8 {
-            let number = k + 1;
-            if descent.may_grow(number) {
-                jobs.push(child(alloc, job, number)?)?;
-            }
-        }
+        let mut descent = self.take(alloc, job.size as u8)?;
+        let jobs = descent.extensions(job)?;
+        self.kept = Some(descent);
         Ok(jobs)
     }
 }
 
 impl Finder for Search {
-    ghost request = { λ s. s.request };
+    ghost request = { λ q. q };
 
     fn request(&self) -> Request {
         self.request
     }
 
-    fn may_find(&self, alloc: Global, job: &Job) -> Result<bool, Memory> {
-        if !may_have_tables(job) {
-            return Ok(false);
+    fn fork(&self) -> Search {
+        Search {
+            request: self.request,
+            classes: self.classes,
+            kept: None,
         }
-        self.reaches(alloc, job)
     }
 
-    fn find(&self, alloc: Global, job: &Job) -> Result<SymbolList, Memory> {
+    fn may_find(&mut self, alloc: Global, job: &Job) -> Result<bool, Memory> {
+        let mut descent = self.take(alloc, job.size as u8)?;
+        let reaches = descent.reach(job.prefix.as_slice());
+        self.kept = Some(descent);
+        Ok(reaches)
+    }
+
+    fn find(&mut self, alloc: Global, job: &Job) -> Result<SymbolList, Memory> {
         let mut list = SymbolList::new(alloc);
-        if !may_have_tables(job) {
-            return Ok(list);
-        }
         self.add_members(alloc, job, &mut list)?;
         Ok(list)
     }
 
-    fn split(&self, alloc: Global, job: &Job) -> Result<Vec<Job>, Memory> {
+    fn split(&mut self, alloc: Global, job: &Job) -> Result<Vec<Job>, Memory> {
         let mut jobs = self.extensions(alloc, job)?;
         if jobs.is_empty() {
             // Nothing is under any of them, and the list of children may not be empty. The number 0,

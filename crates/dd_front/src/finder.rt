@@ -8,33 +8,41 @@ use dd_list::SymbolList;
 use dd_model::{Job, Memory, Request};
 use std::alloc::Global;
 
-/// Finds what is under a job of a catalogue, or splits the job into smaller ones. `Err` comes for
-/// want of memory alone.
-pub trait Finder {
+/// Finds what is under a job of a catalogue, or splits the job into smaller ones. What it keeps of one
+/// job for the next only saves time, so that no clause tells of it. `Err` comes for want of memory alone.
+pub trait Finder: Drop {
     ghost request: { Self → Asked };
 
     /// What is asked for.
     fn request(&self) -> Request
         ensures { result ≡ request self.now };
 
+    /// Another one for the same request, as a thread of its own needs it.
+    fn fork(&self) -> Self
+        ensures { request result ≡ request self.now };
+
     /// Whether a member may be under a job; false where it is sure that none is. It is sooner told
     /// than the members are found.
-    fn may_find(&self, alloc: Global, job: &Job) -> Result<bool, Memory>
-        requires valid { IsValid (request self.now) }
-        requires job { IsJobOf (request self.now) job.now }
-        ensures { IfOk result (λ may. OnFalse may
-            (AreMembersUnder (request self.now) job.now [])) };
+    fn may_find(&mut self, alloc: Global, job: &Job) -> Result<bool, Memory>
+        requires valid { IsValid (request self.old) }
+        requires job { IsJobOf (request self.old) job.now }
+        ensures request { request self.new ≡ request self.old }
+        ensures dead { IfOk result (λ may. OnFalse may
+            (AreMembersUnder (request self.old) job.now [])) };
 
     /// The members of the catalogue under a job, ascending.
-    fn find(&self, alloc: Global, job: &Job) -> Result<SymbolList, Memory>
-        requires valid { IsValid (request self.now) }
-        requires job { IsJobOf (request self.now) job.now }
-        ensures { IfOk result (λ list. AreMembersUnder (request self.now) job.now list) };
+    fn find(&mut self, alloc: Global, job: &Job) -> Result<SymbolList, Memory>
+        requires valid { IsValid (request self.old) }
+        requires job { IsJobOf (request self.old) job.now }
+        ensures request { request self.new ≡ request self.old }
+        ensures members { IfOk result (λ list. AreMembersUnder (request self.old) job.now list) };
 
     /// Jobs with one number more, ascending, at least one; no member is under one that is left out.
-    fn split(&self, alloc: Global, job: &Job) -> Result<Vec<Job>, Memory>
-        requires valid { IsValid (request self.now) }
-        requires job { IsJobOf (request self.now) job.now }
+    fn split(&mut self, alloc: Global, job: &Job) -> Result<Vec<Job>, Memory>
+        requires valid { IsValid (request self.old) }
+        requires job { IsJobOf (request self.old) job.now }
         requires shorter { length job.now.prefix < 3 * job.now.size }
-        ensures { IfOk result (λ jobs. AreChildren (request self.now) job.now jobs.items) };
+        ensures request { request self.new ≡ request self.old }
+        ensures children { IfOk result
+            (λ jobs. AreChildren (request self.old) job.now jobs.items) };
 }

@@ -14,7 +14,7 @@ mod whole_stems;
 
 pub use laws::{each_least_code_begins_with_one_job, each_member_has_one_table};
 pub use openings::{is_opening, opening};
-pub use splits::{child, children, may_have_tables};
+pub use splits::{child, children};
 pub use table::Table;
 pub use tables::Tables;
 pub use walk::{Walk, tables_under};

@@ -43,29 +43,6 @@ pub(crate) fn stem_of(job: &Job, visit: &mut Visit) -> Option<Stem>
     Some(stem)
 }
 
-/// Whether a table may be under a job. It is asked before the room for a search is taken, and tests
-/// the whole prefix once.
-pub fn may_have_tables(job: &Job) -> bool
-    requires size { (1 ≤ job.now.size) × (job.now.size ≤ 36) }
-    requires short { length job.now.prefix ≤ 3 * job.now.size }
-    ensures { OnFalse result (HasNothingUnder Any job.now.size job.now.prefix) }
-{
-    let mut stem = Stem::new(job.size as u8);
-    let prefix = job.prefix.as_slice();
-    for number in prefix {
-        if !stem.put(*number) {
-            return false;
-        }
-    }
-    if stem.is_stuck() {
-        return false;
-    }
-    if stem.is_beaten(&mut Visit::new()) {
-        return false;
-    }
-    true
-}
-
 /// Whether something may be under a stem with one number more.
 fn may_grow(stem: &mut Stem, visit: &mut Visit, number: u8) -> bool
     requires stem { IsStem stem.old }

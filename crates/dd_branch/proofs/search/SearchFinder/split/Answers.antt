@@ -5,13 +5,13 @@ use Rattle.dd_branch.proofs.Splits.{dead_child}
 use Rattle.dd_branch.proofs.search.SearchFinder.split.Goals as goal
 use Rattle.dd_branch.proofs.search.SearchFinder.split.Goals.{then-is_empty+in_ok-child+in_ok-push, else-is_empty}
 
-pub returns : goal.returns
-returns c =
-    let q = c.args.self.now.request in
+pub returns-clause-children : goal.returns-clause-children
+returns-clause-children c =
+    let q = c.args.self.now in
     let job = c.args.job.now in
     elim c.if-is_empty.branch [
       | then-is_empty+in_ok-child+in_ok-push w ↦
           let pushed = ap (λ l. l.items) w.jobs-is ∙ w.in_ok-push.ensures.items ∙ ap (λ j. c.in_ok-jobs.jobs.items ++ j ∷ []) w.in_ok-child.ensures in
-          dead_child q job c.in_ok-jobs.jobs.items c.if-is_empty.jobs.items c.requires.shorter (no_items c.in_ok-jobs.jobs.items (no_length (vec_len c.in_ok-jobs.jobs) (length c.in_ok-jobs.jobs.items) w.if-is_empty.ensures c.in_ok-jobs.jobs.ok.0)) pushed c.in_ok-jobs.ensures
-      | else-is_empty w ↦ subst (λ l. AreChildren q job l.items) (sym w.jobs-is) (some_children q job c.in_ok-jobs.jobs.items c.requires.shorter (some_length (vec_len c.in_ok-jobs.jobs) (length c.in_ok-jobs.jobs.items) w.if-is_empty.ensures c.in_ok-jobs.jobs.ok.0) c.in_ok-jobs.ensures)
+          dead_child q job c.in_ok-jobs.jobs.items c.if-is_empty.jobs.items c.requires.shorter (no_items c.in_ok-jobs.jobs.items (no_length (vec_len c.in_ok-jobs.jobs) (length c.in_ok-jobs.jobs.items) w.if-is_empty.ensures c.in_ok-jobs.jobs.ok.0)) pushed c.in_ok-jobs.ensures.jobs
+      | else-is_empty w ↦ subst (λ l. AreChildren q job l.items) (sym w.jobs-is) (some_children q job c.in_ok-jobs.jobs.items c.requires.shorter (some_length (vec_len c.in_ok-jobs.jobs) (length c.in_ok-jobs.jobs.items) w.if-is_empty.ensures c.in_ok-jobs.jobs.ok.0) c.in_ok-jobs.ensures.jobs)
     ]

@@ -1,0 +1,18 @@
+-- What a search keeps from one job to the next.
+use Rattle.std.specs.Prelude.{◌≡◌, Box}
+use Rattle.std.specs.Global.{Global}
+use Rattle.std.specs.declared.option.Option.{Option}
+use Rattle.std.specs.declared.option.Option.TheVariants.{None, Some}
+use Rattle.dd_model.specs.declared.requests.Request.{Request}
+use Rattle.dd_ends.specs.declared.path_shares.PathShares.{PathShares}
+use Rattle.dd_branch.specs.Descent.{Descending, GoesBack}
+
+-- The way down that was kept, if there is one, is for the request, and goes back as it came.
+abbrev pub IsKept : Request → Option (Box Descending Global) → Type 0
+IsKept q None = Unit {0}
+IsKept q (Some kept) = GoesBack kept.value × (kept.value.request ≡ q)
+
+-- the shares that a request allows, and a way down for it
+pub record HasKept (q : Request) (classes : PathShares) (kept : Option (Box Descending Global)) : Type 0 where
+  pub same_request : classes.request ≡ q
+  pub goes_back : IsKept q kept
