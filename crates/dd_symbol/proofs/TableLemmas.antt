@@ -16,7 +16,7 @@ use Rattle.dd_symbol.specs.declared.table.Table.{Table}
 use Rattle.dd_model.specs.Involutions.{HaveSameInvolutions}
 use Rattle.dd_model.proofs.SameInvolutions.{involutions-same}
 use Rattle.dd_model.proofs.Transport.{HaveLengths}
-use Rattle.dd_symbol.specs.Rows.{HasRows}
+use Rattle.dd_symbol.specs.Rows.{HasRows, row_place}
 use Rattle.dd_symbol.specs.Building.{listed}
 
 -- ## What stands where
@@ -36,6 +36,14 @@ pub item-first : (xs : List ℕ) (n d : ℕ) → 1 ≤ d → d ≤ n → item (c
 item-first xs n d low high =
     let e : 3 * (d - 1) + 0 ≡ 3 * (d - 1) = omega arith in
     item-column xs 0 n d low high ∙ ap (λ k. get_or xs k 0) e
+
+-- the image under each of the involutions
+pub item-row : (n : ℕ) (xs : List ℕ) (i : Index) (d : ℕ) → 1 ≤ d → d ≤ n → op (of_code n xs) i d ≡ get_or xs (3 * (d - 1) + row_place i) 0
+item-row n xs i d low high = elim i as (λ j. op (of_code n xs) j d ≡ get_or xs (3 * (d - 1) + row_place j) 0) [
+  | Zero ↦ item-column xs 0 n d low high
+  | One ↦ item-column xs 1 n d low high
+  | Two ↦ item-column xs 2 n d low high
+]
 
 pub lengths : (n : ℕ) (xs : List ℕ) (i : Index) → length (operation (of_rows n xs) i) ≡ n
 lengths n xs i = elim i as (λ j. length (operation (of_rows n xs) j) ≡ n) [
@@ -281,10 +289,10 @@ more_rows h k xs a b c rows ea eb ec =
           (cases_lt e (k + 1));
     }
 
--- three pushes are one row more
-pub pushed_row : (h : Index → ℕ → ℕ) (k : ℕ) (xs us vs ws : List ℕ) (a b c : ℕ) → HasRows h k xs
-    → us ≡ xs ++ a ∷ [] → vs ≡ us ++ b ∷ [] → ws ≡ vs ++ c ∷ []
-    → a ≡ h Zero (k + 1) → b ≡ h One (k + 1) → c ≡ h Two (k + 1) → HasRows h (k + 1) ws
-pushed_row h k xs us vs ws a b c rows eu ev ew ea eb ec =
-    let all : ws ≡ xs ++ a ∷ [] ++ b ∷ [] ++ c ∷ [] = ew ∙ ap (λ ys. ys ++ c ∷ []) (ev ∙ ap (λ ys. ys ++ b ∷ []) eu) in
-    subst (HasRows h (k + 1)) (sym all) (more_rows h k xs a b c rows ea eb ec)
+-- three numbers more are one row more
+pub pushed_row : (h : Index → ℕ → ℕ) (k : ℕ) (xs ys row : List ℕ) (a b c : ℕ) → HasRows h k xs → ys ≡ xs ++ row → row ≡ a ∷ b ∷ c ∷ []
+    → a ≡ h Zero (k + 1) → b ≡ h One (k + 1) → c ≡ h Two (k + 1) → HasRows h (k + 1) ys
+pushed_row h k xs ys row a b c rows more is ea eb ec =
+    let one_by_one : ((xs ++ a ∷ []) ++ b ∷ []) ++ c ∷ [] ≡ xs ++ a ∷ b ∷ c ∷ [] =
+    ap (λ zs. zs ++ c ∷ []) (append_assoc xs (a ∷ []) (b ∷ [])) ∙ append_assoc xs (a ∷ b ∷ []) (c ∷ []) in
+    subst (HasRows h (k + 1)) (one_by_one ∙ sym (more ∙ ap (λ zs. xs ++ zs) is)) (more_rows h k xs a b c rows ea eb ec)

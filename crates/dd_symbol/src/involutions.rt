@@ -38,11 +38,9 @@ fn interleaved(alloc: Global, s0: &[u32], s1: &[u32], s2: &[u32]) -> Result<Numb
     ensures { IfOk result (λ numbers.
         HasRows (op (listed s0.now s1.now s2.now [] [])) (length s0.now) numbers) }
 {
-    let mut numbers = Numbers::with_room(alloc, 5 * s0.len())?;
+    let mut numbers = Numbers::with_room_for(alloc, s0.len())?;
     for k in 0..s0.len() {
-        numbers.push(alloc, s0[k])?;
-        numbers.push(alloc, s1[k])?;
-        numbers.push(alloc, s2[k])?;
+        numbers.push_row(alloc, [s0[k], s1[k], s2[k]])?;
     }
     Ok(numbers)
 }

@@ -1,4 +1,4 @@
-ghost use Rattle.std.specs.Prelude.{◌≡◌, ◌+◌, ◌<◌, ◌≤◌, ◌↔◌, ◌++◌, ◌∷◌, [], take, length, slice_index, IsTrue, IfOk, OnOk};
+ghost use Rattle.std.specs.Prelude.{◌≡◌, ℕ, ◌+◌, ◌<◌, ◌≤◌, ◌↔◌, ◌++◌, ◌∷◌, [], take, length, slice_index, IsTrue, IfSome, IfOk, OnOk};
 ghost use Rattle.std.specs.Ordering.{nat_cmp};
 ghost use Rattle.std.specs.Cmp.Lexicographic.{slice_cmp};
 
@@ -48,6 +48,41 @@ fn add_bytes(words: &mut Vec<u32>, bytes: &[u8]) -> Result<(), Memory>
     Ok(())
 }
 
+/// Whether each of some numbers fits in a byte.
+fn are_bytes(numbers: &[u32]) -> bool
+    ensures { IsTrue result → (k : ℕ) → k < length numbers.now → slice_index numbers.now k < 256 }
+{
+    for number in numbers {
+        if *number > 255 {
+            return false;
+        }
+    }
+    true
+}
+
+/// Appends numbers that fit in bytes. Room for all of them is made at once.
+fn add_narrowed(bytes: &mut SmallVec<u8, INLINE>, numbers: &[u32]) -> Result<(), Memory>
+    requires { (k : ℕ) → k < length numbers.now → slice_index numbers.now k < 256 }
+    ensures { OnOk result (bytes.new.items ≡ bytes.old.items ++ numbers.now) }
+{
+    bytes.reserve(numbers.len())?;
+    for number in numbers {
+        bytes.push_reserved(*number as u8);
+    }
+    Ok(())
+}
+
+/// Three numbers as bytes, if each of them fits in one.
+fn row_in_bytes(row: [u32; 3]) -> Option<[u8; 3]>
+    ensures { IfSome result (λ bytes. bytes ≡ row) }
+{
+    let [a, b, c] = row;
+    if a > 255 || b > 255 || c > 255 {
+        return None;
+    }
+    Some([a as u8, b as u8, c as u8])
+}
+
 impl Numbers {
     ghost use Rattle.dd_symbol.specs.Numbers.{lent_items};
 
@@ -58,6 +93,22 @@ impl Numbers {
         Ok(Numbers {
             held: Held::Bytes(SmallVec::with_capacity(alloc, room)?),
         })
+    }
+
+    /// No numbers, with room for the code of a symbol of so many chambers. Where there are more than
+    /// 255 chambers some have numbers that do not fit in a byte, and the list begins in words, so
+    /// that it is not copied on the way.
+    pub(crate) fn with_room_for(alloc: Global, size: usize) -> Result<Numbers, Memory>
+        requires { size ≤ 16384 }
+        ensures { IfOk result (λ it. it ≡ []) }
+    {
+        let room = 5 * size;
+        if size > 255 {
+            return Ok(Numbers {
+                held: Held::Words(Vec::with_capacity(alloc, room)?),
+            });
+        }
+        Numbers::with_room(alloc, room)
     }
 
     /// How many there are.
@@ -131,6 +182,25 @@ impl Numbers {
         }
     }
 
+    /// Appends three numbers, in one step where they fit in bytes.
+    pub(crate) fn push_row(&mut self, alloc: Global, row: [u32; 3]) -> Result<(), Memory>
+        ensures { OnOk result (self.new ≡ self.old ++ row) }
+    {
+        match &mut self.held {
+            Held::Words(words) => {
+                words.extend_from_slice(&row)?;
+                Ok(())
+            }
+            Held::Bytes(own) => match row_in_bytes(row) {
+                Some(bytes) => {
+                    own.extend_from_slice(&bytes)?;
+                    Ok(())
+                }
+                None => self.push_each(alloc, &row),
+            },
+        }
+    }
+
     /// Appends bytes.
     pub(crate) fn extend_bytes(&mut self, bytes: &[u8]) -> Result<(), Memory>
         ensures { OnOk result (self.new ≡ self.old ++ bytes.now) }
@@ -142,14 +212,32 @@ impl Numbers {
         Ok(())
     }
 
-    /// Appends numbers.
-    pub(crate) fn extend(&mut self, alloc: Global, numbers: &[u32]) -> Result<(), Memory>
+    /// Appends numbers one by one, as some of them may not fit in a byte.
+    fn push_each(&mut self, alloc: Global, numbers: &[u32]) -> Result<(), Memory>
         ensures { OnOk result (self.new ≡ self.old ++ numbers.now) }
     {
         for number in numbers {
             self.push(alloc, *number)?;
         }
         Ok(())
+    }
+
+    /// Appends numbers.
+    pub(crate) fn extend(&mut self, alloc: Global, numbers: &[u32]) -> Result<(), Memory>
+        ensures { OnOk result (self.new ≡ self.old ++ numbers.now) }
+    {
+        match &mut self.held {
+            Held::Words(words) => {
+                words.extend_from_slice(numbers)?;
+                Ok(())
+            }
+            Held::Bytes(own) => {
+                if are_bytes(numbers) {
+                    return add_narrowed(own, numbers);
+                }
+                self.push_each(alloc, numbers)
+            }
+        }
     }
 
     /// Keeps the first numbers alone.

@@ -1,4 +1,4 @@
-ghost use Rattle.std.specs.Prelude.{◌≡◌, ℕ, ◌≤◌, List, [], map, length, IfOk, OnOk};
+ghost use Rattle.std.specs.Prelude.{◌≡◌, ℕ, ◌≤◌, List, [], ◌∷◌, map, length, IfOk, OnOk};
 
 use crate::involutions::Involutions;
 use crate::maps::item;
@@ -9,18 +9,39 @@ use dd_model::{Index, Memory, Pair};
 use std::alloc::Global;
 
 impl Involutions {
+    ghost use Rattle.dd_model.specs.declared.index.Index.{Index as Letter};
     ghost use Rattle.dd_symbol.specs.Images.{AreThreeInvolutions};
     ghost use Rattle.dd_symbol.specs.Maps.{AreInverse, IsCarried};
     ghost use Rattle.dd_symbol.specs.Rows.{HasRows};
     ghost use Rattle.dd_model.specs.Symbol.{IsChamber, item, op};
+    ghost use Rattle.dd_model.specs.Code.{images};
 
-    /// The image of a chamber, both in the numbers that a map gives.
-    fn carried(&self, i: Index, map: &[u32], back: &[u32], chamber: u32) -> u32
+    /// The images of a chamber under s0, s1 and s2.
+    fn images(&self, chamber: u32) -> [u32; 3]
+        requires { IsChamber self.now chamber }
+        ensures images { result ≡ images self.now chamber }
+        ensures within { (i : Letter) → IsChamber self.now (op self.now i chamber) }
+    {
+        self.rows
+            .numbers
+            .lend()
+            .three_from(3 * (chamber as usize - 1))
+    }
+
+    /// The images of a chamber, all in the numbers that a map gives.
+    fn carried(&self, map: &[u32], back: &[u32], chamber: u32) -> [u32; 3]
         requires maps { AreInverse self.now.size map.now back.now }
         requires chamber { IsChamber self.now chamber }
-        ensures { result ≡ item map.now (op self.now i (item back.now chamber)) }
+        ensures { result ≡ item map.now (op self.now Index.Zero (item back.now chamber))
+            ∷ item map.now (op self.now Index.One (item back.now chamber))
+            ∷ item map.now (op self.now Index.Two (item back.now chamber)) ∷ [] }
     {
-        item(map, self.op(i, item(back, chamber)))
+        let images = self.images(item(back, chamber));
+        [
+            item(map, images[0]),
+            item(map, images[1]),
+            item(map, images[2]),
+        ]
     }
 
     /// Appends the images of all chambers in the numbers that a map gives.
@@ -37,9 +58,7 @@ impl Involutions {
             self.now.size numbers.new) }
     {
         for k in 0..self.size() {
-            numbers.push(alloc, self.carried(Index::Zero, map, back, k + 1))?;
-            numbers.push(alloc, self.carried(Index::One, map, back, k + 1))?;
-            numbers.push(alloc, self.carried(Index::Two, map, back, k + 1))?;
+            numbers.push_row(alloc, self.carried(map, back, k + 1))?;
         }
         Ok(())
     }
@@ -50,7 +69,7 @@ impl Involutions {
         ensures carried { IfOk result (λ it. IsCarried self.now it map.now back.now) }
         ensures three { IfOk result (λ it. AreThreeInvolutions it) }
     {
-        let mut numbers = Numbers::with_room(alloc, 5 * self.size() as usize)?;
+        let mut numbers = Numbers::with_room_for(alloc, self.size() as usize)?;
         self.push_images(alloc, &mut numbers, map, back)?;
         Ok(Involutions {
             rows: Rows {
@@ -76,8 +95,9 @@ impl Table {
             degrees.items ≡ map (degree (symbol_of self.now) pair) back.now) }
     {
         let mut degrees = Vec::with_capacity(alloc, back.len())?;
+        let own = self.lend();
         for k in 0..back.len() as u32 {
-            degrees.push(self.degree(pair, item(back, k + 1)))?;
+            degrees.push(own.degree(pair, item(back, k + 1)))?;
         }
         Ok(degrees)
     }

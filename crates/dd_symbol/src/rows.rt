@@ -1,4 +1,5 @@
 ghost use Rattle.std.specs.Prelude.{◌≡◌, ◌<◌, ◌≤◌, ◌*◌, ◌↔◌, IsTrue, IfOk, length};
+ghost use Rattle.dd_symbol.specs.Rows.{row_place};
 
 use crate::numbers::Numbers;
 use dd_model::{Index, Memory};
@@ -12,6 +13,19 @@ pub(crate) struct Rows {
     pub(crate) size: u32,
     ghost length: { 3 * size ≤ length numbers },
     ghost small: { size < 16385 },
+}
+
+/// Where the image under an involution stands in the row of a chamber. It is a choice of a number, and
+/// not of a call, so that a list is read in one place.
+fn row_place(i: Index) -> usize
+    ensures place { result ≡ row_place i }
+    ensures small { result < 3 }
+{
+    match i {
+        Index::Zero => 0,
+        Index::One => 1,
+        Index::Two => 2,
+    }
 }
 
 impl Rows {
@@ -50,11 +64,6 @@ impl Rows {
         requires { IsChamber (rows_of self.now) chamber }
         ensures { result ≡ op (rows_of self.now) i chamber }
     {
-        let row = 3 * (chamber as usize - 1);
-        match i {
-            Index::Zero => self.numbers.get(row),
-            Index::One => self.numbers.get(row + 1),
-            Index::Two => self.numbers.get(row + 2),
-        }
+        self.numbers.get(3 * (chamber as usize - 1) + row_place(i))
     }
 }

@@ -10,7 +10,7 @@ loop-k-preserved c =
     let back = c.args.back.now in
     let f = degree (symbol_of c.args.self.now) c.args.pair in
     let place : k + 1 - 1 ≡ k = omega arith in
-    let one : c.degree.result ≡ f (get_or back k 0) = c.degree.ensures ∙ ap f (c.item.ensures ∙ ap (λ j. get_or back j 0) place) in
+    let one : c.degree.result ≡ f (get_or back k 0) = c.degree.ensures ∙ ap (λ t. degree t c.args.pair c.item.result) c.lend-own.ensures ∙ ap f (c.item.ensures ∙ ap (λ j. get_or back j 0) place) in
     let more : map f (take (k + 1) back) ≡ map f (take k back) ++ f (get_or back k 0) ∷ [] =
     ap (map f) (take_more back k 0 (omega arith)) ∙ map-append f (take k back) (get_or back k 0 ∷ []) in
     c.in_ok-push.ensures.items ∙ ap (λ xs. xs ++ c.degree.result ∷ []) c.loop-k.invariant ∙ ap (λ x. map f (take k back) ++ x ∷ []) one ∙ sym more
