@@ -1,4 +1,4 @@
-ghost use Rattle.std.specs.Prelude.{IfOk};
+ghost use Rattle.std.specs.Prelude.{◌≡◌, IfOk};
 ghost use Rattle.dd_model.specs.Request.{IsValid};
 ghost use Rattle.dd_model.specs.Jobs.{AreAscendingJobs, AreApart};
 ghost use Rattle.dd_front.specs.Absorbed.{ComeFrom};
@@ -13,15 +13,17 @@ use std::alloc::Global;
 /// steals one, so there is no board, no lock and no deque.
 pub(crate) fn do_alone<F: Finder, G: Gate>(
     alloc: Global,
-    finder: &F,
+    finder: &mut F,
     gate: &G,
     jobs: Vec<Job>,
 ) -> Result<Vec<Entry>, Memory>
-    requires valid { IsValid (F.request finder.now) }
+    requires valid { IsValid (F.request finder.old) }
     requires ascending { AreAscendingJobs jobs.items }
     requires apart { AreApart jobs.items }
-    requires all { AreJobsOf (F.request finder.now) jobs.items }
-    ensures { IfOk result (λ entries. ComeFrom (F.request finder.now) jobs.items entries.items) }
+    requires all { AreJobsOf (F.request finder.old) jobs.items }
+    ensures request { F.request finder.new ≡ F.request finder.old }
+    ensures round { IfOk result
+        (λ entries. ComeFrom (F.request finder.old) jobs.items entries.items) }
 {
     let mut entries = Vec::with_capacity(alloc, jobs.len())?;
     let mut number = 0;

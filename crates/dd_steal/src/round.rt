@@ -34,14 +34,15 @@ fn room_for(jobs: usize) -> u32
 /// sooner seen than a thread is started, and in many rounds of a large size it is so.
 fn crew_size<F: Finder>(
     alloc: Global,
-    finder: &F,
+    finder: &mut F,
     jobs: &[Job],
     workers: u32,
 ) -> Result<u32, Memory>
     requires workers { 1 ≤ workers }
-    requires valid { IsValid (F.request finder.now) }
-    requires all { AreJobsOf (F.request finder.now) jobs.now }
-    ensures { IfOk result (λ size. (1 ≤ size) × (size ≤ workers)) }
+    requires valid { IsValid (F.request finder.old) }
+    requires all { AreJobsOf (F.request finder.old) jobs.now }
+    ensures request { F.request finder.new ≡ F.request finder.old }
+    ensures size { IfOk result (λ size. (1 ≤ size) × (size ≤ workers)) }
 {
     if workers == 1 {
         return Ok(1);
@@ -60,17 +61,19 @@ fn crew_size<F: Finder>(
 pub fn run_round<R: Threads + Wait + Sync, F: Finder + Sync, G: Gate + Sync>(
     rt: &R,
     alloc: Global,
-    finder: &F,
+    finder: &mut F,
     gate: &G,
     jobs: Vec<Job>,
     workers: u32,
 ) -> Result<Vec<Entry>, Memory>
     requires workers { (1 ≤ workers) × (workers ≤ 64) }
-    requires valid { IsValid (F.request finder.now) }
+    requires valid { IsValid (F.request finder.old) }
     requires ascending { AreAscendingJobs jobs.items }
     requires apart { AreApart jobs.items }
-    requires all { AreJobsOf (F.request finder.now) jobs.items }
-    ensures { IfOk result (λ entries. ComeFrom (F.request finder.now) jobs.items entries.items) }
+    requires all { AreJobsOf (F.request finder.old) jobs.items }
+    ensures request { F.request finder.new ≡ F.request finder.old }
+    ensures round { IfOk result
+        (λ entries. ComeFrom (F.request finder.old) jobs.items entries.items) }
 {
     let workers = crew_size(alloc, finder, &jobs, workers)?;
     if workers == 1 {
@@ -101,14 +104,14 @@ fn run_named<
 >(
     rt: &R,
     alloc: Global,
-    finder: &F,
+    finder: &mut F,
     gate: &G,
     jobs: Vec<Job>,
     workers: u32,
     blanks: Blanks,
 ) -> Result<Vec<Entry>, Memory>
     requires workers { (1 ≤ workers) × (workers ≤ 64) }
-    requires request { F.request finder.now ≡ N.request }
+    requires request { F.request finder.old ≡ N.request }
     requires jobs { jobs.items ≡ N.jobs }
     requires valid { IsValid N.request }
     requires ascending { AreAscendingJobs jobs.items }
@@ -124,7 +127,8 @@ fn run_named<
         × (D.parts ≡ workers) }
     requires back { (blanks.back.name ≡ B.name) × (blanks.back.parts ≡ B.parts)
         × (B.parts ≡ workers) }
-    ensures { IfOk result (λ entries. ComeFrom N.request N.jobs entries.items) }
+    ensures request { F.request finder.new ≡ F.request finder.old }
+    ensures round { IfOk result (λ entries. ComeFrom N.request N.jobs entries.items) }
 {
     let request = finder.request();
     let room = room_for(jobs.len());
@@ -132,17 +136,19 @@ fn run_named<
     let (_, hands) = Rack::<N>::open(alloc, workers, room)?;
     let mut crew = crew_of(alloc, seats, hands)?;
     let shared = &board;
+    let shared_finder: &F = finder;
     thread::for_each_mut(
         rt,
         crew.as_mut_slice(),
         workers as usize,
         &|_, member: &mut Member<N, K, L, S, D, B>|
-            requires { F.request finder.now ≡ N.request }
+            requires { F.request shared_finder.now ≡ N.request }
         {
+            let mut own = shared_finder.fork();
             let _ended = work(
                 rt,
                 alloc,
-                finder,
+                &mut own,
                 gate,
                 shared,
                 &mut member.seat,

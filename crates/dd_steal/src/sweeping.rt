@@ -15,10 +15,11 @@ use std::alloc::Global;
 /// some of it is done.
 pub fn sweep<N: Naming, F: Finder>(
     alloc: Global,
-    finder: &F,
+    finder: &mut F,
     desk: &mut Desk<N>,
 ) -> Result<(), Memory>
-    requires { F.request finder.now ≡ N.request }
+    requires { F.request finder.old ≡ N.request }
+    ensures request { F.request finder.new ≡ F.request finder.old }
     ensures done { OnOk result (AreDone desk.new.machine.entries) }
     ensures swept { IsSwept desk.old.log desk.new.log }
 {
@@ -64,11 +65,12 @@ fn finish_as_first<N: Naming>(
 // Does the first job that is open, and answers whether there was one.
 fn do_next<N: Naming, F: Finder>(
     alloc: Global,
-    finder: &F,
+    finder: &mut F,
     desk: &mut Desk<N>,
 ) -> Result<bool, Memory>
-    requires request { F.request finder.now ≡ N.request }
+    requires request { F.request finder.old ≡ N.request }
     requires none { IsNoneOut desk.old.machine.entries }
+    ensures request { F.request finder.new ≡ F.request finder.old }
     ensures none { OnOk result (IsNoneOut desk.new.machine.entries) }
     ensures fewer { IfOk result (λ more. MatchBool more
         (counted if_open desk.new.machine.entries < counted if_open desk.old.machine.entries)

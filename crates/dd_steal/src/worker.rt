@@ -18,13 +18,14 @@ use std::sync::ledger::Ledger;
 fn split_job<N: Naming, K: Ledger, L: Ledger, S: Ledger, D: Ledger, B: Ledger, R: Wait, F: Finder>(
     rt: &R,
     alloc: Global,
-    finder: &F,
+    finder: &mut F,
     board: &Board<N, K, L, S, D, B>,
     seat: &mut Seat<K, L, S, D, B>,
     ticket: Ticket<N>,
 ) -> Result<Option<Ticket<N>>, Ticket<N>>
-    requires request { F.request finder.now ≡ N.request }
+    requires request { F.request finder.old ≡ N.request }
     requires shorter { length ticket.job.prefix < 3 * ticket.job.size }
+    ensures request { F.request finder.new ≡ F.request finder.old }
     ensures counts { MatchResult result
         (λ left. MatchOption left (Counts seat.old seat.new 0 0 1 0 0)
         (λ back. (back ≡ ticket) × Counts seat.old seat.new 0 0 0 0 0))
@@ -44,13 +45,14 @@ fn split_job<N: Naming, K: Ledger, L: Ledger, S: Ledger, D: Ledger, B: Ledger, R
 fn do_job<N: Naming, K: Ledger, L: Ledger, S: Ledger, D: Ledger, B: Ledger, R: Wait, F: Finder>(
     rt: &R,
     alloc: Global,
-    finder: &F,
+    finder: &mut F,
     board: &Board<N, K, L, S, D, B>,
     seat: &mut Seat<K, L, S, D, B>,
     others: usize,
     ticket: Ticket<N>,
 ) -> Result<(), Ticket<N>>
-    requires { F.request finder.now ≡ N.request }
+    requires { F.request finder.old ≡ N.request }
+    ensures request { F.request finder.new ≡ F.request finder.old }
     ensures counts { MatchResult result
         (λ _. Counts seat.old seat.new 0 0 1 0 0 ⊎ Counts seat.old seat.new 0 0 0 1 0)
         (λ back. (back ≡ ticket) × Counts seat.old seat.new 0 0 0 0 0) }
@@ -86,13 +88,14 @@ pub fn work<
 >(
     rt: &R,
     alloc: Global,
-    finder: &F,
+    finder: &mut F,
     gate: &G,
     board: &Board<N, K, L, S, D, B>,
     seat: &mut Seat<K, L, S, D, B>,
     hand: &mut Hand<N>,
 ) -> Ended<N>
-    requires { F.request finder.now ≡ N.request }
+    requires { F.request finder.old ≡ N.request }
+    ensures request { F.request finder.new ≡ F.request finder.old }
     ensures tickets { IsLeftWith (held_at_end result) seat.old hand.old seat.new hand.new }
     ensures looks { IsIdle result → seat.old.shares.look.amount < seat.new.shares.look.amount }
     ensures all { IsIdle result → hand_passes hand.old ≡ 0 → HasAllOfHand hand.new }

@@ -15,7 +15,7 @@ pub loop-job-init : goal.loop-job-init
 loop-job-init g c =
     let none : c.in_ok-entries.entries.items ≡ [] = c.in_ok-entries.ensures.items in
     let gives = c.into_iter-job-iterator.ensures.into_iter_gives in
-    record { whole = gives.0; left = omega (arith, ap length gives.0, gives.1, c.args.jobs.ok.0); number = refl; jobs = ap jobs_of none; found = subst (All (IsFound (g.F.Finder.request c.args.finder.now))) (sym none) (All-nil (IsFound (g.F.Finder.request c.args.finder.now))) }
+    record { whole = gives.0; left = omega (arith, ap length gives.0, gives.1, c.args.jobs.ok.0); number = refl; jobs = ap jobs_of none; request = refl; found = subst (All (IsFound (g.F.Finder.request c.args.finder.now))) (sym none) (All-nil (IsFound (g.F.Finder.request c.args.finder.now))) }
 
 pub overflow_add-number : goal.overflow_add-number
 overflow_add-number g c =
@@ -32,19 +32,20 @@ loop-job-preserved g c =
     let job = c.in-Some.job in
     let entry = entry_of (c.loop-job.number + 1) job (Done c.in_ok-members.members) in
     let longer : c.push.new.self.items ≡ c.loop-job.entries.items ++ entry ∷ [] = c.in_ok-push.ensures.items in
-    let under = c.in_ok-find.ensures in
+    let under = subst (λ r. AreMembersUnder r job c.in_ok-find.field-0) i.request c.in_ok-find.ensures.members in
     let count = length_push c.loop-job.yielded job in
     record {
       whole = append_assoc c.loop-job.yielded (job ∷ []) (into_iter_items c.next.new.self) ∙ ap (λ rest. c.loop-job.yielded ++ rest) (sym c.in-Some.ensures.steps.0) ∙ i.whole;
       left = omega (arith, i.left, ap length c.in-Some.ensures.steps.0, c.in-Some.ensures.steps.1);
       number = omega (arith, i.number, count);
       jobs = ap jobs_of longer ∙ map_push (λ (e : Entry). e.job) c.loop-job.entries.items entry ∙ ap (λ js. js ++ job ∷ []) i.jobs;
+      request = c.find.ensures.request ∙ i.request;
       found = subst (All (IsFound q)) (sym longer) (All-push (IsFound q) c.loop-job.entries.items entry i.found
           (record { list = c.in_ok-members.members; done = search rules; under = subst (AreMembersUnder q job) (sym c.in_ok-members.ensures) under }));
     }
 
-pub returns : goal.returns
-returns g c =
+pub returns-clause-round : goal.returns-clause-round
+returns-clause-round g c =
     let i = c.loop-job.invariant in
     let q = g.F.Finder.request c.args.finder.now in
     let none : into_iter_items c.loop-job.job-iterator ≡ [] = nil_from_length (into_iter_items c.loop-job.job-iterator) (omega (arith, i.left, c.in-None.ensures.steps.0)) in

@@ -11,5 +11,6 @@ invariant-loop-job g l = record {
   left : into_iter_len l.job-iterator ≡ length (into_iter_items l.job-iterator);
   number : l.number ≡ length l.yielded;
   jobs : jobs_of l.entries.items ≡ l.yielded;
-  found : All (IsFound (g.F.Finder.request l.finder)) l.entries.items;
+  request : g.F.Finder.request l.finder ≡ g.F.Finder.request l.fn.finder;
+  found : All (IsFound (g.F.Finder.request l.fn.finder)) l.entries.items;
 }
