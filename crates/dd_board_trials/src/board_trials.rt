@@ -185,7 +185,7 @@ fn shown_and_swept<N: Naming>(
     requires { request.now ≡ N.request }
 {
     let mut text = shown(alloc, desk)?;
-    sweep(alloc, &Search::new(request), desk)?;
+    sweep(alloc, &mut Search::new(request), desk)?;
     text.append(&mut shown(alloc, desk)?)?;
     Ok(text)
 }

@@ -24,17 +24,18 @@ use std::thread::Threads;
 pub fn write_catalogue<R: Threads + Wait + Sync, F: Finder + Sync, G: Gate + Sync, O: Sink>(
     rt: &R,
     alloc: Global,
-    finder: &F,
+    finder: &mut F,
     gate: &G,
     run: &Run,
     out: &mut O,
 ) -> Result<Finish, SinkFault>
-    requires request { F.request finder.now ≡ run.now.request }
+    requires request { F.request finder.old ≡ run.now.request }
     requires valid { IsValid run.now.request }
     requires position { IsPosition run.now.at }
     requires lines { run.now.lines ≤ 1000000000000000000 }
     requires workers { (1 ≤ run.now.pace.workers) × (run.now.pace.workers ≤ 64) }
     requires round { 1 ≤ run.now.pace.round }
+    ensures request { F.request finder.new ≡ F.request finder.old }
     ensures output { (output : List ℕ) × IsOutput (start_of run.now) run.now.pause
         (O.held out.old) (O.held out.new) result output }
     ensures cause { HasCause Failed (O.faults out.old) (O.faults out.new) result }
@@ -52,14 +53,14 @@ pub fn write_catalogue<R: Threads + Wait + Sync, F: Finder + Sync, G: Gate + Syn
 fn write_rounds<R: Threads + Wait + Sync, F: Finder + Sync, G: Gate + Sync, O: Sink>(
     rt: &R,
     alloc: Global,
-    finder: &F,
+    finder: &mut F,
     gate: &G,
     run: &Run,
     front: &mut Front,
     page: &mut Page,
     out: &mut O,
 ) -> Result<Finish, SinkFault>
-    requires request { F.request finder.now ≡ run.now.request }
+    requires request { F.request finder.old ≡ run.now.request }
     requires valid { IsValid run.now.request }
     requires lines { run.now.lines ≤ 1000000000000000000 }
     requires workers { (1 ≤ run.now.pace.workers) × (run.now.pace.workers ≤ 64) }
@@ -68,6 +69,7 @@ fn write_rounds<R: Threads + Wait + Sync, F: Finder + Sync, G: Gate + Sync, O: S
     requires empty { IsEmpty page.old }
     requires count { page.old.count ≡ run.now.lines }
     requires bytes { page.old.bytes ≡ 0 }
+    ensures request { F.request finder.new ≡ F.request finder.old }
     ensures output { (output : List ℕ) × IsOutput (start_of run.now) run.now.pause
         (O.held out.old) (O.held out.new) result output }
     ensures cause { HasCause Failed (O.faults out.old) (O.faults out.new) result }

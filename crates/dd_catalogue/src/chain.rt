@@ -33,20 +33,21 @@ use std::thread::Threads;
 pub fn write_run<R: Threads + Wait + Sync, F: Finder + Sync, G: Gate + Sync, S: Store, O: Sink>(
     rt: &R,
     alloc: Global,
-    finder: &F,
+    finder: &mut F,
     gate: &G,
     run: &Run,
     name: &str,
     store: &mut S,
     out: &mut O,
 ) -> Result<Finish, RunFault>
-    requires request { F.request finder.now ≡ run.now.request }
+    requires request { F.request finder.old ≡ run.now.request }
     requires valid { IsValid run.now.request }
     requires position { IsPosition run.now.at }
     requires lines { run.now.lines ≤ 1000000000000000000 }
     requires first { run.now.number ≡ 1 → start_of run.now ≡ first_start run.now.request }
     requires workers { (1 ≤ run.now.pace.workers) × (run.now.pace.workers ≤ 64) }
     requires round { 1 ≤ run.now.pace.round }
+    ensures request { F.request finder.new ≡ F.request finder.old }
     ensures run { HasRun (start_of run.now) run.now.pace.round run.now.pause
         (O.held out.old) (O.held out.new)
         (S.tells store.old) (S.held store.old name.now) (S.held store.new name.now) result }
@@ -73,7 +74,7 @@ pub fn write_run<R: Threads + Wait + Sync, F: Finder + Sync, G: Gate + Sync, S: 
 fn keep_rounds<R: Threads + Wait + Sync, F: Finder + Sync, G: Gate + Sync, S: Store, O: Sink>(
     rt: &R,
     alloc: Global,
-    finder: &F,
+    finder: &mut F,
     gate: &G,
     run: &Run,
     name: &str,
@@ -82,7 +83,7 @@ fn keep_rounds<R: Threads + Wait + Sync, F: Finder + Sync, G: Gate + Sync, S: St
     store: &mut S,
     out: &mut O,
 ) -> Result<Finish, RunFault>
-    requires request { F.request finder.now ≡ run.now.request }
+    requires request { F.request finder.old ≡ run.now.request }
     requires valid { IsValid run.now.request }
     requires lines { run.now.lines ≤ 1000000000000000000 }
     requires first { run.now.number ≡ 1 → start_of run.now ≡ first_start run.now.request }
@@ -92,6 +93,7 @@ fn keep_rounds<R: Threads + Wait + Sync, F: Finder + Sync, G: Gate + Sync, S: St
     requires empty { IsEmpty page.old }
     requires count { page.old.count ≡ run.now.lines }
     requires bytes { page.old.bytes ≡ 0 }
+    ensures request { F.request finder.new ≡ F.request finder.old }
     ensures run { HasRun (start_of run.now) run.now.pace.round run.now.pause
         (O.held out.old) (O.held out.new)
         (S.tells store.old) (S.held store.old name.now) (S.held store.new name.now) result }

@@ -67,12 +67,13 @@ pub fn front_of(alloc: Global, run: &Run) -> Result<Front, Memory>
 /// others there are many at a stretch, and a round of these alone has nothing for several workers to do.
 fn pace_without_empty_jobs<F: Finder>(
     alloc: Global,
-    finder: &F,
+    finder: &mut F,
     pace: Pace,
     entries: &[Entry],
 ) -> Result<Pace, Memory>
-    requires valid { IsValid (F.request finder.now) }
-    requires jobs { AllByRecursion (λ e. IsJobOf (F.request finder.now) e.job) entries.now }
+    requires valid { IsValid (F.request finder.old) }
+    requires jobs { AllByRecursion (λ e. IsJobOf (F.request finder.old) e.job) entries.now }
+    ensures request { F.request finder.new ≡ F.request finder.old }
     ensures workers { IfOk result (λ longer. longer.workers ≡ pace.workers) }
     ensures round { IfOk result (λ longer. pace.round ≤ longer.round) }
 {
@@ -100,19 +101,20 @@ fn pace_without_empty_jobs<F: Finder>(
 pub fn do_long_round<R: Threads + Wait + Sync, F: Finder + Sync, G: Gate + Sync>(
     rt: &R,
     alloc: Global,
-    finder: &F,
+    finder: &mut F,
     gate: &G,
     pace: Pace,
     front: &mut Front,
 ) -> Result<bool, Memory>
     requires workers { (1 ≤ pace.workers) × (pace.workers ≤ 64) }
     requires round { 1 ≤ pace.round }
-    requires valid { IsValid (F.request finder.now) }
-    requires request { front.old.request ≡ F.request finder.now }
-    requires jobs { AreJobsOf (F.request finder.now) (jobs_of front.old.entries) }
+    requires valid { IsValid (F.request finder.old) }
+    requires request { front.old.request ≡ F.request finder.old }
+    requires jobs { AreJobsOf (F.request finder.old) (jobs_of front.old.entries) }
     requires ascending { AreAscendingJobs (jobs_of front.old.entries) }
     requires apart { AreApart (jobs_of front.old.entries) }
     requires open_entries { AreOpen front.old.entries }
+    ensures request { F.request finder.new ≡ F.request finder.old }
     ensures round { IfOk result (λ more. MatchBool more
         ((most : ℕ) × IsRoundDone most front.old front.new) (IsAtEnd front.old front.new)) }
     ensures same { OnErr result (front.new ≡ front.old) }
@@ -133,19 +135,20 @@ pub fn do_long_round<R: Threads + Wait + Sync, F: Finder + Sync, G: Gate + Sync>
 pub fn do_round<R: Threads + Wait + Sync, F: Finder + Sync, G: Gate + Sync>(
     rt: &R,
     alloc: Global,
-    finder: &F,
+    finder: &mut F,
     gate: &G,
     pace: Pace,
     front: &mut Front,
 ) -> Result<bool, Memory>
     requires workers { (1 ≤ pace.workers) × (pace.workers ≤ 64) }
     requires round { 1 ≤ pace.round }
-    requires valid { IsValid (F.request finder.now) }
-    requires request { front.old.request ≡ F.request finder.now }
-    requires jobs { AreJobsOf (F.request finder.now) (jobs_of front.old.entries) }
+    requires valid { IsValid (F.request finder.old) }
+    requires request { front.old.request ≡ F.request finder.old }
+    requires jobs { AreJobsOf (F.request finder.old) (jobs_of front.old.entries) }
     requires ascending { AreAscendingJobs (jobs_of front.old.entries) }
     requires apart { AreApart (jobs_of front.old.entries) }
     requires open_entries { AreOpen front.old.entries }
+    ensures request { F.request finder.new ≡ F.request finder.old }
     ensures round { IfOk result (λ more. MatchBool more (IsRoundDone pace.round front.old front.new)
         (IsAtEnd front.old front.new)) }
     ensures same { OnErr result (front.new ≡ front.old) }

@@ -42,7 +42,7 @@ fn round_of<R: Threads + Wait + Sync, G: Gate + Sync>(
 {
     let request = Request::up_to(2);
     let jobs = opening_jobs(alloc, &request)?;
-    run_round(rt, alloc, &Search::new(&request), gate, jobs, workers)
+    run_round(rt, alloc, &mut Search::new(&request), gate, jobs, workers)
 }
 
 /// The lines of the members of entries, one after the other.
@@ -138,10 +138,10 @@ fn steal_all<N: Naming, K: Ledger, L: Ledger, S: Ledger, D: Ledger, B: Ledger, R
     ensures { length seats.new ≡ 2 }
 {
     take_all(rt, board, &mut seats[0], &mut hands[0])?;
-    let finder = Search::new(request);
+    let mut finder = Search::new(request);
     let gate = OpenGate::new();
     let (seat, hand) = (&mut seats[1], &mut hands[1]);
-    if let Ended::Memory(_) = work(rt, alloc, &finder, &gate, board, seat, hand) {
+    if let Ended::Memory(_) = work(rt, alloc, &mut finder, &gate, board, seat, hand) {
         return Err(Fail::new("out of memory"));
     }
     if hands[0].pop().is_some() {

@@ -104,8 +104,8 @@ pub fn keep_run<R: Threads + Wait + Sync, S: Store, G: Gate + Sync, O: Sink>(
     ensures sink_sure { O.sure out.old ≡ true
         → (O.faults out.new ≡ O.faults out.old) × (result ≡ Ending.SinkFault → ⊥) }
 {
-    let search = Search::new(&run.request);
-    let ended = write_run(rt, alloc, &search, gate, run, name, store, out);
+    let mut search = Search::new(&run.request);
+    let ended = write_run(rt, alloc, &mut search, gate, run, name, store, out);
     Ending::of_run(ended, last_before_pause(run))
 }
 

@@ -32,8 +32,8 @@ pub fn write_lone<R: Threads + Wait + Sync, G: Gate + Sync, O: Sink>(
     let Ok(run) = Run::first(alloc, *request, pace, None) else {
         return Ending::Memory;
     };
-    let search = Search::new(request);
-    let ended = write_catalogue(rt, alloc, &search, gate, &run, out);
+    let mut search = Search::new(request);
+    let ended = write_catalogue(rt, alloc, &mut search, gate, &run, out);
     // It does not pause, so that no line is told.
     Ending::of_run(as_run(ended), 0)
 }

@@ -22,19 +22,20 @@ loop-more-init g c =
       omega (arith, above, c.requires.count),
       omega arith,
       λ sure. (sure, refl),
+      refl,
     )
 
 pub do_long_round-requires-clause-request : goal.do_long_round-requires-clause-request
-do_long_round-requires-clause-request g c κs within = c.loop-more.invariant.0.3.emitted.held.request ∙ sym c.requires.request
+do_long_round-requires-clause-request g c κs within = c.loop-more.invariant.0.3.emitted.held.request ∙ sym (c.loop-more.invariant.5 ∙ c.requires.request)
 
 pub do_long_round-requires-clause-valid : goal.do_long_round-requires-clause-valid
-do_long_round-requires-clause-valid g c κs within = subst IsValid (sym c.requires.request) c.requires.valid
+do_long_round-requires-clause-valid g c κs within = subst IsValid (sym (c.loop-more.invariant.5 ∙ c.requires.request)) c.requires.valid
 
 pub do_long_round-requires-clause-jobs : goal.do_long_round-requires-clause-jobs
 do_long_round-requires-clause-jobs g c κs within =
     let at = c.loop-more.invariant.0 in
     let w : Way = record { start = start_of c.args.run.now; jobs = at.0; base = []; known = g.O.Sink.held c.args.out.now; since = at.1; round = at.2 } in
-    subst (λ q. AreJobsOf q (jobs_of c.loop-more.front.entries)) (sym c.requires.request) (way_jobs w (g.O.Sink.held c.loop-more.out) c.loop-more.page c.loop-more.front at.3)
+    subst (λ q. AreJobsOf q (jobs_of c.loop-more.front.entries)) (sym (c.loop-more.invariant.5 ∙ c.requires.request)) (way_jobs w (g.O.Sink.held c.loop-more.out) c.loop-more.page c.loop-more.front at.3)
 
 pub do_long_round-requires-clause-ascending : goal.do_long_round-requires-clause-ascending
 do_long_round-requires-clause-ascending g c κs within = c.loop-more.invariant.0.3.emitted.held.go_on.ascending_jobs
@@ -131,6 +132,7 @@ loop-more-preserved g c =
       room,
       omega (arith, c.write_done.ensures.cause.later, ih.3),
       λ s. let sure = ih.4 s in let later = c.write_done.ensures.sure sure.0 in (later.sure, later.count ∙ sure.1),
+      c.do_long_round.ensures.request ∙ ih.5,
     )
 
 pub returns-clause-output : goal.returns-clause-output

@@ -35,6 +35,7 @@ loop-more-init g c =
       λ told. c.save_first.ensures.others told,
       omega arith,
       λ sure. (sure, refl),
+      refl,
     )
 
 pub do_round-requires-clause-jobs : goal.do_round-requires-clause-jobs
@@ -46,7 +47,7 @@ do_round-requires-clause-jobs g c κs within =
     let held = g.S.Store.held c.loop-more.store c.args.name.now in
     let mid = g.O.Sink.held c.loop-more.out in
     let head = c.loop-more.invariant.0 in
-    subst (λ q. AreJobsOf q (jobs_of c.loop-more.front.entries)) (sym c.requires.request) (way_jobs (way_at s tells old before held mid c.loop-more.page c.loop-more.front c.loop-more.invariant.0) mid c.loop-more.page c.loop-more.front head.way)
+    subst (λ q. AreJobsOf q (jobs_of c.loop-more.front.entries)) (sym (c.loop-more.invariant.8 ∙ c.requires.request)) (way_jobs (way_at s tells old before held mid c.loop-more.page c.loop-more.front c.loop-more.invariant.0) mid c.loop-more.page c.loop-more.front head.way)
 
 pub returns-clause-run : goal.returns-clause-run
 returns-clause-run g c =
@@ -170,4 +171,5 @@ loop-more-preserved g c =
       λ told. let was = ih.5 told in let others = c.save.ensures.others was.0 in (others.0, λ other not. others.1 other not ∙ was.1 other not),
       omega (arith, c.write_round.ensures.cause.later, ih.6),
       λ s. let sure = ih.7 s in let later = c.write_round.ensures.sure sure.0 in (later.sure, later.count ∙ sure.1),
+      c.do_round.ensures.request ∙ ih.8,
     )

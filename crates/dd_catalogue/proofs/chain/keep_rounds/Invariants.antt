@@ -7,7 +7,7 @@ use Rattle.dd_catalogue.proofs.KeptRuns.{IsHead}
 use Rattle.dd_catalogue.proofs.chain.keep_rounds.Given as goal
 
 -- the run is between two rounds, all entries wait, no line came after the last one, the counts of faults did not fall, what was
--- sure is, and no other name changed
+-- sure is, no other name changed, and the finder is for the same request
 abbrev pub invariant-loop-more : goal.invariant-loop-more
 invariant-loop-more g l =
     IsHead (start_of l.fn.run) (g.S.Store.tells l.fn.store) (g.O.Sink.held l.fn.out) (g.S.Store.held l.fn.store l.fn.name) (g.S.Store.held l.store l.fn.name) (g.O.Sink.held l.out) l.page l.front
@@ -17,6 +17,7 @@ invariant-loop-more g l =
     × (g.S.Store.tells l.fn.store ≡ true → (g.S.Store.tells l.store ≡ true) × SameOthers l.fn.name (g.S.Store.held l.fn.store) (g.S.Store.held l.store))
     × (g.O.Sink.faults l.fn.out ≤ g.O.Sink.faults l.out)
     × (g.O.Sink.sure l.fn.out ≡ true → (g.O.Sink.sure l.out ≡ true) × (g.O.Sink.faults l.out ≡ g.O.Sink.faults l.fn.out))
+    × (g.F.Finder.request l.finder ≡ g.F.Finder.request l.fn.finder)
 
 abbrev pub decreases-loop-more : goal.decreases-loop-more
 decreases-loop-more g l = length (open_jobs l.front.entries)

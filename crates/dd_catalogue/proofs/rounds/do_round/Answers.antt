@@ -34,13 +34,13 @@ run_round-requires-clause-all g c κs within =
 pub absorb-requires : goal.absorb-requires
 absorb-requires g c =
     let jobs = c.in_ok-jobs.jobs.items in
-    let come = subst (λ r. ComeFrom r jobs c.in_ok-entries.entries.items) (sym c.requires.request) c.in_ok-entries.ensures in
+    let come = subst (λ r. ComeFrom r jobs c.in_ok-entries.entries.items) (sym c.requires.request) c.in_ok-entries.ensures.round in
     (length jobs, may_absorb c.args.front.now c.args.pace.round jobs c.in_ok-entries.entries.items c.requires.open_entries c.in_ok-jobs.ensures come)
 
 pub returns-clause-round : goal.returns-clause-round
 returns-clause-round g c =
     let jobs = c.in_ok-jobs.jobs.items in
-    let come = subst (λ r. ComeFrom r jobs c.in_ok-entries.entries.items) (sym c.requires.request) c.in_ok-entries.ensures in
+    let come = subst (λ r. ComeFrom r jobs c.in_ok-entries.entries.items) (sym c.requires.request) c.in_ok-entries.ensures.round in
     let may = may_absorb c.args.front.now c.args.pace.round jobs c.in_ok-entries.entries.items c.requires.open_entries c.in_ok-jobs.ensures come in
     let some : 1 ≤ length jobs = search rules in
     let few : length jobs ≤ c.args.pace.round = few_taken c.args.pace.round (open_jobs c.args.front.now.entries) jobs c.in_ok-jobs.ensures in
