@@ -14,3 +14,5 @@ mod front_trials;
 mod plain_front;
 #[cfg(test)]
 mod random_actions;
+#[cfg(test)]
+mod search_rows;
