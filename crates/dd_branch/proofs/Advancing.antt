@@ -17,8 +17,8 @@ use Rattle.dd_branch.specs.Budget.{no_place, spent, twelfths}
 use Rattle.dd_branch.specs.Choice.{HasBranching, HasShares, IsChoice}
 use Rattle.dd_branch.specs.Assignment.{IsAssignment, IsAtRoot, IsMemberUnder, IsTold, degree_at, next_place, prefix_of, shortened, spent_by, told}
 use Rattle.dd_branch.specs.Entered.{HasBudget, HasEntered, HasForced}
-use Rattle.dd_branch.specs.declared.assignment.Assignment.{Assignment}
-use Rattle.dd_branch.specs.declared.places.Place.{Place}
+use Rattle.dd_branch.specs.declared.degrees.assignment.Assignment.{Assignment}
+use Rattle.dd_branch.specs.declared.degrees.places.Place.{Place}
 use Rattle.dd_branch.proofs.Assigned.{length-prefix, next_degree, same_of_under, told_degree}
 use Rattle.dd_branch.proofs.Budgets.{AllAreChosen, flat_if_spent, spent_as_told, spent_at_least, spent_at_most, spent_next, spent_same}
 use Rattle.dd_branch.proofs.Chosen.{IsSound, all_bounded, constant_at, sound_places, wanted_chosen}

@@ -9,7 +9,7 @@ use Rattle.dd_model.proofs.Codes.{length-code, length-flat_images}
 use Rattle.dd_find.specs.Under.{next_number}
 use Rattle.dd_invol.proofs.TableFronts.{front_same, begins_with_take}
 use Rattle.dd_branch.specs.Assignment.{IsAssignment, IsMemberUnder, degree_at, prefix_of, told}
-use Rattle.dd_branch.specs.declared.assignment.Assignment.{Assignment}
+use Rattle.dd_branch.specs.declared.degrees.assignment.Assignment.{Assignment}
 
 -- the degrees come after the images
 code_degree : (s : Symbol) (n j : ℕ) → s.size ≡ n → get_or (code s) (3 * n + j) 0 ≡ degree_at s j

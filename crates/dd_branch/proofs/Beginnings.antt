@@ -28,8 +28,8 @@ use Rattle.dd_branch.specs.Budget.{no_place}
 use Rattle.dd_branch.specs.Members.{AreMembersWith}
 use Rattle.dd_branch.specs.Place.{ArePlaces, HasPlaces, IsPlaceOf}
 use Rattle.dd_branch.specs.Rests.{AreRests}
-use Rattle.dd_branch.specs.declared.assignment.Assignment.{Assignment}
-use Rattle.dd_branch.specs.declared.places.Place.{Place}
+use Rattle.dd_branch.specs.declared.degrees.assignment.Assignment.{Assignment}
+use Rattle.dd_branch.specs.declared.degrees.places.Place.{Place}
 use Rattle.dd_branch.proofs.Advancing.{sound_next}
 use Rattle.dd_branch.proofs.Assigned.{length-front, same_of_under}
 use Rattle.dd_branch.proofs.Chosen.{limits_of_wanted}

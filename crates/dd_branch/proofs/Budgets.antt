@@ -24,8 +24,8 @@ use Rattle.dd_branch.specs.Budget.{no_place, twelfths, spent}
 use Rattle.dd_branch.specs.Choice.{IsChoice}
 use Rattle.dd_branch.specs.Place.{IsPlaceOf, sides_of}
 use Rattle.dd_branch.specs.Rests.{AreRests}
-use Rattle.dd_branch.specs.declared.places.Place.{Place}
-use Rattle.dd_branch.specs.declared.rests.Rests.{Rests}
+use Rattle.dd_branch.specs.declared.degrees.places.Place.{Place}
+use Rattle.dd_branch.specs.declared.degrees.rests.Rests.{Rests}
 use Rattle.dd_branch.proofs.Choices.{divides_twelve, part_at_most}
 
 -- ## Sums of parts

@@ -31,7 +31,7 @@ use Rattle.dd_branch.specs.Choice.{IsChoice}
 use Rattle.dd_symbol.specs.declared.kind.Kind.{Kind}
 use Rattle.dd_symbol.specs.declared.kind.Kind.TheVariants.{Cycle, Chain}
 use Rattle.dd_branch.specs.Place.{ArePlaces, IsPlaceOf, sides_of}
-use Rattle.dd_branch.specs.declared.places.Place.{Place}
+use Rattle.dd_branch.specs.declared.degrees.places.Place.{Place}
 use Rattle.dd_branch.proofs.Budgets.{AreBounded, AreChosen, AllAreChosen, HasPart, part_of_choice, shape_at}
 use Rattle.dd_branch.proofs.Choices.{share_exists, share_told, value_of}
 

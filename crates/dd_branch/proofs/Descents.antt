@@ -33,7 +33,7 @@ use Rattle.dd_ends.specs.Kept.{AreKept, with_sides}
 use Rattle.dd_ends.specs.declared.sides.Sides.{Sides}
 use Rattle.dd_ends.proofs.GrowthLemmas.{kept_of_longer}
 use Rattle.dd_branch.specs.Descent.{Descending, IsDescent, HasDescended, with_level, with_paths, without_last, shorter}
-use Rattle.dd_branch.specs.declared.level.Level.{Level}
+use Rattle.dd_branch.specs.declared.search.level.Level.{Level}
 
 -- the search with what it had at a level
 abbrev pub at_level : Descending → Level → Descending

@@ -16,7 +16,7 @@ use Rattle.dd_branch.specs.Budget.{no_place}
 use Rattle.dd_branch.specs.Choice.{HasBranching}
 use Rattle.dd_branch.specs.Assignment.{IsAssignment, IsAtRoot, IsMemberUnder, next_place, prefix_of, shortened, told}
 use Rattle.dd_branch.specs.Entered.{AreFitting, HasBudget, HasEntered, HasTold}
-use Rattle.dd_branch.specs.declared.assignment.Assignment.{Assignment}
+use Rattle.dd_branch.specs.declared.degrees.assignment.Assignment.{Assignment}
 use Rattle.dd_branch.proofs.Advancing.{IsDegreeWith, IsNext, branching_of, degree_small, next_value, some_sides, sound_next, spends, with_list}
 use Rattle.dd_branch.proofs.Assigned.{length-prefix}
 use Rattle.dd_branch.proofs.Bits.{highest_set, none_from_highest, none_higher, without_highest}

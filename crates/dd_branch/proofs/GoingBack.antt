@@ -5,15 +5,13 @@ use Rattle.std.proofs.lemmas.Option.{slice_get-get_or}
 use Rattle.std.specs.List.{slice_get}
 use Rattle.std.specs.declared.option.Option.{Option}
 use Rattle.std.specs.declared.option.Option.TheVariants.{None, Some}
-use Rattle.dd_model.specs.Lists.{Begins}
-use Rattle.dd_model.proofs.SmallerPlaces.{begins_is_front}
 use Rattle.dd_partial.specs.Rows.{depth_of, popped, unwind}
 use Rattle.dd_partial.specs.Stem.{prefix_of, size_of}
 use Rattle.dd_partial.specs.declared.rows.Rows.{Rows}
 use Rattle.dd_ends.specs.Kept.{no_sides}
 use Rattle.dd_branch.specs.Descent.{Descending, GoesBack, IsDescent, gone_back, shorter, without_last}
 use Rattle.dd_branch.specs.Levels.{level_of}
-use Rattle.dd_branch.specs.declared.level.Level.{Level}
+use Rattle.dd_branch.specs.declared.search.level.Level.{Level}
 
 no_level : Level
 no_level = level_of 0 0 no_sides 0
@@ -81,10 +79,6 @@ goes_back_longer old new is some path back =
 -- a search without levels has the empty prefix
 pub empty_at_first : (d : Descending) → GoesBack d → length d.levels ≡ 0 → prefix_of d.stem ≡ []
 empty_at_first d back none = subst (λ n. prefix_of (gone_back n d).stem ≡ []) none back.empty
-
--- a front of a list
-pub front_is : (xs ys : List ℕ) → Begins xs ys → take (length xs) ys ≡ xs
-front_is xs ys begins = ap (take (length xs)) (begins_is_front xs ys begins) ∙ take_at xs (drop (length xs) ys) (length xs) refl
 
 some_or_none : (n : ℕ) → (n ≡ 0 → ⊥) → 1 ≤ n
 some_or_none zero some = absurd (some refl)

@@ -22,7 +22,7 @@ use Rattle.dd_invol.proofs.TiedTables.{least_of_ties}
 use Rattle.dd_partial.proofs.Follows.{member_orderly}
 use Rattle.dd_branch.specs.Assignment.{IsAssignment, IsMemberUnder, degree_at, prefix_of, spent_by, told}
 use Rattle.dd_branch.specs.Budget.{no_place, spent}
-use Rattle.dd_branch.specs.declared.assignment.Assignment.{Assignment}
+use Rattle.dd_branch.specs.declared.degrees.assignment.Assignment.{Assignment}
 use Rattle.dd_branch.proofs.Assigned.{same_of_under, told_degree}
 use Rattle.dd_branch.proofs.Budgets.{flat_if_spent}
 use Rattle.dd_branch.proofs.Chosen.{AreDegrees, ArePlacesOf, AreToldOf, choice_everywhere, small_of_degrees, tile_at, tile_place, vertex_at, vertex_place, wanted_of_degrees}

@@ -15,7 +15,7 @@ use Rattle.dd_symbol.specs.declared.kind.Kind.TheVariants.{Cycle, Chain}
 use Rattle.dd_cells.proofs.CountLemmas.{IsCount, none_more, one_more, whole_count}
 use Rattle.dd_branch.specs.Budget.{cells_to, no_place}
 use Rattle.dd_branch.specs.Place.{ArePlaces, IsPlaceOf, sides_of}
-use Rattle.dd_branch.specs.declared.places.Place.{Place}
+use Rattle.dd_branch.specs.declared.degrees.places.Place.{Place}
 
 has_one : (kind : Kind) → min (sides_of kind) 1 ≡ 1
 has_one Cycle = refl

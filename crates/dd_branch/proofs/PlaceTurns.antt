@@ -15,7 +15,7 @@ use Rattle.dd_symbol.proofs.TableLemmas.{with_same}
 use Rattle.dd_cells.proofs.MemberLemmas.{period_from_turns}
 use Rattle.dd_branch.specs.Budget.{no_place}
 use Rattle.dd_branch.specs.Place.{ArePlaces, AreTurns, AreTurnsUpTo, IsPlaceOf}
-use Rattle.dd_branch.specs.declared.places.Place.{Place}
+use Rattle.dd_branch.specs.declared.degrees.places.Place.{Place}
 
 -- ## One place after another
 

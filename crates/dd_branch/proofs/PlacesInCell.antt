@@ -10,7 +10,7 @@ use Rattle.dd_model.proofs.Words.{act_within}
 use Rattle.dd_cells.specs.Cells.{IsSmallerInCell}
 use Rattle.dd_cells.proofs.ShapesInCell.{shape_beside}
 use Rattle.dd_branch.specs.Place.{AreBounds, HasPlaceOf, HasPlaces, IsPlaceOf}
-use Rattle.dd_branch.specs.declared.places.Place.{Place}
+use Rattle.dd_branch.specs.declared.degrees.places.Place.{Place}
 
 -- a smaller chamber of a cell is a chamber
 pub smaller_chamber : (t : Symbol) → AreInvolutions t → (p : Pair) (d e : ℕ) → IsChamber t d → IsSmallerInCell t p d e → IsChamber t e

@@ -4,7 +4,7 @@ use Rattle.std.proofs.lemmas.Bool.{cases_lt}
 use Rattle.std.proofs.lemmas.List.{get_or-set_same, get_or-set_other, get_or_default, get_or-replicate}
 use Rattle.std.specs.Int.{bit_at}
 use Rattle.dd_branch.specs.Rests.{HasSurplusWith}
-use Rattle.dd_branch.specs.declared.places.Place.{Place}
+use Rattle.dd_branch.specs.declared.degrees.places.Place.{Place}
 
 pub none_yet : (n : ℕ) → n ≤ 72 → get_or {A = ℕ} (replicate 73 0) n 0 ≡ 0
 none_yet n few = get_or-replicate {A = ℕ} 73 n 0 0 (omega (arith, few))

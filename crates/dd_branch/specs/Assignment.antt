@@ -14,8 +14,8 @@ use Rattle.dd_branch.specs.Choice.{IsChoice}
 use Rattle.dd_ties.specs.Automorphism.{AreAutomorphisms}
 use Rattle.dd_branch.specs.Place.{ArePlaces}
 use Rattle.dd_branch.specs.Rests.{AreRests}
-use Rattle.dd_branch.specs.declared.places.Place.{Place}
-use Rattle.dd_branch.specs.declared.assignment.Assignment.{Assignment}
+use Rattle.dd_branch.specs.declared.degrees.places.Place.{Place}
+use Rattle.dd_branch.specs.declared.degrees.assignment.Assignment.{Assignment}
 
 -- the degree at a place, those of the tiles coming first
 abbrev pub degree_at : Symbol → ℕ → ℕ

@@ -1,6 +1,6 @@
 -- The budget of a flat table: 12/v for each chain and 24/v for each cycle come to 6 for each chamber.
 use Rattle.std.specs.Prelude.{ℕ, zero, suc, ◌+◌, ◌*◌, ◌/◌, List, slice_index_or, min}
-use Rattle.dd_branch.specs.declared.places.Place.{Place}
+use Rattle.dd_branch.specs.declared.degrees.places.Place.{Place}
 
 -- what stands for a place that a list does not have
 abbrev pub no_place : Place

@@ -12,7 +12,7 @@ use Rattle.dd_partial.specs.Stem.{IsStem, prefix_of, size_of, cut_to}
 use Rattle.dd_partial.specs.declared.stem.Stem.{Stem}
 use Rattle.dd_ends.specs.Kept.{Shares, AreKept, with_sides}
 use Rattle.dd_ends.specs.declared.sides.Sides.{Sides}
-use Rattle.dd_branch.specs.declared.level.Level.{Level}
+use Rattle.dd_branch.specs.declared.search.level.Level.{Level}
 
 -- what is asked, how far the search has come, the shares of its table, and what each number put in
 pub record Descending : Type 0 where

@@ -5,7 +5,7 @@ use Rattle.dd_find.specs.Under.{next_number}
 use Rattle.dd_model.specs.Symbol.{Symbol}
 use Rattle.dd_branch.specs.Assignment.{IsMemberUnder, next_place, prefix_of, shortened, spent_by, told}
 use Rattle.dd_branch.specs.Budget.{twelfths}
-use Rattle.dd_branch.specs.declared.assignment.Assignment.{Assignment}
+use Rattle.dd_branch.specs.declared.degrees.assignment.Assignment.{Assignment}
 
 -- the degrees that are left have to take so much of the budget beyond their least
 abbrev pub HasBudget : Assignment → ℕ → Type 0

@@ -5,7 +5,7 @@ use Rattle.std.specs.declared.option.Option.{Option}
 use Rattle.std.specs.declared.option.Option.TheVariants.{None, Some}
 use Rattle.dd_ends.specs.Kept.{no_sides}
 use Rattle.dd_ends.specs.declared.sides.Sides.{Sides}
-use Rattle.dd_branch.specs.declared.level.Level.{Level}
+use Rattle.dd_branch.specs.declared.search.level.Level.{Level}
 
 -- the levels before the one where a search stands, and the paths of its table
 pub record Leveled : Type 0 where

@@ -10,7 +10,7 @@ use Rattle.dd_symbol.specs.declared.kind.Kind.{Kind}
 use Rattle.dd_symbol.specs.declared.kind.Kind.TheVariants.{Cycle, Chain}
 use Rattle.dd_symbol.specs.declared.shapes.CellShape.{CellShape}
 use Rattle.dd_branch.specs.Choice.{HasShares, IsChoice}
-use Rattle.dd_branch.specs.declared.places.Place.{Place}
+use Rattle.dd_branch.specs.declared.degrees.places.Place.{Place}
 
 -- how many chambers a cell has for each turn
 abbrev pub sides_of : Kind → ℕ

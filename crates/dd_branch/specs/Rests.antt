@@ -1,8 +1,8 @@
 -- Sums over the places from each one on.
 use Rattle.std.specs.Prelude.{◌≡◌, ℕ, ◌+◌, ◌*◌, ◌<◌, ◌≤◌, List, length, slice_index, slice_index_or}
 use Rattle.std.specs.Int.{bit_at}
-use Rattle.dd_branch.specs.declared.places.Place.{Place}
-use Rattle.dd_branch.specs.declared.rests.Rests.{Rests}
+use Rattle.dd_branch.specs.declared.degrees.places.Place.{Place}
+use Rattle.dd_branch.specs.declared.degrees.rests.Rests.{Rests}
 
 -- With each share of a place, what later degrees may have beyond their least is something that all of these may have beyond
 -- theirs. Both are told by bits, that of e at 63 - e, and 64 and more is not told.

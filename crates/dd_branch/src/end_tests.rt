@@ -2,10 +2,10 @@ ghost use Rattle.std.specs.Prelude.{◌≡◌, []};
 ghost use Rattle.dd_branch.specs.Assignment.{IsAssignment, IsAtRoot};
 ghost use Rattle.dd_branch.specs.Entered.{HasBudget};
 
-use crate::assignment::Assignment;
-use crate::limits::has_limits;
-use crate::members::degrees;
-use crate::places::all_places;
+use crate::degrees::assignment::Assignment;
+use crate::degrees::limits::has_limits;
+use crate::degrees::members::members_of;
+use crate::degrees::places::all_places;
 use dd_canon::tied_starts;
 use dd_invol::{Table, opening, tables_under};
 use dd_model::{Allowed, Job, Request};
@@ -101,7 +101,7 @@ fn counts(alloc: Global, chambers: u32) -> Result<(u64, u64), Fail> {
             ends = ends.saturating_add(ends_of(alloc, &request, table)?);
         }
         for table in tables(alloc, &request, job)? {
-            members = members.saturating_add(degrees(alloc, table, &request)?.len() as u64);
+            members = members.saturating_add(members_of(alloc, table, &request)?.len() as u64);
         }
     }
     Ok((ends, members))

@@ -1,22 +1,14 @@
 //! The search for the members of a catalogue under a job, and the degrees of a table.
 #![tactic(auto)]
 
-mod assignment;
-mod descent;
+mod degrees;
 mod laws;
-mod level;
-mod levels;
-mod limits;
-mod members;
-mod minimality;
-mod places;
-mod rests;
 mod search;
 
-pub use descent::Descent;
+pub use degrees::members::{add_members_of, members_of};
 pub use laws::{flat_symbols_have_small_shares, lists_under_an_opening_are_the_catalogue};
-pub use members::{add_degrees, degrees};
 pub use search::Search;
+pub use search::descent::Descent;
 
 #[cfg(test)]
 mod end_tests;

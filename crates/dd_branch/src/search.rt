@@ -7,12 +7,16 @@ ghost use Rattle.dd_find.specs.Under.{AreUnder, Appends};
 ghost use Rattle.dd_partial.specs.Stem.{size_of};
 ghost use Rattle.dd_branch.specs.Descent.{GoesBack};
 
-use crate::descent::Descent;
+pub(crate) mod descent;
+mod level;
+mod levels;
+
 use dd_ends::PathShares;
 use dd_front::Finder;
 use dd_invol::child;
 use dd_list::SymbolList;
 use dd_model::{Job, Memory, Request};
+use descent::Descent;
 use std::alloc::Global;
 use std::marker::Model;
 

@@ -22,7 +22,7 @@ fn members(alloc: Global, size: u8, numbers: &[u8]) -> Result<SymbolList, Fail> 
         return Ok(SymbolList::new(alloc));
     }
     match Table::of(alloc, size, numbers)? {
-        Some(table) => Ok(degrees(alloc, table, &asked())?),
+        Some(table) => Ok(members_of(alloc, table, &asked())?),
         None => Ok(SymbolList::new(alloc)),
     }
 }
@@ -33,7 +33,7 @@ fn add_members(alloc: Global, size: u8, numbers: &[u8], list: &mut SymbolList) -
         return Ok(());
     }
     if let Some(table) = Table::of(alloc, size, numbers)? {
-        add_degrees(alloc, table, &asked(), list)?;
+        add_members_of(alloc, table, &asked(), list)?;
     }
     Ok(())
 }
@@ -126,7 +126,7 @@ fn too_little_curvature(rt: HostRuntime) -> Result<(), Fail> {
     let table = Table::of(rt.alloc(), 32, SQUARES_IN_MIRRORS.as_slice())?;
     assert!(rt; table.is_some());
     if let Some(table) = table {
-        let found = degrees(rt.alloc(), table, &asked())?;
+        let found = members_of(rt.alloc(), table, &asked())?;
         assert_eq!(rt; found.len(), 0);
     }
     Ok(())

@@ -3,8 +3,8 @@ use Rattle.dd_branch.specs.Assignment.{next_place, shortened, told}
 use Rattle.dd_branch.specs.Budget.{no_place}
 use Rattle.dd_branch.specs.Choice.{HasBranching, IsChoice}
 use Rattle.dd_branch.specs.Entered.{HasEntered}
-use Rattle.dd_branch.specs.declared.assignment.Assignment.{Assignment}
-use Rattle.dd_branch.specs.declared.places.Place.{Place}
+use Rattle.dd_branch.specs.declared.degrees.assignment.Assignment.{Assignment}
+use Rattle.dd_branch.specs.declared.degrees.places.Place.{Place}
 use Rattle.dd_branch.proofs.Advancing.{IsDegreeWith, branching_of, budget_more, part_of_degree, room_here, some_sides, sound_next, tile_choice, vertex_choice, with_list}
 use Rattle.dd_branch.proofs.Bits.{bit_left, highest_set}
 use Rattle.dd_branch.proofs.end_tests.+count_ends.Goals as goal
