@@ -1,5 +1,6 @@
 use Rattle.std.proofs.Common.{◌∙◌, refl, sym, subst, arith}
 use Rattle.std.proofs.lemmas.Result.{err_from_is_err_and}
+use Rattle.dd_model.specs.Request.{IsValid}
 use Rattle.dd_front.specs.Machine.{jobs_of}
 use Rattle.dd_board.specs.Desk.{AreJobsOf}
 use Rattle.dd_catalogue.specs.Runs.{start_of}
@@ -37,6 +38,12 @@ loop-more-init g c =
       λ sure. (sure, refl),
       refl,
     )
+
+pub do_round-requires-clause-request : goal.do_round-requires-clause-request
+do_round-requires-clause-request g c κs within = c.loop-more.invariant.0.way.emitted.held.request ∙ sym (c.loop-more.invariant.8 ∙ c.requires.request)
+
+pub do_round-requires-clause-valid : goal.do_round-requires-clause-valid
+do_round-requires-clause-valid g c κs within = subst IsValid (sym (c.loop-more.invariant.8 ∙ c.requires.request)) c.requires.valid
 
 pub do_round-requires-clause-jobs : goal.do_round-requires-clause-jobs
 do_round-requires-clause-jobs g c κs within =
