@@ -1,10 +1,11 @@
-ghost use Rattle.std.specs.Prelude.{◌≡◌, ℕ, ◌*◌, ◌+◌, ◌≤◌, ◌<◌, [], ◌∷◌, ◌++◌, IsTrue, IfOk, OnOk, length};
+ghost use Rattle.std.specs.Prelude.{◌≡◌, ℕ, ◌*◌, ◌+◌, ◌≤◌, ◌<◌, [], ◌∷◌, ◌++◌, IsTrue, IsFalse, IfOk, OnOk, length};
 ghost use Rattle.std.specs.Bool.{OnTrue, OnFalse};
 ghost use Rattle.dd_model.specs.Request.{IsValid};
 ghost use Rattle.dd_model.specs.Wanted.{IsMember};
 ghost use Rattle.dd_model.specs.Jobs.{AreExtensions};
 ghost use Rattle.dd_model.specs.Lists.{Begins};
 ghost use Rattle.dd_find.specs.Under.{AreUnder, Appends, HasNothingUnder};
+ghost use Rattle.dd_partial.specs.Stem.{HasAbsorbed, IsStem};
 
 use crate::degrees::members::{add_tied, with_places};
 use crate::search::levels::Levels;
@@ -19,8 +20,8 @@ use std::alloc::Global;
 use std::marker::Model;
 
 /// A search for the members of one size of a catalogue: a prefix with its table, the shares of the
-/// table's paths, and what there was before each number. It grows and is shortened in place, and no
-/// call but `add` allocates.
+/// table's paths, and what there was before each number. It grows and is shortened in place, in room
+/// that is taken once: only what lists members or jobs allocates.
 #[derive(Drop)]
 pub struct Descent {
     alloc: Global,
@@ -42,6 +43,19 @@ impl Model for Descent {
       shares = record { classes = a.classes; sides = a.levels.sides };
       levels = a.levels.before;
     } };
+}
+
+/// Takes in the numbers that are known after the prefix, where that is asked.
+#[inline(always)]
+fn absorb(stem: &mut Stem, with_known: bool)
+    requires { IsStem stem.old }
+    ensures stem { IsStem stem.new }
+    ensures absorbed { HasAbsorbed stem.old stem.new }
+    ensures same { IsFalse with_known → stem.new ≡ stem.old }
+{
+    if with_known {
+        stem.absorb();
+    }
 }
 
 impl Descent {
@@ -101,16 +115,18 @@ impl Descent {
                 .rules_out_number(&self.classes, self.stem.rows(), place, number)
     }
 
-    /// Puts a number at the end of the prefix, and all that are known after it, with a level for
-    /// what there was, unless commuting forbids the number or the next chamber is then one that was
-    /// not met.
-    fn put(&mut self, number: u8, numbers: usize, rows: usize) -> bool
+    /// Puts a number at the end of the prefix, and where that is asked all that are known after it,
+    /// with a level for what there was, unless commuting forbids the number or the next chamber is then
+    /// one that was not met.
+    fn put(&mut self, number: u8, with_known: bool, numbers: usize, rows: usize) -> bool
         requires descent { IsDescent self.old }
         requires numbers { numbers ≡ length (prefix_of self.old.stem) }
         requires rows { rows ≡ depth_of self.old.stem.rows }
         requires room { length (prefix_of self.old.stem) < 3 * size_of self.old.stem }
         ensures descent { OnTrue result (IsDescent self.new) }
         ensures alive { OnTrue result (HasDescended number self.old self.new) }
+        ensures alone { OnTrue result (IsFalse with_known
+            → prefix_of self.new.stem ≡ prefix_of self.old.stem ++ number ∷ []) }
         ensures some { OnTrue result (1 ≤ length self.new.levels) }
         ensures undone { OnTrue result ((sides : Sides)
             → shorter (with_paths self.new sides) ≡ self.old) }
@@ -122,7 +138,7 @@ impl Descent {
         if !self.stem.put(number) {
             return false;
         }
-        self.stem.absorb();
+        absorb(&mut self.stem, with_known);
         if self.stem.is_stuck() {
             self.stem.cut(numbers, rows);
             return false;
@@ -188,71 +204,16 @@ impl Descent {
         self.levels.drop_last();
     }
 
-    /// Puts a number at the end of the prefix, and none that is known after it, with a level for what
-    /// there was, unless commuting forbids the number or the next chamber is then one that was not met.
-    fn put_alone(&mut self, number: u8, numbers: usize, rows: usize) -> bool
-        requires descent { IsDescent self.old }
-        requires numbers { numbers ≡ length (prefix_of self.old.stem) }
-        requires rows { rows ≡ depth_of self.old.stem.rows }
-        requires room { length (prefix_of self.old.stem) < 3 * size_of self.old.stem }
-        ensures descent { OnTrue result (IsDescent self.new) }
-        ensures request { OnTrue result (self.new.request ≡ self.old.request) }
-        ensures size { OnTrue result (size_of self.new.stem ≡ size_of self.old.stem) }
-        ensures longer { OnTrue result
-            (prefix_of self.new.stem ≡ prefix_of self.old.stem ++ number ∷ []) }
-        ensures some { OnTrue result (1 ≤ length self.new.levels) }
-        ensures undone { OnTrue result ((sides : Sides)
-            → shorter (with_paths self.new sides) ≡ self.old) }
-        ensures same { OnFalse result (self.new ≡ self.old) }
-        ensures dead { OnFalse result
-            (HasNothingUnder (IsMember self.old.request) (size_of self.old.stem)
-            (prefix_of self.old.stem ++ number ∷ [])) }
-    {
-        if !self.stem.put(number) {
-            return false;
-        }
-        if self.stem.is_stuck() {
-            self.stem.cut(numbers, rows);
-            return false;
-        }
-        let starts = self.starts.mark();
-        self.levels.push(numbers, rows, starts);
-        true
-    }
-
-    /// Puts a number at the end of the prefix, and none that is known after it, unless it is sure that
-    /// no member is under the longer prefix.
-    fn grow(&mut self, number: u8) -> bool
-        requires back { GoesBack self.old }
-        requires room { length (prefix_of self.old.stem) < 3 * size_of self.old.stem }
-        ensures back { GoesBack self.new }
-        ensures request { self.new.request ≡ self.old.request }
-        ensures size { size_of self.new.stem ≡ size_of self.old.stem }
-        ensures longer { OnTrue result
-            (prefix_of self.new.stem ≡ prefix_of self.old.stem ++ number ∷ []) }
-        ensures dead { OnFalse result
-            (HasNothingUnder (IsMember self.old.request) (size_of self.old.stem)
-            (prefix_of self.old.stem ++ number ∷ [])) }
-    {
-        let numbers = self.stem.prefix().len();
-        let rows = self.stem.mark();
-        if !self.put_alone(number, numbers, rows) {
-            return false;
-        }
-        if self.is_dead(numbers, rows) {
-            self.drop_level();
-            return false;
-        }
-        true
-    }
-
-    /// Puts a number at the end of the prefix, and all that are known after it, unless it is sure
-    /// that no member is under the longer prefix.
-    fn descend(&mut self, number: u8) -> bool
+    /// Puts a number at the end of the prefix, and where that is asked all that are known after it,
+    /// unless it is sure that no member is under the longer prefix.
+    fn descend(&mut self, number: u8, with_known: bool) -> bool
         requires descent { IsDescent self.old }
         requires room { length (prefix_of self.old.stem) < 3 * size_of self.old.stem }
         ensures descent { IsDescent self.new }
         ensures alive { OnTrue result (HasDescended number self.old self.new) }
+        ensures alone { OnTrue result (IsFalse with_known
+            → prefix_of self.new.stem ≡ prefix_of self.old.stem ++ number ∷ []) }
+        ensures some { OnTrue result (1 ≤ length self.new.levels) }
         ensures undone { OnTrue result (shorter self.new ≡ self.old) }
         ensures same { OnFalse result (self.new ≡ self.old) }
         ensures dead { OnFalse result
@@ -261,7 +222,7 @@ impl Descent {
     {
         let numbers = self.stem.prefix().len();
         let rows = self.stem.mark();
-        if !self.put(number, numbers, rows) {
+        if !self.put(number, with_known, numbers, rows) {
             return false;
         }
         if self.is_dead(numbers, rows) {
@@ -322,7 +283,7 @@ impl Descent {
     {
         self.go_back(prefix);
         for place in self.stem.prefix().len()..prefix.len() {
-            if !self.grow(prefix[place]) {
+            if !self.descend(prefix[place], false) {
                 return false;
             }
         }
@@ -410,7 +371,7 @@ impl PrefixSearch for Descent {
     }
 
     fn enter(&mut self, number: u8) -> bool {
-        self.descend(number)
+        self.descend(number, true)
     }
 
     fn leave(&mut self, _mark: usize) {
