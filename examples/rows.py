@@ -91,6 +91,20 @@ NOT_TAKEN = (
     "exercise 1 10001",
     "exercise 2147483648 1",
     "exercise 1 1 --workers 1",
+    "Catalogue 2",
+    "help",
+    "-h",
+    "canon -- -f",
+    "catalogue 00000000002",
+    "catalogue -1",
+    "catalogue 2 -t 1",
+    "catalogue 2 --tiles=0",
+    "catalogue 2 --minimal --minimal",
+    "catalogue 2 --faces 5-3",
+    "catalogue 2 --faces 3,",
+    "catalogue 2 --faces 3 --least-face 3",
+    "catalogue 2 --faces --minimal",
+    "draw f --cell=round",
 )
 
 FIRST_ROUND = "dressline checkpoint 2\nrun 1\nrequest 2 0 0 all\nfaces 3-216\ndegrees 3-216\nlines 3\nbytes 54\nat 2 1 1 2 2 2 1\n"
