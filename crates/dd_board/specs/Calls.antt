@@ -11,9 +11,9 @@ use Rattle.dd_front.specs.Machine.{entry_of}
 use Rattle.dd_front.specs.Allowed.{HasState}
 use Rattle.dd_front.specs.Rounds.{IsFirstOpen}
 use Rattle.dd_front.specs.Step.{IsNext}
-use Rattle.dd_board.specs.declared.naming.Naming.{Ghosts}
-use Rattle.dd_board.specs.declared.ticket.Taken.{Taken}
-use Rattle.dd_board.specs.declared.ticket.Taken.TheVariants.{Job as Given, Idle}
+use Rattle.dd_front.specs.declared.naming.Naming.{Ghosts}
+use Rattle.dd_front.specs.declared.ticket.Taken.{Taken}
+use Rattle.dd_front.specs.declared.ticket.Taken.TheVariants.{Job as Given, Idle}
 use Rattle.dd_board.specs.Desk.{DeskView}
 
 -- the event was allowed, the machine has taken it, and it stands at the end of the log

@@ -5,9 +5,9 @@ use Rattle.dd_front.specs.declared.event.Event.{Event}
 use Rattle.dd_front.specs.declared.event.Event.TheVariants.{Take, Look, Split, Finish, Back}
 use Rattle.dd_board.specs.declared.books.Books.{Books}
 use Rattle.dd_board.specs.declared.seat.Seat.{Seat}
-use Rattle.dd_board.specs.declared.naming.Naming.{Ghosts}
-use Rattle.dd_board.specs.declared.ticket.Taken.{Taken}
-use Rattle.dd_board.specs.declared.ticket.Taken.TheVariants.{Job as Given, Idle}
+use Rattle.dd_front.specs.declared.naming.Naming.{Ghosts}
+use Rattle.dd_front.specs.declared.ticket.Taken.{Taken}
+use Rattle.dd_front.specs.declared.ticket.Taken.TheVariants.{Job as Given, Idle}
 
 -- the sums are these
 abbrev pub HaveTotals : {K L S D B : Type 0} → Books K L S D B → ℕ → ℕ → ℕ → ℕ → ℕ → Type 0

@@ -1,4 +1,3 @@
-pub mod Names
 pub mod Desk
 pub mod Calls
 pub mod Shares

@@ -6,12 +6,11 @@ ghost use Rattle.dd_board.specs.Ledgers.{takes_in, looks_in, splits_in, finishes
 
 use crate::books::Books;
 use crate::desk::Desk;
-use crate::naming::Naming;
 use crate::seat::Seat;
 use crate::shares::Shares;
-use crate::ticket::{Taken, Ticket};
-use dd_list::SymbolList;
+use dd_front::{Naming, Taken, Ticket};
 use dd_model::{Job, Memory};
+use dd_symbol_list::SymbolList;
 use std::marker::Model;
 use std::sync::ledger::Ledger;
 

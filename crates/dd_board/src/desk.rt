@@ -15,11 +15,9 @@ ghost use Rattle.dd_board.specs.Calls.{IsNumberWhere, IsOutWith, MaySplitNow};
 
 use crate::copies::copy_of;
 use crate::looking::{has_out_with, place_of_first};
-use crate::naming::Naming;
-use crate::ticket::{Taken, Ticket};
-use dd_front::{Entry, Event, Front, JobList, Members};
-use dd_list::SymbolList;
+use dd_front::{Entry, Event, Front, JobList, Members, Naming, Taken, Ticket};
 use dd_model::{Job, Memory, Request};
+use dd_symbol_list::SymbolList;
 use std::alloc::Global;
 use std::marker::{Model, PhantomData};
 
@@ -135,11 +133,7 @@ impl<N: Naming> Desk<N> {
         let entry = first.number;
         let job = first.job.try_copy()?;
         self.book(Event::Take { worker, entry })?;
-        Ok(Taken::Job(Ticket {
-            entry,
-            job,
-            of: PhantomData,
-        }))
+        Ok(Taken::Job(Ticket::new(entry, job)))
     }
 
     // The ticket's number where its entry is out with its job, and else 0.
@@ -149,8 +143,8 @@ impl<N: Naming> Desk<N> {
             ticket.now.entry result }
         ensures request { self.now.machine.request ≡ N.request }
     {
-        if has_out_with(&self.front, ticket.entry, &ticket.job) {
-            ticket.entry
+        if has_out_with(&self.front, ticket.entry(), ticket.job()) {
+            ticket.entry()
         } else {
             0
         }

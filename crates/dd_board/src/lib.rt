@@ -8,16 +8,12 @@ mod copies;
 mod counted;
 mod desk;
 mod looking;
-mod naming;
 mod seat;
 mod seats;
 mod shares;
-mod ticket;
 
 pub use board::Board;
 pub use books::{Blanks, Books};
 pub use desk::Desk;
-pub use naming::Naming;
 pub use seat::Seat;
 pub use shares::Shares;
-pub use ticket::{Taken, Ticket};

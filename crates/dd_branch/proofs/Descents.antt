@@ -12,28 +12,28 @@ use Rattle.dd_model.specs.Wanted.{IsMember}
 use Rattle.dd_model.specs.Jobs.{IsMemberUnder, AreMembersUnder}
 use Rattle.dd_model.specs.declared.requests.Request.{Request}
 use Rattle.dd_model.specs.declared.jobs.Job.{Job}
-use Rattle.dd_find.specs.Under.{IsUnder, HasNothingUnder, AreUnder, Appends}
-use Rattle.dd_invol.specs.Table.{IsBareTable, IsTableOf, told}
-use Rattle.dd_partial.specs.Rows.{partial_of, depth_of, unwound, HasNumberAt}
-use Rattle.dd_partial.specs.Stem.{Any, IsStem, HasAbsorbed, prefix_of, size_of, cut_to, shortened}
-use Rattle.dd_partial.proofs.Absorbing.{absorbed_under}
-use Rattle.dd_partial.proofs.Stems.{any_under}
-use Rattle.dd_partial.proofs.Places.{code_at}
-use Rattle.dd_find.proofs.Prefixes.{none_under, shortened as shortened_under}
-use Rattle.dd_partial.specs.declared.rows.Rows.{Rows}
-use Rattle.dd_partial.specs.declared.stem.Stem.{Stem}
-use Rattle.dd_partial.proofs.Follows.{member_orderly}
-use Rattle.dd_invol.proofs.TableFronts.{front_same, front_begins}
-use Rattle.dd_invol.proofs.TableLemmas.{table_of_told}
+use Rattle.dd_jobs.specs.Under.{IsUnder, HasNothingUnder, AreUnder, Appends}
+use Rattle.dd_partial_table.specs.Table.{IsBareTable, IsTableOf, told}
+use Rattle.dd_partial_table.specs.Rows.{partial_of, depth_of, unwound, HasNumberAt}
+use Rattle.dd_partial_table.specs.Stem.{Any, IsStem, HasAbsorbed, prefix_of, size_of, cut_to, shortened}
+use Rattle.dd_partial_table.proofs.Absorbing.{absorbed_under}
+use Rattle.dd_partial_table.proofs.Stems.{any_under}
+use Rattle.dd_jobs.proofs.Places.{code_at}
+use Rattle.dd_partial_table.proofs.Prefixes.{none_under, shortened as shortened_under}
+use Rattle.dd_partial_table.specs.declared.rows.Rows.{Rows}
+use Rattle.dd_partial_table.specs.declared.stem.Stem.{Stem}
+use Rattle.dd_partial_table.proofs.Follows.{member_orderly}
+use Rattle.dd_partial_table.proofs.TableFronts.{front_same, front_begins}
+use Rattle.dd_partial_table.proofs.TableLemmas.{table_of_told}
 use Rattle.dd_symbol.specs.Images.{of_rows}
 use Rattle.dd_model.specs.Involutions.{HaveSameInvolutions}
-use Rattle.dd_branch.specs.Members.{AreMembersWith}
-use Rattle.dd_shares.specs.Shares.{IsSought}
-use Rattle.dd_ends.specs.Kept.{AreKept, with_sides}
-use Rattle.dd_ends.specs.declared.sides.Sides.{Sides}
-use Rattle.dd_ends.proofs.GrowthLemmas.{kept_of_longer}
+use Rattle.dd_degrees.specs.Members.{AreMembersWith}
+use Rattle.dd_bounds.specs.Shares.{IsSought}
+use Rattle.dd_bounds.specs.Kept.{AreKept, with_sides}
+use Rattle.dd_bounds.specs.declared.sides.Sides.{Sides}
+use Rattle.dd_bounds.proofs.EndGrowth.{kept_of_longer}
 use Rattle.dd_branch.specs.Descent.{Descending, IsDescent, HasDescended, with_level, with_paths, without_last, shorter}
-use Rattle.dd_branch.specs.declared.search.level.Level.{Level}
+use Rattle.dd_branch.specs.declared.level.Level.{Level}
 
 -- the search with what it had at a level
 abbrev pub at_level : Descending → Level → Descending

@@ -9,62 +9,13 @@ use Rattle.dd_model.specs.Wanted.{IsAscending, IsCatalogue}
 use Rattle.dd_model.specs.Jobs.{AreAscendingJobs, AreApart, IsMemberUnder, AreMembersUnder}
 use Rattle.dd_model.specs.declared.requests.Request.{Request}
 use Rattle.dd_model.specs.declared.jobs.Job.{Job}
-use Rattle.dd_model.proofs.Lists.{Contains-none, Contains-one, all_from_members, each_of}
-use Rattle.dd_model.proofs.Orders.{not_below_itself, not_below_both}
+use Rattle.dd_model.proofs.AscendingFronts.{begins_with}
+use Rattle.dd_model.proofs.Lists.{Contains-none, Contains-one, all_from_members}
 use Rattle.dd_model.proofs.Positions.{under_below}
 use Rattle.dd_model.proofs.JoinedLists.{under_append, under_one, first_parts}
-use Rattle.dd_invol.specs.Opening.{IsOpening}
-use Rattle.dd_invol.proofs.OpeningLaws.{covered, opening_apart}
+use Rattle.dd_jobs.specs.Opening.{IsOpening}
+use Rattle.dd_jobs.proofs.OpeningLaws.{covered, opening_apart}
 use Rattle.dd_model.specs.Joined.{AreUnderJobs, IsPartBelow, AreFirstMembers}
-
--- An ascending list that has the members of another, and besides Contains-one symbols that come after all of these, begins with it.
-pub begins_with : (ss ts : List Symbol) → IsAscending ss → IsAscending ts → ((s : Symbol) → Contains ss s → Contains ts s)
-    → ((t : Symbol) → Contains ts t → Contains ss t ⊎ AllByRecursion (λ m. IsBelow m t) ss) → (rest : List Symbol) × (ts ≡ ss ++ rest)
-begins_with [] ts hs ht inside after = (ts, refl)
-begins_with (s ∷ ss) [] hs ht inside after = absurd (Contains-none s (inside s (Contains-append_left (s ∷ []) ss s (Contains-push [] s))))
-begins_with (s ∷ ss) (t ∷ ts) hs ht inside after =
-    let same : t ≡ s = heads in
-    let tail = begins_with ss ts hs.1 ht.1 inner later in
-    (tail.0, ap (λ x. x ∷ ts) same ∙ ap (λ xs. s ∷ xs) tail.1)
-  where
-    own : Contains (s ∷ ss) s
-    own = Contains-append_left (s ∷ []) ss s (Contains-push [] s)
-
-    first_of : {A : Type 0} (a b : A) → Contains (a ∷ []) b → a ≡ b
-    first_of a b (zero, low, e) = e
-    first_of a b (suc i, low, e) = absurd (omega arith)
-
-    heads : t ≡ s
-    heads =
-        ⊎_elim
-        (λ here. first_of t s here)
-        (λ further.
-        let t_below : IsBelow t s = each_of (IsBelow t) ts s ht.0 further in
-        ⊎_elim
-        (λ among. ⊎_elim
-        (λ first. sym (first_of s t first))
-        (λ past. absurd (not_below_both s t (each_of (IsBelow s) ss t hs.0 past) t_below))
-        (Contains-append_cases (s ∷ []) ss t among))
-        (λ above. absurd (not_below_both s t above.0 t_below))
-        (after t (Contains-append_left (t ∷ []) ts t (Contains-push [] t))))
-        (Contains-append_cases (t ∷ []) ts s (inside s own))
-
-    inner : (x : Symbol) → Contains ss x → Contains ts x
-    inner x there =
-        ⊎_elim
-        (λ first. absurd (not_below_itself s (subst (IsBelow s) (sym (first_of t x first) ∙ heads) (each_of (IsBelow s) ss x hs.0 there))))
-        (λ past. past)
-        (Contains-append_cases (t ∷ []) ts x (inside x (Contains-append_right (s ∷ []) ss x there)))
-
-    later : (x : Symbol) → Contains ts x → Contains ss x ⊎ AllByRecursion (λ m. IsBelow m x) ss
-    later x there =
-        ⊎_elim
-        (λ among. ⊎_elim
-        (λ first. absurd (not_below_itself s (subst (λ z. IsBelow z s) heads (subst (IsBelow t) (sym (first_of s x first)) (each_of (IsBelow t) ts x ht.0 there)))))
-        (λ past. inl past)
-        (Contains-append_cases (s ∷ []) ss x among))
-        (λ above. inr above.1)
-        (after x (Contains-append_right (t ∷ []) ts x there))
 
 -- each catalogue begins with its first members
 pub catalogue_begins : (q : Request) (ss ts : List Symbol) → AreFirstMembers q ss → IsCatalogue q ts → (rest : List Symbol) × (ts ≡ ss ++ rest)

@@ -5,13 +5,13 @@ use Rattle.std.proofs.lemmas.Option.{slice_get-get_or}
 use Rattle.std.specs.List.{slice_get}
 use Rattle.std.specs.declared.option.Option.{Option}
 use Rattle.std.specs.declared.option.Option.TheVariants.{None, Some}
-use Rattle.dd_partial.specs.Rows.{depth_of, popped, unwind}
-use Rattle.dd_partial.specs.Stem.{prefix_of, size_of}
-use Rattle.dd_partial.specs.declared.rows.Rows.{Rows}
-use Rattle.dd_ends.specs.Kept.{no_sides}
+use Rattle.dd_partial_table.specs.Rows.{depth_of, popped, unwind}
+use Rattle.dd_partial_table.specs.Stem.{prefix_of, size_of}
+use Rattle.dd_partial_table.specs.declared.rows.Rows.{Rows}
+use Rattle.dd_bounds.specs.Kept.{no_sides}
 use Rattle.dd_branch.specs.Descent.{Descending, GoesBack, IsDescent, gone_back, shorter, without_last}
 use Rattle.dd_branch.specs.Levels.{level_of}
-use Rattle.dd_branch.specs.declared.search.level.Level.{Level}
+use Rattle.dd_branch.specs.declared.level.Level.{Level}
 
 no_level : Level
 no_level = level_of 0 0 no_sides 0

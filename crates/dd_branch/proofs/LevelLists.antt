@@ -4,7 +4,7 @@ use Rattle.std.proofs.lemmas.List.{take-append-le, take-set, take_more_set, get_
 use Rattle.std.proofs.lemmas.Option.{slice_get-get_or}
 use Rattle.std.proofs.Math.Seq.{get_or-append_seam}
 use Rattle.dd_branch.specs.Levels.{Leveled, level_of, sides_of}
-use Rattle.dd_branch.specs.declared.search.level.Level.{Level}
+use Rattle.dd_branch.specs.declared.level.Level.{Level}
 
 -- what is told of levels, where so many are before the one where the search stands
 abbrev pub leveled : List Level → ℕ → Leveled

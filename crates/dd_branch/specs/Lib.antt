@@ -1,10 +1,3 @@
-pub mod Choice
-pub mod Place
-pub mod Budget
-pub mod Rests
-pub mod Assignment
-pub mod Entered
-pub mod Members
 pub mod Levels
 pub mod Descent
 pub mod Search

@@ -4,7 +4,7 @@ use Rattle.std.specs.Global.{Global}
 use Rattle.std.specs.declared.option.Option.{Option}
 use Rattle.std.specs.declared.option.Option.TheVariants.{None, Some}
 use Rattle.dd_model.specs.declared.requests.Request.{Request}
-use Rattle.dd_ends.specs.declared.path_shares.PathShares.{PathShares}
+use Rattle.dd_bounds.specs.declared.path_shares.PathShares.{PathShares}
 use Rattle.dd_branch.specs.Descent.{Descending, GoesBack}
 
 -- The way down that was kept, if there is one, is for the request, and goes back as it came.

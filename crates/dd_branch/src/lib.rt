@@ -1,18 +1,13 @@
-//! The search for the members of a catalogue under a job, and the degrees of a table.
+//! The search for the members of a catalogue under a job.
 #![tactic(auto)]
 
-mod degrees;
+mod descent;
 mod laws;
+mod level;
+mod levels;
 mod search;
 
-pub use degrees::members::{add_members_of, members_of};
+pub use dd_degrees::{add_members_of, members_of};
+pub use descent::Descent;
 pub use laws::{flat_symbols_have_small_shares, lists_under_an_opening_are_the_catalogue};
 pub use search::Search;
-pub use search::descent::Descent;
-
-#[cfg(test)]
-mod end_tests;
-#[cfg(test)]
-mod search_tests;
-#[cfg(test)]
-mod tests;

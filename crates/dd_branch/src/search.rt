@@ -3,20 +3,16 @@ ghost use Rattle.std.specs.Prelude.{◌≡◌, ◌*◌, ◌≤◌, ◌<◌, [], 
 ghost use Rattle.dd_model.specs.Request.{IsValid};
 ghost use Rattle.dd_model.specs.Jobs.{IsJobOf, AreExtensions, AreMembersUnder};
 ghost use Rattle.dd_model.specs.Wanted.{IsMember};
-ghost use Rattle.dd_find.specs.Under.{AreUnder, Appends};
-ghost use Rattle.dd_partial.specs.Stem.{size_of};
+ghost use Rattle.dd_jobs.specs.Under.{AreUnder, Appends};
+ghost use Rattle.dd_partial_table.specs.Stem.{size_of};
 ghost use Rattle.dd_branch.specs.Descent.{GoesBack};
 
-pub(crate) mod descent;
-mod level;
-mod levels;
-
-use dd_ends::PathShares;
+use crate::descent::Descent;
+use dd_bounds::PathShares;
 use dd_front::Finder;
-use dd_invol::child;
-use dd_list::SymbolList;
+use dd_jobs::child;
 use dd_model::{Job, Memory, Request};
-use descent::Descent;
+use dd_symbol_list::SymbolList;
 use std::alloc::Global;
 use std::marker::Model;
 

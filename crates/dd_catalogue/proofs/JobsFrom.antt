@@ -21,10 +21,10 @@ use Rattle.dd_model.proofs.Positions.{begun_before, under_wholly_before, not_bef
 use Rattle.dd_model.proofs.Without.{without_all, without_first, without_kept, without_none, without_pairs, without_there}
 use Rattle.dd_front.specs.declared.entry.Entry.{Entry}
 use Rattle.dd_front.specs.Machine.{StandsAt, jobs_of}
-use Rattle.dd_invol.specs.Opening.{IsOpening, IsOpeningJob}
-use Rattle.dd_invol.proofs.OpeningLaws.{opening_apart, opening_jobs, opening_covers}
+use Rattle.dd_jobs.specs.Opening.{IsOpening, IsOpeningJob}
+use Rattle.dd_jobs.proofs.OpeningLaws.{opening_apart, opening_jobs, opening_covers}
 use Rattle.dd_board.specs.Desk.{AreJobsOf}
-use Rattle.dd_catalogue.specs.Rounds.{AreJobsFrom}
+use Rattle.dd_pages.specs.Rounds.{AreJobsFrom}
 
 opening_pairs : (q : Request) (jobs : List Job) → IsOpening q jobs → ArePairs IsPartBelow jobs
 opening_pairs q jobs is = part_pairs jobs is.ascending (opening_apart q jobs is)

@@ -17,24 +17,24 @@ use Rattle.dd_front.specs.declared.entry.Entry.{Entry}
 use Rattle.dd_front.specs.Machine.{Machine, StandsAt, jobs_of}
 use Rattle.dd_front.specs.Step.{at_symbol}
 use Rattle.dd_front.proofs.Standing.{stands_once, stands_somewhere}
-use Rattle.dd_invol.specs.Opening.{IsOpeningJob}
+use Rattle.dd_jobs.specs.Opening.{IsOpeningJob}
 use Rattle.dd_check.specs.declared.checkpoint.Checkpoint.{Checkpoint}
 use Rattle.dd_ports.proofs.Growth.{Appends_trans}
 use Rattle.dd_front.specs.Rounds.{open_jobs}
-use Rattle.dd_chain.specs.Between.{AreLinesBetween}
-use Rattle.dd_chain.specs.Clauses.{HasWork}
-use Rattle.dd_chain.specs.Puts.{IsPut, IsStop, IsNextMember}
-use Rattle.dd_chain.specs.Starts.{Start, first_start}
-use Rattle.dd_catalogue.specs.Pages.{IsEmpty}
-use Rattle.dd_catalogue.specs.Rounds.{AreJobsFrom, IsBegun, AreOpen, IsRoundDone}
+use Rattle.dd_check.specs.Between.{AreLinesBetween}
+use Rattle.dd_check.specs.Clauses.{HasWork}
+use Rattle.dd_check.specs.ChainPuts.{IsPut, IsStop, IsNextMember}
+use Rattle.dd_check.specs.ChainStarts.{Start, first_start}
+use Rattle.dd_pages.specs.Pages.{IsEmpty}
+use Rattle.dd_pages.specs.Rounds.{AreJobsFrom, IsBegun, AreOpen, IsRoundDone}
 use Rattle.dd_catalogue.specs.Ways.{Way, IsUnderWay, IsFull, IsPartOut}
-use Rattle.dd_catalogue.specs.Runs.{IsLimit, IsPause, IsBeforePause, Finishes}
-use Rattle.dd_catalogue.specs.declared.finish.Finish.TheVariants.{Whole, Paused, CutShort}
-use Rattle.dd_catalogue.specs.declared.limit.Limit.{Limit}
-use Rattle.dd_catalogue.specs.Saves.{HoldsCheckAt, Saves, SavesFirst, IsOfRound, KeepsName, PutsCheck, PutsAtPause, LeavesName, FinishesName, HasRun}
-use Rattle.dd_catalogue.specs.declared.fault.RunFault.{RunFault}
-use Rattle.dd_catalogue.specs.declared.finish.Finish.{Finish}
-use Rattle.dd_catalogue.specs.declared.pages.Page.{Page}
+use Rattle.dd_pages.specs.Runs.{IsLimit, IsPause, IsBeforePause, Finishes}
+use Rattle.dd_pages.specs.declared.finish.Finish.TheVariants.{Whole, Paused, CutShort}
+use Rattle.dd_pages.specs.declared.limit.Limit.{Limit}
+use Rattle.dd_pages.specs.Saves.{HoldsCheckAt, Saves, SavesFirst, IsOfRound, KeepsName, PutsCheck, PutsAtPause, LeavesName, FinishesName, HasRun}
+use Rattle.dd_pages.specs.declared.fault.RunFault.{RunFault}
+use Rattle.dd_pages.specs.declared.finish.Finish.{Finish}
+use Rattle.dd_pages.specs.declared.pages.Page.{Page}
 use Rattle.dd_catalogue.proofs.Outcomes.{WentOut, went_out, held_between, lines_between, shown_earlier, finish_whole, finish_full, full_lines}
 use Rattle.dd_catalogue.proofs.JobsFrom.{from_opening, jobs_left, stands_at_job}
 use Rattle.dd_catalogue.proofs.WaySteps.{appends_nothing, none_done, way_first, way_round, way_part, full_part}

@@ -1,10 +1,6 @@
-pub mod PageLemmas
-pub mod PageParts
 pub mod RoundEntries
 pub mod JobsFrom
 pub mod WaySteps
 pub mod FirstLists
 pub mod Outcomes
-pub mod LineParts
-pub mod Sending
 pub mod KeptRuns

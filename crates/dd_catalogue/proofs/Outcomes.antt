@@ -25,20 +25,20 @@ use Rattle.dd_front.specs.Machine.{Machine, StandsAt, jobs_of}
 use Rattle.dd_front.specs.Step.{at_symbol}
 use Rattle.dd_front.proofs.Holding.{held_covered}
 use Rattle.dd_front.proofs.Standing.{stands_once, stands_somewhere, jobs_stand, before_stands}
-use Rattle.dd_branch.proofs.FirstMembers.{begins_with}
+use Rattle.dd_model.proofs.AscendingFronts.{begins_with}
 use Rattle.dd_ports.proofs.Growth.{Appends_trans}
-use Rattle.dd_chain.specs.Between.{AreMembersBetween, AreLinesBetween, IsNoEarlier}
-use Rattle.dd_chain.specs.Starts.{Start}
-use Rattle.dd_chain.proofs.Rests.{text_is_rest}
-use Rattle.dd_catalogue.specs.Pages.{HasLines, IsEmpty, IsFrontOut}
-use Rattle.dd_catalogue.proofs.PageLemmas.{all_written}
-use Rattle.dd_catalogue.specs.Rounds.{AreJobsFrom, AreOpen, IsRoundDone}
+use Rattle.dd_check.specs.Between.{AreMembersBetween, AreLinesBetween, IsNoEarlier}
+use Rattle.dd_check.specs.ChainStarts.{Start}
+use Rattle.dd_check.proofs.ChainRests.{text_is_rest}
+use Rattle.dd_pages.specs.Pages.{HasLines, IsEmpty, IsFrontOut}
+use Rattle.dd_pages.proofs.PageLemmas.{all_written}
+use Rattle.dd_pages.specs.Rounds.{AreJobsFrom, AreOpen, IsRoundDone}
 use Rattle.dd_catalogue.specs.Ways.{Way, IsUnderWay, IsFull, IsPartOut}
-use Rattle.dd_catalogue.specs.Runs.{IsPause, IsBeforePause, IsLimit, WritesRest, WritesUpTo, Finishes}
-use Rattle.dd_catalogue.specs.Outputs.{IsShown}
-use Rattle.dd_catalogue.specs.declared.finish.Finish.TheVariants.{Paused, CutShort}
-use Rattle.dd_catalogue.specs.declared.limit.Limit.{Limit}
-use Rattle.dd_catalogue.specs.declared.pages.Page.{Page}
+use Rattle.dd_pages.specs.Runs.{IsPause, IsBeforePause, IsLimit, WritesRest, WritesUpTo, Finishes}
+use Rattle.dd_pages.specs.Outputs.{IsShown}
+use Rattle.dd_pages.specs.declared.finish.Finish.TheVariants.{Paused, CutShort}
+use Rattle.dd_pages.specs.declared.limit.Limit.{Limit}
+use Rattle.dd_pages.specs.declared.pages.Page.{Page}
 use Rattle.dd_catalogue.proofs.JobsFrom.{from_covers}
 use Rattle.dd_catalogue.proofs.WaySteps.{way_round}
 

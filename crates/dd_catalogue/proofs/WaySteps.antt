@@ -30,13 +30,13 @@ use Rattle.dd_front.proofs.Entries.{jobs_opened}
 use Rattle.dd_front.proofs.Events.{held_next}
 use Rattle.dd_front.proofs.Holding.{held_first}
 use Rattle.dd_board.specs.Desk.{AreJobsOf}
-use Rattle.dd_chain.specs.Starts.{Start}
-use Rattle.dd_catalogue.specs.Pages.{IsEmpty, AddsAll, KeepsLines, WritesFront, WritesFrontOf}
-use Rattle.dd_catalogue.specs.Rounds.{IsBegun, AreOpen, AreDoneThenOpen, IsRoundDone}
+use Rattle.dd_check.specs.ChainStarts.{Start}
+use Rattle.dd_pages.specs.Pages.{IsEmpty, AddsAll, KeepsLines, WritesFront, WritesFrontOf}
+use Rattle.dd_pages.specs.Rounds.{IsBegun, AreOpen, AreDoneThenOpen, IsRoundDone}
 use Rattle.dd_catalogue.specs.Ways.{Way, AreRecent, AreOfRound, HasEmitted, EmitsMore, IsUnderWay, IsFull, IsPartOut, IsAny, GoesOn, FillsUp, WritesPart}
-use Rattle.dd_catalogue.specs.declared.pages.Page.{Page}
+use Rattle.dd_pages.specs.declared.pages.Page.{Page}
 use Rattle.dd_catalogue.proofs.JobsFrom.{from_jobs}
-use Rattle.dd_catalogue.proofs.PageLemmas.{front_kept}
+use Rattle.dd_pages.proofs.PageLemmas.{front_kept}
 use Rattle.dd_catalogue.proofs.RoundEntries.{open_all, opened_open, round_jobs, round_entries, done_in_round}
 
 pub appends_nothing : (old : Option (List ℕ)) → Appends old old []

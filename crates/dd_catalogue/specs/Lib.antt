@@ -1,8 +1,1 @@
-pub mod Texts
-pub mod Parts
-pub mod Pages
-pub mod Rounds
 pub mod Ways
-pub mod Runs
-pub mod Outputs
-pub mod Saves

@@ -13,10 +13,10 @@ use Rattle.dd_front.specs.Joining.{IsDone}
 use Rattle.dd_front.specs.Machine.{Machine, StandsAt, jobs_of}
 use Rattle.dd_front.specs.Rounds.{open_jobs}
 use Rattle.dd_front.specs.Step.{at_symbol}
-use Rattle.dd_chain.specs.Starts.{Start}
-use Rattle.dd_catalogue.specs.Pages.{HasLines, IsFrontOut}
-use Rattle.dd_catalogue.specs.declared.pages.Page.{Page}
-use Rattle.dd_catalogue.specs.Rounds.{AreJobsFrom, AreDoneThenOpen}
+use Rattle.dd_check.specs.ChainStarts.{Start}
+use Rattle.dd_pages.specs.Pages.{HasLines, IsFrontOut}
+use Rattle.dd_pages.specs.declared.pages.Page.{Page}
+use Rattle.dd_pages.specs.Rounds.{AreJobsFrom, AreDoneThenOpen}
 
 -- A run under way: where it began, and its jobs; what it had written when the round began, what the sink held then, where
 -- the run stood, and the jobs of the round.

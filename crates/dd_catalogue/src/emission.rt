@@ -7,12 +7,12 @@ ghost use Rattle.dd_front.specs.declared.event.Event.TheVariants.{Part};
 ghost use Rattle.dd_front.specs.Allowed.{HasFirst, MayPart};
 ghost use Rattle.dd_front.specs.Room.{HasRoom, HasRoomToEmit};
 ghost use Rattle.dd_front.specs.Step.{Emits, EmitsPart};
-ghost use Rattle.dd_catalogue.specs.Rounds.{AreOpen};
+ghost use Rattle.dd_pages.specs.Rounds.{AreOpen};
 ghost use Rattle.dd_catalogue.specs.Ways.{IsAny, GoesOn, FillsUp, WritesPart};
 
-use crate::pages::Page;
 use crate::rounds::count_at_front;
 use dd_front::{Event, Front, Members};
+use dd_pages::Page;
 use dd_ports::{Sink, SinkFault};
 use std::thread::Threads;
 

@@ -8,14 +8,13 @@ ghost use Rattle.dd_front.specs.Allowed.{HasFirst};
 ghost use Rattle.dd_board.specs.Desk.{AreJobsOf};
 ghost use Rattle.dd_model.specs.Lists.{IsWithout};
 ghost use Rattle.dd_model.specs.Position.{IsPosition, IsWhollyBefore};
-ghost use Rattle.dd_catalogue.specs.Runs.{start_of};
-ghost use Rattle.dd_catalogue.specs.Rounds.{IsBegun, AreOpen, IsRoundDone, IsAtEnd};
+ghost use Rattle.dd_pages.specs.Runs.{start_of};
+ghost use Rattle.dd_pages.specs.Rounds.{IsBegun, AreOpen, IsRoundDone, IsAtEnd};
 
-use crate::pace::Pace;
-use crate::run::Run;
 use dd_front::{Entry, Finder, Front, State};
-use dd_invol::opening;
+use dd_jobs::opening;
 use dd_model::{Job, Memory, Position};
+use dd_pages::{Pace, Run};
 use dd_ports::Gate;
 use dd_steal::run_round;
 use std::alloc::Global;

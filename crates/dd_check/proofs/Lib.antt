@@ -1,3 +1,13 @@
+pub mod LinesUpTo
+pub mod Fronts
+pub mod ChainStops
+pub mod ReadingBack
+pub mod ChainParts
+mod ChainSteps
+pub mod Chained
+mod FoundRuns
+pub mod ChainRests
+pub mod Lone
 pub mod CheckFaults
 pub mod CheckReads
 pub mod Exclusion

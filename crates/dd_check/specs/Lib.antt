@@ -1,3 +1,10 @@
+pub mod Calls
+pub mod ChainStarts
+pub mod Between
+pub mod ChainPuts
+pub mod Clauses
+pub mod Chains
+pub mod ChainOutcomes
 pub mod Texts
 pub mod Numerals
 pub mod Sets

@@ -1,8 +1,8 @@
 ghost use Rattle.std.specs.Prelude.{◌⊎◌, ◌↔◌, IfOk, IsTrue};
-ghost use Rattle.dd_invol.specs.Opening.{IsOpeningJob};
+ghost use Rattle.dd_jobs.specs.Opening.{IsOpeningJob};
 ghost use Rattle.dd_check.specs.Places.{IsOldPlace, IsPlace, IsWholePlace};
 
-use dd_invol::is_opening;
+use dd_jobs::is_opening;
 use dd_model::{Job, Memory, Position, Prefix, Request};
 use std::alloc::Global;
 

@@ -1,7 +1,7 @@
 ghost use Rattle.std.specs.Prelude.{◌≡◌, ◌++◌, ◌≤◌, OnOk, OnErr, codes, decimal};
 ghost use Rattle.std.specs.List.{flat_map};
 ghost use Rattle.dd_model.specs.Line.{after_space};
-ghost use Rattle.dd_text.specs.Writing.{IsLonger};
+ghost use Rattle.dd_model.specs.Longer.{IsLonger};
 ghost use Rattle.dd_check.specs.Texts.{line_text};
 ghost use Rattle.dd_check.specs.Sets.{item_text};
 ghost use Rattle.dd_check.specs.Rows.{number_row, filter_word, limits_row, place_row};
@@ -10,8 +10,7 @@ ghost use Rattle.dd_check.specs.Writing.{run_of, next_item, AddsSet, AddsSetLine
 
 use crate::checkpoint::Checkpoint;
 use crate::runs::{begins_run, last_of_run};
-use dd_model::{Allowed, Job, Memory, Position, Request};
-use dd_text::put_bytes;
+use dd_model::{Allowed, Job, Memory, Position, Request, put_bytes};
 use itoa::Buffer;
 
 /// Appends the text of a checkpoint. At `Err` the text is as before.

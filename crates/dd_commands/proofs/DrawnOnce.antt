@@ -7,7 +7,7 @@ use Rattle.dd_model.specs.Symbol.{Symbol}
 use Rattle.dd_model.specs.Cell.{AreCells}
 use Rattle.dd_model.specs.Reading.{IsReadable}
 use Rattle.dd_lattice.specs.NetOf.{IsNet}
-use Rattle.dd_lattice.specs.declared.frame.Frame.{Frame}
+use Rattle.dd_model.specs.declared.frame.Frame.{Frame}
 use Rattle.dd_lattice.specs.declared.net.Net.{Net}
 use Rattle.dd_lattice.proofs.NetLemmas.{connected_net}
 use Rattle.dd_lattice.proofs.OneChoice.{one_vertices, one_net}

@@ -4,9 +4,10 @@ use Rattle.dd_model.specs.declared.pair.Pair.TheVariants.{Vertex}
 use Rattle.dd_model.specs.Symbol.{Symbol}
 use Rattle.dd_model.specs.Flat.{Flat}
 use Rattle.dd_model.specs.Cell.{AreCells}
+use Rattle.dd_model.specs.Code.{IsLeastForm}
 use Rattle.dd_covers.specs.TorusCover.{IsTorusCover}
 use Rattle.dd_lattice.specs.NetOf.{IsNet}
-use Rattle.dd_lattice.specs.declared.frame.Frame.{Frame}
+use Rattle.dd_model.specs.declared.frame.Frame.{Frame}
 use Rattle.dd_lattice.specs.declared.net.Net.{Net}
 use Rattle.dd_draw.specs.Document.{document}
 use Rattle.dd_draw.specs.Placement.{IsPlacement}
@@ -17,6 +18,12 @@ use Rattle.dd_commands.specs.Made.{IsLeastTorus, IsCurved}
 use Rattle.dd_commands.specs.declared.refusals.SymbolFault.{SymbolFault}
 use Rattle.dd_commands.specs.declared.refusals.SymbolFault.TheVariants.{TooManyChambers, BranchingTooLarge, NotFlat, TooManyVertices, TooWide}
 use Rattle.dd_commands.specs.declared.refusals.SymbolRefusal.{SymbolRefusal}
+
+-- the net of the least form of a torus
+pub record IsLeastNet (s : Symbol) (net : Net) : Type 0 where
+  pub form : Symbol
+  pub least : IsLeastForm s form
+  pub is_net : IsNet form net
 
 -- the net of the least form of the torus cover
 pub record IsTorusNet (s : Symbol) (net : Net) : Type 0 where

@@ -1,4 +1,4 @@
-use dd_lattice::Frame;
+use dd_model::Frame;
 use dd_template::Operation;
 
 /// A command that writes a line for each symbol of a file.

@@ -1,11 +1,12 @@
 ghost use Rattle.std.specs.Prelude.{◌≤◌, IfOk, IfErr, OnOk};
 ghost use Rattle.std.specs.List.{AllByRecursion};
 ghost use Rattle.dd_model.specs.Reading.{IsReadable};
+ghost use Rattle.dd_covers.specs.Torus.{IsTorus};
 ghost use Rattle.dd_lattice.specs.Nets.{IsConnectedNet};
 ghost use Rattle.dd_draw.specs.Limit.{IsNarrowPoint};
 ghost use Rattle.dd_draw.specs.Placement.{IsPlacement};
 ghost use Rattle.dd_draw.specs.Width.{Place, IsPlaceOf, IsWideAt};
-ghost use Rattle.dd_commands.specs.Drawings.{IsTorusNet, IsWideNet, IsUndrawn, AddsDrawing, AreDrawings, IsFirstUndrawn};
+ghost use Rattle.dd_commands.specs.Drawings.{IsLeastNet, IsTorusNet, IsWideNet, IsUndrawn, AddsDrawing, AreDrawings, IsFirstUndrawn};
 ghost use Rattle.dd_commands.specs.Stops.{IsStop};
 
 use crate::refusals::{SymbolFault, SymbolRefusal};
@@ -14,8 +15,8 @@ use crate::symbol_commands::flat_torus;
 use dd_canon::least_form;
 use dd_cells::count;
 use dd_draw::{MOST_VERTICES, PlaceFault, Places, place, svg};
-use dd_lattice::{Frame, Net, shifts};
-use dd_model::Pair;
+use dd_lattice::{Net, shifts};
+use dd_model::{Frame, Memory, Pair};
 use dd_symbol::Connected;
 use std::alloc::Global;
 
@@ -36,8 +37,17 @@ fn torus_net(alloc: Global, s: &Connected) -> Result<Net, Stop<SymbolFault>>
     if count > MOST_VERTICES {
         return Err(Stop::Refused(SymbolFault::TooManyVertices { count }));
     }
-    let form = least_form(alloc, &cover.symbol)?;
-    Ok(shifts(alloc, &form)?)
+    Ok(least_net(alloc, &cover.symbol)?)
+}
+
+/// The net of the least form of a torus.
+fn least_net(alloc: Global, torus: &Connected) -> Result<Net, Memory>
+    requires { IsTorus torus.now }
+    ensures net { IfOk result (λ net. IsLeastNet torus.now net) }
+    ensures connected { IfOk result (λ net. IsConnectedNet net) }
+{
+    let form = least_form(alloc, torus)?;
+    shifts(alloc, &form)
 }
 
 /// Where the vertices of a net stand.

@@ -1,12 +1,14 @@
 ghost use Rattle.std.specs.Prelude.{IfOk, IfErr};
 ghost use Rattle.std.specs.List.{AllByRecursion};
 ghost use Rattle.dd_model.specs.Flat.{Flat};
+ghost use Rattle.dd_model.specs.Code.{IsLeastForm};
 ghost use Rattle.dd_model.specs.Reading.{IsReadable};
 ghost use Rattle.dd_covers.specs.Torus.{IsTorus};
 ghost use Rattle.dd_covers.specs.TorusCover.{IsTorusCover};
+ghost use Rattle.dd_quotient.specs.Dual.{dual_of};
 ghost use Rattle.dd_template.specs.Named.{table_of_operation};
 ghost use Rattle.dd_commands.specs.InTurn.{AreInTurn};
-ghost use Rattle.dd_commands.specs.Made.{IsLeastImage, IsLeastTorus, IsDerived, IsTooLong, IsTooSharp, IsCurved, IsMade, IsFaultOf, IsFirstFault};
+ghost use Rattle.dd_commands.specs.Made.{IsLeastImage, IsLeastCover, IsLeastTorus, IsDerived, IsTooLong, IsTooSharp, IsCurved, IsMade, IsFaultOf, IsFirstFault};
 ghost use Rattle.dd_commands.specs.Files.{AreLinesOfMade};
 ghost use Rattle.dd_commands.specs.Stops.{IsStop};
 
@@ -94,14 +96,8 @@ fn made_of_one(
         SymbolCommand::Lines => Ok(s.try_copy(alloc)?),
         SymbolCommand::Canon => Ok(least_form(alloc, s)?),
         SymbolCommand::Minimal => least_image(alloc, s),
-        SymbolCommand::Dual => {
-            let dual = dual(alloc, s)?;
-            Ok(least_form(alloc, &dual)?)
-        }
-        SymbolCommand::Oriented => {
-            let cover = oriented(alloc, s)?;
-            Ok(least_form(alloc, &cover.symbol)?)
-        }
+        SymbolCommand::Dual => Ok(least_dual(alloc, s)?),
+        SymbolCommand::Oriented => Ok(least_cover(alloc, s)?),
         SymbolCommand::Torus => least_torus(alloc, s),
         SymbolCommand::Derived(operation) => derived(alloc, operation, s),
     }
@@ -120,6 +116,23 @@ fn least_image(alloc: Global, s: &Connected) -> Result<Connected, Stop<SymbolFau
         Err(MinimalFault::Memory) => return Err(Stop::Memory),
     };
     Ok(least_form(alloc, &image)?)
+}
+
+/// The least form of the dual.
+fn least_dual(alloc: Global, s: &Connected) -> Result<Connected, Memory>
+    ensures { IfOk result (λ form. IsLeastForm (dual_of s.now) form) }
+{
+    let dual = dual(alloc, s)?;
+    least_form(alloc, &dual)
+}
+
+/// The least form of the oriented cover.
+fn least_cover(alloc: Global, s: &Connected) -> Result<Connected, Memory>
+    requires { IsReadable s.now }
+    ensures { IfOk result (λ form. IsLeastCover s.now form) }
+{
+    let cover = oriented(alloc, s)?;
+    least_form(alloc, &cover.symbol)
 }
 
 /// The torus cover of a flat symbol.

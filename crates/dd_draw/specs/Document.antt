@@ -3,8 +3,8 @@ use Rattle.std.specs.Prelude.{ℕ, pos, ◌+ℤ◌, ◌-ℤ◌, List, ◌++◌, 
 use Rattle.std.specs.Fmt.{signed_decimal}
 use Rattle.std.specs.List.{flat_map}
 use Rattle.dd_cells.specs.declared.fractions.Fraction.{Fraction}
-use Rattle.dd_lattice.specs.declared.frame.Frame.{Frame}
-use Rattle.dd_lattice.specs.declared.frame.Frame.TheVariants.{Square, Hex}
+use Rattle.dd_model.specs.declared.frame.Frame.{Frame}
+use Rattle.dd_model.specs.declared.frame.Frame.TheVariants.{Square, Hex}
 use Rattle.dd_lattice.specs.declared.net_edge.NetEdge.{NetEdge}
 use Rattle.dd_draw.specs.Spots.{spot_of, from_spot, to_spot}
 use Rattle.dd_draw.specs.Extents.{extent_of}

@@ -1,7 +1,7 @@
 -- The box that spots lie in.
 use Rattle.std.specs.Prelude.{◌*◌, ◌^◌, ◌≤◌, nat_abs, List, [], ◌∷◌}
 use Rattle.std.specs.Int.{int_min, int_max}
-use Rattle.dd_lattice.specs.declared.frame.Frame.{Frame}
+use Rattle.dd_model.specs.declared.frame.Frame.{Frame}
 use Rattle.dd_lattice.specs.declared.net_edge.NetEdge.{NetEdge}
 use Rattle.dd_draw.specs.Spots.{start, printed}
 use Rattle.dd_draw.specs.declared.point.Point.{Point}

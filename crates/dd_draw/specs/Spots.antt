@@ -3,8 +3,8 @@ use Rattle.std.specs.Prelude.{◌*◌, ◌^◌, ◌≤◌, nat_abs, ℤ, pos, �
 use Rattle.std.specs.Int.{int_div_euclid}
 use Rattle.std.specs.List.{flat_map}
 use Rattle.dd_cells.specs.declared.fractions.Fraction.{Fraction}
-use Rattle.dd_lattice.specs.declared.frame.Frame.{Frame}
-use Rattle.dd_lattice.specs.declared.frame.Frame.TheVariants.{Square, Hex}
+use Rattle.dd_model.specs.declared.frame.Frame.{Frame}
+use Rattle.dd_model.specs.declared.frame.Frame.TheVariants.{Square, Hex}
 use Rattle.dd_lattice.specs.declared.net_edge.NetEdge.{NetEdge}
 use Rattle.dd_draw.specs.Placement.{point_of}
 use Rattle.dd_draw.specs.declared.point.Point.{Point}

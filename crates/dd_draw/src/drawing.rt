@@ -11,8 +11,8 @@ use crate::places::Places;
 use crate::point::Point;
 use crate::spot::Spot;
 use dd_cells::Fraction;
-use dd_lattice::{Frame, Net, NetEdge};
-use dd_model::Memory;
+use dd_lattice::{Net, NetEdge};
+use dd_model::{Frame, Memory};
 use std::alloc::{AllocError, Global};
 
 /// Of the frame, the corners of the cell after the first.

@@ -4,7 +4,7 @@ ghost use Rattle.dd_draw.specs.Spots.{IsSmallSpot, spot_of, moved, floor_of};
 
 use crate::point::Point;
 use dd_cells::Fraction;
-use dd_lattice::Frame;
+use dd_model::Frame;
 
 /// Where something is printed, in thousandths of the side of a cell.
 #[derive(Debug, Clone, Copy, PartialEq, Eq)]

@@ -2,10 +2,10 @@
 use Rattle.std.proofs.Common.{◌≡◌, List, ℕ, [], ◌∷◌, ◌++◌, map, append_assoc, refl, sym, ap, ◌∙◌, subst}
 use Rattle.std.proofs.lemmas.List.{append-nil, map-append}
 use Rattle.std.specs.List.{AllByRecursion}
-use Rattle.dd_chain.specs.Calls.{Call}
-use Rattle.dd_chain.specs.Chains.{IsPart, IsJoined, EndsAs}
+use Rattle.dd_check.specs.Calls.{Call}
+use Rattle.dd_check.specs.Chains.{IsPart, IsJoined, EndsAs}
 use Rattle.dd_suite.specs.Chains.{ProgramCall, call_of, chain_ending}
-use Rattle.dd_suite.specs.declared.status.Status.{Status}
+use Rattle.dd_tasks.specs.declared.status.Status.{Status}
 use Rattle.dd_drive.specs.Drives.{EndAs, GoesOn, GoOn}
 
 pub ends_last : (calls : List ProgramCall) (p : ProgramCall) → EndAs (calls ++ (p ∷ [])) p.status

@@ -9,26 +9,26 @@ use Rattle.dd_model.specs.Text.{beginning}
 use Rattle.dd_ports.specs.Causes.{Rose}
 use Rattle.dd_ports.specs.Sinks.{memory_sink_held}
 use Rattle.dd_ports.specs.declared.memory_sink.MemorySink.{MemorySink}
-use Rattle.dd_chain.specs.Between.{AreLinesBetween}
-use Rattle.dd_chain.specs.Calls.{Catalogue, Resume}
-use Rattle.dd_chain.specs.Starts.{Start, StartsAt}
-use Rattle.dd_chain.proofs.LinesUpTo.{joined_between}
-use Rattle.dd_chain.proofs.Lone.{none_asked}
-use Rattle.dd_catalogue.specs.Runs.{most_lines}
-use Rattle.dd_suite.specs.Arguments.{AreRefused}
-use Rattle.dd_suite.specs.Beginnings.{BeginsAt}
+use Rattle.dd_check.specs.Between.{AreLinesBetween}
+use Rattle.dd_check.specs.Calls.{Catalogue, Resume}
+use Rattle.dd_check.specs.ChainStarts.{Start, StartsAt}
+use Rattle.dd_check.proofs.LinesUpTo.{joined_between}
+use Rattle.dd_check.proofs.Lone.{none_asked}
+use Rattle.dd_pages.specs.Runs.{most_lines}
+use Rattle.dd_tasks.specs.Arguments.{AreRefused}
+use Rattle.dd_tasks.specs.Beginnings.{BeginsAt}
 use Rattle.dd_suite.specs.Chains.{ProgramCall, call_of}
-use Rattle.dd_suite.specs.Cuts.{Pauses, CutsShort}
-use Rattle.dd_suite.specs.Runs.{IsStopped, IsCallOf}
-use Rattle.dd_suite.specs.Words.{Order, AskForRun}
-use Rattle.dd_suite.specs.declared.status.Status.TheVariants as status
+use Rattle.dd_tasks.specs.Cuts.{Pauses, CutsShort}
+use Rattle.dd_tasks.specs.Runs.{IsStopped, IsCallOf}
+use Rattle.dd_tasks.specs.Words.{Order, AskForRun}
+use Rattle.dd_tasks.specs.declared.status.Status.TheVariants as status
 use Rattle.dd_suite.proofs.ProgramCalls.{begun}
-use Rattle.dd_suite.proofs.Requests.{one_order, not_both}
+use Rattle.dd_tasks.proofs.Requests.{one_order, not_both}
 use Rattle.dd_suite.proofs.RunCalls.{rose_earlier}
 use Rattle.dd_suite.proofs.RunEndings.{not_usage, not_refused}
 use Rattle.dd_drive.specs.Words.{AskToKeep, resume_words}
 use Rattle.dd_drive.specs.Runs.{Kept, IsRun}
-use Rattle.dd_chain.specs.Puts.{IsNextMember}
+use Rattle.dd_check.specs.ChainPuts.{IsNextMember}
 use Rattle.dd_drive.specs.Drives.{EndAs}
 use Rattle.dd_drive.specs.Sentences.{HasRisen, HasPaused, HoldsOutOfRange}
 use Rattle.dd_drive.proofs.HeldChecks.{IsUpTo, IsHeld, out_of_range, more_members}

@@ -5,14 +5,14 @@ use Rattle.std.specs.List.{AllByRecursion}
 use Rattle.dd_model.specs.Text.{beginning}
 use Rattle.dd_model.specs.declared.requests.Request.{Request}
 use Rattle.dd_ports.specs.declared.memory_sink.MemorySink.{MemorySink}
-use Rattle.dd_chain.specs.Calls.{Task, Catalogue, Resume}
-use Rattle.dd_chain.specs.Chains.{IsPart, IsJoined}
-use Rattle.dd_chain.specs.Starts.{Holds, Start, next_start, Starts, StartsAt}
-use Rattle.dd_chain.proofs.Parts.{starts_once}
+use Rattle.dd_check.specs.Calls.{Task, Catalogue, Resume}
+use Rattle.dd_check.specs.Chains.{IsPart, IsJoined}
+use Rattle.dd_check.specs.ChainStarts.{Holds, Start, next_start, Starts, StartsAt}
+use Rattle.dd_check.proofs.ChainParts.{starts_once}
 use Rattle.dd_suite.specs.Chains.{ProgramCall, call_of}
-use Rattle.dd_suite.specs.Words.{Order, AskForRun}
-use Rattle.dd_suite.specs.declared.status.Status.{Status}
-use Rattle.dd_suite.specs.declared.status.Status.TheVariants.{Done}
+use Rattle.dd_tasks.specs.Words.{Order, AskForRun}
+use Rattle.dd_tasks.specs.declared.status.Status.{Status}
+use Rattle.dd_tasks.specs.declared.status.Status.TheVariants.{Done}
 use Rattle.dd_drive.specs.declared.driven.Drive.{Drive}
 use Rattle.dd_drive.specs.Words.{AskToKeep, resume_words}
 use Rattle.dd_drive.specs.Drives.{Drives, EndAs, GoesOn}

@@ -17,7 +17,7 @@ use Rattle.dd_model.proofs.Lists.{all_from_members}
 use Rattle.dd_model.proofs.Orders.{not_below_itself}
 use Rattle.dd_model.proofs.Positions.{before_or_not, below_over, below_symbol}
 use Rattle.dd_model.proofs.Texts.{nothing_before}
-use Rattle.dd_branch.proofs.FirstMembers.{begins_with}
+use Rattle.dd_model.proofs.AscendingFronts.{begins_with}
 use Rattle.dd_check.specs.declared.checkpoint.Checkpoint.{Checkpoint}
 use Rattle.dd_check.specs.declared.faults.CheckFault.{CheckFault}
 use Rattle.dd_check.specs.Accepted.{IsCheckpointText}
@@ -25,15 +25,15 @@ use Rattle.dd_check.specs.Checks.{IsCheckText}
 use Rattle.dd_check.specs.Refusals.{HasFault}
 use Rattle.dd_check.proofs.Exclusion.{one_checkpoint, no_fault}
 use Rattle.dd_check.proofs.ShortTexts.{written_reads_back}
-use Rattle.dd_chain.specs.Between.{IsMemberBetween, AreLinesBetween}
-use Rattle.dd_chain.specs.Calls.{Catalogue, Resume, Call}
-use Rattle.dd_chain.specs.Clauses.{MeetsClauses}
-use Rattle.dd_chain.specs.Puts.{DoCountsFit, IsStop, IsNextMember}
-use Rattle.dd_chain.specs.Starts.{Holds, Start, next_start, Starts, StartsAt}
-use Rattle.dd_chain.proofs.LinesUpTo.{no_lines, joined_between}
-use Rattle.dd_chain.proofs.ReadingBack.{IsWritten, reads_or_not}
-use Rattle.dd_chain.proofs.Stops.{stop_place, stop_range}
-use Rattle.dd_suite.proofs.HeldTexts.{some_injective}
+use Rattle.dd_check.specs.Between.{IsMemberBetween, AreLinesBetween}
+use Rattle.dd_check.specs.Calls.{Catalogue, Resume, Call}
+use Rattle.dd_check.specs.Clauses.{MeetsClauses}
+use Rattle.dd_check.specs.ChainPuts.{DoCountsFit, IsStop, IsNextMember}
+use Rattle.dd_check.specs.ChainStarts.{Holds, Start, next_start, Starts, StartsAt}
+use Rattle.dd_check.proofs.LinesUpTo.{no_lines, joined_between}
+use Rattle.dd_check.proofs.ReadingBack.{IsWritten, reads_or_not}
+use Rattle.dd_check.proofs.ChainStops.{stop_place, stop_range}
+use Rattle.dd_tasks.proofs.HeldTexts.{some_injective}
 use Rattle.dd_drive.specs.Sentences.{HoldsOutOfRange}
 
 -- a run of the request begins after so many lines as there are before its position

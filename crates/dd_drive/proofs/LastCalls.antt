@@ -4,11 +4,11 @@ use Rattle.std.specs.List.{HoldsAt}
 use Rattle.dd_model.specs.Request.{IsValid}
 use Rattle.dd_model.specs.declared.requests.Request.{Request}
 use Rattle.dd_ports.specs.declared.memory_sink.MemorySink.{MemorySink}
-use Rattle.dd_chain.specs.Calls.{Task, Resume}
-use Rattle.dd_chain.specs.Starts.{Start, Starts, StartsAt}
+use Rattle.dd_check.specs.Calls.{Task, Resume}
+use Rattle.dd_check.specs.ChainStarts.{Start, Starts, StartsAt}
 use Rattle.dd_suite.specs.Chains.{ProgramCall, call_of}
-use Rattle.dd_suite.specs.declared.status.Status.{Status}
-use Rattle.dd_suite.specs.Words.{AskForRun}
+use Rattle.dd_tasks.specs.declared.status.Status.{Status}
+use Rattle.dd_tasks.specs.Words.{AskForRun}
 use Rattle.dd_suite.proofs.ProgramCalls.{program_meets}
 use Rattle.dd_drive.specs.Words.{AskToKeep, resume_words}
 use Rattle.dd_drive.specs.Drives.{EndAs}

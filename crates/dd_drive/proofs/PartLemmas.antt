@@ -6,9 +6,9 @@ use Rattle.dd_check.specs.declared.faults.CheckFault.{CheckFault}
 use Rattle.dd_check.specs.Accepted.{IsCheckpointText}
 use Rattle.dd_check.specs.Refusals.{HasFault}
 use Rattle.dd_check.proofs.Exclusion.{no_fault}
-use Rattle.dd_chain.specs.Starts.{Holds}
-use Rattle.dd_chain.proofs.Parts.{one_held}
-use Rattle.dd_suite.proofs.HeldTexts.{some_injective}
+use Rattle.dd_check.specs.ChainStarts.{Holds}
+use Rattle.dd_check.proofs.ChainParts.{one_held}
+use Rattle.dd_tasks.proofs.HeldTexts.{some_injective}
 use Rattle.dd_drive.specs.Making.{IsPartOf}
 
 -- a text with a fault is no checkpoint text

@@ -6,8 +6,8 @@ use Rattle.dd_words.specs.Grammar.{IsSaid, IsCommand}
 use Rattle.dd_words.specs.Layout.{IsPlain, argument, nothing}
 use Rattle.dd_words.specs.Values.{IsName}
 use Rattle.dd_words.specs.declared.commands.Command.TheVariants as command
-use Rattle.dd_chain.specs.Calls.{Catalogue, Resume}
-use Rattle.dd_suite.specs.Words.{Order, AskForRun}
+use Rattle.dd_check.specs.Calls.{Catalogue, Resume}
+use Rattle.dd_tasks.specs.Words.{Order, AskForRun}
 use Rattle.dd_drive.specs.Words.{AskToKeep, resume_words}
 
 -- what is asked for by the words that go on from the name

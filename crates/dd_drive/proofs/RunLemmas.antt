@@ -5,13 +5,13 @@ use Rattle.dd_model.specs.Request.{IsValid}
 use Rattle.dd_ports.specs.declared.memory_sink.MemorySink.{MemorySink}
 use Rattle.dd_words.proofs.Validity.{valid}
 use Rattle.dd_check.specs.declared.checkpoint.Checkpoint.{Checkpoint}
-use Rattle.dd_chain.specs.Calls.{Task, Call}
-use Rattle.dd_chain.specs.Chains.{AreResumed, IsChain, HasBegun}
-use Rattle.dd_chain.specs.Starts.{Holds}
+use Rattle.dd_check.specs.Calls.{Task, Call}
+use Rattle.dd_check.specs.Chains.{AreResumed, IsChain, HasBegun}
+use Rattle.dd_check.specs.ChainStarts.{Holds}
 use Rattle.dd_suite.specs.Chains.{ProgramCall, IsProgramCall, held_under, call_of}
-use Rattle.dd_suite.specs.Runs.{name_of}
-use Rattle.dd_suite.specs.Words.{Order, AskForRun}
-use Rattle.dd_suite.proofs.Requests.{one_order}
+use Rattle.dd_tasks.specs.Runs.{name_of}
+use Rattle.dd_tasks.specs.Words.{Order, AskForRun}
+use Rattle.dd_tasks.proofs.Requests.{one_order}
 use Rattle.dd_drive.specs.Words.{AskToKeep, resume_words}
 use Rattle.dd_drive.specs.Runs.{Kept, IsRun, AreRuns}
 use Rattle.dd_drive.proofs.ResumeWords.{resume_order, first_order, resume_asked}

@@ -5,10 +5,10 @@ use Rattle.std.specs.Io.KnownBytes.{Appends}
 use Rattle.dd_ports.specs.Sinks.{memory_sink_held}
 use Rattle.dd_ports.specs.declared.memory_sink.MemorySink.{MemorySink}
 use Rattle.dd_suite.specs.Chains.{ProgramCall}
-use Rattle.dd_suite.specs.Outside.{Before, After}
-use Rattle.dd_suite.specs.Runs.{name_of, IsCallOf}
-use Rattle.dd_suite.specs.Words.{Order}
-use Rattle.dd_suite.specs.declared.status.Status.{Status}
+use Rattle.dd_tasks.specs.Outside.{Before, After}
+use Rattle.dd_tasks.specs.Runs.{name_of, IsCallOf}
+use Rattle.dd_tasks.specs.Words.{Order}
+use Rattle.dd_tasks.specs.declared.status.Status.{Status}
 use Rattle.dd_suite.proofs.RunOutputs.{output_of}
 use Rattle.dd_drive.specs.Runs.{Kept, IsRun}
 

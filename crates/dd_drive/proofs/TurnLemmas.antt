@@ -4,8 +4,8 @@ use Rattle.std.proofs.lemmas.Bool.{ltb-false}
 use Rattle.std.proofs.lemmas.List.{get_or-set_same, take_rest}
 use Rattle.dd_ports.specs.Sinks.{memory_sink_held}
 use Rattle.dd_ports.specs.declared.memory_sink.MemorySink.{MemorySink}
-use Rattle.dd_suite.specs.declared.status.Status.{Status}
-use Rattle.dd_suite.specs.declared.status.Status.TheVariants.{Done}
+use Rattle.dd_tasks.specs.declared.status.Status.{Status}
+use Rattle.dd_tasks.specs.declared.status.Status.TheVariants.{Done}
 use Rattle.dd_drive.specs.declared.driven.Drive.{Drive}
 use Rattle.dd_drive.specs.Words.{AskToKeep, resume_words}
 use Rattle.dd_drive.specs.Drives.{Drives}

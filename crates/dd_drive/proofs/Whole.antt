@@ -5,15 +5,15 @@ use Rattle.dd_model.specs.Wanted.{IsCatalogue}
 use Rattle.dd_model.specs.declared.requests.Request.{Request}
 use Rattle.dd_ports.specs.Causes.{Rose}
 use Rattle.dd_ports.specs.declared.memory_sink.MemorySink.{MemorySink}
-use Rattle.dd_chain.specs.Calls.{Catalogue, Done}
-use Rattle.dd_chain.specs.Chains.{IsJoined}
-use Rattle.dd_chain.specs.Outcomes.{IsFront}
-use Rattle.dd_chain.proofs.Chained.{chain_ends, chain_writes}
+use Rattle.dd_check.specs.Calls.{Catalogue, Done}
+use Rattle.dd_check.specs.Chains.{IsJoined}
+use Rattle.dd_check.specs.ChainOutcomes.{IsFront}
+use Rattle.dd_check.proofs.Chained.{chain_ends, chain_writes}
 use Rattle.dd_suite.specs.Chains.{ProgramCall, call_of}
-use Rattle.dd_suite.specs.Words.{Order, AskFor}
-use Rattle.dd_suite.specs.declared.status.Status.TheVariants as status
+use Rattle.dd_tasks.specs.Words.{Order, AskFor}
+use Rattle.dd_tasks.specs.declared.status.Status.TheVariants as status
 use Rattle.dd_suite.proofs.ProgramCalls.{all_meet}
-use Rattle.dd_suite.proofs.Requests.{one_order}
+use Rattle.dd_tasks.proofs.Requests.{one_order}
 use Rattle.dd_drive.specs.declared.driven.Drive.{Drive}
 use Rattle.dd_drive.specs.Words.{AskToKeep, resume_words}
 use Rattle.dd_drive.specs.Drives.{Drives, EndAs}

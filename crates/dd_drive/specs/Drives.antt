@@ -1,10 +1,10 @@
 -- A chain of runs, how far it goes, and what it has written.
 use Rattle.std.specs.Prelude.{◌≡◌, ◌≢◌, ◌⊎◌, ℕ, List, [], ◌∷◌, None, IsSome, map, length}
 use Rattle.dd_ports.specs.declared.memory_sink.MemorySink.{MemorySink}
-use Rattle.dd_chain.specs.Chains.{IsJoined}
+use Rattle.dd_check.specs.Chains.{IsJoined}
 use Rattle.dd_suite.specs.Chains.{ProgramCall, call_of}
-use Rattle.dd_suite.specs.declared.status.Status.{Status}
-use Rattle.dd_suite.specs.declared.status.Status.TheVariants.{Done}
+use Rattle.dd_tasks.specs.declared.status.Status.{Status}
+use Rattle.dd_tasks.specs.declared.status.Status.TheVariants.{Done}
 use Rattle.dd_drive.specs.declared.driven.Drive.{Drive}
 use Rattle.dd_drive.specs.Runs.{Kept, AreRuns}
 

@@ -3,9 +3,9 @@ use Rattle.std.specs.Prelude.{◌≡◌, ◌⊎◌, ℕ, ◌+◌, List, [], Opti
 use Rattle.std.specs.List.{HoldsAt}
 use Rattle.dd_ports.specs.declared.memory_sink.MemorySink.{MemorySink}
 use Rattle.dd_check.specs.declared.checkpoint.Checkpoint.{Checkpoint}
-use Rattle.dd_chain.specs.Starts.{Holds}
+use Rattle.dd_check.specs.ChainStarts.{Holds}
 use Rattle.dd_suite.specs.Chains.{ProgramCall}
-use Rattle.dd_suite.specs.declared.status.Status.{Status}
+use Rattle.dd_tasks.specs.declared.status.Status.{Status}
 use Rattle.dd_drive.specs.Runs.{Kept, IsRun}
 
 -- a call of the program into the sink of this number, counted from 0

@@ -5,11 +5,11 @@ use Rattle.dd_ports.specs.Sinks.{memory_sink_held}
 use Rattle.dd_ports.specs.Stores.{memory_store_held}
 use Rattle.dd_ports.specs.declared.memory_sink.MemorySink.{MemorySink}
 use Rattle.dd_ports.specs.declared.memory_store.MemoryStore.{MemoryStore}
-use Rattle.dd_suite.specs.declared.status.Status.TheVariants.{Refused, Paused, StoreFault, SinkFault, TooManyLines}
-use Rattle.dd_suite.specs.Arguments.{AreRefused}
+use Rattle.dd_tasks.specs.declared.status.Status.TheVariants.{Refused, Paused, StoreFault, SinkFault, TooManyLines}
+use Rattle.dd_tasks.specs.Arguments.{AreRefused}
 use Rattle.dd_suite.specs.Chains.{ProgramCall, IsProgramCall}
-use Rattle.dd_suite.specs.Cuts.{Pauses, CutsShort}
-use Rattle.dd_suite.specs.Outside.{Before, After}
+use Rattle.dd_tasks.specs.Cuts.{Pauses, CutsShort}
+use Rattle.dd_tasks.specs.Outside.{Before, After}
 use Rattle.dd_drive.specs.Words.{resume_words}
 
 -- what the names of a store hold, and how often it has failed

@@ -10,10 +10,10 @@ use Rattle.dd_ports.specs.Sinks.{memory_sink_held}
 use Rattle.dd_ports.specs.declared.memory_sink.MemorySink.{MemorySink}
 use Rattle.dd_check.specs.declared.checkpoint.Checkpoint.{Checkpoint}
 use Rattle.dd_check.specs.Checks.{IsCheckText, AreCountsInRange}
-use Rattle.dd_chain.specs.Outcomes.{IsFront}
-use Rattle.dd_catalogue.specs.Runs.{most_lines}
-use Rattle.dd_suite.specs.Cuts.{Pauses}
-use Rattle.dd_suite.specs.Words.{AskFor}
+use Rattle.dd_check.specs.ChainOutcomes.{IsFront}
+use Rattle.dd_pages.specs.Runs.{most_lines}
+use Rattle.dd_tasks.specs.Cuts.{Pauses}
+use Rattle.dd_tasks.specs.Words.{AskFor}
 use Rattle.dd_drive.specs.Runs.{Kept}
 
 -- the bytes are the text of the catalogue that the words ask for

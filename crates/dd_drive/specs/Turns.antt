@@ -1,8 +1,8 @@
 -- One run of a chain, and what comes after it.
 use Rattle.std.specs.Prelude.{◌≡◌, ◌≢◌, ◌⊎◌, ℕ, ◌+◌, ◌<◌, List, ◌++◌, Option, Some, None, length}
 use Rattle.dd_ports.specs.declared.memory_sink.MemorySink.{MemorySink}
-use Rattle.dd_suite.specs.declared.status.Status.{Status}
-use Rattle.dd_suite.specs.declared.status.Status.TheVariants.{Done}
+use Rattle.dd_tasks.specs.declared.status.Status.{Status}
+use Rattle.dd_tasks.specs.declared.status.Status.TheVariants.{Done}
 use Rattle.dd_drive.specs.declared.turn.Turn.{Turn}
 use Rattle.dd_drive.specs.declared.turn.Turn.TheVariants.{Last, Next}
 use Rattle.dd_drive.specs.Runs.{Kept}

@@ -1,8 +1,8 @@
 -- Words that keep a checkpoint under a name, and words that go on from it.
 use Rattle.std.specs.Prelude.{ℕ, List, [], ◌∷◌, Option, Some, codes}
 use Rattle.dd_model.specs.declared.requests.Request.{Request}
-use Rattle.dd_chain.specs.Calls.{Catalogue}
-use Rattle.dd_suite.specs.Words.{AskForRun}
+use Rattle.dd_check.specs.Calls.{Catalogue}
+use Rattle.dd_tasks.specs.Words.{AskForRun}
 
 -- the words of a catalogue that keeps its checkpoint under the name
 pub record AskToKeep (words : List (List ℕ)) (name : List ℕ) : Type 0 where

@@ -1,4 +1,4 @@
-use dd_suite::Status;
+use dd_tasks::Status;
 
 /// What the runs of a chain came to.
 #[derive(Drop)]

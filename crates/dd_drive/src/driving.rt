@@ -3,7 +3,7 @@ ghost use Rattle.std.specs.Rc.{rc_str_bytes};
 ghost use Rattle.dd_ports.specs.Causes.{Rose};
 ghost use Rattle.dd_ports.specs.Stores.{memory_store_held};
 ghost use Rattle.dd_ports.specs.declared.memory_sink.MemorySink.{MemorySink};
-ghost use Rattle.dd_suite.specs.declared.status.Status.TheVariants as status;
+ghost use Rattle.dd_tasks.specs.declared.status.Status.TheVariants as status;
 ghost use Rattle.dd_drive.specs.Words.{AskToKeep, resume_words};
 ghost use Rattle.dd_drive.specs.Runs.{kept_of, HaveRun};
 ghost use Rattle.dd_drive.specs.Drives.{Drives};

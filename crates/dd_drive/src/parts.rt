@@ -1,6 +1,6 @@
 ghost use Rattle.std.specs.Prelude.{◌≡◌, ◌↔◌, ℕ, List, ◌++◌, Some, IfOk, IsTrue, MatchOption, take};
 ghost use Rattle.dd_check.specs.declared.checkpoint.Checkpoint.{Checkpoint};
-ghost use Rattle.dd_chain.specs.Starts.{Holds};
+ghost use Rattle.dd_check.specs.ChainStarts.{Holds};
 ghost use Rattle.dd_drive.specs.Making.{IsPartOf, IsNextNumber};
 
 use dd_check::{CheckFault, Checkpoint, read_checkpoint};

@@ -1,13 +1,14 @@
 ghost use Rattle.std.specs.Prelude.{◌≡◌, ◌≢◌, ◌⊎◌, ◌<◌, List, None, Some, MatchOption, false, true, map, length};
 ghost use Rattle.std.specs.Rc.{rc_str_bytes};
 ghost use Rattle.dd_ports.specs.Stores.{memory_store_held};
-ghost use Rattle.dd_suite.specs.Words.{Order, AskForRun};
-ghost use Rattle.dd_suite.specs.declared.status.Status.TheVariants.{Done};
+ghost use Rattle.dd_tasks.specs.Words.{Order, AskForRun};
+ghost use Rattle.dd_tasks.specs.declared.status.Status.TheVariants.{Done};
 ghost use Rattle.dd_drive.specs.Runs.{kept_of};
 ghost use Rattle.dd_drive.specs.Making.{RunsInto};
 
 use dd_ports::{Gate, MemorySink, MemoryStore, SureSink};
-use dd_suite::{Status, run};
+use dd_suite::run;
+use dd_tasks::Status;
 use std::alloc::Global;
 use std::rc::RcStr;
 use std::sync::Wait;

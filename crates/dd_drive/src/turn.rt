@@ -1,4 +1,4 @@
-use dd_suite::Status;
+use dd_tasks::Status;
 
 /// What comes after a run of a chain.
 #[derive(Clone, Copy)]

@@ -1,7 +1,7 @@
 ghost use Rattle.std.specs.Prelude.{◌≡◌, ◌<◌, List, IfOk, map, length};
 ghost use Rattle.std.specs.Rc.{rc_str_bytes};
-ghost use Rattle.dd_suite.specs.Words.{Order, AskForRun};
-ghost use Rattle.dd_suite.specs.declared.status.Status.{Status};
+ghost use Rattle.dd_tasks.specs.Words.{Order, AskForRun};
+ghost use Rattle.dd_tasks.specs.declared.status.Status.{Status};
 ghost use Rattle.dd_drive.specs.Runs.{kept_of};
 ghost use Rattle.dd_drive.specs.Making.{RunsInto};
 ghost use Rattle.dd_drive.specs.Turns.{IsTurn};

@@ -1,3 +1,4 @@
+mod ValidRequests
 pub mod Placed
 pub mod Replaced
 mod Kept

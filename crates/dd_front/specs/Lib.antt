@@ -1,3 +1,4 @@
+pub mod Names
 pub mod Machine
 pub mod Allowed
 pub mod Step

@@ -14,10 +14,12 @@ mod laws;
 mod listing;
 mod looking;
 mod members;
+mod naming;
 mod rounds;
 mod saving;
 mod span;
 mod steps;
+mod ticket;
 
 pub use entry::{Entry, State};
 pub use event::Event;
@@ -29,4 +31,6 @@ pub use laws::{
     absorbing_keeps_what_is_held, an_event_keeps_what_is_held, what_is_held_is_covered,
 };
 pub use members::Members;
+pub use naming::Naming;
 pub use span::Span;
+pub use ticket::{Taken, Ticket};

@@ -1,17 +1,4 @@
 pub mod ImageCells
-pub mod JobLists
-pub mod OpeningLaws
-pub mod Extensions
-pub mod TableFronts
-pub mod Unbranched
-pub mod TableLemmas
-pub mod WalkLemmas
-pub mod WalkOrder
-pub mod BareTables
-pub mod TiedTables
-pub mod WholeTables
-pub mod WholeStems
-pub mod LeastStems
 pub mod SoughtStems
 pub mod WalkTables
 pub mod TableSearches

@@ -1,28 +1,16 @@
 ghost use Rattle.std.specs.Prelude.{◌≡◌, ◌+◌, [], ◌∷◌, ◌++◌, ◌*◌, ◌≤◌, ◌<◌, IfOk, MatchOption, length};
 ghost use Rattle.std.specs.Bool.{OnFalse};
 ghost use Rattle.dd_model.specs.Request.{IsValid};
-ghost use Rattle.dd_model.specs.Jobs.{extended, AreExtensions, AreChildren};
+ghost use Rattle.dd_model.specs.Jobs.{AreExtensions, AreChildren};
 ghost use Rattle.dd_invol.specs.Children.{IsStemOf};
-ghost use Rattle.dd_partial.specs.Stem.{Any, IsStem, prefix_of, size_of};
-ghost use Rattle.dd_find.specs.Under.{HasNothingUnder};
-ghost use Rattle.dd_partial.specs.Visit.{IsVisiting};
+ghost use Rattle.dd_partial_table.specs.Stem.{Any, IsStem, prefix_of, size_of};
+ghost use Rattle.dd_jobs.specs.Under.{HasNothingUnder};
+ghost use Rattle.dd_partial_table.specs.Visit.{IsVisiting};
 
-use dd_model::{Job, Memory, Prefix, Request};
-use dd_partial::{Stem, Visit, can_follow};
+use dd_jobs::{can_follow, child};
+use dd_model::{Job, Memory, Request};
+use dd_partial_table::{Stem, Visit};
 use std::alloc::Global;
-
-/// A job with one number more.
-pub fn child(alloc: Global, job: &Job, number: u8) -> Result<Job, Memory>
-    ensures { IfOk result (λ child. child ≡ extended job.now number) }
-{
-    let mut numbers = Vec::from_slice(alloc, job.prefix.as_slice())?;
-    numbers.push(number)?;
-    let prefix = Prefix::from_slice(alloc, &numbers)?;
-    Ok(Job {
-        size: job.size,
-        prefix,
-    })
-}
 
 /// The stem of a job, unless it is sure that nothing is under it.
 pub(crate) fn stem_of(job: &Job, visit: &mut Visit) -> Option<Stem>

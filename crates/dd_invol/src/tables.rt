@@ -1,11 +1,9 @@
 ghost use Rattle.std.specs.Prelude.{◌≡◌, ◌*◌, ◌≤◌, [], length};
 ghost use Rattle.std.specs.Bool.{OnTrue, OnFalse};
-ghost use Rattle.dd_find.specs.Under.{HasNothingUnder};
+ghost use Rattle.dd_jobs.specs.Under.{HasNothingUnder};
 
-use crate::whole_stems::is_least;
-use dd_find::PrefixSearch;
 use dd_model::Request;
-use dd_partial::{Stem, Visit};
+use dd_partial_table::{PrefixSearch, Stem, Visit, is_least};
 use std::marker::Model;
 
 /// A search for tables of one size, of which nothing but leastness is asked: a stem that grows and
@@ -22,7 +20,7 @@ impl Model for Tables {
 
     ghost Value = { Growing };
 
-    ghost use Rattle.dd_partial.specs.Visit.{IsVisiting};
+    ghost use Rattle.dd_partial_table.specs.Visit.{IsVisiting};
 
     ghost view = { λ a. record { request = a.request; stem = a.stem } };
 
@@ -30,10 +28,10 @@ impl Model for Tables {
 }
 
 impl Tables {
-    ghost use Rattle.dd_partial.specs.Visit.{IsVisiting};
-    ghost use Rattle.dd_partial.specs.Rows.{depth_of};
-    ghost use Rattle.dd_partial.specs.Stem.{Any, IsStem, prefix_of, size_of};
-    ghost use Rattle.dd_invol.specs.Table.{HasLeastTable};
+    ghost use Rattle.dd_partial_table.specs.Visit.{IsVisiting};
+    ghost use Rattle.dd_partial_table.specs.Rows.{depth_of};
+    ghost use Rattle.dd_partial_table.specs.Stem.{Any, IsStem, prefix_of, size_of};
+    ghost use Rattle.dd_partial_table.specs.Table.{HasLeastTable};
     ghost use Rattle.dd_invol.specs.Growth.{asked_of, size_at, prefix_at, taken_back};
 
     /// The search from the empty prefix.
@@ -100,8 +98,8 @@ impl Tables {
 }
 
 impl PrefixSearch for Tables {
-    ghost use Rattle.dd_partial.specs.Rows.{depth_of};
-    ghost use Rattle.dd_partial.specs.Stem.{Any, IsStem};
+    ghost use Rattle.dd_partial_table.specs.Rows.{depth_of};
+    ghost use Rattle.dd_partial_table.specs.Stem.{Any, IsStem};
     ghost use Rattle.dd_invol.specs.Growth.{asked_of, size_at, prefix_at, taken_back};
 
     ghost request = { λ t. asked_of t };

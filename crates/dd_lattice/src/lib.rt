@@ -2,7 +2,6 @@
 #![tactic(auto)]
 
 mod forest;
-mod frame;
 mod growing;
 mod kinds;
 mod laws;
@@ -13,7 +12,6 @@ mod net_shifts;
 mod paths;
 mod step;
 
-pub use frame::Frame;
 pub use kinds::{EdgeKind, edge_kinds};
 pub use laws::{a_torus_has_one_net, shifts_are_the_one_choice, two_edges_of_a_torus_are_left};
 pub use net::Net;

@@ -1,3 +1,4 @@
+pub mod LowestBits
 pub mod Lists
 pub mod Options
 pub mod SmallerPlaces
@@ -52,6 +53,7 @@ pub mod WrittenNumbers
 pub mod SameInvolutions
 pub mod FreeWalks
 pub mod Ascending
+pub mod AscendingFronts
 pub mod Positions
 pub mod Pairs
 pub mod Without

@@ -15,6 +15,7 @@ pub mod Wanted
 pub mod Line
 pub mod Position
 pub mod Text
+pub mod Longer
 pub mod Worked
 pub mod Parts
 pub mod Spelling

@@ -2,8 +2,8 @@ ghost use Rattle.std.specs.Prelude.{◌≡◌, ◌↔◌, IfOk, IsTrue};
 ghost use Rattle.dd_model.specs.Lists.{Begins, IsSmallerWhereTheyDiffer};
 ghost use Rattle.dd_model.specs.Position.{IsWhollyBefore, IsWithin};
 
-use crate::Memory;
 use crate::jobs::{Job, Position};
+use crate::memory::Memory;
 
 /// Whether the first list is smaller at the first place that both have and where they differ.
 fn is_smaller_where_they_differ(numbers: &[u8], others: &[u8]) -> bool

@@ -1,6 +1,6 @@
 ghost use Rattle.std.specs.Prelude.{◌≡◌, ℕ, List, [], IfOk};
 
-use crate::Memory;
+use crate::memory::Memory;
 use smallvec::SmallVec;
 use std::alloc::Global;
 use std::marker::Model;

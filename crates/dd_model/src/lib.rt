@@ -4,9 +4,11 @@
 mod allowed;
 mod allowed_laws;
 mod before;
+mod bytes;
 mod carried_laws;
 mod catalogue_laws;
 mod cell_laws;
+mod frame;
 mod index;
 mod jobs;
 mod least_form_laws;
@@ -25,6 +27,7 @@ pub use allowed::Allowed;
 pub use allowed_laws::{
     sets_from_a_number_ask_for_all_degrees_of_at_least_it, sets_with_the_same_numbers_are_equal,
 };
+pub use bytes::put_bytes;
 pub use carried_laws::{isomorphic_copies, morphisms_compose, morphisms_keep_cells};
 pub use catalogue_laws::{
     a_line_determines_its_symbol, a_position_has_one_text, a_request_has_one_catalogue,
@@ -35,6 +38,7 @@ pub use cell_laws::{
     cells_are_classes, each_cell_has_one_branching_value, each_cell_has_one_least_chamber,
     each_cell_has_one_period, each_pair_has_one_list_of_cells,
 };
+pub use frame::Frame;
 pub use index::Index;
 pub use jobs::{Job, Position, Prefix};
 pub use least_form_laws::{

@@ -1,7 +1,7 @@
 ghost use Rattle.std.specs.Prelude.{◌≡◌, Some};
 ghost use Rattle.dd_model.specs.Names.{pair_name};
 
-use crate::Index;
+use crate::index::Index;
 use std::fmt;
 
 /// Two of the three involutions. Their orbits are the tiles, the vertices and the edges.

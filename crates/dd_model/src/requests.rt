@@ -1,6 +1,6 @@
 ghost use Rattle.std.specs.Prelude.{◌≡◌, ◌≤◌, ◌↔◌, IsTrue, false};
 
-use crate::Allowed;
+use crate::allowed::Allowed;
 
 /// Which symbols are asked for.
 #[derive(Clone, Copy)]

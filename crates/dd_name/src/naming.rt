@@ -1,12 +1,11 @@
 ghost use Rattle.std.specs.Prelude.{◌≡◌, ◌++◌, ℕ, List, replicate, OnOk, OnErr};
 ghost use Rattle.std.specs.List.{flat_map};
 ghost use Rattle.dd_name.specs.Name.{order_text, orders_text, boundary_text, parts_text, name_text};
-ghost use Rattle.dd_text.specs.Writing.{IsLonger};
+ghost use Rattle.dd_model.specs.Longer.{IsLonger};
 
 use crate::orbifolds::Orbifold;
 use crate::orders::Orders;
-use dd_model::Memory;
-use dd_text::put_bytes;
+use dd_model::{Memory, put_bytes};
 use itoa::Buffer;
 
 /// Appends an order.

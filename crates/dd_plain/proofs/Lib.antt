@@ -6,3 +6,4 @@ pub mod LevelLemmas
 pub mod LeastLemmas
 pub mod AscendingLemmas
 pub mod AddsLemmas
+pub mod WantedLemmas

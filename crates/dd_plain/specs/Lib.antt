@@ -1,3 +1,4 @@
 pub mod Choices
 pub mod Trials
 pub mod Adds
+pub mod Passes

@@ -7,9 +7,9 @@ ghost use Rattle.dd_plain.specs.Trials.{tried, HasImages, HasTiles};
 use crate::insertion::insert;
 use crate::leastness::is_least;
 use crate::trials::{CHAMBERS, DEGREES, SIXES, Trial, is_accepted, symbol_of};
+use crate::wanted::is_wanted;
 use dd_model::{Memory, Request};
 use dd_symbol::Connected;
-use dd_wanted::is_wanted;
 use std::alloc::Global;
 
 /// Puts a symbol into its place, if it belongs to the catalogue.

@@ -1,10 +1,10 @@
 -- What a worker does with its tickets.
 use Rattle.std.specs.Prelude.{◌≡◌, ℕ, ◌+◌, Option, Some, None, Result, Ok, Err}
 use Rattle.dd_model.specs.declared.memory.Memory.{Memory as OutOfMemory}
-use Rattle.dd_board.specs.declared.naming.Naming.{Ghosts}
+use Rattle.dd_front.specs.declared.naming.Naming.{Ghosts}
 use Rattle.dd_board.specs.declared.seat.Seat.{Seat}
-use Rattle.dd_rack.specs.declared.hand.Hand.{Hand}
-use Rattle.dd_rack.specs.Hands.{hand_pushed, hand_popped, hand_stolen}
+use Rattle.dd_deques.specs.declared.hand.Hand.{Hand}
+use Rattle.dd_deques.specs.Hands.{hand_pushed, hand_popped, hand_stolen}
 use Rattle.dd_steal.specs.declared.ended.Ended.{Ended}
 use Rattle.dd_steal.specs.declared.ended.Ended.TheVariants.{Idle, Memory}
 

@@ -1,8 +1,9 @@
 ghost use Rattle.std.specs.Prelude.{◌≡◌, length, IfOk};
 
-use dd_board::{Naming, Seat};
+use dd_board::Seat;
+use dd_deques::Hand;
+use dd_front::Naming;
 use dd_model::Memory;
-use dd_rack::Hand;
 use std::alloc::Global;
 use std::sync::ledger::Ledger;
 

@@ -1,4 +1,4 @@
-use dd_board::{Naming, Ticket};
+use dd_front::{Naming, Ticket};
 
 /// How a worker ended.
 #[derive(Drop)]

@@ -1,4 +1,4 @@
-ghost use Rattle.std.specs.Prelude.{◌≡◌, ◌≤◌, IfOk};
+ghost use Rattle.std.specs.Prelude.{◌≡◌, ◌≤◌, ◌<◌, length, IfOk};
 ghost use Rattle.dd_model.specs.Request.{IsValid};
 ghost use Rattle.dd_model.specs.Jobs.{AreAscendingJobs, AreApart};
 ghost use Rattle.dd_front.specs.Absorbed.{ComeFrom};
@@ -9,11 +9,11 @@ use crate::alone::do_alone;
 use crate::crew::{Member, crew_of, seats_of};
 use crate::sweeping::sweep;
 use crate::worker::work;
-use dd_board::{Blanks, Board, Desk, Naming};
-use dd_front::{Entry, Finder};
-use dd_model::{Job, Memory};
+use dd_board::{Blanks, Board, Desk};
+use dd_deques::Rack;
+use dd_front::{Entry, Finder, Naming};
+use dd_model::{Job, Memory, Request};
 use dd_ports::Gate;
-use dd_rack::Rack;
 use std::alloc::Global;
 use std::marker::Brand;
 use std::sync::Wait;
@@ -90,7 +90,99 @@ pub fn run_round<R: Threads + Wait + Sync, F: Finder + Sync, G: Gate + Sync>(
     )
 }
 
-// The same for a round and ledgers that have names.
+// The board of a round and ledgers that have names, and its workers, each with a deque for a ticket of each job.
+fn open_round<N: Naming, K: Ledger, L: Ledger, S: Ledger, D: Ledger, B: Ledger>(
+    alloc: Global,
+    request: &Request,
+    jobs: Vec<Job>,
+    workers: u32,
+    blanks: Blanks,
+) -> Result<(Board<N, K, L, S, D, B>, Vec<Member<N, K, L, S, D, B>>), Memory>
+    requires workers { (1 ≤ workers) × (workers ≤ 64) }
+    requires request { request.now ≡ N.request }
+    requires jobs { jobs.items ≡ N.jobs }
+    requires valid { IsValid request.now }
+    requires ascending { AreAscendingJobs jobs.items }
+    requires apart { AreApart jobs.items }
+    requires all { AreJobsOf request.now jobs.items }
+    requires take { (blanks.take.name ≡ K.name) × (blanks.take.parts ≡ K.parts)
+        × (K.parts ≡ workers) }
+    requires look { (blanks.look.name ≡ L.name) × (blanks.look.parts ≡ L.parts)
+        × (L.parts ≡ workers) }
+    requires split { (blanks.split.name ≡ S.name) × (blanks.split.parts ≡ S.parts)
+        × (S.parts ≡ workers) }
+    requires finish { (blanks.finish.name ≡ D.name) × (blanks.finish.parts ≡ D.parts)
+        × (D.parts ≡ workers) }
+    requires back { (blanks.back.name ≡ B.name) × (blanks.back.parts ≡ B.parts)
+        × (B.parts ≡ workers) }
+    ensures { IfOk result (λ made. length made.1.items ≡ workers) }
+{
+    let room = room_for(jobs.len());
+    let (board, seats) = Board::open(alloc, request, jobs, workers, blanks)?;
+    let (_, hands) = Rack::open(alloc, workers, room)?;
+    let crew = crew_of(alloc, seats, hands)?;
+    Ok((board, crew))
+}
+
+// Has each worker of a round work at its board, on a thread of its own.
+fn work_at_once<
+    N: Naming + Send + Sync,
+    K: Ledger + Send + Sync,
+    L: Ledger + Send + Sync,
+    S: Ledger + Send + Sync,
+    D: Ledger + Send + Sync,
+    B: Ledger + Send + Sync,
+    R: Threads + Wait + Sync,
+    F: Finder + Sync,
+    G: Gate + Sync,
+>(
+    rt: &R,
+    alloc: Global,
+    finder: &F,
+    gate: &G,
+    board: &Board<N, K, L, S, D, B>,
+    crew: &mut [Member<N, K, L, S, D, B>],
+)
+    requires request { F.request finder.now ≡ N.request }
+    requires some { 0 < length crew.old }
+    ensures { length crew.new ≡ length crew.old }
+{
+    let workers = crew.len();
+    thread::for_each_mut(
+        rt,
+        crew,
+        workers,
+        &|_, member: &mut Member<N, K, L, S, D, B>|
+            requires { F.request finder.now ≡ N.request }
+        {
+            let mut own = finder.fork();
+            let (seat, hand) = (&mut member.seat, &mut member.hand);
+            let _ended = work(rt, alloc, &mut own, gate, board, seat, hand);
+        },
+    );
+}
+
+// Does what the workers of a round left, on this thread. Returns the entries of the round.
+fn close_round<N: Naming, K: Ledger, L: Ledger, S: Ledger, D: Ledger, B: Ledger, F: Finder>(
+    alloc: Global,
+    finder: &mut F,
+    board: Board<N, K, L, S, D, B>,
+    crew: Vec<Member<N, K, L, S, D, B>>,
+) -> Result<Vec<Entry>, Memory>
+    requires request { F.request finder.old ≡ N.request }
+    requires some { 0 < length crew.items }
+    requires all { (length crew.items ≡ K.parts) × (length crew.items ≡ L.parts)
+        × (length crew.items ≡ S.parts) × (length crew.items ≡ D.parts)
+        × (length crew.items ≡ B.parts) }
+    ensures request { F.request finder.new ≡ F.request finder.old }
+    ensures round { IfOk result (λ entries. ComeFrom N.request N.jobs entries.items) }
+{
+    let mut desk = board.close(seats_of(alloc, crew)?);
+    sweep(alloc, finder, &mut desk)?;
+    Ok(entries_of(desk))
+}
+
+// Does the jobs of a round and ledgers that have names.
 fn run_named<
     N: Naming + Send + Sync,
     K: Ledger + Send + Sync,
@@ -131,34 +223,9 @@ fn run_named<
     ensures round { IfOk result (λ entries. ComeFrom N.request N.jobs entries.items) }
 {
     let request = finder.request();
-    let room = room_for(jobs.len());
-    let (board, seats) = Board::<N, K, L, S, D, B>::open(alloc, &request, jobs, workers, blanks)?;
-    let (_, hands) = Rack::<N>::open(alloc, workers, room)?;
-    let mut crew = crew_of(alloc, seats, hands)?;
-    let shared = &board;
-    let shared_finder: &F = finder;
-    thread::for_each_mut(
-        rt,
-        crew.as_mut_slice(),
-        workers as usize,
-        &|_, member: &mut Member<N, K, L, S, D, B>|
-            requires { F.request shared_finder.now ≡ N.request }
-        {
-            let mut own = shared_finder.fork();
-            let _ended = work(
-                rt,
-                alloc,
-                &mut own,
-                gate,
-                shared,
-                &mut member.seat,
-                &mut member.hand,
-            );
-        },
-    );
-    let mut desk = board.close(seats_of(alloc, crew)?);
-    sweep(alloc, finder, &mut desk)?;
-    Ok(entries_of(desk))
+    let (board, mut crew) = open_round::<N, K, L, S, D, B>(alloc, &request, jobs, workers, blanks)?;
+    work_at_once(rt, alloc, finder, gate, &board, crew.as_mut_slice());
+    close_round(alloc, finder, board, crew)
 }
 
 // The entries of a desk on which all is done: those of its round.

@@ -5,10 +5,10 @@ ghost use Rattle.dd_model.specs.Jobs.{AreMembersUnder};
 ghost use Rattle.dd_board.specs.Calls.{BooksFinish};
 ghost use Rattle.dd_steal.specs.Sweep.{AreDone, IsNoneOut, IsSwept, counted, if_open};
 
-use dd_board::{Desk, Naming, Taken, Ticket};
-use dd_front::{Entry, Finder};
-use dd_list::SymbolList;
+use dd_board::Desk;
+use dd_front::{Entry, Finder, Naming, Taken, Ticket};
 use dd_model::Memory;
+use dd_symbol_list::SymbolList;
 use std::alloc::Global;
 
 /// Gives back every job that is out and then does every one that is open, on this thread and as worker 1. After `Err`

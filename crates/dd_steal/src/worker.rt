@@ -1,15 +1,15 @@
 ghost use Rattle.std.specs.Prelude.{◌≡◌, ◌⊎◌, ◌*◌, ◌<◌, MatchOption, MatchResult, length};
-ghost use Rattle.dd_rack.specs.Hands.{hand_passes, hand_place, HasAllOfHand};
+ghost use Rattle.dd_deques.specs.Hands.{hand_passes, hand_place, HasAllOfHand};
 ghost use Rattle.dd_board.specs.Ledgers.{Counts};
 ghost use Rattle.dd_steal.specs.Worker.{IsLeftWith, IsIdle, held_at_end};
 
 use crate::choice::{is_to_split, is_worth_a_split};
 use crate::ended::Ended;
 use crate::getting::next_ticket;
-use dd_board::{Board, Naming, Seat, Ticket};
-use dd_front::Finder;
+use dd_board::{Board, Seat};
+use dd_deques::Hand;
+use dd_front::{Finder, Naming, Ticket};
 use dd_ports::Gate;
-use dd_rack::Hand;
 use std::alloc::Global;
 use std::sync::Wait;
 use std::sync::ledger::Ledger;

@@ -6,7 +6,7 @@ use Rattle.dd_model.specs.declared.requests.Request.{Request}
 use Rattle.dd_model.specs.declared.jobs.Job.{Job}
 use Rattle.dd_model.specs.declared.jobs.Position.{Position}
 use Rattle.dd_model.specs.declared.jobs.Position.TheVariants.{At, End}
-use Rattle.dd_invol.specs.Opening.{IsOpeningJob}
+use Rattle.dd_jobs.specs.Opening.{IsOpeningJob}
 use Rattle.dd_check.specs.declared.checkpoint.Checkpoint.{Checkpoint}
 use Rattle.dd_check.specs.Accepted.{IsCheckpointText}
 use Rattle.dd_check.specs.Checks.{AreCountsInRange}

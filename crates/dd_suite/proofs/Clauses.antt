@@ -6,26 +6,26 @@ use Rattle.dd_model.specs.declared.requests.Request.{Request}
 use Rattle.dd_ports.specs.Causes.{Rose}
 use Rattle.dd_ports.specs.Grows.{GrowsByPrefix}
 use Rattle.dd_check.specs.declared.checkpoint.Checkpoint.{Checkpoint}
-use Rattle.dd_chain.specs.Calls.{Catalogue, Resume}
-use Rattle.dd_chain.specs.Starts.{Start}
-use Rattle.dd_catalogue.specs.Runs.{most_lines, WritesRest}
-use Rattle.dd_suite.specs.declared.ending.Ending.{Ending}
-use Rattle.dd_suite.specs.declared.ending.Ending.TheVariants as ending
-use Rattle.dd_suite.specs.declared.status.Status.{Status}
-use Rattle.dd_suite.specs.declared.status.Status.TheVariants.{Done, Usage, Refused, Paused, StoreFault, SinkFault, Memory, TooManyLines}
-use Rattle.dd_suite.specs.Arguments.{AreRefused, IsFileAccepted, IsCheckAccepted, KeepUnder, SameButKept}
-use Rattle.dd_suite.specs.Beginnings.{HoldsCheck}
-use Rattle.dd_suite.specs.Cuts.{Pauses, CutsShort, IsEndOfOwn}
-use Rattle.dd_suite.specs.Endings.{status_of}
-use Rattle.dd_suite.specs.Messages.{IsItsCause}
-use Rattle.dd_suite.specs.Outside.{Before, After, WritesNothing, KeepsNames}
-use Rattle.dd_suite.specs.Output.{AppendsOutput, IsKnownOutput, IsFileOutput}
-use Rattle.dd_suite.specs.Runs.{IsStopped, IsCallOf}
-use Rattle.dd_suite.specs.Stops.{IsOutcome, untaken, unread, on_file, of_exercise, of_run}
-use Rattle.dd_suite.specs.Words.{Order, run_command, file_command, AskForRun, AskFor, AskToResume, NameFile, AreTaken}
+use Rattle.dd_check.specs.Calls.{Catalogue, Resume}
+use Rattle.dd_check.specs.ChainStarts.{Start}
+use Rattle.dd_pages.specs.Runs.{most_lines, WritesRest}
+use Rattle.dd_tasks.specs.declared.ending.Ending.{Ending}
+use Rattle.dd_tasks.specs.declared.ending.Ending.TheVariants as ending
+use Rattle.dd_tasks.specs.declared.status.Status.{Status}
+use Rattle.dd_tasks.specs.declared.status.Status.TheVariants.{Done, Usage, Refused, Paused, StoreFault, SinkFault, Memory, TooManyLines}
+use Rattle.dd_tasks.specs.Arguments.{AreRefused, IsFileAccepted, IsCheckAccepted, KeepUnder, SameButKept}
+use Rattle.dd_tasks.specs.Beginnings.{HoldsCheck}
+use Rattle.dd_tasks.specs.Cuts.{Pauses, CutsShort, IsEndOfOwn}
+use Rattle.dd_tasks.specs.Endings.{status_of}
+use Rattle.dd_tasks.specs.Messages.{IsItsCause}
+use Rattle.dd_tasks.specs.Outside.{Before, After, WritesNothing, KeepsNames}
+use Rattle.dd_tasks.specs.Output.{AppendsOutput, IsKnownOutput, IsFileOutput}
+use Rattle.dd_tasks.specs.Runs.{IsStopped, IsCallOf}
+use Rattle.dd_tasks.specs.Stops.{IsOutcome, untaken, unread, on_file, of_exercise, of_run}
+use Rattle.dd_tasks.specs.Words.{Order, run_command, file_command, AskForRun, AskFor, AskToResume, NameFile, AreTaken}
 use Rattle.dd_suite.proofs.ExerciseOutcomes.{exercise_known, exercise_whole, exercise_complete, exercise_told, exercise_sink, exercise_never}
 use Rattle.dd_suite.proofs.FileOutcomes.{file_known, file_whole, file_nothing, file_refused, file_quiet, file_complete, file_told, file_store, file_sink, file_usage, file_ends}
-use Rattle.dd_suite.proofs.Requests.{one_order, not_both, run_or_exercise, file_or_exercise}
+use Rattle.dd_tasks.proofs.Requests.{one_order, not_both, run_or_exercise, file_or_exercise}
 use Rattle.dd_suite.proofs.RunEndings.{done_ending, usage_ending, store_ending, sink_ending, whole_result}
 use Rattle.dd_suite.proofs.RunOutcomes.{ran_known, ran_whole, ran_pauses, ran_cuts, ran_store, ran_quiet, ran_told, ran_complete}
 use Rattle.dd_suite.proofs.RunOutcomes.{stop_refused, stop_complete, stop_told, run_usage, run_store, run_sink, stop_usage, stop_store, stop_sink}

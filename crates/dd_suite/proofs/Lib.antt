@@ -1,8 +1,5 @@
-pub mod Requests
 pub mod RunEndings
 pub mod RunOutputs
-pub mod HeldTexts
-pub mod LongFiles
 pub mod FileOutcomes
 pub mod RunOutcomes
 pub mod ExerciseOutcomes

@@ -6,25 +6,25 @@ use Rattle.std.specs.List.{AllByRecursion}
 use Rattle.dd_model.specs.Lists.{Begins}
 use Rattle.dd_model.specs.Text.{IsText}
 use Rattle.dd_model.specs.declared.requests.Request.{Request}
-use Rattle.dd_chain.specs.Calls.{Task, Catalogue, Resume, Call, Done, Paused}
-use Rattle.dd_chain.specs.Clauses.{MeetsClauses, HasWorked, HasWork}
-use Rattle.dd_chain.specs.Starts.{Start, first_start, Starts}
-use Rattle.dd_chain.specs.Puts.{Puts}
-use Rattle.dd_chain.proofs.Parts.{starts_once}
-use Rattle.dd_catalogue.specs.declared.fault.RunFault.{RunFault}
-use Rattle.dd_catalogue.specs.declared.finish.Finish.{Finish}
-use Rattle.dd_catalogue.specs.declared.finish.Finish.TheVariants as finish
-use Rattle.dd_catalogue.specs.Outputs.{IsOutput}
-use Rattle.dd_catalogue.specs.Runs.{Finishes, WritesRest, WritesUpToPause}
-use Rattle.dd_catalogue.specs.Saves.{LeavesName, PutsCheck, PutsAtPause, FinishesName}
+use Rattle.dd_check.specs.Calls.{Task, Catalogue, Resume, Call, Done, Paused}
+use Rattle.dd_check.specs.Clauses.{MeetsClauses, HasWorked, HasWork}
+use Rattle.dd_check.specs.ChainStarts.{Start, first_start, Starts}
+use Rattle.dd_check.specs.ChainPuts.{Puts}
+use Rattle.dd_check.proofs.ChainParts.{starts_once}
+use Rattle.dd_pages.specs.declared.fault.RunFault.{RunFault}
+use Rattle.dd_pages.specs.declared.finish.Finish.{Finish}
+use Rattle.dd_pages.specs.declared.finish.Finish.TheVariants as finish
+use Rattle.dd_pages.specs.Outputs.{IsOutput}
+use Rattle.dd_pages.specs.Runs.{Finishes, WritesRest, WritesUpToPause}
+use Rattle.dd_pages.specs.Saves.{LeavesName, PutsCheck, PutsAtPause, FinishesName}
 use Rattle.dd_words.proofs.Validity.{lone_pause}
-use Rattle.dd_suite.specs.declared.status.Status.{Status}
-use Rattle.dd_suite.specs.declared.status.Status.TheVariants as status
-use Rattle.dd_suite.specs.Beginnings.{BeginsAt}
+use Rattle.dd_tasks.specs.declared.status.Status.{Status}
+use Rattle.dd_tasks.specs.declared.status.Status.TheVariants as status
+use Rattle.dd_tasks.specs.Beginnings.{BeginsAt}
 use Rattle.dd_suite.specs.Chains.{ProgramCall, IsProgramCall, chain_ending, held_under, call_of}
-use Rattle.dd_suite.specs.Outside.{Before, After}
-use Rattle.dd_suite.specs.Runs.{name_of, run_status, IsStopped, IsCallOf}
-use Rattle.dd_suite.specs.Words.{AskForRun}
+use Rattle.dd_tasks.specs.Outside.{Before, After}
+use Rattle.dd_tasks.specs.Runs.{name_of, run_status, IsStopped, IsCallOf}
+use Rattle.dd_tasks.specs.Words.{AskForRun}
 use Rattle.dd_suite.proofs.RunEndings.{whole_result, paused_result}
 
 -- ## Endings

@@ -8,23 +8,23 @@ use Rattle.dd_ports.specs.Texts.{SameTexts, SameOthers}
 use Rattle.dd_ports.specs.declared.sink.SinkFault.{SinkFault as WriteFault}
 use Rattle.dd_ports.specs.declared.sink.SinkFault.TheVariants as sink
 use Rattle.dd_check.specs.declared.checkpoint.Checkpoint.{Checkpoint}
-use Rattle.dd_chain.specs.Calls.{Catalogue, Resume}
-use Rattle.dd_chain.specs.Starts.{Start, first_start, next_start}
-use Rattle.dd_catalogue.specs.declared.fault.RunFault.{RunFault}
-use Rattle.dd_catalogue.specs.declared.fault.RunFault.TheVariants as fault
-use Rattle.dd_catalogue.specs.declared.finish.Finish.{Finish}
-use Rattle.dd_catalogue.specs.declared.pace.Pace.{Pace}
-use Rattle.dd_catalogue.specs.declared.run.Run.{Run}
-use Rattle.dd_catalogue.specs.Outputs.{IsOutput}
-use Rattle.dd_catalogue.specs.Runs.{start_of, IsPause}
-use Rattle.dd_catalogue.specs.Saves.{HasRun, LeavesName}
-use Rattle.dd_suite.specs.declared.ending.Ending.{Ending}
-use Rattle.dd_suite.specs.declared.ending.Ending.TheVariants.{Done, Usage, Refused, RefusedSymbol, RefusedCheck, Paused, StoreFault, SinkFault, Memory, TooManyLines}
-use Rattle.dd_suite.specs.Beginnings.{HoldsCheck}
-use Rattle.dd_suite.specs.Endings.{run_ending}
-use Rattle.dd_suite.specs.Lone.{run_result, IsLoneEnding}
-use Rattle.dd_suite.specs.Outcomes.{IsRunEnding, IsHeldStop, IsRunOutcome, EndsRunFrom}
-use Rattle.dd_suite.specs.Outside.{Before, After, WritesNothing, KeepsNames}
+use Rattle.dd_check.specs.Calls.{Catalogue, Resume}
+use Rattle.dd_check.specs.ChainStarts.{Start, first_start, next_start}
+use Rattle.dd_pages.specs.declared.fault.RunFault.{RunFault}
+use Rattle.dd_pages.specs.declared.fault.RunFault.TheVariants as fault
+use Rattle.dd_pages.specs.declared.finish.Finish.{Finish}
+use Rattle.dd_pages.specs.declared.pace.Pace.{Pace}
+use Rattle.dd_pages.specs.declared.run.Run.{Run}
+use Rattle.dd_pages.specs.Outputs.{IsOutput}
+use Rattle.dd_pages.specs.Runs.{start_of, IsPause}
+use Rattle.dd_pages.specs.Saves.{HasRun, LeavesName}
+use Rattle.dd_tasks.specs.declared.ending.Ending.{Ending}
+use Rattle.dd_tasks.specs.declared.ending.Ending.TheVariants.{Done, Usage, Refused, RefusedSymbol, RefusedCheck, Paused, StoreFault, SinkFault, Memory, TooManyLines}
+use Rattle.dd_tasks.specs.Beginnings.{HoldsCheck}
+use Rattle.dd_tasks.specs.Endings.{run_ending}
+use Rattle.dd_tasks.specs.Lone.{run_result, IsLoneEnding}
+use Rattle.dd_tasks.specs.Outcomes.{IsRunEnding, IsHeldStop, IsRunOutcome, EndsRunFrom}
+use Rattle.dd_tasks.specs.Outside.{Before, After, WritesNothing, KeepsNames}
 use Rattle.dd_suite.proofs.RunEndings.{run_told, run_cause, sink_end}
 
 -- ## Runs under a name

@@ -1,19 +1,19 @@
 -- Endings and their statuses.
 use Rattle.std.proofs.Common.{◌≡◌, ℕ, List, Option, Result, Ok, Err, IfOk, refl, sym, ap, ◌∙◌, subst}
 use Rattle.dd_ports.specs.Causes.{Rose}
-use Rattle.dd_chain.specs.Starts.{Start}
-use Rattle.dd_catalogue.specs.declared.fault.RunFault.{RunFault}
-use Rattle.dd_catalogue.specs.declared.fault.RunFault.TheVariants as fault
-use Rattle.dd_catalogue.specs.declared.finish.Finish.{Finish}
-use Rattle.dd_catalogue.specs.declared.finish.Finish.TheVariants as finish
-use Rattle.dd_catalogue.specs.Runs.{IsPause, Finishes}
-use Rattle.dd_suite.specs.declared.status.Status.TheVariants as status
-use Rattle.dd_suite.specs.declared.ending.Ending.{Ending}
-use Rattle.dd_suite.specs.declared.ending.Ending.TheVariants.{Done, Usage, Refused, RefusedSymbol, RefusedCheck, Paused, StoreFault, SinkFault, Memory, TooManyLines}
-use Rattle.dd_suite.specs.Endings.{status_of, run_ending}
-use Rattle.dd_suite.specs.Outcomes.{IsRunEnding}
-use Rattle.dd_suite.specs.Outside.{Before, After}
-use Rattle.dd_suite.specs.Runs.{run_status}
+use Rattle.dd_check.specs.ChainStarts.{Start}
+use Rattle.dd_pages.specs.declared.fault.RunFault.{RunFault}
+use Rattle.dd_pages.specs.declared.fault.RunFault.TheVariants as fault
+use Rattle.dd_pages.specs.declared.finish.Finish.{Finish}
+use Rattle.dd_pages.specs.declared.finish.Finish.TheVariants as finish
+use Rattle.dd_pages.specs.Runs.{IsPause, Finishes}
+use Rattle.dd_tasks.specs.declared.status.Status.TheVariants as status
+use Rattle.dd_tasks.specs.declared.ending.Ending.{Ending}
+use Rattle.dd_tasks.specs.declared.ending.Ending.TheVariants.{Done, Usage, Refused, RefusedSymbol, RefusedCheck, Paused, StoreFault, SinkFault, Memory, TooManyLines}
+use Rattle.dd_tasks.specs.Endings.{status_of, run_ending}
+use Rattle.dd_tasks.specs.Outcomes.{IsRunEnding}
+use Rattle.dd_tasks.specs.Outside.{Before, After}
+use Rattle.dd_tasks.specs.Runs.{run_status}
 
 -- ## Only one ending has these statuses
 

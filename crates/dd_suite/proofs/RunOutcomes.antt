@@ -5,29 +5,29 @@ use Rattle.dd_ports.specs.Grows.{GrowsByPrefix}
 use Rattle.dd_check.specs.declared.faults.CheckFault.{CheckFault}
 use Rattle.dd_check.specs.Accepted.{IsCheckpointText}
 use Rattle.dd_check.proofs.Exclusion.{no_fault as never_both}
-use Rattle.dd_chain.specs.Calls.{Task, Catalogue, Resume}
-use Rattle.dd_chain.specs.Starts.{Start, next_start}
-use Rattle.dd_catalogue.specs.declared.fault.RunFault.{RunFault}
-use Rattle.dd_catalogue.specs.declared.fault.RunFault.TheVariants as fault
-use Rattle.dd_catalogue.specs.declared.finish.Finish.{Finish}
-use Rattle.dd_catalogue.specs.Runs.{Finishes}
-use Rattle.dd_suite.specs.declared.ending.Ending.{Ending}
-use Rattle.dd_suite.specs.declared.ending.Ending.TheVariants.{Done, Usage, Refused, RefusedSymbol, RefusedCheck, Paused, StoreFault, SinkFault, Memory, TooManyLines}
-use Rattle.dd_suite.specs.declared.status.Status.{Status}
-use Rattle.dd_suite.specs.declared.status.Status.TheVariants as status
+use Rattle.dd_check.specs.Calls.{Task, Catalogue, Resume}
+use Rattle.dd_check.specs.ChainStarts.{Start, next_start}
+use Rattle.dd_pages.specs.declared.fault.RunFault.{RunFault}
+use Rattle.dd_pages.specs.declared.fault.RunFault.TheVariants as fault
+use Rattle.dd_pages.specs.declared.finish.Finish.{Finish}
+use Rattle.dd_pages.specs.Runs.{Finishes}
+use Rattle.dd_tasks.specs.declared.ending.Ending.{Ending}
+use Rattle.dd_tasks.specs.declared.ending.Ending.TheVariants.{Done, Usage, Refused, RefusedSymbol, RefusedCheck, Paused, StoreFault, SinkFault, Memory, TooManyLines}
+use Rattle.dd_tasks.specs.declared.status.Status.{Status}
+use Rattle.dd_tasks.specs.declared.status.Status.TheVariants as status
 use Rattle.dd_model.specs.Text.{IsText}
-use Rattle.dd_suite.specs.Arguments.{AreRefused, IsCheckAccepted, KeepUnder, SameButKept}
-use Rattle.dd_suite.specs.Beginnings.{HoldsNoCheck, BeginsAt, IsCheckRefused}
-use Rattle.dd_suite.specs.Cuts.{Pauses, CutsShort, IsEndOfOwn}
-use Rattle.dd_suite.specs.Endings.{status_of}
-use Rattle.dd_suite.specs.Messages.{IsItsCause}
-use Rattle.dd_suite.specs.Outcomes.{EndsRun, StopsRun, IsRunEnding, IsStopEnding}
-use Rattle.dd_suite.specs.Output.{AppendsOutput, IsKnownOutput}
-use Rattle.dd_suite.specs.Outside.{Before, After}
-use Rattle.dd_suite.specs.Runs.{Runs, HasRunAs, name_of}
-use Rattle.dd_suite.specs.Words.{Order, run_command, AskForRun}
-use Rattle.dd_suite.proofs.HeldTexts.{some_injective, one_check}
-use Rattle.dd_suite.proofs.Requests.{one_order, not_both, run_or_exercise}
+use Rattle.dd_tasks.specs.Arguments.{AreRefused, IsCheckAccepted, KeepUnder, SameButKept}
+use Rattle.dd_tasks.specs.Beginnings.{HoldsNoCheck, BeginsAt, IsCheckRefused}
+use Rattle.dd_tasks.specs.Cuts.{Pauses, CutsShort, IsEndOfOwn}
+use Rattle.dd_tasks.specs.Endings.{status_of}
+use Rattle.dd_tasks.specs.Messages.{IsItsCause}
+use Rattle.dd_tasks.specs.Outcomes.{EndsRun, StopsRun, IsRunEnding, IsStopEnding}
+use Rattle.dd_tasks.specs.Output.{AppendsOutput, IsKnownOutput}
+use Rattle.dd_tasks.specs.Outside.{Before, After}
+use Rattle.dd_tasks.specs.Runs.{Runs, HasRunAs, name_of}
+use Rattle.dd_tasks.specs.Words.{Order, run_command, AskForRun}
+use Rattle.dd_tasks.proofs.HeldTexts.{some_injective, one_check}
+use Rattle.dd_tasks.proofs.Requests.{one_order, not_both, run_or_exercise}
 use Rattle.dd_suite.proofs.RunEndings.{whole_result, paused_result, cut_result, store_result, not_refused}
 use Rattle.dd_suite.proofs.RunOutputs.{output_of, front_prefix, whole_of_task, rest_written}
 

@@ -8,19 +8,19 @@ use Rattle.dd_model.specs.declared.requests.Request.{Request}
 use Rattle.dd_model.proofs.Catalogues.{catalogue_unique}
 use Rattle.dd_model.proofs.SmallerPlaces.{begins_is_front}
 use Rattle.dd_ports.specs.Grows.{GrowsByPrefix}
-use Rattle.dd_chain.specs.Calls.{Task, Catalogue, Resume}
-use Rattle.dd_chain.specs.Starts.{Start, first_start, next_start}
-use Rattle.dd_chain.proofs.LinesUpTo.{whole_text}
-use Rattle.dd_catalogue.specs.Outputs.{IsOutput}
-use Rattle.dd_catalogue.specs.Runs.{most_lines, Finishes, WritesRest}
-use Rattle.dd_catalogue.specs.declared.fault.RunFault.{RunFault}
-use Rattle.dd_catalogue.specs.declared.finish.Finish.{Finish}
-use Rattle.dd_catalogue.specs.declared.finish.Finish.TheVariants as finish
-use Rattle.dd_suite.specs.Beginnings.{BeginsAt}
-use Rattle.dd_suite.specs.Outside.{Before, After}
-use Rattle.dd_suite.specs.Output.{AppendsOutput}
-use Rattle.dd_suite.specs.Runs.{Runs}
-use Rattle.dd_suite.specs.Words.{AskForRun}
+use Rattle.dd_check.specs.Calls.{Task, Catalogue, Resume}
+use Rattle.dd_check.specs.ChainStarts.{Start, first_start, next_start}
+use Rattle.dd_check.proofs.LinesUpTo.{whole_text}
+use Rattle.dd_pages.specs.Outputs.{IsOutput}
+use Rattle.dd_pages.specs.Runs.{most_lines, Finishes, WritesRest}
+use Rattle.dd_pages.specs.declared.fault.RunFault.{RunFault}
+use Rattle.dd_pages.specs.declared.finish.Finish.{Finish}
+use Rattle.dd_pages.specs.declared.finish.Finish.TheVariants as finish
+use Rattle.dd_tasks.specs.Beginnings.{BeginsAt}
+use Rattle.dd_tasks.specs.Outside.{Before, After}
+use Rattle.dd_tasks.specs.Output.{AppendsOutput}
+use Rattle.dd_tasks.specs.Runs.{Runs}
+use Rattle.dd_tasks.specs.Words.{AskForRun}
 
 pub output_of : (name : Option (List ℕ)) (s : Start) (round : ℕ) (pause : Option ℕ) (before : Before) (after : After) (r : Result Finish RunFault) → Runs name s round pause before after r
     → (output : List ℕ) × IsOutput s pause before.written after.written r output

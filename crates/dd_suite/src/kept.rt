@@ -1,16 +1,17 @@
 ghost use Rattle.std.specs.Prelude.{◌≡◌, ◌≤◌, ℕ, Some, true};
 ghost use Rattle.dd_model.specs.Request.{IsValid};
 ghost use Rattle.dd_model.specs.Position.{IsPosition};
-ghost use Rattle.dd_chain.specs.Calls.{Catalogue};
-ghost use Rattle.dd_chain.specs.Starts.{first_start};
-ghost use Rattle.dd_catalogue.specs.Runs.{start_of, IsPause};
-ghost use Rattle.dd_suite.specs.Outcomes.{IsRunOutcome, EndsRunFrom};
+ghost use Rattle.dd_check.specs.Calls.{Catalogue};
+ghost use Rattle.dd_check.specs.ChainStarts.{first_start};
+ghost use Rattle.dd_pages.specs.Runs.{start_of, IsPause};
+ghost use Rattle.dd_tasks.specs.Outcomes.{IsRunOutcome, EndsRunFrom};
 
-use crate::ending::Ending;
 use dd_branch::Search;
-use dd_catalogue::{Pace, Run, write_run};
+use dd_catalogue::write_run;
 use dd_model::Request;
+use dd_pages::{Pace, Run};
 use dd_ports::{Gate, Sink, Store};
+use dd_tasks::Ending;
 use std::alloc::Global;
 use std::sync::Wait;
 use std::thread::Threads;

@@ -2,10 +2,10 @@ ghost use Rattle.std.specs.Prelude.{ℕ, List, Option, map};
 ghost use Rattle.std.specs.List.{AllByRecursion};
 ghost use Rattle.dd_model.specs.declared.requests.Request.{Request};
 ghost use Rattle.dd_model.specs.Text.{IsText, beginning};
-ghost use Rattle.dd_chain.specs.Calls.{Done, Paused};
-ghost use Rattle.dd_chain.specs.Chains.{IsChain, HasBegun, EndsAs, IsJoined, held_after};
-ghost use Rattle.dd_chain.specs.Clauses.{MeetsClauses};
-ghost use Rattle.dd_chain.specs.Outcomes.{IsCutAt};
+ghost use Rattle.dd_check.specs.Calls.{Done, Paused};
+ghost use Rattle.dd_check.specs.Chains.{IsChain, HasBegun, EndsAs, IsJoined, held_after};
+ghost use Rattle.dd_check.specs.Clauses.{MeetsClauses};
+ghost use Rattle.dd_check.specs.ChainOutcomes.{IsCutAt};
 ghost use Rattle.dd_suite.specs.Chains.{ProgramCall, IsProgramCall, call_of};
 
 /// What the program does with words of a run, over a store and a sink that tell what they hold, is what a chain asks of its calls.

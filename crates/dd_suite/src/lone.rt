@@ -1,12 +1,13 @@
 ghost use Rattle.std.specs.Prelude.{◌≡◌, ◌≤◌, true};
 ghost use Rattle.dd_model.specs.Request.{IsValid};
-ghost use Rattle.dd_suite.specs.Lone.{IsLoneEnding, run_result};
+ghost use Rattle.dd_tasks.specs.Lone.{IsLoneEnding, run_result};
 
-use crate::ending::Ending;
 use dd_branch::Search;
-use dd_catalogue::{Finish, Pace, Run, RunFault, write_catalogue};
+use dd_catalogue::write_catalogue;
 use dd_model::Request;
+use dd_pages::{Finish, Pace, Run, RunFault};
 use dd_ports::{Gate, Sink, SinkFault};
+use dd_tasks::Ending;
 use std::alloc::Global;
 use std::sync::Wait;
 use std::thread::Threads;

@@ -1,18 +1,17 @@
 ghost use Rattle.std.specs.Prelude.{◌≡◌, ◌≤◌, IfOk, IfErr, IsSome, true};
-ghost use Rattle.dd_chain.specs.Calls.{Resume};
+ghost use Rattle.dd_check.specs.Calls.{Resume};
 ghost use Rattle.dd_ports.specs.Texts.{SameTexts};
 ghost use Rattle.dd_check.specs.Accepted.{IsCheckpointText};
-ghost use Rattle.dd_chain.specs.Starts.{next_start};
-ghost use Rattle.dd_catalogue.specs.Runs.{start_of};
-ghost use Rattle.dd_suite.specs.Beginnings.{HoldsCheck};
-ghost use Rattle.dd_suite.specs.Outcomes.{IsRunOutcome, IsReadStop, IsHeldStop};
+ghost use Rattle.dd_check.specs.ChainStarts.{next_start};
+ghost use Rattle.dd_pages.specs.Runs.{start_of};
+ghost use Rattle.dd_tasks.specs.Beginnings.{HoldsCheck};
+ghost use Rattle.dd_tasks.specs.Outcomes.{IsRunOutcome, IsReadStop, IsHeldStop};
 
-use crate::ending::Ending;
-use crate::fetching::fetch_all;
 use crate::kept::keep_run;
-use dd_catalogue::{Pace, Run};
 use dd_check::{CheckFault, Checkpoint, read_checkpoint};
+use dd_pages::{Pace, Run};
 use dd_ports::{Gate, Sink, Store, StoreFault};
+use dd_tasks::{Ending, fetch_all};
 use std::alloc::Global;
 use std::sync::Wait;
 use std::thread::Threads;

@@ -1,4 +1,3 @@
-pub mod Numbers
 pub mod Images
 pub mod Table
 pub mod Rows

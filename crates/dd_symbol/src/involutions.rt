@@ -3,10 +3,10 @@ ghost use Rattle.dd_symbol.specs.Building.{listed};
 ghost use Rattle.dd_symbol.specs.Rows.{HasRows};
 ghost use Rattle.dd_model.specs.Symbol.{op};
 
-use crate::numbers::Numbers;
 use crate::refusals::Refusal;
 use crate::rows::Rows;
 use dd_model::{Code, Index, Memory, Pair};
+use dd_numbers::Numbers;
 use std::alloc::Global;
 use std::cmp::Ordering;
 use std::marker::Model;

@@ -9,8 +9,6 @@ mod degrees;
 mod involutions;
 mod kind;
 mod maps;
-mod numbers;
-mod numbers_ref;
 mod range_checks;
 mod refusals;
 mod renumbering;

@@ -2,10 +2,10 @@ ghost use Rattle.std.specs.Prelude.{◌≡◌, ℕ, ◌≤◌, List, [], ◌∷�
 
 use crate::involutions::Involutions;
 use crate::maps::item;
-use crate::numbers::Numbers;
 use crate::rows::Rows;
 use crate::table::Table;
 use dd_model::{Index, Memory, Pair};
+use dd_numbers::Numbers;
 use std::alloc::Global;
 
 impl Involutions {

@@ -1,8 +1,8 @@
 ghost use Rattle.std.specs.Prelude.{◌≡◌, ◌<◌, ◌≤◌, ◌*◌, ◌↔◌, IsTrue, IfOk, length};
 ghost use Rattle.dd_symbol.specs.Rows.{row_place};
 
-use crate::numbers::Numbers;
 use dd_model::{Index, Memory};
+use dd_numbers::Numbers;
 use std::alloc::Global;
 
 /// The images of the chambers 1 to n, three for each, of which no more is known than their number.

@@ -1,7 +1,7 @@
 ghost use Rattle.std.specs.Prelude.{◌≡◌};
 
-use crate::numbers_ref::NumbersRef;
 use dd_model::Pair;
+use dd_numbers::NumbersRef;
 use std::marker::Model;
 
 /// A symbol that is lent to a reader of many numbers: the form in which they are kept was asked for
@@ -16,7 +16,7 @@ impl<'a> Model for SymbolRef<'a> {
     ghost use Rattle.std.specs.Prelude.{◌≡◌, ◌*◌, length};
     ghost use Rattle.dd_model.specs.Symbol.{Symbol as Tiling};
     ghost use Rattle.dd_symbol.specs.Images.{of_code};
-    ghost use Rattle.dd_symbol.specs.Numbers.{lent_items};
+    ghost use Rattle.dd_numbers.specs.Numbers.{lent_items};
 
     ghost Value = { Tiling };
 

@@ -20,8 +20,3 @@ pub record AddsLines (k : ℕ) (ss : List Symbol) (old new : List ℕ) : Type 0 
   pub lines : List ℕ
   pub are_lines : AreLines k ss lines
   pub text : new ≡ old ++ lines
-
--- the old text, and perhaps more
-pub record IsLonger (old new : List ℕ) : Type 0 where
-  pub rest : List ℕ
-  pub text : new ≡ old ++ rest

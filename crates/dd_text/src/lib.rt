@@ -21,4 +21,4 @@ pub use fault_laws::{a_faulty_file_spells_nothing, a_file_has_one_fault};
 pub use faults::{FileFault, Why};
 pub use list_lines::put_list;
 pub use reading::read_file;
-pub use writing::{put_bytes, put_line, put_lines};
+pub use writing::{put_line, put_lines};

@@ -5,15 +5,16 @@ ghost use Rattle.dd_symbol.specs.Images.{with_degrees};
 ghost use Rattle.dd_text.specs.Numbered.{IsNumbered};
 ghost use Rattle.dd_text.specs.Outline.{HasCells, HasNumber, IsOutlineOf};
 ghost use Rattle.dd_text.specs.Making.{IsBegun, IsFinished, TellsChamber};
-ghost use Rattle.dd_text.specs.Writing.{AddsLine, IsLonger};
+ghost use Rattle.dd_model.specs.Longer.{IsLonger};
+ghost use Rattle.dd_text.specs.Writing.{AddsLine};
 
 use crate::counting::count_up;
 use crate::least::add_least;
 use crate::told_degrees::put_told;
-use crate::writing::{put_bytes, put_cells, put_image, put_number, put_ordinal};
-use dd_list::Listed;
-use dd_model::{Memory, Pair};
+use crate::writing::{put_cells, put_image, put_number, put_ordinal};
+use dd_model::{Memory, Pair, put_bytes};
 use dd_symbol::Symbol;
+use dd_symbol_list::Listed;
 use std::alloc::Global;
 
 /// What a line has in common with the next one. From line to line the number is counted up in its

@@ -3,10 +3,11 @@ ghost use Rattle.dd_model.specs.Line.{IsLine, after_space, spaced};
 ghost use Rattle.dd_model.specs.Symbol.{IsChamber, degree};
 ghost use Rattle.dd_model.specs.Text.{AreLines};
 ghost use Rattle.dd_text.specs.Told.{TellsImage};
-ghost use Rattle.dd_text.specs.Writing.{next_number, AddsLine, AddsLines, IsLonger};
+ghost use Rattle.dd_model.specs.Longer.{IsLonger};
+ghost use Rattle.dd_text.specs.Writing.{next_number, AddsLine, AddsLines};
 
 use crate::outline::Outline;
-use dd_model::{Memory, Pair};
+use dd_model::{Memory, Pair, put_bytes};
 use dd_symbol::{Connected, Symbol};
 use itoa::Buffer;
 
@@ -190,12 +191,4 @@ fn put_long(out: &mut Vec<u8>, number: u32) -> Result<(), Memory>
 {
     let mut digits = Buffer::new();
     put_bytes(out, digits.format(number).as_bytes())
-}
-
-/// Appends some bytes. At `Err` the old text stays in front.
-pub fn put_bytes(out: &mut Vec<u8>, bytes: &[u8]) -> Result<(), Memory>
-    ensures bytes { OnOk result (out.new.items ≡ out.old.items ++ bytes.now) }
-    ensures longer { IsLonger out.old.items out.new.items }
-{
-    Ok(out.extend_from_slice(bytes)?)
 }

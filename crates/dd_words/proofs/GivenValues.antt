@@ -8,7 +8,7 @@ use Rattle.dd_words.specs.declared.settings.Setting.{Setting}
 use Rattle.dd_words.specs.declared.settings.Setting.TheVariants.{Tiles, Vertices, LeastFace, LeastDegree, Faces, Degrees, Minimal, Workers, Round, Pause, Checkpoint, Cell}
 use Rattle.dd_words.specs.declared.commands.Command.{Command}
 use Rattle.dd_words.specs.declared.commands.Command.TheVariants as command
-use Rattle.dd_lattice.specs.declared.frame.Frame.{Frame}
+use Rattle.dd_model.specs.declared.frame.Frame.{Frame}
 use Rattle.dd_words.specs.Values.{Text}
 use Rattle.dd_words.specs.Given.{Given, AreSingle, Has, Lacks}
 use Rattle.dd_words.specs.SettingNames.{word_of}

@@ -5,8 +5,8 @@ use Rattle.dd_model.specs.declared.allowed.Allowed.{Allowed}
 use Rattle.dd_model.proofs.AllowedSets.{same_sets, same_from_sets}
 use Rattle.dd_words.specs.declared.settings.Setting.{Setting}
 use Rattle.dd_words.specs.declared.settings.Setting.TheVariants.{Cell}
-use Rattle.dd_lattice.specs.declared.frame.Frame.{Frame}
-use Rattle.dd_lattice.specs.declared.frame.Frame.TheVariants.{Square, Hex}
+use Rattle.dd_model.specs.declared.frame.Frame.{Frame}
+use Rattle.dd_model.specs.declared.frame.Frame.TheVariants.{Square, Hex}
 use Rattle.dd_words.specs.Values.{Text, IsNumberIn, IsSetWord, IsName}
 use Rattle.dd_words.specs.Given.{Given, AreSingle, Has, Lacks}
 use Rattle.dd_words.specs.GivenValues.{IsNumberOr, IsNumberIfGiven, IsNameIfGiven, IsFlagIfGiven, IsSet, word_of_frame, IsFramed}

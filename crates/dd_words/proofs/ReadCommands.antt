@@ -5,7 +5,7 @@ use Rattle.dd_model.specs.declared.requests.Request.{Request}
 use Rattle.dd_model.proofs.Lists.{cons_head, cons_tail}
 use Rattle.dd_words.specs.declared.commands.Command.{Command}
 use Rattle.dd_words.specs.declared.commands.Command.TheVariants as command
-use Rattle.dd_lattice.specs.declared.frame.Frame.{Frame}
+use Rattle.dd_model.specs.declared.frame.Frame.{Frame}
 use Rattle.dd_words.specs.declared.commands.FileKind.{FileKind}
 use Rattle.dd_words.specs.declared.settings.Setting.TheVariants.{Pause, Checkpoint}
 use Rattle.dd_words.specs.declared.verbs.Verb.{Verb}

@@ -2,7 +2,7 @@
 use Rattle.std.specs.Prelude.{◌≡◌, ℕ, List, [], ◌∷◌, Option, IsSome}
 use Rattle.dd_model.specs.declared.requests.Request.{Request}
 use Rattle.dd_words.specs.declared.settings.Setting.TheVariants.{Tiles, Vertices, LeastFace, LeastDegree, Faces, Degrees, Minimal, Workers, Round, Pause, Checkpoint}
-use Rattle.dd_lattice.specs.declared.frame.Frame.{Frame}
+use Rattle.dd_model.specs.declared.frame.Frame.{Frame}
 use Rattle.dd_words.specs.declared.commands.Command.{Command}
 use Rattle.dd_words.specs.declared.commands.Command.TheVariants as command
 use Rattle.dd_words.specs.Values.{Text, IsNumberIn, IsName}

@@ -1,6 +1,5 @@
 use crate::names::Name;
-use dd_lattice::Frame;
-use dd_model::Request;
+use dd_model::{Frame, Request};
 use dd_template::Operation;
 
 /// What a command does with the symbols of a file.

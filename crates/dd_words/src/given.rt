@@ -11,8 +11,7 @@ use crate::names::Name;
 use crate::sets::read_set;
 use crate::settings::{Given, Setting, value_of};
 use crate::values::{is_name, read_number_in};
-use dd_lattice::Frame;
-use dd_model::Allowed;
+use dd_model::{Allowed, Frame};
 use std::alloc::Global;
 
 /// The least number of edges of tiles, and the least degree of vertices, where none is given.

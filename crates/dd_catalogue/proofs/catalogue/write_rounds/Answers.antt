@@ -6,7 +6,7 @@ use Rattle.dd_front.specs.Machine.{StandsAt, jobs_of}
 use Rattle.dd_front.specs.Rounds.{open_jobs}
 use Rattle.dd_board.specs.Desk.{AreJobsOf}
 use Rattle.dd_catalogue.specs.Ways.{Way}
-use Rattle.dd_catalogue.specs.Runs.{start_of, Finishes}
+use Rattle.dd_pages.specs.Runs.{start_of, Finishes}
 use Rattle.dd_catalogue.proofs.Outcomes.{next_round, went_out, lines_between, finish_whole, finish_full, full_lines, limit_above, limit_most}
 use Rattle.dd_catalogue.proofs.RoundEntries.{fewer_wait}
 use Rattle.dd_catalogue.proofs.WaySteps.{appends_nothing, begun_open, way_first, way_jobs, way_part, way_written, way_flushed, full_flushed, full_written, full_part}

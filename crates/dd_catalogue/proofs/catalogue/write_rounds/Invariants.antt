@@ -2,9 +2,9 @@ use Rattle.std.proofs.Common.{◌≡◌, ◌≤◌, true, List, [], length}
 use Rattle.dd_model.specs.declared.jobs.Job.{Job}
 use Rattle.dd_model.specs.declared.jobs.Position.{Position}
 use Rattle.dd_front.specs.Rounds.{open_jobs}
-use Rattle.dd_catalogue.specs.Rounds.{AreOpen}
+use Rattle.dd_pages.specs.Rounds.{AreOpen}
 use Rattle.dd_catalogue.specs.Ways.{IsUnderWay}
-use Rattle.dd_catalogue.specs.Runs.{start_of}
+use Rattle.dd_pages.specs.Runs.{start_of}
 use Rattle.dd_catalogue.proofs.catalogue.write_rounds.Given as goal
 
 -- the lines of the run are under way, all entries wait, no line came after the last one, the count of faults did not fall, and

@@ -3,8 +3,8 @@ use Rattle.std.proofs.lemmas.Result.{err_from_is_err_and}
 use Rattle.dd_model.specs.Request.{IsValid}
 use Rattle.dd_front.specs.Machine.{jobs_of}
 use Rattle.dd_board.specs.Desk.{AreJobsOf}
-use Rattle.dd_catalogue.specs.Runs.{start_of}
-use Rattle.dd_catalogue.specs.declared.fault.RunFault.TheVariants.{Memory}
+use Rattle.dd_pages.specs.Runs.{start_of}
+use Rattle.dd_pages.specs.declared.fault.RunFault.TheVariants.{Memory}
 use Rattle.dd_catalogue.proofs.Outcomes.{limit_above}
 use Rattle.dd_catalogue.proofs.WaySteps.{begun_open, way_jobs}
 use Rattle.dd_catalogue.proofs.KeptRuns.{first_failed, head_first, way_at, head_stopped, head_whole, round_way, round_under, round_failed, fewer_open, save_failed, head_after, full_ended}

@@ -1,8 +1,8 @@
 use Rattle.std.proofs.Common.{◌≡◌, ◌≤◌, true, length}
 use Rattle.dd_front.specs.Rounds.{open_jobs}
 use Rattle.dd_ports.specs.Texts.{SameOthers}
-use Rattle.dd_catalogue.specs.Rounds.{AreOpen}
-use Rattle.dd_catalogue.specs.Runs.{start_of}
+use Rattle.dd_pages.specs.Rounds.{AreOpen}
+use Rattle.dd_pages.specs.Runs.{start_of}
 use Rattle.dd_catalogue.proofs.KeptRuns.{IsHead}
 use Rattle.dd_catalogue.proofs.chain.keep_rounds.Given as goal
 

@@ -2,8 +2,8 @@ use Rattle.std.proofs.Common.{ℕ, subst}
 use Rattle.dd_model.specs.declared.jobs.Position.{Position}
 use Rattle.dd_front.specs.Machine.{IsOpened}
 use Rattle.std.proofs.lemmas.Result.{IfOk-weaker}
-use Rattle.dd_catalogue.specs.Rounds.{IsBegun}
-use Rattle.dd_catalogue.specs.Runs.{start_of}
+use Rattle.dd_pages.specs.Rounds.{IsBegun}
+use Rattle.dd_pages.specs.Runs.{start_of}
 use Rattle.dd_catalogue.proofs.JobsFrom.{from_ascending, from_apart}
 use Rattle.dd_catalogue.proofs.rounds.front_of.Goals as goal
 

@@ -1,9 +1,6 @@
 use Rattle.std.proofs.Common.{◌≤◌, inl, inr, arith}
-use Rattle.dd_commands.proofs.TorusForms.{torus_along, many_vertices}
+use Rattle.dd_commands.proofs.TorusForms.{many_vertices}
 use Rattle.dd_commands.proofs.drawing.torus_net.Goals as goal
-
-pub shifts-requires : goal.shifts-requires
-shifts-requires c = torus_along c.in-Ok.cover.symbol c.in_ok-form.form c.in-Ok.ensures.torus c.in_ok-form.ensures
 
 pub returns-then-count-gt-MOST_VERTICES-clause-why : goal.returns-then-count-gt-MOST_VERTICES-clause-why
 returns-then-count-gt-MOST_VERTICES-clause-why c =
@@ -21,10 +18,26 @@ returns-then-count-gt-MOST_VERTICES-clause-why c =
       over = omega (arith, c.if-count-gt-MOST_VERTICES.true);
     }))
 
+pub returns-clause-net : goal.returns-clause-net
+returns-clause-net c =
+    let least = c.in_ok-least_net.ensures.net in
+    record {
+      torus = least.form;
+      least = record {
+        flat = c.in-Ok.ensures.flat;
+        cover = c.in-Ok.cover.symbol;
+        below = c.in-Ok.cover.below;
+        is_cover = c.in-Ok.ensures.cover;
+        least = least.least;
+      };
+      is_net = least.is_net;
+    }
+
 pub returns-clause-few : goal.returns-clause-few
 returns-clause-few c =
     let cells = c.count-count.ensures.exist in
     let count = c.count-count.ensures.cells cells.0 cells.1 in
+    let least = c.in_ok-least_net.ensures.net in
     let few : c.count-count.result ≤ 96 = omega (arith, c.if-count-gt-MOST_VERTICES.false) in
-    let many = many_vertices c.in-Ok.cover.symbol c.in_ok-form.form c.in_ok-shifts.field-0 cells.0 c.in-Ok.ensures.torus c.in_ok-form.ensures c.in_ok-shifts.ensures.net cells.1 in
+    let many = many_vertices c.in-Ok.cover.symbol least.form c.in_ok-least_net.field-0 cells.0 c.in-Ok.ensures.torus least.least least.is_net cells.1 in
     omega (arith, many, count, few)

@@ -1,7 +1,7 @@
 use Rattle.std.proofs.Common.{◌+◌}
 use Rattle.dd_invol.specs.Children.{IsStemOf}
-use Rattle.dd_partial.specs.Visit.{IsVisiting}
-use Rattle.dd_invol.proofs.Extensions.{AreExtensionsBelow}
+use Rattle.dd_partial_table.specs.Visit.{IsVisiting}
+use Rattle.dd_partial_table.proofs.Extensions.{AreExtensionsBelow}
 use Rattle.dd_invol.proofs.splits.extensions.Given as goal
 
 abbrev pub invariant-loop-k : goal.invariant-loop-k

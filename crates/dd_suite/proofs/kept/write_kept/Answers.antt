@@ -1,8 +1,8 @@
 use Rattle.std.proofs.Common.{◌≤◌, sym, ap, ◌∙◌, subst, arith}
 use Rattle.dd_model.specs.Request.{IsValid}
 use Rattle.dd_model.specs.Position.{IsPosition}
-use Rattle.dd_chain.specs.Starts.{Start, first_start}
-use Rattle.dd_catalogue.specs.declared.pace.Pace.{Pace}
+use Rattle.dd_check.specs.ChainStarts.{Start, first_start}
+use Rattle.dd_pages.specs.declared.pace.Pace.{Pace}
 use Rattle.dd_suite.proofs.RunCalls.{kept_outcome, same_run}
 use Rattle.dd_suite.proofs.kept.write_kept.Goals as goal
 

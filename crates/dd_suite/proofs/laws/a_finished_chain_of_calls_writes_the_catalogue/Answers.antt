@@ -1,6 +1,6 @@
 use Rattle.std.proofs.Common.{map}
-use Rattle.dd_chain.specs.Calls.{Done}
-use Rattle.dd_chain.proofs.Chained.{chain_ends}
+use Rattle.dd_check.specs.Calls.{Done}
+use Rattle.dd_check.proofs.Chained.{chain_ends}
 use Rattle.dd_suite.specs.Chains.{call_of}
 use Rattle.dd_suite.proofs.ProgramCalls.{all_meet}
 use Rattle.dd_suite.proofs.laws.a_finished_chain_of_calls_writes_the_catalogue.Goals as goal

@@ -1,10 +1,10 @@
 use Rattle.std.proofs.Common.{◌≤◌, sym, ap, subst, arith}
 use Rattle.dd_model.specs.Request.{IsValid}
 use Rattle.dd_model.specs.Position.{IsPosition}
-use Rattle.dd_chain.specs.Starts.{Start, next_start}
-use Rattle.dd_catalogue.specs.declared.pace.Pace.{Pace}
-use Rattle.dd_catalogue.specs.Runs.{start_of}
-use Rattle.dd_suite.specs.Outside.{Before, After}
+use Rattle.dd_check.specs.ChainStarts.{Start, next_start}
+use Rattle.dd_pages.specs.declared.pace.Pace.{Pace}
+use Rattle.dd_pages.specs.Runs.{start_of}
+use Rattle.dd_tasks.specs.Outside.{Before, After}
 use Rattle.dd_suite.proofs.CheckValues.{check_valid, check_counts, check_position}
 use Rattle.dd_suite.proofs.RunCalls.{resumed_outcome, same_run, ends_earlier}
 use Rattle.dd_suite.proofs.resume.resume.Goals as goal

@@ -1,12 +1,12 @@
 use Rattle.std.proofs.Common.{ℕ, List, None, Some, map, refl, subst}
 use Rattle.std.specs.Rc.{rc_str_bytes}
-use Rattle.dd_chain.specs.Calls.{Catalogue as First, Resume as Next}
-use Rattle.dd_suite.specs.declared.task.Task.TheVariants.{Catalogue, Kept, Resume, OnFile, Exercise}
-use Rattle.dd_suite.specs.Outcomes.{IsRunOutcome}
-use Rattle.dd_suite.specs.Outside.{Before, After}
-use Rattle.dd_suite.specs.Stops.{EndsOnFile, on_file, of_exercise, of_run}
-use Rattle.dd_suite.specs.Words.{IsOnFile, AskToExercise}
-use Rattle.dd_suite.proofs.Requests.{asked_of, file_asked, lone_asked, kept_asked, resume_asked, exercise_asked, exercise_range}
+use Rattle.dd_check.specs.Calls.{Catalogue as First, Resume as Next}
+use Rattle.dd_tasks.specs.declared.task.Task.TheVariants.{Catalogue, Kept, Resume, OnFile, Exercise}
+use Rattle.dd_tasks.specs.Outcomes.{IsRunOutcome}
+use Rattle.dd_tasks.specs.Outside.{Before, After}
+use Rattle.dd_tasks.specs.Stops.{EndsOnFile, on_file, of_exercise, of_run}
+use Rattle.dd_tasks.specs.Words.{IsOnFile, AskToExercise}
+use Rattle.dd_tasks.proofs.Requests.{asked_of, file_asked, lone_asked, kept_asked, resume_asked, exercise_asked, exercise_range}
 use Rattle.dd_suite.proofs.RunCalls.{lone_outcome}
 use Rattle.dd_suite.proofs.top.perform.Goals as goal
 

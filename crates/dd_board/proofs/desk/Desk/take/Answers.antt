@@ -9,5 +9,5 @@ book-requires-clause-allowed g c = may_look c.args.self.now.machine c.args.worke
 pub book-requires-2-clause-allowed : goal.book-requires-2-clause-allowed
 book-requires-2-clause-allowed g c = may_take c.args.self.now.machine c.args.worker c.in-Some.first.now c.in-Some.ensures.first
 
-pub invariant_of-result : goal.invariant_of-result
-invariant_of-result g c = record { valid = ∣ c.first_open.ensures.valid ∣₁; job_of = subst (IsJobOf g.N.Naming.request) (sym c.in_ok-job.ensures) c.in-Some.ensures.job }
+pub new-requires-clause-job_of : goal.new-requires-clause-job_of
+new-requires-clause-job_of g c = subst (IsJobOf g.N.Naming.request) (sym c.in_ok-job.ensures) c.in-Some.ensures.job

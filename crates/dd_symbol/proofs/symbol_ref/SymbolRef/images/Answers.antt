@@ -2,7 +2,7 @@ use Rattle.std.proofs.Common.{◌+◌, ◌-◌, ◌*◌, [], ◌∷◌, get_or, 
 use Rattle.dd_model.specs.Symbol.{IsChamber, item}
 use Rattle.dd_model.specs.Code.{images}
 use Rattle.dd_symbol.specs.Images.{column, of_code}
-use Rattle.dd_symbol.specs.Numbers.{lent_items}
+use Rattle.dd_numbers.specs.Numbers.{lent_items}
 use Rattle.dd_symbol.proofs.TableLemmas.{item-first, item-column}
 use Rattle.dd_symbol.proofs.symbol_ref.SymbolRef.images.Goals as goal
 

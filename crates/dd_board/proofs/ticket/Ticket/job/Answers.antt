@@ -1,5 +1,0 @@
-use Rattle.dd_board.proofs.ValidRequests.{valid_of}
-use Rattle.dd_board.proofs.ticket.Ticket.job.Goals as goal
-
-pub returns-clause-valid : goal.returns-clause-valid
-returns-clause-valid g c = valid_of g.N.Naming.request c.args.self.now.valid

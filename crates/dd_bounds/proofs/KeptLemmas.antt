@@ -1,0 +1,55 @@
+-- The ends of paths after some were written.
+use Rattle.std.proofs.Common.{◌≡◌, ℕ, ◌+◌, ◌*◌, ◌%◌, ◌<◌, ◌≤◌, ◌⊎◌, Bool, List, Some, length, set, slice_get, ap, subst}
+use Rattle.dd_model.specs.Symbol.{Symbol}
+use Rattle.dd_model.specs.declared.pair.Pair.TheVariants.{Tile, Vertex}
+use Rattle.dd_bounds.specs.Classes.{joined_class, IsClosedShare, IsCappedShare, IsJoinedShare}
+use Rattle.dd_bounds.specs.Passing.{Passes, AreEndsOf}
+use Rattle.dd_bounds.specs.PathEnd.{PathEnd}
+use Rattle.dd_bounds.specs.Sides.{IsJoin, end_of, path_end, class_weight}
+use Rattle.dd_bounds.specs.declared.class_shares.ClassShares.{ClassShares}
+use Rattle.dd_bounds.specs.declared.end.End.{End}
+use Rattle.dd_bounds.proofs.SideLemmas.{IsAnEnd, AreTwoEnds, ends_capped, ends_connected, ends_closed}
+use Rattle.dd_bounds.proofs.WriteLemmas.{view, kept_two, kept_four}
+
+-- an end in a list
+pub listed_end : (t : ClassShares) (xs : List End) (x : ℕ) (e : End) → slice_get xs x ≡ Some e → 1 ≤ e.class.number % 64 → IsAnEnd t (view t xs) x e.other e.class.number
+listed_end t xs x e listed some = record { told = ap (end_of t) listed; low = e.class.small; some = some }
+
+pub live_end : (t : ClassShares) (xs : List End) (x : ℕ) (e : End) → slice_get xs x ≡ Some e → 1 ≤ (view t xs x).chambers → IsAnEnd t (view t xs) x e.other e.class.number
+live_end t xs x e listed live = listed_end t xs x e listed (subst (λ (e : PathEnd). 1 ≤ e.chambers) (ap (end_of t) listed) live)
+
+-- What stands at the other end of a path that goes on: nothing where an involution fixes that end, too.
+pub record IsBeyond (one : End) (further kind : ℕ) (e : End) : Type 0 where
+  pub fixed : 64 ≤ one.class.number → e.class.number ≡ 0
+  pub other : one.class.number < 64 → e.other ≡ further
+  pub class : one.class.number < 64 → e.class.number ≡ kind
+
+module _ (t : ClassShares) (which : (t.pair ≡ Tile) ⊎ (t.pair ≡ Vertex)) (P : Symbol) (test : Symbol → Bool) (xs : List End) (total more : ℕ)
+    (are : AreEndsOf t.request P test t.pair (view t xs) total) (long : length xs ≡ 74) (x : ℕ) (one : End) (flag : x < 74) where
+  pub capped_kept : IsAnEnd t (view t xs) x one.other one.class.number → one.class.number % 64 ≤ 36 → (v i j : ℕ) (n d : End) → i ≡ x → j ≡ one.other → n.class.number ≡ 0
+      → IsBeyond one x (64 + one.class.number % 64) d → IsJoin (Passes P test) t.pair x x → IsCappedShare t.request t.pair t.weights one.class.number v
+      → more + class_weight t one.class.number ≡ total + one.class.number % 64 * v → AreEndsOf t.request P test t.pair (view t (set (set xs i n) j d)) more
+  capped_kept end few v i j n d first second none beyond join share sum =
+      kept_two t t.request P test t.pair xs more long x one.other i j n d flag one.other_inside first second
+      (ends_capped t which P test (view t xs) total more are end join v share few (end_of t (Some n)) (end_of t (Some d)) (ap (λ k. k % 64) none)
+      (λ high. ap (λ k. k % 64) (beyond.fixed high)) (λ low i. path_end t (beyond.other low i) (beyond.class low i)) sum)
+
+  pub closed_kept : IsAnEnd t (view t xs) x one.other one.class.number → one.class.number % 64 ≤ 36 → (y v i j : ℕ) (n d : End) → one.other ≡ y → (y ≡ x → ⊥) → i ≡ x → j ≡ one.other
+      → n.class.number ≡ 0 → d.class.number ≡ 0 → IsJoin (Passes P test) t.pair x y → IsClosedShare t.request t.pair one.class.number v
+      → more + class_weight t one.class.number ≡ total + one.class.number % 64 * v → AreEndsOf t.request P test t.pair (view t (set (set xs i n) j d)) more
+  closed_kept end few y v i j n d other apart first second none also join share sum =
+      kept_two t t.request P test t.pair xs more long x one.other i j n d flag one.other_inside first second
+      (ends_closed t which P test (view t xs) total more are end y join other apart v share few (end_of t (Some n)) (end_of t (Some d)) (ap (λ k. k % 64) none) (ap (λ k. k % 64) also) sum)
+
+  pub connected_kept : (y : ℕ) (other : End) → AreTwoEnds t (view t xs) x one.other one.class.number y other.other other.class.number → t.size ≡ P.size → y < 74
+      → one.class.number % 64 + other.class.number % 64 ≤ 36 → (v a b i j : ℕ) (n o e d : End) → a ≡ x → b ≡ y → i ≡ one.other → j ≡ other.other → n.class.number ≡ 0 → o.class.number ≡ 0
+      → IsBeyond one other.other (joined_class one.class.number other.class.number) e → IsBeyond other one.other (joined_class one.class.number other.class.number) d
+      → IsJoin (Passes P test) t.pair x y → IsJoinedShare t.request t.pair t.weights one.class.number other.class.number v
+      → more + (class_weight t one.class.number + class_weight t other.class.number) ≡ total + (one.class.number % 64 + other.class.number % 64) * v
+      → AreEndsOf t.request P test t.pair (view t (set (set (set (set xs a n) b o) i e) j d)) more
+  connected_kept y other two sized y_flag few v a b i j n o e d first second third fourth none nor ahead back join share sum =
+      kept_four t t.request P test t.pair xs more long x y one.other other.other a b i j n o e d flag y_flag one.other_inside other.other_inside first second third fourth
+      (ends_connected t which P test (view t xs) total more are two sized few join v share (end_of t (Some n)) (end_of t (Some o)) (end_of t (Some e)) (end_of t (Some d))
+      (ap (λ k. k % 64) none) (ap (λ k. k % 64) nor)
+      (λ high. ap (λ k. k % 64) (ahead.fixed high)) (λ low i. path_end t (ahead.other low i) (ahead.class low i))
+      (λ high. ap (λ k. k % 64) (back.fixed high)) (λ low i. path_end t (back.other low i) (back.class low i)) sum)

@@ -1,0 +1,13 @@
+pub mod Labels
+pub mod PathEnd
+pub mod Ends
+pub mod Changes
+pub mod Passing
+pub mod Classes
+pub mod Sides
+pub mod Kept
+pub mod Census
+pub mod Units
+pub mod Shares
+pub mod Closed
+pub mod Turning

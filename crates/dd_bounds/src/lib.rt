@@ -1,0 +1,35 @@
+//! What cuts the search: bounds on the degrees of every symbol that completes a partial table, kept at
+//! the ends of the paths of the table.
+#![tactic(auto)]
+
+mod class;
+mod class_shares;
+mod counts;
+mod degrees;
+mod end;
+mod end_laws;
+mod kept_laws;
+mod limits;
+mod link;
+mod parity;
+mod path_shares;
+mod share_laws;
+mod side;
+mod sides;
+mod whole_cell;
+
+pub use degrees::{SHARE_UNIT, least_degree, share_of, share_of_cell};
+pub use end_laws::{
+    a_closed_path_has_the_share_of_its_cell, a_path_with_a_fixed_end_has_the_share_of_a_chain,
+    each_chamber_is_a_path_alone, joined_paths_have_one_share, no_path_has_more_than_the_total,
+    the_total_of_the_ends_bounds_the_shares, what_holds_of_some_tables_holds_of_fewer,
+};
+pub use kept_laws::{shares_stay_while_a_table_is_filled, whole_cells_count};
+pub use parity::parity_rules_out;
+pub use path_shares::PathShares;
+pub use share_laws::{
+    a_cell_has_at_most_two_chambers_for_each_turn, each_cell_adds_at_most_two,
+    fixed_flags_halve_a_cell, flat_symbols_have_large_shares, odd_tables_have_fixed_chambers,
+};
+pub use sides::Sides;
+pub use whole_cell::WholeCell;

@@ -1,0 +1,243 @@
+ghost use Rattle.std.specs.Prelude.{◌≡◌, ℕ, ◌+◌, ◌*◌, ◌≤◌, ◌<◌, Bool, IsTrue, IsFalse};
+ghost use Rattle.std.specs.Int.{bit_at};
+ghost use Rattle.dd_model.specs.Partial.{Completes};
+ghost use Rattle.dd_model.specs.Symbol.{Symbol as Tiling};
+ghost use Rattle.dd_partial_table.specs.Rows.{partial_of, IsReady, HasNumberAt};
+ghost use Rattle.dd_bounds.specs.Shares.{IsSought};
+ghost use Rattle.dd_bounds.specs.Units.{share_unit};
+ghost use Rattle.dd_bounds.specs.Kept.{AreSides, AreSidesOfSome, IsImage};
+ghost use Rattle.dd_bounds.specs.Passing.{Passes};
+ghost use Rattle.dd_bounds.specs.Sides.{IsSumOf};
+
+use crate::degrees::SHARE_UNIT;
+use crate::link::Link;
+use crate::path_shares::PathShares;
+use crate::side::Side;
+use dd_model::{Index, Request};
+use dd_partial_table::Rows;
+
+/// The paths of both pairs of a table that a search fills, with two shares for each chamber, one for
+/// each pair. The share of a chamber is SHARE_UNIT divided by the least degree that a request allows
+/// and that its path has room for, rounded up. Flat symbols have large shares, so that a search can
+/// turn back where their sum is too small. A search copies the paths before it puts a number in, so
+/// that it can go back; no call allocates.
+#[derive(Clone, Copy, Drop)]
+pub struct Sides {
+    pub(crate) tiles: Side,
+    pub(crate) vertices: Side,
+}
+
+impl Sides {
+    /// Those of a table of which nothing but the size is known.
+    pub fn start(classes: &PathShares) -> Sides
+        ensures { (partial : Tiling) → partial.size ≡ classes.now.size
+            → AreSides classes.now partial result }
+    {
+        Sides {
+            tiles: Side::start(&classes.tiles),
+            vertices: Side::start(&classes.vertices),
+        }
+    }
+
+    /// The totals where an image becomes known.
+    #[inline(always)]
+    pub(crate) fn totals_with(&self, classes: &PathShares, link: &Link) -> (u64, u64)
+        requires some { AreSidesOfSome classes.now self.now }
+        ensures tiles { (partial : Tiling) (test : Tiling → Bool)
+            → AreSides classes.now partial self.now → IsImage (Passes partial test) link.now
+            → IsSumOf classes.now.tiles partial test result.0 }
+        ensures vertices { (partial : Tiling) (test : Tiling → Bool)
+            → AreSides classes.now partial self.now → IsImage (Passes partial test) link.now
+            → IsSumOf classes.now.vertices partial test result.1 }
+        ensures few_tiles { result.0 ≤ 36 * share_unit }
+        ensures few_vertices { result.1 ≤ 36 * share_unit }
+    {
+        let first = link.flags(0);
+        let second = link.flags(1);
+        let tiles = &self.tiles;
+        let vertices = &self.vertices;
+        match link.index {
+            Index::Zero => (
+                tiles.total_with(&classes.tiles, first.0, first.1),
+                vertices.total,
+            ),
+            Index::One => (
+                tiles.total_with(&classes.tiles, second.0, second.1),
+                vertices.total_with(&classes.vertices, first.0, first.1),
+            ),
+            Index::Two => (
+                tiles.total,
+                vertices.total_with(&classes.vertices, second.0, second.1),
+            ),
+        }
+    }
+
+    /// Joins the paths between which an image leads. False where it is sure that no wanted symbol
+    /// completes a table with that image.
+    pub(crate) fn join(&mut self, classes: &PathShares, link: &Link) -> bool
+        requires some { AreSidesOfSome classes.now self.old }
+        ensures kept { (partial : Tiling) → IsImage (Completes partial) link.now
+            → AreSides classes.now partial self.old → AreSides classes.now partial self.new }
+        ensures dead { IsFalse result → (partial : Tiling) → IsImage (Completes partial) link.now
+            → AreSides classes.now partial self.old → (s : Tiling)
+            → ¬ IsSought classes.now.request partial s }
+    {
+        let first = link.flags(0);
+        let second = link.flags(1);
+        let tiles = &mut self.tiles;
+        let vertices = &mut self.vertices;
+        match link.index {
+            Index::Zero => tiles.join(&classes.tiles, first.0, first.1),
+            Index::One => {
+                tiles.join(&classes.tiles, second.0, second.1)
+                    && vertices.join(&classes.vertices, first.0, first.1)
+            }
+            Index::Two => vertices.join(&classes.vertices, second.0, second.1),
+        }
+    }
+
+    /// Whether it is sure that no wanted symbol completes the table that has a number at a place of
+    /// its code: the shares are then too small.
+    #[inline(always)]
+    pub fn rules_out_number(
+        &self,
+        classes: &PathShares,
+        table: &Rows,
+        place: u8,
+        number: u8,
+    ) -> bool
+        requires ready { IsReady table.now }
+        requires place { place < 3 * (partial_of table.now).size }
+        requires number { number ≤ 36 }
+        requires kept { AreSides classes.now (partial_of table.now) self.now }
+        ensures { IsTrue result → (s : Tiling)
+            → IsSought classes.now.request (partial_of table.now) s
+            → ¬ HasNumberAt place number s }
+    {
+        let link = Link::told(place, number);
+        let (tiles, vertices) = self.totals_with(classes, &link);
+        is_too_small(tiles, vertices, table.size())
+    }
+
+    /// Of some numbers, as bits, those that the shares do not rule out at a place of the code. It is
+    /// asked about all of them at once, since most of what is reckoned for one, as the path that ends
+    /// at the chamber, is the same for the others.
+    #[inline(always)]
+    pub fn sieve(&self, classes: &PathShares, table: &Rows, place: u8, numbers: u64) -> u64
+        requires ready { IsReady table.now }
+        requires place { place < 3 * (partial_of table.now).size }
+        requires numbers { (m : ℕ) → bit_at numbers m ≡ 1 → m ≤ 36 }
+        requires kept { AreSides classes.now (partial_of table.now) self.now }
+        ensures { (m : ℕ) → bit_at numbers m ≡ 1 → bit_at result m ≡ 0 → (s : Tiling)
+            → IsSought classes.now.request (partial_of table.now) s
+            → ¬ HasNumberAt place m s }
+    {
+        let mut kept = 0;
+        let mut left = numbers;
+        while left != 0 {
+            let number = left.trailing_zeros() as u8;
+            left &= left - 1;
+            if !self.rules_out_number(classes, table, place, number) {
+                kept |= 1 << number;
+            }
+        }
+        kept
+    }
+
+    /// Joins the paths that what was put into the table after a mark joins. True where a cell is then
+    /// whole to which the request allows no degree, so that no wanted symbol completes the table.
+    pub fn learn(&mut self, classes: &PathShares, table: &Rows, mark: usize) -> bool
+        requires ready { IsReady table.now }
+        requires kept { AreSides classes.now (partial_of table.now) self.old }
+        ensures kept { AreSides classes.now (partial_of table.now) self.new }
+        ensures dead { IsTrue result → (s : Tiling)
+            → ¬ IsSought classes.now.request (partial_of table.now) s }
+    {
+        for place in table.filled(mark) {
+            let link = Link::told(*place, table.number_at(*place));
+            if !self.join(classes, &link) {
+                return true;
+            }
+        }
+        false
+    }
+
+    /// Whether the totals are too small.
+    #[inline(always)]
+    fn are_too_small(&self, classes: &PathShares, table: &Rows) -> bool
+        requires ready { IsReady table.now }
+        requires kept { AreSides classes.now (partial_of table.now) self.now }
+        ensures { IsTrue result → (s : Tiling)
+            → ¬ IsSought classes.now.request (partial_of table.now) s }
+    {
+        is_too_small(self.tiles.total, self.vertices.total, table.size())
+    }
+
+    /// Whether it is sure that no wanted symbol completes the table: the shares are too small, where
+    /// the limits of the request are looked at, too, or there are more cells than these allow.
+    #[inline(always)]
+    pub fn rules_out(&self, classes: &PathShares, table: &Rows) -> bool
+        requires ready { IsReady table.now }
+        requires kept { AreSides classes.now (partial_of table.now) self.now }
+        ensures { IsTrue result → (s : Tiling)
+            → ¬ IsSought classes.now.request (partial_of table.now) s }
+    {
+        if self.are_too_small(classes, table) {
+            return true;
+        }
+        let request = &classes.request;
+        if request.tiles == 0 && request.vertices == 0 {
+            return false;
+        }
+        self.limits_rule_out(classes, table)
+    }
+
+    /// Whether the limits of the request, with what the table tells of its cells, make it sure that no
+    /// wanted symbol completes the table. A census is taken only where the counts tell that it may
+    /// show this.
+    fn limits_rule_out(&self, classes: &PathShares, table: &Rows) -> bool
+        requires ready { IsReady table.now }
+        requires kept { AreSides classes.now (partial_of table.now) self.now }
+        ensures { IsTrue result → (s : Tiling)
+            → ¬ IsSought classes.now.request (partial_of table.now) s }
+    {
+        if !self.may_exceed(&classes.request, table.size()) {
+            return false;
+        }
+        let Some(tiles) = self.tiles.limited(&classes.tiles, table) else {
+            return true;
+        };
+        let Some(vertices) = self.vertices.limited(&classes.vertices, table) else {
+            return true;
+        };
+        is_too_small(tiles, vertices, table.size())
+    }
+
+    /// Whether the counts tell that there are more cells than the limits of the request allow, or
+    /// that these make the totals too small.
+    fn may_exceed(&self, request: &Request, size: u8) -> bool
+        requires tiles { self.now.tiles.total ≤ 36 * share_unit }
+        requires vertices { self.now.vertices.total ≤ 36 * share_unit }
+    {
+        let Some(tiles) = self.tiles.counts.bound(request.tiles, size) else {
+            return true;
+        };
+        let Some(vertices) = self.vertices.counts.bound(request.vertices, size) else {
+            return true;
+        };
+        is_too_small(
+            tiles.min(self.tiles.total),
+            vertices.min(self.vertices.total),
+            size,
+        )
+    }
+}
+
+/// Whether two totals are less than those of a flat symbol of a size.
+fn is_too_small(tiles: u64, vertices: u64, size: u8) -> bool
+    requires tiles { tiles ≤ 36 * share_unit }
+    requires vertices { vertices ≤ 36 * share_unit }
+    ensures { IsTrue result → 2 * (tiles + vertices) < size * share_unit }
+{
+    tiles + vertices < u64::from(size) * (SHARE_UNIT / 2)
+}

@@ -1,9 +1,0 @@
-use Rattle.dd_model.specs.Wanted.{IsMember}
-use Rattle.dd_find.proofs.Prefixes.{appends_dead}
-use Rattle.dd_branch.specs.Assignment.{prefix_of}
-use Rattle.dd_branch.proofs.degrees.assignment.Assignment.add_all.Goals as goal
-
-pub returns-in-None : goal.returns-in-None
-returns-in-None c =
-    let a = c.args.self.now in
-    appends_dead (IsMember a.request) a.table.size (prefix_of a) c.args.list.now (rw c.in-None.is at c.whole_budget.ensures)

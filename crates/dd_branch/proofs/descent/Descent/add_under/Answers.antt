@@ -1,0 +1,16 @@
+use Rattle.std.proofs.lemmas.Result.{on_ok_weaker}
+use Rattle.dd_partial_table.specs.Stem.{size_of}
+use Rattle.dd_branch.proofs.Descents.{added_members}
+use Rattle.dd_branch.proofs.GoingBack.{is_descent}
+use Rattle.dd_branch.proofs.descent.Descent.add_under.Goals as goal
+
+pub find-requires-clause-valid : goal.find-requires-clause-valid
+find-requires-clause-valid c = is_descent c.reach.new.self c.if-not-reach.ensures.back
+
+pub returns-clause-list : goal.returns-clause-list
+returns-clause-list c =
+    let old = c.args.self.now in
+    let told = c.if-not-reach.ensures in
+    on_ok_weaker c.find.result
+    (added_members old.request (record { size = size_of old.stem; prefix = c.args.prefix.now }) c.reach.new.self c.args.list.now c.find.new.list told.request told.size told.prefix)
+    c.find.ensures.list

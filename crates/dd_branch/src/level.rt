@@ -1,0 +1,11 @@
+use dd_bounds::Sides;
+
+/// A step of a search: the paths of the table there, and how much there was before the next number
+/// was put in, as numbers of the prefix, images in the table, and moves of starts.
+#[derive(Clone, Copy, Drop)]
+pub(crate) struct Level {
+    pub(crate) numbers: usize,
+    pub(crate) rows: usize,
+    pub(crate) sides: Sides,
+    pub(crate) starts: usize,
+}

@@ -1,6 +1,0 @@
-use Rattle.dd_chain.specs.Calls.{Done}
-use Rattle.dd_chain.proofs.Chained.{chain_ends}
-use Rattle.dd_chain.proofs.laws.a_finished_chain_writes_the_catalogue.Goals as goal
-
-pub returns : goal.returns
-returns c q name calls bytes chain meets begun ends joined = (chain_ends q name calls bytes Done chain meets begun ends joined).end

@@ -1,0 +1,61 @@
+ghost use Rattle.std.specs.Prelude.{◌≡◌, ℕ, List, Option};
+ghost use Rattle.std.specs.List.{AllByRecursion};
+ghost use Rattle.dd_model.specs.declared.requests.Request.{Request};
+ghost use Rattle.dd_model.specs.declared.jobs.Position.{Position};
+ghost use Rattle.dd_model.specs.declared.jobs.Position.TheVariants.{End};
+ghost use Rattle.dd_model.specs.Text.{IsText, beginning};
+ghost use Rattle.dd_check.specs.Between.{AreLinesBetween};
+ghost use Rattle.dd_check.specs.Calls.{Call, Done, Paused, lone_call};
+ghost use Rattle.dd_check.specs.Clauses.{MeetsClauses};
+ghost use Rattle.dd_check.specs.Chains.{IsChain, HasBegun, EndsAs, IsJoined, held_after};
+ghost use Rattle.dd_check.specs.ChainOutcomes.{IsCutAt, IsFront};
+
+/// Where a chain has begun and its last call came to its end, its calls have written the whole
+/// catalogue together, however often they were stopped.
+pub fn a_finished_chain_writes_the_catalogue()
+    ensures { (q : Request) (name : Option (List ℕ)) (calls : List Call) (bytes : List ℕ)
+        → IsChain q name calls → AllByRecursion MeetsClauses calls → HasBegun calls
+        → EndsAs calls Done → IsJoined calls bytes → IsText q beginning 0 bytes }
+{}
+
+/// Where a chain has begun and its last call paused, they have written the first lines, as many as
+/// the checkpoint says.
+pub fn a_paused_chain_writes_the_first_lines()
+    ensures { (q : Request) (name : Option (List ℕ)) (calls : List Call) (bytes : List ℕ)
+        → IsChain q name calls → AllByRecursion MeetsClauses calls → HasBegun calls
+        → EndsAs calls Paused → IsJoined calls bytes → IsCutAt q (held_after calls) bytes }
+{}
+
+/// The calls of a chain make one text.
+pub fn a_chain_is_joined_once()
+    ensures { (calls : List Call) (a b : List ℕ) → IsJoined calls a → IsJoined calls b → a ≡ b }
+{}
+
+/// A chain that has begun makes some text.
+pub fn a_begun_chain_makes_a_text()
+    ensures { (q : Request) (name : Option (List ℕ)) (calls : List Call) → IsChain q name calls
+        → AllByRecursion MeetsClauses calls → HasBegun calls
+        → (bytes : List ℕ) × IsJoined calls bytes }
+{}
+
+/// Whatever stopped its last call, a chain that has begun has written a front of the catalogue.
+pub fn a_begun_chain_writes_a_front()
+    ensures { (q : Request) (name : Option (List ℕ)) (calls : List Call) (bytes : List ℕ)
+        → IsChain q name calls → AllByRecursion MeetsClauses calls → HasBegun calls
+        → IsJoined calls bytes → IsFront q bytes }
+{}
+
+/// Where the text from a position exists, the lines of all members from there to the end are that
+/// text.
+pub fn the_lines_to_the_end_are_the_text()
+    ensures same { (q : Request) (at : Position) (k l : ℕ) (bytes text : List ℕ)
+        → AreLinesBetween q at End k l bytes → IsText q at k text → bytes ≡ text }
+    ensures lines { (q : Request) (at : Position) (k : ℕ) (text : List ℕ) → IsText q at k text
+        → (l : ℕ) × AreLinesBetween q at End k l text }
+{}
+
+/// What is asked of each call can be met: a catalogue without a name that wrote its text does.
+pub fn a_lone_catalogue_meets_the_clauses()
+    ensures { (q : Request) (text : List ℕ) → IsText q beginning 0 text
+        → MeetsClauses (lone_call q text) }
+{}

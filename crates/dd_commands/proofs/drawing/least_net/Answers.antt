@@ -1,0 +1,5 @@
+use Rattle.dd_commands.proofs.TorusForms.{torus_along}
+use Rattle.dd_commands.proofs.drawing.least_net.Goals as goal
+
+pub shifts-requires : goal.shifts-requires
+shifts-requires c = torus_along c.args.torus.now c.in_ok-form.form c.requires c.in_ok-form.ensures

@@ -1,0 +1,23 @@
+//! The deques of a round: each worker pushes and pops tickets at its own, and steals from the others.
+#![tactic(auto)]
+
+mod emptying;
+mod hand;
+mod joining;
+mod known;
+mod linking;
+mod owner;
+mod owning;
+mod rack;
+mod rest;
+mod slot;
+mod way;
+mod ways;
+
+pub use hand::Hand;
+pub use known::Known;
+pub use owner::Owner;
+pub use rack::Rack;
+pub use rest::Rest;
+pub use slot::{Numbered, Slot};
+pub use way::Way;

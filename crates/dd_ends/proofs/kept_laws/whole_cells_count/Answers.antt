@@ -1,5 +1,0 @@
-use Rattle.dd_ends.proofs.RoomLemmas.{has_room}
-use Rattle.dd_ends.proofs.kept_laws.whole_cells_count.Goals as goal
-
-pub returns : goal.returns
-returns _ q partial p c limit which few some census s sought = has_room q partial p c limit which few some census s sought

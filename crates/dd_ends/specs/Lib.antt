@@ -1,9 +1,0 @@
-pub mod Labels
-pub mod PathEnd
-pub mod Ends
-pub mod Changes
-pub mod Passing
-pub mod Classes
-pub mod Sides
-pub mod Kept
-pub mod Census

@@ -1,5 +1,0 @@
-use Rattle.dd_existence.proofs.Texts.{catalogue_exists}
-use Rattle.dd_existence.proofs.laws.a_request_has_a_catalogue.Goals as goal
-
-pub returns : goal.returns
-returns c = catalogue_exists

@@ -1,4 +1,0 @@
-pub mod Orderly
-pub mod Under
-pub mod Search
-pub mod Levels

@@ -1,6 +1,0 @@
-use Rattle.std.proofs.lemmas.Result.{IfOk-weaker}
-use Rattle.dd_invol.proofs.OpeningLaws.{opening_apart}
-use Rattle.dd_front_trials.proofs.front_trials.opening_jobs.Goals as goal
-
-pub returns-clause-apart : goal.returns-clause-apart
-returns-clause-apart c = IfOk-weaker c.opening.result _ _ (λ jobs. opening_apart c.args.request.now jobs.items) c.opening.ensures

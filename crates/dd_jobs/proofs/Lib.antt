@@ -1,0 +1,6 @@
+pub mod JobLists
+pub mod OpeningLaws
+pub mod Places
+pub mod Growth
+pub mod FirstVisits
+pub mod CodeFronts

@@ -1,0 +1,18 @@
+use Rattle.std.proofs.Common.{◌≡◌, ◌+◌, ◌*◌, min, subst, arith}
+use Rattle.dd_jobs.specs.Opening.{AreJobsUnder}
+use Rattle.dd_jobs.specs.Under.{Appends}
+use Rattle.dd_jobs.proofs.JobLists.{AreOpeningBelow, opening_more, opening_whole}
+use Rattle.dd_jobs.proofs.openings.opening.Goals as goal
+
+pub loop-k-preserved : goal.loop-k-preserved
+loop-k-preserved c =
+    let k = c.loop-k.k + 1 in
+    record {
+      jobs = opening_more k c.loop-k.jobs.items c.add_jobs.new.jobs.items (omega arith) c.loop-k.invariant.jobs
+          (subst (λ xs. Appends (AreJobsUnder k (min (3 * k) 9) xs) c.loop-k.jobs.items c.add_jobs.new.jobs.items) c.new-prefix.ensures c.in_ok-add_jobs.ensures.jobs);
+    }
+
+pub returns : goal.returns
+returns c =
+    let last : c.loop-k.k ≡ c.args.q.now.chambers = omega arith in
+    opening_whole c.args.q.now c.loop-k.jobs.items (subst (λ k. AreOpeningBelow (k + 1) c.loop-k.jobs.items) last c.loop-k.invariant.jobs)

@@ -1,0 +1,5 @@
+pub mod Orderly
+pub mod Under
+pub mod Opening
+pub mod Places
+pub mod FirstVisit

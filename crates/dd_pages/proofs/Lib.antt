@@ -1,0 +1,4 @@
+pub mod PageLemmas
+pub mod PageParts
+pub mod LineParts
+pub mod Sending

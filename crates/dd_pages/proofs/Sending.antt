@@ -1,0 +1,50 @@
+-- Texts that are put behind what is collected and sent.
+use Rattle.std.proofs.Common.{◌≡◌, ℕ, List, [], ◌++◌, Option, length-append, refl, sym, ap, ◌∙◌, arith, append_assoc}
+use Rattle.std.proofs.lemmas.List.{append-nil}
+use Rattle.std.proofs.KnownBytes.{Appends-nil}
+use Rattle.dd_ports.specs.Grows.{GrowsByPrefix}
+use Rattle.dd_ports.proofs.Growth.{Appends_trans, prefix_after}
+use Rattle.dd_pages.specs.Pages.{IsSent}
+use Rattle.dd_pages.specs.declared.pages.Page.{Page}
+
+-- Of some texts all but what is left was put behind what was collected, and sent.
+pub record IsSending (before now : Option (List ℕ)) (old page : Page) (all left : List ℕ) : Type 0 where
+  pub done : List ℕ
+  pub texts : all ≡ done ++ left
+  pub sent : IsSent before now (old.buffer.items ++ done) old.bytes page
+
+pub sending_start : (held : Option (List ℕ)) (page : Page) (all left : List ℕ) → left ≡ all → IsSending held held page page all left
+sending_start held page all left same = record {
+  done = [];
+  texts = sym same;
+  sent = record { written = []; appended = Appends-nil held; parts = append-nil page.buffer.items; bytes = omega arith };
+}
+
+-- the next text was sent
+pub sending_more : (before then now : Option (List ℕ)) (old page new : Page) (all left text later : List ℕ) → left ≡ text ++ later → IsSent then now (page.buffer.items ++ text) page.bytes new
+    → IsSending before then old page all left → IsSending before now old new all later
+sending_more before then now old page new all left text later next sent has =
+    let first = has.sent in
+    let size = length-append first.written sent.written in
+    let sum = first.bytes in
+    let more = sent.bytes in
+    record {
+      done = has.done ++ text;
+      texts = has.texts ∙ ap (λ xs. has.done ++ xs) next ∙ sym (append_assoc has.done text later);
+      sent = record {
+        written = first.written ++ sent.written;
+        appended = Appends_trans before then now first.written sent.written (first.written ++ sent.written) first.appended sent.appended refl;
+        parts = sym (append_assoc old.buffer.items has.done text) ∙ ap (λ xs. xs ++ text) first.parts ∙ append_assoc first.written page.buffer.items text ∙ ap (λ xs. first.written ++ xs) sent.parts
+            ∙ sym (append_assoc first.written sent.written new.buffer.items);
+        bytes = omega (arith, size, sum, more);
+      };
+    }
+
+-- a front of the next text went out
+pub sending_front : (before then now : Option (List ℕ)) (old page : Page) (all left text later : List ℕ) → left ≡ text ++ later → GrowsByPrefix then now (page.buffer.items ++ text)
+    → IsSending before then old page all left → GrowsByPrefix before now (old.buffer.items ++ all)
+sending_front before then now old page all left text later next grown has =
+    let first = has.sent in
+    prefix_after before then now first.written (page.buffer.items ++ text) later (old.buffer.items ++ all) first.appended grown
+    (ap (λ xs. first.written ++ xs) (append_assoc page.buffer.items text later) ∙ sym (append_assoc first.written page.buffer.items (text ++ later)) ∙ ap (λ xs. xs ++ (text ++ later)) (sym first.parts)
+    ∙ append_assoc old.buffer.items has.done (text ++ later) ∙ ap (λ xs. old.buffer.items ++ (has.done ++ xs)) (sym next) ∙ ap (λ xs. old.buffer.items ++ xs) (sym has.texts))

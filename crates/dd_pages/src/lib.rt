@@ -1,0 +1,21 @@
+//! What a run of a catalogue writes: a page of lines, how far its lines may go, and the checkpoints that
+//! it keeps.
+#![tactic(auto)]
+
+mod fault;
+mod finish;
+mod limit;
+mod lines;
+mod pace;
+mod pages;
+mod part;
+mod run;
+mod saving;
+
+pub use fault::RunFault;
+pub use finish::Finish;
+pub use limit::Limit;
+pub use pace::Pace;
+pub use pages::Page;
+pub use run::Run;
+pub use saving::{save, save_first};

@@ -1,6 +1,0 @@
-use Rattle.std.proofs.Common.{refl}
-use Rattle.dd_partial.proofs.Traversing.{visit_none}
-use Rattle.dd_partial.proofs.traversal.Visit.new.Goals as goal
-
-pub returns : goal.returns
-returns c = record { visit = visit_none 36 _ _ c.new-order.ensures refl }

@@ -1,0 +1,14 @@
+pub mod Search
+pub mod Levels
+pub mod Table
+pub mod Ties
+pub mod Walk
+pub mod Mosts
+pub mod Distinct
+pub mod Beaten
+pub mod Passed
+pub mod Open
+pub mod Rows
+pub mod Commuting
+pub mod Visit
+pub mod Stem

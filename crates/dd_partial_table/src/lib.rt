@@ -1,0 +1,27 @@
+//! Partial tables of involutions, the prefixes of codes that determine them, and the search over
+//! such prefixes.
+#![tactic(auto)]
+
+mod advancing;
+mod collecting;
+mod level;
+mod levels;
+mod numbers;
+mod prefix_search;
+mod rows;
+mod sleepers;
+mod starts;
+mod stem;
+mod traversal;
+mod whole_stems;
+
+pub use advancing::{advance, begin, go_back};
+pub use collecting::{CollectingSearch, find};
+pub use level::Level;
+pub use levels::Levels;
+pub use prefix_search::PrefixSearch;
+pub use rows::{Rows, place_of};
+pub use starts::Starts;
+pub use stem::Stem;
+pub use traversal::{Standing, Visit, stand};
+pub use whole_stems::{involutions, is_least, ties};

@@ -1,9 +1,0 @@
-use Rattle.std.proofs.Common.{ap}
-use Rattle.dd_model.proofs.Lists.{map_set_same}
-use Rattle.dd_rack.specs.Hands.{hand_deck, hand_passes, way_end}
-use Rattle.dd_rack.proofs.hand.Hand.steal.Goals as goal
-
-pub returns-clause-place : goal.returns-clause-place
-returns-clause-place g c =
-    let ends = map_set_same way_end _ _ _ _ c.index_mut.ensures.value (λ i. record { from = c.steal.ensures.same.0 i; deck = c.steal.ensures.same.1 i }) in
-    ap (λ es. record { deck = hand_deck c.args.self.now; passes = hand_passes c.args.self.now; ends = es }) ends

@@ -1,8 +1,0 @@
-use Rattle.std.proofs.Common.{subst, sym}
-use Rattle.dd_model.proofs.Lists.{map_set_same}
-use Rattle.dd_rack.specs.Hands.{hand_place}
-use Rattle.dd_rack.specs.Places.{IsRack}
-use Rattle.dd_rack_trials.proofs.rack_trials.pop_by.Goals as goal
-
-pub returns-clause-rack : goal.returns-clause-rack
-returns-clause-rack g c = subst IsRack (sym (map_set_same hand_place _ _ _ _ c.index_mut.ensures.value c.pop.ensures.place)) c.requires.rack

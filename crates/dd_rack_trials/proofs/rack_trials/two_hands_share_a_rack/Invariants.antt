@@ -1,4 +1,0 @@
-use Rattle.dd_rack_trials.proofs.rack_trials.two_hands_share_a_rack.Given as goal
-
-abbrev pub ghosts-rows : goal.ghosts-rows
-ghosts-rows g a = record { request = a.request; jobs = a.jobs.items }

@@ -1,9 +1,0 @@
-pub mod Rotation
-pub mod OddSizes
-pub mod FlatBound
-pub mod CountBound
-pub mod TurnLemmas
-pub mod Bounds
-pub mod GrowthLemmas
-pub mod ClosedLemmas
-pub mod WholeShares

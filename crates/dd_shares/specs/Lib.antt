@@ -1,4 +1,0 @@
-pub mod Units
-pub mod Shares
-pub mod Closed
-pub mod Turning

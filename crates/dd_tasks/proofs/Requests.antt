@@ -1,0 +1,169 @@
+-- Words ask for one thing at most.
+use Rattle.std.proofs.Common.{◌≡◌, ◌≤◌, ℕ, List, [], ◌∷◌, Option, Some, None, MatchOption, refl, sym, ap, ◌∙◌, subst}
+use Rattle.dd_model.specs.declared.requests.Request.{Request}
+use Rattle.dd_model.specs.Request.{IsValid}
+use Rattle.dd_words.specs.Grammar.{IsCommand, IsExercise, OnTwo}
+use Rattle.dd_words.specs.Values.{Text}
+use Rattle.dd_words.proofs.ReadCommands.{one_command}
+use Rattle.dd_words.proofs.Validity.{valid, IsPace, pace as pace_of, resume_pace, lone_pause}
+use Rattle.dd_words.specs.declared.commands.Command.{Command}
+use Rattle.dd_words.specs.declared.commands.Command.TheVariants.{Catalogue, Resume, File, Exercise, Draw as Drawing}
+use Rattle.dd_words.specs.declared.commands.FileKind.{FileKind}
+use Rattle.dd_words.specs.declared.commands.FileKind.TheVariants as kind
+use Rattle.dd_check.specs.Calls.{Task as ChainTask, Catalogue as First, Resume as Next}
+use Rattle.dd_commands.specs.declared.commands.FileCommand.{FileCommand}
+use Rattle.dd_commands.specs.declared.commands.FileCommand.TheVariants.{Symbols, Info, Draw}
+use Rattle.dd_commands.specs.declared.commands.SymbolCommand.{SymbolCommand}
+use Rattle.dd_commands.specs.declared.commands.SymbolCommand.TheVariants.{Lines, Canon, Minimal, Dual, Oriented, Torus, Derived}
+use Rattle.dd_pages.specs.declared.pace.Pace.{Pace}
+use Rattle.dd_tasks.specs.declared.task.Task.{Task}
+use Rattle.dd_tasks.specs.declared.task.Task.TheVariants as task
+use Rattle.dd_tasks.specs.Words.{Order, run_command, AskForRun, kind_of, file_command, IsOnFile, AskToExercise, AreTaken}
+use Rattle.dd_tasks.specs.Commands.{AskForTask}
+
+-- what a command on a file asks for, and its file
+command_of : FileKind → FileCommand
+command_of kind.Info = Info
+command_of kind.Lines = Symbols Lines
+command_of kind.Canon = Symbols Canon
+command_of kind.Minimal = Symbols Minimal
+command_of kind.Dual = Symbols Dual
+command_of (kind.Derived operation) = Symbols (Derived operation)
+command_of kind.Oriented = Symbols Oriented
+command_of kind.Torus = Symbols Torus
+
+asked_by : Command → Option (FileCommand × List ℕ)
+asked_by (File kind name) = Some (command_of kind, name)
+asked_by (Drawing name frame) = Some (Draw frame, name)
+asked_by other = None
+
+back_from_kind : (made : SymbolCommand) → command_of (kind_of made) ≡ Symbols made
+unfolding command_of
+back_from_kind Lines = refl
+back_from_kind Canon = refl
+back_from_kind Minimal = refl
+back_from_kind Dual = refl
+back_from_kind Oriented = refl
+back_from_kind Torus = refl
+back_from_kind (Derived operation) = refl
+
+back_from_command : (k : FileCommand) (name : List ℕ) → asked_by (file_command k name) ≡ Some (k, name)
+unfolding asked_by command_of
+back_from_command Info name = refl
+back_from_command (Symbols made) name = ap (λ (k : FileCommand). Some (k, name)) (back_from_kind made)
+back_from_command (Draw frame) name = refl
+
+same_asked : (p q : FileCommand × List ℕ) → Some p ≡ Some q → (p.0 ≡ q.0) × (p.1 ≡ q.1)
+same_asked p q e =
+    let same : p ≡ q = cc in
+    (ap (λ (r : FileCommand × List ℕ). r.0) same, ap (λ (r : FileCommand × List ℕ). r.1) same)
+
+-- the run that a command asks for, and nothing for other commands
+order_of : Command → Option Order
+order_of (Catalogue q workers round pause name) = Some (record { task = First q name; round = round; pause = pause })
+order_of (Resume name workers round pause) = Some (record { task = Next name; round = round; pause = pause })
+order_of other = None
+
+order_told : (task : ChainTask) (workers round : ℕ) (pause : Option ℕ) → order_of (run_command task workers round pause) ≡ Some (record { task = task; round = round; pause = pause })
+unfolding order_of
+order_told (First q name) workers round pause = refl
+order_told (Next name) workers round pause = refl
+
+no_order : (k : FileCommand) (name : List ℕ) → order_of (file_command k name) ≡ None
+unfolding order_of
+no_order Info name = refl
+no_order (Symbols made) name = refl
+no_order (Draw frame) name = refl
+
+same_some : (a b : Order) → Some a ≡ Some b → a ≡ b
+same_some a b e = cc
+
+none_some : (a : Order) → Some a ≡ None → ⊥
+none_some a e = cc
+
+pub one_order : (words : List (List ℕ)) (a b : Order) → AskForRun words a → AskForRun words b → a ≡ b
+one_order words a b h i =
+    same_some a b
+    (sym (order_told a.task h.workers a.round a.pause) ∙ ap order_of (one_command words _ _ h.command i.command) ∙ order_told b.task i.workers b.round b.pause)
+
+-- no words are those of a run and of a command on a file
+pub not_both : (words : List (List ℕ)) (order : Order) (k : FileCommand) (name : List ℕ) → AskForRun words order → IsOnFile words k name → ⊥
+not_both words order k name a b =
+    none_some order (sym (order_told order.task a.workers order.round order.pause) ∙ ap order_of (one_command words _ _ a.command b) ∙ no_order k name)
+
+pub same_command : (words : List (List ℕ)) (k l : FileCommand) (a b : List ℕ) → IsOnFile words k a → IsOnFile words l b → (k ≡ l) × (a ≡ b)
+same_command words k l a b h i =
+    same_asked (k, a) (l, b) (sym (back_from_command k a) ∙ ap asked_by (one_command words _ _ h i) ∙ back_from_command l b)
+
+-- those of an exercise are neither
+pub run_or_exercise : (words : List (List ℕ)) (order : Order) (start count : ℕ) → AskForRun words order → AskToExercise words start count → ⊥
+unfolding order_of
+run_or_exercise words order start count a b =
+    none_some order (sym (order_told order.task a.workers order.round order.pause) ∙ ap order_of (one_command words _ _ a.command b))
+
+none_asked : (a : FileCommand × List ℕ) → Some a ≡ None → ⊥
+none_asked a e = cc
+
+pub file_or_exercise : (words : List (List ℕ)) (k : FileCommand) (name : List ℕ) (start count : ℕ) → IsOnFile words k name → AskToExercise words start count → ⊥
+unfolding asked_by
+file_or_exercise words k name start count a b = none_asked (k, name) (sym (back_from_command k name) ∙ ap asked_by (one_command words _ _ a b))
+
+same_numbers : (start count first number : ℕ) → Exercise start count ≡ Exercise first number → (start ≡ first) × (count ≡ number)
+same_numbers start count first number e = (cc, cc)
+
+pub one_exercise : (words : List (List ℕ)) (start count first number : ℕ) → AskToExercise words start count → AskToExercise words first number → (start ≡ first) × (count ≡ number)
+one_exercise words start count first number a b = same_numbers start count first number (one_command words _ _ a b)
+
+-- ## Tasks
+
+-- words that no command fits are not taken
+pub none_taken : (words : List (List ℕ)) → ((c : Command) → IsCommand words c → ⊥) → AreTaken words → ⊥
+none_taken words none (c, is) = none c is
+
+-- what was read is what the words ask for
+pub asked_of : (words : List (List ℕ)) (o : Option Task) (t u : Task) → MatchOption o (¬ AreTaken words) (AskForTask words) → o ≡ Some t → t ≡ u → AskForTask words u
+asked_of words o t u h e f =
+    let here : MatchOption (Some t) (¬ AreTaken words) (AskForTask words) = subst (λ (p : Option Task). MatchOption p (¬ AreTaken words) (AskForTask words)) e h in
+    subst (AskForTask words) f here
+
+-- ## What a task asks for
+
+pub file_asked : (words : List (List ℕ)) (k : FileCommand) (name : List ℕ) → AskForTask words (task.OnFile k name) → IsOnFile words k name
+file_asked words k name is = subst (IsCommand words) is.task_is is.asked
+
+-- a run with its request or name, and the pace of its task
+pub record AsksForRun (words : List (List ℕ)) (order : Order) (pace : Pace) : Type 0 where
+  pub order_asked : AskForRun words order
+  pub in_range : IsPace pace.workers pace.round
+
+pub lone_asked : (words : List (List ℕ)) (q : Request) (pace : Pace) → AskForTask words (task.Catalogue q pace)
+    → IsValid q × AsksForRun words (record { task = First q None; round = pace.round; pause = None }) pace
+lone_asked words q pace is =
+    let said : IsCommand words (Catalogue q pace.workers pace.round is.task_is.0 None) = subst (IsCommand words) is.task_is.1 is.asked in
+    let own = subst (λ (p : Option ℕ). IsCommand words (Catalogue q pace.workers pace.round p None)) (lone_pause words q pace.workers pace.round is.task_is.0 said) said in
+    (valid words q pace.workers pace.round None None own, record { order_asked = record { workers = pace.workers; command = own }; in_range = pace_of words q pace.workers pace.round None None own })
+
+pub kept_asked : (words : List (List ℕ)) (q : Request) (name : List ℕ) (pace : Pace) (pause : Option ℕ) → AskForTask words (task.Kept q name pace pause)
+    → IsValid q × AsksForRun words (record { task = First q (Some name); round = pace.round; pause = pause }) pace
+kept_asked words q name pace pause is =
+    let own : IsCommand words (Catalogue q pace.workers pace.round pause (Some name)) = subst (IsCommand words) is.task_is is.asked in
+    (valid words q pace.workers pace.round pause (Some name) own, record { order_asked = record { workers = pace.workers; command = own }; in_range = pace_of words q pace.workers pace.round pause (Some name) own })
+
+pub resume_asked : (words : List (List ℕ)) (name : List ℕ) (pace : Pace) (pause : Option ℕ) → AskForTask words (task.Resume name pace pause)
+    → AsksForRun words (record { task = Next name; round = pace.round; pause = pause }) pace
+resume_asked words name pace pause is =
+    let own : IsCommand words (Resume name pace.workers pace.round pause) = subst (IsCommand words) is.task_is is.asked in
+    record { order_asked = record { workers = pace.workers; command = own }; in_range = resume_pace words name pace.workers pace.round pause own }
+
+pub exercise_asked : (words : List (List ℕ)) (start count : ℕ) → AskForTask words (task.Exercise start count) → AskToExercise words start count
+exercise_asked words start count is = subst (IsCommand words) is.task_is is.asked
+
+numbers_in_range : (arguments : List Text) (start count : ℕ) → OnTwo arguments (λ first second. IsExercise first second start count) → (start ≤ 2147483647) × (count ≤ 10000)
+numbers_in_range [] start count is = absurd is
+numbers_in_range (x ∷ []) start count is = absurd is
+numbers_in_range (x ∷ y ∷ []) start count is = (is.start_is.to, is.count_is.to)
+numbers_in_range (x ∷ y ∷ z ∷ zs) start count is = absurd is
+
+-- the numbers of an exercise are in their ranges
+pub exercise_range : (words : List (List ℕ)) (start count : ℕ) → AskToExercise words start count → (start ≤ 2147483647) × (count ≤ 10000)
+exercise_range words start count is = numbers_in_range is.arguments start count is.said

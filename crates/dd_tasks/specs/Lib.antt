@@ -1,0 +1,15 @@
+pub mod Status
+pub mod Words
+pub mod Commands
+pub mod Outside
+pub mod Held
+pub mod Beginnings
+pub mod Runs
+pub mod Endings
+pub mod Outcomes
+pub mod Lone
+pub mod Stops
+pub mod Output
+pub mod Arguments
+pub mod Cuts
+pub mod Messages

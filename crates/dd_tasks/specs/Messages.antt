@@ -1,0 +1,27 @@
+-- What the error stream is told.
+use Rattle.std.specs.Prelude.{◌≡◌, ℕ, List, Option, Bool}
+use Rattle.dd_ports.specs.Grows.{GrowsByPrefix}
+use Rattle.dd_tasks.specs.declared.status.Status.{Status}
+use Rattle.dd_tasks.specs.declared.ending.Ending.{Ending}
+use Rattle.dd_tasks.specs.declared.ending.Ending.TheVariants.{Refused, RefusedSymbol, RefusedCheck, Paused}
+use Rattle.dd_tasks.specs.Arguments.{NameFaulty, NameRefused}
+use Rattle.dd_tasks.specs.Beginnings.{NameNoCheck}
+use Rattle.dd_tasks.specs.Cuts.{PauseAfter}
+use Rattle.dd_tasks.specs.Endings.{status_of, message_of}
+
+-- The fault of a refused file is the first fault of the file that the words name, a refused symbol is the first of which their
+-- command makes nothing, the fault of a checkpoint is that of the text that they go on from, and a run paused where they ask for it.
+abbrev pub IsItsCause : Ending → List (List ℕ) → Bool → (List ℕ → Option (List ℕ)) → Type 0
+IsItsCause (Refused fault) words tells held = NameFaulty words tells held fault
+IsItsCause (RefusedSymbol refusal) words tells held = NameRefused words tells held refusal
+IsItsCause (RefusedCheck fault) words tells held = NameNoCheck words tells held fault
+IsItsCause (Paused lines) words tells held = PauseAfter words tells held lines
+IsItsCause ending words tells held = Unit {0}
+
+-- Known bytes grew by a prefix of the line of an ending with this status. The line of a refusal tells of its first fault, or of
+-- its first symbol that is refused, and that of a pause after how many lines of the chain it came.
+pub record TellsOf (status : Status) (words : List (List ℕ)) (tells : Bool) (held : List ℕ → Option (List ℕ)) (old new : Option (List ℕ)) : Type 0 where
+  pub ending : Ending
+  pub status_is : status_of ending ≡ status
+  pub cause : IsItsCause ending words tells held
+  pub grown : GrowsByPrefix old new (message_of ending)

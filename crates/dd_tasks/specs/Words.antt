@@ -1,0 +1,74 @@
+-- Which words the program takes, and what they ask for.
+use Rattle.std.specs.Prelude.{ℕ, List, Option}
+use Rattle.dd_model.specs.declared.requests.Request.{Request}
+use Rattle.dd_words.specs.Grammar.{IsCommand}
+use Rattle.dd_words.specs.declared.commands.Command.{Command}
+use Rattle.dd_words.specs.declared.commands.Command.TheVariants as command
+use Rattle.dd_words.specs.declared.commands.FileKind.{FileKind}
+use Rattle.dd_words.specs.declared.commands.FileKind.TheVariants as kind
+use Rattle.dd_check.specs.Calls.{Task, Catalogue, Resume}
+use Rattle.dd_commands.specs.declared.commands.FileCommand.{FileCommand}
+use Rattle.dd_commands.specs.declared.commands.FileCommand.TheVariants.{Symbols, Info, Draw}
+use Rattle.dd_commands.specs.declared.commands.SymbolCommand.{SymbolCommand}
+use Rattle.dd_commands.specs.declared.commands.SymbolCommand.TheVariants.{Lines, Canon, Minimal, Dual, Oriented, Torus, Derived}
+
+-- A run of a chain as words ask for it: its task, how many jobs go into a round, and after how many lines it is to pause, if it is.
+pub record Order : Type 0 where
+  pub task : Task
+  pub round : ℕ
+  pub pause : Option ℕ
+
+-- the command with this task
+abbrev pub run_command : Task → ℕ → ℕ → Option ℕ → Command
+run_command (Catalogue q name) workers round pause = command.Catalogue q workers round pause name
+run_command (Resume name) workers round pause = command.Resume name workers round pause
+
+-- the words of a run, with any number of workers
+pub record AskForRun (words : List (List ℕ)) (order : Order) : Type 0 where
+  pub workers : ℕ
+  pub command : IsCommand words (run_command order.task workers order.round order.pause)
+
+-- the words of a catalogue, with a name for its checkpoint or without one
+pub record AskFor (words : List (List ℕ)) (q : Request) : Type 0 where
+  pub name : Option (List ℕ)
+  pub round : ℕ
+  pub pause : Option ℕ
+  pub run : AskForRun words (record { task = Catalogue q name; round = round; pause = pause })
+
+-- the words that go on from the checkpoint of a name
+pub record AskToResume (words : List (List ℕ)) (name : List ℕ) : Type 0 where
+  pub round : ℕ
+  pub pause : Option ℕ
+  pub run : AskForRun words (record { task = Resume name; round = round; pause = pause })
+
+-- what a command makes of each symbol, as words ask for it
+abbrev pub kind_of : SymbolCommand → FileKind
+kind_of Lines = kind.Lines
+kind_of Canon = kind.Canon
+kind_of Minimal = kind.Minimal
+kind_of Dual = kind.Dual
+kind_of Oriented = kind.Oriented
+kind_of Torus = kind.Torus
+kind_of (Derived operation) = kind.Derived operation
+
+-- the commands on the file of a name
+abbrev pub file_command : FileCommand → List ℕ → Command
+file_command Info name = command.File kind.Info name
+file_command (Symbols made) name = command.File (kind_of made) name
+file_command (Draw frame) name = command.Draw name frame
+
+-- the words of a command on the file of a name
+abbrev pub IsOnFile : List (List ℕ) → FileCommand → List ℕ → Type 0
+IsOnFile words asked name = IsCommand words (file_command asked name)
+
+-- the words name a file
+abbrev pub NameFile : List (List ℕ) → Type 0
+NameFile words = (command : FileCommand) × (name : List ℕ) × IsOnFile words command name
+
+-- the words of an exercise
+abbrev pub AskToExercise : List (List ℕ) → ℕ → ℕ → Type 0
+AskToExercise words start count = IsCommand words (command.Exercise start count)
+
+-- the words are taken: they are those of a command
+abbrev pub AreTaken : List (List ℕ) → Type 0
+AreTaken words = (c : Command) × IsCommand words c

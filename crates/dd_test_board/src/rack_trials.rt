@@ -1,0 +1,185 @@
+ghost use Rattle.std.specs.Prelude.{◌≡◌, ◌<◌, ◌∷◌, [], length, map};
+ghost use Rattle.dd_model.specs.Request.{IsValid};
+ghost use Rattle.dd_model.specs.Jobs.{AreAscendingJobs, AreApart};
+ghost use Rattle.dd_board.specs.Desk.{AreJobsOf};
+ghost use Rattle.dd_deques.specs.Hands.{hand_place};
+ghost use Rattle.dd_deques.specs.Places.{IsRack};
+
+use dd_board::Desk;
+use dd_deques::{Hand, Rack};
+use dd_front::{Naming, Taken, Ticket};
+use dd_model::{Job, Prefix, Request};
+use std::alloc::Global;
+use std::marker::Brand;
+use std::process::Abort;
+use std::sync::Wait;
+
+/// The number of the ticket's entry, or 0 where there is none.
+fn entry_of<N: Naming>(ticket: Option<Ticket<N>>) -> u64 {
+    match ticket {
+        Some(ticket) => ticket.entry(),
+        None => 0,
+    }
+}
+
+/// The next ticket of the desk.
+fn next_ticket<N: Naming, R: Abort>(rt: &R, desk: &mut Desk<N>) -> Ticket<N> {
+    match desk.take(1).expect(rt, "an event that is booked") {
+        Taken::Job(ticket) => ticket,
+        Taken::Idle => panic!(rt; "no job is open"),
+    }
+}
+
+/// Whether the hand at this index has room for the ticket.
+fn push_to<N: Naming>(hands: &mut Vec<Hand<N>>, index: usize, ticket: Ticket<N>) -> bool
+    requires index { index < length hands.old.items }
+    requires rack { IsRack (map hand_place hands.old.items) }
+    ensures rack { IsRack (map hand_place hands.new.items) }
+    ensures count { length hands.new.items ≡ length hands.old.items }
+{
+    hands[index].push(ticket).is_ok()
+}
+
+/// The entry that the hand at this index pops.
+fn pop_by<N: Naming>(hands: &mut Vec<Hand<N>>, index: usize) -> Option<Ticket<N>>
+    requires index { index < length hands.old.items }
+    requires rack { IsRack (map hand_place hands.old.items) }
+    ensures rack { IsRack (map hand_place hands.new.items) }
+    ensures count { length hands.new.items ≡ length hands.old.items }
+{
+    hands[index].pop()
+}
+
+/// The entry that the hand at this index steals.
+fn steal_by<N: Naming, R: Wait>(
+    rt: &R,
+    hands: &mut Vec<Hand<N>>,
+    index: usize,
+    from: u32,
+) -> Option<Ticket<N>>
+    requires index { index < length hands.old.items }
+    requires rack { IsRack (map hand_place hands.old.items) }
+    ensures rack { IsRack (map hand_place hands.new.items) }
+    ensures count { length hands.new.items ≡ length hands.old.items }
+{
+    hands[index].steal(rt, from)
+}
+
+/// Hand 1 pushes the next three tickets of the desk.
+fn push_three<N: Naming, R: Abort>(rt: &R, desk: &mut Desk<N>, hands: &mut Vec<Hand<N>>)
+    requires hands { length hands.old.items ≡ 2 }
+    requires rack { IsRack (map hand_place hands.old.items) }
+    ensures rack { IsRack (map hand_place hands.new.items) }
+    ensures count { length hands.new.items ≡ 2 }
+{
+    assert!(rt; push_to(hands, 0, next_ticket(rt, desk)));
+    assert!(rt; push_to(hands, 0, next_ticket(rt, desk)));
+    assert!(rt; push_to(hands, 0, next_ticket(rt, desk)));
+}
+
+/// Hand 2 steals the first of three tickets of hand 1, and none of its own. Hand 1 pops the second.
+fn leave_the_third<N: Naming, R: Abort + Wait>(rt: &R, hands: &mut Vec<Hand<N>>)
+    requires hands { length hands.old.items ≡ 2 }
+    requires rack { IsRack (map hand_place hands.old.items) }
+    ensures rack { IsRack (map hand_place hands.new.items) }
+    ensures count { length hands.new.items ≡ 2 }
+{
+    assert_eq!(rt; entry_of(steal_by(rt, hands, 1, 1)), 1);
+    assert_eq!(rt; entry_of(steal_by(rt, hands, 1, 2)), 0);
+    assert_eq!(rt; entry_of(pop_by(hands, 0)), 2);
+}
+
+/// Hand 2 steals the first of three tickets, and hand 1 pops the others, of which it cannot push the last again.
+fn leave_none<N: Naming, R: Abort + Wait>(rt: &R, hands: &mut Vec<Hand<N>>)
+    requires hands { length hands.old.items ≡ 2 }
+    requires rack { IsRack (map hand_place hands.old.items) }
+    ensures rack { IsRack (map hand_place hands.new.items) }
+    ensures count { length hands.new.items ≡ 2 }
+{
+    assert_eq!(rt; entry_of(steal_by(rt, hands, 1, 1)), 1);
+    assert_eq!(rt; entry_of(pop_by(hands, 0)), 2);
+    let third = pop_by(hands, 0).expect(rt, "a third ticket");
+    assert!(rt; pop_by(hands, 0).is_none());
+    assert!(rt; !push_to(hands, 0, third));
+}
+
+/// Hand 2 finds nothing to steal of hand 1, and nothing of its own.
+fn find_none<N: Naming, R: Abort + Wait>(rt: &R, hands: &mut Vec<Hand<N>>)
+    requires hands { length hands.old.items ≡ 2 }
+    requires rack { IsRack (map hand_place hands.old.items) }
+    ensures rack { IsRack (map hand_place hands.new.items) }
+    ensures count { length hands.new.items ≡ 2 }
+{
+    assert!(rt; steal_by(rt, hands, 1, 1).is_none());
+    assert!(rt; pop_by(hands, 1).is_none());
+}
+
+/// Of three tickets, one is stolen, one is popped, and the third is left.
+fn left_by_two_hands<N: Naming, R: Abort + Wait>(rt: &R, alloc: Global, desk: &mut Desk<N>) {
+    let (rack, mut hands) = Rack::open(alloc, 2, 3).expect(rt, "a rack of two hands");
+    push_three(rt, desk, &mut hands);
+    leave_the_third(rt, &mut hands);
+    let mut rest = rack.close(hands);
+    assert_eq!(rt; entry_of(rest.next()), 3);
+    assert!(rt; rest.next().is_none());
+}
+
+/// A hand that pushed three tickets has no room for one more, though all three are gone.
+fn full_hand<N: Naming, R: Abort + Wait>(rt: &R, alloc: Global, desk: &mut Desk<N>) {
+    let (rack, mut hands) = Rack::open(alloc, 2, 3).expect(rt, "a rack of two hands");
+    push_three(rt, desk, &mut hands);
+    leave_none(rt, &mut hands);
+    find_none(rt, &mut hands);
+    assert!(rt; rack.close(hands).next().is_none());
+}
+
+/// The job for all tables of a size.
+fn job_of_size<R: Abort>(rt: &R, alloc: Global, size: u32) -> Job
+    ensures { result ≡ record { size = size; prefix = [] } }
+{
+    let prefix = Prefix::from_slice(alloc, &[]).expect(rt, "an empty prefix");
+    Job { size, prefix }
+}
+
+/// Jobs for one, two and three chambers.
+fn three_jobs<R: Abort>(rt: &R, alloc: Global) -> Vec<Job>
+    ensures { result.items
+        ≡ record { size = 1; prefix = [] } ∷ record { size = 2; prefix = [] }
+        ∷ record { size = 3; prefix = [] } ∷ [] }
+{
+    let mut jobs = Vec::new(alloc);
+    jobs.push(job_of_size(rt, alloc, 1)).expect(rt, "a job");
+    jobs.push(job_of_size(rt, alloc, 2)).expect(rt, "a job");
+    jobs.push(job_of_size(rt, alloc, 3)).expect(rt, "a job");
+    jobs
+}
+
+/// Both rows, over the desks of a round.
+fn rows<N: Naming, R: Abort + Wait>(
+    rt: &R,
+    alloc: Global,
+    request: Request,
+    jobs: Vec<Job>,
+    again: Vec<Job>,
+)
+    requires request { request ≡ N.request }
+    requires jobs { jobs.items ≡ N.jobs }
+    requires again { again.items ≡ N.jobs }
+    requires valid { IsValid request }
+    requires ascending { AreAscendingJobs jobs.items }
+    requires apart { AreApart jobs.items }
+    requires all { AreJobsOf request jobs.items }
+{
+    let first = Desk::<N>::open(alloc, request, jobs);
+    left_by_two_hands(rt, alloc, &mut first.expect(rt, "a desk"));
+    let second = Desk::<N>::open(alloc, request, again);
+    full_hand(rt, alloc, &mut second.expect(rt, "another desk"));
+}
+
+#[test]
+fn two_hands_share_a_rack(rt: HostRuntime) {
+    let request = Request::up_to(3);
+    let jobs = three_jobs(&rt, rt.alloc());
+    let again = three_jobs(&rt, rt.alloc());
+    rows::<Brand, HostRuntime>(&rt, rt.alloc(), request, jobs, again);
+}

@@ -1,0 +1,20 @@
+//! The whole program over stores and sinks in memory that fail, chains of runs that are driven, and the
+//! stores and sinks themselves. The crate has only tests.
+#![tactic(auto)]
+
+#[cfg(test)]
+mod catalogue_tests;
+#[cfg(test)]
+mod chain_tests;
+#[cfg(test)]
+mod drive_trials;
+#[cfg(test)]
+mod port_trials;
+#[cfg(test)]
+mod round_tests;
+#[cfg(test)]
+mod run_tests;
+#[cfg(test)]
+mod running;
+#[cfg(test)]
+mod telling_tests;

@@ -1,0 +1,6 @@
+use Rattle.std.proofs.Common.{sym, ◌∙◌}
+use Rattle.dd_partial_table.specs.Rows.{partial_of}
+use Rattle.dd_test_search.proofs.share_trials.is_empty_with_a_chain.Goals as goal
+
+pub put-requires-clause-kept : goal.put-requires-clause-kept
+put-requires-clause-kept c = c.start-sides.ensures (partial_of c.empty-rows.result) (c.empty-rows.ensures.size ∙ sym c.of-classes.ensures.size)
