@@ -1,53 +1,37 @@
 -- Words act on the parts of chambers by their reduced words.
 use Rattle.std.proofs.Common.{◌≡◌, ℕ, [], ◌∷◌, Option, Some, None, refl, sym, ap, ◌∙◌}
 use Rattle.dd_model.specs.declared.index.Index.{Index}
-use Rattle.dd_model.specs.declared.index.Index.TheVariants.{Zero, One, Two}
 use Rattle.dd_model.specs.declared.pair.Pair.TheVariants.{Edge}
 use Rattle.dd_model.specs.Symbol.{Symbol, AreInvolutions, IsSymbol, IsChamber, Word, op, act}
 use Rattle.dd_template.specs.Table.{Table, IsPart, move, part_after}
-use Rattle.dd_template.specs.Reduced.{strike, put, reduced, put_move, carried}
+use Rattle.dd_template.specs.Reduced.{put, reduced, put_move, carried}
 use Rattle.dd_template.specs.Made.{chamber_of, composed, moved, made}
 use Rattle.dd_template.specs.Moves.{AreUndone, LeadsBack}
+use Rattle.dd_template.proofs.LetterSteps.{AreSteps, stepped, stepped-put}
 use Rattle.dd_template.proofs.PlaceLemmas.{op-made}
 
 pub composed_within : (s : Symbol) → AreInvolutions s → (w : Word) (d : ℕ) → IsChamber s d → IsChamber s (composed s w d)
 composed_within s inv [] d h = h
 composed_within s inv (i ∷ w) d h = (inv i).within (composed s w d) (composed_within s inv w d h)
 
--- s0 and s2 commute
-commuting : (s : Symbol) → IsSymbol s → (d : ℕ) → IsChamber s d → op s Zero (op s Two d) ≡ op s Two (op s Zero d)
-commuting s is d h =
-    let inv = is.table.involutions in
-    let first = (inv Zero).within d h in
-    let a = op s Two (op s Zero d) in
-    let ha = (inv Two).within (op s Zero d) first in
-    let hb = (inv Zero).within a ha in
-    let round : op s Two (op s Zero a) ≡ d = (is.degrees Edge d h).turns in
-    let half : op s Zero a ≡ op s Two d = sym ((inv Two).involutive (op s Zero a) hb) ∙ ap (op s Two) round in
-    ap (op s Zero) (sym half) ∙ (inv Zero).involutive a ha
+composed-stepped : (s : Symbol) (w : Word) (d : ℕ) → composed s w d ≡ stepped (op s) w d
+composed-stepped s [] d = refl
+composed-stepped s (i ∷ w) d = ap (op s i) (composed-stepped s w d)
 
--- what is struck out does not act
-composed-strike : (s : Symbol) → IsSymbol s → (i : Index) (w : Word) (d : ℕ) → IsChamber s d → composed s (strike i w) d ≡ op s i (composed s w d)
-composed-strike s is i [] d h = refl
-composed-strike s is Zero (Zero ∷ w) d h = sym ((is.table.involutions Zero).involutive (composed s w d) (composed_within s is.table.involutions w d h))
-composed-strike s is Zero (One ∷ w) d h = refl
-composed-strike s is Zero (Two ∷ w) d h = refl
-composed-strike s is One (Zero ∷ w) d h = refl
-composed-strike s is One (One ∷ w) d h = sym ((is.table.involutions One).involutive (composed s w d) (composed_within s is.table.involutions w d h))
-composed-strike s is One (Two ∷ w) d h = refl
-composed-strike s is Two (Zero ∷ w) d h = refl
-composed-strike s is Two (One ∷ w) d h = refl
-composed-strike s is Two (Two ∷ w) d h = sym ((is.table.involutions Two).involutive (composed s w d) (composed_within s is.table.involutions w d h))
+-- the involutions of a symbol undo themselves, and s0 and s2 commute
+symbol_steps : (s : Symbol) → IsSymbol s → AreSteps (IsChamber s) (op s)
+symbol_steps s is = record {
+  within = λ i d h. (is.table.involutions i).within d h;
+  twice = λ i d h. (is.table.involutions i).involutive d h;
+  turns = λ d h. (is.degrees Edge d h).turns;
+}
 
 -- a reduced word acts as the word does
 composed-put : (s : Symbol) → IsSymbol s → (i : Index) (w : Word) (d : ℕ) → IsChamber s d → composed s (put i w) d ≡ op s i (composed s w d)
-composed-put s is Zero w d h = composed-strike s is Zero w d h
-composed-put s is One w d h = composed-strike s is One w d h
-composed-put s is Two [] d h = refl
-composed-put s is Two (Zero ∷ w) d h =
-    ap (op s Zero) (composed-strike s is Two w d h) ∙ commuting s is (composed s w d) (composed_within s is.table.involutions w d h)
-composed-put s is Two (One ∷ w) d h = refl
-composed-put s is Two (Two ∷ w) d h = sym ((is.table.involutions Two).involutive (composed s w d) (composed_within s is.table.involutions w d h))
+composed-put s is i w d h =
+    composed-stepped s (put i w) d
+    ∙ stepped-put (IsChamber s) (op s) (symbol_steps s is) i w d h
+    ∙ ap (op s i) (sym (composed-stepped s w d))
 
 -- a word acts as its reduced word
 pub composed-reduced : (s : Symbol) → IsSymbol s → (w : Word) (d : ℕ) → IsChamber s d → composed s (reduced w) d ≡ composed s w d

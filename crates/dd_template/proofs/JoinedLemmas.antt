@@ -11,11 +11,11 @@ use Rattle.dd_template.specs.Connecting.{IsSilent, IsJoined}
 use Rattle.dd_template.specs.Joined.{IsMet, unmet, IsClosed, IsNext}
 
 -- the moves of a word and then of another
-part_after-append : (t : Table) (u w : Word) (x : ℕ) → part_after t (u ++ w) x ≡ part_after t w (part_after t u x)
+pub part_after-append : (t : Table) (u w : Word) (x : ℕ) → part_after t (u ++ w) x ≡ part_after t w (part_after t u x)
 part_after-append t [] w x = refl
 part_after-append t (i ∷ u) w x = part_after-append t u w (move t i x).to
 
-silent-append : (t : Table) (u w : Word) (x : ℕ) → IsSilent t u x → IsSilent t w (part_after t u x) → IsSilent t (u ++ w) x
+pub silent-append : (t : Table) (u w : Word) (x : ℕ) → IsSilent t u x → IsSilent t w (part_after t u x) → IsSilent t (u ++ w) x
 silent-append t [] w x a b = b
 silent-append t (i ∷ u) w x a b = (a.0, silent-append t u w (move t i x).to a.1 b)
 

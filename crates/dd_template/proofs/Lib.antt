@@ -4,6 +4,7 @@ pub mod RowLemmas
 pub mod WordLemmas
 pub mod JoinedLemmas
 pub mod ReducedLemmas
+pub mod LetterSteps
 pub mod WholeLemmas
 pub mod PlaceLemmas
 pub mod ActLemmas

@@ -9,7 +9,7 @@ tail : (i : Index) (w : Word) → IsReduced (i ∷ w) → IsReduced w
 tail i [] h = tt
 tail i (j ∷ w) h = h.1
 
-put_reduced : (i : Index) (w : Word) → IsReduced w → IsReduced (put i w)
+pub put_reduced : (i : Index) (w : Word) → IsReduced w → IsReduced (put i w)
 put_reduced Zero [] h = tt
 put_reduced Zero (Zero ∷ w) h = tail Zero w h
 put_reduced Zero (One ∷ w) h = (tt, h)
@@ -29,7 +29,7 @@ put_reduced Two (Zero ∷ Two ∷ Two ∷ w) h = absurd h.1.0
 put_reduced Two (One ∷ w) h = (tt, h)
 put_reduced Two (Two ∷ w) h = tail Two w h
 
-put_twice : (i : Index) (w : Word) → IsReduced w → put i (put i w) ≡ w
+pub put_twice : (i : Index) (w : Word) → IsReduced w → put i (put i w) ≡ w
 put_twice Zero [] h = refl
 put_twice Zero (Zero ∷ []) h = refl
 put_twice Zero (Zero ∷ Zero ∷ w) h = absurd h.0
@@ -58,7 +58,7 @@ put_twice Two (Two ∷ Zero ∷ w) h = absurd h.0
 put_twice Two (Two ∷ One ∷ w) h = refl
 put_twice Two (Two ∷ Two ∷ w) h = absurd h.0
 
-put_exchanged : (w : Word) → IsReduced w → put Two (put Zero w) ≡ put Zero (put Two w)
+pub put_exchanged : (w : Word) → IsReduced w → put Two (put Zero w) ≡ put Zero (put Two w)
 put_exchanged [] h = refl
 put_exchanged (Zero ∷ []) h = refl
 put_exchanged (Zero ∷ Zero ∷ w) h = absurd h.0

@@ -47,7 +47,7 @@ part_after_within t undone [] x inside = inside
 part_after_within t undone (i ∷ w) x inside = part_after_within t undone w (move t i x).to (undone i x inside).part
 
 -- the part to which so many turns lead
-abbrev part_turned : Table → Pair → ℕ → ℕ → ℕ
+abbrev pub part_turned : Table → Pair → ℕ → ℕ → ℕ
 part_turned t p k x = part_after t (power (turn p) k) x
 
 part_turned-add : (t : Table) (p : Pair) (a b x : ℕ) → part_turned t p (a + b) x ≡ part_turned t p b (part_turned t p a x)
@@ -63,7 +63,7 @@ part_turned-mul t p c x back (suc q) =
     ap (λ k. part_turned t p k x) e ∙ part_turned-add t p (q * c) c x ∙ ap (part_turned t p c) (part_turned-mul t p c x back q) ∙ back
 
 -- only whole rounds lead a part back to itself
-rounds_alone : (t : Table) (p : Pair) (x c k : ℕ) → 1 ≤ c → part_turned t p c x ≡ x → IsApart t p x c → part_turned t p k x ≡ x → k % c ≡ 0
+pub rounds_alone : (t : Table) (p : Pair) (x c k : ℕ) → 1 ≤ c → part_turned t p c x ≡ x → IsApart t p x c → part_turned t p k x ≡ x → k % c ≡ 0
 rounds_alone t p x c k some back apart same =
     let split : k / c * c + k % c ≡ k = div-add-mod' k c in
     let below = mod_below k c some in

@@ -1,4 +1,5 @@
 ghost use Rattle.std.specs.Prelude.{◌≡◌, ◌+◌, ◌-◌, ◌*◌, ◌<◌, ◌≤◌, ◌++◌, OnOk, IfOk, IfErr};
+ghost use Rattle.dd_model.specs.Small.{IsSmallSymbol};
 ghost use Rattle.dd_model.specs.Symbol.{IsChamber};
 ghost use Rattle.dd_template.specs.Applying.{IsFaultOf, HasSmallFactor};
 ghost use Rattle.dd_template.specs.Lawful.{IsLawful};
@@ -155,6 +156,7 @@ pub fn apply<const K: usize>(
     ensures made { IfOk result (λ derived. derived ≡ made (table_of template.now) symbol.now) }
     ensures within { OnOk result (symbol.now.size * K ≤ 1024) }
     ensures why { IfErr result (λ why. IsFaultOf (table_of template.now) symbol.now why) }
+    ensures small { IsSmallSymbol symbol.now }
 {
     let plain = symbol.symbol();
     let n = plain.size();

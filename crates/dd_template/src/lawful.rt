@@ -43,7 +43,7 @@ impl<const K: usize> Template<K> {
     }
 
     /// The move of a part by an involution.
-    pub(crate) fn move_of(&self, index: Index, part: usize) -> Move
+    pub fn move_of(&self, index: Index, part: usize) -> Move
         requires part { part < K }
         ensures { result ≡ move (table_of self.now) index part }
     {
@@ -134,7 +134,7 @@ impl<const K: usize> Template<K> {
     }
 
     /// The entry of a part that belongs to its tile or its vertex.
-    pub(crate) fn entry_of(&self, pair: Pair, part: usize) -> Degree
+    pub fn entry_of(&self, pair: Pair, part: usize) -> Degree
         requires part { part < K }
         ensures { result ≡ entry (entries (table_of self.now) pair) part }
     {

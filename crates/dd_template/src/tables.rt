@@ -21,8 +21,8 @@ pub enum Degree {
 }
 
 /// Of which degree of the chamber a degree is a multiple.
-#[derive(Clone, Copy)]
-pub(crate) enum Kind {
+#[derive(Debug, Clone, Copy, PartialEq, Eq)]
+pub enum Kind {
     /// The degree m01.
     Tile,
     /// The degree m12.

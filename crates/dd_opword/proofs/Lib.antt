@@ -1,0 +1,10 @@
+pub mod ComposedParts
+pub mod InnerStates
+pub mod ComposedTurns
+pub mod ComposedMoves
+pub mod ComposedCurvature
+pub mod ComposedLawful
+pub mod ComposedMade
+pub mod LetterTables
+pub mod AmboOfDual
+pub mod SpelledWords

@@ -1,0 +1,4 @@
+pub mod Words
+pub mod Meaning
+pub mod Composed
+pub mod Together
