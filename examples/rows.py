@@ -105,6 +105,13 @@ NOT_TAKEN = (
     "catalogue 2 --faces 3 --least-face 3",
     "catalogue 2 --faces --minimal",
     "draw f --cell=round",
+    "apply tx f",
+    "apply tttt f",
+    "apply f",
+    "apply D f",
+    "apply t f g",
+    "apply t f --cell square",
+    "apply t -f",
 )
 
 FIRST_ROUND = "dressline checkpoint 2\nrun 1\nrequest 2 0 0 all\nfaces 3-216\ndegrees 3-216\nlines 3\nbytes 54\nat 2 1 1 2 2 2 1\n"
@@ -157,6 +164,7 @@ OCTAGONS = "<1.1:3:1 2 3,1 3,2 3:4 8,3>\n"
 ROTATIONS = "<1.1:2:2,2,2:4,4>\n"
 TRIHEXAGONS = "<1.1:2:1 2,1 2,2:3 6,4>\n"
 TURNED_OCTAGONS = "<1.1:6:4 5 6,4 6 5,5 4 6:4 8,3>\n"
+TRUNCATED_AMBO = "<1.1:6:1 2 3 4 5 6,2 5 6,3 4 6:4 8 8,3>\n"
 GREAT_RHOMBS = "<1.1:6:1 2 3 4 5 6,2 5 6,3 4 6:4 6 12,3>\n"
 ONE_SQUARE = "<1.1:8:2 4 6 8,8 3 5 7,6 5 8 7:4,4>\n"
 
@@ -204,6 +212,10 @@ FILES = (
     ("ambo", "<1.1:1:1,1,1:3,6>", TRIHEXAGONS),
     ("truncate", SQUARES, OCTAGONS),
     ("chamfer", "", ""),
+    ("apply ta", SQUARES, TRUNCATED_AMBO),
+    ("apply td", "<1.1:1:1,1,1:3,6>", "<1.1:3:1 2 3,1 3,2 3:3 12,3>\n"),
+    ("apply -- ta", SQUARES, TRUNCATED_AMBO),
+    ("apply dad", "", ""),
     (
         "info",
         f"# Archimedean\n{OCTAGONS}{TRIHEXAGONS}<1.3:1:1,1,1:6,3>\n",
@@ -232,8 +244,13 @@ TWICE = ("exercise 2147483647 100", "made 100\nchambers 3278\nclasses 80\n")
 CHANGES = ("canon", "dual", "ambo", "truncate", "chamfer")
 COVERS = ("canon", "oriented", "torus")
 
+# The command of each letter of a word of operations.
+LETTERS = {"d": "dual", "a": "ambo", "t": "truncate", "c": "chamfer"}
+
 # Two commands on files that write the same.
 ALIKE = (
+    ("apply ad", OCTAGONS, "apply a", OCTAGONS),
+    ("apply dd", "<7.3:3:1 2 3,2 3,3 2:8 4,3>", "canon", OCTAGONS),
     ("oriented", OCTAGONS, "canon", TURNED_OCTAGONS),
     ("oriented", ONE_SQUARE, "canon", ONE_SQUARE),
     ("torus", ONE_SQUARE, "canon", ONE_SQUARE),

@@ -1,5 +1,5 @@
 -- What a command makes of a symbol is determined.
-use Rattle.std.proofs.Common.{◌≡◌, ◌≤◌, ℕ, ◌+◌, List, [], ◌∷◌, inl, inr, sym, ◌∙◌, subst, arith}
+use Rattle.std.proofs.Common.{◌≡◌, ◌≤◌, ℕ, ◌+◌, ◌*◌, List, [], ◌∷◌, inl, inr, sym, ◌∙◌, subst, arith}
 use Rattle.std.specs.List.{AllByRecursion}
 use Rattle.dd_model.specs.Symbol.{Symbol, IsTable}
 use Rattle.dd_model.specs.Code.{IsLeastForm}
@@ -16,6 +16,10 @@ use Rattle.dd_covers.proofs.Uniqueness.{one_cover}
 use Rattle.dd_quotient.specs.Dual.{dual_of}
 use Rattle.dd_quotient.proofs.DualLemmas.{small_symbol-dual}
 use Rattle.dd_quotient.proofs.ImageLemmas.{between, too_large_or_small}
+use Rattle.dd_opword.specs.Meaning.{meaning, parts_of}
+use Rattle.dd_opword.specs.Words.{letters_of}
+use Rattle.dd_opword.specs.declared.words.OpWord.{OpWord}
+use Rattle.dd_opword.proofs.LetterTables.{meaning_symbol}
 use Rattle.dd_template.specs.Table.{Table}
 use Rattle.dd_template.specs.Made.{made}
 use Rattle.dd_template.specs.Lawful.{IsLawful}
@@ -23,12 +27,12 @@ use Rattle.dd_template.specs.Named.{table_of_operation}
 use Rattle.dd_template.proofs.NamedTables.{operation_lawful}
 use Rattle.dd_template.proofs.MadeSymbols.{made_symbol}
 use Rattle.dd_commands.specs.declared.commands.SymbolCommand.{SymbolCommand}
-use Rattle.dd_commands.specs.declared.commands.SymbolCommand.TheVariants.{Lines, Canon, Minimal, Dual, Oriented, Torus, Derived}
+use Rattle.dd_commands.specs.declared.commands.SymbolCommand.TheVariants.{Lines, Canon, Minimal, Dual, Oriented, Torus, Derived, Applied}
 use Rattle.dd_commands.specs.InTurn.{AreInTurn}
 use Rattle.dd_commands.specs.declared.refusals.SymbolFault.{SymbolFault}
 use Rattle.dd_commands.specs.declared.refusals.SymbolFault.TheVariants.{TooManyChambers, BranchingTooLarge, NotFlat, TooManyVertices, TooWide}
 use Rattle.dd_commands.specs.declared.refusals.SymbolRefusal.{SymbolRefusal}
-use Rattle.dd_commands.specs.Made.{IsLeastImage, IsLeastCover, IsLeastTorus, IsDerived, IsMade, IsFaultOf, IsFirstFault}
+use Rattle.dd_commands.specs.Made.{IsLeastImage, IsLeastCover, IsLeastTorus, IsDerived, IsApplied, HasTooMany, IsMade, IsFaultOf, IsFirstFault}
 use Rattle.dd_commands.proofs.InTurnLemmas.{in_turn_unique}
 use Rattle.dd_commands.proofs.TorusForms.{cover_torus}
 
@@ -64,7 +68,6 @@ cover_once s t u readable a b =
     form_once a.cover t u (cover_table s a.cover a.below readable a.is_cover) a.least (subst (λ c. IsLeastForm c u) same b.least)
 
 -- a flat symbol has one torus cover
--- a flat symbol has one torus cover
 pub torus_cover_once : (s t u : Symbol) (f g : List ℕ) → IsReadable s → Flat s → IsTorusCover s t f → IsTorusCover s u g → t ≡ u
 torus_cover_once s t u f g readable flat x y =
     let size = readable.size in
@@ -83,6 +86,9 @@ torus_once s t u readable a b =
 derived_once : (table : Table) → IsLawful table → (s t u : Symbol) → IsReadable s → IsDerived table s t → IsDerived table s u → t ≡ u
 derived_once table lawful s t u readable a b = form_once (made table s) t u (made_symbol table s lawful readable.symbol.symbol).table a.least b.least
 
+applied_once : (w : OpWord) (s t u : Symbol) → IsReadable s → IsApplied w s t → IsApplied w s u → t ≡ u
+applied_once w s t u readable a b = form_once (meaning (letters_of w) s) t u (meaning_symbol (letters_of w) s readable.symbol.symbol).table a.least b.least
+
 pub made_once : (command : SymbolCommand) (s t u : Symbol) → IsReadable s → IsMade command s t → IsMade command s u → t ≡ u
 made_once Lines s t u readable a b = sym a ∙ b
 made_once Canon s t u readable a b = form_once s t u readable.symbol.symbol.table a b
@@ -91,6 +97,15 @@ made_once Dual s t u readable a b = dual_once s t u readable a b
 made_once Oriented s t u readable a b = cover_once s t u readable a b
 made_once Torus s t u readable a b = torus_once s t u readable a b
 made_once (Derived operation) s t u readable a b = derived_once (table_of_operation operation) (operation_lawful operation) s t u readable a b
+made_once (Applied word) s t u readable a b = applied_once word s t u readable a b
+
+-- few chambers are not too many
+not_too_many : (parts : ℕ) (s : Symbol) (why : SymbolFault) → s.size * parts ≤ 1024 → HasTooMany parts s why → ⊥
+not_too_many parts s (TooManyChambers n) few fault = let many = fault.1 in omega arith
+not_too_many parts s (BranchingTooLarge v) few fault = fault
+not_too_many parts s (NotFlat x) few fault = fault
+not_too_many parts s (TooManyVertices count) few fault = fault
+not_too_many parts s (TooWide step row column) few fault = fault
 
 -- of a symbol with a fault nothing is made
 pub nothing_made : (command : SymbolCommand) (s t : Symbol) (why : SymbolFault) → IsReadable s → IsFaultOf command s why → IsMade command s t → ⊥
@@ -109,11 +124,8 @@ nothing_made Torus s t (BranchingTooLarge v) readable fault is = fault
 nothing_made Torus s t (NotFlat x) readable fault is = fault.0 is.flat
 nothing_made Torus s t (TooManyVertices count) readable fault is = fault
 nothing_made Torus s t (TooWide step row column) readable fault is = fault
-nothing_made (Derived operation) s t (TooManyChambers n) readable fault is = let few = is.few in let many = fault.1 in omega arith
-nothing_made (Derived operation) s t (BranchingTooLarge v) readable fault is = fault
-nothing_made (Derived operation) s t (NotFlat x) readable fault is = fault
-nothing_made (Derived operation) s t (TooManyVertices count) readable fault is = fault
-nothing_made (Derived operation) s t (TooWide step row column) readable fault is = fault
+nothing_made (Derived operation) s t why readable fault is = not_too_many (table_of_operation operation).parts s why is.few fault
+nothing_made (Applied word) s t why readable fault is = not_too_many (parts_of (letters_of word)) s why is.few fault
 
 -- of symbols of which one has a fault there is no list of what is made
 pub none_all_made : (command : SymbolCommand) (k : ℕ) (ss ts : List Symbol) (r : SymbolRefusal) → AllByRecursion IsReadable ss → IsFirstFault command k ss r → AreInTurn (IsMade command) ss ts → ⊥

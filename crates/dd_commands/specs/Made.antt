@@ -9,11 +9,14 @@ use Rattle.dd_covers.specs.OrientedCover.{IsOrientedCover}
 use Rattle.dd_covers.specs.TorusCover.{IsTorusCover}
 use Rattle.dd_quotient.specs.Dual.{dual_of}
 use Rattle.dd_quotient.specs.MinimalImage.{IsMinimalImage, HasTooLarge}
+use Rattle.dd_opword.specs.Meaning.{meaning, parts_of}
+use Rattle.dd_opword.specs.Words.{letters_of}
+use Rattle.dd_opword.specs.declared.words.OpWord.{OpWord}
 use Rattle.dd_template.specs.Table.{Table}
 use Rattle.dd_template.specs.Made.{made}
 use Rattle.dd_template.specs.Named.{table_of_operation}
 use Rattle.dd_commands.specs.declared.commands.SymbolCommand.{SymbolCommand}
-use Rattle.dd_commands.specs.declared.commands.SymbolCommand.TheVariants.{Lines, Canon, Minimal, Dual, Oriented, Torus, Derived}
+use Rattle.dd_commands.specs.declared.commands.SymbolCommand.TheVariants.{Lines, Canon, Minimal, Dual, Oriented, Torus, Derived, Applied}
 use Rattle.dd_commands.specs.declared.refusals.SymbolFault.{SymbolFault}
 use Rattle.dd_commands.specs.declared.refusals.SymbolFault.TheVariants.{TooManyChambers, BranchingTooLarge, NotFlat, TooManyVertices, TooWide}
 use Rattle.dd_commands.specs.declared.refusals.SymbolRefusal.{SymbolRefusal}
@@ -46,6 +49,11 @@ pub record IsDerived (table : Table) (s t : Symbol) : Type 0 where
   pub few : s.size * table.parts ≤ 1024
   pub least : IsLeastForm (made table s) t
 
+-- the least form of what the operations of a word make of a symbol, which has at most 1,024 chambers
+pub record IsApplied (w : OpWord) (s t : Symbol) : Type 0 where
+  pub few : s.size * parts_of (letters_of w) ≤ 1024
+  pub least : IsLeastForm (meaning (letters_of w) s) t
+
 -- what a command makes of a symbol
 abbrev pub IsMade : SymbolCommand → Symbol → Symbol → Type 0
 IsMade Lines s t = s ≡ t
@@ -55,14 +63,23 @@ IsMade Dual s t = IsLeastForm (dual_of s) t
 IsMade Oriented s t = IsLeastCover s t
 IsMade Torus s t = IsLeastTorus s t
 IsMade (Derived operation) s t = IsDerived (table_of_operation operation) s t
+IsMade (Applied word) s t = IsApplied word s t
 
--- a symbol of n chambers, of which the table would make more than 1,024
+-- a symbol of n chambers, each of which would become so many parts, and all more than 1,024
+abbrev pub HasTooMany : ℕ → Symbol → SymbolFault → Type 0
+HasTooMany parts s (TooManyChambers n) = (n ≡ s.size) × (1024 < s.size * parts)
+HasTooMany parts s (BranchingTooLarge v) = ⊥
+HasTooMany parts s (NotFlat x) = ⊥
+HasTooMany parts s (TooManyVertices count) = ⊥
+HasTooMany parts s (TooWide step row column) = ⊥
+
+-- of a symbol the table would make too many chambers
 abbrev pub IsTooLong : Table → Symbol → SymbolFault → Type 0
-IsTooLong table s (TooManyChambers n) = (n ≡ s.size) × (1024 < s.size * table.parts)
-IsTooLong table s (BranchingTooLarge v) = ⊥
-IsTooLong table s (NotFlat x) = ⊥
-IsTooLong table s (TooManyVertices count) = ⊥
-IsTooLong table s (TooWide step row column) = ⊥
+IsTooLong table s fault = HasTooMany table.parts s fault
+
+-- of a symbol the operations of a word would make too many chambers
+abbrev pub IsTooLongFor : OpWord → Symbol → SymbolFault → Type 0
+IsTooLongFor word s fault = HasTooMany (parts_of (letters_of word)) s fault
 
 -- the minimal image has a branching value over 30, and v is the first
 abbrev pub IsTooSharp : Symbol → SymbolFault → Type 0
@@ -89,6 +106,7 @@ IsFaultOf Dual s fault = ⊥
 IsFaultOf Oriented s fault = ⊥
 IsFaultOf Torus s fault = IsCurved s fault
 IsFaultOf (Derived operation) s fault = IsTooLong (table_of_operation operation) s fault
+IsFaultOf (Applied word) s fault = IsTooLongFor word s fault
 
 -- something is made of a symbol
 abbrev pub IsTaken : SymbolCommand → Symbol → Type 0

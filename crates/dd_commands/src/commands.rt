@@ -1,4 +1,5 @@
 use dd_model::Frame;
+use dd_opword::OpWord;
 use dd_template::Operation;
 
 /// A command that writes a line for each symbol of a file.
@@ -18,6 +19,8 @@ pub enum SymbolCommand {
     Torus,
     /// The least form of a derived tiling.
     Derived(Operation),
+    /// The least form of what the operations of a word make.
+    Applied(OpWord),
 }
 
 /// A command on the symbols of a file.

@@ -8,7 +8,7 @@ ghost use Rattle.dd_covers.specs.TorusCover.{IsTorusCover};
 ghost use Rattle.dd_quotient.specs.Dual.{dual_of};
 ghost use Rattle.dd_template.specs.Named.{table_of_operation};
 ghost use Rattle.dd_commands.specs.InTurn.{AreInTurn};
-ghost use Rattle.dd_commands.specs.Made.{IsLeastImage, IsLeastCover, IsLeastTorus, IsDerived, IsTooLong, IsTooSharp, IsCurved, IsMade, IsFaultOf, IsFirstFault};
+ghost use Rattle.dd_commands.specs.Made.{IsLeastImage, IsLeastCover, IsLeastTorus, IsDerived, IsApplied, IsTooLong, IsTooLongFor, IsTooSharp, IsCurved, IsMade, IsFaultOf, IsFirstFault};
 ghost use Rattle.dd_commands.specs.Files.{AreLinesOfMade};
 ghost use Rattle.dd_commands.specs.Stops.{IsStop};
 
@@ -18,6 +18,7 @@ use crate::stop::Stop;
 use dd_canon::least_form;
 use dd_covers::{Cover, TorusFault, oriented, torus};
 use dd_model::Memory;
+use dd_opword::{OpWord, apply_word};
 use dd_quotient::{MinimalFault, dual, minimal_image};
 use dd_symbol::Connected;
 use dd_template::{ApplyFault, Operation};
@@ -100,6 +101,7 @@ fn made_of_one(
         SymbolCommand::Oriented => Ok(least_cover(alloc, s)?),
         SymbolCommand::Torus => least_torus(alloc, s),
         SymbolCommand::Derived(operation) => derived(alloc, operation, s),
+        SymbolCommand::Applied(word) => applied(alloc, word, s),
     }
 }
 
@@ -175,6 +177,21 @@ fn derived(
     ensures why { IfErr result (IsStop (IsTooLong (table_of_operation operation) s.now)) }
 {
     let made = match operation.apply(alloc, s) {
+        Ok(made) => made,
+        Err(ApplyFault::TooManyChambers { n }) => {
+            return Err(Stop::Refused(SymbolFault::TooManyChambers { n }));
+        }
+        Err(ApplyFault::Memory) => return Err(Stop::Memory),
+    };
+    Ok(least_form(alloc, &made)?)
+}
+
+/// The least form of what the operations of a word make of a symbol.
+fn applied(alloc: Global, word: OpWord, s: &Connected) -> Result<Connected, Stop<SymbolFault>>
+    ensures form { IfOk result (λ form. IsApplied word s.now form) }
+    ensures why { IfErr result (IsStop (IsTooLongFor word s.now)) }
+{
+    let made = match apply_word(alloc, &word, s) {
         Ok(made) => made,
         Err(ApplyFault::TooManyChambers { n }) => {
             return Err(Stop::Refused(SymbolFault::TooManyChambers { n }));

@@ -7,18 +7,18 @@ use Rattle.dd_words.specs.Values.{Text}
 use Rattle.dd_words.proofs.ReadCommands.{one_command}
 use Rattle.dd_words.proofs.Validity.{valid, IsPace, pace as pace_of, resume_pace, lone_pause}
 use Rattle.dd_words.specs.declared.commands.Command.{Command}
-use Rattle.dd_words.specs.declared.commands.Command.TheVariants.{Catalogue, Resume, File, Exercise, Draw as Drawing}
+use Rattle.dd_words.specs.declared.commands.Command.TheVariants.{Catalogue, Resume, File, Apply, Exercise, Draw as Drawing}
 use Rattle.dd_words.specs.declared.commands.FileKind.{FileKind}
 use Rattle.dd_words.specs.declared.commands.FileKind.TheVariants as kind
 use Rattle.dd_check.specs.Calls.{Task as ChainTask, Catalogue as First, Resume as Next}
 use Rattle.dd_commands.specs.declared.commands.FileCommand.{FileCommand}
 use Rattle.dd_commands.specs.declared.commands.FileCommand.TheVariants.{Symbols, Info, Draw}
 use Rattle.dd_commands.specs.declared.commands.SymbolCommand.{SymbolCommand}
-use Rattle.dd_commands.specs.declared.commands.SymbolCommand.TheVariants.{Lines, Canon, Minimal, Dual, Oriented, Torus, Derived}
+use Rattle.dd_commands.specs.declared.commands.SymbolCommand.TheVariants.{Lines, Canon, Minimal, Dual, Oriented, Torus, Derived, Applied}
 use Rattle.dd_pages.specs.declared.pace.Pace.{Pace}
 use Rattle.dd_tasks.specs.declared.task.Task.{Task}
 use Rattle.dd_tasks.specs.declared.task.Task.TheVariants as task
-use Rattle.dd_tasks.specs.Words.{Order, run_command, AskForRun, kind_of, file_command, IsOnFile, AskToExercise, AreTaken}
+use Rattle.dd_tasks.specs.Words.{Order, run_command, AskForRun, file_command, IsOnFile, AskToExercise, AreTaken}
 use Rattle.dd_tasks.specs.Commands.{AskForTask}
 
 -- what a command on a file asks for, and its file
@@ -34,23 +34,21 @@ command_of kind.Torus = Symbols Torus
 
 asked_by : Command → Option (FileCommand × List ℕ)
 asked_by (File kind name) = Some (command_of kind, name)
+asked_by (Apply word name) = Some (Symbols (Applied word), name)
 asked_by (Drawing name frame) = Some (Draw frame, name)
 asked_by other = None
-
-back_from_kind : (made : SymbolCommand) → command_of (kind_of made) ≡ Symbols made
-unfolding command_of
-back_from_kind Lines = refl
-back_from_kind Canon = refl
-back_from_kind Minimal = refl
-back_from_kind Dual = refl
-back_from_kind Oriented = refl
-back_from_kind Torus = refl
-back_from_kind (Derived operation) = refl
 
 back_from_command : (k : FileCommand) (name : List ℕ) → asked_by (file_command k name) ≡ Some (k, name)
 unfolding asked_by command_of
 back_from_command Info name = refl
-back_from_command (Symbols made) name = ap (λ (k : FileCommand). Some (k, name)) (back_from_kind made)
+back_from_command (Symbols Lines) name = refl
+back_from_command (Symbols Canon) name = refl
+back_from_command (Symbols Minimal) name = refl
+back_from_command (Symbols Dual) name = refl
+back_from_command (Symbols Oriented) name = refl
+back_from_command (Symbols Torus) name = refl
+back_from_command (Symbols (Derived operation)) name = refl
+back_from_command (Symbols (Applied word)) name = refl
 back_from_command (Draw frame) name = refl
 
 same_asked : (p q : FileCommand × List ℕ) → Some p ≡ Some q → (p.0 ≡ q.0) × (p.1 ≡ q.1)
@@ -72,7 +70,14 @@ order_told (Next name) workers round pause = refl
 no_order : (k : FileCommand) (name : List ℕ) → order_of (file_command k name) ≡ None
 unfolding order_of
 no_order Info name = refl
-no_order (Symbols made) name = refl
+no_order (Symbols Lines) name = refl
+no_order (Symbols Canon) name = refl
+no_order (Symbols Minimal) name = refl
+no_order (Symbols Dual) name = refl
+no_order (Symbols Oriented) name = refl
+no_order (Symbols Torus) name = refl
+no_order (Symbols (Derived operation)) name = refl
+no_order (Symbols (Applied word)) name = refl
 no_order (Draw frame) name = refl
 
 same_some : (a b : Order) → Some a ≡ Some b → a ≡ b

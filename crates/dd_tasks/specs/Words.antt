@@ -4,13 +4,12 @@ use Rattle.dd_model.specs.declared.requests.Request.{Request}
 use Rattle.dd_words.specs.Grammar.{IsCommand}
 use Rattle.dd_words.specs.declared.commands.Command.{Command}
 use Rattle.dd_words.specs.declared.commands.Command.TheVariants as command
-use Rattle.dd_words.specs.declared.commands.FileKind.{FileKind}
 use Rattle.dd_words.specs.declared.commands.FileKind.TheVariants as kind
 use Rattle.dd_check.specs.Calls.{Task, Catalogue, Resume}
 use Rattle.dd_commands.specs.declared.commands.FileCommand.{FileCommand}
 use Rattle.dd_commands.specs.declared.commands.FileCommand.TheVariants.{Symbols, Info, Draw}
 use Rattle.dd_commands.specs.declared.commands.SymbolCommand.{SymbolCommand}
-use Rattle.dd_commands.specs.declared.commands.SymbolCommand.TheVariants.{Lines, Canon, Minimal, Dual, Oriented, Torus, Derived}
+use Rattle.dd_commands.specs.declared.commands.SymbolCommand.TheVariants.{Lines, Canon, Minimal, Dual, Oriented, Torus, Derived, Applied}
 
 -- A run of a chain as words ask for it: its task, how many jobs go into a round, and after how many lines it is to pause, if it is.
 pub record Order : Type 0 where
@@ -41,20 +40,21 @@ pub record AskToResume (words : List (List ℕ)) (name : List ℕ) : Type 0 wher
   pub pause : Option ℕ
   pub run : AskForRun words (record { task = Resume name; round = round; pause = pause })
 
--- what a command makes of each symbol, as words ask for it
-abbrev pub kind_of : SymbolCommand → FileKind
-kind_of Lines = kind.Lines
-kind_of Canon = kind.Canon
-kind_of Minimal = kind.Minimal
-kind_of Dual = kind.Dual
-kind_of Oriented = kind.Oriented
-kind_of Torus = kind.Torus
-kind_of (Derived operation) = kind.Derived operation
+-- the command that makes something of each symbol of the file of a name
+abbrev pub symbol_command : SymbolCommand → List ℕ → Command
+symbol_command Lines name = command.File kind.Lines name
+symbol_command Canon name = command.File kind.Canon name
+symbol_command Minimal name = command.File kind.Minimal name
+symbol_command Dual name = command.File kind.Dual name
+symbol_command Oriented name = command.File kind.Oriented name
+symbol_command Torus name = command.File kind.Torus name
+symbol_command (Derived operation) name = command.File (kind.Derived operation) name
+symbol_command (Applied word) name = command.Apply word name
 
 -- the commands on the file of a name
 abbrev pub file_command : FileCommand → List ℕ → Command
 file_command Info name = command.File kind.Info name
-file_command (Symbols made) name = command.File (kind_of made) name
+file_command (Symbols made) name = symbol_command made name
 file_command (Draw frame) name = command.Draw name frame
 
 -- the words of a command on the file of a name

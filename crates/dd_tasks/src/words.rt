@@ -47,6 +47,9 @@ fn task_of(command: Command) -> Task
             pause,
         },
         Command::File { kind, file } => Task::OnFile(command_of(kind), file),
+        Command::Apply { word, file } => {
+            Task::OnFile(FileCommand::Symbols(SymbolCommand::Applied(word)), file)
+        }
         Command::Draw { file, frame } => Task::OnFile(FileCommand::Draw(frame), file),
         Command::Exercise { start, count } => Task::Exercise { start, count },
     }

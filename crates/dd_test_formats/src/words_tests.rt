@@ -80,6 +80,10 @@ fn put_command(alloc: Global, out: &mut String, command: &Command) -> Result<(),
         Command::Exercise { start, count } => {
             put(out, format!(in alloc; "exercise {start} {count}")?)
         }
+        Command::Apply { word, file } => {
+            let file = file.as_str();
+            put(out, format!(in alloc; "apply {word:?} {file}")?)
+        }
         Command::File { kind, file } => {
             let file = file.as_str();
             put(out, format!(in alloc; "{kind:?} {file}")?)
@@ -171,6 +175,8 @@ fn other_commands_are_read(rt: HostRuntime) {
         (&["canon", "f"], "Canon f"),
         (&["dual", "--", "f"], "Dual f"),
         (&["exercise", "1", "00"], "exercise 1 0"),
+        (&["apply", "ta", "f"], "apply Two(Truncate, Ambo) f"),
+        (&["apply", "--", "ccc", "f"], "apply Three(Chamfer, Chamfer, Chamfer) f"),
         (&["draw", "f", "--cell", "hex"], "draw f Hex"),
         (&["draw", "f"], "draw f Square"),
         (&["resume", "c", "--pause", "17"], "resume c 1 64 Some(17)"),

@@ -201,10 +201,14 @@ first_there verb.Catalogue = record { by_index = refl; by_id = refl }
 first_there verb.Resume = record { by_index = refl; by_id = refl }
 first_there verb.Draw = record { by_index = refl; by_id = refl }
 first_there verb.Exercise = record { by_index = refl; by_id = refl }
+first_there verb.Apply = record { by_index = refl; by_id = refl }
 first_there (verb.File kind) = record { by_index = refl; by_id = refl }
 
 second_there : IsPlace (rules_for verb.Exercise) 2
 second_there = record { by_index = refl; by_id = refl }
+
+applied_there : IsPlace (rules_for verb.Apply) 2
+applied_there = record { by_index = refl; by_id = refl }
 
 said_places : (d : Command) (xs : List Text) (gs : List Given) → IsSaid d xs gs → Placed (rules_for (verb_of d)) [] 1 xs
 said_places (command.Catalogue q workers round pause checkpoint) (n ∷ []) gs h = (first_there verb.Catalogue, refl, tt)
@@ -220,6 +224,10 @@ said_places (command.Exercise start count) (n ∷ m ∷ []) gs h = (first_there 
 said_places (command.Exercise start count) [] gs h = tt
 said_places (command.Exercise start count) (n ∷ []) gs h = elim h [ ]
 said_places (command.Exercise start count) (n ∷ m ∷ o ∷ ns) gs h = elim h [ ]
+said_places (command.Apply word file) (n ∷ m ∷ []) gs h = (first_there verb.Apply, refl, (applied_there, refl, tt))
+said_places (command.Apply word file) [] gs h = tt
+said_places (command.Apply word file) (n ∷ []) gs h = elim h [ ]
+said_places (command.Apply word file) (n ∷ m ∷ o ∷ ns) gs h = elim h [ ]
 said_places (command.File kind file) (n ∷ []) gs h = (first_there (verb.File kind), refl, tt)
 said_places (command.File kind file) [] gs h = tt
 said_places (command.File kind file) (n ∷ m ∷ ns) gs h = elim h [ ]

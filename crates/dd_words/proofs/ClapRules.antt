@@ -31,6 +31,7 @@ built_for verb.Catalogue = refl
 built_for verb.Resume = refl
 built_for verb.Draw = refl
 built_for verb.Exercise = refl
+built_for verb.Apply = refl
 built_for (verb.File kind) = refl
 
 pub simple_for : (v : Verb) → is_simple_and_free (app_for v) ≡ true
@@ -39,6 +40,7 @@ simple_for verb.Catalogue = refl
 simple_for verb.Resume = refl
 simple_for verb.Draw = refl
 simple_for verb.Exercise = refl
+simple_for verb.Apply = refl
 simple_for (verb.File kind) = refl
 
 pub plain_for : (v : Verb) → is_simple (app_for v) ≡ true
@@ -47,6 +49,7 @@ plain_for verb.Catalogue = refl
 plain_for verb.Resume = refl
 plain_for verb.Draw = refl
 plain_for verb.Exercise = refl
+plain_for verb.Apply = refl
 plain_for (verb.File kind) = refl
 
 -- no rule stands at a place that is none of its own
@@ -284,47 +287,12 @@ draw_reader = record {
   checks = λ rows. refl;
 }
 
-exercise_valued_long : (s : Setting) → IsValuedOf verb.Exercise s → arg_by_long (rules_for verb.Exercise) (word_of s) ≡ Some (valued (word_of s))
-exercise_valued_long Tiles h = let bad = h.owned in absurd (cc)
-exercise_valued_long Vertices h = let bad = h.owned in absurd (cc)
-exercise_valued_long LeastFace h = let bad = h.owned in absurd (cc)
-exercise_valued_long LeastDegree h = let bad = h.owned in absurd (cc)
-exercise_valued_long Faces h = let bad = h.owned in absurd (cc)
-exercise_valued_long Degrees h = let bad = h.owned in absurd (cc)
-exercise_valued_long Minimal h = let bad = h.owned in absurd (cc)
-exercise_valued_long Workers h = let bad = h.owned in absurd (cc)
-exercise_valued_long Round h = let bad = h.owned in absurd (cc)
-exercise_valued_long Pause h = let bad = h.owned in absurd (cc)
-exercise_valued_long Checkpoint h = let bad = h.owned in absurd (cc)
-exercise_valued_long Cell h = let bad = h.owned in absurd (cc)
+-- a verb that has no settings has none with a value, and no flag
+bare_valued : {A : Type 0} (v : Verb) (s : Setting) → has_setting v s ≡ false → IsValuedOf v s → A
+bare_valued v s none h = let own = h.owned in absurd (cc)
 
-exercise_valued_id : (s : Setting) → IsValuedOf verb.Exercise s → arg_by_id (rules_for verb.Exercise) (word_of s) ≡ Some (valued (word_of s))
-exercise_valued_id Tiles h = let bad = h.owned in absurd (cc)
-exercise_valued_id Vertices h = let bad = h.owned in absurd (cc)
-exercise_valued_id LeastFace h = let bad = h.owned in absurd (cc)
-exercise_valued_id LeastDegree h = let bad = h.owned in absurd (cc)
-exercise_valued_id Faces h = let bad = h.owned in absurd (cc)
-exercise_valued_id Degrees h = let bad = h.owned in absurd (cc)
-exercise_valued_id Minimal h = let bad = h.owned in absurd (cc)
-exercise_valued_id Workers h = let bad = h.owned in absurd (cc)
-exercise_valued_id Round h = let bad = h.owned in absurd (cc)
-exercise_valued_id Pause h = let bad = h.owned in absurd (cc)
-exercise_valued_id Checkpoint h = let bad = h.owned in absurd (cc)
-exercise_valued_id Cell h = let bad = h.owned in absurd (cc)
-
-exercise_flagged_long : (s : Setting) → IsFlagOf verb.Exercise s → arg_by_long (rules_for verb.Exercise) (word_of s) ≡ Some (flagged (word_of s))
-exercise_flagged_long Tiles h = let bad = h.owned in absurd (cc)
-exercise_flagged_long Vertices h = let bad = h.owned in absurd (cc)
-exercise_flagged_long LeastFace h = let bad = h.owned in absurd (cc)
-exercise_flagged_long LeastDegree h = let bad = h.owned in absurd (cc)
-exercise_flagged_long Faces h = let bad = h.owned in absurd (cc)
-exercise_flagged_long Degrees h = let bad = h.owned in absurd (cc)
-exercise_flagged_long Minimal h = let bad = h.owned in absurd (cc)
-exercise_flagged_long Workers h = let bad = h.owned in absurd (cc)
-exercise_flagged_long Round h = let bad = h.owned in absurd (cc)
-exercise_flagged_long Pause h = let bad = h.owned in absurd (cc)
-exercise_flagged_long Checkpoint h = let bad = h.owned in absurd (cc)
-exercise_flagged_long Cell h = let bad = h.owned in absurd (cc)
+bare_flagged : {A : Type 0} (v : Verb) (s : Setting) → has_setting v s ≡ false → IsFlagOf v s → A
+bare_flagged v s none h = let own = h.owned in absurd (cc)
 
 exercise_past : (k : ℕ) → arg_by_index (rules_for verb.Exercise) (suc (suc (suc k))) ≡ None
 exercise_past k = not_at (placed first_place 1) (placed second_place 2 ∷ []) (suc (suc (suc k))) 1 refl (past_both k) (not_at (placed second_place 2) [] (suc (suc (suc k))) 2 refl (past_two k) refl)
@@ -343,9 +311,9 @@ exercise_few (suc (suc (suc k))) p = absurd (none_is_some _ (sym (exercise_past 
 
 exercise_reader : IsReader verb.Exercise (rules_for verb.Exercise)
 exercise_reader = record {
-  valued_long = exercise_valued_long;
-  valued_id = exercise_valued_id;
-  flagged_long = exercise_flagged_long;
+  valued_long = λ s. bare_valued verb.Exercise s refl;
+  valued_id = λ s. bare_valued verb.Exercise s refl;
+  flagged_long = λ s. bare_flagged verb.Exercise s refl;
   known = λ name. named_in verb.Exercise name ([]) tt;
   no_short = λ x. refl;
   places = exercise_places;
@@ -354,47 +322,19 @@ exercise_reader = record {
   checks = λ rows. refl;
 }
 
-file_valued_long : (kind : FileKind) (s : Setting) → IsValuedOf (verb.File kind) s → arg_by_long (rules_for (verb.File kind)) (word_of s) ≡ Some (valued (word_of s))
-file_valued_long kind Tiles h = let bad = h.owned in absurd (cc)
-file_valued_long kind Vertices h = let bad = h.owned in absurd (cc)
-file_valued_long kind LeastFace h = let bad = h.owned in absurd (cc)
-file_valued_long kind LeastDegree h = let bad = h.owned in absurd (cc)
-file_valued_long kind Faces h = let bad = h.owned in absurd (cc)
-file_valued_long kind Degrees h = let bad = h.owned in absurd (cc)
-file_valued_long kind Minimal h = let bad = h.owned in absurd (cc)
-file_valued_long kind Workers h = let bad = h.owned in absurd (cc)
-file_valued_long kind Round h = let bad = h.owned in absurd (cc)
-file_valued_long kind Pause h = let bad = h.owned in absurd (cc)
-file_valued_long kind Checkpoint h = let bad = h.owned in absurd (cc)
-file_valued_long kind Cell h = let bad = h.owned in absurd (cc)
-
-file_valued_id : (kind : FileKind) (s : Setting) → IsValuedOf (verb.File kind) s → arg_by_id (rules_for (verb.File kind)) (word_of s) ≡ Some (valued (word_of s))
-file_valued_id kind Tiles h = let bad = h.owned in absurd (cc)
-file_valued_id kind Vertices h = let bad = h.owned in absurd (cc)
-file_valued_id kind LeastFace h = let bad = h.owned in absurd (cc)
-file_valued_id kind LeastDegree h = let bad = h.owned in absurd (cc)
-file_valued_id kind Faces h = let bad = h.owned in absurd (cc)
-file_valued_id kind Degrees h = let bad = h.owned in absurd (cc)
-file_valued_id kind Minimal h = let bad = h.owned in absurd (cc)
-file_valued_id kind Workers h = let bad = h.owned in absurd (cc)
-file_valued_id kind Round h = let bad = h.owned in absurd (cc)
-file_valued_id kind Pause h = let bad = h.owned in absurd (cc)
-file_valued_id kind Checkpoint h = let bad = h.owned in absurd (cc)
-file_valued_id kind Cell h = let bad = h.owned in absurd (cc)
-
-file_flagged_long : (kind : FileKind) (s : Setting) → IsFlagOf (verb.File kind) s → arg_by_long (rules_for (verb.File kind)) (word_of s) ≡ Some (flagged (word_of s))
-file_flagged_long kind Tiles h = let bad = h.owned in absurd (cc)
-file_flagged_long kind Vertices h = let bad = h.owned in absurd (cc)
-file_flagged_long kind LeastFace h = let bad = h.owned in absurd (cc)
-file_flagged_long kind LeastDegree h = let bad = h.owned in absurd (cc)
-file_flagged_long kind Faces h = let bad = h.owned in absurd (cc)
-file_flagged_long kind Degrees h = let bad = h.owned in absurd (cc)
-file_flagged_long kind Minimal h = let bad = h.owned in absurd (cc)
-file_flagged_long kind Workers h = let bad = h.owned in absurd (cc)
-file_flagged_long kind Round h = let bad = h.owned in absurd (cc)
-file_flagged_long kind Pause h = let bad = h.owned in absurd (cc)
-file_flagged_long kind Checkpoint h = let bad = h.owned in absurd (cc)
-file_flagged_long kind Cell h = let bad = h.owned in absurd (cc)
+-- a word of operations and a file have the rules of an exercise
+apply_reader : IsReader verb.Apply (rules_for verb.Apply)
+apply_reader = record {
+  valued_long = λ s. bare_valued verb.Apply s refl;
+  valued_id = λ s. bare_valued verb.Apply s refl;
+  flagged_long = λ s. bare_flagged verb.Apply s refl;
+  known = λ name. named_in verb.Apply name ([]) tt;
+  no_short = λ x. refl;
+  places = exercise_places;
+  few = exercise_few;
+  quiet = (inl refl, (inl refl, tt));
+  checks = λ rows. refl;
+}
 
 file_past : (kind : FileKind) (k : ℕ) → arg_by_index (rules_for (verb.File kind)) (suc (suc k)) ≡ None
 file_past kind k = not_at (placed first_place 1) (rules_of ([])) (suc (suc k)) 1 refl (past_one k) refl
@@ -411,9 +351,9 @@ file_few kind (suc (suc k)) p = absurd (none_is_some _ (sym (file_past kind k) �
 
 file_reader : (kind : FileKind) → IsReader (verb.File kind) (rules_for (verb.File kind))
 file_reader kind = record {
-  valued_long = file_valued_long kind;
-  valued_id = file_valued_id kind;
-  flagged_long = file_flagged_long kind;
+  valued_long = λ s. bare_valued (verb.File kind) s refl;
+  valued_id = λ s. bare_valued (verb.File kind) s refl;
+  flagged_long = λ s. bare_flagged (verb.File kind) s refl;
   known = λ name. named_in (verb.File kind) name ([]) tt;
   no_short = λ x. refl;
   places = file_places kind;
@@ -427,4 +367,5 @@ reader_for verb.Catalogue = catalogue_reader
 reader_for verb.Resume = resume_reader
 reader_for verb.Draw = draw_reader
 reader_for verb.Exercise = exercise_reader
+reader_for verb.Apply = apply_reader
 reader_for (verb.File kind) = file_reader kind

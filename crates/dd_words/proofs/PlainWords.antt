@@ -10,6 +10,11 @@ use Rattle.dd_words.specs.declared.commands.Command.{Command}
 use Rattle.dd_words.specs.declared.commands.Command.TheVariants as command
 use Rattle.dd_model.specs.declared.frame.Frame.{Frame}
 use Rattle.dd_model.specs.declared.frame.Frame.TheVariants.{Square, Hex}
+use Rattle.dd_opword.specs.Words.{byte_of, IsSpelled}
+use Rattle.dd_opword.specs.declared.letters.Letter.{Letter}
+use Rattle.dd_opword.specs.declared.letters.Letter.TheVariants.{Dual, Ambo, Truncate, Chamfer}
+use Rattle.dd_opword.specs.declared.words.OpWord.{OpWord}
+use Rattle.dd_opword.specs.declared.words.OpWord.TheVariants.{One, Two, Three}
 use Rattle.dd_words.specs.Values.{Text, IsNumber, AreBounds, AsksForNumbers, IsSetWord, IsName, items_of}
 use Rattle.dd_words.specs.Layout.{IsPlain}
 use Rattle.dd_words.specs.Given.{Given, AreSingle, Has}
@@ -53,6 +58,17 @@ set_plain (b ∷ bs) a h = λ e. first_item b (items_of bs) (split e h.items) e
   where
     split : b ≡ 45 → AllByRecursion AsksForNumbers (items_of (b ∷ bs)) → AllByRecursion AsksForNumbers (onto_first b (items_of bs))
     split e all = subst (λ t. AllByRecursion AsksForNumbers (cond t ([] ∷ items_of bs) (onto_first b (items_of bs)))) (ap (λ z. z == 44) e) all
+
+letter_is_no_dash : (l : Letter) → byte_of l ≢ 45
+letter_is_no_dash Dual e = absurd (omega (arith, e))
+letter_is_no_dash Ambo e = absurd (omega (arith, e))
+letter_is_no_dash Truncate e = absurd (omega (arith, e))
+letter_is_no_dash Chamfer e = absurd (omega (arith, e))
+
+op_word_plain : (w : Text) (v : OpWord) → IsSpelled w v → IsPlain w
+op_word_plain w (One x) h = subst IsPlain (sym h) (letter_is_no_dash x)
+op_word_plain w (Two x y) h = subst IsPlain (sym h) (letter_is_no_dash x)
+op_word_plain w (Three x y z) h = subst IsPlain (sym h) (letter_is_no_dash x)
 
 frame_plain : (f : Frame) → IsPlain (word_of_frame f)
 frame_plain Square = λ e. absurd (omega (arith, e))
@@ -130,6 +146,7 @@ module _ (gs : List Given) (single : AreSingle gs) where
   value_plain (command.Draw file frame) [] h s x o v has = elim h [ ]
   value_plain (command.Draw file frame) (n ∷ m ∷ ns) h s x o v has = elim h [ ]
   value_plain (command.Exercise start count) xs h s x o v has = absurd (cc)
+  value_plain (command.Apply word file) xs h s x o v has = absurd (cc)
   value_plain (command.File kind file) xs h s x o v has = absurd (cc)
 
 -- the arguments
@@ -147,6 +164,10 @@ argument_plain (command.Exercise start count) (first ∷ second ∷ []) gs h = (
 argument_plain (command.Exercise start count) [] gs h = tt
 argument_plain (command.Exercise start count) (n ∷ []) gs h = elim h [ ]
 argument_plain (command.Exercise start count) (n ∷ m ∷ o ∷ ns) gs h = elim h [ ]
+argument_plain (command.Apply w file) (first ∷ second ∷ []) gs h = (op_word_plain first w h.word_is, (name_plain second (subst IsName (sym h.same) h.is_name), tt))
+argument_plain (command.Apply w file) [] gs h = tt
+argument_plain (command.Apply w file) (n ∷ []) gs h = elim h [ ]
+argument_plain (command.Apply w file) (n ∷ m ∷ o ∷ ns) gs h = elim h [ ]
 argument_plain (command.File kind file) (word ∷ []) gs h = (name_plain word (subst IsName (sym h.same) h.is_name), tt)
 argument_plain (command.File kind file) [] gs h = tt
 argument_plain (command.File kind file) (n ∷ m ∷ ns) gs h = elim h [ ]

@@ -3,6 +3,8 @@ use Rattle.std.proofs.Common.{◌≡◌, ◌≤◌, ◌<◌, ℕ, List, [], ◌�
 use Rattle.std.specs.Prelude.{IsSome, is_some}
 use Rattle.dd_model.specs.declared.requests.Request.{Request}
 use Rattle.dd_model.proofs.Lists.{cons_head, cons_tail}
+use Rattle.dd_opword.specs.declared.words.OpWord.{OpWord}
+use Rattle.dd_opword.proofs.SpelledWords.{one_op_word}
 use Rattle.dd_words.specs.declared.commands.Command.{Command}
 use Rattle.dd_words.specs.declared.commands.Command.TheVariants as command
 use Rattle.dd_model.specs.declared.frame.Frame.{Frame}
@@ -147,6 +149,16 @@ one_exercise [] ss s n t m a b = absurd a
 one_exercise (x ∷ []) ss s n t m a b = absurd a
 one_exercise (x ∷ y ∷ z ∷ xs) ss s n t m a b = absurd a
 
+one_application : (xs : List Text) (ss : List Given) (w v : OpWord) (f k : Text) → IsSaid (command.Apply w f) xs ss → IsSaid (command.Apply v k) xs ss
+    → command.Apply w f ≡ command.Apply v k
+one_application (x ∷ y ∷ []) ss w v f k a b =
+    let word = one_op_word x w v a.word_is b.word_is in
+    let file = sym a.same ∙ b.same in
+    λ i. command.Apply (word i) (file i)
+one_application [] ss w v f k a b = absurd a
+one_application (x ∷ []) ss w v f k a b = absurd a
+one_application (x ∷ y ∷ z ∷ xs) ss w v f k a b = absurd a
+
 one_file : (xs : List Text) (ss : List Given) (g j : FileKind) (f k : Text) → g ≡ j → IsSaid (command.File g f) xs ss → IsSaid (command.File j k) xs ss
     → command.File g f ≡ command.File j k
 one_file (x ∷ []) ss g j f k kind a b =
@@ -163,6 +175,7 @@ one_said xs ss (command.Catalogue p w r o k) (command.Catalogue q u s m j) singl
 one_said xs ss (command.Resume n w r o) (command.Resume k u s m) single e a b = one_resume xs ss n k w r u s o m single a b
 one_said xs ss (command.Draw f g) (command.Draw k j) single e a b = one_drawing xs ss f k g j single a b
 one_said xs ss (command.Exercise s n) (command.Exercise t m) single e a b = one_exercise xs ss s n t m a b
+one_said xs ss (command.Apply w f) (command.Apply v k) single e a b = one_application xs ss w v f k a b
 one_said xs ss (command.File g f) (command.File j k) single e a b = one_file xs ss g j f k (same_kind g j e) a b
 one_said xs ss c d single e a b = absurd (cc)
 

@@ -45,9 +45,10 @@ abbrev pub bare_app : App
 bare_app = let new = new_app (codes "dressline") in
     record new { top = record new.top { no_binary_name = true; disable_help_flag = true; disable_version_flag = true } }
 
--- an exercise has two arguments, and the others one
+-- an exercise and a word of operations have two arguments, and the others one
 abbrev pub with_places : Verb → App
 with_places verb.Exercise = with_rule (with_rule bare_app (place_rule first_place)) (place_rule second_place)
+with_places verb.Apply = with_rule (with_rule bare_app (place_rule first_place)) (place_rule second_place)
 with_places _ = with_rule bare_app (place_rule first_place)
 
 abbrev pub app_for : Verb → App

@@ -3,6 +3,8 @@ use Rattle.std.specs.Prelude.{◌≡◌, ℕ, List, [], ◌∷◌, Option, IsSom
 use Rattle.dd_model.specs.declared.requests.Request.{Request}
 use Rattle.dd_words.specs.declared.settings.Setting.TheVariants.{Tiles, Vertices, LeastFace, LeastDegree, Faces, Degrees, Minimal, Workers, Round, Pause, Checkpoint}
 use Rattle.dd_model.specs.declared.frame.Frame.{Frame}
+use Rattle.dd_opword.specs.Words.{IsSpelled}
+use Rattle.dd_opword.specs.declared.words.OpWord.{OpWord}
 use Rattle.dd_words.specs.declared.commands.Command.{Command}
 use Rattle.dd_words.specs.declared.commands.Command.TheVariants as command
 use Rattle.dd_words.specs.Values.{Text, IsNumberIn, IsName}
@@ -50,6 +52,12 @@ pub record IsExercise (first second : Text) (start count : ℕ) : Type 0 where
   pub start_is : IsNumberIn 0 2147483647 first start
   pub count_is : IsNumberIn 0 10000 second count
 
+-- the arguments of a word of operations and a file
+pub record IsApplied (first second : Text) (word : OpWord) (file : Text) : Type 0 where
+  pub word_is : IsSpelled first word
+  pub same : second ≡ file
+  pub is_name : IsName file
+
 -- the argument of a command on a file
 pub record IsOnFile (word file : Text) : Type 0 where
   pub same : word ≡ file
@@ -72,6 +80,7 @@ IsSaid (command.Catalogue q workers round pause checkpoint) arguments settings =
 IsSaid (command.Resume name workers round pause) arguments settings = OnOne arguments (λ word. IsResumed word settings name workers round pause)
 IsSaid (command.Draw file frame) arguments settings = OnOne arguments (λ word. IsDrawn word settings file frame)
 IsSaid (command.Exercise start count) arguments settings = OnTwo arguments (λ first second. IsExercise first second start count)
+IsSaid (command.Apply word file) arguments settings = OnTwo arguments (λ first second. IsApplied first second word file)
 IsSaid (command.File kind file) arguments settings = OnOne arguments (λ word. IsOnFile word file)
 
 -- the words ask for the command

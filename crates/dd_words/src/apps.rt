@@ -38,13 +38,13 @@ pub fn app_for<'a>(alloc: Global, verb: Verb) -> Result<App<'a>, AllocError>
     with_settings(app, alloc, verb, SETTINGS.as_slice())
 }
 
-/// The arguments of a verb: an exercise has two, and the others have one.
+/// The arguments of a verb: an exercise and a word of operations have two, and the others have one.
 fn with_places<'a>(alloc: Global, verb: Verb) -> Result<App<'a>, AllocError>
     ensures { IfOk result (λ app. app_of app ≡ with_places verb) }
 {
     let app = bare_app(alloc).arg(place(alloc, FIRST))?;
     match verb {
-        Verb::Exercise => app.arg(place(alloc, SECOND)),
+        Verb::Exercise | Verb::Apply => app.arg(place(alloc, SECOND)),
         _ => Ok(app),
     }
 }

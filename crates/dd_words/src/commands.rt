@@ -1,5 +1,6 @@
 use crate::names::Name;
 use dd_model::{Frame, Request};
+use dd_opword::OpWord;
 use dd_template::Operation;
 
 /// What a command does with the symbols of a file.
@@ -63,6 +64,13 @@ pub enum Command {
         start: u32,
         /// How many symbols are made.
         count: u32,
+    },
+    /// The operations of a word, done to the symbols of a file.
+    Apply {
+        /// The operations.
+        word: OpWord,
+        /// The file.
+        file: Name,
     },
     /// A command on the symbols of a file.
     File {

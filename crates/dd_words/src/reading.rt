@@ -15,6 +15,7 @@ use crate::requests::{read_request, read_run};
 use crate::settings::{Given, Setting};
 use crate::values::read_number_in;
 use crate::verbs::Verb;
+use dd_opword::OpWord;
 use std::alloc::Global;
 use std::rc::RcStr;
 
@@ -70,6 +71,7 @@ fn read_command(
         Verb::Resume => read_resume(alloc, arguments, settings),
         Verb::Draw => read_drawing(alloc, arguments, settings),
         Verb::Exercise => read_exercise(arguments, settings),
+        Verb::Apply => read_application(alloc, arguments, settings),
         Verb::File(kind) => read_file(alloc, kind, arguments, settings),
     }
 }
@@ -174,6 +176,28 @@ fn read_exercise(arguments: &[&str], settings: &[Given<'_>]) -> Result<Command, 
         return Err(WordsFault::NotTaken);
     };
     Ok(Command::Exercise { start, count })
+}
+
+/// A word of operations and a file with these arguments.
+fn read_application(
+    alloc: Global,
+    arguments: &[&str],
+    settings: &[Given<'_>],
+) -> Result<Command, WordsFault>
+    requires { AreSingle (map given_of settings.now) }
+    ensures command { IfOk result
+        (IsReadAs Verb.Apply (texts arguments.now) (map given_of settings.now)) }
+    ensures not_taken { result ≡ Err WordsFault.NotTaken → (c : Command)
+        → IsReadAs Verb.Apply (texts arguments.now) (map given_of settings.now) c → ⊥ }
+{
+    let [word, file] = arguments else {
+        return Err(WordsFault::NotTaken);
+    };
+    let Some(word) = OpWord::read(word) else {
+        return Err(WordsFault::NotTaken);
+    };
+    let file = read_name(alloc, file)?;
+    Ok(Command::Apply { word, file })
 }
 
 /// A command on the file of these arguments.

@@ -15,6 +15,8 @@ pub enum Verb {
     Draw,
     /// `exercise`.
     Exercise,
+    /// `apply`.
+    Apply,
     /// A command on the symbols of a file.
     File(FileKind),
 }
@@ -30,6 +32,7 @@ impl Verb {
             "resume" => Some(Verb::Resume),
             "draw" => Some(Verb::Draw),
             "exercise" => Some(Verb::Exercise),
+            "apply" => Some(Verb::Apply),
             "canon" => Some(Verb::File(FileKind::Canon)),
             "lines" => Some(Verb::File(FileKind::Lines)),
             "info" => Some(Verb::File(FileKind::Info)),
