@@ -1,12 +1,12 @@
 -- What is wanting at the cells, and the greatest branching value.
-use Rattle.std.proofs.Common.{◌≡◌, ℕ, ◌+◌, ◌-◌, ◌*◌, ◌/◌, ◌%◌, ◌<◌, ◌≤◌, List, length, max, set, slice_index, refl, sym, ap, ◌∙◌, subst, ⊎_elim, arith}
+use Rattle.std.proofs.Common.{◌≡◌, ℕ, zero, suc, ◌+◌, ◌-◌, ◌*◌, ◌/◌, ◌%◌, ◌<◌, ◌≤◌, List, length, max, set, slice_index, refl, sym, ap, ◌∙◌, subst, ⊎_elim, arith}
 use Rattle.std.proofs.lemmas.Bool.{cases_lt, cases_eq}
 use Rattle.std.proofs.lemmas.List.{get_or-set_same, get_or-set_other}
 use Rattle.dd_model.specs.declared.pair.Pair.{Pair}
 use Rattle.dd_model.specs.declared.pair.Pair.TheVariants.{Tile, Vertex, Edge}
 use Rattle.dd_model.specs.Symbol.{Symbol, IsChamber, IsSymbol}
 use Rattle.dd_model.specs.Cell.{IsBranching}
-use Rattle.dd_model.proofs.Branching.{branching_same, branching_unique}
+use Rattle.dd_model.proofs.Branching.{branching_exists, branching_same, branching_unique}
 use Rattle.dd_model.proofs.CellSearch.{least_of_cell_unique}
 use Rattle.dd_model.proofs.CellWalks.{in_cell-sym, in_cell-trans}
 use Rattle.dd_covers.specs.CellNumbers.{numbered, IsCellNumber}
@@ -120,6 +120,28 @@ greatest_last s n k same g = record {
   branching = g.branching;
   greatest = λ p d v h b. g.greatest p d v h (omega (arith, h.1)) b;
 }
+
+-- the greatest branching value of a symbol
+pub record HasGreatestValue (s : Symbol) : Type 0 where
+  pub value : ℕ
+  pub greatest : IsGreatestValue s value
+
+greatest_to : (s : Symbol) → IsSymbol s → (n : ℕ) → n ≤ s.size → (k : ℕ) × IsGreatestTo s n k
+greatest_to s is zero low =
+    let one : IsChamber s 1 = (omega arith, is.table.chambers) in
+    let b = branching_exists s is Tile 1 one in
+    (b.0, greatest_first s b.0 one b.1)
+greatest_to s is (suc n) low =
+    let old = greatest_to s is n (omega arith) in
+    let h : IsChamber s (suc n) = (omega arith, low) in
+    let a = branching_exists s is Tile (suc n) h in
+    let b = branching_exists s is Vertex (suc n) h in
+    let c = branching_exists s is Edge (suc n) h in
+    let before : n ≡ suc n - 1 = omega arith in
+    (max (max (max old.0 a.0) b.0) c.0, greatest_more s (suc n) old.0 a.0 b.0 c.0 h (subst (λ m. IsGreatestTo s m old.0) before old.1) a.1 b.1 c.1)
+
+pub greatest_exists : (s : Symbol) → IsSymbol s → HasGreatestValue s
+greatest_exists s is = let g = greatest_to s is s.size (omega arith) in record { value = g.0; greatest = greatest_last s s.size g.0 refl g.1 }
 
 -- ## One chamber more
 

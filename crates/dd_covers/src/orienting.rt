@@ -13,8 +13,8 @@ use dd_model::Memory;
 use dd_symbol::{Connected, Symbol};
 use std::alloc::Global;
 
-/// Whether a symbol is oriented.
-pub(crate) fn is_oriented(alloc: Global, s: &Connected) -> Result<bool, Memory>
+/// Whether a symbol is oriented. It takes the memory of one coloring.
+pub fn is_oriented(alloc: Global, s: &Connected) -> Result<bool, Memory>
     ensures { IfOk result (λ yes. IsTrue yes ↔ IsOriented s.now) }
 {
     match orientation(alloc, s)? {

@@ -11,8 +11,9 @@ use dd_model::{Memory, Pair};
 use dd_symbol::{Connected, Symbol};
 use std::alloc::Global;
 
-/// The greatest branching value of the cells of all three pairs.
-pub(crate) fn greatest_value(s: &Connected) -> u32
+/// Returns the greatest branching value of the cells of all three pairs: tiles, vertices and edges.
+/// It takes no memory.
+pub fn greatest_value(s: &Connected) -> u32
     ensures { IsGreatestValue s.now result }
 {
     let symbol = s.symbol();
