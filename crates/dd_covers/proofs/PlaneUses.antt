@@ -193,7 +193,7 @@ factor_le : (q d n : ℕ) → q * d ≡ n → 1 ≤ n → d ≤ n
 factor_le zero d n e some = absurd (omega arith)
 factor_le (suc q) d n e some = omega arith
 
-divisor_le : (d n : ℕ) → Divides d n → 1 ≤ n → d ≤ n
+pub divisor_le : (d n : ℕ) → Divides d n → 1 ≤ n → d ≤ n
 divisor_le d n by some = factor_le by.quotient d n by.product some
 
 one_divides : (n : ℕ) → Divides 1 n

@@ -12,6 +12,7 @@ use Rattle.dd_covers.specs.PlaneValues.{IsGreatestValue}
 use Rattle.dd_covers.specs.Torus.{IsTorus}
 use Rattle.dd_covers.specs.TorusCover.{IsTorusCover}
 use Rattle.dd_covers.proofs.OrientedLemmas.{symbol_of_two, two_are_connected, two_are_oriented, decide_oriented}
+use Rattle.dd_covers.proofs.PlaneUses.{divisor_le}
 use Rattle.dd_covers.proofs.TorusCovers.{torus_above, morphism_above, sheets_above}
 use Rattle.dd_covers.proofs.Uniqueness.{same_greatest}
 use Rattle.dd_covers.proofs.WantLemmas.{greatest_exists}
@@ -51,17 +52,11 @@ sheets_divide s t f n k is connected count torus m sheets =
     subst (λ v. Divides v k) (sym c.1) (record { quotient = by.quotient; product = omega arith }))
     count.number
 
-divisor_low : (d n : ℕ) → Divides d n → 1 ≤ n → d ≤ n
-divisor_low d n by some = factor_low by.quotient by.product where
-  factor_low : (q : ℕ) → q * d ≡ n → d ≤ n
-  factor_low zero e = absurd (omega arith)
-  factor_low (suc q) e = omega arith
-
 pub sheets_fewest : (s t : Symbol) (f : List ℕ) (n k : ℕ) → IsSymbol s → Connected s → IsTorusSheets s n → IsTorus t → IsMorphism t s f → HasSheets s t f k → n ≤ k
 sheets_fewest s t f n k is connected count torus m sheets =
     let own = sheet_number s t is.table connected torus.symbol.table f m in
     let same = sheets_unique s t f own.number k is.table.chambers own.sheets sheets in
-    divisor_low n k (sheets_divide s t f n k is connected count torus m sheets) (subst (λ z. 1 ≤ z) same own.some)
+    divisor_le n k (sheets_divide s t f n k is connected count torus m sheets) (subst (λ z. 1 ≤ z) same own.some)
 
 -- ## The torus cover has the number
 
