@@ -139,6 +139,8 @@ REFUSED = (
     ("minimal", "<1.1:2:1 2,2,1 2:30,60>", "symbol 1: branching too large 60"),
     ("torus", "<1.1:1:1,1,1:3,3>", "symbol 1: not flat 1/6"),
     ("torus", "<1.1:1:1,1,1:3,7>", "symbol 1: not flat -1/42"),
+    ("sheets", "<1.1:1:1,1,1:3,3>", "symbol 1: not flat 1/6"),
+    ("sheets", "<1.1:1:1,1,1:4,4><1.2:1:1,1,1:3,7>", "symbol 2: not flat -1/42"),
     ("draw", "<1.1:1:1,1,1:4,4><1.2:1:1,1,1:3,7>", "symbol 2: not flat -1/42"),
 )
 
@@ -205,6 +207,12 @@ FILES = (
     ("oriented", ROTATIONS, ROTATIONS),
     ("oriented", "<1.1:1:1,1,1:3,7>", "<1.1:2:2,2,2:3,7>\n"),
     ("torus", SQUARES, "<1.1:8:2 7 6 8,3 5 7 8,4 6 5 8:4,4>\n"),
+    (
+        "sheets",
+        f"{SQUARES}<1.2:1:1,1,1:3,6><1.3:2:2,2,2:4,4><1.4:8:2 7 6 8,3 5 7 8,4 6 5 8:4,4>",
+        "1 sheets 8\n2 sheets 12\n3 sheets 4\n4 sheets 1\n",
+    ),
+    ("sheets", "", ""),
     ("draw", SQUARES, SQUARE_DRAWING),
     ("draw --cell square", SQUARES * 2, SQUARE_DRAWING * 2),
     ("draw --cell hex", "<1.1:1:1,1,1:3,6>", TRIANGLE_DRAWING),

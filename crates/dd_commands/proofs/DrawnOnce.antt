@@ -6,6 +6,7 @@ use Rattle.dd_model.specs.declared.pair.Pair.TheVariants.{Vertex}
 use Rattle.dd_model.specs.Symbol.{Symbol}
 use Rattle.dd_model.specs.Cell.{AreCells}
 use Rattle.dd_model.specs.Reading.{IsReadable}
+use Rattle.dd_covers.proofs.TorusCovers.{torus_cover_once}
 use Rattle.dd_lattice.specs.NetOf.{IsNet}
 use Rattle.dd_model.specs.declared.frame.Frame.{Frame}
 use Rattle.dd_lattice.specs.declared.net.Net.{Net}
@@ -23,7 +24,7 @@ use Rattle.dd_commands.specs.declared.stop.Stop.TheVariants.{Refused, Memory}
 use Rattle.dd_commands.specs.Made.{IsCurved}
 use Rattle.dd_commands.specs.Drawings.{IsTorusNet, IsDrawing, AreDrawings, IsWideNet, IsCrowded, IsUndrawn, IsFirstUndrawn}
 use Rattle.dd_commands.specs.Stops.{IsStop}
-use Rattle.dd_commands.proofs.MadeOnce.{torus_cover_once, torus_once}
+use Rattle.dd_commands.proofs.MadeOnce.{torus_once}
 use Rattle.dd_commands.proofs.TorusForms.{cover_torus, least_torus, many_vertices}
 
 -- two nets of a symbol are nets of one torus
@@ -69,7 +70,7 @@ not_few frame s text (BranchingTooLarge v) readable crowded is = crowded
 not_few frame s text (NotFlat x) readable crowded is = crowded
 not_few frame s text (TooManyVertices count) readable crowded is =
     let least = is.is_net.least in
-    let same = torus_cover_once s crowded.cover least.cover crowded.below least.below readable crowded.flat crowded.is_cover least.is_cover in
+    let same = (torus_cover_once s crowded.cover least.cover crowded.below least.below readable.symbol.symbol readable.connected crowded.is_cover least.is_cover).0 in
     let torus = cover_torus s least.cover least.below readable least.flat least.is_cover in
     let vertices = subst (λ c. AreCells c Vertex crowded.vertices) same crowded.are_vertices in
     let many = many_vertices least.cover is.is_net.torus is.net crowded.vertices torus least.least is.is_net.is_net vertices in

@@ -5,5 +5,6 @@ pub mod DrawnOnce
 pub mod TotalsLemmas
 pub mod TotalsSteps
 pub mod InfoLemmas
+pub mod SheetLinesOnce
 pub mod FileTexts
 pub mod CanonTexts

@@ -3,16 +3,13 @@ use Rattle.std.proofs.Common.{◌≡◌, ◌≤◌, ℕ, ◌+◌, ◌*◌, List,
 use Rattle.std.specs.List.{AllByRecursion}
 use Rattle.dd_model.specs.Symbol.{Symbol, IsTable}
 use Rattle.dd_model.specs.Code.{IsLeastForm}
-use Rattle.dd_model.specs.Flat.{Flat}
 use Rattle.dd_model.specs.Reading.{IsReadable}
 use Rattle.dd_model.proofs.Codes.{least_unique}
 use Rattle.dd_model.proofs.Isomorphisms.{Isomorphic-sym, Isomorphic-trans}
 use Rattle.dd_model.proofs.LeastForms.{same_least_forms}
 use Rattle.dd_covers.specs.OrientedCover.{IsOrientedCover}
-use Rattle.dd_covers.specs.TorusCover.{IsTorusCover, IsTorusCoverOf}
 use Rattle.dd_covers.proofs.OrientedLemmas.{small_of_two}
-use Rattle.dd_covers.proofs.TorusCovers.{middle_of}
-use Rattle.dd_covers.proofs.Uniqueness.{one_cover}
+use Rattle.dd_covers.proofs.TorusCovers.{oriented_cover_once, torus_cover_once}
 use Rattle.dd_quotient.specs.Dual.{dual_of}
 use Rattle.dd_quotient.proofs.DualLemmas.{small_symbol-dual}
 use Rattle.dd_quotient.proofs.ImageLemmas.{between, too_large_or_small}
@@ -55,31 +52,14 @@ cover_table s t below readable (inr twice) =
     let few = readable.size in
     subst IsTable (sym twice.sheets) (small_of_two s readable.symbol (omega arith)).symbol.table
 
--- a symbol has one oriented cover
-same_cover : (s t u : Symbol) (m n : List ℕ) → IsOrientedCover s t m → IsOrientedCover s u n → u ≡ t
-same_cover s t u m n (inl a) (inl b) = b.same ∙ sym a.same
-same_cover s t u m n (inl a) (inr b) = absurd (b.not_oriented a.oriented)
-same_cover s t u m n (inr a) (inl b) = absurd (a.not_oriented b.oriented)
-same_cover s t u m n (inr a) (inr b) = b.sheets ∙ sym a.sheets
-
 cover_once : (s t u : Symbol) → IsReadable s → IsLeastCover s t → IsLeastCover s u → t ≡ u
 cover_once s t u readable a b =
-    let same : b.cover ≡ a.cover = same_cover s a.cover b.cover a.below b.below a.is_cover b.is_cover in
+    let same = sym (oriented_cover_once s a.cover b.cover a.below b.below a.is_cover b.is_cover).0 in
     form_once a.cover t u (cover_table s a.cover a.below readable a.is_cover) a.least (subst (λ c. IsLeastForm c u) same b.least)
-
--- a flat symbol has one torus cover
-pub torus_cover_once : (s t u : Symbol) (f g : List ℕ) → IsReadable s → Flat s → IsTorusCover s t f → IsTorusCover s u g → t ≡ u
-torus_cover_once s t u f g readable flat x y =
-    let size = readable.size in
-    let few : s.size ≤ 8192 = omega arith in
-    let middle = middle_of s x.middle x.lower readable.symbol few readable.connected flat x.oriented in
-    let under : y.middle ≡ x.middle = same_cover s x.middle y.middle x.lower y.lower x.oriented y.oriented in
-    let torus : IsTorusCoverOf x.middle y.sheets u y.upper = subst (λ m. IsTorusCoverOf m y.sheets u y.upper) under y.torus in
-    one_cover x.middle t u x.sheets y.sheets x.upper y.upper middle.small.symbol middle.connected x.torus torus
 
 pub torus_once : (s t u : Symbol) → IsReadable s → IsLeastTorus s t → IsLeastTorus s u → t ≡ u
 torus_once s t u readable a b =
-    let same = torus_cover_once s a.cover b.cover a.below b.below readable a.flat a.is_cover b.is_cover in
+    let same = (torus_cover_once s a.cover b.cover a.below b.below readable.symbol.symbol readable.connected a.is_cover b.is_cover).0 in
     let torus = cover_torus s a.cover a.below readable a.flat a.is_cover in
     form_once a.cover t u torus.symbol.table a.least (subst (λ c. IsLeastForm c u) (sym same) b.least)
 

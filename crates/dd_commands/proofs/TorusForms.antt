@@ -70,8 +70,7 @@ torus_along s t torus form = record {
 -- the torus cover of a flat symbol that a file may hold is a torus
 pub cover_torus : (s t : Symbol) (f : List ℕ) → IsReadable s → Flat s → IsTorusCover s t f → IsTorus t
 cover_torus s t f readable flat is =
-    let size = readable.size in
-    torus_above s t f readable.symbol (omega arith) readable.connected flat is
+    torus_above s t f readable.symbol.symbol readable.connected flat is
 
 -- and so is its least form
 pub least_torus : (s t : Symbol) → IsReadable s → IsLeastTorus s t → IsTorus t

@@ -7,13 +7,14 @@ use Rattle.dd_text.specs.declared.faults.FileFault.{FileFault}
 use Rattle.dd_text.specs.declared.faults.Why.TheVariants.{Memory}
 use Rattle.dd_text.specs.FileFaults.{IsFileFault}
 use Rattle.dd_commands.specs.declared.commands.FileCommand.{FileCommand}
-use Rattle.dd_commands.specs.declared.commands.FileCommand.TheVariants.{Symbols, Info, Draw}
+use Rattle.dd_commands.specs.declared.commands.FileCommand.TheVariants.{Symbols, Info, Sheets, Draw}
 use Rattle.dd_commands.specs.declared.commands.SymbolCommand.{SymbolCommand}
 use Rattle.dd_commands.specs.declared.refusals.SymbolRefusal.{SymbolRefusal}
 use Rattle.dd_commands.specs.Drawings.{AreDrawings, IsFirstUndrawn}
 use Rattle.dd_commands.specs.InTurn.{AreInTurn}
 use Rattle.dd_commands.specs.Made.{IsMade, IsFirstFault}
 use Rattle.dd_commands.specs.Info.{IsInfo}
+use Rattle.dd_commands.specs.SheetLines.{AreSheetLines, IsFirstCurved}
 
 -- the lines of what a command makes of symbols, numbered from 1
 pub record AreLinesOfMade (command : SymbolCommand) (symbols : List Symbol) (text : List ℕ) : Type 0 where
@@ -25,12 +26,14 @@ pub record AreLinesOfMade (command : SymbolCommand) (symbols : List Symbol) (tex
 abbrev pub IsTextOf : FileCommand → List Symbol → List ℕ → Type 0
 IsTextOf (Symbols command) symbols text = AreLinesOfMade command symbols text
 IsTextOf Info symbols text = IsInfo symbols text
+IsTextOf Sheets symbols text = AreSheetLines 1 symbols text
 IsTextOf (Draw frame) symbols text = AreDrawings frame symbols text
 
 -- the first symbol of which a command makes nothing
 abbrev pub IsRefusalOf : FileCommand → List Symbol → SymbolRefusal → Type 0
 IsRefusalOf (Symbols command) symbols r = IsFirstFault command 1 symbols r
 IsRefusalOf Info symbols r = ⊥
+IsRefusalOf Sheets symbols r = IsFirstCurved 1 symbols r
 IsRefusalOf (Draw frame) symbols r = IsFirstUndrawn frame 1 symbols r
 
 -- what a command writes of the symbols of a file

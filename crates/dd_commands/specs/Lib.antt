@@ -5,6 +5,7 @@ pub mod Facts
 pub mod Totals
 pub mod Info
 pub mod InfoSteps
+pub mod SheetLines
 pub mod Files
 pub mod Faults
 pub mod Stops

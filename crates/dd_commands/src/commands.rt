@@ -30,6 +30,8 @@ pub enum FileCommand {
     Symbols(SymbolCommand),
     /// What each symbol is.
     Info,
+    /// The number of sheets of the torus cover of each symbol.
+    Sheets,
     /// The net of the torus cover of each symbol, as a drawing in such a cell.
     Draw(Frame),
 }

@@ -10,6 +10,7 @@ use crate::commands::FileCommand;
 use crate::drawing::drawings_of;
 use crate::info::info_of;
 use crate::refusals::SymbolRefusal;
+use crate::sheet_lines::sheet_lines_of;
 use crate::stop::Stop;
 use crate::symbol_commands::lines_of;
 use dd_symbol::Connected;
@@ -60,6 +61,7 @@ fn text_of(
     match command {
         FileCommand::Symbols(command) => lines_of(alloc, command, symbols),
         FileCommand::Info => Ok(info_of(alloc, &symbols)?),
+        FileCommand::Sheets => sheet_lines_of(alloc, &symbols),
         FileCommand::Draw(frame) => drawings_of(alloc, frame, &symbols),
     }
 }

@@ -9,6 +9,7 @@ mod file_laws;
 mod file_text;
 mod info;
 mod refusals;
+mod sheet_lines;
 mod stop;
 mod symbol_commands;
 mod totals;

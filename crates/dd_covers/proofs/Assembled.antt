@@ -13,7 +13,6 @@ use Rattle.dd_model.specs.Code.{chambers}
 use Rattle.dd_model.specs.Connected.{Connected}
 use Rattle.dd_model.specs.Cell.{IsLeastTurns, IsBranching, AreCells}
 use Rattle.dd_model.specs.Flat.{Flat}
-use Rattle.dd_model.specs.Small.{IsSmallSymbol}
 use Rattle.dd_model.specs.FirstVisit.{IsNumberedFrom}
 use Rattle.dd_model.proofs.Branching.{branching_same}
 use Rattle.dd_model.proofs.CellWalks.{in_cell-sym}
@@ -161,18 +160,15 @@ least_side_turned s inv i d h =
 
 -- ## The solution
 
-module _ (s : Symbol) (small : IsSmallSymbol s) (connected : Connected s) (oriented : IsOriented s) (flat : Flat s) (k : ℕ) (some : 1 ≤ k) (high : k ≤ 30) (great : IsGreatestValue s k) where
-  abbrev is : IsSymbol s
-  is = small.symbol
-
+module _ (s : Symbol) (is : IsSymbol s) (connected : Connected s) (oriented : IsOriented s) (flat : Flat s) (k : ℕ) (some : 1 ≤ k) (great : IsGreatestValue s k) where
   abbrev inv : AreInvolutions s
-  inv = small.symbol.table.involutions
+  inv = is.table.involutions
 
   one_chamber : IsChamber s 1
-  one_chamber = (omega arith, small.symbol.table.chambers)
+  one_chamber = (omega arith, is.table.chambers)
 
   abbrev visits : (t : Symbol) × IsNumberedFrom s 1 t
-  visits = numbered_from s 1 small.symbol.table connected one_chamber
+  visits = numbered_from s 1 is.table connected one_chamber
 
   abbrev f : List ℕ
   f = visits.1.map
@@ -208,7 +204,7 @@ module _ (s : Symbol) (small : IsSmallSymbol s) (connected : Connected s) (orien
   vs = all_cells s ds
 
   abbrev wants : Pair → ℕ → ℕ
-  wants = demand s small oriented flat k some high (plane_multiples s small connected oriented flat k great)
+  wants = demand s is oriented flat k (plane_multiples s is connected oriented flat k great)
 
   below_top : (i : Index) (d : ℕ) → IsChamber s d → rank i d < top
   below_top i d h = let p = place_below i in let up = h.1 in omega arith
@@ -240,7 +236,7 @@ module _ (s : Symbol) (small : IsSmallSymbol s) (connected : Connected s) (orien
 
   none_over : (number : ℤ) → IsEuler s number → AddToNone k joins vs (decoded s wants)
   none_over number e v here =
-      let c = demands_none s small oriented flat k some high (plane_multiples s small connected oriented flat k great) cells (λ p. (all_told s is oriented p).are) number e in
+      let c = demands_none s is oriented flat k (plane_multiples s is connected oriented flat k great) cells (λ p. (all_told s is oriented p).are) number e in
       let p = c.equal in
       let same = sum_by_listed (λ w. cond (eqb (labels joins w) (labels joins v)) (decoded s wants w) 0) (decoded s wants) vs
       (λ w there. ap (λ t. cond t (decoded s wants w) 0) (eq-eqb (labels joins w) (labels joins v) (label_of_number w there ∙ sym (label_of_number v here)))) in
@@ -326,7 +322,7 @@ module _ (s : Symbol) (small : IsSmallSymbol s) (connected : Connected s) (orien
         let are = members_at_are s inv p (root p) (roots p) l least in
         let down = (roots p).in_cell d h in
         let near = in_cell-sym s inv p d l h down in
-        let share = demand_is s small oriented flat k some high (plane_multiples s small connected oriented flat k great) p l v least.0 (branching_same s is p d l v h down b) in
+        let share = demand_is s is oriented flat k (plane_multiples s is connected oriented flat k great) p l v least.0 (branching_same s is p d l v h down b) in
         let met = m.met (numbered s p l) (root_listed p d h) in
         let needed = decoded_at s wants p l least.0 in
         let into = coming_is s inv f root roots sides m.values (numbered s p l) in
@@ -357,16 +353,15 @@ module _ (s : Symbol) (small : IsSmallSymbol s) (connected : Connected s) (orien
       joined = shift_joined;
     }
 
-pub shifts_exist : (s : Symbol) → IsSmallSymbol s → Connected s → IsOriented s → Flat s → (k : ℕ) → IsGreatestValue s k → HasTorusShifts s k
-shifts_exist s small connected oriented flat k great =
-    let inv = small.symbol.table.involutions in
-    let some = value_positive s small.symbol great.pair great.chamber k great.is_chamber great.branching in
-    let high = small.branching great.pair great.chamber k great.is_chamber great.branching in
+pub shifts_exist : (s : Symbol) → IsSymbol s → Connected s → IsOriented s → Flat s → (k : ℕ) → IsGreatestValue s k → HasTorusShifts s k
+shifts_exist s is connected oriented flat k great =
+    let inv = is.table.involutions in
+    let some = value_positive s is great.pair great.chamber k great.is_chamber great.branching in
     let e = euler_of s inv in
     let m =
-    solve k some (joins s small connected oriented flat k some high great) (vs s small connected oriented flat k some high great)
-    (all_ascending s inv (ds s small connected oriented flat k some high great) (are_cells s small connected oriented flat k some high great))
-    (ends_within s small connected oriented flat k some high great)
-    (decoded s (wants s small connected oriented flat k some high great))
-    (none_over s small connected oriented flat k some high great (told_euler s (least_of s inv)) e) in
-    record { shifts = shift s small connected oriented flat k some high great m; are = the_shifts s small connected oriented flat k some high great m }
+    solve k some (joins s is connected oriented flat k some great) (vs s is connected oriented flat k some great)
+    (all_ascending s inv (ds s is connected oriented flat k some great) (are_cells s is connected oriented flat k some great))
+    (ends_within s is connected oriented flat k some great)
+    (decoded s (wants s is connected oriented flat k some great))
+    (none_over s is connected oriented flat k some great (told_euler s (least_of s inv)) e) in
+    record { shifts = shift s is connected oriented flat k some great m; are = the_shifts s is connected oriented flat k some great m }

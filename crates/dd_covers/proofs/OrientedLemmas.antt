@@ -1,16 +1,16 @@
 -- The two sheets of a symbol are oriented, and of one piece unless the symbol is oriented.
-use Rattle.std.proofs.Common.{◌≡◌, ℕ, zero, suc, ◌+◌, ◌-◌, ◌*◌, ◌%◌, ◌<◌, ◌≤◌, ◌⊎◌, Bool, true, false, not, leb, List, ◌++◌, length, map, replicate, refl, sym, ap, ◌∙◌, subst, inl, inr, ⊎_elim, arith}
+use Rattle.std.proofs.Common.{◌≡◌, ℕ, zero, suc, ◌+◌, ◌-◌, ◌*◌, ◌%◌, ◌<◌, ◌≤◌, ◌⊎◌, Bool, true, false, not, leb, List, [], ◌∷◌, ◌++◌, length, map, replicate, refl, sym, ap, ◌∙◌, subst, inl, inr, ⊎_elim, arith}
 use Rattle.std.proofs.lemmas.Bool.{cases_Bool, le-leb, lt-leb, false_from_ne_true}
 use Rattle.std.proofs.lemmas.List.{get_or-map, get_or-replicate, length-replicate}
 use Rattle.dd_model.specs.declared.index.Index.{Index}
 use Rattle.dd_model.specs.declared.pair.Pair.{Pair}
 use Rattle.dd_model.specs.Symbol.{Symbol, AreInvolutions, IsChamber, IsSymbol, Word, item, op, act, power, turn, degree}
 use Rattle.dd_model.specs.Code.{chambers, count_from}
-use Rattle.dd_model.specs.Connected.{Connected}
+use Rattle.dd_model.specs.Connected.{IsReached, Connected}
 use Rattle.dd_model.specs.Small.{IsSmallSymbol}
 use Rattle.dd_model.specs.Isomorphic.{IsMorphism}
 use Rattle.dd_model.proofs.CountFrom.{length-count_from, item-count_from}
-use Rattle.dd_model.proofs.Words.{act-append, backwards, act-backwards}
+use Rattle.dd_model.proofs.Words.{act-append, act_within, backwards, act-backwards}
 use Rattle.dd_model.proofs.Lists.{ones_at}
 use Rattle.dd_cells.specs.Orientation.{IsOriented, color}
 use Rattle.dd_covers.specs.TorusCover.{sum_along}
@@ -47,11 +47,11 @@ oriented_by s inv c exchanged = record {
 
 -- ## Two sheets are a symbol
 
-twice : (s : Symbol) (p : Pair) (m d : ℕ) → sum_along s next_sheet (power (turn p) m) d ≡ 2 * m
+pub twice : (s : Symbol) (p : Pair) (m d : ℕ) → sum_along s next_sheet (power (turn p) m) d ≡ 2 * m
 twice s p zero d = refl
 twice s p (suc m) d = let rest = twice s p m (act s (turn p) d) in omega arith
 
-even : (m : ℕ) → (2 * m) % 2 ≡ 0
+pub even : (m : ℕ) → (2 * m) % 2 ≡ 0
 even m = grind arith
 
 joining_two : (s : Symbol) → AreJoining s 2 next_sheet
@@ -180,6 +180,66 @@ two_are_connected s is all not_oriented e h =
     ⊎_elim
     (λ met. reached_from_met t tree.steps it.table.involutions tree.whole.tree e met)
     (λ out. absurd (not_oriented (oriented_if_not_met s is.table.involutions all is.table.chambers tree.steps tree.whole e h out)))
+    (cases_Bool (is_met tree.steps e))
+
+-- ## Whether a symbol is oriented can be decided
+
+odd_after : (n : ℕ) → n % 2 ≡ 0 → (1 + n) % 2 ≡ 1
+odd_after n even = grind arith
+
+even_after : (n : ℕ) → n % 2 ≡ 1 → (1 + n) % 2 ≡ 0
+even_after n odd = grind arith
+
+not_not : (b : Bool) → not (not b) ≡ b
+not_not true = refl
+not_not false = refl
+
+-- A walk ends at the color of its start after an even number of steps, and else at the other color.
+color_along : (s : Symbol) → AreInvolutions s → (oriented : IsOriented s) (w : Word) (d : ℕ) → IsChamber s d
+    → ((sum_along s next_sheet w d % 2 ≡ 0) × (color oriented.colors (act s w d) ≡ color oriented.colors d))
+    ⊎ ((sum_along s next_sheet w d % 2 ≡ 1) × (color oriented.colors (act s w d) ≡ not (color oriented.colors d)))
+color_along s inv oriented [] d h = inl (refl, refl)
+color_along s inv oriented (i ∷ w) d h =
+    let sum = sum_along s next_sheet w (op s i d) in
+    ⊎_elim
+    (λ even. inr (odd_after sum even.0, even.1 ∙ oriented.exchanged i d h))
+    (λ odd. inl (even_after sum odd.0, odd.1 ∙ ap not (oriented.exchanged i d h) ∙ not_not (color oriented.colors d)))
+    (color_along s inv oriented w (op s i d) ((inv i).within d h))
+
+-- In an oriented symbol no walk leads from chamber 1 to the same chamber of the other sheet.
+apart_if_oriented : (s : Symbol) → IsSymbol s → IsOriented s → IsReached (two_sheets s) (1 + 1 * s.size) → ⊥
+apart_if_oriented s is oriented there =
+    let inv = is.table.involutions in
+    let one : IsChamber s 1 = (omega arith, is.table.chambers) in
+    let end = act s there.word 1 in
+    let sum = sum_along s next_sheet there.word 1 in
+    let inside = act_within s inv there.word 1 one in
+    let start : 1 + 0 * s.size ≡ 1 = omega arith in
+    let plain : 0 + sum ≡ sum = omega arith in
+    let at : end + sum % 2 * s.size ≡ 1 + 1 * s.size =
+    ap (λ z. end + z % 2 * s.size) (sym plain) ∙ sym (act_in s inv 2 next_sheet there.word 1 0 one (omega arith))
+    ∙ ap (act (two_sheets s) there.word) start ∙ there.leads in
+    ⊎_elim
+    (λ even.
+    let far : end + 0 * s.size ≡ 1 + 1 * s.size = ap (λ z. end + z * s.size) (sym even.0) ∙ at in
+    absurd (omega (arith, inside.1)))
+    (λ odd.
+    let far : end + 1 * s.size ≡ 1 + 1 * s.size = ap (λ z. end + z * s.size) (sym odd.0) ∙ at in
+    let same : end ≡ 1 = omega arith in
+    no_change (color oriented.colors 1) (ap (color oriented.colors) (sym same) ∙ odd.1))
+    (color_along s inv oriented there.word 1 one)
+
+pub decide_oriented : (s : Symbol) → IsSymbol s → Connected s → IsOriented s ⊎ (¬ IsOriented s)
+decide_oriented s is all =
+    let t = two_sheets s in
+    let it = symbol_of_two s is in
+    let tree = whole_tree t it.table.involutions it.table.chambers in
+    let e = 1 + 1 * s.size in
+    let some = is.table.chambers in
+    let h : (1 ≤ e) × (e ≤ 2 * s.size) = (omega arith, omega arith) in
+    ⊎_elim
+    (λ met. inr (λ oriented. apart_if_oriented s is oriented (reached_from_met t tree.steps it.table.involutions tree.whole.tree e met)))
+    (λ out. inl (oriented_if_not_met s is.table.involutions all is.table.chambers tree.steps tree.whole e h out))
     (cases_Bool (is_met tree.steps e))
 
 -- ## Shifts that are kept as ones

@@ -9,12 +9,12 @@ use Rattle.std.specs.Prelude.{nat_lt}
 use Rattle.dd_model.specs.declared.index.Index.TheVariants.{Zero, One, Two}
 use Rattle.dd_model.specs.declared.pair.Pair.{Pair}
 use Rattle.dd_model.specs.declared.pair.Pair.TheVariants.{Tile, Vertex, Edge}
-use Rattle.dd_model.specs.Symbol.{Symbol, AreInvolutions, IsSymbol}
+use Rattle.dd_model.specs.Symbol.{Symbol, AreInvolutions, IsTable, IsSymbol, IsChamber, degree}
 use Rattle.dd_model.specs.Connected.{Connected}
-use Rattle.dd_model.specs.Flat.{Flat}
-use Rattle.dd_model.specs.Small.{IsSmallSymbol}
+use Rattle.dd_model.specs.Flat.{Flat, all_degrees}
+use Rattle.dd_model.proofs.AllDegrees.{all_degrees_positive}
 use Rattle.dd_model.proofs.CellLists.{cells_exist}
-use Rattle.dd_model.proofs.Lists.{each_of, Contains-head, Contains-later}
+use Rattle.dd_model.proofs.Lists.{each_of, all_from_members, Contains-head, Contains-later}
 use Rattle.dd_covers.proofs.Mapped.{Contains-from_map}
 use Rattle.dd_symbol.specs.declared.kind.Kind.{Kind}
 use Rattle.dd_symbol.specs.declared.kind.Kind.TheVariants.{Cycle, Chain}
@@ -22,14 +22,17 @@ use Rattle.dd_symbol.specs.Cells.{IsKindOf}
 use Rattle.dd_cells.specs.Cells.{IsCellOf}
 use Rattle.dd_cells.specs.Curvature.{IsCurvature}
 use Rattle.dd_cells.specs.Euler.{IsEuler, orbits}
-use Rattle.dd_cells.specs.Fraction.{IsQuotient}
+use Rattle.dd_cells.specs.Fraction.{Divides, IsQuotient}
 use Rattle.dd_cells.specs.Orientation.{IsOriented}
 use Rattle.dd_cells.specs.Surface.{sides, defects, AreAllCells}
 use Rattle.dd_cells.specs.declared.cell.Cell.{Cell}
 use Rattle.dd_cells.specs.declared.fractions.Fraction.{Fraction}
-use Rattle.dd_cells.proofs.CellSums.{Contains-from_filter}
+use Rattle.dd_cells.proofs.CellSums.{Contains-from_filter, chamber_listed}
+use Rattle.dd_cells.proofs.CurvatureLemmas.{tile_divides, vertex_divides}
 use Rattle.dd_cells.proofs.MemberLemmas.{value_positive}
-use Rattle.dd_cells.proofs.SurfaceLemmas.{curvature_of_surface, multiple_of_small}
+use borrow.Author.Differences.{up, down}
+use Rattle.dd_cells.proofs.ReciprocalSums.{quotient_is}
+use Rattle.dd_cells.proofs.SurfaceLemmas.{curvature_of_surface}
 use Rattle.dd_covers.specs.PlaneValues.{AreTheCells, value_of, all_values, values_above_one, HasPlaneValues}
 use Rattle.dd_covers.proofs.PlaneLists.{want, IsWholeSum, plane_values}
 use Rattle.dd_covers.proofs.ToldCells.{no_chain}
@@ -61,59 +64,67 @@ all_cycles s is oriented p c cell = case c.kind cell.kind where
 
 -- ## Sums over cells
 
-sum_of_defects : (cells : List Cell) → ((c : Cell) → Contains cells c → c.kind ≡ Cycle) → defects 2329089562800 cells ≡ 2 * sum_by want (map value_of cells)
-sum_of_defects [] cycles = refl
-sum_of_defects (c ∷ cells) cycles =
-    let a = sum_by-cons (λ (d : Cell). sides d.kind * (2329089562800 - 2329089562800 / d.v)) c cells in
-    let b = sum_by-cons want c.v (map value_of cells) in
-    let kind = ap (λ k. sides k * want c.v) (cycles c (Contains-head c cells)) in
-    let rest = sum_of_defects cells (λ d later. cycles d (Contains-later c d cells later)) in
+sum_of_defects : (whole : ℕ) (cells : List Cell) → ((c : Cell) → Contains cells c → c.kind ≡ Cycle) → defects whole cells ≡ 2 * sum_by (want whole) (map value_of cells)
+sum_of_defects whole [] cycles = refl
+sum_of_defects whole (c ∷ cells) cycles =
+    let a = sum_by-cons (λ (d : Cell). sides d.kind * (whole - whole / d.v)) c cells in
+    let b = sum_by-cons (want whole) c.v (map value_of cells) in
+    let kind = ap (λ k. sides k * want whole c.v) (cycles c (Contains-head c cells)) in
+    let rest = sum_of_defects whole cells (λ d later. cycles d (Contains-later c d cells later)) in
     omega arith
 
 -- the sum over all cells, in three parts
-sum_of_values : (cells : Pair → List Cell) → sum_by want (all_values cells) ≡ sum_by want (map value_of (cells Tile)) + sum_by want (map value_of (cells Vertex)) + sum_by want (map value_of (cells Edge))
-sum_of_values cells =
-    let outer = sum_by-append want (map value_of (cells Tile) ++ map value_of (cells Vertex)) (map value_of (cells Edge)) in
-    let inner = sum_by-append want (map value_of (cells Tile)) (map value_of (cells Vertex)) in
+sum_of_values : (f : ℕ → ℕ) (cells : Pair → List Cell) → sum_by f (all_values cells) ≡ sum_by f (map value_of (cells Tile)) + sum_by f (map value_of (cells Vertex)) + sum_by f (map value_of (cells Edge))
+sum_of_values f cells =
+    let outer = sum_by-append f (map value_of (cells Tile) ++ map value_of (cells Vertex)) (map value_of (cells Edge)) in
+    let inner = sum_by-append f (map value_of (cells Tile)) (map value_of (cells Vertex)) in
     omega arith
 
 -- values of 1 add nothing
-sum_above_one : (vs : List ℕ) → ((v : ℕ) → Contains vs v → 1 ≤ v) → sum_by want (filter (nat_lt 1) vs) ≡ sum_by want vs
-sum_above_one [] low = refl
-sum_above_one (v ∷ vs) low =
-    let split = sum_by-cons want v vs in
-    let rest = sum_above_one vs (λ w later. low w (Contains-later v w vs later)) in
+sum_above_one : (whole : ℕ) (vs : List ℕ) → ((v : ℕ) → Contains vs v → 1 ≤ v) → sum_by (want whole) (filter (nat_lt 1) vs) ≡ sum_by (want whole) vs
+sum_above_one whole [] low = refl
+sum_above_one whole (v ∷ vs) low =
+    let split = sum_by-cons (want whole) v vs in
+    let own = quotient_is whole 1 whole (omega arith) (omega arith) in
+    let rest = sum_above_one whole vs (λ w later. low w (Contains-later v w vs later)) in
     let some = low v (Contains-head v vs) in
     ⊎_elim
     (λ one.
-    let none : want v ≡ 0 = ap want one in
-    let gone : sum_by want (filter (nat_lt 1) (v ∷ vs)) ≡ sum_by want (filter (nat_lt 1) vs) =
-    ap (λ (w : ℕ). sum_by want (cond (nat_lt 1 w) (v ∷ filter (nat_lt 1) vs) (filter (nat_lt 1) vs))) one in
+    let none : want whole v ≡ 0 = let at : want whole v ≡ want whole 1 = ap (want whole) one in omega arith in
+    let gone : sum_by (want whole) (filter (nat_lt 1) (v ∷ vs)) ≡ sum_by (want whole) (filter (nat_lt 1) vs) =
+    ap (λ (w : ℕ). sum_by (want whole) (cond (nat_lt 1 w) (v ∷ filter (nat_lt 1) vs) (filter (nat_lt 1) vs))) one in
     omega arith)
     (λ more.
     let above : nat_lt 1 v ≡ true = le-leb 2 v (omega arith) in
-    let kept : sum_by want (filter (nat_lt 1) (v ∷ vs)) ≡ sum_by want (v ∷ filter (nat_lt 1) vs) =
-    ap (λ t. sum_by want (cond t (v ∷ filter (nat_lt 1) vs) (filter (nat_lt 1) vs))) above in
-    let head = sum_by-cons want v (filter (nat_lt 1) vs) in
+    let kept : sum_by (want whole) (filter (nat_lt 1) (v ∷ vs)) ≡ sum_by (want whole) (v ∷ filter (nat_lt 1) vs) =
+    ap (λ t. sum_by (want whole) (cond t (v ∷ filter (nat_lt 1) vs) (filter (nat_lt 1) vs))) above in
+    let head = sum_by-cons (want whole) v (filter (nat_lt 1) vs) in
     omega arith)
     (cases_eq v 1)
 
 -- ## The law
 
 -- the sum is that many times the whole by which cells and chambers are more than sides
-balanced : (number : ℤ) (a b total : ℕ) → number ≡ pos a -ℤ pos b
-    → IsQuotient zero_fraction (number *ℤ pos (2 * 2329089562800) -ℤ pos (2 * total)) 2329089562800 → 2329089562800 * a ≡ 2329089562800 * b + total
-balanced number a b total is value = let e = value.product in omega (arith, ints)
+balanced : (whole : ℕ) (number : ℤ) (a b total : ℕ) → number ≡ pos a -ℤ pos b
+    → IsQuotient zero_fraction (number *ℤ pos (2 * whole) -ℤ pos (2 * total)) whole → whole * a ≡ whole * b + total
+balanced whole number a b total is value =
+    let e = value.product in
+    let difference : up number + b ≡ a + down number = omega (arith, ints) in
+    let times = ap (λ k. k * (2 * whole)) difference in
+    omega (arith, ints)
 
-whole_sum : (a b total : ℕ) → 2329089562800 * a ≡ 2329089562800 * b + total → a ≤ b + 2 → IsWholeSum total
-whole_sum a b total e bound =
+whole_sum : (whole a b total : ℕ) → 1 ≤ whole → whole * a ≡ whole * b + total → a ≤ b + 2 → IsWholeSum whole total
+whole_sum whole a b total some e bound =
     ⊎_elim
-    (λ less. absurd (omega arith))
+    (λ less.
+    let rest : a + 1 + (b - a - 1) ≡ b = omega arith in
+    let at = ap (λ z. whole * z) rest in
+    absurd (omega arith))
     (λ more. ⊎_elim
-    (λ none. inl (omega arith))
-    (λ some. ⊎_elim
-    (λ one. inr (inl (omega arith)))
-    (λ two. let exactly : a ≡ b + 2 = omega arith in inr (inr (omega arith)))
+    (λ none. inl (let exactly : a ≡ b = omega arith in let at = ap (λ z. whole * z) exactly in omega arith))
+    (λ above. ⊎_elim
+    (λ one. inr (inl (let exactly : a ≡ b + 1 = omega arith in let at = ap (λ z. whole * z) exactly in omega arith)))
+    (λ two. inr (inr (let exactly : a ≡ b + 2 = omega arith in let at = ap (λ z. whole * z) exactly in omega arith)))
     (cases_lt a (b + 2)))
     (cases_lt a (b + 1)))
     (cases_lt a b)
@@ -155,44 +166,71 @@ told_value s cells v here =
     (told_at s cells Edge v)
     (Contains-append_cases (map value_of (cells Tile) ++ map value_of (cells Vertex)) (map value_of (cells Edge)) v here)
 
--- branching values are from 1 to 30
-value_bounds : (s : Symbol) → IsSmallSymbol s → (cells : Pair → List Cell) → AreTheCells s cells → (v : ℕ) → Contains (all_values cells) v → (1 ≤ v) × (v ≤ 30)
-value_bounds s small cells told v here =
+-- branching values are positive, and divide what all of them divide
+value_divides : (s : Symbol) → IsSymbol s → (whole : ℕ) (cells : Pair → List Cell) → AreAllCells s whole cells → (v : ℕ) → Contains (all_values cells) v → (1 ≤ v) × Divides v whole
+value_divides s is whole cells all v here =
     let from = told_value s cells v here in
-    let cell = each_of (IsCellOf s from.pair) (cells from.pair) from.cell (told from.pair).each from.listed in
-    subst (λ w. (1 ≤ w) × (w ≤ 30)) from.value (
-      value_positive s small.symbol from.pair from.cell.least from.cell.v cell.least.0 cell.branching,
-      small.branching from.pair from.cell.least from.cell.v cell.least.0 cell.branching,
+    let cell = each_of (IsCellOf s from.pair) (cells from.pair) from.cell (all.are from.pair).each from.listed in
+    subst (λ w. (1 ≤ w) × Divides w whole) from.value (
+      value_positive s is from.pair from.cell.least from.cell.v cell.least.0 cell.branching,
+      each_of (λ (c : Cell). Divides c.v whole) (cells from.pair) from.cell (all.multiple from.pair) from.listed,
     )
 
 -- the sum over all cells is so many wholes as there are cells and chambers more than sides
-pub sum_balance : (s : Symbol) → IsSmallSymbol s → IsOriented s → Flat s → (cells : Pair → List Cell) → AreTheCells s cells → (number : ℤ) (e : IsEuler s number)
-    → 2329089562800 * (length e.tiles + length e.vertices + length e.edges + s.size) ≡ 2329089562800 * (orbits s Zero + orbits s One + orbits s Two) + sum_by want (all_values cells)
-sum_balance s small oriented flat cells told number e =
-    let is = small.symbol in
-    let all : AreAllCells s 2329089562800 cells = record { are = told; multiple = λ p. multiple_of_small s small p (cells p) (told p) } in
-    let value = curvature_of_surface s 2329089562800 cells number zero_fraction is all e (flat_curvature s flat) in
-    let at = λ (p : Pair). sum_of_defects (cells p) (cycle_of s is oriented cells told p) in
-    let parts = sum_of_values cells in
+pub sum_balance : (s : Symbol) → IsSymbol s → IsOriented s → Flat s → (whole : ℕ) (cells : Pair → List Cell) → AreAllCells s whole cells → (number : ℤ) (e : IsEuler s number)
+    → whole * (length e.tiles + length e.vertices + length e.edges + s.size) ≡ whole * (orbits s Zero + orbits s One + orbits s Two) + sum_by (want whole) (all_values cells)
+sum_balance s is oriented flat whole cells all number e =
+    let value = curvature_of_surface s whole cells number zero_fraction is all e (flat_curvature s flat) in
+    let at = λ (p : Pair). sum_of_defects whole (cells p) (cycle_of s is oriented cells all.are p) in
+    let parts = sum_of_values (want whole) cells in
     let tiles = at Tile in
     let vertices = at Vertex in
     let edges = at Edge in
-    let lost : defects 2329089562800 (cells Tile) + defects 2329089562800 (cells Vertex) + defects 2329089562800 (cells Edge) ≡ 2 * sum_by want (all_values cells) = omega arith in
-    balanced number (length e.tiles + length e.vertices + length e.edges + s.size) (orbits s Zero + orbits s One + orbits s Two) (sum_by want (all_values cells)) e.sum
-    (subst (λ n. IsQuotient zero_fraction (number *ℤ pos (2 * 2329089562800) -ℤ pos n) 2329089562800) lost value)
+    let lost : defects whole (cells Tile) + defects whole (cells Vertex) + defects whole (cells Edge) ≡ 2 * sum_by (want whole) (all_values cells) = omega arith in
+    balanced whole number (length e.tiles + length e.vertices + length e.edges + s.size) (orbits s Zero + orbits s One + orbits s Two) (sum_by (want whole) (all_values cells)) e.sum
+    (subst (λ n. IsQuotient zero_fraction (number *ℤ pos (2 * whole) -ℤ pos n) whole) lost value)
 
-pub plane_law : (s : Symbol) → IsSmallSymbol s → Connected s → IsOriented s → Flat s → (cells : Pair → List Cell) → AreTheCells s cells → HasPlaneValues (values_above_one cells)
-plane_law s small connected oriented flat cells told =
-    let inv = small.symbol.table.involutions in
+-- ## A whole that all branching values divide
+
+twice_divides : {d n : ℕ} → Divides d n → Divides d (2 * n)
+twice_divides by = let e = by.product in record { quotient = 2 * by.quotient; product = omega arith }
+
+-- a degree divides twice the product of all degrees
+degree_divides : (s : Symbol) → IsTable s → (p : Pair) (d : ℕ) → IsChamber s d → Divides (degree s p d) (2 * all_degrees s)
+degree_divides s table Tile d h = twice_divides (tile_divides s table d (chamber_listed s d h))
+degree_divides s table Vertex d h = twice_divides (vertex_divides s table d (chamber_listed s d h))
+degree_divides s table Edge d h = record { quotient = all_degrees s; product = omega arith }
+
+value_of_cell_divides : (s : Symbol) → IsTable s → (p : Pair) (c : Cell) → IsCellOf s p c → Divides c.v (2 * all_degrees s)
+value_of_cell_divides s table p c cell =
+    let by = degree_divides s table p c.least cell.least.0 in
+    let b = cell.branching in
+    let e = ap (λ z. by.quotient * z) b.quotient in
+    let f = by.product in
+    record { quotient = by.quotient * b.r; product = omega arith }
+
+all_divide : (s : Symbol) → IsTable s → (cells : Pair → List Cell) → AreTheCells s cells → AreAllCells s (2 * all_degrees s) cells
+all_divide s table cells told = record {
+  are = told;
+  multiple = λ p. all_from_members (λ (c : Cell). Divides c.v (2 * all_degrees s)) (cells p)
+      (λ c here. value_of_cell_divides s table p c (each_of (IsCellOf s p) (cells p) c (told p).each here));
+}
+
+pub plane_law : (s : Symbol) → IsSymbol s → Connected s → IsOriented s → Flat s → (cells : Pair → List Cell) → AreTheCells s cells → HasPlaneValues (values_above_one cells)
+plane_law s is connected oriented flat cells told =
+    let inv = is.table.involutions in
+    let whole = 2 * all_degrees s in
+    let positive = all_degrees_positive s is in
+    let some : 1 ≤ whole = omega arith in
+    let all = all_divide s is.table cells told in
     let e = euler_of s inv in
-    let balance = sum_balance s small oriented flat cells told (told_euler s (least_of s inv)) e in
-    let bound = cells_and_chambers s small.symbol.table connected (least_of s inv) (λ p. (cells_exist s inv p).1) in
+    let balance = sum_balance s is oriented flat whole cells all (told_euler s (least_of s inv)) e in
+    let bound = cells_and_chambers s is.table connected (least_of s inv) (λ p. (cells_exist s inv p).1) in
     let a = length e.tiles + length e.vertices + length e.edges + s.size in
     let b = orbits s Zero + orbits s One + orbits s Two in
-    let low = λ (v : ℕ) (here : Contains (all_values cells) v). (value_bounds s small cells told v here).0 in
-    let same = sum_above_one (all_values cells) low in
-    plane_values (values_above_one cells)
+    let same = sum_above_one whole (all_values cells) (λ v here. (value_divides s is whole cells all v here).0) in
+    plane_values whole (values_above_one cells) some
     (λ v here.
     let from = Contains-from_filter (nat_lt 1) (all_values cells) v here in
-    (ltb-true 1 v from.1, (value_bounds s small cells told v from.0).1))
-    (subst IsWholeSum (sym same) (whole_sum a b (sum_by want (all_values cells)) balance bound))
+    record { above = ltb-true 1 v from.1; divides = (value_divides s is whole cells all v from.0).1 })
+    (subst (IsWholeSum whole) (sym same) (whole_sum whole a b (sum_by (want whole) (all_values cells)) some balance bound))

@@ -1,6 +1,6 @@
--- Numbers of 2 to 30 of which the sum of 1 - 1/v is a whole number of at most 2.
-use Rattle.std.proofs.Common.{◌≡◌, ℕ, ◌+◌, ◌-◌, ◌*◌, ◌/◌, ◌≤◌, ◌⊎◌, Bool, true, false, not, ◌&&◌, ◌||◌, eqb, leb, List, [], ◌∷◌, length, refl, ap, ◌∙◌, inl, inr, ⊎_elim, arith}
-use Rattle.std.proofs.lemmas.Bool.{or_cases, and_parts, leb-true, eq-eqb}
+-- Numbers above 1 that divide a whole, and of which the sum of 1 - 1/v is a whole number of at most 2.
+use Rattle.std.proofs.Common.{◌≡◌, ℕ, zero, suc, ◌+◌, ◌-◌, ◌*◌, ◌/◌, ◌≤◌, ◌⊎◌, Bool, true, false, not, ◌&&◌, ◌||◌, eqb, List, [], ◌∷◌, length, refl, sym, ap, ◌∙◌, inl, inr, ⊎_elim, arith}
+use Rattle.std.proofs.lemmas.Bool.{cases_lt, or_cases, and_parts, eq-eqb}
 use Rattle.std.proofs.lemmas.List.Elements.{All-contains}
 use Rattle.std.proofs.lemmas.List.Sums.{AllPass-from_list_all, sum_by-cons}
 use Rattle.std.specs.List.{Contains, list_all, sum_by}
@@ -8,38 +8,93 @@ use borrow.Author.Tests.{eqb-true}
 use Rattle.dd_model.specs.Code.{count_from}
 use Rattle.dd_model.proofs.CountFrom.{count_contains}
 use Rattle.dd_model.proofs.Lists.{Contains-head, Contains-later}
+use Rattle.dd_cells.specs.Fraction.{Divides}
+use Rattle.dd_cells.proofs.FractionLemmas.{same_factor}
+use Rattle.dd_cells.proofs.ReciprocalSums.{product_of_quotient}
 use Rattle.dd_covers.specs.PlaneValues.{AreArranged, HasPlaneValues}
 
--- what is wanting from 1, in parts of the least common multiple of 1 to 30
-abbrev pub want : ℕ → ℕ
-want v = 2329089562800 - 2329089562800 / v
+-- ## Parts of a whole
 
-abbrev pub IsSmallValue : ℕ → Type 0
-IsSmallValue v = (2 ≤ v) × (v ≤ 30)
+-- what is wanting from 1, in parts of a whole
+abbrev pub want : ℕ → ℕ → ℕ
+want whole v = whole - whole / v
 
--- what a test says at each number from 2 to 30
-passes : (p : ℕ → Bool) → list_all p (count_from 2 29) ≡ true → (v : ℕ) → IsSmallValue v → p v ≡ true
+-- a number above 1 that divides the whole
+pub record IsDivisor (whole v : ℕ) : Type 0 where
+  pub above : 2 ≤ v
+  pub divides : Divides v whole
+
+-- so many times the part of a number that is no smaller
+at_most : (j v part whole : ℕ) → j ≤ v → v * part ≡ whole → j * part ≤ whole
+at_most j v part whole low e =
+    let split : j + (v - j) ≡ v = omega arith in
+    with_rest j (v - j) (ap (λ z. z * part) split ∙ e) where
+      with_rest : (j rest : ℕ) → (j + rest) * part ≡ whole → j * part ≤ whole
+      with_rest j rest e = omega arith
+
+some_part : (v part whole : ℕ) → 1 ≤ whole → v * part ≡ whole → 1 ≤ part
+some_part v zero whole some e = absurd (omega arith)
+some_part v (suc part) whole some e = omega arith
+
+part_of : (whole v : ℕ) → IsDivisor whole v → v * (whole / v) ≡ whole
+part_of whole v h =
+    let above = h.above in
+    let e = product_of_quotient v whole (omega arith) h.divides in
+    omega arith
+
+at_least_half : (whole v : ℕ) → IsDivisor whole v → whole ≤ 2 * want whole v
+at_least_half whole v h =
+    let half = at_most 2 v (whole / v) whole h.above (part_of whole v h) in
+    omega arith
+
+below_one : (whole v : ℕ) → 1 ≤ whole → IsDivisor whole v → want whole v + 1 ≤ whole
+below_one whole v some h =
+    let part = some_part v (whole / v) whole some (part_of whole v h) in
+    omega arith
+
+is_two : (whole v : ℕ) → 1 ≤ whole → IsDivisor whole v → 2 * want whole v ≡ whole → v ≡ 2
+is_two whole v some h half =
+    let e = part_of whole v h in
+    let part = some_part v (whole / v) whole some e in
+    let twice = at_most 2 v (whole / v) whole h.above e in
+    same_factor v 2 (whole / v) part (omega arith)
+
+-- ## Triples
+
+-- Of three parts that make up a whole none is below a sixth.
+at_most_six : (a b c x y z whole : ℕ) → 1 ≤ whole → 2 ≤ b → 2 ≤ c → a * x ≡ whole → b * y ≡ whole → c * z ≡ whole → x + y + z ≡ whole → a ≤ 6
+at_most_six a b c x y z whole some low_b low_c ea eb ec sum =
+    let part = some_part a x whole some ea in
+    let half_y = at_most 2 b y whole low_b eb in
+    let half_z = at_most 2 c z whole low_c ec in
+    let sixth : whole ≤ 6 * x =
+    ⊎_elim
+    (λ two_b. ⊎_elim
+    (λ two_c.
+    let y_half : 2 * y ≡ whole = let two : b ≡ 2 = omega arith in ap (λ n. n * y) (sym two) ∙ eb in
+    let z_half : 2 * z ≡ whole = let two : c ≡ 2 = omega arith in ap (λ n. n * z) (sym two) ∙ ec in
+    absurd (omega arith))
+    (λ more. let third = at_most 3 c z whole more ec in omega arith)
+    (cases_lt c 3))
+    (λ more. let third = at_most 3 b y whole more eb in omega arith)
+    (cases_lt b 3) in
+    ⊎_elim
+    (λ low. omega arith)
+    (λ high. let seventh = at_most 7 a x whole high ea in absurd (omega arith))
+    (cases_lt a 7)
+
+abbrev IsLow : ℕ → Type 0
+IsLow v = (2 ≤ v) × (v ≤ 6)
+
+-- what a test says at each number from 2 to 6
+passes : (p : ℕ → Bool) → list_all p (count_from 2 5) ≡ true → (v : ℕ) → IsLow v → p v ≡ true
 passes p all v h =
-    All-contains (λ n. p n ≡ true) (count_from 2 29) v (AllPass-from_list_all p (count_from 2 29) all) (count_contains 2 29 v h.0 (let high = h.1 in omega arith))
-
-at_least_half : (v : ℕ) → IsSmallValue v → 2329089562800 ≤ 2 * want v
-at_least_half v h = leb-true 2329089562800 (2 * want v) (passes (λ n. leb 2329089562800 (2 * want n)) refl v h)
-
-below_one : (v : ℕ) → IsSmallValue v → want v + 1 ≤ 2329089562800
-below_one v h = leb-true (want v + 1) 2329089562800 (passes (λ n. leb (want n + 1) 2329089562800) refl v h)
+    All-contains (λ n. p n ≡ true) (count_from 2 5) v (AllPass-from_list_all p (count_from 2 5) all) (count_contains 2 5 v h.0 (let high = h.1 in omega arith))
 
 -- a test with a premise
 if_then : (a b : Bool) → not a || b ≡ true → a ≡ true → b ≡ true
 if_then true b h e = h
 if_then false b h e = absurd (cc)
-
-is_two : (v : ℕ) → IsSmallValue v → 2 * want v ≡ 2329089562800 → v ≡ 2
-is_two v h half =
-    eqb-true v 2 (if_then (eqb (2 * want v) 2329089562800) (eqb v 2)
-    (passes (λ n. not (eqb (2 * want n) 2329089562800) || eqb n 2) refl v h)
-    (eq-eqb (2 * want v) 2329089562800 half))
-
--- ## Triples
 
 abbrev are : ℕ → ℕ → ℕ → ℕ → ℕ → ℕ → Bool
 are a b c x y z = eqb a x && (eqb b y && eqb c z)
@@ -50,17 +105,25 @@ is_triple a b c =
     || (are a b c 2 4 4 || (are a b c 4 2 4 || (are a b c 4 4 2 || are a b c 3 3 3))))))))
 
 abbrev is_whole : ℕ → ℕ → ℕ → Bool
-is_whole a b c = eqb (want a + want b + want c) 4658179125600
+is_whole a b c = eqb (60 / a + 60 / b + 60 / c) 60
 
 abbrev triple_test : ℕ → ℕ → ℕ → Bool
 triple_test a b c = not (is_whole a b c) || is_triple a b c
 
-all_triples : (a b c : ℕ) → IsSmallValue a → IsSmallValue b → IsSmallValue c → triple_test a b c ≡ true
+all_triples : (a b c : ℕ) → IsLow a → IsLow b → IsLow c → triple_test a b c ≡ true
 all_triples a b c ha hb hc =
-    list_passes (triple_test a b) c hc (list_passes (λ m. list_all (triple_test a m) (count_from 2 29)) b hb
-    (passes (λ n. list_all (λ m. list_all (triple_test n m) (count_from 2 29)) (count_from 2 29)) refl a ha)) where
-      list_passes : (p : ℕ → Bool) (v : ℕ) → IsSmallValue v → list_all p (count_from 2 29) ≡ true → p v ≡ true
+    list_passes (triple_test a b) c hc (list_passes (λ m. list_all (triple_test a m) (count_from 2 5)) b hb
+    (passes (λ n. list_all (λ m. list_all (triple_test n m) (count_from 2 5)) (count_from 2 5)) refl a ha)) where
+      list_passes : (p : ℕ → Bool) (v : ℕ) → IsLow v → list_all p (count_from 2 5) ≡ true → p v ≡ true
       list_passes p v h all = passes p all v h
+
+-- a part of the whole is to the whole as that of 60 is to 60
+in_sixtieths : (v part whole : ℕ) → IsLow v → v * part ≡ whole → 60 * part ≡ whole * (60 / v)
+in_sixtieths v part whole h e =
+    let sixty : v * (60 / v) ≡ 60 = eqb-true (v * (60 / v)) 60 (passes (λ n. eqb (n * (60 / n)) 60) refl v h) in
+    let a = ap (λ n. n * part) sixty in
+    let b = ap (λ n. n * (60 / v)) e in
+    omega arith
 
 record AreThese (a b c x y z : ℕ) : Type 0 where
   pub one : a ≡ x
@@ -131,92 +194,114 @@ triple_plane a b c h =
     (or_cases (are a b c 2 6 3) (are a b c 3 2 6 || (are a b c 3 6 2 || (are a b c 6 2 3 || (are a b c 6 3 2 || (are a b c 2 4 4 || (are a b c 4 2 4 || (are a b c 4 4 2 || are a b c 3 3 3))))))) n0))
     (or_cases (are a b c 2 3 6) (are a b c 2 6 3 || (are a b c 3 2 6 || (are a b c 3 6 2 || (are a b c 6 2 3 || (are a b c 6 3 2 || (are a b c 2 4 4 || (are a b c 4 2 4 || (are a b c 4 4 2 || are a b c 3 3 3)))))))) h)
 
--- ## Lists of small numbers
+-- three numbers of which the parts make up the whole
+three_values : (whole a b c : ℕ) → 1 ≤ whole → IsDivisor whole a → IsDivisor whole b → IsDivisor whole c → want whole a + want whole b + want whole c ≡ 2 * whole
+    → HasPlaneValues (a ∷ b ∷ c ∷ [])
+three_values whole a b c some ha hb hc e =
+    let x = whole / a in
+    let y = whole / b in
+    let z = whole / c in
+    let ea : a * x ≡ whole = part_of whole a ha in
+    let eb : b * y ≡ whole = part_of whole b hb in
+    let ec : c * z ≡ whole = part_of whole c hc in
+    let half_a = at_most 2 a x whole ha.above ea in
+    let half_b = at_most 2 b y whole hb.above eb in
+    let half_c = at_most 2 c z whole hc.above ec in
+    let sum : x + y + z ≡ whole = omega arith in
+    let low_a : IsLow a = (ha.above, at_most_six a b c x y z whole some hb.above hc.above ea eb ec sum) in
+    let low_b : IsLow b = (hb.above, at_most_six b a c y x z whole some ha.above hc.above eb ea ec (omega arith)) in
+    let low_c : IsLow c = (hc.above, at_most_six c a b z x y whole some ha.above hb.above ec ea eb (omega arith)) in
+    let pa = in_sixtieths a x whole low_a ea in
+    let pb = in_sixtieths b y whole low_b eb in
+    let pc = in_sixtieths c z whole low_c ec in
+    let total : 60 / a + 60 / b + 60 / c ≡ 60 = same_factor (60 / a + 60 / b + 60 / c) 60 whole some (omega arith) in
+    triple_plane a b c (if_then (is_whole a b c) (is_triple a b c) (all_triples a b c low_a low_b low_c) (eq-eqb (60 / a + 60 / b + 60 / c) 60 total))
 
-abbrev AreSmallValues : List ℕ → Type 0
-AreSmallValues vs = (v : ℕ) → Contains vs v → IsSmallValue v
+-- ## Lists of divisors
 
-total_high : (vs : List ℕ) → AreSmallValues vs → length vs * 2329089562800 ≤ 2 * sum_by want vs
-total_high [] small = omega arith
-total_high (v ∷ vs) small =
-    let split = sum_by-cons want v vs in
-    let here = at_least_half v (small v (Contains-head v vs)) in
-    let rest = total_high vs (λ w later. small w (Contains-later v w vs later)) in
+abbrev AreDivisors : ℕ → List ℕ → Type 0
+AreDivisors whole vs = (v : ℕ) → Contains vs v → IsDivisor whole v
+
+total_high : (whole : ℕ) (vs : List ℕ) → AreDivisors whole vs → length vs * whole ≤ 2 * sum_by (want whole) vs
+total_high whole [] are = omega arith
+total_high whole (v ∷ vs) are =
+    let split = sum_by-cons (want whole) v vs in
+    let here = at_least_half whole v (are v (Contains-head v vs)) in
+    let rest = total_high whole vs (λ w later. are w (Contains-later v w vs later)) in
     omega arith
 
-total_low : (vs : List ℕ) → AreSmallValues vs → sum_by want vs + length vs ≤ length vs * 2329089562800
-total_low [] small = omega arith
-total_low (v ∷ vs) small =
-    let split = sum_by-cons want v vs in
-    let here = below_one v (small v (Contains-head v vs)) in
-    let rest = total_low vs (λ w later. small w (Contains-later v w vs later)) in
+total_low : (whole : ℕ) (vs : List ℕ) → 1 ≤ whole → AreDivisors whole vs → sum_by (want whole) vs + length vs ≤ length vs * whole
+total_low whole [] some are = omega arith
+total_low whole (v ∷ vs) some are =
+    let split = sum_by-cons (want whole) v vs in
+    let here = below_one whole v some (are v (Contains-head v vs)) in
+    let rest = total_low whole vs some (λ w later. are w (Contains-later v w vs later)) in
     omega arith
 
 -- the sum is 0, 1 or 2
-abbrev pub IsWholeSum : ℕ → Type 0
-IsWholeSum total = (total ≡ 0) ⊎ (total ≡ 2329089562800) ⊎ (total ≡ 4658179125600)
+abbrev pub IsWholeSum : ℕ → ℕ → Type 0
+IsWholeSum whole total = (total ≡ 0) ⊎ (total ≡ whole) ⊎ (total ≡ 2 * whole)
 
-pub plane_values : (vs : List ℕ) → AreSmallValues vs → IsWholeSum (sum_by want vs) → HasPlaneValues vs
-plane_values [] small whole = record { order = []; plane = inl refl; arranged = λ f. refl }
-plane_values (a ∷ []) small whole =
+pub plane_values : (whole : ℕ) (vs : List ℕ) → 1 ≤ whole → AreDivisors whole vs → IsWholeSum whole (sum_by (want whole) vs) → HasPlaneValues vs
+plane_values whole [] some are sum = record { order = []; plane = inl refl; arranged = λ f. refl }
+plane_values whole (a ∷ []) some are sum =
     let vs : List ℕ = a ∷ [] in
-    let high = total_high vs small in
-    let low = total_low vs small in
-    absurd (⊎_elim (λ none. omega arith) (λ some. ⊎_elim (λ one. omega arith) (λ two. omega arith) some) whole)
-plane_values (a ∷ b ∷ []) small whole =
+    let high = total_high whole vs are in
+    let low = total_low whole vs some are in
+    absurd (⊎_elim (λ none. omega arith) (λ more. ⊎_elim (λ one. omega arith) (λ two. omega arith) more) sum)
+plane_values whole (a ∷ b ∷ []) some are sum =
     let vs : List ℕ = a ∷ b ∷ [] in
-    let high = total_high vs small in
-    let low = total_low vs small in
-    let one : sum_by want vs ≡ 2329089562800 = ⊎_elim (λ none. absurd (omega arith)) (λ some. ⊎_elim (λ e. e) (λ two. absurd (omega arith)) some) whole in
-    let ha = small a (Contains-head a (b ∷ [])) in
-    let hb = small b (Contains-later a b (b ∷ []) (Contains-head b [])) in
-    let la = at_least_half a ha in
-    let lb = at_least_half b hb in
-    let s1 = sum_by-cons want a (b ∷ []) in
-    let s2 = sum_by-cons want b [] in
-    let ea = is_two a ha (omega arith) in
-    let eb = is_two b hb (omega arith) in
+    let high = total_high whole vs are in
+    let low = total_low whole vs some are in
+    let one : sum_by (want whole) vs ≡ whole = ⊎_elim (λ none. absurd (omega arith)) (λ more. ⊎_elim (λ e. e) (λ two. absurd (omega arith)) more) sum in
+    let ha = are a (Contains-head a (b ∷ [])) in
+    let hb = are b (Contains-later a b (b ∷ []) (Contains-head b [])) in
+    let la = at_least_half whole a ha in
+    let lb = at_least_half whole b hb in
+    let s1 = sum_by-cons (want whole) a (b ∷ []) in
+    let s2 = sum_by-cons (want whole) b [] in
+    let ea = is_two whole a some ha (omega arith) in
+    let eb = is_two whole b some hb (omega arith) in
     record {
       order = 2 ∷ 2 ∷ [];
       plane = inr (inl refl);
       arranged = λ f. ap (λ z. sum_by f (z ∷ b ∷ [])) ea ∙ ap (λ z. sum_by f (2 ∷ z ∷ [])) eb;
     }
-plane_values (a ∷ b ∷ c ∷ []) small whole =
+plane_values whole (a ∷ b ∷ c ∷ []) some are sum =
     let vs : List ℕ = a ∷ b ∷ c ∷ [] in
-    let high = total_high vs small in
-    let low = total_low vs small in
-    let two : sum_by want vs ≡ 4658179125600 = ⊎_elim (λ none. absurd (omega arith)) (λ some. ⊎_elim (λ one. absurd (omega arith)) (λ e. e) some) whole in
-    let ha = small a (Contains-head a (b ∷ c ∷ [])) in
-    let hb = small b (Contains-later a b (b ∷ c ∷ []) (Contains-head b (c ∷ []))) in
-    let hc = small c (Contains-later a c (b ∷ c ∷ []) (Contains-later b c (c ∷ []) (Contains-head c []))) in
-    let s = sum_of_three want a b c in
-    let e : want a + want b + want c ≡ 4658179125600 = omega arith in
-    triple_plane a b c (if_then (is_whole a b c) (is_triple a b c) (all_triples a b c ha hb hc) (eq-eqb (want a + want b + want c) 4658179125600 e))
-plane_values (a ∷ b ∷ c ∷ d ∷ []) small whole =
+    let high = total_high whole vs are in
+    let low = total_low whole vs some are in
+    let two : sum_by (want whole) vs ≡ 2 * whole = ⊎_elim (λ none. absurd (omega arith)) (λ more. ⊎_elim (λ one. absurd (omega arith)) (λ e. e) more) sum in
+    let ha = are a (Contains-head a (b ∷ c ∷ [])) in
+    let hb = are b (Contains-later a b (b ∷ c ∷ []) (Contains-head b (c ∷ []))) in
+    let hc = are c (Contains-later a c (b ∷ c ∷ []) (Contains-later b c (c ∷ []) (Contains-head c []))) in
+    let s = sum_of_three (want whole) a b c in
+    three_values whole a b c some ha hb hc (omega arith)
+plane_values whole (a ∷ b ∷ c ∷ d ∷ []) some are sum =
     let vs : List ℕ = a ∷ b ∷ c ∷ d ∷ [] in
-    let high = total_high vs small in
-    let low = total_low vs small in
-    let two : sum_by want vs ≡ 4658179125600 = ⊎_elim (λ none. absurd (omega arith)) (λ some. ⊎_elim (λ one. absurd (omega arith)) (λ e. e) some) whole in
-    let ha = small a (Contains-head a (b ∷ c ∷ d ∷ [])) in
-    let hb = small b (Contains-later a b (b ∷ c ∷ d ∷ []) (Contains-head b (c ∷ d ∷ []))) in
-    let hc = small c (Contains-later a c (b ∷ c ∷ d ∷ []) (Contains-later b c (c ∷ d ∷ []) (Contains-head c (d ∷ [])))) in
-    let hd = small d (Contains-later a d (b ∷ c ∷ d ∷ []) (Contains-later b d (c ∷ d ∷ []) (Contains-later c d (d ∷ []) (Contains-head d [])))) in
-    let la = at_least_half a ha in
-    let lb = at_least_half b hb in
-    let lc = at_least_half c hc in
-    let ld = at_least_half d hd in
-    let s1 = sum_by-cons want a (b ∷ c ∷ d ∷ []) in
-    let s2 = sum_of_three want b c d in
-    let ea = is_two a ha (omega arith) in
-    let eb = is_two b hb (omega arith) in
-    let ec = is_two c hc (omega arith) in
-    let ed = is_two d hd (omega arith) in
+    let high = total_high whole vs are in
+    let low = total_low whole vs some are in
+    let two : sum_by (want whole) vs ≡ 2 * whole = ⊎_elim (λ none. absurd (omega arith)) (λ more. ⊎_elim (λ one. absurd (omega arith)) (λ e. e) more) sum in
+    let ha = are a (Contains-head a (b ∷ c ∷ d ∷ [])) in
+    let hb = are b (Contains-later a b (b ∷ c ∷ d ∷ []) (Contains-head b (c ∷ d ∷ []))) in
+    let hc = are c (Contains-later a c (b ∷ c ∷ d ∷ []) (Contains-later b c (c ∷ d ∷ []) (Contains-head c (d ∷ [])))) in
+    let hd = are d (Contains-later a d (b ∷ c ∷ d ∷ []) (Contains-later b d (c ∷ d ∷ []) (Contains-later c d (d ∷ []) (Contains-head d [])))) in
+    let la = at_least_half whole a ha in
+    let lb = at_least_half whole b hb in
+    let lc = at_least_half whole c hc in
+    let ld = at_least_half whole d hd in
+    let s1 = sum_by-cons (want whole) a (b ∷ c ∷ d ∷ []) in
+    let s2 = sum_of_three (want whole) b c d in
+    let ea = is_two whole a some ha (omega arith) in
+    let eb = is_two whole b some hb (omega arith) in
+    let ec = is_two whole c some hc (omega arith) in
+    let ed = is_two whole d some hd (omega arith) in
     record {
       order = 2 ∷ 2 ∷ 2 ∷ 2 ∷ [];
       plane = inr (inr (inr (inr (inr refl))));
       arranged = λ f. ap (λ z. sum_by f (z ∷ b ∷ c ∷ d ∷ [])) ea ∙ ap (λ z. sum_by f (2 ∷ z ∷ c ∷ d ∷ [])) eb ∙ ap (λ z. sum_by f (2 ∷ 2 ∷ z ∷ d ∷ [])) ec ∙ ap (λ z. sum_by f (2 ∷ 2 ∷ 2 ∷ z ∷ [])) ed;
     }
-plane_values (a ∷ b ∷ c ∷ d ∷ e ∷ vs) small whole =
+plane_values whole (a ∷ b ∷ c ∷ d ∷ e ∷ vs) some are sum =
     let all : List ℕ = a ∷ b ∷ c ∷ d ∷ e ∷ vs in
-    let high = total_high all small in
-    absurd (⊎_elim (λ none. omega arith) (λ some. ⊎_elim (λ one. omega arith) (λ two. omega arith) some) whole)
+    let high = total_high whole all are in
+    absurd (⊎_elim (λ none. omega arith) (λ more. ⊎_elim (λ one. omega arith) (λ two. omega arith) more) sum)

@@ -11,7 +11,6 @@ use Rattle.dd_model.specs.Symbol.{Symbol, IsChamber, IsSymbol}
 use Rattle.dd_model.specs.Connected.{Connected}
 use Rattle.dd_model.specs.Cell.{IsBranching}
 use Rattle.dd_model.specs.Flat.{Flat}
-use Rattle.dd_model.specs.Small.{IsSmallSymbol}
 use Rattle.dd_model.proofs.Branching.{branching_unique, branching_same}
 use Rattle.dd_model.proofs.CellSearch.{has_least}
 use Rattle.dd_model.proofs.Lists.{Contains-none, each_of, Contains-head, Contains-later, Contains-cases, Contains-one, Contains-map}
@@ -180,62 +179,62 @@ multiple_of_plane vs (inr (inr (inr (inr (inr e))))) = (
 
 -- ## Which values there are
 
-crystal_law : (s : Symbol) → IsSmallSymbol s → Connected s → IsOriented s → Flat s → (cells : Pair → List Cell) → AreTheCells s cells
+crystal_law : (s : Symbol) → IsSymbol s → Connected s → IsOriented s → Flat s → (cells : Pair → List Cell) → AreTheCells s cells
     → (p : Pair) (d v : ℕ) → IsChamber s d → IsBranching s p d v → IsCrystal v
-crystal_law s small connected oriented flat cells told p d v h branching =
-    let plane = plane_law s small connected oriented flat cells told in
+crystal_law s is connected oriented flat cells told p d v h branching =
+    let plane = plane_law s is connected oriented flat cells told in
     let m = multiple_of_plane plane.order plane.plane in
     ⊎_elim
     (λ one. subst IsCrystal (sym one) (0, omega arith, refl))
     (λ here. m.1.crystal v here)
-    (in_order s small.symbol cells told plane p d v h branching)
+    (in_order s is cells told plane p d v h branching)
 
 factor_le : (q d n : ℕ) → q * d ≡ n → 1 ≤ n → d ≤ n
 factor_le zero d n e some = absurd (omega arith)
 factor_le (suc q) d n e some = omega arith
 
-divisor_le : (d n : ℕ) → Divides d n → 1 ≤ n → d ≤ n
+pub divisor_le : (d n : ℕ) → Divides d n → 1 ≤ n → d ≤ n
 divisor_le d n by some = factor_le by.quotient d n by.product some
 
 one_divides : (n : ℕ) → Divides 1 n
 one_divides n = divided n 1 n (omega arith)
 
 -- the greatest value is that of the list
-greatest_is : (s : Symbol) → IsSmallSymbol s → (cells : Pair → List Cell) → AreTheCells s cells → (plane : HasPlaneValues (values_above_one cells)) → (m k : ℕ)
+greatest_is : (s : Symbol) → IsSymbol s → (cells : Pair → List Cell) → AreTheCells s cells → (plane : HasPlaneValues (values_above_one cells)) → (m k : ℕ)
     → HasMultiple plane.order m → Contains plane.order m → IsGreatestValue s k → k ≡ m
-greatest_is s small cells told plane m k has listed great =
+greatest_is s is cells told plane m k has listed great =
     let back : Contains (values_above_one cells) m = arranged_member plane.order (values_above_one cells) (λ f. sym (plane.arranged f)) m listed in
     let from = Contains-from_filter (nat_lt 1) (all_values cells) m back in
     let at = told_value s cells m from.0 in
     let cell = each_of (IsCellOf s at.pair) (cells at.pair) at.cell (told at.pair).each at.listed in
-    let some = value_positive s small.symbol at.pair at.cell.least at.cell.v cell.least.0 cell.branching in
+    let some = value_positive s is at.pair at.cell.least at.cell.v cell.least.0 cell.branching in
     let value = at.value in
     let low = great.greatest at.pair at.cell.least at.cell.v cell.least.0 cell.branching in
     ⊎_elim
     (λ one. omega arith)
     (λ here. let high = divisor_le k m (has.divides k here) (omega arith) in omega arith)
-    (in_order s small.symbol cells told plane great.pair great.chamber k great.is_chamber great.branching)
+    (in_order s is cells told plane great.pair great.chamber k great.is_chamber great.branching)
 
 -- Every branching value divides the greatest.
-multiple_law : (s : Symbol) → IsSmallSymbol s → Connected s → IsOriented s → Flat s → (cells : Pair → List Cell) → AreTheCells s cells
+multiple_law : (s : Symbol) → IsSymbol s → Connected s → IsOriented s → Flat s → (cells : Pair → List Cell) → AreTheCells s cells
     → (k : ℕ) → IsGreatestValue s k → (p : Pair) (d v : ℕ) → IsChamber s d → IsBranching s p d v → Divides v k
-multiple_law s small connected oriented flat cells told k great p d v h branching =
-    let plane = plane_law s small connected oriented flat cells told in
+multiple_law s is connected oriented flat cells told k great p d v h branching =
+    let plane = plane_law s is connected oriented flat cells told in
     let m = multiple_of_plane plane.order plane.plane in
     ⊎_elim
     (λ one. subst (λ w. Divides w k) (sym one) (one_divides k))
     (λ here. ⊎_elim
     (λ none. absurd (Contains-none v (subst (λ xs. Contains xs v) none here)))
-    (λ listed. subst (Divides v) (sym (greatest_is s small cells told plane m.0 k m.1 listed great)) (m.1.divides v here))
+    (λ listed. subst (Divides v) (sym (greatest_is s is cells told plane m.0 k m.1 listed great)) (m.1.divides v here))
     m.1.listed)
-    (in_order s small.symbol cells told plane p d v h branching)
+    (in_order s is cells told plane p d v h branching)
 
 -- ## With no word on how cells are told
 
-pub plane_crystal : (s : Symbol) → IsSmallSymbol s → Connected s → IsOriented s → Flat s → (p : Pair) (d v : ℕ) → IsChamber s d → IsBranching s p d v → IsCrystal v
-plane_crystal s small connected oriented flat =
-    crystal_law s small connected oriented flat (λ p. (all_told s small.symbol oriented p).cells) (λ p. (all_told s small.symbol oriented p).are)
+pub plane_crystal : (s : Symbol) → IsSymbol s → Connected s → IsOriented s → Flat s → (p : Pair) (d v : ℕ) → IsChamber s d → IsBranching s p d v → IsCrystal v
+plane_crystal s is connected oriented flat =
+    crystal_law s is connected oriented flat (λ p. (all_told s is oriented p).cells) (λ p. (all_told s is oriented p).are)
 
-pub plane_multiples : (s : Symbol) → IsSmallSymbol s → Connected s → IsOriented s → Flat s → (k : ℕ) → IsGreatestValue s k → (p : Pair) (d v : ℕ) → IsChamber s d → IsBranching s p d v → Divides v k
-plane_multiples s small connected oriented flat =
-    multiple_law s small connected oriented flat (λ p. (all_told s small.symbol oriented p).cells) (λ p. (all_told s small.symbol oriented p).are)
+pub plane_multiples : (s : Symbol) → IsSymbol s → Connected s → IsOriented s → Flat s → (k : ℕ) → IsGreatestValue s k → (p : Pair) (d v : ℕ) → IsChamber s d → IsBranching s p d v → Divides v k
+plane_multiples s is connected oriented flat =
+    multiple_law s is connected oriented flat (λ p. (all_told s is oriented p).cells) (λ p. (all_told s is oriented p).are)

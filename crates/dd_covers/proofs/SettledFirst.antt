@@ -73,9 +73,9 @@ module _ (s : Symbol) (small : IsSmallSymbol s) (connected : Connected s) (orien
 
     wants_total : AreCongruent k (sum_by (slice_index b) (all_cells s ds)) 0
     wants_total =
-        let multiples = plane_multiples s small connected oriented flat k great in
-        let wants = demand s small oriented flat k some high multiples in
-        let none = demands_none s small oriented flat k some high multiples (λ p. (all_told s small.symbol oriented p).cells) (λ p. (all_told s small.symbol oriented p).are)
+        let multiples = plane_multiples s small.symbol connected oriented flat k great in
+        let wants = demand s small.symbol oriented flat k multiples in
+        let none = demands_none s small.symbol oriented flat k multiples (λ p. (all_told s small.symbol oriented p).cells) (λ p. (all_told s small.symbol oriented p).are)
         (told_euler s (least_of s inv)) (euler_of s inv) in
         let sums = sums_congruent k (slice_index b) (decoded s wants) (all_cells s ds) (λ w here.
         let n = number_of s ds w here in
@@ -84,7 +84,7 @@ module _ (s : Symbol) (small : IsSmallSymbol s) (connected : Connected s) (orien
         let c = want_at n.pair n.least v.0 least v.1 in
         let q = c.equal in
         let own : decoded s wants w ≡ k / v.0 =
-        ap (decoded s wants) (sym n.number) ∙ decoded_at s wants n.pair n.least least.0 ∙ demand_is s small oriented flat k some high multiples n.pair n.least v.0 least.0 v.1 in
+        ap (decoded s wants) (sym n.number) ∙ decoded_at s wants n.pair n.least least.0 ∙ demand_is s small.symbol oriented flat k multiples n.pair n.least v.0 least.0 v.1 in
         let at = ap (slice_index b) n.number in
         record { up = c.up; down = c.down; equal = omega arith }) in
         let p = sums.equal in

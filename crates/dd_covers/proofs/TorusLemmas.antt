@@ -4,11 +4,10 @@ use Rattle.std.proofs.lemmas.Bool.{cases_lt}
 use Rattle.std.proofs.lemmas.Nat.{same_from_place}
 use Rattle.dd_model.specs.declared.index.Index.{Index}
 use Rattle.dd_model.specs.declared.pair.Pair.{Pair}
-use Rattle.dd_model.specs.Symbol.{Symbol, IsChamber, item, act, power, turn, degree}
+use Rattle.dd_model.specs.Symbol.{Symbol, IsSymbol, IsChamber, item, act, power, turn, degree}
 use Rattle.dd_model.specs.Connected.{IsReached, Connected}
 use Rattle.dd_model.specs.Cell.{InCell, turned, IsLeastTurns, IsBranching}
 use Rattle.dd_model.specs.Flat.{Flat}
-use Rattle.dd_model.specs.Small.{IsSmallSymbol}
 use Rattle.dd_model.proofs.Branching.{branching_exists, degree_same}
 use Rattle.dd_model.proofs.CellWalks.{HasPeriod, has_period}
 use Rattle.dd_model.proofs.Transport.{in_cell-along, in_cell_within, degree-along}
@@ -91,22 +90,22 @@ last_value w q v up down some pos e f =
       by_value (suc zero) q v j some pos e g = refl
       by_value (suc (suc w)) q v j some pos e g = absurd (omega arith)
 
-module _ (s : Symbol) (small : IsSmallSymbol s) (k : ℕ) (x : Index → ℕ → ℕ) (shifts : AreTorusShifts s k x)
+module _ (s : Symbol) (is : IsSymbol s) (k : ℕ) (x : Index → ℕ → ℕ) (shifts : AreTorusShifts s k x)
     (great : IsGreatestValue s k) (multiple : (p : Pair) (d v : ℕ) → IsChamber s d → IsBranching s p d v → Divides v k) where
   some_sheets : 1 ≤ k
-  some_sheets = value_positive s small.symbol great.pair great.chamber k great.is_chamber great.branching
+  some_sheets = value_positive s is great.pair great.chamber k great.is_chamber great.branching
 
   whole_round : (p : Pair) (d v : ℕ) → IsChamber s d → IsBranching s p d v → v * (k / v) ≡ k
   whole_round p d v h b =
-      let e : k / v * v ≡ k = product_of_quotient v k (value_positive s small.symbol p d v h b) (multiple p d v h b) in omega arith
+      let e : k / v * v ≡ k = product_of_quotient v k (value_positive s is p d v h b) (multiple p d v h b) in omega arith
 
   round_none : (p : Pair) (d : ℕ) → IsChamber s d → sum_along s x (power (turn p) (degree s p d)) d % k ≡ 0
   round_none p d h =
-      let b = branching_exists s small.symbol p d h in
+      let b = branching_exists s is p d h in
       let v = b.0 in
       let r = b.1.r in
-      let back = (period_from_turns s small.symbol.table.involutions p d r h b.1.least_turns).fixed in
-      let unit = unit_round s small.symbol k x shifts p d r v h b.1.least_turns b.1 in
+      let back = (period_from_turns s is.table.involutions p d r h b.1.least_turns).fixed in
+      let unit = unit_round s is k x shifts p d r v h b.1.least_turns b.1 in
       let none = round_of_units k (k / v) v (sum_along s x (power (turn p) r) d) (whole_round p d v h b.1) unit in
       let e : sum_along s x (power (turn p) (degree s p d)) d ≡ v * sum_along s x (power (turn p) r) d =
       ap (λ m. sum_along s x (power (turn p) m) d) (sym b.1.quotient) ∙ ap (λ w. sum_along s x w d) (sym (power_times (turn p) v r))
@@ -122,9 +121,9 @@ module _ (s : Symbol) (small : IsSmallSymbol s) (k : ℕ) (x : Index → ℕ →
   smooth_value : (p : Pair) (d r q v w : ℕ) → IsChamber s d → IsLeastTurns s p d r → (b : IsBranching s p d v) → 1 ≤ q
       → AreCongruent k (q * sum_along s x (power (turn p) r) d) 0 → w * (q * r) ≡ degree s p d → w ≡ 1
   smooth_value p d r q v w h turns b some none degree_is =
-      let unit = unit_round s small.symbol k x shifts p d r v h turns b in
+      let unit = unit_round s is k x shifts p d r v h turns b in
       let whole = whole_round p d v h b in
-      let pos = value_positive s small.symbol p d v h b in
+      let pos = value_positive s is p d v h b in
       let c = units_of_totals k (k / v) q (sum_along s x (power (turn p) r) d) unit none in
       let u : 1 ≤ k / v = unit_positive (k / v) v k whole some_sheets in
       let up = ap (λ z. c.up * z) (sym whole) in
@@ -142,7 +141,6 @@ module _ (s : Symbol) (small : IsSmallSymbol s) (k : ℕ) (x : Index → ℕ →
   smooth_at : (p : Pair) (e w : ℕ) → IsChamber (sheets_of s k x) e → IsBranching (sheets_of s k x) p e w → w ≡ 1
   smooth_at p e w h b =
       let t = sheets_of s k x in
-      let is = small.symbol in
       let inv = is.table.involutions in
       let it = symbol-sheets s is k x joining in
       let m = morphism-sheets s is k x in
@@ -172,7 +170,7 @@ module _ (s : Symbol) (small : IsSmallSymbol s) (k : ℕ) (x : Index → ℕ →
       (positive_factor q turns.r b.r whole b.least_turns.positive) none
       (ap (λ z. w * z) whole ∙ b.quotient ∙ deg) where
         period_of_cell : (p : Pair) (d : ℕ) → IsChamber s d → HasPeriod s p d
-        period_of_cell p d h = has_period s small.symbol.table.involutions p d h
+        period_of_cell p d h = has_period s is.table.involutions p d h
 
         same_place : (n c a d b : ℕ) → (1 ≤ c) × (c ≤ n) → (1 ≤ d) × (d ≤ n) → c + a * n ≡ d + b * n → (c ≡ d) × (a ≡ b)
         same_place n c a d b hc hd e =
@@ -194,22 +192,22 @@ module _ (s : Symbol) (small : IsSmallSymbol s) (k : ℕ) (x : Index → ℕ →
             → degree s p (item (below_sheets s k) e) ≡ degree s p (item (below_sheets s k) far)
         degree_of_cell p e far h there =
             let t = sheets_of s k x in
-            let it = symbol-sheets s small.symbol k x joining in
-            let m = morphism-sheets s small.symbol k x in
+            let it = symbol-sheets s is k x joining in
+            let m = morphism-sheets s is k x in
             let f = below_sheets s k in
             let c = in_cell-along t s f it.table.involutions m p e far h there in
-            sym (ap (degree s p) (sym c.leads) ∙ degree_same s small.symbol p c.word (item f e) (m.within e h) c.letters)
+            sym (ap (degree s p) (sym c.leads) ∙ degree_same s is p c.word (item f e) (m.within e h) c.letters)
 
   -- ## All sheets hang together by a cell with v equal to k
 
   reached_in : Connected s → (d a : ℕ) → IsChamber s d → a < k → IsReached (sheets_of s k x) (d + a * s.size)
   reached_in all d a h below =
-      let inv = small.symbol.table.involutions in
+      let inv = is.table.involutions in
       let c = great.chamber in
       let b = great.branching in
       let one : k / k ≡ 1 = whole_of_itself k some_sheets in
       let unit = subst (λ u. IsUnit k u (sum_along s x (power (turn great.pair) b.r) c)) one
-      (unit_round s small.symbol k x shifts great.pair c b.r k great.is_chamber b.least_turns b) in
+      (unit_round s is k x shifts great.pair c b.r k great.is_chamber b.least_turns b) in
       let there = all c great.is_chamber in
       let on = leads_between s inv all c d great.is_chamber h in
       let back = (period_from_turns s inv great.pair c b.r great.is_chamber b.least_turns).fixed in
@@ -228,7 +226,7 @@ module _ (s : Symbol) (small : IsSmallSymbol s) (k : ℕ) (x : Index → ℕ →
       let round = sum_of_turns s x (power (turn great.pair) b.r) c back j.turns in
       let sum : 0 + sum_along s x word 1 ≡ start + end + j.turns * sum_along s x (power (turn great.pair) b.r) c = omega arith in
       let sheet : (0 + sum_along s x word 1) % k ≡ a = ap (λ z. z % k) sum ∙ remainders k _ a j.leads ∙ mod_same a k below in
-      let chamber : IsChamber s 1 = (omega arith, small.symbol.table.chambers) in
+      let chamber : IsChamber s 1 = (omega arith, is.table.chambers) in
       let origin : 1 + 0 * s.size ≡ 1 = omega arith in
       record {
         word = word;
@@ -248,23 +246,23 @@ module _ (s : Symbol) (small : IsSmallSymbol s) (k : ℕ) (x : Index → ℕ →
   oriented-torus : IsOriented (sheets_of s k x)
   oriented-torus =
       let t = sheets_of s k x in
-      let it = symbol-sheets s small.symbol k x joining in
-      let m = morphism-sheets s small.symbol k x in
+      let it = symbol-sheets s is k x joining in
+      let m = morphism-sheets s is k x in
       let f = below_sheets s k in
       oriented_by t it.table.involutions (λ e. color shifts.colors (item f e))
       (λ i e h. ap (color shifts.colors) (m.op i e h) ∙ shifts.are_colors.exchanged i (item f e) (m.within e h))
 
   pub is_torus : Connected s → Flat s → IsTorus (sheets_of s k x)
   is_torus all flat = record {
-    symbol = symbol-sheets s small.symbol k x joining;
+    symbol = symbol-sheets s is k x joining;
     connected = connected-torus all;
     oriented = oriented-torus;
-    flat = flat-sheets s small.symbol flat k x some_sheets;
+    flat = flat-sheets s is flat k x some_sheets;
     smooth = λ p. record { each = smooth_at p };
   }
 
 -- The rules give a torus above every connected, oriented, flat symbol, with a morphism down to it.
-pub torus_by_rules : (s : Symbol) → IsSmallSymbol s → Connected s → IsOriented s → Flat s → (k : ℕ) (x : Index → ℕ → ℕ) → IsGreatestValue s k → AreTorusShifts s k x
+pub torus_by_rules : (s : Symbol) → IsSymbol s → Connected s → IsOriented s → Flat s → (k : ℕ) (x : Index → ℕ → ℕ) → IsGreatestValue s k → AreTorusShifts s k x
     → IsTorus (sheets_of s k x)
-torus_by_rules s small connected oriented flat k x great shifts =
-    is_torus s small k x shifts great (plane_multiples s small connected oriented flat k great) connected flat
+torus_by_rules s is connected oriented flat k x great shifts =
+    is_torus s is k x shifts great (plane_multiples s is connected oriented flat k great) connected flat

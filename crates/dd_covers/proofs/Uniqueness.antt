@@ -413,7 +413,7 @@ module _ (s : Symbol) (is : IsSymbol s) (all : Connected s) (k : ℕ) (x y : Ind
 
 -- ## One cover
 
-same_greatest : (s : Symbol) (k j : ℕ) → IsGreatestValue s k → IsGreatestValue s j → k ≡ j
+pub same_greatest : (s : Symbol) (k j : ℕ) → IsGreatestValue s k → IsGreatestValue s j → k ≡ j
 same_greatest s k j a b =
     let low = b.greatest a.pair a.chamber k a.is_chamber a.branching in
     let high = a.greatest b.pair b.chamber j b.is_chamber b.branching in

@@ -1,14 +1,15 @@
 -- What is wanting at the cells, and the greatest branching value.
-use Rattle.std.proofs.Common.{◌≡◌, ℕ, ◌+◌, ◌-◌, ◌*◌, ◌/◌, ◌%◌, ◌<◌, ◌≤◌, List, length, max, set, slice_index, refl, sym, ap, ◌∙◌, subst, ⊎_elim, arith}
+use Rattle.std.proofs.Common.{◌≡◌, ℕ, zero, suc, ◌+◌, ◌-◌, ◌*◌, ◌/◌, ◌%◌, ◌<◌, ◌≤◌, ◌⊎◌, List, length, max, set, slice_index, refl, sym, ap, ◌∙◌, subst, ⊎_elim, arith}
 use Rattle.std.proofs.lemmas.Bool.{cases_lt, cases_eq}
 use Rattle.std.proofs.lemmas.List.{get_or-set_same, get_or-set_other}
 use Rattle.dd_model.specs.declared.pair.Pair.{Pair}
 use Rattle.dd_model.specs.declared.pair.Pair.TheVariants.{Tile, Vertex, Edge}
-use Rattle.dd_model.specs.Symbol.{Symbol, IsChamber, IsSymbol}
-use Rattle.dd_model.specs.Cell.{IsBranching}
-use Rattle.dd_model.proofs.Branching.{branching_same, branching_unique}
+use Rattle.dd_model.specs.Symbol.{Symbol, IsChamber, IsSymbol, op, first, second}
+use Rattle.dd_model.specs.Cell.{InCell, IsBranching}
+use Rattle.dd_model.proofs.Branching.{branching_exists, branching_same, branching_unique}
 use Rattle.dd_model.proofs.CellSearch.{least_of_cell_unique}
-use Rattle.dd_model.proofs.CellWalks.{in_cell-sym, in_cell-trans}
+use Rattle.dd_model.proofs.CellWalks.{in_cell-sym, in_cell-trans, in_cell-refl, in_cell-first, in_cell-second}
+use Rattle.dd_model.proofs.Transport.{in_cell_within}
 use Rattle.dd_covers.specs.CellNumbers.{numbered, IsCellNumber}
 use Rattle.dd_covers.specs.PlaneValues.{IsGreatestValue}
 use Rattle.dd_covers.specs.Wanting.{IsGreatestTo, IsWantedAt}
@@ -74,7 +75,7 @@ module _ (s : Symbol) (is : IsSymbol s) (k : ℕ) (wants : List ℕ) (size : len
 
 -- ## The greatest value
 
-raised : (s : Symbol) (n k : ℕ) → IsGreatestTo s n k → (p : Pair) (d v : ℕ) → IsChamber s d → IsBranching s p d v → IsGreatestTo s n (max k v)
+pub raised : (s : Symbol) (n k : ℕ) → IsGreatestTo s n k → (p : Pair) (d v : ℕ) → IsChamber s d → IsBranching s p d v → IsGreatestTo s n (max k v)
 raised s n k old p d v h b =
     let low : (q : Pair) (e w : ℕ) → IsChamber s e → e ≤ n → IsBranching s q e w → w ≤ max k v = λ q e w he ne be. let l = old.greatest q e w he ne be in omega arith in
     ⊎_elim
@@ -86,28 +87,40 @@ raised s n k old p d v h b =
     record { pair = old.pair; chamber = old.chamber; is_chamber = old.is_chamber; branching = subst (IsBranching s old.pair old.chamber) e old.branching; greatest = low })
     (cases_lt k v)
 
-pub greatest_more : (s : Symbol) (d k a b c : ℕ) → IsChamber s d → IsGreatestTo s (d - 1) k → IsBranching s Tile d a → IsBranching s Vertex d b → IsBranching s Edge d c
-    → IsGreatestTo s d (max (max (max k a) b) c)
-greatest_more s d k a b c h old ba bb bc =
-    let one = raised s (d - 1) k old Tile d a h ba in
-    let two = raised s (d - 1) (max k a) one Vertex d b h bb in
-    let three = raised s (d - 1) (max (max k a) b) two Edge d c h bc in
-    record {
-      pair = three.pair;
-      chamber = three.chamber;
-      is_chamber = three.is_chamber;
-      branching = three.branching;
-      greatest = λ p e v he le be. ⊎_elim
-          (λ less. three.greatest p e v he (omega arith) be)
-          (λ more.
-          let same : e ≡ d = omega arith in
-          own p v (subst (λ z. IsBranching s p z v) same be))
-          (cases_lt e d);
-    } where
-      own : (p : Pair) (v : ℕ) → IsBranching s p d v → v ≤ max (max (max k a) b) c
-      own Tile v bv = let e = branching_unique s Tile d v a bv ba in omega arith
-      own Vertex v bv = let e = branching_unique s Vertex d v b bv bb in omega arith
-      own Edge v bv = let e = branching_unique s Edge d v c bv bc in omega arith
+-- the value of a cell with a smaller neighbor is one of those before
+pub seen_before : (s : Symbol) → IsSymbol s → (p : Pair) (d e k v : ℕ) → IsChamber s d → IsGreatestTo s (d - 1) k → (e ≡ op s (first p) d) ⊎ (e ≡ op s (second p) d) → e < d
+    → IsBranching s p d v → v ≤ k
+seen_before s is p d e k v h old beside less b =
+    let own = in_cell-refl s p d in
+    let there : InCell s p d e =
+    ⊎_elim (λ a. subst (InCell s p d) (sym a) (in_cell-first s p d d own)) (λ a. subst (InCell s p d) (sym a) (in_cell-second s p d d own)) beside in
+    old.greatest p e v (in_cell_within s is.table.involutions p d e h there) (omega arith) (branching_same s is p d e v h there b)
+
+pub own_low : (s : Symbol) (p : Pair) (d k v : ℕ) → IsBranching s p d v → (w : ℕ) → IsBranching s p d w → w ≤ max k v
+own_low s p d k v b w other = let e = branching_unique s p d w v other b in omega arith
+
+-- the values at one chamber more are no greater
+pub greatest_more : (s : Symbol) (d k : ℕ) → IsGreatestTo s (d - 1) k → ((p : Pair) (v : ℕ) → IsBranching s p d v → v ≤ k) → IsGreatestTo s d k
+greatest_more s d k old own = record {
+  pair = old.pair;
+  chamber = old.chamber;
+  is_chamber = old.is_chamber;
+  branching = old.branching;
+  greatest = λ p e v he le be. ⊎_elim
+      (λ less. old.greatest p e v he (omega arith) be)
+      (λ more.
+      let same : e ≡ d = omega arith in
+      own p v (subst (λ z. IsBranching s p z v) same be))
+      (cases_lt e d);
+}
+
+pub three_more : (s : Symbol) (d a b c : ℕ) → a ≤ b → b ≤ c → IsGreatestTo s (d - 1) c → ((v : ℕ) → IsBranching s Tile d v → v ≤ a) → ((v : ℕ) → IsBranching s Vertex d v → v ≤ b)
+    → ((v : ℕ) → IsBranching s Edge d v → v ≤ c) → IsGreatestTo s d c
+three_more s d a b c low high old tile vertex edge = greatest_more s d c old own where
+  own : (p : Pair) (v : ℕ) → IsBranching s p d v → v ≤ c
+  own Tile v bv = let l = tile v bv in omega arith
+  own Vertex v bv = let l = vertex v bv in omega arith
+  own Edge v bv = edge v bv
 
 pub greatest_first : (s : Symbol) (k : ℕ) → IsChamber s 1 → IsBranching s Tile 1 k → IsGreatestTo s 0 k
 greatest_first s k h b = record { pair = Tile; chamber = 1; is_chamber = h; branching = b; greatest = λ p d v hd low _. absurd (omega (arith, hd.0)) }
@@ -120,6 +133,34 @@ greatest_last s n k same g = record {
   branching = g.branching;
   greatest = λ p d v h b. g.greatest p d v h (omega (arith, h.1)) b;
 }
+
+-- the greatest branching value of a symbol
+pub record HasGreatestValue (s : Symbol) : Type 0 where
+  pub value : ℕ
+  pub greatest : IsGreatestValue s value
+
+greatest_to : (s : Symbol) → IsSymbol s → (n : ℕ) → n ≤ s.size → (k : ℕ) × IsGreatestTo s n k
+greatest_to s is zero low =
+    let one : IsChamber s 1 = (omega arith, is.table.chambers) in
+    let b = branching_exists s is Tile 1 one in
+    (b.0, greatest_first s b.0 one b.1)
+greatest_to s is (suc n) low =
+    let old = greatest_to s is n (omega arith) in
+    let h : IsChamber s (suc n) = (omega arith, low) in
+    let a = branching_exists s is Tile (suc n) h in
+    let b = branching_exists s is Vertex (suc n) h in
+    let c = branching_exists s is Edge (suc n) h in
+    let before : n ≡ suc n - 1 = omega arith in
+    let one = raised s (suc n - 1) old.0 (subst (λ m. IsGreatestTo s m old.0) before old.1) Tile (suc n) a.0 h a.1 in
+    let two = raised s (suc n - 1) (max old.0 a.0) one Vertex (suc n) b.0 h b.1 in
+    let three = raised s (suc n - 1) (max (max old.0 a.0) b.0) two Edge (suc n) c.0 h c.1 in (
+      max (max (max old.0 a.0) b.0) c.0,
+      three_more s (suc n) (max old.0 a.0) (max (max old.0 a.0) b.0) (max (max (max old.0 a.0) b.0) c.0) (omega arith) (omega arith) three
+          (own_low s Tile (suc n) old.0 a.0 a.1) (own_low s Vertex (suc n) (max old.0 a.0) b.0 b.1) (own_low s Edge (suc n) (max (max old.0 a.0) b.0) c.0 c.1),
+    )
+
+pub greatest_exists : (s : Symbol) → IsSymbol s → HasGreatestValue s
+greatest_exists s is = let g = greatest_to s is s.size (omega arith) in record { value = g.0; greatest = greatest_last s s.size g.0 refl g.1 }
 
 -- ## One chamber more
 

@@ -15,3 +15,4 @@ pub mod Settling
 pub mod Wanting
 pub mod TorusFaults
 pub mod Parity
+pub mod Mirrors

@@ -71,3 +71,9 @@ pub record IsTorusCover (s t : Symbol) (below : List ℕ) : Type 0 where
   pub upper : List ℕ
   pub torus : IsTorusCoverOf middle sheets t upper
   pub composed : below ≡ map (item lower) upper
+
+-- some symbol is the torus cover
+pub record HasTorusCover (s : Symbol) : Type 0 where
+  pub cover : Symbol
+  pub below : List ℕ
+  pub is : IsTorusCover s cover below

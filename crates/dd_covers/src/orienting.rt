@@ -1,8 +1,12 @@
-ghost use Rattle.std.specs.Prelude.{◌≡◌, ◌≤◌, ◌↔◌, IfOk, IsTrue};
+ghost use Rattle.std.specs.Prelude.{◌≡◌, ◌≢◌, ◌≤◌, ◌↔◌, ℕ, IfOk, IsTrue};
+ghost use Rattle.std.specs.Bool.{OnTrue, OnFalse};
+ghost use Rattle.dd_model.specs.Symbol.{IsChamber, op};
 ghost use Rattle.dd_model.specs.Connected.{Connected as AllReached};
 ghost use Rattle.dd_model.specs.Isomorphic.{IsMorphism};
+ghost use Rattle.dd_model.specs.declared.index.Index.{Index};
 ghost use Rattle.dd_cells.specs.Orientation.{IsOriented};
 ghost use Rattle.dd_covers.specs.OrientedCover.{two_sheets, IsOrientedCover};
+ghost use Rattle.dd_covers.specs.Mirrors.{HasFixedChamber};
 ghost use Rattle.dd_covers.specs.Shifts.{AreOnes};
 
 use crate::cover::Cover;
@@ -13,14 +17,33 @@ use dd_model::Memory;
 use dd_symbol::{Connected, Symbol};
 use std::alloc::Global;
 
-/// Whether a symbol is oriented.
-pub(crate) fn is_oriented(alloc: Global, s: &Connected) -> Result<bool, Memory>
+/// Whether a symbol is oriented. It takes the memory of one coloring, and none if some involution
+/// fixes a chamber.
+pub fn is_oriented(alloc: Global, s: &Connected) -> Result<bool, Memory>
     ensures { IfOk result (λ yes. IsTrue yes ↔ IsOriented s.now) }
 {
+    if has_mirror(s.symbol()) {
+        return Ok(false);
+    }
     match orientation(alloc, s)? {
         Orientation::Oriented => Ok(true),
         Orientation::Weak | Orientation::None => Ok(false),
     }
+}
+
+/// Whether some involution fixes a chamber.
+fn has_mirror(symbol: &Symbol) -> bool
+    ensures yes { OnTrue result (HasFixedChamber symbol.now) }
+    ensures no { OnFalse result ((i : Index) (d : ℕ) → IsChamber symbol.now d
+        → op symbol.now i d ≢ d) }
+{
+    for k in 0..symbol.size() {
+        let images = symbol.images(k + 1);
+        if images.contains(&(k + 1)) {
+            return true;
+        }
+    }
+    false
 }
 
 /// Shifts of one sheet everywhere.

@@ -1,7 +1,7 @@
-ghost use Rattle.std.specs.Prelude.{◌≡◌, ℕ, ◌+◌, ◌-◌, ◌*◌, ◌<◌, ◌≤◌, length, slice_index, IfOk};
+ghost use Rattle.std.specs.Prelude.{◌≡◌, ◌⊎◌, ℕ, ◌+◌, ◌-◌, ◌*◌, ◌<◌, ◌≤◌, length, slice_index, IfOk};
 ghost use Rattle.dd_model.specs.declared.pair.Pair.{Pair};
 ghost use Rattle.dd_model.specs.Cell.{IsBranching};
-ghost use Rattle.dd_model.specs.Symbol.{IsChamber};
+ghost use Rattle.dd_model.specs.Symbol.{IsChamber, op, first, second};
 ghost use Rattle.dd_model.specs.Small.{IsSmallSymbol};
 ghost use Rattle.dd_covers.specs.PlaneValues.{IsGreatestValue};
 ghost use Rattle.dd_covers.specs.Wanting.{IsGreatestTo, IsWantedAt, AreWanted};
@@ -11,8 +11,9 @@ use dd_model::{Memory, Pair};
 use dd_symbol::{Connected, Symbol};
 use std::alloc::Global;
 
-/// The greatest branching value of the cells of all three pairs.
-pub(crate) fn greatest_value(s: &Connected) -> u32
+/// Returns the greatest branching value of the cells of all three pairs: tiles, vertices and edges.
+/// It takes no memory.
+pub fn greatest_value(s: &Connected) -> u32
     ensures { IsGreatestValue s.now result }
 {
     let symbol = s.symbol();
@@ -25,14 +26,54 @@ pub(crate) fn greatest_value(s: &Connected) -> u32
 
 /// The greatest of a value and of the branching values at a chamber.
 fn greater_value(symbol: &Symbol, chamber: u32, so_far: u32) -> u32
+    requires symbol { IsSmallSymbol symbol.now }
     requires chamber { IsChamber symbol.now chamber }
     requires so_far { IsGreatestTo symbol.now (chamber - 1) so_far }
     ensures { IsGreatestTo symbol.now chamber result }
 {
-    so_far
-        .max(symbol.branching(Pair::Tile, chamber))
-        .max(symbol.branching(Pair::Vertex, chamber))
-        .max(symbol.branching(Pair::Edge, chamber))
+    let images = symbol.images(chamber);
+    let tile = greater_at(
+        symbol,
+        Pair::Tile,
+        chamber,
+        images[0].min(images[1]),
+        so_far,
+    );
+    let vertex = greater_at(
+        symbol,
+        Pair::Vertex,
+        chamber,
+        images[1].min(images[2]),
+        tile,
+    );
+    greater_at(
+        symbol,
+        Pair::Edge,
+        chamber,
+        images[0].min(images[2]),
+        vertex,
+    )
+}
+
+/// The greatest of a value and of the branching value of a pair at a chamber. The cell is not walked
+/// if a neighbor in it is smaller, since it was walked from there, or if the degree is no greater.
+fn greater_at(symbol: &Symbol, pair: Pair, chamber: u32, neighbor: u32, so_far: u32) -> u32
+    requires symbol { IsSmallSymbol symbol.now }
+    requires chamber { IsChamber symbol.now chamber }
+    requires neighbor { (neighbor ≡ op symbol.now (first pair) chamber)
+        ⊎ (neighbor ≡ op symbol.now (second pair) chamber) }
+    requires so_far { IsGreatestTo symbol.now (chamber - 1) so_far }
+    ensures so_far { IsGreatestTo symbol.now (chamber - 1) result }
+    ensures higher { so_far ≤ result }
+    ensures own { (v : ℕ) → IsBranching symbol.now pair chamber v → v ≤ result }
+{
+    if neighbor < chamber {
+        return so_far;
+    }
+    if symbol.degree(pair, chamber) <= so_far {
+        return so_far;
+    }
+    so_far.max(symbol.branching(pair, chamber))
 }
 
 /// Writes down what is wanting at the cell of a chamber while no side has a shift.

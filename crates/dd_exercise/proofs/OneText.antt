@@ -44,8 +44,7 @@ made_by covering.Nothing s cover form readable flat is least = subst (λ t. IsLe
 made_by covering.Oriented s cover form readable flat is least =
     record { cover = cover; below = is.0; is_cover = is.1; least = least (cover_table s cover is.0 readable is.1) }
 made_by covering.Torus s cover form readable flat is least =
-    let size = readable.size in
-    let torus = torus_above s cover is.0 readable.symbol (omega (arith, size)) readable.connected flat is.1 in
+    let torus = torus_above s cover is.0 readable.symbol.symbol readable.connected flat is.1 in
     record { flat = flat; cover = cover; below = is.0; is_cover = is.1; least = least torus.symbol.table }
 
 same_some : (s t : Symbol) → Some s ≡ Some t → s ≡ t

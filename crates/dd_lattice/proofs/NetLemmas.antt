@@ -9,7 +9,6 @@ use Rattle.dd_model.specs.declared.index.Index.TheVariants.{Zero}
 use Rattle.dd_model.specs.declared.pair.Pair.TheVariants.{Vertex, Edge}
 use Rattle.dd_model.specs.Symbol.{Symbol, AreInvolutions, IsChamber, item, op}
 use Rattle.dd_model.specs.Cell.{IsLeastOfCell, AreCells}
-use Rattle.dd_model.specs.Small.{IsSmallSymbol}
 use Rattle.dd_model.proofs.CellLists.{increasing-head, increasing-tail}
 use Rattle.dd_model.proofs.CellWalks.{in_cell-refl}
 use Rattle.dd_cells.proofs.CellSums.{has_roots}
@@ -31,11 +30,11 @@ use Rattle.dd_lattice.proofs.TorusLaw.{two_left}
 
 -- ## The two edges that are left
 
-module _ (t : Symbol) (small : IsSmallSymbol t) (torus : IsTorus t) (edges : List ℕ) (cells : AreCells t Edge edges) (kinds : List EdgeKind) (are : AreKindsOf t edges kinds) (left : List ℕ) (list : AreLeftOf edges kinds (length edges) left) where
+module _ (t : Symbol) (torus : IsTorus t) (edges : List ℕ) (cells : AreCells t Edge edges) (kinds : List EdgeKind) (are : AreKindsOf t edges kinds) (left : List ℕ) (list : AreLeftOf edges kinds (length edges) left) where
   pub left_two : length left ≡ 2
   left_two =
       let many = are.many in
-      list.many ∙ ap (count_by is_left) (take_all (length edges) kinds (omega arith)) ∙ two_left t small torus edges cells kinds are
+      list.many ∙ ap (count_by is_left) (take_all (length edges) kinds (omega arith)) ∙ two_left t torus edges cells kinds are
 
   kind_left : (k : EdgeKind) (d : ℕ) → IsKindOf t d k → is_left k ≡ true → IsKindOf t d Left
   kind_left Tree d is yes_ = cc

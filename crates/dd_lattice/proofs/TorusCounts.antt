@@ -7,12 +7,13 @@ use Rattle.dd_model.specs.declared.pair.Pair.TheVariants.{Tile, Vertex, Edge}
 use Rattle.dd_model.specs.Symbol.{Symbol, AreInvolutions}
 use Rattle.dd_model.specs.Code.{chambers}
 use Rattle.dd_model.specs.Cell.{IsLeastOfCell, IsBranching, IsPeriod, AreCells}
-use Rattle.dd_model.specs.Small.{IsSmallSymbol}
 use Rattle.dd_model.proofs.CellWalks.{in_cell-refl}
-use Rattle.dd_model.proofs.Lists.{each_of}
+use Rattle.dd_model.proofs.Lists.{each_of, all_from_members}
 use Rattle.dd_model.proofs.CountFrom.{length-count_from}
 use Rattle.dd_cells.specs.Cells.{IsCellOf}
 use Rattle.dd_cells.specs.Euler.{IsEuler, orbits}
+use Rattle.dd_cells.specs.Fraction.{Divides}
+use Rattle.dd_cells.specs.Surface.{AreAllCells}
 use Rattle.dd_cells.specs.declared.cell.Cell.{Cell}
 use Rattle.dd_cells.proofs.CellSizes.{cycle_size}
 use Rattle.dd_cells.proofs.CellSums.{has_roots, members_at, members_at_are, sum_over_cells, sum_by_same, sum_by_none}
@@ -24,28 +25,38 @@ use Rattle.dd_covers.proofs.PlaneLemmas.{told_value, sum_balance}
 use Rattle.dd_covers.proofs.PlaneLists.{want}
 use Rattle.dd_covers.proofs.ToldCells.{no_chain, all_told}
 
-module _ (t : Symbol) (small : IsSmallSymbol t) (torus : IsTorus t) where
+module _ (t : Symbol) (torus : IsTorus t) where
   abbrev inv : AreInvolutions t
-  inv = small.symbol.table.involutions
+  inv = torus.symbol.table.involutions
 
   abbrev cells : Pair → List Cell
-  cells p = (all_told t small.symbol torus.oriented p).cells
+  cells p = (all_told t torus.symbol torus.oriented p).cells
 
   cell_is : (p : Pair) (c : Cell) → Contains (cells p) c → IsCellOf t p c
-  cell_is p c here = each_of (IsCellOf t p) (cells p) c (all_told t small.symbol torus.oriented p).are.each here
+  cell_is p c here = each_of (IsCellOf t p) (cells p) c (all_told t torus.symbol torus.oriented p).are.each here
+
+  -- every branching value divides 1
+  all_are : AreAllCells t 1 cells
+  all_are = record {
+    are = λ p. (all_told t torus.symbol torus.oriented p).are;
+    multiple = λ p. all_from_members (λ (c : Cell). Divides c.v 1) (cells p) (λ c here.
+        let cell = cell_is p c here in
+        let one = (torus.smooth p).each c.least c.v cell.least.0 cell.branching in
+        record { quotient = 1; product = omega arith });
+  }
 
   -- no cell takes anything from the curvature
-  nothing_wanted : sum_by want (all_values cells) ≡ 0
+  nothing_wanted : sum_by (want 1) (all_values cells) ≡ 0
   nothing_wanted =
-      sum_by_none want (all_values cells) (λ v here.
+      sum_by_none (want 1) (all_values cells) (λ v here.
       let from = told_value t cells v here in
       let cell = cell_is from.pair from.cell from.listed in
-      ap want (sym from.value ∙ (torus.smooth from.pair).each from.cell.least from.cell.v cell.least.0 cell.branching))
+      ap (want 1) (sym from.value ∙ (torus.smooth from.pair).each from.cell.least from.cell.v cell.least.0 cell.branching))
 
   -- two turns round an edge, and no fewer, fix a chamber
   edge_period : (l : ℕ) → IsLeastOfCell t Edge l → IsPeriod t Edge l 2
   edge_period l least =
-      let told = (all_told t small.symbol torus.oriented Edge).are in
+      let told = (all_told t torus.symbol torus.oriented Edge).are in
       let from = Contains-from_map (λ (c : Cell). c.least) (cells Edge) l ((told.least_chambers.members l).1 least) in
       let is = subst (λ d. IsBranching t Edge d from.0.v) from.2 (cell_is Edge from.0 from.1).branching in
       let one = (torus.smooth Edge).each l from.0.v least.0 is in
@@ -53,7 +64,7 @@ module _ (t : Symbol) (small : IsSmallSymbol t) (torus : IsTorus t) where
       let turns : is.r ≡ 2 = let e = ap (λ v. v * is.r) one in omega arith in
       record {
         positive = omega arith;
-        fixed = (small.symbol.degrees Edge l least.0).turns;
+        fixed = (torus.symbol.degrees Edge l least.0).turns;
         least = λ k some fixed. let low = is.least_turns.least k l some (in_cell-refl t Edge l) fixed in omega arith;
       }
 
@@ -66,7 +77,7 @@ module _ (t : Symbol) (small : IsSmallSymbol t) (torus : IsTorus t) where
         let sums = sum_over_cells t Edge root (λ d. 1) edges roots of_edges in
         let each = sum_by_same (λ l. sum_by (λ d. 1) (members_at t root l)) 4 edges (λ l here.
         let least = (of_edges.members l).0 here in
-        let size = cycle_size t inv Edge l 2 (members_at t root l) least.0 (edge_period l least) (no_chain t small.symbol torus.oriented Edge l least.0) (members_at_are t inv Edge root roots l least) in
+        let size = cycle_size t inv Edge l 2 (members_at t root l) least.0 (edge_period l least) (no_chain t torus.symbol torus.oriented Edge l least.0) (members_at_are t inv Edge root roots l least) in
         let ones = sum_by_same (λ d. 1) 1 (members_at t root l) (λ d _. refl) in
         omega arith) in
         let all = sum_by_same (λ d. 1) 1 (chambers t) (λ d _. refl) in
@@ -77,7 +88,7 @@ module _ (t : Symbol) (small : IsSmallSymbol t) (torus : IsTorus t) where
     torus_balance =
         let e : IsEuler t (pos (length tiles + length vertices + length edges + t.size) -ℤ pos (orbits t Zero + orbits t One + orbits t Two)) =
         record { tiles = tiles; vertices = vertices; edges = edges; are_tiles = of_tiles; are_vertices = of_vertices; are_edges = of_edges; sum = refl } in
-        let balance = sum_balance t small torus.oriented torus.flat cells (λ p. (all_told t small.symbol torus.oriented p).are) (pos (length tiles + length vertices + length edges + t.size) -ℤ pos (orbits t Zero + orbits t One + orbits t Two)) e in
+        let balance = sum_balance t torus.symbol torus.oriented torus.flat 1 cells all_are (pos (length tiles + length vertices + length edges + t.size) -ℤ pos (orbits t Zero + orbits t One + orbits t Two)) e in
         let none = nothing_wanted in
         let zero_orbits = free_orbits t inv torus.oriented.free Zero in
         let one_orbits = free_orbits t inv torus.oriented.free One in

@@ -5,7 +5,6 @@ use Rattle.std.specs.List.{count_by}
 use Rattle.dd_model.specs.declared.pair.Pair.TheVariants.{Tile, Vertex, Edge}
 use Rattle.dd_model.specs.Symbol.{Symbol}
 use Rattle.dd_model.specs.Cell.{AreCells}
-use Rattle.dd_model.specs.Small.{IsSmallSymbol}
 use Rattle.dd_model.proofs.CellLists.{cells_exist}
 use Rattle.dd_cells.specs.Orientation.{color}
 use Rattle.dd_covers.specs.Torus.{IsTorus}
@@ -32,23 +31,23 @@ three_kinds (k ∷ kinds) =
     let here = one_kind k in
     omega arith
 
-module _ (t : Symbol) (small : IsSmallSymbol t) (torus : IsTorus t) (edges : List ℕ) (cells : AreCells t Edge edges) (kinds : List EdgeKind) (are : AreKindsOf t edges kinds) where
+module _ (t : Symbol) (torus : IsTorus t) (edges : List ℕ) (cells : AreCells t Edge edges) (kinds : List EdgeKind) (are : AreKindsOf t edges kinds) where
   pub trees : (vertices : List ℕ) → AreCells t Vertex vertices → count_by is_tree kinds + 1 ≡ length vertices
-  trees = tree_edges t small.symbol.table.involutions edges cells kinds are small.symbol torus.connected
+  trees = tree_edges t torus.symbol.table.involutions edges cells kinds are torus.symbol torus.connected
 
   pub crossings : (tiles : List ℕ) → AreCells t Tile tiles → count_by is_crossing kinds + 1 ≡ length tiles
   crossings tiles of_tiles =
-      crossing_edges t small.symbol.table.involutions edges cells kinds are (omega arith, small.symbol.table.chambers) tiles of_tiles
-      (all_tiles t small.symbol torus.connected edges cells kinds are (color torus.oriented.colors) torus.oriented.exchanged)
+      crossing_edges t torus.symbol.table.involutions edges cells kinds are (omega arith, torus.symbol.table.chambers) tiles of_tiles
+      (all_tiles t torus.symbol torus.connected edges cells kinds are (color torus.oriented.colors) torus.oriented.exchanged)
 
   pub two_left : count_by is_left kinds ≡ 2
   two_left =
-      let inv = small.symbol.table.involutions in
+      let inv = torus.symbol.table.involutions in
       let vertices = cells_exist t inv Vertex in
       let tiles = cells_exist t inv Tile in
       let a = trees vertices.0 vertices.1 in
       let b = crossings tiles.0 tiles.1 in
-      let balance = torus_balance t small torus tiles.0 vertices.0 edges tiles.1 vertices.1 cells in
+      let balance = torus_balance t torus tiles.0 vertices.0 edges tiles.1 vertices.1 cells in
       let all = three_kinds kinds in
       let many = are.many in
       omega arith

@@ -12,7 +12,7 @@ use Rattle.dd_words.specs.declared.commands.FileKind.{FileKind}
 use Rattle.dd_words.specs.declared.commands.FileKind.TheVariants as kind
 use Rattle.dd_check.specs.Calls.{Task as ChainTask, Catalogue as First, Resume as Next}
 use Rattle.dd_commands.specs.declared.commands.FileCommand.{FileCommand}
-use Rattle.dd_commands.specs.declared.commands.FileCommand.TheVariants.{Symbols, Info, Draw}
+use Rattle.dd_commands.specs.declared.commands.FileCommand.TheVariants.{Symbols, Info, Sheets, Draw}
 use Rattle.dd_commands.specs.declared.commands.SymbolCommand.{SymbolCommand}
 use Rattle.dd_commands.specs.declared.commands.SymbolCommand.TheVariants.{Lines, Canon, Minimal, Dual, Oriented, Torus, Derived, Applied}
 use Rattle.dd_pages.specs.declared.pace.Pace.{Pace}
@@ -24,6 +24,7 @@ use Rattle.dd_tasks.specs.Commands.{AskForTask}
 -- what a command on a file asks for, and its file
 command_of : FileKind → FileCommand
 command_of kind.Info = Info
+command_of kind.Sheets = Sheets
 command_of kind.Lines = Symbols Lines
 command_of kind.Canon = Symbols Canon
 command_of kind.Minimal = Symbols Minimal
@@ -41,6 +42,7 @@ asked_by other = None
 back_from_command : (k : FileCommand) (name : List ℕ) → asked_by (file_command k name) ≡ Some (k, name)
 unfolding asked_by command_of
 back_from_command Info name = refl
+back_from_command Sheets name = refl
 back_from_command (Symbols Lines) name = refl
 back_from_command (Symbols Canon) name = refl
 back_from_command (Symbols Minimal) name = refl
@@ -70,6 +72,7 @@ order_told (Next name) workers round pause = refl
 no_order : (k : FileCommand) (name : List ℕ) → order_of (file_command k name) ≡ None
 unfolding order_of
 no_order Info name = refl
+no_order Sheets name = refl
 no_order (Symbols Lines) name = refl
 no_order (Symbols Canon) name = refl
 no_order (Symbols Minimal) name = refl

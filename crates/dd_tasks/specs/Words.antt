@@ -7,7 +7,7 @@ use Rattle.dd_words.specs.declared.commands.Command.TheVariants as command
 use Rattle.dd_words.specs.declared.commands.FileKind.TheVariants as kind
 use Rattle.dd_check.specs.Calls.{Task, Catalogue, Resume}
 use Rattle.dd_commands.specs.declared.commands.FileCommand.{FileCommand}
-use Rattle.dd_commands.specs.declared.commands.FileCommand.TheVariants.{Symbols, Info, Draw}
+use Rattle.dd_commands.specs.declared.commands.FileCommand.TheVariants.{Symbols, Info, Sheets, Draw}
 use Rattle.dd_commands.specs.declared.commands.SymbolCommand.{SymbolCommand}
 use Rattle.dd_commands.specs.declared.commands.SymbolCommand.TheVariants.{Lines, Canon, Minimal, Dual, Oriented, Torus, Derived, Applied}
 
@@ -54,6 +54,7 @@ symbol_command (Applied word) name = command.Apply word name
 -- the commands on the file of a name
 abbrev pub file_command : FileCommand → List ℕ → Command
 file_command Info name = command.File kind.Info name
+file_command Sheets name = command.File kind.Sheets name
 file_command (Symbols made) name = symbol_command made name
 file_command (Draw frame) name = command.Draw name frame
 

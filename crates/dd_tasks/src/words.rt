@@ -76,6 +76,7 @@ fn command_of(kind: FileKind) -> FileCommand
 {
     match kind {
         FileKind::Info => FileCommand::Info,
+        FileKind::Sheets => FileCommand::Sheets,
         FileKind::Lines => FileCommand::Symbols(SymbolCommand::Lines),
         FileKind::Canon => FileCommand::Symbols(SymbolCommand::Canon),
         FileKind::Minimal => FileCommand::Symbols(SymbolCommand::Minimal),

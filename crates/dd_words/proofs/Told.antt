@@ -33,7 +33,7 @@ same_setting s t e = same_Some s t (sym (setting_told s) ∙ ap setting_of e ∙
 
 -- the verb of a word
 abbrev pub verb_told_by : List ℕ → Option Verb
-verb_told_by w = cond (bytes_eq w (codes "catalogue")) (Some verb.Catalogue) (cond (bytes_eq w (codes "resume")) (Some verb.Resume) (cond (bytes_eq w (codes "draw")) (Some verb.Draw) (cond (bytes_eq w (codes "exercise")) (Some verb.Exercise) (cond (bytes_eq w (codes "apply")) (Some verb.Apply) (cond (bytes_eq w (codes "canon")) (Some (verb.File kind.Canon)) (cond (bytes_eq w (codes "lines")) (Some (verb.File kind.Lines)) (cond (bytes_eq w (codes "info")) (Some (verb.File kind.Info)) (cond (bytes_eq w (codes "minimal")) (Some (verb.File kind.Minimal)) (cond (bytes_eq w (codes "dual")) (Some (verb.File kind.Dual)) (cond (bytes_eq w (codes "ambo")) (Some (verb.File (kind.Derived operation.Ambo))) (cond (bytes_eq w (codes "truncate")) (Some (verb.File (kind.Derived operation.Truncate))) (cond (bytes_eq w (codes "chamfer")) (Some (verb.File (kind.Derived operation.Chamfer))) (cond (bytes_eq w (codes "oriented")) (Some (verb.File kind.Oriented)) (cond (bytes_eq w (codes "torus")) (Some (verb.File kind.Torus)) None))))))))))))))
+verb_told_by w = cond (bytes_eq w (codes "catalogue")) (Some verb.Catalogue) (cond (bytes_eq w (codes "resume")) (Some verb.Resume) (cond (bytes_eq w (codes "draw")) (Some verb.Draw) (cond (bytes_eq w (codes "exercise")) (Some verb.Exercise) (cond (bytes_eq w (codes "apply")) (Some verb.Apply) (cond (bytes_eq w (codes "canon")) (Some (verb.File kind.Canon)) (cond (bytes_eq w (codes "lines")) (Some (verb.File kind.Lines)) (cond (bytes_eq w (codes "info")) (Some (verb.File kind.Info)) (cond (bytes_eq w (codes "minimal")) (Some (verb.File kind.Minimal)) (cond (bytes_eq w (codes "dual")) (Some (verb.File kind.Dual)) (cond (bytes_eq w (codes "ambo")) (Some (verb.File (kind.Derived operation.Ambo))) (cond (bytes_eq w (codes "truncate")) (Some (verb.File (kind.Derived operation.Truncate))) (cond (bytes_eq w (codes "chamfer")) (Some (verb.File (kind.Derived operation.Chamfer))) (cond (bytes_eq w (codes "oriented")) (Some (verb.File kind.Oriented)) (cond (bytes_eq w (codes "torus")) (Some (verb.File kind.Torus)) (cond (bytes_eq w (codes "sheets")) (Some (verb.File kind.Sheets)) None)))))))))))))))
 
 pub verb_told : (v : Verb) → verb_told_by (first_word v) ≡ Some v
 verb_told verb.Catalogue = refl
@@ -51,6 +51,7 @@ verb_told (verb.File (kind.Derived operation.Truncate)) = refl
 verb_told (verb.File (kind.Derived operation.Chamfer)) = refl
 verb_told (verb.File kind.Oriented) = refl
 verb_told (verb.File kind.Torus) = refl
+verb_told (verb.File kind.Sheets) = refl
 
 pub same_verb : (v w : Verb) → first_word v ≡ first_word w → v ≡ w
 same_verb v w e = same_Some v w (sym (verb_told v) ∙ ap verb_told_by e ∙ verb_told w)

@@ -26,6 +26,7 @@ word_of_kind kind.Dual = codes "dual"
 word_of_kind (kind.Derived operation) = word_of_operation operation
 word_of_kind kind.Oriented = codes "oriented"
 word_of_kind kind.Torus = codes "torus"
+word_of_kind kind.Sheets = codes "sheets"
 
 -- the first word
 abbrev pub first_word : Verb → Text

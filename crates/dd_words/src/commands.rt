@@ -22,6 +22,8 @@ pub enum FileKind {
     Oriented,
     /// Covers by a torus.
     Torus,
+    /// Numbers of sheets of covers by a torus.
+    Sheets,
 }
 
 /// What the words ask for.

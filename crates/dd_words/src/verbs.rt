@@ -43,6 +43,7 @@ impl Verb {
             "chamfer" => Some(Verb::File(FileKind::Derived(Operation::Chamfer))),
             "oriented" => Some(Verb::File(FileKind::Oriented)),
             "torus" => Some(Verb::File(FileKind::Torus)),
+            "sheets" => Some(Verb::File(FileKind::Sheets)),
             _ => None,
         }
     }

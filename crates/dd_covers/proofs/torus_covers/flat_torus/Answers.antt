@@ -1,29 +1,25 @@
-use Rattle.std.proofs.Common.{◌≤◌, arith}
 use Rattle.dd_covers.proofs.TorusCovers.{middle_of, torus_above, morphism_above, within_lower}
 use Rattle.dd_covers.proofs.torus_covers.flat_torus.Goals as goal
 
 pub torus_over-requires-clause-flat : goal.torus_over-requires-clause-flat
 torus_over-requires-clause-flat c =
-    let few : c.args.s.now.size ≤ 8192 = let f = c.requires.few in omega arith in
-    (middle_of c.args.s.now c.in_ok-middle.middle.symbol c.in_ok-middle.middle.below c.symbol-symbol.ensures.symbol few c.symbol-symbol.ensures.connected c.requires.flat c.in_ok-middle.ensures.cover).flat
+    (middle_of c.args.s.now c.in_ok-middle.middle.symbol c.in_ok-middle.middle.below c.symbol-symbol.ensures.symbol.symbol c.symbol-symbol.ensures.connected c.in_ok-middle.ensures.cover).flat c.requires.flat
 
 pub composed-requires : goal.composed-requires
 composed-requires c =
-    let few : c.args.s.now.size ≤ 8192 = let f = c.requires.few in omega arith in
     let s = c.args.s.now in
     let middle = c.in_ok-middle.middle in
     let upper = c.in_ok-upper.upper in
     record {
       within = within_lower s middle.symbol upper.symbol c.greatest_value-k.result middle.below upper.below
-          (middle_of s middle.symbol middle.below c.symbol-symbol.ensures.symbol few c.symbol-symbol.ensures.connected c.requires.flat c.in_ok-middle.ensures.cover) c.in_ok-upper.ensures;
+          (middle_of s middle.symbol middle.below c.symbol-symbol.ensures.symbol.symbol c.symbol-symbol.ensures.connected c.in_ok-middle.ensures.cover) c.in_ok-upper.ensures;
     }
 
 pub returns-clause-torus : goal.returns-clause-torus
 returns-clause-torus c =
-    let few : c.args.s.now.size ≤ 8192 = let f = c.requires.few in omega arith in
     let middle = c.in_ok-middle.middle in
     let upper = c.in_ok-upper.upper in
-    torus_above c.args.s.now upper.symbol c.in_ok-below.below c.symbol-symbol.ensures.symbol few c.symbol-symbol.ensures.connected c.requires.flat (record {
+    torus_above c.args.s.now upper.symbol c.in_ok-below.below c.symbol-symbol.ensures.symbol.symbol c.symbol-symbol.ensures.connected c.requires.flat (record {
       middle = middle.symbol;
       lower = middle.below;
       oriented = c.in_ok-middle.ensures.cover;
@@ -35,10 +31,9 @@ returns-clause-torus c =
 
 pub returns-clause-morphism : goal.returns-clause-morphism
 returns-clause-morphism c =
-    let few : c.args.s.now.size ≤ 8192 = let f = c.requires.few in omega arith in
     let middle = c.in_ok-middle.middle in
     let upper = c.in_ok-upper.upper in
-    morphism_above c.args.s.now upper.symbol c.in_ok-below.below c.symbol-symbol.ensures.symbol few c.symbol-symbol.ensures.connected c.requires.flat (record {
+    morphism_above c.args.s.now upper.symbol c.in_ok-below.below c.symbol-symbol.ensures.symbol.symbol c.symbol-symbol.ensures.connected c.requires.flat (record {
       middle = middle.symbol;
       lower = middle.below;
       oriented = c.in_ok-middle.ensures.cover;

@@ -16,25 +16,25 @@ left_edges-requires-clause-ascending c = ascending c.args.edges.now c.args.t.now
 
 pub index-requires : goal.index-requires
 index-requires c =
-    let two = left_two c.args.t.now c.symbol-symbol.ensures.symbol c.requires.torus c.args.edges.now c.requires.edges c.args.kinds.now c.requires.kinds c.in_ok-left.left.items c.in_ok-left.ensures in
+    let two = left_two c.args.t.now c.requires.torus c.args.edges.now c.requires.edges c.args.kinds.now c.requires.kinds c.in_ok-left.left.items c.in_ok-left.ensures in
     omega (arith, c.in_ok-left.left.ok)
 
 pub closed_path-requires-clause-left : goal.closed_path-requires-clause-left
 closed_path-requires-clause-left c =
-    let two = left_two c.args.t.now c.symbol-symbol.ensures.symbol c.requires.torus c.args.edges.now c.requires.edges c.args.kinds.now c.requires.kinds c.in_ok-left.left.items c.in_ok-left.ensures in
+    let two = left_two c.args.t.now c.requires.torus c.args.edges.now c.requires.edges c.args.kinds.now c.requires.kinds c.in_ok-left.left.items c.in_ok-left.ensures in
     subst (IsLeftEdge c.args.t.now) (sym (get_or_read c.in_ok-left.left.items 0 c.index.result.now (omega arith) c.index.ensures 0))
-    (left_at c.args.t.now c.symbol-symbol.ensures.symbol c.requires.torus c.args.edges.now c.requires.edges c.args.kinds.now c.requires.kinds c.in_ok-left.left.items c.in_ok-left.ensures 0 (omega arith))
+    (left_at c.args.t.now c.requires.torus c.args.edges.now c.requires.edges c.args.kinds.now c.requires.kinds c.in_ok-left.left.items c.in_ok-left.ensures 0 (omega arith))
 
 pub index-requires-2 : goal.index-requires-2
 index-requires-2 c =
-    let two = left_two c.args.t.now c.symbol-symbol.ensures.symbol c.requires.torus c.args.edges.now c.requires.edges c.args.kinds.now c.requires.kinds c.in_ok-left.left.items c.in_ok-left.ensures in
+    let two = left_two c.args.t.now c.requires.torus c.args.edges.now c.requires.edges c.args.kinds.now c.requires.kinds c.in_ok-left.left.items c.in_ok-left.ensures in
     omega (arith, c.in_ok-left.left.ok)
 
 pub closed_path-requires-2-clause-left : goal.closed_path-requires-2-clause-left
 closed_path-requires-2-clause-left c =
-    let two = left_two c.args.t.now c.symbol-symbol.ensures.symbol c.requires.torus c.args.edges.now c.requires.edges c.args.kinds.now c.requires.kinds c.in_ok-left.left.items c.in_ok-left.ensures in
+    let two = left_two c.args.t.now c.requires.torus c.args.edges.now c.requires.edges c.args.kinds.now c.requires.kinds c.in_ok-left.left.items c.in_ok-left.ensures in
     subst (IsLeftEdge c.args.t.now) (sym (get_or_read c.in_ok-left.left.items 1 c.index-2.result.now (omega arith) c.index-2.ensures 0))
-    (left_at c.args.t.now c.symbol-symbol.ensures.symbol c.requires.torus c.args.edges.now c.requires.edges c.args.kinds.now c.requires.kinds c.in_ok-left.left.items c.in_ok-left.ensures 1 (omega arith))
+    (left_at c.args.t.now c.requires.torus c.args.edges.now c.requires.edges c.args.kinds.now c.requires.kinds c.in_ok-left.left.items c.in_ok-left.ensures 1 (omega arith))
 
 pub overflow_cast-result : goal.overflow_cast-result
 overflow_cast-result c = let few = few_vertices c.args.t.now c.symbol-symbol.ensures.symbol c.args.vertices.now c.requires.vertices in omega arith
@@ -43,7 +43,7 @@ pub returns : goal.returns
 returns c =
     let t = c.args.t.now in
     let left = c.in_ok-left.left.items in
-    let two = left_two t c.symbol-symbol.ensures.symbol c.requires.torus c.args.edges.now c.requires.edges c.args.kinds.now c.requires.kinds left c.in_ok-left.ensures in
+    let two = left_two t c.requires.torus c.args.edges.now c.requires.edges c.args.kinds.now c.requires.kinds left c.in_ok-left.ensures in
     let x = shift_by t c.in_ok-first.first.exits.items in
     let y = shift_by t c.in_ok-second.second.exits.items in
     let least = map (λ (v : Cell). v.least) c.args.vertices.now in
@@ -53,7 +53,7 @@ returns c =
       many_vertices = sym (length_map (λ (v : Cell). v.least) c.args.vertices.now);
       one = get_or left 0 0;
       two = get_or left 1 0;
-      are_left = are_left t c.symbol-symbol.ensures.symbol c.requires.torus c.args.edges.now c.requires.edges c.args.kinds.now c.requires.kinds left c.in_ok-left.ensures;
+      are_left = are_left t c.requires.torus c.args.edges.now c.requires.edges c.args.kinds.now c.requires.kinds left c.in_ok-left.ensures;
       first = x;
       are_first = subst (λ d. AreShifts t d x) (get_or_read left 0 c.index.result.now (omega arith) c.index.ensures 0) c.in_ok-first.ensures.shifts;
       second = y;

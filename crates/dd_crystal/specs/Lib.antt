@@ -1,0 +1,3 @@
+pub mod SheetCounts
+pub mod AnyBranching
+pub mod Faults
