@@ -1,6 +1,7 @@
 -- What a hand has stolen after one theft more.
 use Rattle.std.proofs.Common.{◌≡◌, ℕ, zero, suc, ◌+◌, ◌<◌, Option, Some, None, MatchOption, List, [], ◌∷◌, length, map, sum_by, slice_get, slice_set, slice_index_or, sym, ◌∙◌, ap, arith}
 use Rattle.dd_model.proofs.Lists.{map_set_same}
+use Rattle.dd_model.proofs.Options.{some_same}
 use Rattle.dd_front.specs.declared.naming.Naming.{Ghosts}
 use Rattle.dd_deques.specs.declared.way.Way.{Way}
 use Rattle.dd_deques.specs.Ends.{way_taken, way_number}
@@ -8,12 +9,9 @@ use Rattle.dd_deques.specs.Hands.{way_theft}
 use Rattle.dd_deques.specs.Places.{StealsFrom}
 use Rattle.dd_deques.proofs.Changed.{got_within, map_get, sum_set}
 
-some_is : {A : Type 0} (x y : A) → Some x ≡ Some y → x ≡ y
-some_is x y e = cc
-
 -- what is seen of the item at a place
 pub seen_at : {A B : Type 0} (f : A → B) (xs : List A) (i : ℕ) (x : A) (b : B) → slice_get (map f xs) i ≡ Some b → x ≡ slice_index_or xs i x → f x ≡ b
-seen_at f xs i x b got at = some_is (f x) b (sym (map_get f xs i x (got_within f xs i b got) at) ∙ got)
+seen_at f xs i x b got at = some_same (f x) b (sym (map_get f xs i x (got_within f xs i b got) at) ∙ got)
 
 module _ {N : Type 0} {names : Ghosts N} where
   -- the way at a place took one ticket more
