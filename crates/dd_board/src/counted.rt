@@ -1,5 +1,6 @@
-ghost use Rattle.std.specs.Prelude.{◌≡◌, OnErr, IfErr};
+ghost use Rattle.std.specs.Prelude.{◌≡◌, OnOk, OnErr, IfOk, IfErr};
 ghost use Rattle.dd_model.specs.Jobs.{AreMembersUnder, AreChildren};
+ghost use Rattle.dd_board.specs.Calls.{Takes, BooksSplit, BooksFinish, BooksBack};
 ghost use Rattle.dd_board.specs.Shares.{HaveAmounts};
 ghost use Rattle.dd_board.specs.Ledgers.{CountsTaken, CountsSplit, CountsFinish, CountsBack};
 ghost use Rattle.dd_board.specs.Ledgers.{takes_in, looks_in, splits_in, finishes_in, backs_in};
@@ -36,8 +37,9 @@ impl<N: Naming, K: Ledger, L: Ledger, S: Ledger, D: Ledger, B: Ledger> Model
 }
 
 impl<N: Naming, K: Ledger, L: Ledger, S: Ledger, D: Ledger, B: Ledger> Counted<N, K, L, S, D, B> {
-    /// Gives out the first job that is open, or books that there is none.
+    /// Gives out the first job that is open, or books that there is none, each under the number of the seat's worker.
     pub fn take(&mut self, seat: &mut Seat<K, L, S, D, B>) -> Result<Taken<N>, Memory>
+        ensures takes { IfOk result (Takes seat.old.worker self.old self.new) }
         ensures counts { CountsTaken seat.old seat.new result }
         ensures same { OnErr result (self.new ≡ self.old) }
     {
@@ -57,6 +59,8 @@ impl<N: Naming, K: Ledger, L: Ledger, S: Ledger, D: Ledger, B: Ledger> Counted<N
         jobs: Vec<Job>,
     ) -> Result<(), Ticket<N>>
         requires { AreChildren N.request ticket.job jobs.items }
+        ensures books { OnOk result (BooksSplit seat.old.worker
+            ticket.entry ticket.job jobs.items self.old self.new) }
         ensures counts { CountsSplit seat.old seat.new result }
         ensures same { OnErr result (self.new ≡ self.old) }
         ensures ticket { IfErr result (λ back. back ≡ ticket) }
@@ -74,6 +78,8 @@ impl<N: Naming, K: Ledger, L: Ledger, S: Ledger, D: Ledger, B: Ledger> Counted<N
         list: SymbolList,
     ) -> Result<(), Ticket<N>>
         requires { AreMembersUnder N.request ticket.job list }
+        ensures books { OnOk result (BooksFinish seat.old.worker
+            ticket.entry ticket.job list self.old self.new) }
         ensures counts { CountsFinish seat.old seat.new result }
         ensures same { OnErr result (self.new ≡ self.old) }
         ensures ticket { IfErr result (λ back. back ≡ ticket) }
@@ -89,6 +95,7 @@ impl<N: Naming, K: Ledger, L: Ledger, S: Ledger, D: Ledger, B: Ledger> Counted<N
         seat: &mut Seat<K, L, S, D, B>,
         ticket: Ticket<N>,
     ) -> Result<(), Ticket<N>>
+        ensures books { OnOk result (BooksBack seat.old.worker ticket.entry self.old self.new) }
         ensures counts { CountsBack seat.old seat.new result }
         ensures same { OnErr result (self.new ≡ self.old) }
         ensures ticket { IfErr result (λ back. back ≡ ticket) }

@@ -7,9 +7,10 @@ use Rattle.std.proofs.lemmas.Bool.{cases_eq}
 use Rattle.std.specs.Prelude.{if◌then◌else◌, MatchBool}
 use Rattle.dd_model.specs.Position.{IsWhollyBefore, IsWithin}
 use Rattle.dd_model.specs.Text.{AreLines, beginning, first_job}
+use Rattle.dd_model.specs.declared.requests.Request.{Request}
 use Rattle.dd_model.specs.declared.jobs.Job.{Job}
 use Rattle.dd_model.specs.declared.jobs.Position.{Position}
-use Rattle.dd_model.specs.declared.jobs.Position.TheVariants.{End}
+use Rattle.dd_model.specs.declared.jobs.Position.TheVariants.{At, End}
 use Rattle.dd_model.proofs.Ascending.{same_when_whole}
 use Rattle.dd_model.proofs.Lists.{Contains-head, Contains-none}
 use Rattle.dd_model.proofs.Without.{without_there, without_kept}
@@ -31,7 +32,8 @@ use Rattle.dd_catalogue.specs.Ways.{Way, IsUnderWay, IsFull, IsPartOut}
 use Rattle.dd_pages.specs.Runs.{IsLimit, IsPause, IsBeforePause, Finishes}
 use Rattle.dd_pages.specs.declared.finish.Finish.TheVariants.{Whole, Paused, CutShort}
 use Rattle.dd_pages.specs.declared.limit.Limit.{Limit}
-use Rattle.dd_pages.specs.Saves.{HoldsCheckAt, Saves, SavesFirst, IsOfRound, KeepsName, PutsCheck, PutsAtPause, LeavesName, FinishesName, HasRun}
+use Rattle.dd_pages.specs.Saves.{HoldsCheckAt, Saves, SavesFirst, IsOfRound}
+use Rattle.dd_pages.specs.Names.{KeepsName, PutsCheck, PutsAtEnd, PutsAtPause, PutsBetween, IsRoundStop, LeavesName, FinishesName, HasRun}
 use Rattle.dd_pages.specs.declared.fault.RunFault.{RunFault}
 use Rattle.dd_pages.specs.declared.finish.Finish.{Finish}
 use Rattle.dd_pages.specs.declared.pages.Page.{Page}
@@ -40,12 +42,15 @@ use Rattle.dd_catalogue.proofs.JobsFrom.{from_opening, jobs_left, stands_at_job}
 use Rattle.dd_catalogue.proofs.WaySteps.{appends_nothing, none_done, way_first, way_round, way_part, full_part}
 use Rattle.dd_catalogue.proofs.RoundEntries.{waiting_all, fewer_wait}
 
--- The name holds a checkpoint of the run that tells all that was written so far.
+-- The name holds a checkpoint of the run that tells all that was written so far. It was put between two rounds, of a run that is
+-- the first of its chain or has work.
 pub record IsKeptPut (s : Start) (held : Option (List ℕ)) (base : List ℕ) (p : Position) : Type 0 where
   pub check : Checkpoint
   pub at_is : check.at ≡ p
   pub put : IsPut held base s check
   pub all : check.bytes ≡ length base
+  pub stop : IsRoundStop s.request check.at
+  pub due : (s.number ≡ 1) ⊎ HasWork s
 
 -- It does, or the run has not moved.
 abbrev pub IsKept : Start → Option (List ℕ) → Option (List ℕ) → List ℕ → Position → Type 0
@@ -62,9 +67,23 @@ pub record IsHead (s : Start) (tells : Bool) (old before held now : Option (List
   pub appended : Appends old now base
   pub way : IsUnderWay (head_way s jobs base now since) now page f
   pub empty : IsEmpty page
+  pub settled : page.bytes ≡ length base
+  pub ended : f.entries ≡ [] → (since ≡ s.at) ⊎ (since ≡ End)
   pub left : AreJobsFrom s.request since (jobs_of f.entries)
   pub kept : tells ≡ true → IsKept s before held base since
   pub put : tells ≡ true → s.number ≡ 1 → IsKeptPut s held base since
+
+-- a run with a job has work
+has_work : (s : Start) (jobs : List Job) → AreJobsFrom s.request s.at jobs → 0 < length jobs → HasWork s
+has_work s [] from some = absurd (omega (arith, some))
+has_work s (job ∷ jobs) from some =
+    let there : Contains (job ∷ jobs) job = Contains-head job jobs in
+    record { job = job; opening = from_opening s.request s.at (job ∷ jobs) job from there; left = (without_there (IsWhollyBefore s.at) from.opening (job ∷ jobs) job from.left there).1 }
+
+-- between two rounds a run may stop
+may_stop : (q : Request) (p : Position) → IsRoundStop q p → IsStop q p
+may_stop q End stop = tt
+may_stop q (At job) stop = inl stop
 
 -- ## Checkpoints that were put
 
@@ -126,10 +145,11 @@ puts_more s most held base z output p is rounds put =
 
 -- Where a run ends in a round, the name holds what it held when the round began.
 left_name : (s : Start) (most : ℕ) (pause : Option ℕ) (before held : Option (List ℕ)) (base z output : List ℕ) (p : Position) (result : Result Finish RunFault) → output ≡ base ++ z → IsOfRound s most p output
-    → IsKept s before held base p → (s.number ≡ 1 → IsKeptPut s held base p) → IfOk result (FinishesName s most pause held output) → LeavesName s most pause before held result output
+    → IsKept s before held base p → (s.number ≡ 1 → IsKeptPut s held base p) → IfOk result (FinishesName s pause before held output) → LeavesName s most pause before held result output
 left_name s most pause before held base z output p result is rounds kept first finishes = record {
   held = ⊎_elim (λ same. inl (record { same = same.0; of_round = subst (λ x. IsOfRound s most x output) same.1 rounds })) (λ put. inr (puts put)) kept;
   first = λ one worked. puts (first one);
+  idle = λ later none. ⊎_elim (λ same. same.0) (λ put. absurd (⊎_elim later none put.due)) kept;
   finish = finishes;
 }
   where
@@ -180,6 +200,8 @@ head_begun s tells old before held page f begun empty count bytes later same =
       appended = appends_nothing old;
       way = way;
       empty = empty;
+      settled = bytes;
+      ended = λ none. inl refl;
       left = subst (AreJobsFrom s.request s.at) way.emitted.jobs_are begun.from;
       kept = λ told. inl (same told, refl);
       put = λ told one. absurd (later one);
@@ -190,12 +212,12 @@ module _ (s : Start) (first : s ≡ first_start s.request) (f : Machine) (begun 
   at_beginning : s.at ≡ beginning
   at_beginning = ap (λ (t : Start). t.at) first
 
-  begun_stop : (p : Position) (es : List Entry) → jobs_of es ≡ begun.jobs → StandsAt s.at es p → IsStop s.request p
-  begun_stop p [] listed stands = subst (IsStop s.request) (sym stands) tt
+  begun_stop : (p : Position) (es : List Entry) → jobs_of es ≡ begun.jobs → StandsAt s.at es p → IsRoundStop s.request p
+  begun_stop p [] listed stands = subst (IsRoundStop s.request) (sym stands) tt
   begun_stop p (e ∷ es) listed stands =
       ⊎_elim
-      (λ begun_it. subst (IsStop s.request) (sym (begun_it.1 ∙ at_beginning)) (inl (within_first (subst (λ at. IsWhollyBefore at e.job ⊎ IsWithin e.job at) at_beginning begun_it.0))))
-      (λ other. subst (IsStop s.request) (sym other.1) (inl opening))
+      (λ begun_it. subst (IsRoundStop s.request) (sym (begun_it.1 ∙ at_beginning)) (within_first (subst (λ at. IsWhollyBefore at e.job ⊎ IsWithin e.job at) at_beginning begun_it.0)))
+      (λ other. subst (IsRoundStop s.request) (sym other.1) opening)
       stands
     where
       there : Contains begun.jobs e.job
@@ -224,11 +246,14 @@ module _ (s : Start) (first : s ≡ first_start s.request) (f : Machine) (begun 
       let way = way_first s known page f s.at begun empty count bytes in
       let stands = check.is_check.stands in
       let lines = lines_between (head_way s begun.jobs [] known s.at) known page f [] p begun.from way.emitted.held way.lines empty stands in
+      let stop = begun_stop p f.entries (sym way.emitted.jobs_are) (subst (λ from. StandsAt from f.entries p) way.emitted.stays stands) in
       record {
         check = check.is_check.check;
         at_is = refl;
-        put = check_put s page f held [] check bytes lines (begun_stop p f.entries (sym way.emitted.jobs_are) (subst (λ from. StandsAt from f.entries p) way.emitted.stays stands));
+        put = check_put s page f held [] check bytes lines (may_stop s.request p stop);
         all = check.is_check.bytes ∙ bytes;
+        stop = stop;
+        due = inl (ap (λ (t : Start). t.number) first);
       }
 
   -- a chain that has put its first checkpoint
@@ -243,6 +268,8 @@ module _ (s : Start) (first : s ≡ first_start s.request) (f : Machine) (begun 
         appended = appends_nothing old;
         way = way;
         empty = empty;
+        settled = bytes;
+        ended = λ none. inr (subst (λ es. StandsAt f.from es p) none stands);
         left = jobs_left s.request s.at p begun.jobs [] f.entries begun.from way.emitted.jobs_are (subst (λ from. StandsAt from f.entries p) way.emitted.stays stands);
         kept = λ told. inr (put told);
         put = λ told one. put told;
@@ -256,12 +283,12 @@ gone_some jobs (d ∷ ds) js parts fewer = (d, ds, refl)
 
 module _ (w : Way) (old now : Option (List ℕ)) (page : Page) (g : Machine) (way : IsUnderWay w now page g) (empty : IsEmpty page) (fewer : length (jobs_of g.entries) < length w.jobs) (appended : Appends old w.known w.base) where
   -- where the run stands, it may stop
-  next_stop : (p : Position) → StandsAt g.from g.entries p → IsStop w.start.request p
+  next_stop : (p : Position) → StandsAt g.from g.entries p → IsRoundStop w.start.request p
   next_stop p stands =
       let some = gone_some w.jobs way.emitted.gone (jobs_of g.entries) way.emitted.jobs_are fewer in
       ⊎_elim
-      (λ end. subst (IsStop w.start.request) (sym end) tt)
-      (λ job. subst (IsStop w.start.request) (sym job.2) (inl job.1))
+      (λ end. subst (IsRoundStop w.start.request) (sym end) tt)
+      (λ job. subst (IsRoundStop w.start.request) (sym job.2) job.1)
       (stands_at_job w.start.request w.start.at p w.jobs some.1 some.0 g.entries way.emitted.from (way.emitted.jobs_are ∙ ap (λ gone. gone ++ jobs_of g.entries) some.2) (subst (λ from. StandsAt from g.entries p) way.emitted.stays stands))
 
   pub next_put : (held : Option (List ℕ)) (check : HoldsCheckAt w.start page g held) → IsKeptPut w.start held (w.base ++ way.lines.written) check.is_check.check.at
@@ -271,8 +298,11 @@ module _ (w : Way) (old now : Option (List ℕ)) (page : Page) (g : Machine) (wa
       record {
         check = check.is_check.check;
         at_is = refl;
-        put = check_put w.start page g held (w.base ++ way.lines.written) check way.lines.bytes (lines_between w now page g way.members p way.emitted.from way.emitted.held way.lines empty stands) (next_stop p stands);
+        put = check_put w.start page g held (w.base ++ way.lines.written) check way.lines.bytes (lines_between w now page g way.members p way.emitted.from way.emitted.held way.lines empty stands)
+            (may_stop w.start.request p (next_stop p stands));
         all = check.is_check.bytes ∙ way.lines.bytes;
+        stop = next_stop p stands;
+        due = inr (has_work w.start w.jobs way.emitted.from (omega (arith, fewer)));
       }
 
   pub head_next : (tells : Bool) (before held : Option (List ℕ)) (p : Position) → StandsAt g.from g.entries p → (tells ≡ true → IsKeptPut w.start held (w.base ++ way.lines.written) p) → AreOpen g.entries
@@ -284,6 +314,8 @@ module _ (w : Way) (old now : Option (List ℕ)) (page : Page) (g : Machine) (wa
     appended = Appends_trans old w.known now w.base way.lines.written (w.base ++ way.lines.written) appended way.lines.appended refl;
     way = rebased w now page g p way empty opens stands;
     empty = empty;
+    settled = way.lines.bytes;
+    ended = λ none. inr (subst (λ es. StandsAt g.from es p) none stands);
     left = jobs_left w.start.request w.start.at p w.jobs way.emitted.gone g.entries way.emitted.from way.emitted.jobs_are (subst (λ from. StandsAt from g.entries p) way.emitted.stays stands);
     kept = λ told. inr (put told);
     put = λ told one. put told;
@@ -306,7 +338,7 @@ pub nothing_done : (s : Start) (most : ℕ) (pause : Option ℕ) (old before : O
 nothing_done s most pause old before tells fault = record {
   output = [];
   is_output = record { appended = appends_nothing old; front = λ text is. tt; finishes = tt };
-  left = λ told. record { held = inl (record { same = refl; of_round = none_shown s most s.at }); first = λ one worked. absurd (not_worked [] fault (Err fault) refl refl worked); finish = tt };
+  left = λ told. record { held = inl (record { same = refl; of_round = none_shown s most s.at }); first = λ one worked. absurd (not_worked [] fault (Err fault) refl refl worked); idle = λ later none. refl; finish = tt };
 }
 
 module _ (s : Start) (f : Machine) (begun : IsBegun s f) (page : Page) (empty : IsEmpty page) (count : page.count ≡ s.lines) (bytes : page.bytes ≡ 0) (first : s.number ≡ 1 → s ≡ first_start s.request) where
@@ -316,7 +348,12 @@ module _ (s : Start) (f : Machine) (begun : IsBegun s f) (page : Page) (empty : 
   first_failed most pause old before after tells fault saves = record {
     output = [];
     is_output = record { appended = appends_nothing old; front = λ text is. tt; finishes = tt };
-    left = λ told. record { held = held (saves told); first = λ one worked. absurd (not_worked [] fault (Err fault) refl refl worked); finish = tt };
+    left = λ told. record {
+      held = held (saves told);
+      first = λ one worked. absurd (not_worked [] fault (Err fault) refl refl worked);
+      idle = λ later none. ⊎_elim (λ one. absurd (later one.0)) (λ other. other.1) (saves told);
+      finish = tt;
+    };
   }
     where
       keeps : after ≡ before → KeepsName s most before after []
@@ -385,12 +422,20 @@ module _ (s : Start) (tells : Bool) (old before held now : Option (List ℕ)) (p
         left = λ told. left_name s most pause before held head.base head.way.lines.written output head.since (Ok Whole) refl (head_round most) (head.kept told) (head.put told) (works (head.kept told));
       }
     where
-      works : IsKept s before held head.base head.since → HasWork s → PutsCheck s most held (head.base ++ head.way.lines.written)
+      works : IsKept s before held head.base head.since → HasWork s → PutsAtEnd s held (head.base ++ head.way.lines.written)
       works =
           ⊎_elim
           (λ same work. absurd (no_work same.1 work))
-          (λ put work. puts_more s most held head.base head.way.lines.written (head.base ++ head.way.lines.written) head.since refl (head_round most) put)
+          (λ put work. ⊎_elim (λ at. absurd (no_work at work)) (λ end. ends put end) (head.ended none))
         where
+          ends : IsKeptPut s held head.base head.since → head.since ≡ End → PutsAtEnd s held (head.base ++ head.way.lines.written)
+          ends put end = record {
+            check = put.check;
+            put = more_put s held head.base head.way.lines.written (head.base ++ head.way.lines.written) put.check refl put.all put.put;
+            all = put.all ∙ sym head.settled ∙ head.way.lines.bytes;
+            at_end = put.at_is ∙ end;
+          }
+
           left_none : AreJobsFrom s.request head.since []
           left_none = subst (λ es. AreJobsFrom s.request head.since (jobs_of es)) none head.left
 
@@ -411,6 +456,14 @@ module _ (s : Start) (tells : Bool) (old before held mid : Option (List ℕ)) (p
     round_under =
         way_round (head_way s head.jobs head.base mid head.since) most mid page f g head.since round opens head.way
         (λ m there. ⊎_elim (λ before. before) (λ under. absurd (Contains-none under.job under.listed)) (head.way.emitted.recent m there))
+
+    -- a round has a job
+    round_work : HasWork s
+    round_work =
+        let less = fewer_wait most f g round opens in
+        let size = ap length (waiting_all f.entries opens) in
+        let all = ap length head.way.emitted.jobs_are ∙ length-append head.way.emitted.gone (jobs_of f.entries) in
+        has_work s head.jobs head.way.emitted.from (omega (arith, less, size, all))
 
     round_went : (now : Option (List ℕ)) (part : IsPartOut round_way now) → WentOut round_way old now (head.base ++ part.out.written)
     round_went now part = went_out round_way old now part head.appended
@@ -460,7 +513,7 @@ module _ (s : Start) (tells : Bool) (old before held mid : Option (List ℕ)) (p
                 (left_name s most pause before held head.base way.lines.written output head.since (Err fault) refl (round_of now part) (head.kept told) (head.put told) tt))
                 (λ check.
                 let puts = put_all after check in
-                record { held = inr puts; first = λ one worked. puts; finish = tt })
+                record { held = inr puts; first = λ one worked. puts; idle = λ later none. absurd (none round_work); finish = tt })
                 (saves told);
           }
         where
@@ -511,11 +564,17 @@ module _ (s : Start) (tells : Bool) (old before held mid : Option (List ℕ)) (p
           finishes (Ok end) same = subst (Finishes s pause full_output) (sym same) (finish_full s pause limit full_output is (full_lines round_way now new limit.last h full empty))
           finishes (Err fault) same = tt
 
-          same_name : (r : Result Finish RunFault) → IfOk r (FinishesName s most pause held full_output) → after ≡ held → IsKept s before held head.base head.since → (s.number ≡ 1 → IsKeptPut s held head.base head.since)
+          same_name : (r : Result Finish RunFault) → IfOk r (FinishesName s pause before held full_output) → after ≡ held → IsKept s before held head.base head.since → (s.number ≡ 1 → IsKeptPut s held head.base head.since)
               → LeavesName s most pause before after r full_output
           same_name r does same kept put =
               subst (λ x. LeavesName s most pause before x r full_output) (sym same)
               (left_name s most pause before held head.base full.lines.written full_output head.since r refl (round_of now full_part_out) kept put does)
+
+          between : IsKept s before held head.base head.since → (held ≡ before) ⊎ PutsBetween s held full_output
+          between =
+              ⊎_elim
+              (λ same. inl same.0)
+              (λ put. inr (record { check = put.check; put = more_put s held head.base full.lines.written full_output put.check refl put.all put.put; stop = put.stop }))
 
           paused : IsPause s.lines pause limit.last → (check : HoldsCheckAt s new h after) → PutsAtPause s pause after full_output
           paused p check = record {
@@ -530,11 +589,11 @@ module _ (s : Start) (tells : Bool) (old before held mid : Option (List ℕ)) (p
               → MatchBool b (Saves s new h held after r) (after ≡ held) → IsKept s before held head.base head.since → (s.number ≡ 1 → IsKeptPut s held head.base head.since) → LeavesName s most pause before after r full_output
           leaves true p (Ok end) same check kept put =
               let puts = (put_full after check).1 in
-              record { held = inr puts; first = λ one worked. puts; finish = subst (FinishesName s most pause after full_output) (sym same) (paused p check) }
+              record { held = inr puts; first = λ one worked. puts; idle = λ later none. absurd (none round_work); finish = subst (FinishesName s pause before after full_output) (sym same) (paused p check) }
           leaves true p (Err fault) same saves kept put =
               ⊎_elim
               (λ is. same_name (Err fault) tt is kept put)
-              (λ check. let puts = (put_full after check).1 in record { held = inr puts; first = λ one worked. puts; finish = tt })
+              (λ check. let puts = (put_full after check).1 in record { held = inr puts; first = λ one worked. puts; idle = λ later none. absurd (none round_work); finish = tt })
               saves
-          leaves false p (Ok end) same is kept put = same_name (Ok end) (subst (FinishesName s most pause held full_output) (sym same) tt) is kept put
+          leaves false p (Ok end) same is kept put = same_name (Ok end) (subst (FinishesName s pause before held full_output) (sym same) (between kept)) is kept put
           leaves false p (Err fault) same is kept put = same_name (Err fault) tt is kept put

@@ -11,7 +11,8 @@ ghost use Rattle.dd_pages.specs.Pages.{IsEmpty};
 ghost use Rattle.dd_pages.specs.Rounds.{IsBegun, AreOpen};
 ghost use Rattle.dd_catalogue.specs.Ways.{IsAny, GoesOn, FillsUp, WritesPart};
 ghost use Rattle.dd_pages.specs.Runs.{start_of};
-ghost use Rattle.dd_pages.specs.Saves.{Saves, HasRun};
+ghost use Rattle.dd_pages.specs.Saves.{Saves};
+ghost use Rattle.dd_pages.specs.Names.{HasRun};
 
 use crate::emission::write_done;
 use crate::rounds::{do_round, front_of};

@@ -1,8 +1,9 @@
-ghost use Rattle.std.specs.Prelude.{◌≡◌, ◌++◌, ℕ, ◌<◌, ◌≤◌, List, [], map, length, slice_get, OnOk};
+ghost use Rattle.std.specs.Prelude.{◌≡◌, ◌++◌, ℕ, ◌<◌, ◌≤◌, List, [], map, length, slice_get, OnOk, OnErr};
 ghost use Rattle.std.specs.List.{AllByRecursion, flat_map};
+ghost use Rattle.dd_model.specs.Longer.{IsLonger};
 ghost use Rattle.dd_commands.specs.Totals.{total_text};
 
-use dd_model::Memory;
+use dd_model::{Memory, put_bytes};
 use indexmap::IndexMap;
 use std::alloc::Global;
 
@@ -24,10 +25,12 @@ impl Totals {
         }
     }
 
-    /// Counts a name once more.
+    /// Counts a name once more. After `Err`, which comes if an allocation fails, the counts are as before.
     pub fn add(&mut self, name: Vec<u8>) -> Result<(), Memory>
         requires { AllByRecursion (λ e. e.1 < 1000000000) (counted_in self.old) }
-        ensures { OnOk result (counted_in self.new ≡ counted (counted_in self.old) name.items) }
+        ensures counted { OnOk result
+            (counted_in self.new ≡ counted (counted_in self.old) name.items) }
+        ensures same { OnErr result (counted_in self.new ≡ counted_in self.old) }
     {
         let count = match self.counts.get(&name) {
             Some(count) => *count + 1,
@@ -44,10 +47,11 @@ impl Totals {
         self.counts.len()
     }
 
-    /// Appends a line for each name, which begins with a word.
+    /// Appends a line for each name, which begins with a word. At `Err` the old text stays in front.
     pub fn put(&self, word: &str, out: &mut Vec<u8>) -> Result<(), Memory>
-        ensures { OnOk result (out.new.items ≡ out.old.items
+        ensures lines { OnOk result (out.new.items ≡ out.old.items
             ++ flat_map (total_text word.now) (counted_in self.now)) }
+        ensures longer { IsLonger out.old.items out.new.items }
     {
         for place in 0..self.counts.len() {
             let (name, count) = self.entry_at(place);
@@ -70,14 +74,15 @@ impl Totals {
 
 /// Appends the line of a name and its number, which begins with a word.
 fn put_total(out: &mut Vec<u8>, word: &str, name: &[u8], count: u64) -> Result<(), Memory>
-    ensures { OnOk result
+    ensures line { OnOk result
         (out.new.items ≡ out.old.items ++ total_text word.now (name.now, count)) }
+    ensures longer { IsLonger out.old.items out.new.items }
 {
     let alloc = *out.allocator();
     let end = format!(in alloc; " {count}\n")?;
-    out.extend_from_slice(word.as_bytes())?;
-    out.extend_from_slice(b" ")?;
-    out.extend_from_slice(name)?;
-    out.extend_from_slice(end.as_bytes())?;
+    put_bytes(out, word.as_bytes())?;
+    put_bytes(out, b" ")?;
+    put_bytes(out, name)?;
+    put_bytes(out, end.as_bytes())?;
     Ok(())
 }

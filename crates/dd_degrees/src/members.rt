@@ -58,7 +58,8 @@ pub fn add_tied(
     Assignment::new(alloc, table, ties, places, q, list.len()).add_all(list)
 }
 
-/// Adds all members of a request's catalogue that have the involutions of a table, ascending.
+/// Adds all members of a request's catalogue that have the involutions of a table, ascending. `Err`
+/// comes only if an allocation fails. The list then has what it had, perhaps with more behind it.
 pub fn add_members_of(
     alloc: Global,
     t: Table,

@@ -5,3 +5,4 @@ mod Emptied
 mod Others
 mod Linked
 mod Joined
+mod Thefts

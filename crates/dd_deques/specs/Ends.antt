@@ -22,6 +22,10 @@ module _ {N : Type 0} {names : Ghosts N} where
   abbrev pub SameOwner : Owner N names → Owner N names → Type 0
   SameOwner old new = (owner_deque new ≡ owner_deque old) × (owner_passes new ≡ owner_passes old) × (new.room ≡ old.room)
 
+  -- the number of the worker into whose deque it leads
+  abbrev pub way_number : Way N names → ℕ
+  way_number w = w.from
+
   abbrev pub way_deque : Way N names → RowsId × Global
   way_deque w = stealer_deque w.stealer
 

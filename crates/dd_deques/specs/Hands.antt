@@ -6,7 +6,7 @@ use Rattle.dd_deques.specs.declared.way.Way.{Way}
 use Rattle.dd_deques.specs.declared.hand.Hand.{Hand}
 use Rattle.dd_deques.specs.Numbers.{HasAll}
 use Rattle.dd_deques.specs.Ends.{owner_deque, owner_passes, owner_taken, way_deque, way_taken}
-use Rattle.dd_deques.specs.Places.{Deck, End, Place}
+use Rattle.dd_deques.specs.Places.{Deck, End, Place, Theft}
 
 module _ {N : Type 0} {names : Ghosts N} where
   -- how many tickets it pushed, of how many for which there is room
@@ -22,6 +22,13 @@ module _ {N : Type 0} {names : Ghosts N} where
 
   abbrev pub hand_stolen : Hand N names → ℕ
   hand_stolen h = sum_by way_taken h.ways.items
+
+  abbrev pub way_theft : Way N names → Theft
+  way_theft w = record { from = w.from; taken = way_taken w }
+
+  -- how many tickets it stole from each other worker
+  abbrev pub hand_thefts : Hand N names → List Theft
+  hand_thefts h = map way_theft h.ways.items
 
   abbrev pub hand_deck : Hand N names → Deck
   hand_deck h = owner_deque h.owner

@@ -12,6 +12,19 @@ pub record End : Type 0 where
   pub from : ℕ
   pub deck : Deck
 
+-- how many tickets were stolen from the deque of the worker with this number
+pub record Theft : Type 0 where
+  pub from : ℕ
+  pub taken : ℕ
+
+-- one more was stolen from the worker of this number, and as many as before from each other one
+pub record StealsFrom (from : ℕ) (old new : List Theft) : Type 0 where
+  pub before : List Theft
+  pub taken : ℕ
+  pub later : List Theft
+  pub old_is : old ≡ before ++ record { from = from; taken = taken } ∷ later
+  pub new_is : new ≡ before ++ record { from = from; taken = taken + 1 } ∷ later
+
 -- a hand's own deque, how many ways of others lead into it, and the hand's ways
 pub record Place : Type 0 where
   pub deck : Deck

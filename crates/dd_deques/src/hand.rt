@@ -1,6 +1,8 @@
-ghost use Rattle.std.specs.Prelude.{◌≡◌, ◌+◌, ◌-◌, ◌<◌, ◌↔◌, [], IfOk, IfErr, OnOk, OnErr, IfNone, IfSome, IsErr, MatchOption, length};
+ghost use Rattle.std.specs.Prelude.{◌≡◌, ◌≢◌, ◌+◌, ◌-◌, ◌<◌, ◌↔◌, [], Some, All, IfOk, IfErr, OnOk, OnErr, IfNone, IsErr, MatchOption, length, map, slice_get};
 ghost use Rattle.dd_deques.specs.Hands.{hand_pushed, hand_popped, hand_stolen, hand_room, hand_passes, hand_place, hand_deck, hand_core, HasAllOfHand};
-ghost use Rattle.dd_deques.specs.Ends.{way_deque, way_taken};
+ghost use Rattle.dd_deques.specs.Hands.{hand_thefts};
+ghost use Rattle.dd_deques.specs.Ends.{way_deque, way_taken, way_number};
+ghost use Rattle.dd_deques.specs.Places.{StealsFrom};
 
 use crate::owner::Owner;
 use crate::way::Way;
@@ -57,9 +59,11 @@ impl<N: Naming> Hand<N> {
         self.ways.len()
     }
 
-    // Where the way into that worker's deque stands among the ways.
+    // The place among the ways of the one into the deque of the worker with the number `from`.
     fn way_from(&self, from: u32) -> Option<usize>
-        ensures { IfSome result (λ index. index < length self.now.ways.items) }
+        ensures { MatchOption result
+            (All (λ way. way_number way ≢ from) self.now.ways.items)
+            (λ index. slice_get (map way_number self.now.ways.items) index ≡ Some from) }
     {
         self.ways.iter().position(|way| way.from == from)
     }
@@ -67,6 +71,8 @@ impl<N: Naming> Hand<N> {
     /// Takes the first ticket of the deque of the worker with the number `from`. It tries again where another hand
     /// was quicker. A hand has no way into its own deque, and gets nothing there.
     pub fn steal<R: Wait>(&mut self, rt: &R, from: u32) -> Option<Ticket<N>>
+        ensures from { MatchOption result (hand_thefts self.new ≡ hand_thefts self.old)
+            (λ _. StealsFrom from (hand_thefts self.old) (hand_thefts self.new)) }
         ensures stolen { MatchOption result (hand_stolen self.new ≡ hand_stolen self.old)
             (λ _. hand_stolen self.new ≡ hand_stolen self.old + 1) }
         ensures pushed { hand_pushed self.new ≡ hand_pushed self.old }

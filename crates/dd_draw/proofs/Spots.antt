@@ -129,6 +129,11 @@ covering_two f es k d e xs a b now new low two before put =
     put ∙ ap (λ n. with_spot (with_spot n a) b) before ∙ sym (covering_append e (xs ++ old) (a ∷ b ∷ []))
     ∙ ap (covering e) (append_assoc xs old (a ∷ b ∷ []) ∙ ap (λ ys. xs ++ ys) (ap (λ ys. old ++ ys) (sym two) ∙ sym (part_more f es k d low)))
 
+-- three parts of a text, one after the other
+pub three_parts : (old one two three a b c : List ℕ) → a ≡ old ++ one → b ≡ a ++ two → c ≡ b ++ three → c ≡ old ++ (one ++ (two ++ three))
+three_parts old one two three a b c ea eb ec =
+    ec ∙ ap (λ t. t ++ three) (eb ∙ ap (λ t. t ++ two) ea) ∙ append_assoc (old ++ one) two three ∙ append_assoc old one (two ++ three)
+
 -- five parts of a text, one after the other
 pub five_parts : (old one two three four five a b c d e : List ℕ) → a ≡ old ++ one → b ≡ a ++ two → c ≡ b ++ three → d ≡ c ++ four → e ≡ d ++ five
     → e ≡ old ++ (one ++ (two ++ (three ++ (four ++ five))))

@@ -1,7 +1,5 @@
 -- The tables of the elimination, in exact fractions, and the first of their numbers that is too wide.
-use Rattle.std.specs.Prelude.{◌≡◌, ℕ, zero, suc, ◌+◌, ℤ, pos, ◌+ℤ◌, ◌-ℤ◌, ◌*ℤ◌, cond, nat_eq, List, [], ◌∷◌}
-use Rattle.dd_cells.specs.Fraction.{IsReduced}
-use Rattle.dd_cells.specs.declared.fractions.Fraction.{Fraction}
+use Rattle.std.specs.Prelude.{ℕ, zero, suc, ◌+◌, ℤ, pos, ◌+ℤ◌, ◌-ℤ◌, ◌*ℤ◌, cond, nat_eq, List, [], ◌∷◌}
 use Rattle.dd_lattice.specs.declared.net.Net.{Net}
 use Rattle.dd_lattice.specs.declared.net_edge.NetEdge.{NetEdge}
 use Rattle.dd_draw.specs.Placement.{if_same}
@@ -62,8 +60,3 @@ entry net (suc k) i j = cond (nat_eq i (suc k))
 abbrev pub taken : Net → ℕ → ℕ → ℕ → Ratio
 taken net zero i j = whole (pos 0)
 taken net (suc k) i j = product (entry net k i (suc k)) (entry net (suc k) (suc k) j)
-
--- the fraction is the ratio in lowest terms
-pub record IsLowest (x : Fraction) (r : Ratio) : Type 0 where
-  pub reduced : IsReduced x
-  pub value : x.num *ℤ r.under ≡ r.over *ℤ x.den

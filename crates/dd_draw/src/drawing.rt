@@ -1,5 +1,6 @@
-ghost use Rattle.std.specs.Prelude.{◌≡◌, ◌++◌, ◌≤◌, ◌<◌, ◌*◌, ◌^◌, length, nat_abs, slice_index_or, OnOk, IfOk, string_bytes};
+ghost use Rattle.std.specs.Prelude.{◌≡◌, ◌++◌, ◌≤◌, ◌<◌, ◌*◌, ◌^◌, length, nat_abs, slice_index_or, OnOk, OnErr, IfOk, string_bytes};
 ghost use Rattle.std.specs.List.{AllByRecursion, flat_map};
+ghost use Rattle.dd_model.specs.Longer.{IsLonger};
 ghost use Rattle.dd_lattice.specs.Nets.{IsConnectedNet};
 ghost use Rattle.dd_draw.specs.Limit.{IsNarrowPoint};
 ghost use Rattle.dd_draw.specs.Spots.{IsSmallSpot, corners, from_spot, to_spot};
@@ -12,7 +13,7 @@ use crate::point::Point;
 use crate::spot::Spot;
 use dd_cells::Fraction;
 use dd_lattice::{Net, NetEdge};
-use dd_model::{Frame, Memory};
+use dd_model::{Frame, Memory, put_bytes};
 use std::alloc::{AllocError, Global};
 
 /// Of the frame, the corners of the cell after the first.
@@ -35,11 +36,12 @@ fn corners(frame: Frame) -> [Spot; 3]
 
 /// Appends a spot.
 fn put_spot(out: &mut Vec<u8>, spot: Spot) -> Result<(), Memory>
-    ensures { OnOk result (out.new.items ≡ out.old.items ++ spot_text spot) }
+    ensures spot { OnOk result (out.new.items ≡ out.old.items ++ spot_text spot) }
+    ensures longer { IsLonger out.old.items out.new.items }
 {
     let alloc = *out.allocator();
     let text = format!(in alloc; "{} {}", spot.x, spot.y)?;
-    out.extend_from_slice(text.as_bytes())?;
+    put_bytes(out, text.as_bytes())?;
     Ok(())
 }
 
@@ -60,12 +62,16 @@ fn view_of(alloc: Global, extent: Extent) -> Result<String, AllocError>
 /// Appends the head of a drawing of so wide a box.
 fn put_head(out: &mut Vec<u8>, extent: Extent) -> Result<(), Memory>
     requires { IsSmallExtent extent }
-    ensures { OnOk result (out.new.items ≡ out.old.items ++ head_text extent) }
+    ensures head { OnOk result (out.new.items ≡ out.old.items ++ head_text extent) }
+    ensures longer { IsLonger out.old.items out.new.items }
 {
     let view = view_of(*out.allocator(), extent)?;
-    out.extend_from_slice(b"<svg xmlns=\"http://www.w3.org/2000/svg\" viewBox=\"")?;
-    out.extend_from_slice(view.as_bytes())?;
-    out.extend_from_slice(b"\" fill=\"none\" stroke=\"black\" stroke-width=\"6\">\n")?;
+    put_bytes(out, b"<svg xmlns=\"http://www.w3.org/2000/svg\" viewBox=\"")?;
+    put_bytes(out, view.as_bytes())?;
+    put_bytes(
+        out,
+        b"\" fill=\"none\" stroke=\"black\" stroke-width=\"6\">\n",
+    )?;
     Ok(())
 }
 
@@ -81,11 +87,12 @@ fn cell(frame: Frame) -> &'static [u8]
 
 /// Appends a fraction.
 fn put_exact(out: &mut Vec<u8>, fraction: Fraction) -> Result<(), Memory>
-    ensures { OnOk result (out.new.items ≡ out.old.items ++ exact_text fraction) }
+    ensures fraction { OnOk result (out.new.items ≡ out.old.items ++ exact_text fraction) }
+    ensures longer { IsLonger out.old.items out.new.items }
 {
     let alloc = *out.allocator();
     let text = format!(in alloc; "{}/{}", fraction.num, fraction.den)?;
-    out.extend_from_slice(text.as_bytes())?;
+    put_bytes(out, text.as_bytes())?;
     Ok(())
 }
 
@@ -102,14 +109,15 @@ fn middle_of(alloc: Global, spot: Spot) -> Result<String, AllocError>
 /// Appends a vertex.
 fn put_vertex(out: &mut Vec<u8>, frame: Frame, point: &Point) -> Result<(), Memory>
     requires { IsNarrowPoint point.now }
-    ensures { OnOk result (out.new.items ≡ out.old.items ++ vertex_text frame point.now) }
+    ensures vertex { OnOk result (out.new.items ≡ out.old.items ++ vertex_text frame point.now) }
+    ensures longer { IsLonger out.old.items out.new.items }
 {
     let middle = middle_of(*out.allocator(), Spot::of(frame, point))?;
-    out.extend_from_slice(middle.as_bytes())?;
+    put_bytes(out, middle.as_bytes())?;
     put_exact(out, point.x)?;
-    out.extend_from_slice(b" ")?;
+    put_bytes(out, b" ")?;
     put_exact(out, point.y)?;
-    out.extend_from_slice(b"\"/>\n")?;
+    put_bytes(out, b"\"/>\n")?;
     Ok(())
 }
 
@@ -146,13 +154,14 @@ fn extent_of(frame: Frame, net: &Net, points: &[Point]) -> Extent
 
 /// Appends an edge.
 fn put_edge(out: &mut Vec<u8>, from: Spot, to: Spot) -> Result<(), Memory>
-    ensures { OnOk result (out.new.items ≡ out.old.items ++ line_text from to) }
+    ensures edge { OnOk result (out.new.items ≡ out.old.items ++ line_text from to) }
+    ensures longer { IsLonger out.old.items out.new.items }
 {
-    out.extend_from_slice(b"<path d=\"M")?;
+    put_bytes(out, b"<path d=\"M")?;
     put_spot(out, from)?;
-    out.extend_from_slice(b"L")?;
+    put_bytes(out, b"L")?;
     put_spot(out, to)?;
-    out.extend_from_slice(b"\"/>\n")?;
+    put_bytes(out, b"\"/>\n")?;
     Ok(())
 }
 
@@ -161,8 +170,9 @@ fn put_edges(out: &mut Vec<u8>, frame: Frame, net: &Net, points: &[Point]) -> Re
     requires connected { IsConnectedNet net.now }
     requires count { length points.now ≡ net.now.vertices }
     requires narrow { AllByRecursion IsNarrowPoint points.now }
-    ensures { OnOk result (out.new.items
+    ensures edges { OnOk result (out.new.items
         ≡ out.old.items ++ flat_map (edge_text frame points.now) net.now.edges.items) }
+    ensures longer { IsLonger out.old.items out.new.items }
 {
     for edge in &net.edges {
         let (from, to) = ends_of(frame, points, *edge);
@@ -174,8 +184,9 @@ fn put_edges(out: &mut Vec<u8>, frame: Frame, net: &Net, points: &[Point]) -> Re
 /// Appends the vertices in their order.
 fn put_vertices(out: &mut Vec<u8>, frame: Frame, points: &[Point]) -> Result<(), Memory>
     requires { AllByRecursion IsNarrowPoint points.now }
-    ensures { OnOk result
+    ensures vertices { OnOk result
         (out.new.items ≡ out.old.items ++ flat_map (vertex_text frame) points.now) }
+    ensures longer { IsLonger out.old.items out.new.items }
 {
     for point in points {
         put_vertex(out, frame, point)?;
@@ -183,19 +194,38 @@ fn put_vertices(out: &mut Vec<u8>, frame: Frame, points: &[Point]) -> Result<(),
     Ok(())
 }
 
+/// Appends the drawing of a placed net. If an allocation fails, the text may have a part of the drawing.
+fn append_svg(out: &mut Vec<u8>, net: &Net, places: &Places, frame: Frame) -> Result<(), Memory>
+    requires connected { IsConnectedNet net.now }
+    requires count { length places.now.points.items ≡ net.now.vertices }
+    requires narrow { AllByRecursion IsNarrowPoint places.now.points.items }
+    ensures drawing { OnOk result (out.new.items
+        ≡ out.old.items ++ document frame net.now.edges.items places.now.points.items) }
+    ensures longer { IsLonger out.old.items out.new.items }
+{
+    let points = places.points.as_slice();
+    put_head(out, extent_of(frame, net, points))?;
+    put_bytes(out, cell(frame))?;
+    put_edges(out, frame, net, points)?;
+    put_vertices(out, frame, points)?;
+    put_bytes(out, b"</svg>\n")?;
+    Ok(())
+}
+
 /// Appends the drawing of a placed net: its cell, its edges and its vertices with their exact places.
+/// Returns `Err` only if an allocation fails. The text is then as before.
 pub fn svg(out: &mut Vec<u8>, net: &Net, places: &Places, frame: Frame) -> Result<(), Memory>
     requires connected { IsConnectedNet net.now }
     requires count { length places.now.points.items ≡ net.now.vertices }
     requires narrow { AllByRecursion IsNarrowPoint places.now.points.items }
-    ensures { OnOk result (out.new.items
+    ensures drawing { OnOk result (out.new.items
         ≡ out.old.items ++ document frame net.now.edges.items places.now.points.items) }
+    ensures same { OnErr result (out.new.items ≡ out.old.items) }
 {
-    let points = places.points.as_slice();
-    put_head(out, extent_of(frame, net, points))?;
-    out.extend_from_slice(cell(frame))?;
-    put_edges(out, frame, net, points)?;
-    put_vertices(out, frame, points)?;
-    out.extend_from_slice(b"</svg>\n")?;
-    Ok(())
+    let length = out.len();
+    let written = append_svg(out, net, places, frame);
+    if written.is_err() {
+        out.truncate(length);
+    }
+    written
 }

@@ -7,3 +7,4 @@ pub mod ItemLemmas
 pub mod DifferentLemmas
 pub mod TallyLemmas
 pub mod OneText
+pub mod ItemSizes

@@ -12,4 +12,4 @@ mod seeds;
 mod tallies;
 
 pub use exercising::exercise;
-pub use laws::an_exercise_has_one_text;
+pub use laws::{an_exercise_has_one_text, items_have_at_most_384_chambers};

@@ -5,3 +5,4 @@ pub mod Rounds
 pub mod Runs
 pub mod Outputs
 pub mod Saves
+pub mod Names

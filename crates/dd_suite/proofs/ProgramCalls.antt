@@ -16,7 +16,7 @@ use Rattle.dd_pages.specs.declared.finish.Finish.{Finish}
 use Rattle.dd_pages.specs.declared.finish.Finish.TheVariants as finish
 use Rattle.dd_pages.specs.Outputs.{IsOutput}
 use Rattle.dd_pages.specs.Runs.{Finishes, WritesRest, WritesUpToPause}
-use Rattle.dd_pages.specs.Saves.{LeavesName, PutsCheck, PutsAtPause, FinishesName}
+use Rattle.dd_pages.specs.Names.{LeavesName, PutsCheck, PutsAtEnd, PutsAtPause, FinishesName}
 use Rattle.dd_words.proofs.Validity.{lone_pause}
 use Rattle.dd_tasks.specs.declared.status.Status.{Status}
 use Rattle.dd_tasks.specs.declared.status.Status.TheVariants as status
@@ -89,15 +89,16 @@ module _ (task : Task) (before after : Option (List ℕ)) (s : Start) (round : �
       prefix = front;
       done = λ e. let w = rest e in record { start = s; starts = starts; count = w.count; written = w.written; few = w.few };
       paused = λ e.
-          let p : PutsAtPause s pause after output = subst (λ x. IfOk x (FinishesName s round pause after output)) (paused e) left.finish in
+          let p : PutsAtPause s pause after output = subst (λ x. IfOk x (FinishesName s pause before after output)) (paused e) left.finish in
           record { puts = record { start = s; starts = starts; check = p.check; put = p.put }; lines = p.pause_is.lines; asked = p.pause_is.asked; count = p.pause_is.last_is; all = p.all; next = p.next };
       held = ⊎_elim (λ k. inl k.same) (λ p. inr (puts p)) left.held;
       first = λ q name is_first worked.
           let at : s ≡ first_start q = subst (λ t. Starts t before s) is_first starts in
           puts (left.first (ap (λ (z : Start). z.number) at) (ended worked));
       last = λ e named t other work.
-          let f : HasWork s → PutsCheck s round after output = subst (λ x. IfOk x (FinishesName s round pause after output)) (whole e) left.finish in
-          puts (f (subst HasWork (sym (same_start t other)) work));
+          let f : HasWork s → PutsAtEnd s after output = subst (λ x. IfOk x (FinishesName s pause before after output)) (whole e) left.finish in
+          let p = f (subst HasWork (sym (same_start t other)) work) in
+          record { start = s; starts = starts; check = p.check; put = p.put };
       refused = λ nowhere. absurd (nowhere s starts);
     }
 

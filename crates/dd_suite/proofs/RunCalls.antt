@@ -17,7 +17,7 @@ use Rattle.dd_pages.specs.declared.pace.Pace.{Pace}
 use Rattle.dd_pages.specs.declared.run.Run.{Run}
 use Rattle.dd_pages.specs.Outputs.{IsOutput}
 use Rattle.dd_pages.specs.Runs.{start_of, IsPause}
-use Rattle.dd_pages.specs.Saves.{HasRun, LeavesName}
+use Rattle.dd_pages.specs.Names.{HasRun, LeavesName}
 use Rattle.dd_tasks.specs.declared.ending.Ending.{Ending}
 use Rattle.dd_tasks.specs.declared.ending.Ending.TheVariants.{Done, Usage, Refused, RefusedSymbol, RefusedCheck, Paused, StoreFault, SinkFault, Memory, TooManyLines}
 use Rattle.dd_tasks.specs.Beginnings.{HoldsCheck}

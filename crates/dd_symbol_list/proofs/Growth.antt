@@ -112,7 +112,7 @@ pub next_of : (t : Symbol) (series more : List Series) (bytes : List ℕ) (n : �
     → IsNext t series more bytes n
 next_of t series more bytes n are begun = ⊎_elim
     (λ old. subst (λ it. IsNext t series it bytes n) (sym old.0) (go_on t series bytes n are old.1))
-    (λ added. subst (λ it. IsNext t series it bytes n) (sym added) (begin_new t series bytes n are))
+    (λ added. subst (λ it. IsNext t series it bytes n) (sym added.0) (begin_new t series bytes n are))
     begun
 
 -- ## One symbol more

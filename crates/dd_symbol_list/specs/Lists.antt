@@ -78,4 +78,4 @@ pub record IsLast (s : Symbol) (series : List Series) : Type 0 where
 -- The last series has the involutions of a symbol: it was there, or it begins after so many symbols and bytes.
 abbrev pub HasBegun : Symbol → ℕ → ℕ → List Series → List Series → Type 0
 HasBegun s first degrees old new =
-    ((new ≡ old) × IsLast s old) ⊎ (new ≡ old ++ record { table = s; first = first; degrees = degrees } ∷ [])
+    ((new ≡ old) × IsLast s old) ⊎ ((new ≡ old ++ record { table = s; first = first; degrees = degrees } ∷ []) × (¬ IsLast s old))

@@ -1,4 +1,4 @@
-ghost use Rattle.std.specs.Prelude.{◌≡◌, ◌++◌, ◌∷◌, [], ◌-◌, ◌≤◌, length, take, drop, slice_index_or, IsTrue, OnOk, OnErr};
+ghost use Rattle.std.specs.Prelude.{◌≡◌, ◌↔◌, ◌++◌, ◌∷◌, [], ◌-◌, ◌≤◌, length, take, drop, slice_index_or, IsTrue, OnOk, OnErr};
 ghost use Rattle.dd_model.specs.Symbol.{Symbol as Tiling};
 ghost use Rattle.dd_model.specs.Connected.{Connected as AllReached};
 ghost use Rattle.dd_model.specs.Small.{IsSmallSymbol};
@@ -35,7 +35,7 @@ impl Model for SymbolList {
 
 /// Whether the last series has the involutions of a symbol.
 fn has_last(series: &[Series], symbol: &Symbol) -> bool
-    ensures { IsTrue result → IsLast symbol.now series.now }
+    ensures { IsTrue result ↔ IsLast symbol.now series.now }
 {
     match series.last() {
         Some(last) => last.table.symbol().has_involutions_of(symbol),

@@ -8,7 +8,7 @@ use Rattle.dd_pages.specs.declared.fault.RunFault.TheVariants as fault
 use Rattle.dd_pages.specs.declared.finish.Finish.{Finish}
 use Rattle.dd_pages.specs.declared.finish.Finish.TheVariants as finish
 use Rattle.dd_pages.specs.Outputs.{IsOutput}
-use Rattle.dd_pages.specs.Saves.{HasRun}
+use Rattle.dd_pages.specs.Names.{HasRun}
 use Rattle.dd_tasks.specs.declared.status.Status.{Status}
 use Rattle.dd_tasks.specs.declared.status.Status.TheVariants.{Done, Refused, Paused, StoreFault, SinkFault, Memory, TooManyLines}
 use Rattle.dd_tasks.specs.Beginnings.{BeginsAt}

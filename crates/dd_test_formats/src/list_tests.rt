@@ -9,7 +9,7 @@ use std::process::Abort;
 /// Involutions, the degrees of the tiles and of the vertices, and the code that they make.
 type Row = ([&'static [u32]; 3], &'static [u8], &'static [u32]);
 
-/// Of the first two only the degrees differ.
+/// The first two differ only in their degrees, so that the list keeps one table for both.
 const ROWS: [Row; 3] = [
     (
         [&[1, 2], &[1, 2], &[2, 1]],
@@ -97,6 +97,8 @@ fn has_lines<R: Abort + Alloc<A = Global>>(
 fn listed_symbols(rt: HostRuntime) {
     let symbols = list_of_rows(&rt);
     assert_eq!(rt; symbols.len(), 3);
+    assert_eq!(rt; symbols.all().alike_from(0).len(), 2);
+    assert_eq!(rt; symbols.all().alike_from(2).len(), 1);
     for (place, row) in ROWS.iter().enumerate() {
         assert!(rt; has_code(&rt, &symbols.all(), place, row.2), "at {place}");
     }

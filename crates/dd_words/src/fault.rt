@@ -17,7 +17,9 @@ pub enum WordsFault {
 impl WordsFault {
     /// What it means that clap reads no words: want of memory, or that it does not take them.
     pub(crate) fn of(error: &Error) -> WordsFault
-        ensures { result ≡ WordsFault.NotTaken → kind_of error.now ≢ ErrorKind.OutOfMemory }
+        ensures not_taken { result ≡ WordsFault.NotTaken
+            → kind_of error.now ≢ ErrorKind.OutOfMemory }
+        ensures memory { result ≡ WordsFault.Memory → kind_of error.now ≡ ErrorKind.OutOfMemory }
     {
         match error.kind() {
             ErrorKind::OutOfMemory => WordsFault::Memory,

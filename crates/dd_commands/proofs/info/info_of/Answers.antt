@@ -29,5 +29,5 @@ loop-before-preserved c =
     let count : length (take i ss) ≡ i = length-take-le i ss (omega arith) in
     let line : AddsInfoLine (length (take i ss) + 1) s group c.loop-before.text.items new = subst (λ n. AddsInfoLine (n + 1) s group c.loop-before.text.items new) (sym count) c.in_ok-group.ensures in
     subst (λ xs. IsToldSoFar xs new (counted_in c.add.new.self)) taken
-    (subst (IsToldSoFar (take i ss ++ s ∷ []) new) (sym c.in_ok-add.ensures)
+    (subst (IsToldSoFar (take i ss ++ s ∷ []) new) (sym c.in_ok-add.ensures.counted)
     (told_more (take i ss) c.loop-before.text.items new (counted_in c.loop-before.totals) s group c.loop-before.invariant line))

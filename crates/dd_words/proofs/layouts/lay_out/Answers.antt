@@ -13,7 +13,7 @@ pub returns-in-Err-clause-not_taken : goal.returns-in-Err-clause-not_taken
 returns-in-Err-clause-not_taken c failed =
     let not_taken : c.of.result ≡ fault.NotTaken = cc in
     not_taken_by_clap c.args.verb (app_of c.in_ok-app_for.field-0) (map rc_str_bytes c.args.words.now) c.in-Err.error c.in_ok-app_for.ensures c.in-Err.ensures.kinds
-    (c.of.ensures not_taken)
+    (c.of.ensures.not_taken not_taken)
 
 pub returns-clause-matched : goal.returns-clause-matched
 returns-clause-matched c =

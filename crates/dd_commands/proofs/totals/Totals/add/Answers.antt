@@ -13,8 +13,8 @@ overflow_add-count c =
     let few = kept_count_below 1000000000 _ c.args.self.now.counts.entries c.in-Some.count.now c.requires (sym c.in-Some.ensures.value) in
     omega arith
 
-pub returns : goal.returns
-returns c =
+pub returns-clause-counted : goal.returns-clause-counted
+returns-clause-counted c =
     let es = c.args.self.now.counts.entries in
     let k = c.args.name in
     let kept : Option ℕ = lookup (λ y. bytes_eq k.items y.items) es in

@@ -10,6 +10,6 @@ loop-place-preserved c =
     let i = c.loop-place.place in
     let count = c.entry_at-count.result in
     let line = total_text c.args.word.now in
-    c.in_ok-put_total.ensures ∙ ap (λ t. t ++ line (count.0.now, count.1)) c.loop-place.invariant
+    c.in_ok-put_total.ensures.line ∙ ap (λ t. t ++ line (count.0.now, count.1)) c.loop-place.invariant
     ∙ append_assoc c.args.out.now.items (flat_map line (take i es)) (line (count.0.now, count.1))
     ∙ ap (λ t. c.args.out.now.items ++ t) (totals_taken c.args.word.now es i (count.0.now, count.1) c.entry_at-count.ensures)
