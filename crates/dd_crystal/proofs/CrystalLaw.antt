@@ -1,6 +1,5 @@
 -- The crystallographic law, also for symbols that are not oriented.
-use Rattle.std.proofs.Common.{◌≡◌, ◌↔◌, ℕ, List, ⊎_elim, arith}
-use Rattle.std.specs.List.{Contains}
+use Rattle.std.proofs.Common.{◌↔◌, ℕ, List, ⊎_elim, arith}
 use Rattle.dd_model.specs.declared.pair.Pair.{Pair}
 use Rattle.dd_model.specs.declared.pair.Pair.TheVariants.{Tile, Vertex}
 use Rattle.dd_model.specs.declared.requests.Request.{Request}

@@ -1,11 +1,10 @@
 -- The torus cover has the fewest sheets.
-use Rattle.std.proofs.Common.{◌≡◌, ℕ, zero, suc, ◌+◌, ◌*◌, ◌≤◌, ◌⊎◌, List, sym, ap, ◌∙◌, subst, inl, inr, refl, ⊎_elim, arith}
+use Rattle.std.proofs.Common.{◌≡◌, ℕ, ◌*◌, ◌≤◌, List, sym, ap, ◌∙◌, subst, inl, inr, refl, ⊎_elim, arith}
 use Rattle.dd_model.specs.Symbol.{Symbol, IsSymbol}
 use Rattle.dd_model.specs.Connected.{Connected}
 use Rattle.dd_model.specs.Flat.{Flat}
 use Rattle.dd_model.specs.Isomorphic.{IsMorphism}
 use Rattle.dd_cells.specs.Fraction.{Divides}
-use Rattle.dd_cells.specs.Orientation.{IsOriented}
 use Rattle.dd_cells.proofs.FractionLemmas.{same_factor}
 use Rattle.dd_covers.specs.OrientedCover.{two_sheets, IsOrientedCover}
 use Rattle.dd_covers.specs.PlaneValues.{IsGreatestValue}

@@ -1,4 +1,4 @@
-use Rattle.std.proofs.Common.{suc, ◌+◌, ◌≡◌, ◌<◌, ◌∷◌, [], ◌++◌, take, get_or, length, ap, sym, ◌∙◌, subst, arith}
+use Rattle.std.proofs.Common.{suc, ◌+◌, ◌≡◌, ◌∷◌, [], ◌++◌, take, get_or, length, ap, sym, ◌∙◌, subst, arith}
 use Rattle.std.proofs.Math.Seq.{take-suc}
 use Rattle.std.proofs.lemmas.List.{length-take-le}
 use Rattle.dd_commands.specs.declared.refusals.SymbolFault.{SymbolFault}
