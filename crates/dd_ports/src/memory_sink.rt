@@ -1,6 +1,6 @@
 ghost use Rattle.std.specs.Prelude.{◌≡◌, ◌<◌, ◌≤◌, [], Some, Err, true, false, length, min, IfOk, IsErrOf};
 ghost use Rattle.std.specs.Io.KnownBytes.{WriteAppends};
-ghost use Rattle.dd_ports.specs.declared.sink.SinkFault.TheVariants.{Failed};
+ghost use Rattle.dd_ports.specs.declared.sink.SinkFault.TheVariants.{Failed, Memory};
 ghost use Rattle.dd_ports.specs.Causes.{HasCause, StaysSure};
 ghost use Rattle.dd_ports.specs.Schedule.{is_over};
 
@@ -17,6 +17,7 @@ pub struct MemorySink {
     schedule: Schedule,
     most: usize,
     faults: FaultCount,
+    shortages: FaultCount,
     ghost takes_some: { 0 < most },
 }
 
@@ -37,6 +38,7 @@ impl MemorySink {
             schedule: Schedule::new(fails),
             most,
             faults: FaultCount::new(),
+            shortages: FaultCount::new(),
         }
     }
 
@@ -56,6 +58,8 @@ impl Sink for MemorySink {
 
     ghost faults = { λ s. s.faults };
 
+    ghost shortages = { λ s. s.shortages };
+
     ghost sure = { λ s. is_over s.schedule };
 
     fn write(&mut self, piece: &[u8]) -> Result<usize, SinkFault>
@@ -65,6 +69,7 @@ impl Sink for MemorySink {
             (Some (memory_sink_held self.old)) (Some (memory_sink_held self.new))
             result piece.now }
         ensures cause { HasCause Failed self.old.faults self.new.faults result }
+        ensures shortage { HasCause Memory self.old.shortages self.new.shortages result }
         ensures sure { is_over self.old.schedule ≡ true
             → StaysSure Failed self.old.faults self.new.faults (is_over self.new.schedule) result }
         ensures counted { CountsWrite self.old self.new }
@@ -78,7 +83,10 @@ impl Sink for MemorySink {
             return Err(SinkFault::Failed);
         }
         let count = piece.len().min(self.most);
-        self.bytes.extend_from_slice(&piece[..count])?;
+        if self.bytes.extend_from_slice(&piece[..count]).is_err() {
+            self.shortages.rise();
+            return Err(SinkFault::Memory);
+        }
         Ok(count)
     }
 }

@@ -11,7 +11,7 @@ use std::alloc::AllocError;
 pub enum SinkFault {
     /// The sink failed, and counted it.
     Failed,
-    /// Want of memory.
+    /// The sink ran out of memory, and counted it.
     Memory,
 }
 
@@ -31,6 +31,9 @@ pub trait Sink {
     /// How often it has failed. It never falls.
     ghost faults: { Self → ℕ };
 
+    /// How often it has run out of memory. It never falls.
+    ghost shortages: { Self → ℕ };
+
     /// Whether no write to come fails.
     ghost sure: { Self → Bool };
 
@@ -40,6 +43,7 @@ pub trait Sink {
         ensures count { IfOk result (λ k. (0 < k) × (k ≤ length piece.now)) }
         ensures bytes { WriteAppends (held self.old) (held self.new) result piece.now }
         ensures cause { HasCause Failed (faults self.old) (faults self.new) result }
+        ensures shortage { HasCause Memory (shortages self.old) (shortages self.new) result }
         ensures sure { sure self.old ≡ true
             → StaysSure Failed (faults self.old) (faults self.new) (sure self.new) result };
 }
@@ -49,6 +53,7 @@ pub fn write_all_of<O: Sink>(out: &mut O, bytes: &[u8]) -> Result<(), SinkFault>
     ensures whole { OnOk result (Appends (O.held out.old) (O.held out.new) bytes.now) }
     ensures prefix { GrowsByPrefix (O.held out.old) (O.held out.new) bytes.now }
     ensures cause { HasCause Failed (O.faults out.old) (O.faults out.new) result }
+    ensures shortage { HasCause Memory (O.shortages out.old) (O.shortages out.new) result }
     ensures sure { O.sure out.old ≡ true
         → StaysSure Failed (O.faults out.old) (O.faults out.new) (O.sure out.new) result }
 {

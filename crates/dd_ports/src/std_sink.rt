@@ -35,6 +35,8 @@ impl<W: Write + Drop> Sink for StdSink<W> {
 
     ghost faults = { λ s. s.faults };
 
+    ghost shortages = { λ _. 0 };
+
     ghost sure = { λ _. false };
 
     /// A write that takes nothing counts as a fault.

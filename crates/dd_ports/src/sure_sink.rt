@@ -1,5 +1,6 @@
 ghost use Rattle.std.specs.Prelude.{◌≡◌, [], Some, true};
 
+use crate::fault_count::FaultCount;
 use crate::sink::{Sink, SinkFault};
 use std::alloc::Global;
 
@@ -7,6 +8,7 @@ use std::alloc::Global;
 #[derive(Drop)]
 pub struct SureSink {
     bytes: Vec<u8>,
+    shortages: FaultCount,
 }
 
 impl SureSink {
@@ -18,6 +20,7 @@ impl SureSink {
     {
         SureSink {
             bytes: Vec::new(alloc),
+            shortages: FaultCount::new(),
         }
     }
 
@@ -34,10 +37,15 @@ impl Sink for SureSink {
 
     ghost faults = { λ _. 0 };
 
+    ghost shortages = { λ s. s.shortages };
+
     ghost sure = { λ _. true };
 
     fn write(&mut self, piece: &[u8]) -> Result<usize, SinkFault> {
-        self.bytes.extend_from_slice(piece)?;
+        if self.bytes.extend_from_slice(piece).is_err() {
+            self.shortages.rise();
+            return Err(SinkFault::Memory);
+        }
         Ok(piece.len())
     }
 }

@@ -1,10 +1,13 @@
 -- What the outcome of words says of the statuses.
-use Rattle.std.proofs.Common.{◌≡◌, ◌⊎◌, ◌≤◌, ℕ, List, [], true, length, inl, inr, refl, sym, ap, ◌∙◌, subst}
+use Rattle.std.proofs.Common.{◌≡◌, ◌⊎◌, ◌≤◌, ℕ, List, [], true, Result, Ok, Err, IsErrOf, length, inl, inr, refl, sym, ap, ◌∙◌, subst}
+use Rattle.std.specs.Prelude.{OnOk}
 use Rattle.dd_model.specs.Symbol.{Symbol}
 use Rattle.dd_model.specs.Wanted.{IsCatalogue}
 use Rattle.dd_model.specs.declared.requests.Request.{Request}
 use Rattle.dd_ports.specs.Causes.{Rose}
 use Rattle.dd_ports.specs.Grows.{GrowsByPrefix}
+use Rattle.dd_ports.specs.declared.sink.SinkFault.{SinkFault as WriteFault}
+use Rattle.dd_ports.specs.declared.sink.SinkFault.TheVariants.{Failed, Memory as NoRoom}
 use Rattle.dd_check.specs.declared.checkpoint.Checkpoint.{Checkpoint}
 use Rattle.dd_check.specs.Calls.{Catalogue, Resume}
 use Rattle.dd_check.specs.ChainStarts.{Start}
@@ -30,6 +33,12 @@ use Rattle.dd_suite.proofs.RunEndings.{done_ending, usage_ending, store_ending, 
 use Rattle.dd_suite.proofs.RunOutcomes.{ran_known, ran_whole, ran_pauses, ran_cuts, ran_store, ran_quiet, ran_told, ran_complete}
 use Rattle.dd_suite.proofs.RunOutcomes.{stop_refused, stop_complete, stop_told, run_usage, run_store, run_sink, stop_usage, stop_store, stop_sink}
 use Rattle.dd_suite.proofs.RunOutputs.{output_of, rest_written, few_members}
+
+-- what was told in whole, or was cut off by a fault that was counted, or for want of memory
+pub told_or_short : (r : Result Unit WriteFault) (A B C : Type 0) → OnOk r A → (IsErrOf r Failed → B) → (IsErrOf r NoRoom → C) → A ⊎ (B ⊎ C)
+told_or_short (Ok u) A B C whole failed short = inl whole
+told_or_short (Err Failed) A B C whole failed short = inr (inl (failed refl))
+told_or_short (Err NoRoom) A B C whole failed short = inr (inr (short refl))
 
 -- the status of an ending is another one
 other : (e f : Ending) (s : Status) → e ≡ f → status_of e ≡ s → status_of f ≡ s

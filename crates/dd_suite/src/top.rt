@@ -123,11 +123,20 @@ pub fn run<R: Threads + Wait + Sync, S: Store, O: Sink, E: Sink, G: Gate + Sync>
         → (¬ Rose (O.faults out.old) (O.faults out.new))
         → IsEndOfOwn result ⊎ (result ≡ Status.Memory) }
 
-    // The line may be cut off, and even be missing, since a sink may want memory: `tell` says whether all of it
-    // was written, and then it was.
+    // `err` has the whole line of the ending, or a prefix of it where a write on `err` failed or ran out of memory, or where
+    // there was no memory to make the line of a refusal.
     ensures err { TellsOf result
         (map rc_str_bytes words.now) (S.tells store.old) (S.held store.old)
-        (E.held err.old) (E.held err.new) }
+        (record {
+          held = E.held err.old;
+          faults = E.faults err.old;
+          shortages = E.shortages err.old;
+        })
+        (record {
+          held = E.held err.new;
+          faults = E.faults err.new;
+          shortages = E.shortages err.new;
+        }) }
     ensures err_count { E.faults err.old ≤ E.faults err.new }
 {
     let ending = perform(rt, alloc, words, store, out, gate);

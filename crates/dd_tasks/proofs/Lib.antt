@@ -1,3 +1,4 @@
 pub mod Requests
 pub mod HeldTexts
 pub mod LongFiles
+mod Pieces

@@ -1,5 +1,7 @@
 -- What the error stream is told.
-use Rattle.std.specs.Prelude.{◌≡◌, ℕ, List, Option, Bool}
+use Rattle.std.specs.Prelude.{◌≡◌, ◌⊎◌, ℕ, List, Option, Bool}
+use Rattle.std.specs.Io.KnownBytes.{Appends}
+use Rattle.dd_ports.specs.Causes.{Rose}
 use Rattle.dd_ports.specs.Grows.{GrowsByPrefix}
 use Rattle.dd_tasks.specs.declared.status.Status.{Status}
 use Rattle.dd_tasks.specs.declared.ending.Ending.{Ending}
@@ -18,10 +20,29 @@ IsItsCause (RefusedCheck fault) words tells held = NameNoCheck words tells held 
 IsItsCause (Paused lines) words tells held = PauseAfter words tells held lines
 IsItsCause ending words tells held = Unit {0}
 
--- Known bytes grew by a prefix of the line of an ending with this status. The line of a refusal tells of its first fault, or of
--- its first symbol that is refused, and that of a pause after how many lines of the chain it came.
-pub record TellsOf (status : Status) (words : List (List ℕ)) (tells : Bool) (held : List ℕ → Option (List ℕ)) (old new : Option (List ℕ)) : Type 0 where
+-- what the error stream holds, if it tells, and how often a write on it has failed or has run out of memory
+pub record Stream : Type 0 where
+  pub held : Option (List ℕ)
+  pub faults : ℕ
+  pub shortages : ℕ
+
+-- the line quotes a part of a file, so that a text is made of it before it is written
+abbrev pub IsMade : Ending → Type 0
+IsMade (Refused fault) = Unit {0}
+IsMade (RefusedSymbol refusal) = Unit {0}
+IsMade (RefusedCheck fault) = Unit {0}
+IsMade ending = ⊥
+
+-- a write ran out of memory and counted it, or there may have been no memory to make the line
+abbrev pub IsShort : Ending → ℕ → ℕ → Type 0
+IsShort ending before now = Rose before now ⊎ IsMade ending
+
+-- Known bytes grew by the line of an ending with this status, or by a prefix where a write failed or memory ran out. The line of
+-- a refusal tells of its first fault, or of its first symbol that is refused, and that of a pause after how many lines of the
+-- chain it came.
+pub record TellsOf (status : Status) (words : List (List ℕ)) (tells : Bool) (held : List ℕ → Option (List ℕ)) (old new : Stream) : Type 0 where
   pub ending : Ending
   pub status_is : status_of ending ≡ status
   pub cause : IsItsCause ending words tells held
-  pub grown : GrowsByPrefix old new (message_of ending)
+  pub grown : GrowsByPrefix old.held new.held (message_of ending)
+  pub told : Appends old.held new.held (message_of ending) ⊎ (Rose old.faults new.faults ⊎ IsShort ending old.shortages new.shortages)

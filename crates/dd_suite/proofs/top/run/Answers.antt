@@ -2,7 +2,7 @@ use Rattle.std.proofs.Common.{◌≡◌, ◌⊎◌, map, sym, ◌∙◌, subst}
 use Rattle.std.specs.Rc.{rc_str_bytes}
 use Rattle.dd_tasks.specs.declared.status.Status.TheVariants.{Usage, Memory}
 use Rattle.dd_tasks.specs.Cuts.{IsEndOfOwn}
-use Rattle.dd_suite.proofs.Clauses.{known, whole, call_as, not_resumed, usage, not_taken, refused, quiet_as, nothing, store, store_fault, sink_fault, paused, cut_short, not_cut, complete, told}
+use Rattle.dd_suite.proofs.Clauses.{known, whole, call_as, not_resumed, usage, not_taken, refused, quiet_as, nothing, store, store_fault, sink_fault, paused, cut_short, not_cut, complete, told, told_or_short}
 use Rattle.dd_suite.proofs.top.run.Goals as goal
 
 pub returns-clause-prefix : goal.returns-clause-prefix
@@ -59,4 +59,5 @@ returns-clause-err g c = record {
   status_is = sym c.status.ensures;
   cause = told (map rc_str_bytes c.args.words.now) c.perform-ending.result _ _ c.perform-ending.ensures.outcome;
   grown = c.tell.ensures.prefix;
+  told = told_or_short c.tell.result _ _ _ c.tell.ensures.whole c.tell.ensures.cause.failed c.tell.ensures.shortage;
 }
