@@ -31,9 +31,9 @@ oriented_most s t below few (inr twice) = let size = ap (λ (u : Symbol). u.size
 
 torus_most : (s t : Symbol) (below : List ℕ) → IsReadable s → s.size ≤ 32 → Flat s → IsTorusCover s t below → t.size ≤ 384
 torus_most s t below readable few flat is =
-    let m = middle_of s is.middle is.lower readable.symbol (omega (arith, few)) readable.connected flat is.oriented in
+    let m = middle_of s is.middle is.lower readable.symbol.symbol readable.connected is.oriented in
     let g = is.torus.greatest in
-    let most = sheets_most is.sheets s.size (plane_crystal is.middle m.small m.connected m.oriented m.flat g.pair g.chamber is.sheets g.is_chamber g.branching) few in
+    let most = sheets_most is.sheets s.size (plane_crystal is.middle m.symbol m.connected m.oriented (m.flat flat) g.pair g.chamber is.sheets g.is_chamber g.branching) few in
     ⊎_elim (λ once. let size = once.1 in omega (arith, most, size)) (λ twice. let size = twice.1 in omega (arith, most, size)) (sheets_above s t below is)
 
 cover_most : (c : Covering) (s t : Symbol) → IsReadable s → s.size ≤ 32 → Flat s → IsCoverBy c s t → t.size ≤ 384
