@@ -1,5 +1,5 @@
 -- How many chambers an item has.
-use Rattle.std.proofs.Common.{◌≡◌, ◌*◌, ◌≤◌, ℕ, zero, suc, List, length, inl, inr, ap, subst, ⊎_elim, arith}
+use Rattle.std.proofs.Common.{◌*◌, ◌≤◌, ℕ, zero, suc, List, length, inl, inr, ap, subst, ⊎_elim, arith}
 use Rattle.dd_model.specs.Symbol.{Symbol}
 use Rattle.dd_model.specs.Flat.{Flat}
 use Rattle.dd_model.specs.Reading.{IsReadable}
