@@ -109,8 +109,8 @@ module _ (t : Symbol) (torus : IsTorus t) (net : Net) (is : IsNet t net) where
         b = w is.two;
         adds = record {
           each = λ walk closed.
-              let sums = telescoped t inv z h cells closed.start closed.start walk closed.chamber closed.walk in
-              let same = sum_along-same t w (λ d. w is.one *ℤ x d +ℤ w is.two *ℤ y d) (combination w is_w trees) closed.start closed.start walk closed.walk in
+              let sums = telescoped t inv z h cells closed.start closed.start walk closed.chamber closed.goes in
+              let same = sum_along-same t w (λ d. w is.one *ℤ x d +ℤ w is.two *ℤ y d) (combination w is_w trees) closed.start closed.start walk closed.goes in
               let both = sum_along-both (w is.one) (w is.two) x y walk in
               let plain : sum_along z walk ≡ sum_along w walk = omega (arith, ints) in
               plain ∙ same ∙ both;
@@ -143,7 +143,7 @@ module _ (t : Symbol) (torus : IsTorus t) (net : Net) (is : IsNet t net) where
       record {
         walk = d ∷ back.chambers;
         is_loop = record {
-          closed = record { start = d; chamber = h; walk = (h, in_cell-refl t Vertex d, back.is.walk) };
+          closed = record { start = d; chamber = h; goes = (h, in_cell-refl t Vertex d, back.is.walk) };
           along_x = let e = back.is.still x still_x in omega (arith, ints);
           along_y = let e = back.is.still y still_y in omega (arith, ints);
         };

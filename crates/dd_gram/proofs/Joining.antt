@@ -336,10 +336,10 @@ module _ (t : Symbol) (torus : IsTorus t) (edges : List ℕ) (cells : AreCells t
         };
         few = omega arith;
       }
-  joins (suc k) high =
+  joins (suc k) high a b ha hb same =
       ⊎_elim
-      (λ yes_. joins_tree k (omega arith) yes_ (joins k (omega arith)))
-      (λ no_ a b ha hb same.
+      (λ yes_. joins_tree k (omega arith) yes_ (joins k (omega arith)) a b ha hb same)
+      (λ no_.
       let alike : L k (root a) ≡ L k (root b) = sym (label_same k (root a) no_) ∙ same ∙ label_same k (root b) no_ in
       let w = joins k (omega arith) a b ha hb alike in
       let other = sum_by_equal (λ c. one (L k (root c)) (L k (root a))) (λ c. one (L (suc k) (root c)) (L (suc k) (root a)))

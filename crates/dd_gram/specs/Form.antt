@@ -1,8 +1,12 @@
 -- The form of a torus: the sum, over its symmetries, of the transposed matrix times the matrix.
-use Rattle.std.specs.Prelude.{◌≡◌, ◌≢◌, ◌↔◌, ◌+ℤ◌, ◌*ℤ◌, ℕ, ℤ, pos, List, [], ◌∷◌}
+use Rattle.std.specs.Prelude.{◌≡◌, ◌≢◌, ◌↔◌, ◌≤◌, ◌*◌, ◌+ℤ◌, ◌*ℤ◌, ℕ, nat_abs, ℤ, pos, List, [], ◌∷◌}
 use Rattle.std.specs.List.{AllByRecursion, Contains}
-use Rattle.dd_model.specs.Symbol.{Symbol}
+use Rattle.dd_model.specs.Symbol.{Symbol, item}
 use Rattle.dd_model.specs.Isomorphic.{IsIsomorphism}
+use Rattle.dd_model.specs.Small.{IsSmallSymbol}
+use Rattle.dd_covers.specs.Torus.{IsTorus}
+use Rattle.dd_lattice.specs.NetOf.{IsNet}
+use Rattle.dd_lattice.specs.declared.net.Net.{Net}
 use Rattle.dd_gram.specs.Action.{IsAction}
 use Rattle.dd_gram.specs.declared.forms.Gram.{Gram}
 use Rattle.dd_gram.specs.declared.forms.Matrix.{Matrix}
@@ -58,3 +62,33 @@ carried m g = record {
   b = m.xx *ℤ (g.a *ℤ m.xy +ℤ g.b *ℤ m.yy) +ℤ m.yx *ℤ (g.b *ℤ m.xy +ℤ g.c *ℤ m.yy);
   c = m.xy *ℤ (g.a *ℤ m.xy +ℤ g.b *ℤ m.yy) +ℤ m.yy *ℤ (g.b *ℤ m.xy +ℤ g.c *ℤ m.yy);
 }
+
+-- g is the form of some torus whose net has at most 96 vertices
+pub record IsGramOfSome (g : Gram) : Type 0 where
+  pub t : Symbol
+  pub small : IsSmallSymbol t
+  pub torus : IsTorus t
+  pub net : Net
+  pub is_net : IsNet t net
+  pub few : net.vertices ≤ 96
+  pub is_gram : IsGram t g
+
+-- ## As it is found
+
+-- the symmetries that take chamber 1 to one of the first k chambers, and the sum of the squares of their matrices
+pub record IsGramTo (t : Symbol) (k : ℕ) (g : Gram) : Type 0 where
+  pub symmetries : List (List ℕ)
+  pub distinct : AreDistinct symmetries
+  pub members : (f : List ℕ) → Contains symmetries f ↔ (IsIsomorphism t t f × (item f 1 ≤ k))
+  pub matrices : List Matrix
+  pub are_actions : AreActions t symmetries matrices
+  pub sum : g ≡ sum_of matrices
+  pub small_a : nat_abs g.a ≤ k * 18432
+  pub small_b : nat_abs g.b ≤ k * 18432
+  pub small_c : nat_abs g.c ≤ k * 18432
+
+-- numbers that leave room for a sum
+pub record IsSmallForm (g : Gram) : Type 0 where
+  pub a : nat_abs g.a ≤ 1000000000
+  pub b : nat_abs g.b ≤ 1000000000
+  pub c : nat_abs g.c ≤ 1000000000

@@ -6,14 +6,14 @@ use Rattle.dd_gram.specs.declared.forms.Gram.{Gram}
 
 -- z is the greatest whole number with z d at most n
 pub record IsWholePart (n d z : ℤ) : Type 0 where
-  pub low : z *ℤ d ≤ℤ n
-  pub high : n <ℤ (z +ℤ pos 1) *ℤ d
+  pub low : (z *ℤ d) ≤ℤ n
+  pub high : n <ℤ ((z +ℤ pos 1) *ℤ d)
 
 -- r is the greatest whole number of at least 0 with a square of at most n
 pub record IsWholeRoot (n r : ℤ) : Type 0 where
   pub positive : pos 0 ≤ℤ r
-  pub low : r *ℤ r ≤ℤ n
-  pub high : n <ℤ (r +ℤ pos 1) *ℤ (r +ℤ pos 1)
+  pub low : (r *ℤ r) ≤ℤ n
+  pub high : n <ℤ ((r +ℤ pos 1) *ℤ (r +ℤ pos 1))
 
 -- The first side of the cell is 1000 long. The second one goes p along it and q across it: p is the whole part of 1000 b / a, and q
 -- that of the whole root of 1000000 (a c - b b), over a.

@@ -35,7 +35,7 @@ pub record IsNewStep (t : Symbol) (net : Net) (met : List Bool) (s : Step) : Typ
   pub step : (is : IsNet t net) → IsStep t net is s
   pub from : IsNetVertex net s.from
   pub to : IsNetVertex net s.to
-  pub met : flag met s.from ≡ true
+  pub was_met : flag met s.from ≡ true
   pub new : flag met s.to ≡ false
 
 -- no edge without a shift leads from a vertex that is met to one that is not
@@ -62,5 +62,5 @@ pub record AreSteps (t : Symbol) (net : Net) (root : ℕ) (steps : List Step) : 
 
 -- and they reach all vertices
 pub record AreWholeSteps (t : Symbol) (net : Net) (root : ℕ) (steps : List Step) : Type 0 where
-  pub steps : AreSteps t net root steps
+  pub are : AreSteps t net root steps
   pub all : (v : ℕ) → IsNetVertex net v → IsReached root steps (length steps) v

@@ -14,7 +14,7 @@ IsWalk t a (d ∷ ds) b = IsChamber t d × InCell t Vertex a d × IsWalk t (op t
 pub record IsClosedWalk (t : Symbol) (walk : List ℕ) : Type 0 where
   pub start : ℕ
   pub chamber : IsChamber t start
-  pub walk : IsWalk t start walk start
+  pub goes : IsWalk t start walk start
 
 -- the sum of a number of chambers over a walk
 abbrev pub sum_along : (ℕ → ℤ) → List ℕ → ℤ

@@ -1,11 +1,6 @@
-ghost use Rattle.std.specs.Prelude.{◌≡◌, ◌≤◌, ◌<◌, ◌+◌, ◌^◌, ℕ, ℤ, nat_abs, List, length, IfOk};
+ghost use Rattle.std.specs.Prelude.{◌≡◌, ◌≤◌, ℕ, nat_abs, length, IfOk};
 ghost use Rattle.std.specs.List.{Contains};
 ghost use Rattle.dd_model.specs.Symbol.{item};
-ghost use Rattle.dd_model.specs.Isomorphic.{IsIsomorphism};
-ghost use Rattle.dd_covers.specs.Torus.{IsTorus};
-ghost use Rattle.dd_lattice.specs.NetOf.{IsNet};
-ghost use Rattle.dd_gram.specs.Action.{IsAction};
-ghost use Rattle.dd_gram.specs.Loops.{IsBasis, IsSmallMatrix};
 ghost use Rattle.dd_gram.specs.Shifts.{number_at};
 ghost use Rattle.dd_gram.specs.Walks.{sum_along, image_walk};
 
@@ -22,7 +17,7 @@ fn sum_of_images(numbers: &[i64], map: &Map, walk: &[u32]) -> i64
     requires inside { (d : ℕ) → Contains walk.now d → (1 ≤ d) × (d ≤ length map.now)
         × (1 ≤ item map.now d) × (item map.now d ≤ length numbers.now) }
     requires small { (d : ℕ) → nat_abs (number_at numbers.now d) ≤ 1 }
-    requires few { length walk.now ≤ 2 ^ 32 }
+    requires few { length walk.now ≤ 96 }
     ensures sum { result ≡ sum_along (number_at numbers.now) (image_walk map.now walk.now) }
     ensures small { nat_abs result ≤ length walk.now }
 {
@@ -45,6 +40,14 @@ pub(crate) struct Basis {
 }
 
 impl Basis {
+    ghost use Rattle.dd_model.specs.Symbol.{Symbol};
+    ghost use Rattle.dd_model.specs.Isomorphic.{IsIsomorphism};
+    ghost use Rattle.dd_covers.specs.Torus.{IsTorus};
+    ghost use Rattle.dd_lattice.specs.NetOf.{IsNet};
+    ghost use Rattle.dd_lattice.specs.declared.net.Net.{Net};
+    ghost use Rattle.dd_gram.specs.Action.{IsAction};
+    ghost use Rattle.dd_gram.specs.Loops.{IsBasis, ServesFor, IsSmallMatrix};
+
     /// Finds the two walks along the edges of a net.
     pub(crate) fn new(alloc: Global, t: &Connected, net: &Net) -> Result<Basis, Memory>
         requires torus { IsTorus t.now }
@@ -63,8 +66,10 @@ impl Basis {
 
     /// The matrix of a symmetry: its columns are the total shifts of the images of the two walks.
     pub(crate) fn matrix(&self, map: &Map) -> Matrix
-        requires some { (t : _) × IsTorus t }
-        ensures { result ≡ result }
+        requires some { ServesFor self.now map.now }
+        ensures action { (t : Symbol) (net : Net) → IsTorus t → IsNet t net
+            → IsBasis t net self.now → IsIsomorphism t t map.now → IsAction t map.now result }
+        ensures small { IsSmallMatrix result }
     {
         let EdgeNumbers { x, y } = &self.numbers;
         Matrix {

@@ -1,0 +1,5 @@
+pub mod WalkLemmas
+pub mod Balanced
+pub mod Joining
+pub mod Homology
+pub mod SmallShifts
