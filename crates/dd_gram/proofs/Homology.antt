@@ -15,12 +15,13 @@ use Rattle.dd_lattice.specs.declared.net.Net.{Net}
 use Rattle.dd_lattice.proofs.KindsExist.{kinds_exist}
 use Rattle.dd_lattice.proofs.OneChoice.{one_solution}
 use Rattle.dd_lattice.proofs.Rings.{at, nat, equal, ◌⊞◌, ◌⊠◌}
+use Rattle.dd_gram.specs.Loops.{IsLoop}
 use Rattle.dd_gram.specs.Walks.{IsWalk, IsClosedWalk, sum_along}
 use Rattle.dd_gram.proofs.WalkLemmas.{telescoped, sum_along-same, sum_along-both, times_zero}
 use Rattle.dd_gram.proofs.Balanced.{IsBalanced, balanced_shifts, less, balanced_less, left, balanced_left}
 use Rattle.dd_gram.proofs.Joining.{IsStill, HasTreeWalk, level, level_of_vertices, level_rises, tree_walks}
 
-times_one : (a : ℤ) → a *ℤ pos 1 ≡ a
+pub times_one : (a : ℤ) → a *ℤ pos 1 ≡ a
 times_one a = equal (at a ⊠ nat 1) (at a) (omega arith)
 
 module _ (t : Symbol) (torus : IsTorus t) (net : Net) (is : IsNet t net) where
@@ -119,14 +120,9 @@ module _ (t : Symbol) (torus : IsTorus t) (net : Net) (is : IsNet t net) where
 
   -- ## Closed walks with the shifts (1, 0) and (0, 1)
 
-  pub record IsLoop (walk : List ℕ) (m n : ℤ) : Type 0 where
-    pub closed : IsClosedWalk t walk
-    pub along_x : sum_along x walk ≡ m
-    pub along_y : sum_along y walk ≡ n
-
   pub record HasLoop (m n : ℤ) : Type 0 where
     pub walk : List ℕ
-    pub is_loop : IsLoop walk m n
+    pub is_loop : IsLoop t net is walk m n
     pub few : length walk ≤ t.size
 
   still_x : IsStill t x
@@ -157,7 +153,7 @@ module _ (t : Symbol) (torus : IsTorus t) (net : Net) (is : IsNet t net) where
   second_loop = subst (λ n. HasLoop (pos 0) n) is.are_second.unit (subst (λ m. HasLoop m (y is.two)) x_at_two (loop_from is.two is.are_left.second.least.0))
 
   -- the numbers of such a combination are those along the two walks
-  pub sums_at : (z : ℕ → ℤ) (a b : ℤ) → AddsAlong z a b → (one two : List ℕ) → IsLoop one (pos 1) (pos 0) → IsLoop two (pos 0) (pos 1) → (sum_along z one ≡ a) × (sum_along z two ≡ b)
+  pub sums_at : (z : ℕ → ℤ) (a b : ℤ) → AddsAlong z a b → (one two : List ℕ) → IsLoop t net is one (pos 1) (pos 0) → IsLoop t net is two (pos 0) (pos 1) → (sum_along z one ≡ a) × (sum_along z two ≡ b)
   sums_at z a b adds one two first second =
       let e = adds.each one first.closed in
       let f = adds.each two second.closed in

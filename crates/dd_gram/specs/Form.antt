@@ -12,7 +12,7 @@ use Rattle.dd_gram.specs.declared.forms.Gram.{Gram}
 use Rattle.dd_gram.specs.declared.forms.Matrix.{Matrix}
 
 -- no two members are equal
-abbrev pub AreDistinct : List (List ℕ) → Type 0
+abbrev pub AreDistinct : {A : Type 0} → List A → Type 0
 AreDistinct [] = Unit {0}
 AreDistinct (f ∷ fs) = AllByRecursion (λ g. f ≢ g) fs × AreDistinct fs
 
@@ -86,6 +86,15 @@ pub record IsGramTo (t : Symbol) (k : ℕ) (g : Gram) : Type 0 where
   pub small_a : nat_abs g.a ≤ k * 18432
   pub small_b : nat_abs g.b ≤ k * 18432
   pub small_c : nat_abs g.c ≤ k * 18432
+
+-- the product of two matrices
+abbrev pub times : Matrix → Matrix → Matrix
+times m n = record {
+  xx = m.xx *ℤ n.xx +ℤ m.xy *ℤ n.yx;
+  xy = m.xx *ℤ n.xy +ℤ m.xy *ℤ n.yy;
+  yx = m.yx *ℤ n.xx +ℤ m.yy *ℤ n.yx;
+  yy = m.yx *ℤ n.xy +ℤ m.yy *ℤ n.yy;
+}
 
 -- numbers that leave room for a sum
 pub record IsSmallForm (g : Gram) : Type 0 where

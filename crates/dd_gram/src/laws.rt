@@ -25,7 +25,7 @@ pub fn symmetries_keep_the_form()
 
 /// No torus has two forms.
 pub fn a_form_is_that_of_one_list()
-    ensures { (t : Symbol) (g h : Gram) → IsGram t g → IsGram t h → g ≡ h }
+    ensures { (t : Symbol) (g h : Gram) → IsTorus t → IsGram t g → IsGram t h → g ≡ h }
 {}
 
 /// The form of a torus is positive definite.

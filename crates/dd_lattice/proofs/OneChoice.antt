@@ -210,7 +210,7 @@ one_number t inv vs cells d m n h a b =
     (cases_eq m n)
 
 -- the two that are left are the first two of such
-one_left : (t : Symbol) (a b c d : ℕ) → AreLeft t a b → AreLeft t c d → (a ≡ c) × (b ≡ d)
+pub one_left : (t : Symbol) (a b c d : ℕ) → AreLeft t a b → AreLeft t c d → (a ≡ c) × (b ≡ d)
 one_left t a b c d ab cd =
     let low = ab.apart in
     let high = cd.apart in
