@@ -3,6 +3,8 @@ pub mod Balanced
 pub mod Joining
 pub mod Homology
 pub mod SmallShifts
+pub mod NumberLemmas
+pub mod SpreadLemmas
 pub mod Actions
 pub mod Distinct
 pub mod KeptForms

@@ -1,6 +1,6 @@
 -- Closed walks with given total shifts.
 use Rattle.std.specs.Prelude.{◌≡◌, ◌<◌, ◌≤◌, ℕ, nat_abs, ℤ, pos, List, length, slice_index_or}
-use Rattle.dd_model.specs.Symbol.{Symbol}
+use Rattle.dd_model.specs.Symbol.{Symbol, IsChamber}
 use Rattle.dd_model.specs.Isomorphic.{IsIsomorphism}
 use Rattle.dd_covers.specs.Torus.{IsTorus}
 use Rattle.dd_lattice.specs.NetOf.{IsVertexNumber, IsNet}
@@ -13,7 +13,7 @@ use Rattle.dd_gram.specs.declared.forms.Matrix.{Matrix}
 
 -- a walk from the vertex of a chamber to the vertex with a number
 abbrev pub IsWalkTo : (t : Symbol) → (net : Net) → IsNet t net → ℕ → List ℕ → ℕ → Type 0
-IsWalkTo t net is a walk v = (b : ℕ) → IsVertexNumber t is.vertices b v → IsWalk t a walk b
+IsWalkTo t net is a walk v = (b : ℕ) → IsChamber t b → IsVertexNumber t is.vertices b v → IsWalk t a walk b
 
 -- a closed walk with the total shift (m, n)
 pub record IsLoop (t : Symbol) (net : Net) (is : IsNet t net) (walk : List ℕ) (m n : ℤ) : Type 0 where

@@ -1,6 +1,6 @@
 -- The shifts of the edges of a torus, as each chamber passes its edge.
 use Rattle.std.specs.Prelude.{◌≡◌, ℕ, ◌-◌, ◌<◌, ◌≤◌, nat_abs, ℤ, pos, ◌-ℤ◌, List, length, slice_index, slice_index_or}
-use Rattle.dd_model.specs.Symbol.{Symbol, IsChamber, op}
+use Rattle.dd_model.specs.Symbol.{Symbol, IsChamber, item, op}
 use Rattle.dd_model.specs.declared.index.Index.TheVariants.{Zero, Two}
 
 -- the number of a chamber
@@ -30,3 +30,11 @@ pub record AreNumbers (t : Symbol) (z : ℕ → ℤ) (list : List ℤ) : Type 0 
   pub whole : length list ≡ t.size
   pub each : (d : ℕ) → IsChamber t d → number_at list d ≡ z d
   pub small : (d : ℕ) → IsChamber t d → nat_abs (z d) ≤ 1
+
+-- a chamber whose image has a number of at most 1 in size
+pub record HasSmallImage (list : List ℤ) (map : List ℕ) (d : ℕ) : Type 0 where
+  pub low : 1 ≤ d
+  pub high : d ≤ length map
+  pub image_low : 1 ≤ item map d
+  pub image_high : item map d ≤ length list
+  pub small : nat_abs (number_at list (item map d)) ≤ 1

@@ -1,7 +1,6 @@
 ghost use Rattle.std.specs.Prelude.{◌≡◌, ◌≤◌, ℕ, nat_abs, length, IfOk};
 ghost use Rattle.std.specs.List.{Contains};
-ghost use Rattle.dd_model.specs.Symbol.{item};
-ghost use Rattle.dd_gram.specs.Shifts.{number_at};
+ghost use Rattle.dd_gram.specs.Shifts.{number_at, HasSmallImage};
 ghost use Rattle.dd_gram.specs.Walks.{sum_along, image_walk};
 
 use crate::edge_numbers::EdgeNumbers;
@@ -14,9 +13,7 @@ use std::alloc::Global;
 
 /// The sum of a number of chambers over the image of a walk.
 fn sum_of_images(numbers: &[i64], map: &Map, walk: &[u32]) -> i64
-    requires inside { (d : ℕ) → Contains walk.now d → (1 ≤ d) × (d ≤ length map.now)
-        × (1 ≤ item map.now d) × (item map.now d ≤ length numbers.now) }
-    requires small { (d : ℕ) → nat_abs (number_at numbers.now d) ≤ 1 }
+    requires each { (d : ℕ) → Contains walk.now d → HasSmallImage numbers.now map.now d }
     requires few { length walk.now ≤ 96 }
     ensures sum { result ≡ sum_along (number_at numbers.now) (image_walk map.now walk.now) }
     ensures small { nat_abs result ≤ length walk.now }

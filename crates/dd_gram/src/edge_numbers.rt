@@ -56,8 +56,9 @@ impl EdgeNumbers {
         let mut x = vec![in alloc; 0i64; symbol.size() as usize]?;
         let mut y = vec![in alloc; 0i64; symbol.size() as usize]?;
         for k in 0..edges.len() {
-            put(&mut x, symbol, edges[k], net.edges[k].x);
-            put(&mut y, symbol, edges[k], net.edges[k].y);
+            let edge = net.edges[k];
+            put(&mut x, symbol, edges[k], edge.x);
+            put(&mut y, symbol, edges[k], edge.y);
         }
         Ok(EdgeNumbers { x, y })
     }
