@@ -34,10 +34,10 @@ module _ (t : Symbol) (torus : IsTorus t) (net : Net) (is : IsNet t net) where
   abbrev y : ℕ → ℤ
   y = is.second
 
-  y_at_one : y is.one ≡ pos 0
+  pub y_at_one : y is.one ≡ pos 0
   y_at_one = let a = is.are_left.apart in is.are_second.left is.one is.are_left.first (λ e. absurd (omega arith))
 
-  x_at_two : x is.two ≡ pos 0
+  pub x_at_two : x is.two ≡ pos 0
   x_at_two = let a = is.are_left.apart in is.are_first.left is.two is.are_left.second (λ e. absurd (omega arith))
 
   -- ## What is 0 on trees

@@ -6,5 +6,6 @@ pub mod SmallShifts
 pub mod NumberLemmas
 pub mod SpreadLemmas
 pub mod Actions
+pub mod BasisLemmas
 pub mod Distinct
 pub mod KeptForms

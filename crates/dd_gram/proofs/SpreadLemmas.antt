@@ -77,8 +77,8 @@ module _ (t : Symbol) (torus : IsTorus t) (net : Net) (is : IsNet t net) where
 
 -- ## A step more
 
--- the edge that was read at a place
-pub one_more : (es : List NetEdge) (q k : ℕ) (e x : NetEdge) → q ≡ k → q < length es → x ≡ get_or es k x → get_or es q e ≡ x
+-- what was read at a place
+pub one_more : {A : Type 0} (es : List A) (q k : ℕ) (e x : A) → q ≡ k → q < length es → x ≡ get_or es k x → get_or es q e ≡ x
 one_more es q k e x at inside here = get_or_default es q e x inside ∙ ap (λ j. get_or es j x) at ∙ sym here
 
 -- the edge of a chamber, ahead or back
@@ -327,6 +327,17 @@ way_start t net is inv edges cells root steps whole k e inside hv =
       along_x = omega (arith, ints);
       along_y = omega (arith, ints);
     }
+
+pub way_begun : (t : Symbol) (net : Net) (is : IsNet t net) → AreInvolutions t → (edges : List ℕ) → AreCells t Edge edges → (k : ℕ) (e x : NetEdge) → k < length edges → IsNetVertex net (get_or net.edges.items k e).to
+    → get_or net.edges.items k e ≡ x → (steps : List Step) → AreWholeSteps t net x.from steps → (m : ℕ) → m ≡ length steps → (walk : List ℕ) → walk ≡ get_or edges k 0 ∷ []
+    → IsOnWay t net is (get_or net.edges.items k e).from steps (get_or edges k 0) (get_or net.edges.items k e).x (get_or net.edges.items k e).y m walk x.to
+way_begun t net is inv edges cells k e x inside hv same steps whole m many walk alone =
+    let y = get_or net.edges.items k e in
+    let d = get_or edges k 0 in
+    let whole_y : AreWholeSteps t net y.from steps = subst (λ (z : NetEdge). AreWholeSteps t net z.from steps) (sym same) whole in
+    let start = way_start t net is inv edges cells y.from steps whole_y k e inside hv in
+    let at_m : IsOnWay t net is y.from steps d y.x y.y m (d ∷ []) y.to = subst (λ n. IsOnWay t net is y.from steps d y.x y.y n (d ∷ []) y.to) (sym many) start in
+    subst (λ (z : NetEdge). IsOnWay t net is y.from steps d y.x y.y m walk z.to) same (subst (λ ws. IsOnWay t net is y.from steps d y.x y.y m ws y.to) (sym alone) at_m)
 
 -- and the whole walk, which is closed
 pub way_end : (t : Symbol) (net : Net) (is : IsNet t net) (edges : List ℕ) → AreCells t Edge edges → (steps : List Step) (k : ℕ) (e : NetEdge) (u v : ℤ) (walk : List ℕ) (place : ℕ) → k < length edges

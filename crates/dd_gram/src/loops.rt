@@ -44,6 +44,7 @@ pub(crate) fn closed_walk(
     requires connected { IsConnectedNet net.now }
     requires edges { AreCells t.now Edge edges.now }
     requires inside { edge < length net.now.edges.items }
+    requires listed { edge < length edges.now }
     ensures few { IfOk result (λ walk. length walk.items ≤ net.now.vertices) }
     ensures is_loop { IfOk result (λ walk. (is : IsNet t.now net.now) (e : NetEdge)
         → IsLoop t.now net.now is walk.items (slice_index_or net.now.edges.items edge e).x
