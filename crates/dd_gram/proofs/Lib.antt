@@ -9,3 +9,6 @@ pub mod Actions
 pub mod BasisLemmas
 pub mod Distinct
 pub mod KeptForms
+pub mod SizeLemmas
+pub mod GramLemmas
+pub mod FrameLemmas

@@ -59,7 +59,7 @@ pub fn gram(alloc: Global, t: &Connected, net: &Net) -> Result<Gram, Memory>
     let mut sum = Gram { a: 0, b: 0, c: 0 };
     for k in 0..t.symbol().size() {
         if let Some(map) = symmetries.carry(alloc, t, k + 1)? {
-            sum = sum.plus(Gram::of_matrix(basis.matrix(&map)));
+            sum = Gram::of_matrix(basis.matrix(&map)).plus(sum);
         }
     }
     Ok(sum)
