@@ -1,5 +1,5 @@
 -- The box that spots lie in.
-use Rattle.std.specs.Prelude.{◌*◌, ◌^◌, ◌≤◌, nat_abs, List, [], ◌∷◌}
+use Rattle.std.specs.Prelude.{◌^◌, ◌≤◌, nat_abs, List, [], ◌∷◌}
 use Rattle.std.specs.Int.{int_min, int_max}
 use Rattle.dd_model.specs.declared.frame.Frame.{Frame}
 use Rattle.dd_lattice.specs.declared.net_edge.NetEdge.{NetEdge}
@@ -27,7 +27,7 @@ extent_of frame edges points = covering (box_at start) (printed frame edges poin
 
 -- its numbers have room
 pub record IsSmallExtent (e : Extent) : Type 0 where
-  pub left : nat_abs e.left ≤ 5000 * 2 ^ 63
-  pub top : nat_abs e.top ≤ 5000 * 2 ^ 63
-  pub right : nat_abs e.right ≤ 5000 * 2 ^ 63
-  pub bottom : nat_abs e.bottom ≤ 5000 * 2 ^ 63
+  pub left : nat_abs e.left ≤ 2 ^ 119
+  pub top : nat_abs e.top ≤ 2 ^ 119
+  pub right : nat_abs e.right ≤ 2 ^ 119
+  pub bottom : nat_abs e.bottom ≤ 2 ^ 119

@@ -2,35 +2,34 @@ ghost use Rattle.std.specs.Prelude.{◌≡◌, ◌++◌, ◌≤◌, ◌<◌, ◌
 ghost use Rattle.std.specs.List.{AllByRecursion, flat_map};
 ghost use Rattle.dd_lattice.specs.Nets.{IsConnectedNet};
 ghost use Rattle.dd_draw.specs.Limit.{IsNarrowPoint};
-ghost use Rattle.dd_draw.specs.Spots.{IsSmallSpot, corners, from_spot, to_spot};
+ghost use Rattle.dd_draw.specs.Spots.{IsSmallFrame, IsSmallSpot, corners, from_spot, to_spot};
 ghost use Rattle.dd_draw.specs.Extents.{extent_of, IsSmallExtent};
-ghost use Rattle.dd_draw.specs.Document.{head_text, view_text, cell_text, spot_text, line_text, edge_text, middle_text, vertex_text, exact_text, document};
+ghost use Rattle.dd_draw.specs.Document.{head_text, view_text, cell_text, corner_text, spot_text, line_text, edge_text, middle_text, vertex_text, exact_text, document};
 
 use crate::extent::Extent;
 use crate::places::Places;
 use crate::point::Point;
-use crate::spot::Spot;
+use crate::spot::{Spot, second_side};
 use dd_cells::Fraction;
 use dd_lattice::{Net, NetEdge};
 use dd_model::{Frame, Memory};
 use std::alloc::{AllocError, Global};
 
-/// Of the frame, the corners of the cell after the first.
+/// The corners of the cell after the first.
 fn corners(frame: Frame) -> [Spot; 3]
-    ensures { result ≡ corners frame }
+    requires { IsSmallFrame frame }
+    ensures same { result ≡ corners frame }
+    ensures small { AllByRecursion IsSmallSpot result }
 {
-    match frame {
-        Frame::Square => [
-            Spot { x: 1000, y: 0 },
-            Spot { x: 1000, y: 1000 },
-            Spot { x: 0, y: 1000 },
-        ],
-        Frame::Hex => [
-            Spot { x: 1000, y: 0 },
-            Spot { x: 1500, y: 866 },
-            Spot { x: 500, y: 866 },
-        ],
-    }
+    let (lean, rise) = second_side(frame);
+    [
+        Spot { x: 1000, y: 0 },
+        Spot {
+            x: 1000 + lean,
+            y: rise,
+        },
+        Spot { x: lean, y: rise },
+    ]
 }
 
 /// Appends a spot.
@@ -69,14 +68,27 @@ fn put_head(out: &mut Vec<u8>, extent: Extent) -> Result<(), Memory>
     Ok(())
 }
 
-/// The path round the cell.
-fn cell(frame: Frame) -> &'static [u8]
-    ensures { result.now ≡ cell_text frame }
+/// Appends a corner of the cell.
+fn put_corner(out: &mut Vec<u8>, corner: Spot) -> Result<(), Memory>
+    ensures { OnOk result (out.new.items ≡ out.old.items ++ corner_text corner) }
 {
-    match frame {
-        Frame::Square => b"<path d=\"M0 0L1000 0L1000 1000L0 1000Z\" stroke=\"silver\"/>\n",
-        Frame::Hex => b"<path d=\"M0 0L1000 0L1500 866L500 866Z\" stroke=\"silver\"/>\n",
-    }
+    out.extend_from_slice(b"L")?;
+    put_spot(out, corner)?;
+    Ok(())
+}
+
+/// Appends the path round the cell.
+fn put_cell(out: &mut Vec<u8>, frame: Frame) -> Result<(), Memory>
+    requires { IsSmallFrame frame }
+    ensures { OnOk result (out.new.items ≡ out.old.items ++ cell_text frame) }
+{
+    let [one, two, three] = corners(frame);
+    out.extend_from_slice(b"<path d=\"M0 0")?;
+    put_corner(out, one)?;
+    put_corner(out, two)?;
+    put_corner(out, three)?;
+    out.extend_from_slice(b"Z\" stroke=\"silver\"/>\n")?;
+    Ok(())
 }
 
 /// Appends a fraction.
@@ -101,7 +113,8 @@ fn middle_of(alloc: Global, spot: Spot) -> Result<String, AllocError>
 
 /// Appends a vertex.
 fn put_vertex(out: &mut Vec<u8>, frame: Frame, point: &Point) -> Result<(), Memory>
-    requires { IsNarrowPoint point.now }
+    requires frame { IsSmallFrame frame }
+    requires narrow { IsNarrowPoint point.now }
     ensures { OnOk result (out.new.items ≡ out.old.items ++ vertex_text frame point.now) }
 {
     let middle = middle_of(*out.allocator(), Spot::of(frame, point))?;
@@ -115,6 +128,7 @@ fn put_vertex(out: &mut Vec<u8>, frame: Frame, point: &Point) -> Result<(), Memo
 
 /// The two ends of an edge.
 fn ends_of(frame: Frame, points: &[Point], edge: NetEdge) -> (Spot, Spot)
+    requires frame { IsSmallFrame frame }
     requires from { (1 ≤ edge.from) × (edge.from ≤ length points.now) }
     requires to { (1 ≤ edge.to) × (edge.to ≤ length points.now) }
     requires narrow { AllByRecursion IsNarrowPoint points.now }
@@ -129,6 +143,7 @@ fn ends_of(frame: Frame, points: &[Point], edge: NetEdge) -> (Spot, Spot)
 
 /// The box of all that is printed of the cell and of the edges.
 fn extent_of(frame: Frame, net: &Net, points: &[Point]) -> Extent
+    requires frame { IsSmallFrame frame }
     requires connected { IsConnectedNet net.now }
     requires count { length points.now ≡ net.now.vertices }
     requires narrow { AllByRecursion IsNarrowPoint points.now }
@@ -158,6 +173,7 @@ fn put_edge(out: &mut Vec<u8>, from: Spot, to: Spot) -> Result<(), Memory>
 
 /// Appends the edges in their order.
 fn put_edges(out: &mut Vec<u8>, frame: Frame, net: &Net, points: &[Point]) -> Result<(), Memory>
+    requires frame { IsSmallFrame frame }
     requires connected { IsConnectedNet net.now }
     requires count { length points.now ≡ net.now.vertices }
     requires narrow { AllByRecursion IsNarrowPoint points.now }
@@ -173,7 +189,8 @@ fn put_edges(out: &mut Vec<u8>, frame: Frame, net: &Net, points: &[Point]) -> Re
 
 /// Appends the vertices in their order.
 fn put_vertices(out: &mut Vec<u8>, frame: Frame, points: &[Point]) -> Result<(), Memory>
-    requires { AllByRecursion IsNarrowPoint points.now }
+    requires frame { IsSmallFrame frame }
+    requires narrow { AllByRecursion IsNarrowPoint points.now }
     ensures { OnOk result
         (out.new.items ≡ out.old.items ++ flat_map (vertex_text frame) points.now) }
 {
@@ -185,6 +202,7 @@ fn put_vertices(out: &mut Vec<u8>, frame: Frame, points: &[Point]) -> Result<(),
 
 /// Appends the drawing of a placed net: its cell, its edges and its vertices with their exact places.
 pub fn svg(out: &mut Vec<u8>, net: &Net, places: &Places, frame: Frame) -> Result<(), Memory>
+    requires frame { IsSmallFrame frame }
     requires connected { IsConnectedNet net.now }
     requires count { length places.now.points.items ≡ net.now.vertices }
     requires narrow { AllByRecursion IsNarrowPoint places.now.points.items }
@@ -193,7 +211,7 @@ pub fn svg(out: &mut Vec<u8>, net: &Net, places: &Places, frame: Frame) -> Resul
 {
     let points = places.points.as_slice();
     put_head(out, extent_of(frame, net, points))?;
-    out.extend_from_slice(cell(frame))?;
+    put_cell(out, frame)?;
     put_edges(out, frame, net, points)?;
     put_vertices(out, frame, points)?;
     out.extend_from_slice(b"</svg>\n")?;
