@@ -1,5 +1,5 @@
 -- Where points are printed: whole numbers, a thousand of which are the side of a cell.
-use Rattle.std.specs.Prelude.{◌^◌, ◌≤◌, nat_abs, ℤ, pos, ◌+ℤ◌, ◌*ℤ◌, List, [], ◌∷◌, ◌++◌}
+use Rattle.std.specs.Prelude.{◌+◌, ◌^◌, ◌≤◌, nat_abs, ℤ, pos, ◌+ℤ◌, ◌*ℤ◌, List, [], ◌∷◌, ◌++◌}
 use Rattle.std.specs.Int.{int_div_euclid}
 use Rattle.std.specs.List.{flat_map}
 use Rattle.dd_cells.specs.declared.fractions.Fraction.{Fraction}
@@ -24,11 +24,6 @@ abbrev pub rise : Frame → ℤ
 rise Square = pos 1000
 rise Hex = pos 866
 rise (Own p q) = q
-
--- sides whose numbers have room
-pub record IsSmallFrame (frame : Frame) : Type 0 where
-  pub small_lean : nat_abs (lean frame) ≤ 2 ^ 54
-  pub small_rise : nat_abs (rise frame) ≤ 2 ^ 54
 
 -- the spot of a point
 abbrev pub spot_of : Frame → Point → Spot
@@ -62,5 +57,5 @@ printed frame edges points = corners frame ++ flat_map (ends_of frame points) ed
 
 -- a spot whose numbers have room
 pub record IsSmallSpot (s : Spot) : Type 0 where
-  pub x : nat_abs s.x ≤ 2 ^ 119
-  pub y : nat_abs s.y ≤ 2 ^ 119
+  pub x : nat_abs s.x ≤ 2 ^ 126 + 2 ^ 125 + 2 ^ 75
+  pub y : nat_abs s.y ≤ 2 ^ 126 + 2 ^ 125 + 2 ^ 75

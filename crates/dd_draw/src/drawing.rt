@@ -2,7 +2,7 @@ ghost use Rattle.std.specs.Prelude.{◌≡◌, ◌++◌, ◌≤◌, ◌<◌, ◌
 ghost use Rattle.std.specs.List.{AllByRecursion, flat_map};
 ghost use Rattle.dd_lattice.specs.Nets.{IsConnectedNet};
 ghost use Rattle.dd_draw.specs.Limit.{IsNarrowPoint};
-ghost use Rattle.dd_draw.specs.Spots.{IsSmallFrame, IsSmallSpot, corners, from_spot, to_spot};
+ghost use Rattle.dd_draw.specs.Spots.{IsSmallSpot, corners, from_spot, to_spot};
 ghost use Rattle.dd_draw.specs.Extents.{extent_of, IsSmallExtent};
 ghost use Rattle.dd_draw.specs.Document.{head_text, view_text, cell_text, corner_text, spot_text, line_text, edge_text, middle_text, vertex_text, exact_text, document};
 
@@ -17,7 +17,6 @@ use std::alloc::{AllocError, Global};
 
 /// The corners of the cell after the first.
 fn corners(frame: Frame) -> [Spot; 3]
-    requires { IsSmallFrame frame }
     ensures same { result ≡ corners frame }
     ensures small { AllByRecursion IsSmallSpot result }
 {
@@ -51,8 +50,8 @@ fn view_of(alloc: Global, extent: Extent) -> Result<String, AllocError>
         "{} {} {} {}",
         extent.left - 100,
         extent.top - 100,
-        extent.right - extent.left + 200,
-        extent.bottom - extent.top + 200
+        extent.right.abs_diff(extent.left) + 200,
+        extent.bottom.abs_diff(extent.top) + 200
     )
 }
 
@@ -79,7 +78,6 @@ fn put_corner(out: &mut Vec<u8>, corner: Spot) -> Result<(), Memory>
 
 /// Appends the path round the cell.
 fn put_cell(out: &mut Vec<u8>, frame: Frame) -> Result<(), Memory>
-    requires { IsSmallFrame frame }
     ensures { OnOk result (out.new.items ≡ out.old.items ++ cell_text frame) }
 {
     let [one, two, three] = corners(frame);
@@ -113,8 +111,7 @@ fn middle_of(alloc: Global, spot: Spot) -> Result<String, AllocError>
 
 /// Appends a vertex.
 fn put_vertex(out: &mut Vec<u8>, frame: Frame, point: &Point) -> Result<(), Memory>
-    requires frame { IsSmallFrame frame }
-    requires narrow { IsNarrowPoint point.now }
+    requires { IsNarrowPoint point.now }
     ensures { OnOk result (out.new.items ≡ out.old.items ++ vertex_text frame point.now) }
 {
     let middle = middle_of(*out.allocator(), Spot::of(frame, point))?;
@@ -128,7 +125,6 @@ fn put_vertex(out: &mut Vec<u8>, frame: Frame, point: &Point) -> Result<(), Memo
 
 /// The two ends of an edge.
 fn ends_of(frame: Frame, points: &[Point], edge: NetEdge) -> (Spot, Spot)
-    requires frame { IsSmallFrame frame }
     requires from { (1 ≤ edge.from) × (edge.from ≤ length points.now) }
     requires to { (1 ≤ edge.to) × (edge.to ≤ length points.now) }
     requires narrow { AllByRecursion IsNarrowPoint points.now }
@@ -143,7 +139,6 @@ fn ends_of(frame: Frame, points: &[Point], edge: NetEdge) -> (Spot, Spot)
 
 /// The box of all that is printed of the cell and of the edges.
 fn extent_of(frame: Frame, net: &Net, points: &[Point]) -> Extent
-    requires frame { IsSmallFrame frame }
     requires connected { IsConnectedNet net.now }
     requires count { length points.now ≡ net.now.vertices }
     requires narrow { AllByRecursion IsNarrowPoint points.now }
@@ -173,7 +168,6 @@ fn put_edge(out: &mut Vec<u8>, from: Spot, to: Spot) -> Result<(), Memory>
 
 /// Appends the edges in their order.
 fn put_edges(out: &mut Vec<u8>, frame: Frame, net: &Net, points: &[Point]) -> Result<(), Memory>
-    requires frame { IsSmallFrame frame }
     requires connected { IsConnectedNet net.now }
     requires count { length points.now ≡ net.now.vertices }
     requires narrow { AllByRecursion IsNarrowPoint points.now }
@@ -189,8 +183,7 @@ fn put_edges(out: &mut Vec<u8>, frame: Frame, net: &Net, points: &[Point]) -> Re
 
 /// Appends the vertices in their order.
 fn put_vertices(out: &mut Vec<u8>, frame: Frame, points: &[Point]) -> Result<(), Memory>
-    requires frame { IsSmallFrame frame }
-    requires narrow { AllByRecursion IsNarrowPoint points.now }
+    requires { AllByRecursion IsNarrowPoint points.now }
     ensures { OnOk result
         (out.new.items ≡ out.old.items ++ flat_map (vertex_text frame) points.now) }
 {
@@ -202,7 +195,6 @@ fn put_vertices(out: &mut Vec<u8>, frame: Frame, points: &[Point]) -> Result<(),
 
 /// Appends the drawing of a placed net: its cell, its edges and its vertices with their exact places.
 pub fn svg(out: &mut Vec<u8>, net: &Net, places: &Places, frame: Frame) -> Result<(), Memory>
-    requires frame { IsSmallFrame frame }
     requires connected { IsConnectedNet net.now }
     requires count { length places.now.points.items ≡ net.now.vertices }
     requires narrow { AllByRecursion IsNarrowPoint places.now.points.items }

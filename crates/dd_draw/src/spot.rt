@@ -1,6 +1,6 @@
-ghost use Rattle.std.specs.Prelude.{◌≡◌, ◌≤◌, ◌^◌, nat_abs};
+ghost use Rattle.std.specs.Prelude.{◌≡◌, ◌≤◌, ◌+◌, ◌^◌, nat_abs};
 ghost use Rattle.dd_draw.specs.Limit.{IsWithin};
-ghost use Rattle.dd_draw.specs.Spots.{IsSmallFrame, IsSmallSpot, lean, rise, spot_of, moved, floor_of};
+ghost use Rattle.dd_draw.specs.Spots.{IsSmallSpot, lean, rise, spot_of, moved, floor_of};
 
 use crate::point::Point;
 use dd_cells::Fraction;
@@ -16,11 +16,10 @@ pub struct Spot {
 /// Returns how far the second side of a cell goes along the first side, which is 1000 long, and how
 /// far across it.
 pub(crate) fn second_side(frame: Frame) -> (i128, i128)
-    requires { IsSmallFrame frame }
     ensures lean { result.0 ≡ lean frame }
     ensures rise { result.1 ≡ rise frame }
-    ensures small_lean { nat_abs result.0 ≤ 2 ^ 54 }
-    ensures small_rise { nat_abs result.1 ≤ 2 ^ 54 }
+    ensures small_lean { nat_abs result.0 ≤ 2 ^ 63 }
+    ensures small_rise { nat_abs result.1 ≤ 2 ^ 63 }
 {
     match frame {
         Frame::Square => (0, 1000),
@@ -32,9 +31,9 @@ pub(crate) fn second_side(frame: Frame) -> (i128, i128)
 /// Returns a multiple of a fraction, rounded down.
 fn floor_of(times: i128, fraction: Fraction) -> i128
     requires within { IsWithin fraction }
-    requires times { nat_abs times ≤ 2 ^ 54 }
+    requires times { nat_abs times ≤ 2 ^ 63 }
     ensures same { result ≡ floor_of times fraction }
-    ensures small { nat_abs result ≤ 2 ^ 116 }
+    ensures small { nat_abs result ≤ 2 ^ 125 }
 {
     (times * fraction.num).div_euclid(fraction.den)
 }
@@ -42,12 +41,11 @@ fn floor_of(times: i128, fraction: Fraction) -> i128
 impl Spot {
     /// The spot of a point.
     pub fn of(frame: Frame, point: &Point) -> Spot
-        requires frame { IsSmallFrame frame }
         requires x { IsWithin point.now.x }
         requires y { IsWithin point.now.y }
         ensures same { result ≡ spot_of frame point.now }
-        ensures x { nat_abs result.x ≤ 2 ^ 117 }
-        ensures y { nat_abs result.y ≤ 2 ^ 117 }
+        ensures x { nat_abs result.x ≤ 2 ^ 125 + 2 ^ 73 }
+        ensures y { nat_abs result.y ≤ 2 ^ 125 + 2 ^ 73 }
     {
         let (lean, rise) = second_side(frame);
         Spot {
@@ -58,9 +56,8 @@ impl Spot {
 
     /// The spot that is so many cells away.
     pub fn moved(self, frame: Frame, x: i64, y: i64) -> Spot
-        requires frame { IsSmallFrame frame }
-        requires x { nat_abs self.x ≤ 2 ^ 117 }
-        requires y { nat_abs self.y ≤ 2 ^ 117 }
+        requires x { nat_abs self.x ≤ 2 ^ 125 + 2 ^ 73 }
+        requires y { nat_abs self.y ≤ 2 ^ 125 + 2 ^ 73 }
         ensures same { result ≡ moved frame self x y }
         ensures small { IsSmallSpot result }
     {

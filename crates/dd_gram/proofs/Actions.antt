@@ -19,7 +19,7 @@ use Rattle.dd_gram.specs.Walks.{IsWalk, IsClosedWalk, sum_along, image_walk}
 use Rattle.dd_gram.specs.declared.forms.Matrix.{Matrix}
 use Rattle.dd_gram.proofs.WalkLemmas.{sum_along-image, sum_along-same, walk_along}
 use Rattle.dd_gram.proofs.Balanced.{balanced_shifts, balanced_along}
-use Rattle.dd_gram.proofs.Homology.{has_sums, sums_at, times_one, HasLoop, first_loop, second_loop}
+use Rattle.dd_gram.proofs.Homology.{has_sums, sums_at, times_one, first_loop, second_loop}
 use Rattle.dd_gram.proofs.WalkLemmas.{times_zero}
 use Rattle.dd_gram.proofs.SmallShifts.{small_shifts}
 

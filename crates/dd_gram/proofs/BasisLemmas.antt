@@ -1,5 +1,5 @@
 -- The matrix of a symmetry, read from the images of two closed walks.
-use Rattle.std.proofs.Common.{◌≡◌, ℕ, ◌≤◌, List, [], ◌∷◌, length, ℤ, pos, nat_abs, refl, sym, ap, ◌∙◌, subst, ⊎_elim, arith}
+use Rattle.std.proofs.Common.{◌≡◌, ℕ, ◌≤◌, List, [], ◌∷◌, ℤ, pos, nat_abs, sym, ap, ◌∙◌, subst, ⊎_elim, arith}
 use Rattle.std.specs.List.{Contains}
 use Rattle.dd_model.specs.declared.index.Index.TheVariants.{Zero}
 use Rattle.dd_model.specs.Symbol.{Symbol, AreInvolutions, IsChamber, item, op}
@@ -9,17 +9,15 @@ use Rattle.dd_covers.specs.Torus.{IsTorus}
 use Rattle.dd_lattice.specs.NetOf.{IsNet}
 use Rattle.dd_lattice.specs.declared.net.Net.{Net}
 use Rattle.dd_gram.specs.Action.{IsAction}
-use Rattle.dd_gram.specs.Loops.{HasEdgeWith, IsBasis, IsLoop}
+use Rattle.dd_gram.specs.Loops.{HasEdgeWith, IsBasis}
 use Rattle.dd_gram.specs.Shifts.{number_at, AreNumbers, HasSmallImage}
 use Rattle.dd_gram.specs.Walks.{IsWalk, IsClosedWalk, sum_along, image_walk}
 use Rattle.dd_gram.specs.declared.basis.Basis.{Basis}
 use Rattle.dd_gram.specs.declared.forms.Matrix.{Matrix}
-use Rattle.dd_lattice.specs.declared.net_edge.NetEdge.{NetEdge}
-use Rattle.dd_model.proofs.Lists.{each_of}
 use Rattle.std.proofs.lemmas.List.{get_or_default}
 use Rattle.dd_gram.proofs.Actions.{closed_along, read, read_acts, same_matrix}
 use Rattle.dd_gram.proofs.WalkLemmas.{sum_along-same}
-use Rattle.dd_gram.proofs.Homology.{HasLoop, x_at_two, y_at_one}
+use Rattle.dd_gram.proofs.Homology.{x_at_two, y_at_one}
 
 walk_chambers : (t : Symbol) (a b : ℕ) (walk : List ℕ) → IsWalk t a walk b → (d : ℕ) → Contains walk d → IsChamber t d
 walk_chambers t a b [] goes d here = absurd (Contains-none d here)

@@ -1,5 +1,5 @@
 -- The sum over the symmetries that take chamber 1 to one of the first chambers.
-use Rattle.std.proofs.Common.{◌≡◌, ◌≢◌, ℕ, suc, ◌+◌, ◌*◌, ◌≤◌, List, [], ◌∷◌, ℤ, pos, nat_abs, ◌+ℤ◌, refl, sym, ap, ◌∙◌, subst, ⊎_elim, arith}
+use Rattle.std.proofs.Common.{◌≡◌, ◌≢◌, ℕ, ◌+◌, ◌*◌, ◌≤◌, List, [], ◌∷◌, ℤ, nat_abs, ◌+ℤ◌, sym, ap, ◌∙◌, subst, ⊎_elim, arith}
 use Rattle.std.proofs.lemmas.Bool.{cases_eq}
 use Rattle.std.proofs.lemmas.Int.{ints}
 use Rattle.std.specs.List.{Contains}
@@ -9,7 +9,7 @@ use Rattle.dd_model.proofs.Lists.{Contains-none, Contains-head, Contains-later, 
 use Rattle.dd_canon.specs.Symmetries.{Carries}
 use Rattle.dd_covers.specs.Torus.{IsTorus}
 use Rattle.dd_gram.specs.Action.{IsAction}
-use Rattle.dd_gram.specs.Form.{IsGram, IsGramTo, IsSmallForm, square, none, plus, sum_of}
+use Rattle.dd_gram.specs.Form.{IsGram, IsGramTo, IsSmallForm, square, none, plus}
 use Rattle.dd_gram.specs.Loops.{IsSmallMatrix}
 use Rattle.dd_gram.specs.declared.forms.Gram.{Gram}
 use Rattle.dd_gram.specs.declared.forms.Matrix.{Matrix}

@@ -1,5 +1,5 @@
 -- Each balanced number of edges adds, along closed walks, to a whole combination of the two coordinates of the shifts.
-use Rattle.std.proofs.Common.{◌≡◌, ◌≢◌, ℕ, ◌+◌, ◌<◌, ◌≤◌, List, [], ◌∷◌, length, ℤ, pos, ◌+ℤ◌, ◌-ℤ◌, ◌*ℤ◌, refl, sym, ap, ◌∙◌, subst, ⊎_elim, arith}
+use Rattle.std.proofs.Common.{◌≡◌, ℕ, ◌≤◌, List, ◌∷◌, length, ℤ, pos, ◌+ℤ◌, ◌*ℤ◌, sym, ap, ◌∙◌, subst, ⊎_elim, arith}
 use Rattle.std.proofs.lemmas.Int.{ints}
 use Rattle.dd_model.specs.declared.index.Index.TheVariants.{Zero}
 use Rattle.dd_model.specs.declared.pair.Pair.TheVariants.{Vertex, Edge}
@@ -10,16 +10,16 @@ use Rattle.dd_model.proofs.CellWalks.{in_cell-refl}
 use Rattle.dd_covers.specs.Torus.{IsTorus}
 use Rattle.dd_lattice.specs.Edges.{IsTreeEdge}
 use Rattle.dd_lattice.specs.NetOf.{IsNet}
-use Rattle.dd_lattice.specs.Shifts.{IsLeftEdge, AreShifts}
+use Rattle.dd_lattice.specs.Shifts.{AreShifts}
 use Rattle.dd_lattice.specs.declared.net.Net.{Net}
 use Rattle.dd_lattice.proofs.KindsExist.{kinds_exist}
 use Rattle.dd_lattice.proofs.OneChoice.{one_solution}
-use Rattle.dd_lattice.proofs.Rings.{at, nat, equal, ◌⊞◌, ◌⊠◌}
+use Rattle.dd_lattice.proofs.Rings.{at, nat, equal, ◌⊠◌}
 use Rattle.dd_gram.specs.Loops.{IsLoop}
-use Rattle.dd_gram.specs.Walks.{IsWalk, IsClosedWalk, sum_along}
+use Rattle.dd_gram.specs.Walks.{IsClosedWalk, sum_along}
 use Rattle.dd_gram.proofs.WalkLemmas.{telescoped, sum_along-same, sum_along-both, times_zero}
 use Rattle.dd_gram.proofs.Balanced.{IsBalanced, balanced_shifts, less, balanced_less, left, balanced_left}
-use Rattle.dd_gram.proofs.Joining.{IsStill, HasTreeWalk, level, level_of_vertices, level_rises, tree_walks}
+use Rattle.dd_gram.proofs.Joining.{IsStill, level, level_of_vertices, level_rises, tree_walks}
 
 pub times_one : (a : ℤ) → a *ℤ pos 1 ≡ a
 times_one a = equal (at a ⊠ nat 1) (at a) (omega arith)

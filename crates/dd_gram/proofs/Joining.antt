@@ -13,11 +13,11 @@ use Rattle.dd_model.specs.Cell.{InCell, IsLeastOfCell, AreCells}
 use Rattle.dd_model.specs.Code.{chambers}
 use Rattle.dd_model.proofs.CellWalks.{in_cell-refl, in_cell-sym, in_cell-trans}
 use Rattle.dd_model.proofs.CountFrom.{count_contains, length-count_from}
-use Rattle.dd_model.proofs.Lists.{Contains-none, Contains-head, Contains-later, Contains-cases}
+use Rattle.dd_model.proofs.Lists.{Contains-none, Contains-cases}
 use Rattle.dd_cells.proofs.CellSums.{has_roots, sum_by_equal, sum_by_both, sum_by_same}
 use Rattle.dd_covers.specs.Ends.{Holds}
 use Rattle.dd_covers.specs.Torus.{IsTorus}
-use Rattle.dd_covers.proofs.Labels.{Link, labels, linked}
+use Rattle.dd_covers.proofs.Labels.{labels, linked}
 use Rattle.dd_covers.proofs.Nodes.{root_beside}
 use Rattle.dd_lattice.specs.Edges.{IsOfCells, IsTreeEdge, AreKindsOf, is_tree}
 use Rattle.dd_lattice.specs.declared.kinds.EdgeKind.{EdgeKind}

@@ -1,5 +1,5 @@
 -- The form of a torus: it is one, each symmetry keeps it, and it is positive definite.
-use Rattle.std.proofs.Common.{◌≡◌, ◌≢◌, ℕ, zero, suc, ◌+◌, ◌*◌, ◌<◌, ◌≤◌, List, [], ◌∷◌, length, map, get_or, ℤ, pos, negsuc, nat_abs, ◌+ℤ◌, ◌-ℤ◌, ◌*ℤ◌, ◌≤ℤ◌, ◌<ℤ◌, refl, sym, ap, ◌∙◌, subst, arith}
+use Rattle.std.proofs.Common.{◌≡◌, ℕ, zero, suc, ◌<◌, List, [], ◌∷◌, length, map, get_or, ℤ, pos, negsuc, ◌+ℤ◌, ◌-ℤ◌, ◌*ℤ◌, ◌≤ℤ◌, ◌<ℤ◌, refl, sym, ap, ◌∙◌, subst, arith}
 use Rattle.std.proofs.lemmas.Int.{ints}
 use Rattle.std.specs.List.{Contains}
 use Rattle.dd_model.specs.Symbol.{Symbol, AreInvolutions, IsChamber, IsSymbol, item, op, act}
@@ -8,9 +8,8 @@ use Rattle.dd_model.specs.Isomorphic.{IsIsomorphism}
 use Rattle.dd_model.specs.Connected.{Connected}
 use Rattle.dd_model.proofs.Bijections.{after, item-after}
 use Rattle.dd_model.proofs.Codes.{same_items}
-use Rattle.dd_model.proofs.CountFrom.{item-count_from, length-count_from, count_contains}
-use Rattle.dd_model.proofs.Isomorphisms.{IsIsomorphism-after, identity_isomorphism, inverse_isomorphism}
-use Rattle.dd_model.proofs.Lists.{Contains-head, Contains-later, Contains-map}
+use Rattle.dd_model.proofs.CountFrom.{item-count_from}
+use Rattle.dd_model.proofs.Isomorphisms.{IsIsomorphism-after, identity_isomorphism}
 use Rattle.dd_model.proofs.Transport.{act-along}
 use Rattle.dd_model.specs.declared.index.Index.TheVariants.{Zero}
 use Rattle.dd_covers.specs.Torus.{IsTorus}
@@ -19,11 +18,11 @@ use Rattle.dd_lattice.specs.NetOf.{IsNet}
 use Rattle.dd_lattice.specs.declared.net.Net.{Net}
 use Rattle.dd_lattice.proofs.Rings.{at, nat, equal, ◌⊞◌, ◌⊟◌, ◌⊠◌}
 use Rattle.dd_gram.specs.Action.{IsAction}
-use Rattle.dd_gram.specs.Form.{AreDistinct, AreSymmetries, AreActions, IsGram, square, none, plus, sum_of, carried, times}
+use Rattle.dd_gram.specs.Form.{AreSymmetries, AreActions, IsGram, square, none, plus, sum_of, carried, times}
 use Rattle.dd_gram.specs.Walks.{IsWalk, sum_along, image_walk}
 use Rattle.dd_gram.specs.declared.forms.Gram.{Gram}
 use Rattle.dd_gram.specs.declared.forms.Matrix.{Matrix}
-use Rattle.dd_gram.proofs.Actions.{read, is_read, read_acts, acts_after, size_along, small_first, small_second, closed_along}
+use Rattle.dd_gram.proofs.Actions.{read, is_read, read_acts, acts_after}
 use Rattle.dd_gram.proofs.Distinct.{total, same_form, without, distinct_le, same_total, total_same, total_map, distinct_map}
 use Rattle.dd_gram.proofs.Homology.{HasLoop, first_loop, second_loop}
 

@@ -1,7 +1,6 @@
 -- The shifts of the edges, written at the chambers that pass them.
-use Rattle.std.proofs.Common.{◌≡◌, ℕ, ◌+◌, ◌-◌, ◌<◌, ◌≤◌, List, length, set, get_or, ℤ, pos, nat_abs, ◌-ℤ◌, refl, sym, ap, ◌∙◌, subst, ⊎_elim, arith}
-use Rattle.std.proofs.lemmas.Bool.{cases_eq, cases_lt}
-use Rattle.std.proofs.lemmas.Int.{ints}
+use Rattle.std.proofs.Common.{◌≡◌, ℕ, ◌+◌, ◌-◌, ◌<◌, ◌≤◌, List, length, set, get_or, ℤ, pos, ◌-ℤ◌, sym, ap, ◌∙◌, subst, ⊎_elim, arith}
+use Rattle.std.proofs.lemmas.Bool.{cases_eq}
 use Rattle.std.proofs.lemmas.List.{get_or-set_same, get_or-set_other, length-set}
 use Rattle.dd_model.specs.declared.index.Index.{Index}
 use Rattle.dd_model.specs.declared.index.Index.TheVariants.{Zero, Two}
@@ -10,14 +9,13 @@ use Rattle.dd_model.specs.Symbol.{Symbol, AreInvolutions, IsChamber, IsSymbol, o
 use Rattle.dd_model.specs.Cell.{AreCells}
 use Rattle.dd_model.proofs.CellLists.{cells_unique}
 use Rattle.dd_covers.specs.Ends.{Holds}
-use Rattle.dd_covers.specs.Torus.{IsTorus}
 use Rattle.dd_lattice.specs.NetOf.{IsNet}
 use Rattle.dd_lattice.specs.Shifts.{AreShifts}
 use Rattle.dd_lattice.specs.declared.net.Net.{Net}
 use Rattle.dd_lattice.specs.declared.net_edge.NetEdge.{NetEdge}
 use Rattle.dd_lattice.proofs.Around.{commute, through_edge}
 use Rattle.dd_lattice.proofs.KindLemmas.{listed_edge, same_default}
-use Rattle.dd_gram.specs.Shifts.{number_at, IsPassed, AreSetAt, IsPutAt, AreNumbers}
+use Rattle.dd_gram.specs.Shifts.{number_at, IsPassed, AreSetAt, IsPutAt}
 
 -- ## Putting
 

@@ -1,6 +1,6 @@
 -- Sizes of forms, and their numbers as the code reads and writes them.
-use Rattle.std.proofs.Common.{◌≡◌, ◌≢◌, ℕ, zero, suc, ◌+◌, ◌*◌, ◌/◌, ◌<◌, ◌≤◌, ◌^◌, ℤ, pos, negsuc, to_z, of_z, nat_abs, ◌+ℤ◌, ◌-ℤ◌, ◌*ℤ◌, ◌≤ℤ◌, ◌<ℤ◌, List, [], ◌∷◌, length, map, refl, sym, ap, ◌∙◌, subst, arith}
-use Rattle.std.specs.Int.{w64, w128}
+use Rattle.std.proofs.Common.{◌≡◌, ℕ, suc, ◌+◌, ◌*◌, ◌≤◌, ◌^◌, ℤ, to_z, of_z, nat_abs, ◌+ℤ◌, ◌*ℤ◌, List, [], ◌∷◌, length, map, ap, ◌∙◌, subst, arith}
+use Rattle.std.specs.Int.{w128}
 use Rattle.std.specs.List.{Contains}
 use Rattle.std.proofs.lemmas.Int.{ints, to_z-of_z, fits_signed_from_abs, unsigned_abs-mul}
 use Rattle.std.proofs.Math.Nat.{mul-le-mul}
@@ -13,15 +13,12 @@ use Rattle.dd_covers.specs.Torus.{IsTorus}
 use Rattle.dd_covers.proofs.Mapped.{Contains-from_map}
 use Rattle.dd_lattice.specs.NetOf.{IsNet}
 use Rattle.dd_lattice.specs.declared.net.Net.{Net}
-use Rattle.dd_gram.specs.Form.{AreDistinct, AreSymmetries, IsGram, square, none, plus}
+use Rattle.dd_gram.specs.Form.{AreSymmetries, IsGram}
 use Rattle.dd_gram.specs.declared.forms.Gram.{Gram}
-use Rattle.dd_gram.specs.declared.forms.Matrix.{Matrix}
 use Rattle.dd_gram.proofs.Actions.{closed_along, size_along, small_first, small_second}
 use Rattle.dd_gram.proofs.Distinct.{distinct_le, distinct_map, total}
-use Rattle.dd_gram.proofs.Homology.{HasLoop}
 use Rattle.dd_gram.proofs.KeptForms.{M, S, one_loop, two_loop, sum_is, symmetry_unique}
 use Rattle.dd_gram.specs.Walks.{image_walk, IsClosedWalk, sum_along}
-use Rattle.dd_model.proofs.Lists.{Contains-none}
 use Rattle.std.proofs.lemmas.List.{length-map}
 
 -- ## As they are read

@@ -1,8 +1,7 @@
 -- Both numbers of a shift are -1, 0 or 1. Without a crossing edge the others part the tiles in two; what goes from one part to the other
 -- goes across that edge and across the one edge that is left.
-use Rattle.std.proofs.Common.{◌≡◌, ◌≢◌, ℕ, zero, suc, ◌+◌, ◌*◌, ◌<◌, ◌≤◌, Bool, true, false, not, cond, eqb, List, [], ◌∷◌, length, get_or, ℤ, pos, negsuc, nat_abs, ◌-ℤ◌, refl, sym, ap, ◌∙◌, subst, inl, inr, ⊎_elim, arith}
+use Rattle.std.proofs.Common.{◌≡◌, ◌≢◌, ℕ, ◌+◌, ◌*◌, ◌<◌, ◌≤◌, Bool, true, false, not, cond, eqb, List, [], ◌∷◌, length, get_or, ℤ, pos, negsuc, nat_abs, ◌-ℤ◌, refl, sym, ap, ◌∙◌, subst, inl, inr, ⊎_elim, arith}
 use Rattle.std.proofs.lemmas.Bool.{cases_eq, cases_Bool, eq-eqb, ne_eqb}
-use Rattle.std.proofs.lemmas.Int.{ints}
 use Rattle.std.proofs.lemmas.List.Sums.{sum_by-cons}
 use Rattle.std.specs.List.{Contains, filter, sum_by}
 use Rattle.std.specs.List.Sorted.{IsStrictlyIncreasing}
@@ -20,12 +19,11 @@ use Rattle.dd_model.proofs.Lists.{Contains-none, Contains-head, Contains-later, 
 use Rattle.dd_model.proofs.Turns.{IsLeastTurns-from_period, least_turns_unique}
 use Rattle.dd_cells.proofs.CellSums.{has_roots, members_at, members_at_are, sum_by_listed, sum_over_cells}
 use Rattle.dd_cells.specs.Orientation.{color}
-use Rattle.dd_covers.specs.Ends.{Holds}
 use Rattle.dd_covers.specs.Torus.{IsTorus}
 use Rattle.dd_covers.proofs.CellRanks.{all_whites, sum_over_kept}
 use Rattle.dd_covers.proofs.Labels.{Link, labels, linked, joined_by_links}
 use Rattle.dd_covers.proofs.Nodes.{root_beside}
-use Rattle.dd_covers.proofs.WhiteSums.{turned_list, sum_over_turns}
+use Rattle.dd_covers.proofs.WhiteSums.{sum_over_turns}
 use Rattle.dd_lattice.specs.Edges.{IsOfCells, IsTreeEdge, IsKindOf, AreKindsOf, is_crossing}
 use Rattle.dd_lattice.specs.Shifts.{IsLeftEdge, AreShifts}
 use Rattle.dd_lattice.specs.declared.kinds.EdgeKind.{EdgeKind}
@@ -37,7 +35,7 @@ use Rattle.dd_lattice.proofs.KindCounts.{links, count_links, link_listed, level_
 use Rattle.dd_lattice.proofs.KindLemmas.{listed_edge, same_default, own_root}
 use Rattle.dd_lattice.proofs.KindsExist.{kinds_exist}
 use Rattle.dd_lattice.proofs.OneChoice.{parts, round_total}
-use Rattle.dd_lattice.proofs.TileFlows.{forth, opposite, swaps, even}
+use Rattle.dd_lattice.proofs.TileFlows.{swaps, even}
 use Rattle.dd_lattice.proofs.TreeCounts.{all_places, crossing_chosen, crossing_not_chosen, crossing_edges}
 
 -- ## Sums over a list that differ at two members
@@ -287,8 +285,7 @@ module _ (t : Symbol) (torus : IsTorus t) where
       at_edge : (a (edge m) ≡ out (edge m)) × (b (edge m) ≡ in_ (edge m))
       at_edge =
           let here : side (edge m) ≡ 1 = ap (λ c. cond c 1 0) (eq-eqb (value (edge m)) (value (edge m)) refl) in
-          let there : side (op t Two (edge m)) ≡ 0 = ap (λ c. cond c 1 0) (ne_eqb (value (op t Two (edge m))) (value (edge m)) parted) in
-          (
+          let there : side (op t Two (edge m)) ≡ 0 = ap (λ c. cond c 1 0) (ne_eqb (value (op t Two (edge m))) (value (edge m)) parted) in (
             ap (λ v. v * out (edge m) + side (op t Two (edge m)) * in_ (edge m)) here ∙ ap (λ v. 1 * out (edge m) + v * in_ (edge m)) there ∙ plain (out (edge m)) (in_ (edge m)),
             ap (λ v. v * in_ (edge m) + side (op t Two (edge m)) * out (edge m)) here ∙ ap (λ v. 1 * in_ (edge m) + v * out (edge m)) there ∙ plain (in_ (edge m)) (out (edge m)),
           )

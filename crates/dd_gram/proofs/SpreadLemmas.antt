@@ -1,6 +1,6 @@
 -- Steps without a shift reach all vertices, and lead back from each of them.
-use Rattle.std.proofs.Common.{◌≡◌, ◌≢◌, ℕ, zero, suc, ◌+◌, ◌-◌, ◌<◌, ◌≤◌, Bool, true, false, cond, List, [], ◌∷◌, ◌++◌, length, set, get_or, replicate, ℤ, pos, ◌+ℤ◌, ◌-ℤ◌, refl, sym, ap, ◌∙◌, subst, inl, inr, ⊎_elim, arith}
-use Rattle.std.proofs.lemmas.Bool.{cases_eq, cases_lt, cases_Bool}
+use Rattle.std.proofs.Common.{◌≡◌, ◌≢◌, ℕ, zero, suc, ◌+◌, ◌-◌, ◌<◌, ◌≤◌, Bool, true, false, cond, List, [], ◌∷◌, ◌++◌, length, set, get_or, replicate, ℤ, pos, refl, sym, ap, ◌∙◌, subst, inl, inr, ⊎_elim, arith}
+use Rattle.std.proofs.lemmas.Bool.{cases_eq, cases_lt}
 use Rattle.std.proofs.lemmas.Int.{ints}
 use Rattle.std.proofs.lemmas.List.{get_or_default, get_or_append_left, get_or_push, length_push, get_or-set_same, get_or-set_other, length-set, length-replicate}
 use Rattle.std.proofs.lemmas.List.Sums.{count_by-le-length, sum_by-cons}
@@ -8,8 +8,8 @@ use Rattle.std.specs.List.{count_by}
 use Rattle.dd_model.specs.declared.index.Index.TheVariants.{Zero}
 use Rattle.dd_model.specs.declared.pair.Pair.TheVariants.{Vertex, Edge}
 use Rattle.dd_model.specs.Symbol.{Symbol, AreInvolutions, IsChamber, op, item}
-use Rattle.dd_model.specs.Cell.{InCell, IsLeastOfCell, AreCells}
-use Rattle.dd_model.proofs.CellLists.{cells_exist, cells_unique}
+use Rattle.dd_model.specs.Cell.{InCell, AreCells}
+use Rattle.dd_model.proofs.CellLists.{cells_unique}
 use Rattle.dd_model.proofs.CellWalks.{in_cell-refl, in_cell-sym, in_cell-trans}
 use Rattle.dd_cells.proofs.CellSums.{has_roots}
 use Rattle.dd_covers.specs.Torus.{IsTorus}
@@ -30,7 +30,7 @@ use Rattle.dd_lattice.proofs.NetLemmas.{place_in, number, number_is, first_chamb
 use Rattle.dd_lattice.proofs.TreeCounts.{tree_chosen, tree_not_chosen}
 use Rattle.dd_gram.specs.Loops.{IsLoop, IsWalkTo}
 use Rattle.dd_gram.specs.Spreading.{flag, IsStill, IsOver, IsStep, IsNewStep, AreLevel, IsLedTo, IsReached, AreSteps, AreWholeSteps}
-use Rattle.dd_gram.specs.Walks.{IsWalk, sum_along}
+use Rattle.dd_gram.specs.Walks.{sum_along}
 use Rattle.dd_gram.specs.declared.step.Step.{Step}
 use Rattle.dd_gram.proofs.WalkLemmas.{walk_on, sum_along-append}
 
@@ -99,12 +99,12 @@ step_is t net is inv edges cells k e ahead s inside here still over =
     let by_ = is.are_second.back d h in
     (elim ahead as (λ b. IsOver t e d b s → IsStep t net is s) [
       | true ↦ λ o. subst (IsStep t net is) (sym o) (record {
-          chamber = (inv Zero).within d h;
-          to = to;
-          from = subst (λ c. IsVertexNumber t is.vertices c e.from) (sym ((inv Zero).involutive d h)) from;
-          x = omega (arith, ints);
-          y = omega (arith, ints);
-        })
+        chamber = (inv Zero).within d h;
+        to = to;
+        from = subst (λ c. IsVertexNumber t is.vertices c e.from) (sym ((inv Zero).involutive d h)) from;
+        x = omega (arith, ints);
+        y = omega (arith, ints);
+      })
       | false ↦ λ o. subst (IsStep t net is) (sym o) (record { chamber = h; to = from; from = to; x = x0; y = y0 })
     ]) over
 

@@ -1,5 +1,5 @@
 -- The form of a torus: the sum, over its symmetries, of the transposed matrix times the matrix.
-use Rattle.std.specs.Prelude.{◌≡◌, ◌≢◌, ◌↔◌, ◌≤◌, ◌*◌, ◌+ℤ◌, ◌*ℤ◌, ℕ, nat_abs, ℤ, pos, List, [], ◌∷◌}
+use Rattle.std.specs.Prelude.{◌≡◌, ◌≢◌, ◌↔◌, ◌≤◌, ◌*◌, ◌+ℤ◌, ◌*ℤ◌, ℕ, nat_abs, pos, List, [], ◌∷◌}
 use Rattle.std.specs.List.{AllByRecursion, Contains}
 use Rattle.dd_model.specs.Symbol.{Symbol, item}
 use Rattle.dd_model.specs.Isomorphic.{IsIsomorphism}

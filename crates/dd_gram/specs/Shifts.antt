@@ -1,5 +1,5 @@
 -- The shifts of the edges of a torus, as each chamber passes its edge.
-use Rattle.std.specs.Prelude.{◌≡◌, ℕ, ◌-◌, ◌<◌, ◌≤◌, nat_abs, ℤ, pos, ◌-ℤ◌, List, length, slice_index, slice_index_or}
+use Rattle.std.specs.Prelude.{◌≡◌, ℕ, ◌-◌, ◌≤◌, nat_abs, ℤ, pos, ◌-ℤ◌, List, length, slice_index_or}
 use Rattle.dd_model.specs.Symbol.{Symbol, IsChamber, item, op}
 use Rattle.dd_model.specs.declared.index.Index.TheVariants.{Zero, Two}
 

@@ -1,9 +1,9 @@
-use Rattle.std.proofs.Common.{◌≡◌, ◌+◌, ◌-◌, ◌≤◌, ℕ, length, get_or, take, map, [], ◌∷◌, ◌++◌, ℤ, pos, nat_abs, ◌+ℤ◌, w64, FitsSigned, to_z, of_z, sym, ap, ◌∙◌, subst, arith}
+use Rattle.std.proofs.Common.{◌≡◌, ◌+◌, ◌≤◌, ℕ, get_or, take, [], ◌∷◌, ◌++◌, ℤ, pos, nat_abs, ◌+ℤ◌, w64, FitsSigned, to_z, of_z, sym, ap, ◌∙◌, subst, arith}
 use Rattle.std.proofs.lemmas.Int.{ints}
 use Rattle.std.proofs.lemmas.List.{take_more, map-append}
 use Rattle.std.proofs.lemmas.List.Elements.{Contains-get_or}
 use Rattle.dd_model.specs.Symbol.{item}
-use Rattle.dd_gram.specs.Shifts.{number_at, HasSmallImage}
+use Rattle.dd_gram.specs.Shifts.{number_at}
 use Rattle.dd_gram.specs.Walks.{sum_along, image_walk}
 use Rattle.dd_gram.proofs.WalkLemmas.{sum_along-append}
 use Rattle.dd_gram.proofs.basis.sum_of_images.Goals as goal

@@ -1,4 +1,4 @@
-use Rattle.std.proofs.Common.{◌≡◌, ℤ, pos, nat_abs, ◌-ℤ◌, ◌≤◌, w64, to_z, of_z, sym, ap, ◌∙◌, arith}
+use Rattle.std.proofs.Common.{◌≡◌, ℤ, pos, nat_abs, ◌-ℤ◌, ◌≤◌, w64, to_z, of_z, arith}
 use Rattle.std.proofs.lemmas.Int.{ints}
 use Rattle.dd_gram.proofs.NumberLemmas.{put_at}
 use Rattle.dd_gram.proofs.edge_numbers.put.Goals as goal

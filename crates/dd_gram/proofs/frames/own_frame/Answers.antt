@@ -1,8 +1,7 @@
-use Rattle.std.proofs.Common.{◌≡◌, ◌≢◌, ℕ, ◌*◌, ◌^◌, ◌≤◌, ℤ, pos, ◌+ℤ◌, ◌-ℤ◌, ◌*ℤ◌, ◌≤ℤ◌, ◌<ℤ◌, nat_abs, FitsSigned, to_z, of_z, sym, ap, ◌∙◌, subst, arith}
+use Rattle.std.proofs.Common.{◌≡◌, ◌^◌, ◌≤◌, ℤ, pos, ◌-ℤ◌, ◌*ℤ◌, ◌≤ℤ◌, ◌<ℤ◌, nat_abs, FitsSigned, to_z, of_z, sym, ap, ◌∙◌, subst, arith}
 use Rattle.std.specs.Int.{w64, w128, int_div_euclid, IsIsqrt}
 use Rattle.dd_model.specs.declared.frame.Frame.TheVariants as frames
 use Rattle.dd_gram.specs.Form.{IsGramOfSome}
-use Rattle.dd_gram.specs.Frames.{IsWholePart}
 use Rattle.dd_gram.specs.declared.forms.Gram.{Gram}
 use Rattle.dd_gram.proofs.KeptForms.{form_positive, form_definite}
 use Rattle.dd_gram.proofs.SizeLemmas.{HasSize, form_size, read128}

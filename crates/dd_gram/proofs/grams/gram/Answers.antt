@@ -1,8 +1,8 @@
-use Rattle.std.proofs.Common.{◌≡◌, ◌+◌, ◌≤◌, ℕ, List, MatchOption, refl, sym, ap, ◌∙◌, subst, arith}
+use Rattle.std.proofs.Common.{◌+◌, ℕ, List, MatchOption, refl, sym, ap, ◌∙◌, subst, arith}
 use Rattle.dd_model.specs.Symbol.{Symbol}
 use Rattle.dd_canon.specs.Symmetries.{Carries}
 use Rattle.dd_gram.specs.Form.{IsGramTo, IsSmallForm, plus}
-use Rattle.dd_gram.proofs.GramLemmas.{gram_start, gram_past, gram_more, gram_whole, room_left, square_small}
+use Rattle.dd_gram.proofs.GramLemmas.{gram_start, gram_past, gram_more, gram_whole, square_small}
 use Rattle.dd_gram.proofs.KeptForms.{form_positive, form_definite}
 use Rattle.dd_gram.proofs.grams.gram.Goals.{in-Some, in_default}
 use Rattle.dd_gram.proofs.grams.gram.Goals as goal

@@ -1,6 +1,5 @@
-use Rattle.std.proofs.Common.{◌≡◌, ◌≤◌, ℕ, ◌+◌, ◌-◌, ◌<◌, List, [], ◌∷◌, ◌++◌, length, get_or, refl, sym, ap, ◌∙◌, subst, arith}
-use Rattle.std.proofs.lemmas.List.{get_or_default, length_push}
-use Rattle.dd_lattice.specs.NetOf.{IsNet}
+use Rattle.std.proofs.Common.{◌≡◌, ◌≤◌, ℕ, ◌+◌, ◌-◌, List, [], ◌∷◌, ◌++◌, length, get_or, refl, sym, ap, subst, arith}
+use Rattle.std.proofs.lemmas.List.{length_push}
 use Rattle.dd_lattice.specs.declared.net_edge.NetEdge.{NetEdge}
 use Rattle.dd_gram.specs.Spreading.{AreSteps}
 use Rattle.dd_gram.proofs.SpreadLemmas.{IsOnWay, back, elsewhere, one_more, way_begun, way_end}
@@ -37,21 +36,21 @@ loop-k-preserved c =
     subst (λ (z : NetEdge). AreSteps t net z.from steps) (sym (one_more net.edges.items c.args.edge c.args.edge e c.index.result.now refl c.requires.inside c.index.ensures)) c.in_ok-steps.ensures.are in
     elim c.if-step-place.branch [
       | then-step-place+in_ok-push w ↦ record {
-          few = let more = ap (λ (xs : List ℕ). length xs) w.in_ok-push.ensures.items in let one = length_push old x.back in let few = c.loop-k.invariant.few in subst (λ (v : _). length v.items ≤ k + 1 + 1) (sym w.walk-is) (omega arith);
-          way = λ is e m total.
-              let y = get_or net.edges.items c.args.edge e in
-              let way : IsOnWay t net is y.from steps d y.x y.y (m + 1) old c.loop-k.place = c.loop-k.invariant.way is e (m + 1) (omega arith) in
-              let after_ = back t net is inv y.from steps (are e) d y.x y.y m (omega arith) old c.loop-k.place way x (at_place m total) w.if-step-place.true in
-              subst (λ v. IsOnWay t net is y.from steps d y.x y.y m v.items c.if-step-place.place) (sym w.walk-is) (subst (λ ws. IsOnWay t net is y.from steps d y.x y.y m ws c.if-step-place.place) (sym w.in_ok-push.ensures.items) (subst (IsOnWay t net is y.from steps d y.x y.y m (old ++ x.back ∷ [])) (sym w.place-is) after_));
-        }
+        few = let more = ap (λ (xs : List ℕ). length xs) w.in_ok-push.ensures.items in let one = length_push old x.back in let few = c.loop-k.invariant.few in subst (λ (v : _). length v.items ≤ k + 1 + 1) (sym w.walk-is) (omega arith);
+        way = λ is e m total.
+            let y = get_or net.edges.items c.args.edge e in
+            let way : IsOnWay t net is y.from steps d y.x y.y (m + 1) old c.loop-k.place = c.loop-k.invariant.way is e (m + 1) (omega arith) in
+            let after_ = back t net is inv y.from steps (are e) d y.x y.y m (omega arith) old c.loop-k.place way x (at_place m total) w.if-step-place.true in
+            subst (λ v. IsOnWay t net is y.from steps d y.x y.y m v.items c.if-step-place.place) (sym w.walk-is) (subst (λ ws. IsOnWay t net is y.from steps d y.x y.y m ws c.if-step-place.place) (sym w.in_ok-push.ensures.items) (subst (IsOnWay t net is y.from steps d y.x y.y m (old ++ x.back ∷ [])) (sym w.place-is) after_));
+      }
       | else-step-place w ↦ record {
-          few = let few = c.loop-k.invariant.few in subst (λ v. length v.items ≤ k + 1 + 1) (sym w.walk-is) (omega arith);
-          way = λ is e m total.
-              let y = get_or net.edges.items c.args.edge e in
-              let way : IsOnWay t net is y.from steps d y.x y.y (m + 1) old c.loop-k.place = c.loop-k.invariant.way is e (m + 1) (omega arith) in
-              let after_ = elsewhere t net is inv y.from steps (are e) d y.x y.y m (omega arith) old c.loop-k.place way x (at_place m total) w.if-step-place.false in
-              subst (λ v. IsOnWay t net is y.from steps d y.x y.y m v.items c.if-step-place.place) (sym w.walk-is) (subst (IsOnWay t net is y.from steps d y.x y.y m old) (sym w.place-is) after_);
-        }
+        few = let few = c.loop-k.invariant.few in subst (λ v. length v.items ≤ k + 1 + 1) (sym w.walk-is) (omega arith);
+        way = λ is e m total.
+            let y = get_or net.edges.items c.args.edge e in
+            let way : IsOnWay t net is y.from steps d y.x y.y (m + 1) old c.loop-k.place = c.loop-k.invariant.way is e (m + 1) (omega arith) in
+            let after_ = elsewhere t net is inv y.from steps (are e) d y.x y.y m (omega arith) old c.loop-k.place way x (at_place m total) w.if-step-place.false in
+            subst (λ v. IsOnWay t net is y.from steps d y.x y.y m v.items c.if-step-place.place) (sym w.walk-is) (subst (IsOnWay t net is y.from steps d y.x y.y m old) (sym w.place-is) after_);
+      }
     ]
 
 pub returns-clause-is_loop : goal.returns-clause-is_loop

@@ -1,4 +1,4 @@
-use Rattle.std.proofs.Common.{◌≡◌, false, List, length, replicate, sym, ap, ◌∙◌, subst}
+use Rattle.std.proofs.Common.{sym, subst}
 use Rattle.dd_model.specs.Symbol.{Symbol}
 use Rattle.dd_gram.specs.Spreading.{AreLevel, IsNewStep}
 use Rattle.dd_gram.proofs.SpreadLemmas.{IsSpread, spread_more, spread_start, spread_whole}

@@ -1,7 +1,6 @@
-use Rattle.std.proofs.Common.{◌≡◌, ◌≤◌, ℤ, length, get_or, nat_abs, w64, to_z, of_z, sym, ap, ◌∙◌, subst, arith}
+use Rattle.std.proofs.Common.{◌≡◌, ◌≤◌, ℤ, get_or, nat_abs, w64, to_z, of_z, sym, ap, ◌∙◌, subst, arith}
 use Rattle.std.proofs.lemmas.Int.{ints}
 use Rattle.dd_model.specs.Symbol.{Symbol, IsChamber}
-use Rattle.dd_lattice.specs.NetOf.{IsNet}
 use Rattle.dd_lattice.specs.declared.net_edge.NetEdge.{NetEdge}
 use Rattle.dd_lattice.proofs.KindLemmas.{listed_edge}
 use Rattle.dd_gram.specs.Shifts.{IsPutAt}
