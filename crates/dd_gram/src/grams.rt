@@ -1,7 +1,7 @@
 ghost use Rattle.std.specs.Prelude.{◌≡◌, ◌≤◌, ◌<◌, ◌+◌, ◌*◌, ℕ, nat_abs, pos, ◌<ℤ◌, ◌*ℤ◌, IfOk};
 ghost use Rattle.dd_covers.specs.Torus.{IsTorus};
 ghost use Rattle.dd_lattice.specs.NetOf.{IsNet};
-ghost use Rattle.dd_gram.specs.Form.{IsGram, square, plus};
+ghost use Rattle.dd_gram.specs.Form.{IsGram, IsGramOfSome};
 ghost use Rattle.dd_gram.specs.Loops.{IsSmallMatrix};
 
 use crate::basis::Basis;
@@ -51,6 +51,7 @@ pub fn gram(alloc: Global, t: &Connected, net: &Net) -> Result<Gram, Memory>
     requires net { IsNet t.now net.now }
     requires few { net.now.vertices ≤ 96 }
     ensures gram { IfOk result (λ g. IsGram t.now g) }
+    ensures some { IfOk result IsGramOfSome }
     ensures positive { IfOk result (λ g. pos 0 <ℤ g.a) }
     ensures definite { IfOk result (λ g. (g.b *ℤ g.b) <ℤ (g.a *ℤ g.c)) }
 {

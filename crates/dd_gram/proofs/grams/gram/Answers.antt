@@ -74,3 +74,19 @@ returns-clause-definite c =
     let same = ap (λ (s : Symbol). s.size) c.symbol.ensures.same in
     let end = c.loop-k-test.false in
     form_definite t c.loop-k.sum c.requires.torus (gram_whole t c.requires.torus c.loop-k.k c.loop-k.sum (omega arith) c.loop-k.invariant.sum)
+
+pub returns-clause-some : goal.returns-clause-some
+returns-clause-some c =
+    let t = c.args.t.now in
+    let size = c.size-k-end.ensures.size in
+    let same = ap (λ (s : Symbol). s.size) c.symbol.ensures.same in
+    let end = c.loop-k-test.false in
+    record {
+      t = t;
+      small = c.symbol.ensures.symbol;
+      torus = c.requires.torus;
+      net = c.args.net.now;
+      is_net = c.requires.net;
+      few = c.requires.few;
+      is_gram = gram_whole t c.requires.torus c.loop-k.k c.loop-k.sum (omega arith) c.loop-k.invariant.sum;
+    }
