@@ -4,5 +4,7 @@ pub mod PartialTraversals
 pub mod OrderLemmas
 mod VisitLemmas
 mod StandingLemmas
+mod NumberingLemmas
 mod FormLemmas
+mod SymmetryLemmas
 mod TieLemmas

@@ -47,3 +47,6 @@ pub equal_from : (o : Ordering) → is_eq o ≡ true → o ≡ Equal
 equal_from Less e = cc
 equal_from Equal e = refl
 equal_from Greater e = cc
+
+pub not_equal_of : (o : Ordering) → is_ne o ≡ true → o ≢ Equal
+not_equal_of o ne same = let e : is_ne o ≡ false = ap is_ne same in cc

@@ -128,6 +128,7 @@ whole s b start order number o is con tr first =
     let undone = numbers_undone s b order number (λ u. []) o is con tr in
     record {
       inverse = record { images = tr.visit.numbers; back_images = undone.0; left = undone.1; right = undone.2 };
+      start_first = sym (ap (item number) first) ∙ tr.visit.numbered 1 (omega arith) tr.begun;
       numbered = λ t it iso. record {
         table = it;
         map = number;

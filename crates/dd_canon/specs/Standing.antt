@@ -1,5 +1,5 @@
 -- How the numbering by first visits from a start stands to the code of another symbol.
-use Rattle.std.specs.Prelude.{◌≡◌, ◌≢◌, ◌⊎◌, ℕ, ◌≤◌, List, map, vec_capacity}
+use Rattle.std.specs.Prelude.{◌≡◌, ◌≢◌, ◌⊎◌, ℕ, ◌+◌, ◌-◌, ◌≤◌, List, map, vec_capacity}
 use Rattle.std.specs.Ordering.{nat_cmp, ordering_then}
 use Rattle.std.specs.declared.cmp.Ordering.{Ordering}
 use Rattle.std.specs.declared.cmp.Ordering.TheVariants.{Greater}
@@ -10,7 +10,7 @@ use Rattle.dd_model.specs.Connected.{Connected}
 use Rattle.dd_model.specs.Small.{IsSmallSymbol}
 use Rattle.dd_model.specs.Isomorphic.{IsIsomorphism, Isomorphic}
 use Rattle.dd_model.specs.Code.{code_cmp, chambers}
-use Rattle.dd_model.specs.FirstVisit.{IsNumberedFrom}
+use Rattle.dd_model.specs.FirstVisit.{rows, IsNumberedFrom}
 use Rattle.dd_canon.specs.Traversal.{IsVisit, IsMeeting, IsTraversal}
 use Rattle.dd_symbol.specs.Maps.{AreInverse}
 use Rattle.dd_canon.specs.declared.visits.Visit.{Visit}
@@ -51,9 +51,15 @@ abbrev pub IsOngoing : Symbol → Symbol → ℕ → List ℕ → List ℕ → �
 IsOngoing s b start order number k rest o =
     ((o ≡ Greater) × IsStanding s b start Greater) ⊎ (IsTraversal s b order number k rest o × (item order 1 ≡ start))
 
+-- a traversal in which the images of the chambers before the one with number k have numbers, whatever its code is
+pub record IsNumbering (s : Symbol) (k : ℕ) (order number : List ℕ) : Type 0 where
+  pub so_far : Ordering
+  pub traversal : IsTraversal s s order number k (λ u. rows u k (s.size + 1 - k)) so_far
+
 -- the numbers by first visits from the start, which the order undoes
 pub record IsWhole (s : Symbol) (start : ℕ) (order number : List ℕ) : Type 0 where
   pub inverse : AreInverse s.size number order
+  pub start_first : item number start ≡ 1
   pub numbered : (t : Symbol) → IsTable t → IsIsomorphism s t number → IsNumberedFrom s start t
 
 -- the degrees of a pair at all chambers

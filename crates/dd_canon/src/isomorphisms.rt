@@ -38,7 +38,7 @@ fn reaches<L: Ledger>(
 }
 
 /// First one map, then another.
-fn joined(alloc: Global, first: &[u32], then: &[u32]) -> Result<Map, Memory>
+pub(crate) fn joined(alloc: Global, first: &[u32], then: &[u32]) -> Result<Map, Memory>
     requires within { (d : ℕ) → 1 ≤ d → d ≤ length first.now
         → (1 ≤ item first.now d) × (item first.now d ≤ length then.now) }
     ensures { IfOk result (λ whole. whole ≡ map (item then.now) first.now) }

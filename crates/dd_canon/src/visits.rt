@@ -22,7 +22,7 @@ pub(crate) struct Visit {
 }
 
 impl Visit {
-    ghost use Rattle.dd_canon.specs.Standing.{IsReady, IsMetAndCompared, IsStanding, IsOngoing, IsWhole, degree_list};
+    ghost use Rattle.dd_canon.specs.Standing.{IsReady, IsMetAndCompared, IsStanding, IsOngoing, IsNumbering, IsWhole, degree_list};
 
     /// Room for the chambers of a symbol, of which none has a number.
     pub(crate) fn new(alloc: Global, s: &Connected) -> Result<Visit, Memory>
@@ -225,5 +225,35 @@ impl Visit {
             return m01;
         }
         self.degrees(&from, &to, Pair::Vertex, steps)
+    }
+
+    /// The images of the chamber with number k get numbers.
+    fn meet_images(&mut self, s: &SymbolRef<'_>, k: u32)
+        requires ready { IsReady s.now self.old }
+        requires numbering { IsNumbering s.now k self.old.order.items self.old.number.items }
+        requires low { 1 ≤ k }
+        requires high { k ≤ s.now.size }
+        ensures ready { IsReady s.now self.new }
+        ensures numbering { IsNumbering s.now (k + 1) self.new.order.items self.new.number.items }
+        ensures start { item self.new.order.items 1 ≡ item self.old.order.items 1 }
+    {
+        let [zero, one, two] = s.images(self.chamber(k));
+        self.meet(s, zero);
+        self.meet(s, one);
+        self.meet(s, two);
+    }
+
+    /// All chambers get the numbers of their first visits from a start.
+    pub(crate) fn number_from(&mut self, s: &Connected, start: u32)
+        requires ready { IsReady s.now self.old }
+        requires start { IsChamber s.now start }
+        ensures ready { IsReady s.now self.new }
+        ensures whole { IsWhole s.now start self.new.order.items self.new.number.items }
+    {
+        let from = s.lend();
+        self.begin(&from, start);
+        for k in 0..from.size() {
+            self.meet_images(&from, k + 1);
+        }
     }
 }

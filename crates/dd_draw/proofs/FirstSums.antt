@@ -6,7 +6,7 @@ use Rattle.std.proofs.lemmas.List.{take_more, take_all}
 use Rattle.dd_cells.specs.Fraction.{IsReduced}
 use Rattle.dd_lattice.specs.declared.net.Net.{Net}
 use Rattle.dd_lattice.specs.declared.net_edge.NetEdge.{NetEdge}
-use Rattle.dd_draw.proofs.Rings.{at, nat, equal, ◌⊞◌}
+use Rattle.dd_lattice.proofs.Rings.{at, nat, equal, ◌⊞◌}
 use Rattle.dd_draw.proofs.LowestTerms.{size_read}
 use Rattle.dd_draw.proofs.Ratios.{narrow_not_wide}
 use Rattle.dd_draw.specs.Elimination.{sum_unlooped, first_entry, whole, ends_at, joins, seen_from}

@@ -5,7 +5,7 @@ use Rattle.std.specs.Int.{w128}
 use Rattle.std.proofs.lemmas.Int.{ints, to_z-of_z, fits_signed_from_abs, fits_signed_mul, unsigned_abs-mul}
 use Rattle.std.proofs.Math.Nat.{mul-le-mul_right}
 use Rattle.dd_cells.specs.declared.fractions.Fraction.{Fraction}
-use Rattle.dd_draw.proofs.Rings.{at, nat, equal, ◌⊟◌, ◌⊠◌}
+use Rattle.dd_lattice.proofs.Rings.{at, nat, equal, ◌⊟◌, ◌⊠◌}
 use Rattle.dd_draw.proofs.Integers.{product_nonzero}
 use Rattle.dd_draw.proofs.Ratios.{IsSame, IsSame-refl, wide_along, narrow_along, narrow_not_wide, den_nonzero, same_from_narrow, difference_same}
 use Rattle.dd_draw.specs.Elimination.{Ratio, quotient, product, difference}

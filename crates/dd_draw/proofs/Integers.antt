@@ -5,7 +5,7 @@ use Rattle.dd_cells.specs.Fraction.{IsReduced}
 use Rattle.dd_cells.specs.declared.fractions.Fraction.{Fraction}
 use Rattle.dd_cells.proofs.CurvatureLemmas.{size_zero}
 use Rattle.dd_cells.proofs.FractionLemmas.{denominator, fraction_unique}
-use Rattle.dd_draw.proofs.Rings.{at, nat, equal, ◌⊞◌, ◌⊟◌, ◌⊠◌}
+use Rattle.dd_lattice.proofs.Rings.{at, nat, equal, ◌⊞◌, ◌⊟◌, ◌⊠◌}
 
 no_product : (m n : ℕ) → m * n ≡ 0 → (n ≡ 0 → ⊥) → m ≡ 0
 no_product zero n e some = refl

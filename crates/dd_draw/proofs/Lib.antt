@@ -1,4 +1,3 @@
-pub mod Rings
 pub mod Integers
 pub mod Totals
 pub mod Pulls

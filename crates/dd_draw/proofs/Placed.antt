@@ -7,7 +7,7 @@ use Rattle.dd_cells.specs.declared.fractions.Fraction.{Fraction}
 use Rattle.dd_lattice.specs.Nets.{IsConnectedNet}
 use Rattle.dd_lattice.specs.declared.net.Net.{Net}
 use Rattle.dd_lattice.specs.declared.net_edge.NetEdge.{NetEdge}
-use Rattle.dd_draw.proofs.Rings.{at, nat, equal, ◌⊠◌}
+use Rattle.dd_lattice.proofs.Rings.{at, nat, equal, ◌⊠◌}
 use Rattle.dd_draw.proofs.Integers.{cancel}
 use Rattle.dd_draw.proofs.FirstSums.{whole_reduced}
 use Rattle.dd_draw.proofs.FirstTable.{entry-x, entry-y}

@@ -4,7 +4,7 @@ use Rattle.std.proofs.Common.{◌≡◌, ℕ, zero, suc, ◌+◌, ◌*◌, ◌<�
 use Rattle.std.specs.List.{AllByRecursion}
 use Rattle.std.proofs.lemmas.Int.{ints}
 use Rattle.dd_lattice.specs.declared.net_edge.NetEdge.{NetEdge}
-use Rattle.dd_draw.proofs.Rings.{at, nat, equal, ◌⊞◌, ◌⊟◌, ◌⊠◌}
+use Rattle.dd_lattice.proofs.Rings.{at, nat, equal, ◌⊞◌, ◌⊟◌, ◌⊠◌}
 use Rattle.dd_draw.proofs.Totals.{total, total-same, total-sum, total-zero, total_at}
 use Rattle.dd_draw.specs.Placement.{if_same, pull}
 

@@ -4,7 +4,7 @@ use Rattle.std.proofs.lemmas.Int.{ints}
 use Rattle.std.proofs.lemmas.Bool.{cases_eq, eq-eqb, ne_eqb}
 use Rattle.dd_lattice.specs.Nets.{IsConnectedNet}
 use Rattle.dd_lattice.specs.declared.net.Net.{Net}
-use Rattle.dd_draw.proofs.Rings.{at, nat, equal, ◌⊟◌, ◌⊠◌}
+use Rattle.dd_lattice.proofs.Rings.{at, nat, equal, ◌⊟◌, ◌⊠◌}
 use Rattle.dd_draw.proofs.Integers.{product_nonzero}
 use Rattle.dd_draw.proofs.Pivots.{table, pivot}
 use Rattle.dd_draw.proofs.WholeTables.{after, after-own, after-other}

@@ -2,7 +2,7 @@
 use Rattle.std.proofs.Common.{◌≡◌, ◌≢◌, pos, ◌-ℤ◌, ◌*ℤ◌, refl, sym, ap, ◌∙◌, subst, ⊎_elim, arith}
 use Rattle.dd_cells.specs.Fraction.{IsReduced}
 use Rattle.dd_cells.specs.declared.fractions.Fraction.{Fraction}
-use Rattle.dd_draw.proofs.Rings.{at, equal, ◌⊟◌, ◌⊠◌}
+use Rattle.dd_lattice.proofs.Rings.{at, equal, ◌⊟◌, ◌⊠◌}
 use Rattle.dd_draw.proofs.Integers.{cancel, positive_nonzero, product_nonzero, same_fraction}
 use Rattle.dd_draw.specs.Elimination.{Ratio, quotient, product, difference}
 use Rattle.dd_draw.specs.Limit.{IsOverLimit, IsWide, IsWithin, IsNarrow, ratio_of}

@@ -1,8 +1,8 @@
 -- Numbers of spots as the code reads and writes them, boxes of more spots, and texts of more parts.
-use Rattle.std.proofs.Common.{◌≡◌, ℕ, ◌+◌, ◌*◌, ◌<◌, ◌≤◌, ◌^◌, ℤ, pos, negsuc, int_lt, SFits, to_z, of_z, ◌+ℤ◌, ◌-ℤ◌, ◌*ℤ◌, nat_abs, Bool, true, false, cond, List, [], ◌∷◌, ◌++◌, length, take, get_or, append_assoc, refl, sym, ap, ◌∙◌, subst, arith}
-use Rattle.std.specs.Int.{w64, w128, int_min, int_max}
+use Rattle.std.proofs.Common.{FitsSigned, ◌≤ℤ◌, ◌<ℤ◌, ◌-◌, div-le_self, ◌≡◌, ℕ, ◌+◌, ◌*◌, ◌<◌, ◌≤◌, ◌^◌, ℤ, pos, negsuc, int_lt, SFits, to_z, of_z, ◌+ℤ◌, ◌-ℤ◌, ◌*ℤ◌, nat_abs, Bool, true, false, cond, List, [], ◌∷◌, ◌++◌, length, take, get_or, append_assoc, refl, sym, ap, ◌∙◌, subst, arith}
+use Rattle.std.specs.Int.{w64, w128, int_min, int_max, int_div_euclid}
 use Rattle.std.specs.List.{flat_map}
-use Rattle.std.proofs.lemmas.Int.{ints, to_z-of_z, fits_signed_from_abs, unsigned_abs-mul}
+use Rattle.std.proofs.lemmas.Int.{ints, to_z-of_z, fits_signed_from_abs, int_max_is, int_min_is, unsigned_abs-mul}
 use Rattle.std.proofs.lemmas.List.{take_more, append-nil}
 use Rattle.std.proofs.lemmas.Grind.{flat_map-append}
 use Rattle.std.proofs.Math.Nat.{mul-le-mul}
@@ -20,7 +20,7 @@ shift_small (negsuc n) f = let h = f.sfits in omega arith
 pub shift_read : (x r : ℤ) → SFits w64 x → r ≡ to_z w64 (of_z w64 x) → r ≡ x
 shift_read x r f e = e ∙ to_z-of_z w64 x f
 
-read : (z : ℤ) → nat_abs z ≤ 2 ^ 90 → to_z w128 (of_z w128 z) ≡ z
+read : (z : ℤ) → nat_abs z ≤ 2 ^ 127 - 1 → to_z w128 (of_z w128 z) ≡ z
 read z h = to_z-of_z w128 z (fits_signed_from_abs w128 z (omega arith))
 
 -- a number that is one of two small ones
@@ -28,81 +28,158 @@ one_of : (b : Bool) (x y : ℤ) (k : ℕ) → nat_abs x ≤ k → nat_abs y ≤ 
 one_of true x y k p q = p
 one_of false x y k p q = q
 
-pub min_read : (x y r : ℤ) → nat_abs x ≤ 5000 * 2 ^ 63 → nat_abs y ≤ 5000 * 2 ^ 63 → r ≡ int_min (to_z w128 (of_z w128 x)) (to_z w128 (of_z w128 y)) → to_z w128 (of_z w128 r) ≡ int_min x y
+pub min_read : (x y r : ℤ) → nat_abs x ≤ 2 ^ 126 + 2 ^ 125 + 2 ^ 75 → nat_abs y ≤ 2 ^ 126 + 2 ^ 125 + 2 ^ 75 → r ≡ int_min (to_z w128 (of_z w128 x)) (to_z w128 (of_z w128 y)) → to_z w128 (of_z w128 r) ≡ int_min x y
 min_read x y r p q e =
-    ap (λ z. to_z w128 (of_z w128 z)) (e ∙ (λ i. int_min (read x (omega arith) i) (read y (omega arith) i))) ∙ read (int_min x y) (let k = one_of (int_lt y x) y x (5000 * 2 ^ 63) q p in omega arith)
+    ap (λ z. to_z w128 (of_z w128 z)) (e ∙ (λ i. int_min (read x (omega arith) i) (read y (omega arith) i))) ∙ read (int_min x y) (let k = one_of (int_lt y x) y x (2 ^ 126 + 2 ^ 125 + 2 ^ 75) q p in omega arith)
 
-pub max_read : (x y r : ℤ) → nat_abs x ≤ 5000 * 2 ^ 63 → nat_abs y ≤ 5000 * 2 ^ 63 → r ≡ int_max (to_z w128 (of_z w128 x)) (to_z w128 (of_z w128 y)) → to_z w128 (of_z w128 r) ≡ int_max x y
+pub max_read : (x y r : ℤ) → nat_abs x ≤ 2 ^ 126 + 2 ^ 125 + 2 ^ 75 → nat_abs y ≤ 2 ^ 126 + 2 ^ 125 + 2 ^ 75 → r ≡ int_max (to_z w128 (of_z w128 x)) (to_z w128 (of_z w128 y)) → to_z w128 (of_z w128 r) ≡ int_max x y
 max_read x y r p q e =
-    ap (λ z. to_z w128 (of_z w128 z)) (e ∙ (λ i. int_max (read x (omega arith) i) (read y (omega arith) i))) ∙ read (int_max x y) (let k = one_of (int_lt y x) x y (5000 * 2 ^ 63) p q in omega arith)
+    ap (λ z. to_z w128 (of_z w128 z)) (e ∙ (λ i. int_max (read x (omega arith) i) (read y (omega arith) i))) ∙ read (int_max x y) (let k = one_of (int_lt y x) x y (2 ^ 126 + 2 ^ 125 + 2 ^ 75) p q in omega arith)
 
-pub min_small : (x y r : ℤ) → nat_abs x ≤ 5000 * 2 ^ 63 → nat_abs y ≤ 5000 * 2 ^ 63 → r ≡ int_min (to_z w128 (of_z w128 x)) (to_z w128 (of_z w128 y)) → nat_abs (to_z w128 (of_z w128 r)) ≤ 5000 * 2 ^ 63
-min_small x y r p q e = subst (λ z. nat_abs z ≤ 5000 * 2 ^ 63) (sym (min_read x y r p q e)) (one_of (int_lt y x) y x (5000 * 2 ^ 63) q p)
+pub min_small : (x y r : ℤ) → nat_abs x ≤ 2 ^ 126 + 2 ^ 125 + 2 ^ 75 → nat_abs y ≤ 2 ^ 126 + 2 ^ 125 + 2 ^ 75 → r ≡ int_min (to_z w128 (of_z w128 x)) (to_z w128 (of_z w128 y)) → nat_abs (to_z w128 (of_z w128 r)) ≤ 2 ^ 126 + 2 ^ 125 + 2 ^ 75
+min_small x y r p q e = subst (λ z. nat_abs z ≤ 2 ^ 126 + 2 ^ 125 + 2 ^ 75) (sym (min_read x y r p q e)) (one_of (int_lt y x) y x (2 ^ 126 + 2 ^ 125 + 2 ^ 75) q p)
 
-pub max_small : (x y r : ℤ) → nat_abs x ≤ 5000 * 2 ^ 63 → nat_abs y ≤ 5000 * 2 ^ 63 → r ≡ int_max (to_z w128 (of_z w128 x)) (to_z w128 (of_z w128 y)) → nat_abs (to_z w128 (of_z w128 r)) ≤ 5000 * 2 ^ 63
-max_small x y r p q e = subst (λ z. nat_abs z ≤ 5000 * 2 ^ 63) (sym (max_read x y r p q e)) (one_of (int_lt y x) x y (5000 * 2 ^ 63) p q)
+pub max_small : (x y r : ℤ) → nat_abs x ≤ 2 ^ 126 + 2 ^ 125 + 2 ^ 75 → nat_abs y ≤ 2 ^ 126 + 2 ^ 125 + 2 ^ 75 → r ≡ int_max (to_z w128 (of_z w128 x)) (to_z w128 (of_z w128 y)) → nat_abs (to_z w128 (of_z w128 r)) ≤ 2 ^ 126 + 2 ^ 125 + 2 ^ 75
+max_small x y r p q e = subst (λ z. nat_abs z ≤ 2 ^ 126 + 2 ^ 125 + 2 ^ 75) (sym (max_read x y r p q e)) (one_of (int_lt y x) x y (2 ^ 126 + 2 ^ 125 + 2 ^ 75) p q)
 
-times_small : (k : ℕ) (x : ℤ) → k ≤ 1000 → nat_abs x ≤ 2 ^ 63 → nat_abs (pos k *ℤ x) ≤ 1000 * 2 ^ 63
-times_small k x p q = omega (arith, unsigned_abs-mul (pos k) x, mul-le-mul p q)
+product_size : (x y : ℤ) (m n : ℕ) → nat_abs x ≤ m → nat_abs y ≤ n → nat_abs (x *ℤ y) ≤ m * n
+product_size x y m n p q = omega (arith, unsigned_abs-mul x y, mul-le-mul p q)
 
-times_read : (k : ℕ) (x r : ℤ) → k ≤ 1000 → nat_abs x ≤ 2 ^ 63 → r ≡ x → to_z w128 (of_z w128 (pos k *ℤ to_z w128 (of_z w128 r))) ≡ pos k *ℤ x
-times_read k x r p q e =
-    ap (λ z. to_z w128 (of_z w128 (pos k *ℤ to_z w128 (of_z w128 z)))) e ∙ ap (λ z. to_z w128 (of_z w128 (pos k *ℤ z))) (read x (omega arith))
-    ∙ read (pos k *ℤ x) (let s = times_small k x p q in omega arith)
+times_small : (k x : ℤ) → nat_abs k ≤ 2 ^ 63 → nat_abs x ≤ 2 ^ 63 → nat_abs (k *ℤ x) ≤ 2 ^ 126
+times_small k x p q = let s = product_size k x (2 ^ 63) (2 ^ 63) p q in omega arith
 
-pub moved_read : (s : ℤ) (k : ℕ) (x r : ℤ) → nat_abs s ≤ 2000 * 2 ^ 62 → k ≤ 1000 → nat_abs x ≤ 2 ^ 63 → r ≡ x
-    → to_z w128 (of_z w128 (to_z w128 (of_z w128 s) +ℤ to_z w128 (of_z w128 (pos k *ℤ to_z w128 (of_z w128 r))))) ≡ s +ℤ pos k *ℤ x
-moved_read s k x r small p q e =
+times_read : (k x j r : ℤ) → nat_abs k ≤ 2 ^ 63 → nat_abs x ≤ 2 ^ 63 → j ≡ k → r ≡ x → to_z w128 (of_z w128 (to_z w128 (of_z w128 j) *ℤ to_z w128 (of_z w128 r))) ≡ k *ℤ x
+times_read k x j r p q ek ex =
+    (λ i. to_z w128 (of_z w128 (to_z w128 (of_z w128 (ek i)) *ℤ to_z w128 (of_z w128 (ex i))))) ∙ (λ i. to_z w128 (of_z w128 (read k (omega arith) i *ℤ read x (omega arith) i)))
+    ∙ read (k *ℤ x) (let s = times_small k x p q in omega arith)
+
+-- the rise of a spot that is moved
+pub moved_read : (s k x j r : ℤ) → nat_abs s ≤ 2 ^ 125 + 2 ^ 73 → nat_abs k ≤ 2 ^ 63 → nat_abs x ≤ 2 ^ 63 → j ≡ k → r ≡ x
+    → to_z w128 (of_z w128 (to_z w128 (of_z w128 s) +ℤ to_z w128 (of_z w128 (to_z w128 (of_z w128 j) *ℤ to_z w128 (of_z w128 r))))) ≡ s +ℤ k *ℤ x
+moved_read s k x j r small p q ek ex =
     let t = times_small k x p q in
-    (λ i. to_z w128 (of_z w128 (read s (omega arith) i +ℤ times_read k x r p q e i))) ∙ read (s +ℤ pos k *ℤ x) (sum_small s (pos k *ℤ x) small t)
+    (λ i. to_z w128 (of_z w128 (read s (omega arith) i +ℤ times_read k x j r p q ek ex i))) ∙ read (s +ℤ k *ℤ x) (let n = sum_small s (k *ℤ x) small t in omega arith)
   where
-    sum_small : (s t : ℤ) → nat_abs s ≤ 2000 * 2 ^ 62 → nat_abs t ≤ 1000 * 2 ^ 63 → nat_abs (s +ℤ t) ≤ 2 ^ 90
+    sum_small : (s t : ℤ) → nat_abs s ≤ 2 ^ 125 + 2 ^ 73 → nat_abs t ≤ 2 ^ 126 → nat_abs (s +ℤ t) ≤ 2 ^ 126 + 2 ^ 125 + 2 ^ 75
     sum_small s t p q = omega (arith, ints)
 
--- moved along both sides of a cell
-two_small : (s t u : ℤ) → nat_abs s ≤ 2000 * 2 ^ 62 → nat_abs t ≤ 1000 * 2 ^ 63 → nat_abs u ≤ 1000 * 2 ^ 63 → nat_abs (s +ℤ (t +ℤ u)) ≤ 5000 * 2 ^ 63
+pub moved_small : (s k x : ℤ) → nat_abs s ≤ 2 ^ 125 + 2 ^ 73 → nat_abs k ≤ 2 ^ 63 → nat_abs x ≤ 2 ^ 63 → nat_abs (s +ℤ k *ℤ x) ≤ 2 ^ 126 + 2 ^ 125 + 2 ^ 75
+moved_small s k x small p q = sum_small s (k *ℤ x) small (times_small k x p q)
+  where
+    sum_small : (s t : ℤ) → nat_abs s ≤ 2 ^ 125 + 2 ^ 73 → nat_abs t ≤ 2 ^ 126 → nat_abs (s +ℤ t) ≤ 2 ^ 126 + 2 ^ 125 + 2 ^ 75
+    sum_small s t p q = omega (arith, ints)
+
+-- and how far it goes along
+two_small : (s t u : ℤ) → nat_abs s ≤ 2 ^ 125 + 2 ^ 73 → nat_abs t ≤ 2 ^ 74 → nat_abs u ≤ 2 ^ 126 → nat_abs (s +ℤ (t +ℤ u)) ≤ 2 ^ 126 + 2 ^ 125 + 2 ^ 75
 two_small s t u p q r = omega (arith, ints)
 
-inner_small : (t u : ℤ) → nat_abs t ≤ 1000 * 2 ^ 63 → nat_abs u ≤ 1000 * 2 ^ 63 → nat_abs (t +ℤ u) ≤ 2 ^ 90
+inner_small : (t u : ℤ) → nat_abs t ≤ 2 ^ 74 → nat_abs u ≤ 2 ^ 126 → nat_abs (t +ℤ u) ≤ 2 ^ 127 - 1
 inner_small t u p q = omega (arith, ints)
 
-pub leaning_read : (s : ℤ) (j k : ℕ) (x y q r : ℤ) → nat_abs s ≤ 2000 * 2 ^ 62 → j ≤ 1000 → k ≤ 1000 → nat_abs x ≤ 2 ^ 63 → nat_abs y ≤ 2 ^ 63 → q ≡ x → r ≡ y
+first_small : (x : ℤ) → nat_abs x ≤ 2 ^ 63 → nat_abs (pos 1000 *ℤ x) ≤ 2 ^ 74
+first_small x p = let s = product_size (pos 1000) x 1000 (2 ^ 63) (omega arith) p in omega arith
+
+first_read : (x q : ℤ) → nat_abs x ≤ 2 ^ 63 → q ≡ x → to_z w128 (of_z w128 (pos 1000 *ℤ to_z w128 (of_z w128 q))) ≡ pos 1000 *ℤ x
+first_read x q p e = ap (λ z. to_z w128 (of_z w128 (pos 1000 *ℤ to_z w128 (of_z w128 z)))) e ∙ ap (λ z. to_z w128 (of_z w128 (pos 1000 *ℤ z))) (read x (omega arith)) ∙ read (pos 1000 *ℤ x) (let s = first_small x p in omega arith)
+
+pub leaning_read : (s k x y q j r : ℤ) → nat_abs s ≤ 2 ^ 125 + 2 ^ 73 → nat_abs k ≤ 2 ^ 63 → nat_abs x ≤ 2 ^ 63 → nat_abs y ≤ 2 ^ 63 → q ≡ x → j ≡ k → r ≡ y
     → to_z w128 (of_z w128 (to_z w128 (of_z w128 s) +ℤ to_z w128 (of_z w128
-    (to_z w128 (of_z w128 (pos j *ℤ to_z w128 (of_z w128 q))) +ℤ to_z w128 (of_z w128 (pos k *ℤ to_z w128 (of_z w128 r))))))) ≡ s +ℤ (pos j *ℤ x +ℤ pos k *ℤ y)
-leaning_read s j k x y q r small pj pk px py ex ey =
-    let t = times_small j x pj px in
+    (to_z w128 (of_z w128 (pos 1000 *ℤ to_z w128 (of_z w128 q))) +ℤ to_z w128 (of_z w128 (to_z w128 (of_z w128 j) *ℤ to_z w128 (of_z w128 r))))))) ≡ s +ℤ (pos 1000 *ℤ x +ℤ k *ℤ y)
+leaning_read s k x y q j r small pk px py ex ek ey =
+    let t = first_small x px in
     let u = times_small k y pk py in
-    (λ i. to_z w128 (of_z w128 (read s (omega arith) i +ℤ to_z w128 (of_z w128 (times_read j x q pj px ex i +ℤ times_read k y r pk py ey i)))))
-    ∙ ap (λ z. to_z w128 (of_z w128 (s +ℤ z))) (read (pos j *ℤ x +ℤ pos k *ℤ y) (inner_small (pos j *ℤ x) (pos k *ℤ y) t u))
-    ∙ read (s +ℤ (pos j *ℤ x +ℤ pos k *ℤ y)) (let w = two_small s (pos j *ℤ x) (pos k *ℤ y) small t u in omega arith)
+    (λ i. to_z w128 (of_z w128 (read s (omega arith) i +ℤ to_z w128 (of_z w128 (first_read x q px ex i +ℤ times_read k y j r pk py ek ey i)))))
+    ∙ ap (λ z. to_z w128 (of_z w128 (s +ℤ z))) (read (pos 1000 *ℤ x +ℤ k *ℤ y) (inner_small (pos 1000 *ℤ x) (k *ℤ y) t u))
+    ∙ read (s +ℤ (pos 1000 *ℤ x +ℤ k *ℤ y)) (let w = two_small s (pos 1000 *ℤ x) (k *ℤ y) small t u in omega arith)
 
-pub leaning_small : (s : ℤ) (j k : ℕ) (x y : ℤ) → nat_abs s ≤ 2000 * 2 ^ 62 → j ≤ 1000 → k ≤ 1000 → nat_abs x ≤ 2 ^ 63 → nat_abs y ≤ 2 ^ 63 → nat_abs (s +ℤ (pos j *ℤ x +ℤ pos k *ℤ y)) ≤ 5000 * 2 ^ 63
-leaning_small s j k x y small pj pk px py = two_small s (pos j *ℤ x) (pos k *ℤ y) small (times_small j x pj px) (times_small k y pk py)
+pub leaning_small : (s k x y : ℤ) → nat_abs s ≤ 2 ^ 125 + 2 ^ 73 → nat_abs k ≤ 2 ^ 63 → nat_abs x ≤ 2 ^ 63 → nat_abs y ≤ 2 ^ 63 → nat_abs (s +ℤ (pos 1000 *ℤ x +ℤ k *ℤ y)) ≤ 2 ^ 126 + 2 ^ 125 + 2 ^ 75
+leaning_small s k x y small pk px py = two_small s (pos 1000 *ℤ x) (k *ℤ y) small (first_small x px) (times_small k y pk py)
 
-pub moved_small : (s : ℤ) (k : ℕ) (x : ℤ) → nat_abs s ≤ 2000 * 2 ^ 62 → k ≤ 1000 → nat_abs x ≤ 2 ^ 63 → nat_abs (s +ℤ pos k *ℤ x) ≤ 5000 * 2 ^ 63
-moved_small s k x small p q = sum_small s (pos k *ℤ x) small (times_small k x p q)
+-- each sum on the way has room
+pub along_fits : (k x y q j r : ℤ) → nat_abs k ≤ 2 ^ 63 → nat_abs x ≤ 2 ^ 63 → nat_abs y ≤ 2 ^ 63 → q ≡ x → j ≡ k → r ≡ y
+    → FitsSigned w128 (to_z w128 (of_z w128 (pos 1000 *ℤ to_z w128 (of_z w128 q))) +ℤ to_z w128 (of_z w128 (to_z w128 (of_z w128 j) *ℤ to_z w128 (of_z w128 r))))
+along_fits k x y q j r pk px py ex ek ey =
+    let e : to_z w128 (of_z w128 (pos 1000 *ℤ to_z w128 (of_z w128 q))) +ℤ to_z w128 (of_z w128 (to_z w128 (of_z w128 j) *ℤ to_z w128 (of_z w128 r))) ≡ pos 1000 *ℤ x +ℤ k *ℤ y
+    = λ i. first_read x q px ex i +ℤ times_read k y j r pk py ek ey i in
+    let n = inner_small (pos 1000 *ℤ x) (k *ℤ y) (first_small x px) (times_small k y pk py) in
+    subst (FitsSigned w128) (sym e) (fits_signed_from_abs w128 (pos 1000 *ℤ x +ℤ k *ℤ y) (omega arith))
+
+pub moved_fits : (s k x y q j r : ℤ) → nat_abs s ≤ 2 ^ 125 + 2 ^ 73 → nat_abs k ≤ 2 ^ 63 → nat_abs x ≤ 2 ^ 63 → nat_abs y ≤ 2 ^ 63 → q ≡ x → j ≡ k → r ≡ y
+    → FitsSigned w128 (to_z w128 (of_z w128 s) +ℤ to_z w128 (of_z w128 (to_z w128 (of_z w128 (pos 1000 *ℤ to_z w128 (of_z w128 q))) +ℤ to_z w128 (of_z w128 (to_z w128 (of_z w128 j) *ℤ to_z w128 (of_z w128 r))))))
+moved_fits s k x y q j r small pk px py ex ek ey =
+    let t = first_small x px in
+    let u = times_small k y pk py in
+    let e : to_z w128 (of_z w128 s) +ℤ to_z w128 (of_z w128 (to_z w128 (of_z w128 (pos 1000 *ℤ to_z w128 (of_z w128 q))) +ℤ to_z w128 (of_z w128 (to_z w128 (of_z w128 j) *ℤ to_z w128 (of_z w128 r))))) ≡ s +ℤ (pos 1000 *ℤ x +ℤ k *ℤ y)
+    = (λ i. read s (omega arith) i +ℤ to_z w128 (of_z w128 (first_read x q px ex i +ℤ times_read k y j r pk py ek ey i)))
+    ∙ ap (λ z. s +ℤ z) (read (pos 1000 *ℤ x +ℤ k *ℤ y) (inner_small (pos 1000 *ℤ x) (k *ℤ y) t u)) in
+    let n = two_small s (pos 1000 *ℤ x) (k *ℤ y) small t u in
+    subst (FitsSigned w128) (sym e) (fits_signed_from_abs w128 (s +ℤ (pos 1000 *ℤ x +ℤ k *ℤ y)) (omega arith))
+
+pub times_fits : (k y j r : ℤ) → nat_abs k ≤ 2 ^ 63 → nat_abs y ≤ 2 ^ 63 → j ≡ k → r ≡ y → FitsSigned w128 (to_z w128 (of_z w128 j) *ℤ to_z w128 (of_z w128 r))
+times_fits k y j r pk py ek ey =
+    let e : to_z w128 (of_z w128 j) *ℤ to_z w128 (of_z w128 r) ≡ k *ℤ y
+    = (λ i. to_z w128 (of_z w128 (ek i)) *ℤ to_z w128 (of_z w128 (ey i))) ∙ (λ i. read k (omega arith) i *ℤ read y (omega arith) i) in
+    let n = times_small k y pk py in
+    subst (FitsSigned w128) (sym e) (fits_signed_from_abs w128 (k *ℤ y) (omega arith))
+
+pub rise_fits : (s k y j r : ℤ) → nat_abs s ≤ 2 ^ 125 + 2 ^ 73 → nat_abs k ≤ 2 ^ 63 → nat_abs y ≤ 2 ^ 63 → j ≡ k → r ≡ y
+    → FitsSigned w128 (to_z w128 (of_z w128 s) +ℤ to_z w128 (of_z w128 (to_z w128 (of_z w128 j) *ℤ to_z w128 (of_z w128 r))))
+rise_fits s k y j r small pk py ek ey =
+    let e : to_z w128 (of_z w128 s) +ℤ to_z w128 (of_z w128 (to_z w128 (of_z w128 j) *ℤ to_z w128 (of_z w128 r))) ≡ s +ℤ k *ℤ y = λ i. read s (omega arith) i +ℤ times_read k y j r pk py ek ey i in
+    let n = moved_small s k y small pk py in
+    subst (FitsSigned w128) (sym e) (fits_signed_from_abs w128 (s +ℤ k *ℤ y) (omega arith))
+
+-- ## Quotients that are rounded down
+
+quotient_size : (n d : ℤ) → pos 0 <ℤ d → nat_abs (int_div_euclid n d) ≤ nat_abs n
+quotient_size (pos a) (pos b) some = div-le_self a b
+quotient_size (negsuc a) (pos b) some = let e = div-le_self a b in omega arith
+quotient_size n (negsuc b) some = absurd (omega (arith, ints))
+
+pub floor_small : (k num den r : ℤ) → nat_abs k ≤ 2 ^ 63 → nat_abs num ≤ 2 ^ 62 → pos 0 <ℤ den → nat_abs den ≤ 2 ^ 62
+    → r ≡ int_div_euclid (to_z w128 (of_z w128 (to_z w128 (of_z w128 k) *ℤ to_z w128 (of_z w128 num)))) (to_z w128 (of_z w128 den)) → nat_abs (to_z w128 (of_z w128 r)) ≤ 2 ^ 125
+floor_small k num den r pk pn some pd e =
+    let size = product_size k num (2 ^ 63) (2 ^ 62) pk pn in
+    let plain : r ≡ int_div_euclid (k *ℤ num) den
+    = e ∙ (λ i. int_div_euclid (to_z w128 (of_z w128 (read k (omega arith) i *ℤ read num (omega arith) i))) (read den (omega arith) i)) ∙ (λ i. int_div_euclid (read (k *ℤ num) (omega arith) i) den) in
+    let less = quotient_size (k *ℤ num) den some in
+    let small : nat_abs r ≤ 2 ^ 125 = subst (λ z. nat_abs z ≤ 2 ^ 125) (sym plain) (omega arith) in
+    subst (λ z. nat_abs z ≤ 2 ^ 125) (sym (read r (omega arith))) small
+
+pub spot_read : (x y : ℤ) → nat_abs x ≤ 2 ^ 125 → nat_abs y ≤ 2 ^ 125 → to_z w128 (of_z w128 (to_z w128 (of_z w128 x) +ℤ to_z w128 (of_z w128 y))) ≡ x +ℤ y
+spot_read x y p q = (λ i. to_z w128 (of_z w128 (read x (omega arith) i +ℤ read y (omega arith) i))) ∙ read (x +ℤ y) (sum x y p q)
   where
-    sum_small : (s t : ℤ) → nat_abs s ≤ 2000 * 2 ^ 62 → nat_abs t ≤ 1000 * 2 ^ 63 → nat_abs (s +ℤ t) ≤ 5000 * 2 ^ 63
-    sum_small s t p q = omega (arith, ints)
+    sum : (x y : ℤ) → nat_abs x ≤ 2 ^ 125 → nat_abs y ≤ 2 ^ 125 → nat_abs (x +ℤ y) ≤ 2 ^ 127 - 1
+    sum x y p q = omega (arith, ints)
+
+pub lean_small : (j k : ℤ) → j ≡ k → nat_abs j ≤ 2 ^ 63 → nat_abs k ≤ 2 ^ 63
+lean_small j k e h = subst (λ z. nat_abs z ≤ 2 ^ 63) e h
+
+pub side_read : (x : ℤ) → nat_abs x ≤ 2 ^ 63 → to_z w128 (of_z w128 x) ≡ x
+side_read x p = read x (omega arith)
+
+pub one_read : (x : ℤ) → nat_abs x ≤ 2 ^ 125 → to_z w128 (of_z w128 x) ≡ x
+one_read x p = read x (omega arith)
 
 -- a margin on the one side, and on both
-pub margin_read : (a : ℤ) → nat_abs a ≤ 5000 * 2 ^ 63 → to_z w128 (of_z w128 (to_z w128 (of_z w128 a) -ℤ pos 100)) ≡ a -ℤ pos 100
+pub margin_read : (a : ℤ) → nat_abs a ≤ 2 ^ 126 + 2 ^ 125 + 2 ^ 75 → to_z w128 (of_z w128 (to_z w128 (of_z w128 a) -ℤ pos 100)) ≡ a -ℤ pos 100
 margin_read a p = ap (λ z. to_z w128 (of_z w128 (z -ℤ pos 100))) (read a (omega arith)) ∙ read (a -ℤ pos 100) (less a p)
   where
-    less : (a : ℤ) → nat_abs a ≤ 5000 * 2 ^ 63 → nat_abs (a -ℤ pos 100) ≤ 2 ^ 90
+    less : (a : ℤ) → nat_abs a ≤ 2 ^ 126 + 2 ^ 125 + 2 ^ 75 → nat_abs (a -ℤ pos 100) ≤ 2 ^ 127 - 1
     less a p = omega (arith, ints)
 
-pub width_read : (a b : ℤ) → nat_abs a ≤ 5000 * 2 ^ 63 → nat_abs b ≤ 5000 * 2 ^ 63
-    → to_z w128 (of_z w128 (to_z w128 (of_z w128 (to_z w128 (of_z w128 a) -ℤ to_z w128 (of_z w128 b))) +ℤ pos 200)) ≡ (a -ℤ b) +ℤ pos 200
-width_read a b p q =
-    (λ i. to_z w128 (of_z w128 (to_z w128 (of_z w128 (read a (omega arith) i -ℤ read b (omega arith) i)) +ℤ pos 200)))
-    ∙ ap (λ z. to_z w128 (of_z w128 (z +ℤ pos 200))) (read (a -ℤ b) (less a b p q)) ∙ read ((a -ℤ b) +ℤ pos 200) (more a b p q)
+pub width_read : (a b : ℤ) (n : ℕ) → b ≤ℤ a → nat_abs a ≤ 2 ^ 126 + 2 ^ 125 + 2 ^ 75 → nat_abs b ≤ 2 ^ 126 + 2 ^ 125 + 2 ^ 75
+    → n ≡ nat_abs (to_z w128 (of_z w128 a) -ℤ to_z w128 (of_z w128 b)) → pos (n + 200) ≡ (a -ℤ b) +ℤ pos 200
+width_read a b n order p q e = ap (λ m. pos (m + 200)) (e ∙ (λ i. nat_abs (read a (omega arith) i -ℤ read b (omega arith) i))) ∙ above a b order
   where
-    less : (a b : ℤ) → nat_abs a ≤ 5000 * 2 ^ 63 → nat_abs b ≤ 5000 * 2 ^ 63 → nat_abs (a -ℤ b) ≤ 2 ^ 90
-    less a b p q = omega (arith, ints)
+    above : (a b : ℤ) → b ≤ℤ a → pos (nat_abs (a -ℤ b) + 200) ≡ (a -ℤ b) +ℤ pos 200
+    above a b h = omega (arith, ints)
 
-    more : (a b : ℤ) → nat_abs a ≤ 5000 * 2 ^ 63 → nat_abs b ≤ 5000 * 2 ^ 63 → nat_abs ((a -ℤ b) +ℤ pos 200) ≤ 2 ^ 90
-    more a b p q = omega (arith, ints)
+min_max : (a b x : ℤ) → a ≤ℤ b → int_min a x ≤ℤ int_max b x
+min_max a b x h = let p = int_min_is a x in let q = int_max_is b x in omega (arith, ints)
+
+pub ordered : (a b x u v : ℤ) → a ≤ℤ b → u ≡ int_min a x → v ≡ int_max b x → u ≤ℤ v
+ordered a b x u v h e f = subst (λ z. z ≤ℤ v) (sym e) (subst (λ z. int_min a x ≤ℤ z) (sym f) (min_max a b x h))
 
 -- ## Boxes
 
@@ -133,6 +210,11 @@ covering_two f es k d e xs a b now new low two before put =
 pub three_parts : (old one two three a b c : List ℕ) → a ≡ old ++ one → b ≡ a ++ two → c ≡ b ++ three → c ≡ old ++ (one ++ (two ++ three))
 three_parts old one two three a b c ea eb ec =
     ec ∙ ap (λ t. t ++ three) (eb ∙ ap (λ t. t ++ two) ea) ∙ append_assoc (old ++ one) two three ∙ append_assoc old one (two ++ three)
+
+-- the texts of three spots, and one after them
+pub three_spots : (f : Spot → List ℕ) (a b c : Spot) (end : List ℕ) → flat_map f (a ∷ b ∷ c ∷ []) ++ end ≡ f a ++ (f b ++ (f c ++ end))
+three_spots f a b c end =
+    append_assoc (f a) (f b ++ (f c ++ [])) end ∙ ap (λ t. f a ++ t) (append_assoc (f b) (f c ++ []) end ∙ ap (λ t. f b ++ t) (append_assoc (f c) [] end))
 
 -- five parts of a text, one after the other
 pub five_parts : (old one two three four five a b c d e : List ℕ) → a ≡ old ++ one → b ≡ a ++ two → c ≡ b ++ three → d ≡ c ++ four → e ≡ d ++ five

@@ -3,7 +3,7 @@ use Rattle.std.proofs.Common.{◌≢◌, ◌⊎◌, ℕ, suc, ◌+◌, ◌<◌, 
 use Rattle.dd_cells.specs.declared.fractions.Fraction.{Fraction}
 use Rattle.dd_lattice.specs.Nets.{IsConnectedNet}
 use Rattle.dd_lattice.specs.declared.net.Net.{Net}
-use Rattle.dd_draw.proofs.Rings.{at, nat, equal, ◌⊠◌}
+use Rattle.dd_lattice.proofs.Rings.{at, nat, equal, ◌⊠◌}
 use Rattle.dd_draw.proofs.Integers.{zero_factor}
 use Rattle.dd_draw.proofs.Ratios.{IsSame, IsSame-sym, quotient_same, product_same, difference_same, narrow_along, wide_along, same_from_narrow, narrow_not_wide, den_nonzero}
 use Rattle.dd_draw.proofs.RatioTables.{entry-own, entry-other, under_nonzero, pivot_entry}

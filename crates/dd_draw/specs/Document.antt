@@ -4,9 +4,8 @@ use Rattle.std.specs.Fmt.{signed_decimal}
 use Rattle.std.specs.List.{flat_map}
 use Rattle.dd_cells.specs.declared.fractions.Fraction.{Fraction}
 use Rattle.dd_model.specs.declared.frame.Frame.{Frame}
-use Rattle.dd_model.specs.declared.frame.Frame.TheVariants.{Square, Hex}
 use Rattle.dd_lattice.specs.declared.net_edge.NetEdge.{NetEdge}
-use Rattle.dd_draw.specs.Spots.{spot_of, from_spot, to_spot}
+use Rattle.dd_draw.specs.Spots.{corners, spot_of, from_spot, to_spot}
 use Rattle.dd_draw.specs.Extents.{extent_of}
 use Rattle.dd_draw.specs.declared.point.Point.{Point}
 use Rattle.dd_draw.specs.declared.spot.Spot.{Spot}
@@ -25,10 +24,14 @@ view_text e =
 abbrev pub head_text : Extent → List ℕ
 head_text e = codes "<svg xmlns=\"http://www.w3.org/2000/svg\" viewBox=\"" ++ (view_text e ++ codes "\" fill=\"none\" stroke=\"black\" stroke-width=\"6\">\n")
 
+-- a corner of the cell after the first
+abbrev pub corner_text : Spot → List ℕ
+corner_text s = codes "L" ++ spot_text s
+
 -- the cell
 abbrev pub cell_text : Frame → List ℕ
-cell_text Square = codes "<path d=\"M0 0L1000 0L1000 1000L0 1000Z\" stroke=\"silver\"/>\n"
-cell_text Hex = codes "<path d=\"M0 0L1000 0L1500 866L500 866Z\" stroke=\"silver\"/>\n"
+cell_text frame =
+    codes "<path d=\"M0 0" ++ (flat_map corner_text (corners frame) ++ codes "Z\" stroke=\"silver\"/>\n")
 
 -- an edge, from the one end to the other
 abbrev pub line_text : Spot → Spot → List ℕ

@@ -1,5 +1,5 @@
 -- The box that spots lie in.
-use Rattle.std.specs.Prelude.{◌*◌, ◌^◌, ◌≤◌, nat_abs, List, [], ◌∷◌}
+use Rattle.std.specs.Prelude.{◌+◌, ◌^◌, ◌≤◌, nat_abs, ◌≤ℤ◌, List, [], ◌∷◌}
 use Rattle.std.specs.Int.{int_min, int_max}
 use Rattle.dd_model.specs.declared.frame.Frame.{Frame}
 use Rattle.dd_lattice.specs.declared.net_edge.NetEdge.{NetEdge}
@@ -25,9 +25,11 @@ covering e (s ∷ ss) = covering (with_spot e s) ss
 abbrev pub extent_of : Frame → List NetEdge → List Point → Extent
 extent_of frame edges points = covering (box_at start) (printed frame edges points)
 
--- its numbers have room
+-- its numbers are in order, and have room
 pub record IsSmallExtent (e : Extent) : Type 0 where
-  pub left : nat_abs e.left ≤ 5000 * 2 ^ 63
-  pub top : nat_abs e.top ≤ 5000 * 2 ^ 63
-  pub right : nat_abs e.right ≤ 5000 * 2 ^ 63
-  pub bottom : nat_abs e.bottom ≤ 5000 * 2 ^ 63
+  pub left : nat_abs e.left ≤ 2 ^ 126 + 2 ^ 125 + 2 ^ 75
+  pub top : nat_abs e.top ≤ 2 ^ 126 + 2 ^ 125 + 2 ^ 75
+  pub right : nat_abs e.right ≤ 2 ^ 126 + 2 ^ 125 + 2 ^ 75
+  pub bottom : nat_abs e.bottom ≤ 2 ^ 126 + 2 ^ 125 + 2 ^ 75
+  pub along : e.left ≤ℤ e.right
+  pub down : e.top ≤ℤ e.bottom

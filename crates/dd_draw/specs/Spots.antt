@@ -1,10 +1,10 @@
 -- Where points are printed: whole numbers, a thousand of which are the side of a cell.
-use Rattle.std.specs.Prelude.{◌*◌, ◌^◌, ◌≤◌, nat_abs, ℤ, pos, ◌+ℤ◌, ◌*ℤ◌, List, [], ◌∷◌, ◌++◌}
+use Rattle.std.specs.Prelude.{◌+◌, ◌^◌, ◌≤◌, nat_abs, ℤ, pos, ◌+ℤ◌, ◌*ℤ◌, List, [], ◌∷◌, ◌++◌}
 use Rattle.std.specs.Int.{int_div_euclid}
 use Rattle.std.specs.List.{flat_map}
 use Rattle.dd_cells.specs.declared.fractions.Fraction.{Fraction}
 use Rattle.dd_model.specs.declared.frame.Frame.{Frame}
-use Rattle.dd_model.specs.declared.frame.Frame.TheVariants.{Square, Hex}
+use Rattle.dd_model.specs.declared.frame.Frame.TheVariants.{Square, Hex, Own}
 use Rattle.dd_lattice.specs.declared.net_edge.NetEdge.{NetEdge}
 use Rattle.dd_draw.specs.Placement.{point_of}
 use Rattle.dd_draw.specs.declared.point.Point.{Point}
@@ -14,23 +14,32 @@ use Rattle.dd_draw.specs.declared.spot.Spot.{Spot}
 abbrev pub floor_of : ℤ → Fraction → ℤ
 floor_of k f = int_div_euclid (k *ℤ f.num) f.den
 
--- the spot of a point; in a hexagonal frame the second side of the cell leans by half a side
+-- The first side of a cell goes 1000 along. The second side leans over that far, and rises that far.
+abbrev pub lean : Frame → ℤ
+lean Square = pos 0
+lean Hex = pos 500
+lean (Own p q) = p
+
+abbrev pub rise : Frame → ℤ
+rise Square = pos 1000
+rise Hex = pos 866
+rise (Own p q) = q
+
+-- the spot of a point
 abbrev pub spot_of : Frame → Point → Spot
-spot_of Square p = record { x = floor_of (pos 1000) p.x; y = floor_of (pos 1000) p.y }
-spot_of Hex p = record { x = floor_of (pos 1000) p.x +ℤ floor_of (pos 500) p.y; y = floor_of (pos 866) p.y }
+spot_of frame p = record { x = floor_of (pos 1000) p.x +ℤ floor_of (lean frame) p.y; y = floor_of (rise frame) p.y }
 
 -- a spot moved by whole cells
 abbrev pub moved : Frame → Spot → ℤ → ℤ → Spot
-moved Square s x y = record { x = s.x +ℤ pos 1000 *ℤ x; y = s.y +ℤ pos 1000 *ℤ y }
-moved Hex s x y = record { x = s.x +ℤ (pos 1000 *ℤ x +ℤ pos 500 *ℤ y); y = s.y +ℤ pos 866 *ℤ y }
+moved frame s x y = record { x = s.x +ℤ (pos 1000 *ℤ x +ℤ lean frame *ℤ y); y = s.y +ℤ rise frame *ℤ y }
 
 abbrev pub start : Spot
 start = record { x = pos 0; y = pos 0 }
 
 -- the corners of the cell after the first, which is at the start
 abbrev pub corners : Frame → List Spot
-corners Square = record { x = pos 1000; y = pos 0 } ∷ record { x = pos 1000; y = pos 1000 } ∷ record { x = pos 0; y = pos 1000 } ∷ []
-corners Hex = record { x = pos 1000; y = pos 0 } ∷ record { x = pos 1500; y = pos 866 } ∷ record { x = pos 500; y = pos 866 } ∷ []
+corners frame =
+    record { x = pos 1000; y = pos 0 } ∷ record { x = pos 1000 +ℤ lean frame; y = rise frame } ∷ record { x = lean frame; y = rise frame } ∷ []
 
 -- the two ends of an edge: the vertex that it comes from, and the one that it goes to, moved by the shift
 abbrev pub from_spot : Frame → List Point → NetEdge → Spot
@@ -48,5 +57,5 @@ printed frame edges points = corners frame ++ flat_map (ends_of frame points) ed
 
 -- a spot whose numbers have room
 pub record IsSmallSpot (s : Spot) : Type 0 where
-  pub x : nat_abs s.x ≤ 5000 * 2 ^ 63
-  pub y : nat_abs s.y ≤ 5000 * 2 ^ 63
+  pub x : nat_abs s.x ≤ 2 ^ 126 + 2 ^ 125 + 2 ^ 75
+  pub y : nat_abs s.y ≤ 2 ^ 126 + 2 ^ 125 + 2 ^ 75

@@ -5,33 +5,31 @@ ghost use Rattle.dd_lattice.specs.Nets.{IsConnectedNet};
 ghost use Rattle.dd_draw.specs.Limit.{IsNarrowPoint};
 ghost use Rattle.dd_draw.specs.Spots.{IsSmallSpot, corners, from_spot, to_spot};
 ghost use Rattle.dd_draw.specs.Extents.{extent_of, IsSmallExtent};
-ghost use Rattle.dd_draw.specs.Document.{head_text, view_text, cell_text, spot_text, line_text, edge_text, middle_text, vertex_text, exact_text, document};
+ghost use Rattle.dd_draw.specs.Document.{head_text, view_text, cell_text, corner_text, spot_text, line_text, edge_text, middle_text, vertex_text, exact_text, document};
 
 use crate::extent::Extent;
 use crate::places::Places;
 use crate::point::Point;
-use crate::spot::Spot;
+use crate::spot::{Spot, second_side};
 use dd_cells::Fraction;
 use dd_lattice::{Net, NetEdge};
 use dd_model::{Frame, Memory, put_bytes};
 use std::alloc::{AllocError, Global};
 
-/// Of the frame, the corners of the cell after the first.
+/// The corners of the cell after the first.
 fn corners(frame: Frame) -> [Spot; 3]
-    ensures { result ≡ corners frame }
+    ensures same { result ≡ corners frame }
+    ensures small { AllByRecursion IsSmallSpot result }
 {
-    match frame {
-        Frame::Square => [
-            Spot { x: 1000, y: 0 },
-            Spot { x: 1000, y: 1000 },
-            Spot { x: 0, y: 1000 },
-        ],
-        Frame::Hex => [
-            Spot { x: 1000, y: 0 },
-            Spot { x: 1500, y: 866 },
-            Spot { x: 500, y: 866 },
-        ],
-    }
+    let (lean, rise) = second_side(frame);
+    [
+        Spot { x: 1000, y: 0 },
+        Spot {
+            x: 1000 + lean,
+            y: rise,
+        },
+        Spot { x: lean, y: rise },
+    ]
 }
 
 /// Appends a spot.
@@ -54,8 +52,8 @@ fn view_of(alloc: Global, extent: Extent) -> Result<String, AllocError>
         "{} {} {} {}",
         extent.left - 100,
         extent.top - 100,
-        extent.right - extent.left + 200,
-        extent.bottom - extent.top + 200
+        extent.right.abs_diff(extent.left) + 200,
+        extent.bottom.abs_diff(extent.top) + 200
     )
 }
 
@@ -75,14 +73,28 @@ fn put_head(out: &mut Vec<u8>, extent: Extent) -> Result<(), Memory>
     Ok(())
 }
 
-/// The path round the cell.
-fn cell(frame: Frame) -> &'static [u8]
-    ensures { result.now ≡ cell_text frame }
+/// Appends a corner of the cell.
+fn put_corner(out: &mut Vec<u8>, corner: Spot) -> Result<(), Memory>
+    ensures corner { OnOk result (out.new.items ≡ out.old.items ++ corner_text corner) }
+    ensures longer { IsLonger out.old.items out.new.items }
 {
-    match frame {
-        Frame::Square => b"<path d=\"M0 0L1000 0L1000 1000L0 1000Z\" stroke=\"silver\"/>\n",
-        Frame::Hex => b"<path d=\"M0 0L1000 0L1500 866L500 866Z\" stroke=\"silver\"/>\n",
-    }
+    put_bytes(out, b"L")?;
+    put_spot(out, corner)?;
+    Ok(())
+}
+
+/// Appends the path round the cell.
+fn put_cell(out: &mut Vec<u8>, frame: Frame) -> Result<(), Memory>
+    ensures cell { OnOk result (out.new.items ≡ out.old.items ++ cell_text frame) }
+    ensures longer { IsLonger out.old.items out.new.items }
+{
+    let [one, two, three] = corners(frame);
+    put_bytes(out, b"<path d=\"M0 0")?;
+    put_corner(out, one)?;
+    put_corner(out, two)?;
+    put_corner(out, three)?;
+    put_bytes(out, b"Z\" stroke=\"silver\"/>\n")?;
+    Ok(())
 }
 
 /// Appends a fraction.
@@ -205,7 +217,7 @@ fn append_svg(out: &mut Vec<u8>, net: &Net, places: &Places, frame: Frame) -> Re
 {
     let points = places.points.as_slice();
     put_head(out, extent_of(frame, net, points))?;
-    put_bytes(out, cell(frame))?;
+    put_cell(out, frame)?;
     put_edges(out, frame, net, points)?;
     put_vertices(out, frame, points)?;
     put_bytes(out, b"</svg>\n")?;

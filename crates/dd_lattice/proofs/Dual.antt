@@ -16,7 +16,7 @@ use Rattle.dd_lattice.specs.declared.kinds.EdgeKind.{EdgeKind}
 use Rattle.dd_lattice.specs.declared.kinds.EdgeKind.TheVariants.{Left}
 use Rattle.dd_lattice.proofs.Around.{vertices_joined, tiles_joined}
 use Rattle.dd_lattice.proofs.Flows.{straight, crossed, same_at}
-use Rattle.dd_lattice.proofs.KindCounts.{links, count, count_links, link_listed, level_by_chosen}
+use Rattle.dd_lattice.proofs.KindCounts.{links, count_links, link_listed, level_by_chosen, all_but, but_other, one_fewer}
 use Rattle.dd_lattice.proofs.KindLemmas.{listed_edge, same_default, own_root}
 use Rattle.dd_lattice.proofs.TreeCounts.{all_places, tree_chosen, tree_not_chosen, tree_edges}
 
@@ -36,43 +36,11 @@ module _ (t : Symbol) (symbol : IsSymbol t) (all : Connected t) (edges : List �
   abbrev All : ℕ → Type 0
   All e = Unit {0}
 
-  abbrev counted : (ℕ → Bool) → ℕ → ℕ
-  counted = count t inv Vertex Zero All edges cells
-
   -- ## All tree edges but one
 
   module _ (m : ℕ) (inside : m < length edges) (tree : tree_at m ≡ true) where
     abbrev but : ℕ → Bool
-    but k = cond (eqb k m) false (tree_at k)
-
-    but_own : but m ≡ false
-    but_own = ap (λ b. cond b false (tree_at m)) (eq-eqb m m refl)
-
-    but_other : (k : ℕ) → k ≢ m → but k ≡ tree_at k
-    but_other k off = ap (λ b. cond b false (tree_at k)) (ne_eqb k m off)
-
-    same_before : (n : ℕ) → n ≤ m → counted but n ≡ counted tree_at n
-    same_before zero low = refl
-    same_before (suc n) low =
-        let rest = same_before n (omega arith) in
-        ap (λ b. cond b (suc (counted but n)) (counted but n)) (but_other n (λ e. absurd (omega arith))) ∙ ap (λ c. cond (tree_at n) (suc c) c) rest
-
-    one_fewer : (n : ℕ) → m < n → suc (counted but n) ≡ counted tree_at n
-    one_fewer zero low = absurd (omega arith)
-    one_fewer (suc n) low =
-        ⊎_elim
-        (λ at.
-        let none : but n ≡ false = ap but at ∙ but_own in
-        let yes_ : tree_at n ≡ true = ap tree_at at ∙ tree in
-        ap suc (ap (λ b. cond b (suc (counted but n)) (counted but n)) none ∙ same_before n (omega arith)) ∙ sym (ap (λ b. cond b (suc (counted tree_at n)) (counted tree_at n)) yes_))
-        (λ off.
-        let rest = one_fewer n (omega arith) in
-        let same = but_other n off in
-        ⊎_elim
-        (λ y. ap suc (ap (λ b. cond b (suc (counted but n)) (counted but n)) (same ∙ y)) ∙ ap suc rest ∙ sym (ap (λ b. cond b (suc (counted tree_at n)) (counted tree_at n)) y))
-        (λ no_. ap suc (ap (λ b. cond b (suc (counted but n)) (counted but n)) (same ∙ no_)) ∙ rest ∙ sym (ap (λ b. cond b (suc (counted tree_at n)) (counted tree_at n)) no_))
-        (cases_Bool (tree_at n)))
-        (cases_eq n m)
+    but = all_but t inv Vertex Zero All edges cells tree_at m
 
     abbrev root : ℕ → ℕ
     root = (has_roots t inv Vertex).root
@@ -88,7 +56,7 @@ module _ (t : Symbol) (symbol : IsSymbol t) (all : Connected t) (edges : List �
 
     value_at : (q : ℕ) → q < length edges → tree_at q ≡ true → q ≢ m → value (op t Zero (edge q)) ≡ value (edge q)
     value_at q low is off =
-        sym (linked others (record { from = root (edge q); to = root (op t Zero (edge q)) }) (link_listed t inv Vertex Zero All edges cells but (length edges) q low (but_other q off ∙ is)))
+        sym (linked others (record { from = root (edge q); to = root (op t Zero (edge q)) }) (link_listed t inv Vertex Zero All edges cells but (length edges) q low (but_other t inv Vertex Zero All edges cells tree_at m q off ∙ is)))
 
     -- the others do not join its vertices
     parted : value (op t Zero (edge m)) ≡ value (edge m) → ⊥
@@ -102,7 +70,7 @@ module _ (t : Symbol) (symbol : IsSymbol t) (all : Connected t) (edges : List �
         let least = (of.members v).0 here in
         ap (labels others) (own_root t inv Vertex v least) ∙ same v least.0) in
         let many = count_links t inv Vertex Zero All edges cells but (length edges) in
-        let fewer = one_fewer (length edges) inside in
+        let fewer = one_fewer t inv Vertex Zero All edges cells tree_at m tree (length edges) inside in
         let places = all_places t inv edges cells kinds are Vertex Zero All is_tree in
         let exact = tree_edges t inv edges cells kinds are symbol all vertices of in
         omega arith

@@ -30,7 +30,7 @@ on_false false P then = then refl
 abbrev one_if : Bool → ℕ
 one_if b = cond b 1 0
 
-count_set : (p : Bool → Bool) (xs : List Bool) (i : ℕ) → i < length xs → p (get_or xs i false) ≡ false → p true ≡ true → count_by p (set xs i true) ≡ count_by p xs + 1
+pub count_set : (p : Bool → Bool) (xs : List Bool) (i : ℕ) → i < length xs → p (get_or xs i false) ≡ false → p true ≡ true → count_by p (set xs i true) ≡ count_by p xs + 1
 count_set p xs i inside none some =
     let sums : count_by p (set xs i true) + one_if (p (get_or xs i false)) ≡ count_by p xs + one_if (p true) = sum_by-set (λ (b : Bool). cond (p b) 1 0) xs i true false inside in
     let old : one_if (p (get_or xs i false)) ≡ 0 = ap one_if none in

@@ -1,6 +1,6 @@
 -- How many of the edges join two parts.
-use Rattle.std.proofs.Common.{◌≡◌, ◌≢◌, ℕ, zero, suc, ◌+◌, ◌<◌, ◌≤◌, Bool, true, false, cond, List, [], ◌∷◌, length, get_or, refl, sym, ap, ◌∙◌, subst, ⊎_elim, arith}
-use Rattle.std.proofs.lemmas.Bool.{cases_eq, cases_Bool}
+use Rattle.std.proofs.Common.{◌≡◌, ◌≢◌, ℕ, zero, suc, ◌+◌, ◌<◌, ◌≤◌, Bool, true, false, cond, eqb, List, [], ◌∷◌, length, get_or, refl, sym, ap, ◌∙◌, subst, ⊎_elim, arith}
+use Rattle.std.proofs.lemmas.Bool.{cases_eq, cases_Bool, eq-eqb, ne_eqb}
 use Rattle.std.specs.List.{Contains}
 use Rattle.dd_model.specs.declared.index.Index.{Index}
 use Rattle.dd_model.specs.declared.pair.Pair.{Pair}
@@ -164,3 +164,41 @@ module _ (t : Symbol) (inv : AreInvolutions t) (p : Pair) (i : Index) (Counts : 
           ap (labels (links (length edges))) (own_root t inv p v least) ∙ same v least.0) in
           let many = count_links (length edges) in
           omega arith
+
+-- ## All chosen ones but one
+
+module _ (t : Symbol) (inv : AreInvolutions t) (p : Pair) (i : Index) (Counts : ℕ → Type 0) (edges : List ℕ) (cells : AreCells t Edge edges) (chosen : ℕ → Bool) (m : ℕ) where
+  abbrev pub all_but : ℕ → Bool
+  all_but k = cond (eqb k m) false (chosen k)
+
+  but_own : all_but m ≡ false
+  but_own = ap (λ b. cond b false (chosen m)) (eq-eqb m m refl)
+
+  pub but_other : (k : ℕ) → k ≢ m → all_but k ≡ chosen k
+  but_other k off = ap (λ b. cond b false (chosen k)) (ne_eqb k m off)
+
+  abbrev counted : (ℕ → Bool) → ℕ → ℕ
+  counted = count t inv p i Counts edges cells
+
+  same_before : (n : ℕ) → n ≤ m → counted all_but n ≡ counted chosen n
+  same_before zero low = refl
+  same_before (suc n) low =
+      let rest = same_before n (omega arith) in
+      ap (λ b. cond b (suc (counted all_but n)) (counted all_but n)) (but_other n (λ e. absurd (omega arith))) ∙ ap (λ c. cond (chosen n) (suc c) c) rest
+
+  pub one_fewer : chosen m ≡ true → (n : ℕ) → m < n → suc (counted all_but n) ≡ counted chosen n
+  one_fewer is zero low = absurd (omega arith)
+  one_fewer is (suc n) low =
+      ⊎_elim
+      (λ at.
+      let none : all_but n ≡ false = ap all_but at ∙ but_own in
+      let yes_ : chosen n ≡ true = ap chosen at ∙ is in
+      ap suc (ap (λ b. cond b (suc (counted all_but n)) (counted all_but n)) none ∙ same_before n (omega arith)) ∙ sym (ap (λ b. cond b (suc (counted chosen n)) (counted chosen n)) yes_))
+      (λ off.
+      let rest = one_fewer is n (omega arith) in
+      let same = but_other n off in
+      ⊎_elim
+      (λ y. ap suc (ap (λ b. cond b (suc (counted all_but n)) (counted all_but n)) (same ∙ y)) ∙ ap suc rest ∙ sym (ap (λ b. cond b (suc (counted chosen n)) (counted chosen n)) y))
+      (λ no_. ap suc (ap (λ b. cond b (suc (counted all_but n)) (counted all_but n)) (same ∙ no_)) ∙ rest ∙ sym (ap (λ b. cond b (suc (counted chosen n)) (counted chosen n)) no_))
+      (cases_Bool (chosen n)))
+      (cases_eq n m)

@@ -14,6 +14,7 @@ pub mod PathSums
 pub mod PathLemmas
 pub mod ClosedPaths
 pub mod Reaching
+pub mod Rings
 pub mod ListLemmas
 pub mod NetLemmas
 pub mod TileFlows

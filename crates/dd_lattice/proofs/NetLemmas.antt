@@ -81,7 +81,7 @@ module _ (t : Symbol) (torus : IsTorus t) (edges : List ℕ) (cells : AreCells t
 
 -- ## Places in ascending lists
 
-abbrev place_in : List ℕ → ℕ → ℕ
+abbrev pub place_in : List ℕ → ℕ → ℕ
 place_in [] x = 0
 place_in (y ∷ ys) x = cond (eqb y x) 0 (suc (place_in ys x))
 
@@ -104,10 +104,10 @@ module _ (t : Symbol) (torus : IsTorus t) (net : Net) (is : IsNet t net) where
   root = (has_roots t inv Vertex).root
 
   -- the number of the vertex of a chamber
-  abbrev number : ℕ → ℕ
+  abbrev pub number : ℕ → ℕ
   number d = place_in is.vertices (root d) + 1
 
-  number_is : (d n : ℕ) → IsChamber t d → IsVertexNumber t is.vertices d n → n ≡ number d
+  pub number_is : (d n : ℕ) → IsChamber t d → IsVertexNumber t is.vertices d n → n ≡ number d
   number_is d n h told =
       let low = told.positive in
       let high = told.within in
@@ -128,7 +128,7 @@ module _ (t : Symbol) (torus : IsTorus t) (net : Net) (is : IsNet t net) where
       omega arith
 
   -- each number is that of the first chamber of a vertex
-  first_chamber : (v : ℕ) → IsNetVertex net v → IsChamber t (item is.vertices v) × (v ≡ number (item is.vertices v))
+  pub first_chamber : (v : ℕ) → IsNetVertex net v → IsChamber t (item is.vertices v) × (v ≡ number (item is.vertices v))
   first_chamber v inside =
       let low = inside.0 in
       let high = inside.1 in

@@ -32,7 +32,7 @@ use Rattle.dd_lattice.proofs.TileFlows.{even_at}
 use Rattle.dd_lattice.proofs.TileSums.{total, total_both, sum_as}
 use Rattle.dd_lattice.proofs.TreeCounts.{crossing_chosen, crossing_not_chosen}
 
-parts : (a b : ℤ) → a ≡ pos 0 -ℤ b → (up a ≡ down b) × (down a ≡ up b)
+pub parts : (a b : ℤ) → a ≡ pos 0 -ℤ b → (up a ≡ down b) × (down a ≡ up b)
 parts (pos m) (pos n) e = (omega (arith, ints), omega (arith, ints))
 parts (pos m) (negsuc n) e = (omega (arith, ints), omega (arith, ints))
 parts (negsuc m) (pos n) e = (omega (arith, ints), omega (arith, ints))
@@ -43,7 +43,7 @@ whole a b e = omega (arith, ints)
 
 module _ (t : Symbol) (torus : IsTorus t) (one : ℕ) (x : ℕ → ℤ) (shifts : AreShifts t one x) where
   -- it goes out of a tile as often as into it
-  round_total : (d r : ℕ) → IsChamber t d → IsPeriod t Tile d r → total t (λ c. up (x c)) d r ≡ total t (λ c. down (x c)) d r
+  pub round_total : (d r : ℕ) → IsChamber t d → IsPeriod t Tile d r → total t (λ c. up (x c)) d r ≡ total t (λ c. down (x c)) d r
   round_total d r h period =
       let sums = sum_as t x (λ c. up (x c)) (λ c. down (x c)) d r (λ j. omega (arith, ints)) in
       let none = shifts.rounds d r h (IsLeastTurns-from_period t torus.symbol.table.involutions Tile d r h period) in
@@ -210,7 +210,7 @@ one_number t inv vs cells d m n h a b =
     (cases_eq m n)
 
 -- the two that are left are the first two of such
-one_left : (t : Symbol) (a b c d : ℕ) → AreLeft t a b → AreLeft t c d → (a ≡ c) × (b ≡ d)
+pub one_left : (t : Symbol) (a b c d : ℕ) → AreLeft t a b → AreLeft t c d → (a ≡ c) × (b ≡ d)
 one_left t a b c d ab cd =
     let low = ab.apart in
     let high = cd.apart in

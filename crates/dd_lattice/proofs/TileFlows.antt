@@ -116,7 +116,7 @@ module _ (t : Symbol) (symbol : IsSymbol t) (white : ℕ → Bool) (exchanged : 
         turned_over : (a b : ℕ) → a + b ≡ b + a
         turned_over a b = omega arith
 
-        swaps : AreExchanged t symbol white exchanged forth opposite
+        pub swaps : AreExchanged t symbol white exchanged forth opposite
         swaps i d h holds =
             ⊎_elim
             (λ e. subst (λ j. (forth (op t j d) ≡ opposite d) × (opposite (op t j d) ≡ forth d)) (sym e) (
@@ -138,7 +138,7 @@ module _ (t : Symbol) (symbol : IsSymbol t) (white : ℕ → Bool) (exchanged : 
             sym (ap (λ z. z * a (op t Two (op t Zero d))) (tile_02 d h) ∙ ap (λ z. g (op t Two d) * z) across))
             ∙ sum_over_round t inv white exchanged Edge (λ d. g d * a d)
 
-        even : sum_by forth whites ≡ sum_by opposite whites
+        pub even : sum_by forth whites ≡ sum_by opposite whites
         even =
             let a = sum_by_both (λ d. g d * out d) (λ d. g (op t Two d) * back d) whites in
             let b = sum_by_both (λ d. g d * back d) (λ d. g (op t Two d) * out d) whites in

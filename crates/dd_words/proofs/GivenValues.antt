@@ -182,7 +182,7 @@ module _ (gs hs : List Given) (m : SameValues gs hs) where
 
   framed : (f : Frame) → IsFramed gs f → IsFramed hs f
   framed f (inl h) = inl (m.lacks Cell h.0, h.1)
-  framed f (inr h) = inr (m.has Cell _ h)
+  framed f (inr h) = inr (record { word = h.word; has = m.has Cell h.word h.has; is = h.is })
 
   pub said : (c : Command) (xs : List Text) → IsSaid c xs gs → IsSaid c xs hs
   said (command.Catalogue q workers round pause checkpoint) (n ∷ []) h = record {

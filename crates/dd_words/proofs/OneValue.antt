@@ -1,15 +1,15 @@
 -- A setting that stands at most once has at most one value.
-use Rattle.std.proofs.Common.{◌≡◌, ◌≤◌, ◌==◌, ℕ, zero, suc, inl, inr, Bool, true, false, Option, Some, None, List, [], ◌∷◌, length, refl, sym, ap, ◌∙◌, subst, arith}
+use Rattle.std.proofs.Common.{codes, ◌≡◌, ◌≤◌, ◌==◌, ℕ, zero, suc, inl, inr, Bool, true, false, Option, Some, None, List, [], ◌∷◌, length, refl, sym, ap, ◌∙◌, subst, arith}
 use Rattle.dd_model.specs.Allowed.{IsFrom}
 use Rattle.dd_model.specs.declared.allowed.Allowed.{Allowed}
 use Rattle.dd_model.proofs.AllowedSets.{same_sets, same_from_sets}
 use Rattle.dd_words.specs.declared.settings.Setting.{Setting}
 use Rattle.dd_words.specs.declared.settings.Setting.TheVariants.{Cell}
 use Rattle.dd_model.specs.declared.frame.Frame.{Frame}
-use Rattle.dd_model.specs.declared.frame.Frame.TheVariants.{Square, Hex}
+use Rattle.dd_model.specs.declared.frame.Frame.TheVariants.{Square, Hex, Own}
 use Rattle.dd_words.specs.Values.{Text, IsNumberIn, IsSetWord, IsName}
 use Rattle.dd_words.specs.Given.{Given, AreSingle, Has, Lacks}
-use Rattle.dd_words.specs.GivenValues.{IsNumberOr, IsNumberIfGiven, IsNameIfGiven, IsFlagIfGiven, IsSet, word_of_frame, IsFramed}
+use Rattle.dd_words.specs.GivenValues.{IsNumberOr, IsNumberIfGiven, IsNameIfGiven, IsFlagIfGiven, IsSet, IsShapeWord, IsFramed}
 use Rattle.dd_words.proofs.Items.{same_number}
 
 pub not_both : (ss : List Given) (s : Setting) (w : Text) → Has ss s w → Lacks ss s → ⊥
@@ -58,9 +58,9 @@ pub least_range : (ss : List Given) (least : Setting) (n : ℕ) → IsNumberOr s
 least_range ss least n (inl h) = let e = h.1 in (omega arith, omega arith)
 least_range ss least n (inr h) = (h.number.from, h.number.to)
 
-pub no_frame : (ss : List Given) (w : Text) (frame : Frame) → AreSingle ss → Has ss Cell w → ((f : Frame) → w ≡ word_of_frame f → ⊥) → IsFramed ss frame → ⊥
+pub no_frame : (ss : List Given) (w : Text) (frame : Frame) → AreSingle ss → Has ss Cell w → ((f : Frame) → IsShapeWord w f → ⊥) → IsFramed ss frame → ⊥
 no_frame ss w frame single has none (inl h) = not_both ss Cell w has h.0
-no_frame ss w frame single has none (inr h) = none frame (same_value ss Cell w (word_of_frame frame) single has h)
+no_frame ss w frame single has none (inr h) = none frame (subst (λ v. IsShapeWord v frame) (same_value ss Cell h.word w single h.has has) h.is)
 
 -- the words ask for at most one value
 pub one_number_in : (low high : ℕ) (w : Text) (m n : ℕ) → IsNumberIn low high w m → IsNumberIn low high w n → m ≡ n
@@ -100,21 +100,24 @@ one_set ss set least a b single (inl x) (inr y) = absurd (not_both ss set x.word
 one_set ss set least a b single (inr x) (inl y) = absurd (not_both ss set y.word y.has x.alone)
 one_set ss set least a b single (inr x) (inr y) = same_from_sets x.first y.first a b (one_number ss least 1 36 3 x.first y.first single x.is_first y.is_first) x.is_set y.is_set
 
-square_or_hex : (f g : Frame) → word_of_frame f ≡ word_of_frame g → f ≡ g
-square_or_hex Square Square e = refl
-square_or_hex Square Hex e = absurd (cc)
-square_or_hex Hex Square e = absurd (cc)
-square_or_hex Hex Hex e = refl
+square_or_hex : (w : Text) (f g : Frame) → IsShapeWord w f → IsShapeWord w g → f ≡ g
+square_or_hex w Square Square a b = refl
+square_or_hex w Square Hex a b = absurd (let e : codes "square" ≡ codes "hex" = sym a ∙ b in cc)
+square_or_hex w Hex Square a b = absurd (let e : codes "hex" ≡ codes "square" = sym a ∙ b in cc)
+square_or_hex w Hex Hex a b = refl
+square_or_hex w (Own p q) g a b = absurd a
+square_or_hex w f (Own p q) a b = absurd b
 
 pub one_frame : (ss : List Given) (f g : Frame) → AreSingle ss → IsFramed ss f → IsFramed ss g → f ≡ g
 one_frame ss f g single (inl a) (inl b) = a.1 ∙ sym b.1
-one_frame ss f g single (inl a) (inr b) = absurd (not_both ss Cell (word_of_frame g) b a.0)
-one_frame ss f g single (inr a) (inl b) = absurd (not_both ss Cell (word_of_frame f) a b.0)
-one_frame ss f g single (inr a) (inr b) = square_or_hex f g (same_value ss Cell (word_of_frame f) (word_of_frame g) single a b)
+one_frame ss f g single (inl a) (inr b) = absurd (not_both ss Cell b.word b.has a.0)
+one_frame ss f g single (inr a) (inl b) = absurd (not_both ss Cell a.word a.has b.0)
+one_frame ss f g single (inr a) (inr b) = square_or_hex a.word f g a.is (subst (λ w. IsShapeWord w g) (same_value ss Cell b.word a.word single b.has a.has) b.is)
 
-pub no_other_frame : (w : Text) → (w ≡ word_of_frame Square → ⊥) → (w ≡ word_of_frame Hex → ⊥) → (f : Frame) → w ≡ word_of_frame f → ⊥
-no_other_frame w square hex Square = square
-no_other_frame w square hex Hex = hex
+pub no_other_frame : (w : Text) → (w ≡ codes "square" → ⊥) → (w ≡ codes "hex" → ⊥) → (f : Frame) → IsShapeWord w f → ⊥
+no_other_frame w square hex Square is = square is
+no_other_frame w square hex Hex is = hex is
+no_other_frame w square hex (Own p q) is = is
 
 pub some_text : (w : Text) (empty : Bool) → empty ≡ (length w == 0) → empty ≡ false → w ≡ [] → ⊥
 some_text w empty is test e = let none = ap (λ x. length x == 0) e in absurd (cc)

@@ -9,7 +9,7 @@ use Rattle.dd_words.specs.declared.settings.Setting.TheVariants.{Tiles, Vertices
 use Rattle.dd_words.specs.declared.commands.Command.{Command}
 use Rattle.dd_words.specs.declared.commands.Command.TheVariants as command
 use Rattle.dd_model.specs.declared.frame.Frame.{Frame}
-use Rattle.dd_model.specs.declared.frame.Frame.TheVariants.{Square, Hex}
+use Rattle.dd_model.specs.declared.frame.Frame.TheVariants.{Square, Hex, Own}
 use Rattle.dd_opword.specs.Words.{byte_of, IsSpelled}
 use Rattle.dd_opword.specs.declared.letters.Letter.{Letter}
 use Rattle.dd_opword.specs.declared.letters.Letter.TheVariants.{Dual, Ambo, Truncate, Chamfer}
@@ -20,7 +20,7 @@ use Rattle.dd_words.specs.Layout.{IsPlain}
 use Rattle.dd_words.specs.Given.{Given, AreSingle, Has}
 use Rattle.dd_words.specs.SettingNames.{has_setting, has_value}
 use Rattle.dd_words.specs.Grammar.{IsRun, IsSaid}
-use Rattle.dd_words.specs.GivenValues.{IsNumberOr, IsNumberIfGiven, IsNameIfGiven, IsSet, IsFramed, word_of_frame}
+use Rattle.dd_words.specs.GivenValues.{IsNumberOr, IsNumberIfGiven, IsNameIfGiven, IsSet, IsFramed, IsShapeWord}
 use Rattle.dd_words.specs.FirstWords.{verb_of}
 use Rattle.dd_words.proofs.OneValue.{not_both, same_value, only_number}
 
@@ -70,9 +70,10 @@ op_word_plain w (One x) h = subst IsPlain (sym h) (letter_is_no_dash x)
 op_word_plain w (Two x y) h = subst IsPlain (sym h) (letter_is_no_dash x)
 op_word_plain w (Three x y z) h = subst IsPlain (sym h) (letter_is_no_dash x)
 
-frame_plain : (f : Frame) → IsPlain (word_of_frame f)
-frame_plain Square = λ e. absurd (omega (arith, e))
-frame_plain Hex = λ e. absurd (omega (arith, e))
+frame_plain : (w : Text) (f : Frame) → IsShapeWord w f → IsPlain w
+frame_plain w Square is = subst IsPlain (sym is) (λ e. absurd (omega (arith, e)))
+frame_plain w Hex is = subst IsPlain (sym is) (λ e. absurd (omega (arith, e)))
+frame_plain w (Own p q) is = absurd is
 
 module _ (gs : List Given) (single : AreSingle gs) where
   or_plain : (s : Setting) (low high default n : ℕ) (x : Text) → IsNumberOr gs s low high default n → Has gs s x → IsPlain x
@@ -96,7 +97,7 @@ module _ (gs : List Given) (single : AreSingle gs) where
 
   cell_plain : (f : Frame) (x : Text) → IsFramed gs f → Has gs Cell x → IsPlain x
   cell_plain f x (inl h) has = absurd (not_both gs Cell x has h.0)
-  cell_plain f x (inr h) has = subst IsPlain (same_value gs Cell (word_of_frame f) x single h has) (frame_plain f)
+  cell_plain f x (inr h) has = subst IsPlain (same_value gs Cell h.word x single h.has has) (frame_plain h.word f h.is)
 
   run_plain : (s : Setting) (workers round : ℕ) (pause : Option ℕ) (x : Text) → IsRun gs workers round pause → Rattle.dd_words.specs.SettingNames.is_of_run s ≡ true → Has gs s x → IsPlain x
   run_plain Workers workers round pause x h o has = or_plain Workers 1 64 1 workers x h.workers_are has

@@ -5,7 +5,7 @@ use Rattle.dd_model.specs.declared.allowed.Allowed.{Allowed}
 use Rattle.dd_words.specs.declared.settings.Setting.{Setting}
 use Rattle.dd_words.specs.declared.settings.Setting.TheVariants.{Cell}
 use Rattle.dd_model.specs.declared.frame.Frame.{Frame}
-use Rattle.dd_model.specs.declared.frame.Frame.TheVariants.{Square, Hex}
+use Rattle.dd_model.specs.declared.frame.Frame.TheVariants.{Square, Hex, Own}
 use Rattle.dd_words.specs.Values.{Text, IsNumberIn, IsSetWord, IsName}
 use Rattle.dd_words.specs.Given.{Given, Has, Lacks}
 
@@ -51,11 +51,18 @@ pub record IsSetFrom (settings : List Given) (set least : Setting) (a : Allowed)
 abbrev pub IsSet : List Given → Setting → Setting → Allowed → Type 0
 IsSet settings set least a = IsSetGiven settings set least a ⊎ IsSetFrom settings set least a
 
--- the word of a cell's shape
-abbrev pub word_of_frame : Frame → Text
-word_of_frame Square = codes "square"
-word_of_frame Hex = codes "hex"
+-- the word of a cell's shape; a shape by its numbers has none
+abbrev pub IsShapeWord : Text → Frame → Type 0
+IsShapeWord w Square = w ≡ codes "square"
+IsShapeWord w Hex = w ≡ codes "hex"
+IsShapeWord w (Own p q) = ⊥
+
+-- the shape is given by its word
+pub record IsShapeGiven (settings : List Given) (frame : Frame) : Type 0 where
+  pub word : Text
+  pub has : Has settings Cell word
+  pub is : IsShapeWord word frame
 
 -- the shape of the cell; a square where none is given
 abbrev pub IsFramed : List Given → Frame → Type 0
-IsFramed settings frame = (Lacks settings Cell × (frame ≡ Square)) ⊎ Has settings Cell (word_of_frame frame)
+IsFramed settings frame = (Lacks settings Cell × (frame ≡ Square)) ⊎ IsShapeGiven settings frame

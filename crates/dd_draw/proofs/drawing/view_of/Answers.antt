@@ -12,5 +12,5 @@ returns c =
     IfOk-weaker c.format.result _ (λ text. string_bytes text ≡ view_text e)
     (λ text is. is ∙ (λ i.
     signed_decimal (margin_read e.left small.left i) ++ (codes " " ++ (signed_decimal (margin_read e.top small.top i) ++ (codes " " ++
-    (signed_decimal (width_read e.right e.left small.right small.left i) ++ (codes " " ++ signed_decimal (width_read e.bottom e.top small.bottom small.top i))))))))
+    (signed_decimal (width_read e.right e.left c.abs_diff.result small.along small.right small.left c.abs_diff.ensures i) ++ (codes " " ++ signed_decimal (width_read e.bottom e.top c.abs_diff-2.result small.down small.bottom small.top c.abs_diff-2.ensures i))))))))
     c.format.ensures.ok

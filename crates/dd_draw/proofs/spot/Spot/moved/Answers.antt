@@ -1,38 +1,45 @@
-use Rattle.std.proofs.Common.{◌≤◌, ◌^◌, ◌*◌, nat_abs, sym, ap, ◌∙◌, subst, arith}
-use Rattle.dd_draw.specs.Spots.{moved}
-use Rattle.dd_draw.proofs.Spots.{shift_small, shift_read, moved_read, moved_small, leaning_read, leaning_small}
+use Rattle.std.proofs.Common.{◌≤◌, ◌+◌, ◌^◌, nat_abs, sym, subst}
+use Rattle.dd_draw.specs.Spots.{lean, rise}
+use Rattle.dd_draw.proofs.Spots.{lean_small, shift_small, shift_read, moved_read, moved_small, moved_fits, leaning_read, leaning_small, along_fits, times_fits, rise_fits}
 use Rattle.dd_draw.proofs.spot.Spot.moved.Goals as goal
 
-pub returns-in-Square-clause-same : goal.returns-in-Square-clause-same
-returns-in-Square-clause-same c =
-    let s = c.args.self in
-    let y_small : nat_abs s.y ≤ 2000 * 2 ^ 62 = let h = c.requires.y in omega arith in
-    (λ i. record {
-      x = moved_read s.x 1000 c.args.x c.from-x.result c.requires.x (omega arith) (shift_small c.args.x c.ranges.x) (shift_read c.args.x c.from-x.result c.ranges.x c.from-x.ensures) i;
-      y = moved_read s.y 1000 c.args.y c.from-y.result y_small (omega arith) (shift_small c.args.y c.ranges.y) (shift_read c.args.y c.from-y.result c.ranges.y c.from-y.ensures) i;
-    }) ∙ ap (λ f. moved f s c.args.x c.args.y) (sym c.in-Square.is)
+pub overflow_add-result : goal.overflow_add-result
+overflow_add-result c =
+    along_fits (lean c.args.frame) c.args.x c.args.y c.from-x.result c.second_side-lean.result.0 c.from-y.result (lean_small c.second_side-lean.result.0 (lean c.args.frame) c.second_side-lean.ensures.lean c.second_side-lean.ensures.small_lean) (shift_small c.args.x c.ranges.x) (shift_small c.args.y c.ranges.y)
+    (shift_read c.args.x c.from-x.result c.ranges.x c.from-x.ensures) c.second_side-lean.ensures.lean (shift_read c.args.y c.from-y.result c.ranges.y c.from-y.ensures)
 
-pub returns-in-Hex-clause-same : goal.returns-in-Hex-clause-same
-returns-in-Hex-clause-same c =
+pub overflow_add-result-2 : goal.overflow_add-result-2
+overflow_add-result-2 c =
+    moved_fits c.args.self.x (lean c.args.frame) c.args.x c.args.y c.from-x.result c.second_side-lean.result.0 c.from-y.result c.requires.x (lean_small c.second_side-lean.result.0 (lean c.args.frame) c.second_side-lean.ensures.lean c.second_side-lean.ensures.small_lean) (shift_small c.args.x c.ranges.x) (shift_small c.args.y c.ranges.y)
+    (shift_read c.args.x c.from-x.result c.ranges.x c.from-x.ensures) c.second_side-lean.ensures.lean (shift_read c.args.y c.from-y.result c.ranges.y c.from-y.ensures)
+
+pub overflow_mul-result-3 : goal.overflow_mul-result-3
+overflow_mul-result-3 c =
+    times_fits (rise c.args.frame) c.args.y c.second_side-lean.result.1 c.from-y.result (lean_small c.second_side-lean.result.1 (rise c.args.frame) c.second_side-lean.ensures.rise c.second_side-lean.ensures.small_rise) (shift_small c.args.y c.ranges.y) c.second_side-lean.ensures.rise (shift_read c.args.y c.from-y.result c.ranges.y c.from-y.ensures)
+
+pub overflow_add-result-3 : goal.overflow_add-result-3
+overflow_add-result-3 c =
+    rise_fits c.args.self.y (rise c.args.frame) c.args.y c.second_side-lean.result.1 c.from-y.result c.requires.y (lean_small c.second_side-lean.result.1 (rise c.args.frame) c.second_side-lean.ensures.rise c.second_side-lean.ensures.small_rise) (shift_small c.args.y c.ranges.y) c.second_side-lean.ensures.rise (shift_read c.args.y c.from-y.result c.ranges.y c.from-y.ensures)
+
+pub returns-clause-same : goal.returns-clause-same
+returns-clause-same c =
     let s = c.args.self in
     let px = shift_small c.args.x c.ranges.x in
     let py = shift_small c.args.y c.ranges.y in
-    let y_small : nat_abs s.y ≤ 2000 * 2 ^ 62 = let h = c.requires.y in omega arith in
-    (λ i. record {
-      x = leaning_read s.x 1000 500 c.args.x c.args.y c.from-x.result c.from-y.result c.requires.x (omega arith) (omega arith) px py (shift_read c.args.x c.from-x.result c.ranges.x c.from-x.ensures) (shift_read c.args.y c.from-y.result c.ranges.y c.from-y.ensures) i;
-      y = moved_read s.y 866 c.args.y c.from-y.result y_small (omega arith) py (shift_read c.args.y c.from-y.result c.ranges.y c.from-y.ensures) i;
-    }) ∙ ap (λ f. moved f s c.args.x c.args.y) (sym c.in-Hex.is)
+    λ i. record {
+      x = leaning_read s.x (lean c.args.frame) c.args.x c.args.y c.from-x.result c.second_side-lean.result.0 c.from-y.result c.requires.x (lean_small c.second_side-lean.result.0 (lean c.args.frame) c.second_side-lean.ensures.lean c.second_side-lean.ensures.small_lean) px py (shift_read c.args.x c.from-x.result c.ranges.x c.from-x.ensures) c.second_side-lean.ensures.lean (shift_read c.args.y c.from-y.result c.ranges.y c.from-y.ensures) i;
+      y = moved_read s.y (rise c.args.frame) c.args.y c.second_side-lean.result.1 c.from-y.result c.requires.y (lean_small c.second_side-lean.result.1 (rise c.args.frame) c.second_side-lean.ensures.rise c.second_side-lean.ensures.small_rise) py c.second_side-lean.ensures.rise (shift_read c.args.y c.from-y.result c.ranges.y c.from-y.ensures) i;
+    }
 
-pub returns-in-Hex-clause-small : goal.returns-in-Hex-clause-small
-returns-in-Hex-clause-small c =
+pub returns-clause-small : goal.returns-clause-small
+returns-clause-small c =
     let s = c.args.self in
     let px = shift_small c.args.x c.ranges.x in
     let py = shift_small c.args.y c.ranges.y in
-    let y_small : nat_abs s.y ≤ 2000 * 2 ^ 62 = let h = c.requires.y in omega arith in
     record {
-      x = subst (λ z. nat_abs z ≤ 5000 * 2 ^ 63)
-          (sym (leaning_read s.x 1000 500 c.args.x c.args.y c.from-x.result c.from-y.result c.requires.x (omega arith) (omega arith) px py (shift_read c.args.x c.from-x.result c.ranges.x c.from-x.ensures) (shift_read c.args.y c.from-y.result c.ranges.y c.from-y.ensures)))
-          (leaning_small s.x 1000 500 c.args.x c.args.y c.requires.x (omega arith) (omega arith) px py);
-      y = subst (λ z. nat_abs z ≤ 5000 * 2 ^ 63) (sym (moved_read s.y 866 c.args.y c.from-y.result y_small (omega arith) py (shift_read c.args.y c.from-y.result c.ranges.y c.from-y.ensures)))
-          (moved_small s.y 866 c.args.y y_small (omega arith) py);
+      x = subst (λ z. nat_abs z ≤ 2 ^ 126 + 2 ^ 125 + 2 ^ 75)
+          (sym (leaning_read s.x (lean c.args.frame) c.args.x c.args.y c.from-x.result c.second_side-lean.result.0 c.from-y.result c.requires.x (lean_small c.second_side-lean.result.0 (lean c.args.frame) c.second_side-lean.ensures.lean c.second_side-lean.ensures.small_lean) px py (shift_read c.args.x c.from-x.result c.ranges.x c.from-x.ensures) c.second_side-lean.ensures.lean (shift_read c.args.y c.from-y.result c.ranges.y c.from-y.ensures)))
+          (leaning_small s.x (lean c.args.frame) c.args.x c.args.y c.requires.x (lean_small c.second_side-lean.result.0 (lean c.args.frame) c.second_side-lean.ensures.lean c.second_side-lean.ensures.small_lean) px py);
+      y = subst (λ z. nat_abs z ≤ 2 ^ 126 + 2 ^ 125 + 2 ^ 75) (sym (moved_read s.y (rise c.args.frame) c.args.y c.second_side-lean.result.1 c.from-y.result c.requires.y (lean_small c.second_side-lean.result.1 (rise c.args.frame) c.second_side-lean.ensures.rise c.second_side-lean.ensures.small_rise) py c.second_side-lean.ensures.rise (shift_read c.args.y c.from-y.result c.ranges.y c.from-y.ensures)))
+          (moved_small s.y (rise c.args.frame) c.args.y c.requires.y (lean_small c.second_side-lean.result.1 (rise c.args.frame) c.second_side-lean.ensures.rise c.second_side-lean.ensures.small_rise) py);
     }

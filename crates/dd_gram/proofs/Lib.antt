@@ -1,0 +1,14 @@
+pub mod WalkLemmas
+pub mod Balanced
+pub mod Joining
+pub mod Homology
+pub mod SmallShifts
+pub mod NumberLemmas
+pub mod SpreadLemmas
+pub mod Actions
+pub mod BasisLemmas
+pub mod Distinct
+pub mod KeptForms
+pub mod SizeLemmas
+pub mod GramLemmas
+pub mod FrameLemmas

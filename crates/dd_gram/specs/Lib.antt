@@ -1,0 +1,7 @@
+pub mod Action
+pub mod Form
+pub mod Frames
+pub mod Loops
+pub mod Shifts
+pub mod Spreading
+pub mod Walks

@@ -1,0 +1,24 @@
+//! Symmetries of tori: what they do to shifts, and the shape of a cell that they keep.
+#![tactic(auto)]
+
+mod basis;
+mod carrying;
+mod edge_numbers;
+mod forms;
+mod frames;
+mod grams;
+mod laws;
+mod loops;
+mod matrices;
+mod spreading;
+mod step;
+
+pub use carrying::carry;
+pub use forms::{Gram, Matrix};
+pub use frames::own_frame;
+pub use grams::gram;
+pub use laws::{
+    a_form_is_positive, a_form_is_that_of_one_list, each_symmetry_has_one_matrix,
+    symmetries_keep_the_form,
+};
+pub use matrices::matrix;
