@@ -6,6 +6,8 @@ mod answer_tests;
 #[cfg(test)]
 mod edge_tests;
 #[cfg(test)]
+mod limit_tests;
+#[cfg(test)]
 mod line_tests;
 #[cfg(test)]
 mod net_tests;
