@@ -133,6 +133,39 @@ fn full_hand<N: Naming, R: Abort + Wait>(rt: &R, alloc: Global, desk: &mut Desk<
     assert!(rt; rack.close(hands).next().is_none());
 }
 
+/// Each of three hands pushes the next ticket of the desk.
+fn push_one_each<N: Naming, R: Abort>(rt: &R, desk: &mut Desk<N>, hands: &mut Vec<Hand<N>>)
+    requires hands { length hands.old.items ≡ 3 }
+    requires rack { IsRack (map hand_place hands.old.items) }
+    ensures rack { IsRack (map hand_place hands.new.items) }
+    ensures count { length hands.new.items ≡ 3 }
+{
+    assert!(rt; push_to(hands, 0, next_ticket(rt, desk)));
+    assert!(rt; push_to(hands, 1, next_ticket(rt, desk)));
+    assert!(rt; push_to(hands, 2, next_ticket(rt, desk)));
+}
+
+/// Each of three hands steals from another one, and gets the ticket that the other one pushed.
+fn steal_in_a_ring<N: Naming, R: Abort + Wait>(rt: &R, hands: &mut Vec<Hand<N>>)
+    requires hands { length hands.old.items ≡ 3 }
+    requires rack { IsRack (map hand_place hands.old.items) }
+    ensures rack { IsRack (map hand_place hands.new.items) }
+    ensures count { length hands.new.items ≡ 3 }
+{
+    assert_eq!(rt; entry_of(steal_by(rt, hands, 0, 3)), 3);
+    assert_eq!(rt; entry_of(steal_by(rt, hands, 1, 1)), 1);
+    assert_eq!(rt; entry_of(steal_by(rt, hands, 2, 2)), 2);
+    assert_eq!(rt; entry_of(steal_by(rt, hands, 2, 1)), 0);
+}
+
+/// Of three tickets, each is stolen by another hand, and none is left.
+fn stolen_by_three_hands<N: Naming, R: Abort + Wait>(rt: &R, alloc: Global, desk: &mut Desk<N>) {
+    let (rack, mut hands) = Rack::open(alloc, 3, 1).expect(rt, "a rack of three hands");
+    push_one_each(rt, desk, &mut hands);
+    steal_in_a_ring(rt, &mut hands);
+    assert!(rt; rack.close(hands).next().is_none());
+}
+
 /// The job for all tables of a size.
 fn job_of_size<R: Abort>(rt: &R, alloc: Global, size: u32) -> Job
     ensures { result ≡ record { size = size; prefix = [] } }
@@ -174,6 +207,25 @@ fn rows<N: Naming, R: Abort + Wait>(
     left_by_two_hands(rt, alloc, &mut first.expect(rt, "a desk"));
     let second = Desk::<N>::open(alloc, request, again);
     full_hand(rt, alloc, &mut second.expect(rt, "another desk"));
+}
+
+/// The row of three hands, over the desk of a round.
+fn row_of_three<N: Naming, R: Abort + Wait>(rt: &R, alloc: Global, request: Request, jobs: Vec<Job>)
+    requires request { request ≡ N.request }
+    requires jobs { jobs.items ≡ N.jobs }
+    requires valid { IsValid request }
+    requires ascending { AreAscendingJobs jobs.items }
+    requires apart { AreApart jobs.items }
+    requires all { AreJobsOf request jobs.items }
+{
+    let desk = Desk::<N>::open(alloc, request, jobs);
+    stolen_by_three_hands(rt, alloc, &mut desk.expect(rt, "a desk"));
+}
+
+#[test]
+fn three_hands_share_a_rack(rt: HostRuntime) {
+    let jobs = three_jobs(&rt, rt.alloc());
+    row_of_three::<Brand, HostRuntime>(&rt, rt.alloc(), Request::up_to(3), jobs);
 }
 
 #[test]

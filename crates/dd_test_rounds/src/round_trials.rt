@@ -1,4 +1,4 @@
-ghost use Rattle.std.specs.Prelude.{◌≡◌, ◌≤◌, IfOk, length};
+ghost use Rattle.std.specs.Prelude.{◌≡◌, ◌<◌, ◌≤◌, IfOk, length};
 ghost use Rattle.dd_model.specs.Request.{IsValid};
 ghost use Rattle.dd_model.specs.Jobs.{AreAscendingJobs, AreApart};
 ghost use Rattle.dd_board.specs.Desk.{AreJobsOf};
@@ -124,7 +124,7 @@ fn take_all<N: Naming, K: Ledger, L: Ledger, S: Ledger, D: Ledger, B: Ledger, R:
     }
 }
 
-/// One hand gets all tickets, and the worker of the other hand does their jobs.
+/// The last of three hands gets all tickets, and the worker of another hand does their jobs.
 fn steal_all<N: Naming, K: Ledger, L: Ledger, S: Ledger, D: Ledger, B: Ledger, R: Abort + Wait>(
     rt: &R,
     alloc: Global,
@@ -132,50 +132,56 @@ fn steal_all<N: Naming, K: Ledger, L: Ledger, S: Ledger, D: Ledger, B: Ledger, R
     board: &Board<N, K, L, S, D, B>,
     seats: &mut [Seat<K, L, S, D, B>],
     hands: &mut [Hand<N>],
+    thief: usize,
 )
     requires request { request.now ≡ N.request }
-    requires seats { length seats.old ≡ 2 }
-    requires hands { length hands.old ≡ 2 }
-    ensures { length seats.new ≡ 2 }
+    requires seats { length seats.old ≡ 3 }
+    requires hands { length hands.old ≡ 3 }
+    requires thief { thief < 2 }
+    ensures { length seats.new ≡ 3 }
 {
-    take_all(rt, board, &mut seats[0], &mut hands[0]);
+    take_all(rt, board, &mut seats[2], &mut hands[2]);
     let mut finder = Search::new(request);
-    let (seat, hand) = (&mut seats[1], &mut hands[1]);
+    let (seat, hand) = (&mut seats[thief], &mut hands[thief]);
     let ended = work(rt, alloc, &mut finder, &OpenGate::new(), board, seat, hand);
     assert!(rt; !matches!(ended, Ended::Memory(_)));
-    assert!(rt; hands[0].pop().is_none());
+    assert!(rt; hands[2].pop().is_none());
 }
 
-/// The lines of what one hand stole of the other. Nothing is swept.
+/// The lines of what one hand stole from the last one. Nothing is swept.
 fn stolen_by_one<N: Naming, K: Ledger, L: Ledger, S: Ledger, D: Ledger, B: Ledger, R: Abort + Wait>(
     rt: &R,
     alloc: Global,
     request: &Request,
     jobs: Vec<Job>,
     blanks: Blanks,
+    thief: usize,
 ) -> Vec<u8>
+    requires thief { thief < 2 }
     requires request { request.now ≡ N.request }
     requires jobs { jobs.items ≡ N.jobs }
     requires valid { IsValid request.now }
     requires ascending { AreAscendingJobs jobs.items }
     requires apart { AreApart jobs.items }
     requires all { AreJobsOf request.now jobs.items }
-    requires take { (blanks.take.name ≡ K.name) × (blanks.take.parts ≡ K.parts) × (K.parts ≡ 2) }
-    requires look { (blanks.look.name ≡ L.name) × (blanks.look.parts ≡ L.parts) × (L.parts ≡ 2) }
-    requires split { (blanks.split.name ≡ S.name) × (blanks.split.parts ≡ S.parts) × (S.parts ≡ 2) }
-    requires finish { (blanks.finish.name ≡ D.name) × (blanks.finish.parts ≡ D.parts) × (D.parts ≡ 2) }
-    requires back { (blanks.back.name ≡ B.name) × (blanks.back.parts ≡ B.parts) × (B.parts ≡ 2) }
+    requires take { (blanks.take.name ≡ K.name) × (blanks.take.parts ≡ K.parts) × (K.parts ≡ 3) }
+    requires look { (blanks.look.name ≡ L.name) × (blanks.look.parts ≡ L.parts) × (L.parts ≡ 3) }
+    requires split { (blanks.split.name ≡ S.name) × (blanks.split.parts ≡ S.parts) × (S.parts ≡ 3) }
+    requires finish { (blanks.finish.name ≡ D.name) × (blanks.finish.parts ≡ D.parts) × (D.parts ≡ 3) }
+    requires back { (blanks.back.name ≡ B.name) × (blanks.back.parts ≡ B.parts) × (B.parts ≡ 3) }
 {
-    let opened = Board::<N, K, L, S, D, B>::open(alloc, request, jobs, 2, blanks);
+    let opened = Board::<N, K, L, S, D, B>::open(alloc, request, jobs, 3, blanks);
     let (board, mut seats) = opened.expect(rt, "a board");
-    let (_, mut hands) = Rack::<N>::open(alloc, 2, 8).expect(rt, "a rack");
-    let (both_seats, both_hands) = (seats.as_mut_slice(), hands.as_mut_slice());
-    steal_all(rt, alloc, request, &board, both_seats, both_hands);
+    let (_, mut hands) = Rack::<N>::open(alloc, 3, 8).expect(rt, "a rack");
+    let (all_seats, all_hands) = (seats.as_mut_slice(), hands.as_mut_slice());
+    steal_all(rt, alloc, request, &board, all_seats, all_hands, thief);
     lines_of(rt, alloc, &board.close(seats).into_entries())
 }
 
-/// The lines of a board all of whose jobs were stolen.
-fn lines_of_stolen<R: Abort + Wait>(rt: &R, alloc: Global) -> Vec<u8> {
+/// The lines of a board all of whose jobs one hand stole from the last one.
+fn lines_of_stolen<R: Abort + Wait>(rt: &R, alloc: Global, thief: usize) -> Vec<u8>
+    requires { thief < 2 }
+{
     let request = Request::up_to(2);
     let jobs = opening_jobs(alloc, &request).expect(rt, "the jobs");
     stolen_by_one::<Brand, Brand, Brand, Brand, Brand, Brand, R>(
@@ -183,12 +189,21 @@ fn lines_of_stolen<R: Abort + Wait>(rt: &R, alloc: Global) -> Vec<u8> {
         alloc,
         &request,
         jobs,
-        Blanks::new(2),
+        Blanks::new(3),
+        thief,
     )
 }
 
+// Of three workers the first one finds the tickets that lie with the last one.
 #[test]
-fn a_worker_steals_all(rt: HostRuntime) {
-    let stolen = lines_of_stolen(&rt, rt.alloc());
+fn the_first_worker_steals_all(rt: HostRuntime) {
+    let stolen = lines_of_stolen(&rt, rt.alloc(), 0);
+    assert!(rt; has_lines(&rt, rt.alloc(), 1, &stolen));
+}
+
+// So does the second one.
+#[test]
+fn the_second_worker_steals_all(rt: HostRuntime) {
+    let stolen = lines_of_stolen(&rt, rt.alloc(), 1);
     assert!(rt; has_lines(&rt, rt.alloc(), 1, &stolen));
 }

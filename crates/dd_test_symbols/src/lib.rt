@@ -8,6 +8,8 @@ mod edge_tests;
 #[cfg(test)]
 mod gram_tests;
 #[cfg(test)]
+mod limit_tests;
+#[cfg(test)]
 mod line_tests;
 #[cfg(test)]
 mod net_tests;
