@@ -1,6 +1,5 @@
 -- A setting that stands at most once has at most one value.
 use Rattle.std.proofs.Common.{codes, ◌≡◌, ◌≤◌, ◌==◌, ℕ, zero, suc, inl, inr, Bool, true, false, Option, Some, None, List, [], ◌∷◌, length, refl, sym, ap, ◌∙◌, subst, arith}
-use Rattle.dd_model.specs.Allowed.{IsFrom}
 use Rattle.dd_model.specs.declared.allowed.Allowed.{Allowed}
 use Rattle.dd_model.proofs.AllowedSets.{same_sets, same_from_sets}
 use Rattle.dd_words.specs.declared.settings.Setting.{Setting}
