@@ -176,7 +176,10 @@ fn other_commands_are_read(rt: HostRuntime) {
         (&["dual", "--", "f"], "Dual f"),
         (&["exercise", "1", "00"], "exercise 1 0"),
         (&["apply", "ta", "f"], "apply Two(Truncate, Ambo) f"),
-        (&["apply", "--", "ccc", "f"], "apply Three(Chamfer, Chamfer, Chamfer) f"),
+        (
+            &["apply", "--", "ccc", "f"],
+            "apply Three(Chamfer, Chamfer, Chamfer) f",
+        ),
         (&["draw", "f", "--cell", "hex"], "draw f Some(Hex)"),
         (&["draw", "f"], "draw f Some(Square)"),
         (&["draw", "f", "--cell", "own"], "draw f None"),
