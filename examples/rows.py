@@ -216,6 +216,8 @@ FILES = (
     ("draw", SQUARES, SQUARE_DRAWING),
     ("draw --cell square", SQUARES * 2, SQUARE_DRAWING * 2),
     ("draw --cell hex", "<1.1:1:1,1,1:3,6>", TRIANGLE_DRAWING),
+    ("draw --cell own", SQUARES, SQUARE_DRAWING),
+    ("draw --cell=own", "<1.1:1:1,1,1:3,6>", TRIANGLE_DRAWING),
     ("draw", "", ""),
     ("ambo", "<1.1:1:1,1,1:3,6>", TRIHEXAGONS),
     ("truncate", SQUARES, OCTAGONS),

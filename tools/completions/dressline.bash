@@ -8,7 +8,7 @@ _dressline() {
         return
     fi
     case $before in
-    --cell) COMPREPLY=($(compgen -W "square hex" -- "$word")); return ;;
+    --cell) COMPREPLY=($(compgen -W "square hex own" -- "$word")); return ;;
     --checkpoint) COMPREPLY=($(compgen -f -- "$word")); return ;;
     --minimal) ;;
     --*) return ;;

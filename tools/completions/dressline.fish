@@ -29,4 +29,4 @@ complete -c dressline -n '__fish_seen_subcommand_from catalogue' -l checkpoint -
 complete -c dressline -n '__fish_seen_subcommand_from catalogue resume' -l workers -x -d 'threads, 1 to 64'
 complete -c dressline -n '__fish_seen_subcommand_from catalogue resume' -l round -x -d 'jobs of a round, 1 to 4096'
 complete -c dressline -n '__fish_seen_subcommand_from catalogue resume' -l pause -x -d 'stop after P lines'
-complete -c dressline -n '__fish_seen_subcommand_from draw' -l cell -x -a 'square hex' -d 'shape of the cell'
+complete -c dressline -n '__fish_seen_subcommand_from draw' -l cell -x -a 'square hex own' -d 'shape of the cell'

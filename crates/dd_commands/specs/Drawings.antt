@@ -1,5 +1,5 @@
 -- The drawing of a symbol, and why there is none.
-use Rattle.std.specs.Prelude.{◌≡◌, ◌⊎◌, ℕ, ◌+◌, ◌<◌, ◌≤◌, List, [], ◌∷◌, ◌++◌, length}
+use Rattle.std.specs.Prelude.{◌≡◌, ◌⊎◌, ℕ, ◌+◌, ◌<◌, ◌≤◌, List, [], ◌∷◌, ◌++◌, length, Option, Some, None}
 use Rattle.dd_model.specs.declared.pair.Pair.TheVariants.{Vertex}
 use Rattle.dd_model.specs.Symbol.{Symbol}
 use Rattle.dd_model.specs.Flat.{Flat}
@@ -9,6 +9,9 @@ use Rattle.dd_covers.specs.TorusCover.{IsTorusCover}
 use Rattle.dd_lattice.specs.NetOf.{IsNet}
 use Rattle.dd_model.specs.declared.frame.Frame.{Frame}
 use Rattle.dd_lattice.specs.declared.net.Net.{Net}
+use Rattle.dd_gram.specs.Form.{IsGram}
+use Rattle.dd_gram.specs.Frames.{IsOwnFrame}
+use Rattle.dd_gram.specs.declared.forms.Gram.{Gram}
 use Rattle.dd_draw.specs.Document.{document}
 use Rattle.dd_draw.specs.Placement.{IsPlacement}
 use Rattle.dd_draw.specs.Tables.{place_at}
@@ -19,22 +22,29 @@ use Rattle.dd_commands.specs.declared.refusals.SymbolFault.{SymbolFault}
 use Rattle.dd_commands.specs.declared.refusals.SymbolFault.TheVariants.{TooManyChambers, BranchingTooLarge, NotFlat, TooManyVertices, TooWide}
 use Rattle.dd_commands.specs.declared.refusals.SymbolRefusal.{SymbolRefusal}
 
--- the net of the least form of a torus
-pub record IsLeastNet (s : Symbol) (net : Net) : Type 0 where
-  pub form : Symbol
-  pub least : IsLeastForm s form
-  pub is_net : IsNet form net
-
 -- the net of the least form of the torus cover
 pub record IsTorusNet (s : Symbol) (net : Net) : Type 0 where
   pub torus : Symbol
   pub least : IsLeastTorus s torus
   pub is_net : IsNet torus net
 
+-- the cell that has the shape of the form of a torus
+pub record IsOwnCell (torus : Symbol) (frame : Frame) : Type 0 where
+  pub form : Gram
+  pub is_form : IsGram torus form
+  pub is_own : IsOwnFrame form frame
+
+-- the cell in which a torus is drawn: one of a shape that is given, or its own
+abbrev pub IsCell : Option Frame → Symbol → Frame → Type 0
+IsCell (Some given) torus frame = frame ≡ given
+IsCell None torus frame = IsOwnCell torus frame
+
 -- the document of that net at its placement; it has at most 96 vertices, and no number of the elimination is too wide
-pub record IsDrawing (frame : Frame) (s : Symbol) (text : List ℕ) : Type 0 where
+pub record IsDrawing (shape : Option Frame) (s : Symbol) (text : List ℕ) : Type 0 where
   pub net : Net
   pub is_net : IsTorusNet s net
+  pub frame : Frame
+  pub is_cell : IsCell shape is_net.torus frame
   pub few : net.vertices ≤ 96
   pub narrow : (p : Place) → IsPlaceOf net p → ¬ IsWideAt net p
   pub points : List Point
@@ -42,15 +52,15 @@ pub record IsDrawing (frame : Frame) (s : Symbol) (text : List ℕ) : Type 0 whe
   pub is_document : text ≡ document frame net.edges.items points
 
 -- the old text, and a drawing
-pub record AddsDrawing (frame : Frame) (s : Symbol) (old new : List ℕ) : Type 0 where
+pub record AddsDrawing (shape : Option Frame) (s : Symbol) (old new : List ℕ) : Type 0 where
   pub drawing : List ℕ
-  pub is_drawing : IsDrawing frame s drawing
+  pub is_drawing : IsDrawing shape s drawing
   pub text : new ≡ old ++ drawing
 
 -- the drawings of symbols, one after the other
-abbrev pub AreDrawings : Frame → List Symbol → List ℕ → Type 0
-AreDrawings frame [] text = text ≡ []
-AreDrawings frame (s ∷ ss) text = (one : List ℕ) × (rest : List ℕ) × IsDrawing frame s one × AreDrawings frame ss rest × (text ≡ one ++ rest)
+abbrev pub AreDrawings : Option Frame → List Symbol → List ℕ → Type 0
+AreDrawings shape [] text = text ≡ []
+AreDrawings shape (s ∷ ss) text = (one : List ℕ) × (rest : List ℕ) × IsDrawing shape s one × AreDrawings shape ss rest × (text ≡ one ++ rest)
 
 -- the torus cover has so many vertices, over 96; the net of its least form has as many
 pub record HasManyVertices (s : Symbol) (count : ℕ) : Type 0 where
@@ -91,10 +101,10 @@ abbrev pub IsUndrawn : Symbol → SymbolFault → Type 0
 IsUndrawn s fault = IsCurved s fault ⊎ (IsCrowded s fault ⊎ HasWideNet s fault)
 
 -- a symbol has a drawing
-abbrev pub IsDrawn : Frame → Symbol → Type 0
-IsDrawn frame s = (text : List ℕ) × IsDrawing frame s text
+abbrev pub IsDrawn : Option Frame → Symbol → Type 0
+IsDrawn shape s = (text : List ℕ) × IsDrawing shape s text
 
 -- Of the symbols, the first of which has the number k, all before this one are drawn, and this one is not.
-abbrev pub IsFirstUndrawn : Frame → ℕ → List Symbol → SymbolRefusal → Type 0
-IsFirstUndrawn frame k [] r = ⊥
-IsFirstUndrawn frame k (s ∷ ss) r = ((r.symbol ≡ k) × IsUndrawn s r.why) ⊎ (IsDrawn frame s × IsFirstUndrawn frame (k + 1) ss r)
+abbrev pub IsFirstUndrawn : Option Frame → ℕ → List Symbol → SymbolRefusal → Type 0
+IsFirstUndrawn shape k [] r = ⊥
+IsFirstUndrawn shape k (s ∷ ss) r = ((r.symbol ≡ k) × IsUndrawn s r.why) ⊎ (IsDrawn shape s × IsFirstUndrawn shape (k + 1) ss r)

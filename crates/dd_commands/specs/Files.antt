@@ -27,14 +27,14 @@ abbrev pub IsTextOf : FileCommand → List Symbol → List ℕ → Type 0
 IsTextOf (Symbols command) symbols text = AreLinesOfMade command symbols text
 IsTextOf Info symbols text = IsInfo symbols text
 IsTextOf Sheets symbols text = AreSheetLines 1 symbols text
-IsTextOf (Draw frame) symbols text = AreDrawings frame symbols text
+IsTextOf (Draw shape) symbols text = AreDrawings shape symbols text
 
 -- the first symbol of which a command makes nothing
 abbrev pub IsRefusalOf : FileCommand → List Symbol → SymbolRefusal → Type 0
 IsRefusalOf (Symbols command) symbols r = IsFirstFault command 1 symbols r
 IsRefusalOf Info symbols r = ⊥
 IsRefusalOf Sheets symbols r = IsFirstCurved 1 symbols r
-IsRefusalOf (Draw frame) symbols r = IsFirstUndrawn frame 1 symbols r
+IsRefusalOf (Draw shape) symbols r = IsFirstUndrawn shape 1 symbols r
 
 -- what a command writes of the symbols of a file
 pub record IsFileText (command : FileCommand) (bytes text : List ℕ) : Type 0 where

@@ -6,8 +6,11 @@ ghost use Rattle.dd_lattice.specs.Nets.{IsConnectedNet};
 ghost use Rattle.dd_draw.specs.Limit.{IsNarrowPoint};
 ghost use Rattle.dd_draw.specs.Placement.{IsPlacement};
 ghost use Rattle.dd_draw.specs.Width.{Place, IsPlaceOf, IsWideAt};
-ghost use Rattle.dd_commands.specs.Drawings.{IsLeastNet, IsTorusNet, IsWideNet, IsUndrawn, AddsDrawing, AreDrawings, IsFirstUndrawn};
+ghost use Rattle.dd_commands.specs.Drawings.{IsCell, IsWideNet, IsUndrawn, AddsDrawing, AreDrawings, IsFirstUndrawn};
+ghost use Rattle.dd_commands.specs.Made.{IsLeastTorus};
 ghost use Rattle.dd_commands.specs.Stops.{IsStop};
+ghost use Rattle.dd_lattice.specs.NetOf.{IsNet};
+ghost use Rattle.dd_model.specs.Code.{IsLeastForm};
 
 use crate::refusals::{SymbolFault, SymbolRefusal};
 use crate::stop::Stop;
@@ -15,18 +18,28 @@ use crate::symbol_commands::flat_torus;
 use dd_canon::least_form;
 use dd_cells::count;
 use dd_draw::{MOST_VERTICES, PlaceFault, Places, place, svg};
+use dd_gram::{gram, own_frame};
 use dd_lattice::{Net, shifts};
 use dd_model::{Frame, Memory, Pair};
 use dd_symbol::Connected;
 use std::alloc::Global;
 
-/// The net of the least form of the torus cover. The vertices are counted in the cover, which has as
-/// many, since the least form of a large cover takes long.
-fn torus_net(alloc: Global, s: &Connected) -> Result<Net, Stop<SymbolFault>>
+/// The least form of a torus cover, and its net.
+#[derive(Drop)]
+struct TorusNet {
+    torus: Connected,
+    net: Net,
+}
+
+/// Returns the least form of the torus cover, and its net. The vertices are counted in the cover, which
+/// has as many, since the least form of a large cover takes long.
+fn torus_net(alloc: Global, s: &Connected) -> Result<TorusNet, Stop<SymbolFault>>
     requires { IsReadable s.now }
-    ensures net { IfOk result (λ net. IsTorusNet s.now net) }
-    ensures connected { IfOk result (λ net. IsConnectedNet net) }
-    ensures few { IfOk result (λ net. net.vertices ≤ 96) }
+    ensures least { IfOk result (λ of. IsLeastTorus s.now of.torus) }
+    ensures torus { IfOk result (λ of. IsTorus of.torus) }
+    ensures net { IfOk result (λ of. IsNet of.torus of.net) }
+    ensures connected { IfOk result (λ of. IsConnectedNet of.net) }
+    ensures few { IfOk result (λ of. of.net.vertices ≤ 96) }
     ensures why { IfErr result (IsStop (IsUndrawn s.now)) }
 {
     let cover = match flat_torus(alloc, s) {
@@ -40,14 +53,17 @@ fn torus_net(alloc: Global, s: &Connected) -> Result<Net, Stop<SymbolFault>>
     Ok(least_net(alloc, &cover.symbol)?)
 }
 
-/// The net of the least form of a torus.
-fn least_net(alloc: Global, torus: &Connected) -> Result<Net, Memory>
+/// Returns the least form of a torus, and its net.
+fn least_net(alloc: Global, torus: &Connected) -> Result<TorusNet, Memory>
     requires { IsTorus torus.now }
-    ensures net { IfOk result (λ net. IsLeastNet torus.now net) }
-    ensures connected { IfOk result (λ net. IsConnectedNet net) }
+    ensures least { IfOk result (λ of. IsLeastForm torus.now of.torus) }
+    ensures torus { IfOk result (λ of. IsTorus of.torus) }
+    ensures net { IfOk result (λ of. IsNet of.torus of.net) }
+    ensures connected { IfOk result (λ of. IsConnectedNet of.net) }
 {
     let form = least_form(alloc, torus)?;
-    shifts(alloc, &form)
+    let net = shifts(alloc, &form)?;
+    Ok(TorusNet { torus: form, net })
 }
 
 /// Where the vertices of a net stand.
@@ -70,35 +86,53 @@ fn places_of(alloc: Global, net: &Net) -> Result<Places, Stop<SymbolFault>>
     }
 }
 
+/// Returns the cell in which a torus is drawn: one of the shape that is given, or its own.
+fn cell_of(alloc: Global, shape: Option<Frame>, of: &TorusNet) -> Result<Frame, Memory>
+    requires torus { IsTorus of.now.torus }
+    requires net { IsNet of.now.torus of.now.net }
+    requires few { of.now.net.vertices ≤ 96 }
+    ensures { IfOk result (IsCell shape of.now.torus) }
+{
+    match shape {
+        Some(frame) => Ok(frame),
+        None => Ok(own_frame(&gram(alloc, &of.torus, &of.net)?)),
+    }
+}
+
 /// Appends the drawing of a symbol.
-fn put_drawing(out: &mut Vec<u8>, frame: Frame, s: &Connected) -> Result<(), Stop<SymbolFault>>
+fn put_drawing(
+    out: &mut Vec<u8>,
+    shape: Option<Frame>,
+    s: &Connected,
+) -> Result<(), Stop<SymbolFault>>
     requires { IsReadable s.now }
-    ensures text { OnOk result (AddsDrawing frame s.now out.old.items out.new.items) }
+    ensures text { OnOk result (AddsDrawing shape s.now out.old.items out.new.items) }
     ensures why { IfErr result (IsStop (IsUndrawn s.now)) }
 {
     let alloc = *out.allocator();
-    let net = torus_net(alloc, s)?;
-    let places = match places_of(alloc, &net) {
+    let of = torus_net(alloc, s)?;
+    let places = match places_of(alloc, &of.net) {
         Ok(places) => places,
         Err(stop) => return Err(stop),
     };
-    svg(out, &net, &places, frame)?;
+    let frame = cell_of(alloc, shape, &of)?;
+    svg(out, &of.net, &places, frame)?;
     Ok(())
 }
 
 /// The drawings of symbols, one after the other.
 pub fn drawings_of(
     alloc: Global,
-    frame: Frame,
+    shape: Option<Frame>,
     symbols: &[Connected],
 ) -> Result<Vec<u8>, Stop<SymbolRefusal>>
     requires { AllByRecursion IsReadable symbols.now }
-    ensures text { IfOk result (λ text. AreDrawings frame symbols.now text.items) }
-    ensures why { IfErr result (IsStop (IsFirstUndrawn frame 1 symbols.now)) }
+    ensures text { IfOk result (λ text. AreDrawings shape symbols.now text.items) }
+    ensures why { IfErr result (IsStop (IsFirstUndrawn shape 1 symbols.now)) }
 {
     let mut text = Vec::new(alloc);
     for (before, symbol) in symbols.iter().enumerate() {
-        match put_drawing(&mut text, frame, symbol) {
+        match put_drawing(&mut text, shape, symbol) {
             Ok(()) => {}
             Err(Stop::Refused(why)) => {
                 return Err(Stop::Refused(SymbolRefusal {

@@ -12,3 +12,4 @@ pub mod KeptForms
 pub mod SizeLemmas
 pub mod GramLemmas
 pub mod FrameLemmas
+pub mod OneFrame

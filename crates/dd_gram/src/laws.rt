@@ -6,6 +6,8 @@ ghost use Rattle.dd_lattice.specs.NetOf.{IsNet};
 ghost use Rattle.dd_lattice.specs.declared.net.Net.{Net};
 ghost use Rattle.dd_gram.specs.Action.{IsAction};
 ghost use Rattle.dd_gram.specs.Form.{IsGram, carried};
+ghost use Rattle.dd_gram.specs.Frames.{IsOwnFrame};
+ghost use Rattle.dd_model.specs.declared.frame.Frame.{Frame};
 ghost use Rattle.dd_gram.specs.declared.forms.Gram.{Gram};
 ghost use Rattle.dd_gram.specs.declared.forms.Matrix.{Matrix};
 
@@ -33,4 +35,9 @@ pub fn a_form_is_positive()
     ensures positive { (t : Symbol) (g : Gram) → IsTorus t → IsGram t g → pos 0 <ℤ g.a }
     ensures definite { (t : Symbol) (g : Gram) → IsTorus t → IsGram t g
         → (g.b *ℤ g.b) <ℤ (g.a *ℤ g.c) }
+{}
+
+/// A form gives one frame.
+pub fn a_form_gives_one_frame()
+    ensures { (g : Gram) (f h : Frame) → pos 0 <ℤ g.a → IsOwnFrame g f → IsOwnFrame g h → f ≡ h }
 {}

@@ -18,7 +18,7 @@ pub use forms::{Gram, Matrix};
 pub use frames::own_frame;
 pub use grams::gram;
 pub use laws::{
-    a_form_is_positive, a_form_is_that_of_one_list, each_symmetry_has_one_matrix,
-    symmetries_keep_the_form,
+    a_form_gives_one_frame, a_form_is_positive, a_form_is_that_of_one_list,
+    each_symmetry_has_one_matrix, symmetries_keep_the_form,
 };
 pub use matrices::matrix;

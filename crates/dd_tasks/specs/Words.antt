@@ -56,7 +56,7 @@ abbrev pub file_command : FileCommand → List ℕ → Command
 file_command Info name = command.File kind.Info name
 file_command Sheets name = command.File kind.Sheets name
 file_command (Symbols made) name = symbol_command made name
-file_command (Draw frame) name = command.Draw name frame
+file_command (Draw shape) name = command.Draw name shape
 
 -- the words of a command on the file of a name
 abbrev pub IsOnFile : List (List ℕ) → FileCommand → List ℕ → Type 0

@@ -176,9 +176,13 @@ fn other_commands_are_read(rt: HostRuntime) {
         (&["dual", "--", "f"], "Dual f"),
         (&["exercise", "1", "00"], "exercise 1 0"),
         (&["apply", "ta", "f"], "apply Two(Truncate, Ambo) f"),
-        (&["apply", "--", "ccc", "f"], "apply Three(Chamfer, Chamfer, Chamfer) f"),
-        (&["draw", "f", "--cell", "hex"], "draw f Hex"),
-        (&["draw", "f"], "draw f Square"),
+        (
+            &["apply", "--", "ccc", "f"],
+            "apply Three(Chamfer, Chamfer, Chamfer) f",
+        ),
+        (&["draw", "f", "--cell", "hex"], "draw f Some(Hex)"),
+        (&["draw", "f"], "draw f Some(Square)"),
+        (&["draw", "f", "--cell", "own"], "draw f None"),
         (&["resume", "c", "--pause", "17"], "resume c 1 64 Some(17)"),
     ];
     check_rows(&rt, rt.alloc(), rows.as_slice());

@@ -180,7 +180,7 @@ module _ (gs hs : List Given) (m : SameValues gs hs) where
     minimal = flag_if Minimal q.minimal h.minimal;
   }
 
-  framed : (f : Frame) → IsFramed gs f → IsFramed hs f
+  framed : (f : Option Frame) → IsFramed gs f → IsFramed hs f
   framed f (inl h) = inl (m.lacks Cell h.0, h.1)
   framed f (inr h) = inr (record { word = h.word; has = m.has Cell h.word h.has; is = h.is })
 

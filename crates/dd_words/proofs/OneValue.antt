@@ -1,6 +1,5 @@
 -- A setting that stands at most once has at most one value.
-use Rattle.std.proofs.Common.{codes, ◌≡◌, ◌≤◌, ◌==◌, ℕ, zero, suc, inl, inr, Bool, true, false, Option, Some, None, List, [], ◌∷◌, length, refl, sym, ap, ◌∙◌, subst, arith}
-use Rattle.dd_model.specs.Allowed.{IsFrom}
+use Rattle.std.proofs.Common.{codes, ◌≡◌, ◌≤◌, ◌==◌, ℕ, zero, suc, inl, inr, Bool, true, false, Option, Some, None, List, [], ◌∷◌, length, get_or, refl, sym, ap, ◌∙◌, subst, arith}
 use Rattle.dd_model.specs.declared.allowed.Allowed.{Allowed}
 use Rattle.dd_model.proofs.AllowedSets.{same_sets, same_from_sets}
 use Rattle.dd_words.specs.declared.settings.Setting.{Setting}
@@ -58,7 +57,7 @@ pub least_range : (ss : List Given) (least : Setting) (n : ℕ) → IsNumberOr s
 least_range ss least n (inl h) = let e = h.1 in (omega arith, omega arith)
 least_range ss least n (inr h) = (h.number.from, h.number.to)
 
-pub no_frame : (ss : List Given) (w : Text) (frame : Frame) → AreSingle ss → Has ss Cell w → ((f : Frame) → IsShapeWord w f → ⊥) → IsFramed ss frame → ⊥
+pub no_frame : (ss : List Given) (w : Text) (frame : Option Frame) → AreSingle ss → Has ss Cell w → ((f : Option Frame) → IsShapeWord w f → ⊥) → IsFramed ss frame → ⊥
 no_frame ss w frame single has none (inl h) = not_both ss Cell w has h.0
 no_frame ss w frame single has none (inr h) = none frame (subst (λ v. IsShapeWord v frame) (same_value ss Cell h.word w single h.has has) h.is)
 
@@ -100,24 +99,30 @@ one_set ss set least a b single (inl x) (inr y) = absurd (not_both ss set x.word
 one_set ss set least a b single (inr x) (inl y) = absurd (not_both ss set y.word y.has x.alone)
 one_set ss set least a b single (inr x) (inr y) = same_from_sets x.first y.first a b (one_number ss least 1 36 3 x.first y.first single x.is_first y.is_first) x.is_set y.is_set
 
-square_or_hex : (w : Text) (f g : Frame) → IsShapeWord w f → IsShapeWord w g → f ≡ g
-square_or_hex w Square Square a b = refl
-square_or_hex w Square Hex a b = absurd (let e : codes "square" ≡ codes "hex" = sym a ∙ b in cc)
-square_or_hex w Hex Square a b = absurd (let e : codes "hex" ≡ codes "square" = sym a ∙ b in cc)
-square_or_hex w Hex Hex a b = refl
-square_or_hex w (Own p q) g a b = absurd a
-square_or_hex w f (Own p q) a b = absurd b
+one_shape : (w : Text) (f g : Option Frame) → IsShapeWord w f → IsShapeWord w g → f ≡ g
+one_shape w (Some Square) (Some Square) a b = refl
+one_shape w (Some Square) (Some Hex) a b = absurd (let e : codes "square" ≡ codes "hex" = sym a ∙ b in cc)
+one_shape w (Some Square) None a b = absurd (let e : codes "square" ≡ codes "own" = sym a ∙ b in cc)
+one_shape w (Some Hex) (Some Square) a b = absurd (let e : codes "hex" ≡ codes "square" = sym a ∙ b in cc)
+one_shape w (Some Hex) (Some Hex) a b = refl
+one_shape w (Some Hex) None a b = absurd (let e : codes "hex" ≡ codes "own" = sym a ∙ b in let d = ap (λ t. get_or t 0 0) e in omega (arith, d))
+one_shape w None (Some Square) a b = absurd (let e : codes "own" ≡ codes "square" = sym a ∙ b in cc)
+one_shape w None (Some Hex) a b = absurd (let e : codes "own" ≡ codes "hex" = sym a ∙ b in let d = ap (λ t. get_or t 0 0) e in omega (arith, d))
+one_shape w None None a b = refl
+one_shape w (Some (Own p q)) g a b = absurd a
+one_shape w f (Some (Own p q)) a b = absurd b
 
-pub one_frame : (ss : List Given) (f g : Frame) → AreSingle ss → IsFramed ss f → IsFramed ss g → f ≡ g
+pub one_frame : (ss : List Given) (f g : Option Frame) → AreSingle ss → IsFramed ss f → IsFramed ss g → f ≡ g
 one_frame ss f g single (inl a) (inl b) = a.1 ∙ sym b.1
 one_frame ss f g single (inl a) (inr b) = absurd (not_both ss Cell b.word b.has a.0)
 one_frame ss f g single (inr a) (inl b) = absurd (not_both ss Cell a.word a.has b.0)
-one_frame ss f g single (inr a) (inr b) = square_or_hex a.word f g a.is (subst (λ w. IsShapeWord w g) (same_value ss Cell b.word a.word single b.has a.has) b.is)
+one_frame ss f g single (inr a) (inr b) = one_shape a.word f g a.is (subst (λ w. IsShapeWord w g) (same_value ss Cell b.word a.word single b.has a.has) b.is)
 
-pub no_other_frame : (w : Text) → (w ≡ codes "square" → ⊥) → (w ≡ codes "hex" → ⊥) → (f : Frame) → IsShapeWord w f → ⊥
-no_other_frame w square hex Square is = square is
-no_other_frame w square hex Hex is = hex is
-no_other_frame w square hex (Own p q) is = is
+pub no_other_frame : (w : Text) → (w ≡ codes "square" → ⊥) → (w ≡ codes "hex" → ⊥) → (w ≡ codes "own" → ⊥) → (f : Option Frame) → IsShapeWord w f → ⊥
+no_other_frame w square hex own (Some Square) is = square is
+no_other_frame w square hex own (Some Hex) is = hex is
+no_other_frame w square hex own (Some (Own p q)) is = is
+no_other_frame w square hex own None is = own is
 
 pub some_text : (w : Text) (empty : Bool) → empty ≡ (length w == 0) → empty ≡ false → w ≡ [] → ⊥
 some_text w empty is test e = let none = ap (λ x. length x == 0) e in absurd (cc)

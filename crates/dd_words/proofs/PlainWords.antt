@@ -70,10 +70,11 @@ op_word_plain w (One x) h = subst IsPlain (sym h) (letter_is_no_dash x)
 op_word_plain w (Two x y) h = subst IsPlain (sym h) (letter_is_no_dash x)
 op_word_plain w (Three x y z) h = subst IsPlain (sym h) (letter_is_no_dash x)
 
-frame_plain : (w : Text) (f : Frame) → IsShapeWord w f → IsPlain w
-frame_plain w Square is = subst IsPlain (sym is) (λ e. absurd (omega (arith, e)))
-frame_plain w Hex is = subst IsPlain (sym is) (λ e. absurd (omega (arith, e)))
-frame_plain w (Own p q) is = absurd is
+frame_plain : (w : Text) (f : Option Frame) → IsShapeWord w f → IsPlain w
+frame_plain w (Some Square) is = subst IsPlain (sym is) (λ e. absurd (omega (arith, e)))
+frame_plain w (Some Hex) is = subst IsPlain (sym is) (λ e. absurd (omega (arith, e)))
+frame_plain w (Some (Own p q)) is = absurd is
+frame_plain w None is = subst IsPlain (sym is) (λ e. absurd (omega (arith, e)))
 
 module _ (gs : List Given) (single : AreSingle gs) where
   or_plain : (s : Setting) (low high default n : ℕ) (x : Text) → IsNumberOr gs s low high default n → Has gs s x → IsPlain x
@@ -95,7 +96,7 @@ module _ (gs : List Given) (single : AreSingle gs) where
   least_plain s least a x (inl h) has = absurd (not_both gs least x has h.alone)
   least_plain s least a x (inr h) has = or_plain least 1 36 3 h.first x h.is_first has
 
-  cell_plain : (f : Frame) (x : Text) → IsFramed gs f → Has gs Cell x → IsPlain x
+  cell_plain : (f : Option Frame) (x : Text) → IsFramed gs f → Has gs Cell x → IsPlain x
   cell_plain f x (inl h) has = absurd (not_both gs Cell x has h.0)
   cell_plain f x (inr h) has = subst IsPlain (same_value gs Cell h.word x single h.has has) (frame_plain h.word f h.is)
 

@@ -54,7 +54,7 @@ no_resume xs ss w e none (command.Resume name workers round pause) h =
 no_resume xs ss w e none other h = let same = h.verb_is in absurd (cc)
 
 pub no_drawing : (xs : List Text) (ss : List Given) (w : Text) → xs ≡ w ∷ []
-    → ((file : Text) (frame : Frame) → IsDrawn w ss file frame → ⊥)
+    → ((file : Text) (frame : Option Frame) → IsDrawn w ss file frame → ⊥)
     → (c : Command) → IsReadAs verb.Draw xs ss c → ⊥
 no_drawing xs ss w e none (command.Draw file frame) h = none file frame (subst (λ ys. IsSaid (command.Draw file frame) ys ss) e h.said)
 no_drawing xs ss w e none other h = let same = h.verb_is in absurd (cc)
@@ -130,7 +130,7 @@ one_resume (x ∷ []) ss n k w r u s o m single a b =
 one_resume [] ss n k w r u s o m single a b = absurd a
 one_resume (x ∷ y ∷ xs) ss n k w r u s o m single a b = absurd a
 
-one_drawing : (xs : List Text) (ss : List Given) (f k : Text) (g j : Frame) → AreSingle ss
+one_drawing : (xs : List Text) (ss : List Given) (f k : Text) (g j : Option Frame) → AreSingle ss
     → IsSaid (command.Draw f g) xs ss → IsSaid (command.Draw k j) xs ss → command.Draw f g ≡ command.Draw k j
 one_drawing (x ∷ []) ss f k g j single a b =
     let file = sym a.same ∙ b.same in

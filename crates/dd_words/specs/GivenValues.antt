@@ -51,18 +51,19 @@ pub record IsSetFrom (settings : List Given) (set least : Setting) (a : Allowed)
 abbrev pub IsSet : List Given → Setting → Setting → Allowed → Type 0
 IsSet settings set least a = IsSetGiven settings set least a ⊎ IsSetFrom settings set least a
 
--- the word of a cell's shape; a shape by its numbers has none
-abbrev pub IsShapeWord : Text → Frame → Type 0
-IsShapeWord w Square = w ≡ codes "square"
-IsShapeWord w Hex = w ≡ codes "hex"
-IsShapeWord w (Own p q) = ⊥
+-- The word of a cell's shape. A shape by its numbers has none; the tiling's own shape, whose numbers no word has, is None.
+abbrev pub IsShapeWord : Text → Option Frame → Type 0
+IsShapeWord w (Some Square) = w ≡ codes "square"
+IsShapeWord w (Some Hex) = w ≡ codes "hex"
+IsShapeWord w (Some (Own p q)) = ⊥
+IsShapeWord w None = w ≡ codes "own"
 
 -- the shape is given by its word
-pub record IsShapeGiven (settings : List Given) (frame : Frame) : Type 0 where
+pub record IsShapeGiven (settings : List Given) (frame : Option Frame) : Type 0 where
   pub word : Text
   pub has : Has settings Cell word
   pub is : IsShapeWord word frame
 
 -- the shape of the cell; a square where none is given
-abbrev pub IsFramed : List Given → Frame → Type 0
-IsFramed settings frame = (Lacks settings Cell × (frame ≡ Square)) ⊎ IsShapeGiven settings frame
+abbrev pub IsFramed : List Given → Option Frame → Type 0
+IsFramed settings frame = (Lacks settings Cell × (frame ≡ Some Square)) ⊎ IsShapeGiven settings frame

@@ -42,7 +42,7 @@ pub record IsResumed (word : Text) (settings : List Given) (name : Text) (worker
   pub run : IsRun settings workers round pause
 
 -- the argument and the settings of a drawing
-pub record IsDrawn (word : Text) (settings : List Given) (file : Text) (frame : Frame) : Type 0 where
+pub record IsDrawn (word : Text) (settings : List Given) (file : Text) (frame : Option Frame) : Type 0 where
   pub same : word ≡ file
   pub is_name : IsName file
   pub frame_is : IsFramed settings frame

@@ -57,8 +57,8 @@ pub enum Command {
     Draw {
         /// The file.
         file: Name,
-        /// The shape of the cell.
-        frame: Frame,
+        /// The shape of the cell, and None for the one that the symmetries of the tiling keep.
+        frame: Option<Frame>,
     },
     /// Symbols that are made by draws.
     Exercise {

@@ -94,18 +94,20 @@ pub fn set_of(settings: &[Given<'_>], set: Setting, least: Setting) -> Option<Al
     }
 }
 
-/// The shape of a cell.
-pub fn frame_of(settings: &[Given<'_>]) -> Option<Frame>
+/// Returns the shape of a cell, or None if the setting has another word. A shape that is None is the
+/// tiling's own.
+pub fn frame_of(settings: &[Given<'_>]) -> Option<Option<Frame>>
     requires { AreSingle (map given_of settings.now) }
     ensures some { IfSome result (λ frame. IsFramed (map given_of settings.now) frame) }
     ensures none { IfNone result
-        ((frame : Frame) → IsFramed (map given_of settings.now) frame → ⊥) }
+        ((frame : Option Frame) → IsFramed (map given_of settings.now) frame → ⊥) }
 {
     match value_of(settings, Setting::Cell) {
-        Some("square") => Some(Frame::Square),
-        Some("hex") => Some(Frame::Hex),
+        Some("square") => Some(Some(Frame::Square)),
+        Some("hex") => Some(Some(Frame::Hex)),
+        Some("own") => Some(None),
         Some(_) => None,
-        None => Some(Frame::Square),
+        None => Some(Some(Frame::Square)),
     }
 }
 

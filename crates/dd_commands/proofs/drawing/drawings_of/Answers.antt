@@ -10,7 +10,7 @@ use Rattle.dd_commands.proofs.drawing.drawings_of.Goals as goal
 
 pub returns-in-Err-Refused-clause-why : goal.returns-in-Err-Refused-clause-why
 returns-in-Err-Refused-clause-why c =
-    let frame = c.args.frame in
+    let shape = c.args.shape in
     let ss = c.args.symbols.now in
     let i = c.loop-before.before in
     let s = c.index-symbols-before.result in
@@ -19,20 +19,20 @@ returns-in-Err-Refused-clause-why c =
     let fault : IsStop (IsUndrawn s) (Refused why) = subst (IsStop (IsUndrawn s)) c.in-Err-Refused.field-0-is c.in-Err-Refused.ensures.why in
     let here : IsUndrawn (get_or ss i s) why = subst (λ t. IsUndrawn t why) c.index-symbols-before.is fault in
     let place : i + 1 ≡ 1 + i = omega arith in
-    let first : IsFirstUndrawn frame 1 ss r = undrawn_after frame 1 ss c.loop-before.text.items i r s c.loop-before-test.true c.loop-before.invariant place here in
-    subst (λ (w : SymbolFault). IsFirstUndrawn frame 1 ss (record { symbol = i + 1; why = w })) (sym c.in-Err-Refused.why-is) first
+    let first : IsFirstUndrawn shape 1 ss r = undrawn_after shape 1 ss c.loop-before.text.items i r s c.loop-before-test.true c.loop-before.invariant place here in
+    subst (λ (w : SymbolFault). IsFirstUndrawn shape 1 ss (record { symbol = i + 1; why = w })) (sym c.in-Err-Refused.why-is) first
 
 pub loop-before-preserved : goal.loop-before-preserved
 loop-before-preserved c =
-    let frame = c.args.frame in
+    let shape = c.args.shape in
     let ss = c.args.symbols.now in
     let i = c.loop-before.before in
     let s = c.index-symbols-before.result in
     let text = c.loop-before.text.items in
     let new = c.put_drawing.new.out.items in
-    let adds : AddsDrawing frame s text new = c.in-Ok.ensures.text in
+    let adds : AddsDrawing shape s text new = c.in-Ok.ensures.text in
     let next : i + 1 ≡ suc i = omega arith in
     let taken : take i ss ++ s ∷ [] ≡ take (i + 1) ss = ap (λ t. take i ss ++ t ∷ []) c.index-symbols-before.is ∙ sym (take-suc ss i s c.loop-before-test.true) ∙ ap (λ j. take j ss) (sym next) in
-    subst (λ xs. AreDrawings frame xs new) taken
-    (subst (AreDrawings frame (take i ss ++ s ∷ [])) (sym adds.text)
-    (drawings_more frame (take i ss) s text adds.drawing c.loop-before.invariant adds.is_drawing))
+    subst (λ xs. AreDrawings shape xs new) taken
+    (subst (AreDrawings shape (take i ss ++ s ∷ [])) (sym adds.text)
+    (drawings_more shape (take i ss) s text adds.drawing c.loop-before.invariant adds.is_drawing))

@@ -3,4 +3,4 @@ use Rattle.dd_commands.specs.Drawings.{AreDrawings}
 use Rattle.dd_commands.proofs.drawing.drawings_of.Given as goal
 
 abbrev pub invariant-loop-before : goal.invariant-loop-before
-invariant-loop-before l = AreDrawings l.frame (take l.before l.symbols) l.text.items
+invariant-loop-before l = AreDrawings l.shape (take l.before l.symbols) l.text.items

@@ -3,3 +3,6 @@ use Rattle.dd_commands.proofs.drawing.least_net.Goals as goal
 
 pub shifts-requires : goal.shifts-requires
 shifts-requires c = torus_along c.args.torus.now c.in_ok-form.form c.requires c.in_ok-form.ensures
+
+pub returns-clause-torus : goal.returns-clause-torus
+returns-clause-torus c = torus_along c.args.torus.now c.in_ok-form.form c.requires c.in_ok-form.ensures

@@ -18,26 +18,20 @@ returns-then-count-gt-MOST_VERTICES-clause-why c =
       over = omega (arith, c.if-count-gt-MOST_VERTICES.true);
     }))
 
-pub returns-clause-net : goal.returns-clause-net
-returns-clause-net c =
-    let least = c.in_ok-least_net.ensures.net in
-    record {
-      torus = least.form;
-      least = record {
-        flat = c.in-Ok.ensures.flat;
-        cover = c.in-Ok.cover.symbol;
-        below = c.in-Ok.cover.below;
-        is_cover = c.in-Ok.ensures.cover;
-        least = least.least;
-      };
-      is_net = least.is_net;
-    }
+pub returns-clause-least : goal.returns-clause-least
+returns-clause-least c = record {
+  flat = c.in-Ok.ensures.flat;
+  cover = c.in-Ok.cover.symbol;
+  below = c.in-Ok.cover.below;
+  is_cover = c.in-Ok.ensures.cover;
+  least = c.in_ok-least_net.ensures.least;
+}
 
 pub returns-clause-few : goal.returns-clause-few
 returns-clause-few c =
     let cells = c.count-count.ensures.exist in
     let count = c.count-count.ensures.cells cells.0 cells.1 in
-    let least = c.in_ok-least_net.ensures.net in
+    let of = c.in_ok-least_net.field-0 in
     let few : c.count-count.result ≤ 96 = omega (arith, c.if-count-gt-MOST_VERTICES.false) in
-    let many = many_vertices c.in-Ok.cover.symbol least.form c.in_ok-least_net.field-0 cells.0 c.in-Ok.ensures.torus least.least least.is_net cells.1 in
+    let many = many_vertices c.in-Ok.cover.symbol of.torus of.net cells.0 c.in-Ok.ensures.torus c.in_ok-least_net.ensures.least c.in_ok-least_net.ensures.net cells.1 in
     omega (arith, many, count, few)

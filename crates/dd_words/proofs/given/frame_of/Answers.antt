@@ -6,4 +6,4 @@ use Rattle.dd_words.proofs.given.frame_of.Goals as goal
 pub returns-in-Some-clause-none : goal.returns-in-Some-clause-none
 returns-in-Some-clause-none c frame =
     no_frame (map given_of c.args.settings.now) c.in-Some.field-0.now frame c.requires c.in-Some.ensures.some
-    (no_other_frame c.in-Some.field-0.now c.in-Some.not-square c.in-Some.not-hex)
+    (no_other_frame c.in-Some.field-0.now c.in-Some.not-square c.in-Some.not-hex c.in-Some.not-own)

@@ -1,6 +1,5 @@
-use Rattle.std.proofs.Common.{◌≡◌, ◌≢◌, List, ℕ}
+use Rattle.std.proofs.Common.{◌≡◌}
 use Rattle.std.specs.declared.cmp.Ordering.TheVariants.{Equal}
-use Rattle.dd_canon.specs.Symmetries.{Carries}
 use Rattle.dd_model.proofs.Orders.{equal_of}
 use Rattle.dd_canon.proofs.OrderLemmas.{equal_not_greater, not_equal_of}
 use Rattle.dd_canon.proofs.SymmetryLemmas.{carries, carries_not, joins}

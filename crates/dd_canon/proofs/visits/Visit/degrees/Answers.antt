@@ -1,7 +1,7 @@
-use Rattle.std.proofs.Common.{◌≡◌, ◌+◌, drop, sym, ap, ◌∙◌, arith}
+use Rattle.std.proofs.Common.{◌≡◌, ◌+◌, drop, sym, ◌∙◌, arith}
 use Rattle.std.specs.Ordering.{nat_cmp}
 use Rattle.std.specs.Cmp.Lexicographic.{slice_cmp}
-use Rattle.dd_model.specs.Symbol.{Symbol, item, degree}
+use Rattle.dd_model.specs.Symbol.{item, degree}
 use Rattle.dd_canon.specs.Standing.{degree_list}
 use Rattle.dd_canon.proofs.OrderLemmas.{then_second}
 use Rattle.dd_model.proofs.Orders.{then_first}

@@ -1,5 +1,4 @@
-use Rattle.std.proofs.Common.{◌≡◌, ◌≤◌, length, get_or, sym, ap, subst}
-use Rattle.dd_model.specs.declared.index.Index.{Index}
+use Rattle.std.proofs.Common.{◌≤◌, length, get_or, sym, ap, subst}
 use Rattle.dd_model.specs.declared.index.Index.TheVariants.{Zero, One, Two}
 use Rattle.dd_model.specs.Symbol.{IsChamber, item}
 use Rattle.dd_canon.proofs.NumberingLemmas.{numbering_inside, numbering_more, start_stays}

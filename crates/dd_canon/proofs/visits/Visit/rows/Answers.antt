@@ -1,6 +1,5 @@
-use Rattle.std.proofs.Common.{◌≡◌, suc, [], ◌+◌, ◌-◌, refl, ap, ◌∙◌, subst, arith}
+use Rattle.std.proofs.Common.{◌≡◌, suc, [], ◌+◌, ◌-◌, refl, ◌∙◌, subst, arith}
 use Rattle.std.specs.declared.cmp.Ordering.TheVariants.{Equal}
-use Rattle.dd_model.specs.Symbol.{Symbol}
 use Rattle.dd_model.specs.FirstVisit.{rows}
 use Rattle.dd_canon.specs.Traversal.{IsTraversal}
 use Rattle.dd_canon.specs.Standing.{IsOngoing}

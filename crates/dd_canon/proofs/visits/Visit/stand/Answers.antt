@@ -2,7 +2,7 @@ use Rattle.std.proofs.Common.{◌≡◌, [], ◌+◌, sym, ap, ◌∙◌, subst,
 use Rattle.dd_model.specs.declared.pair.Pair.TheVariants.{Tile, Vertex}
 use Rattle.dd_model.specs.Symbol.{Symbol, IsTable, item}
 use Rattle.dd_canon.proofs.Traversals.{done_all}
-use Rattle.dd_canon.specs.Standing.{IsOngoing, IsReady, IsStanding, IsWhole}
+use Rattle.dd_canon.specs.Standing.{IsOngoing, IsStanding, IsWhole}
 use Rattle.dd_canon.proofs.OrderLemmas.{equal_not_greater}
 use Rattle.dd_model.proofs.Orders.{equal_of}
 use Rattle.dd_canon.proofs.VisitLemmas.{begun}
