@@ -1,9 +1,9 @@
-"""Measures pictures that `tools/gallery` makes: lengths of edges, tiles, their copies, and what is said of symbols that cannot be drawn.
+"""Measures pictures that `tools/gallery` makes: lengths of edges, tiles and their copies.
 
-All numbers are read from the SVG texts. The wanted lengths follow from angles: a vertex is the mean of its neighbours, and the
+It also compares what the gallery says of symbols that cannot be drawn. All numbers are read from the SVG texts. The wanted lengths follow from angles: a vertex is the mean of its neighbours, and the
 symmetries of these tilings fix the angles between its edges.
 """
-import itertools, math, os, re, subprocess, sys
+import filecmp, itertools, math, os, re, subprocess, sys
 
 HERE = os.path.dirname(os.path.realpath(__file__))
 TOOLS = os.path.join(HERE, "..", "tools")
@@ -36,7 +36,10 @@ def numbers_of(text):
 
 
 class Picture:
-    """The polygons of the cell of a picture by class, the offsets of its copies, and its frame: start and length, across and down."""
+    """The polygons of the cell of a picture by class, its marks, the offsets of its copies, and its frame.
+
+    The frame has a start and a length, across and down.
+    """
 
     def __init__(self, text):
         left, top, width, height = numbers_of(re.search(r'viewBox="([^"]*)"', text)[1])
@@ -44,6 +47,8 @@ class Picture:
         self.copies = [tuple(map(int, it)) for it in re.findall(r'<use href="#cell" x="(-?\d+)" y="(-?\d+)"/>', text)]
         classes = re.findall(r'<path class="c\d" fill="[^"]*" d="([^"]*)"/>', text)
         self.tiles = [[polygon(part) for part in it.split("z")[:-1]] for it in classes]
+        marks = re.search(r'<path fill="[^"]*" stroke="#fff" stroke-width="\d+" d="([^"]*)"/>', text)
+        self.marks = [polygon(part) for part in marks[1].split("z")[:-1]] if marks else []
 
     def polygons(self):
         return [it for tiles in self.tiles for it in tiles]
@@ -143,6 +148,34 @@ def counted(checks, text, pictures):
         checks.same(f"{name}: corners of a class", {len({len(it) for it in kind}) for kind in kinds}, {1})
 
 
+def marked(checks):
+    """A net with more symmetries than the group has one mark for each chamber over chamber 1, and each is in one tile."""
+    with open(f"{HERE}/isohedral.ds", encoding="utf-8") as it:
+        text = it.read()
+    checks.same("status of a gallery with marks", called(checks, text, "types")[0], 0)
+    _, pictures = read(checks, "types")
+    torus = checks.written("torus f", text)
+    sizes, covers = (re.findall(r" chambers (\d+) .* minimal (\w+)", checks.written("info f", it)) for it in (text, torus))
+    for number, ((size, is_minimal), (cover, _)) in enumerate(zip(sizes, covers, strict=True), 1):
+        it = pictures[f"{number}"]
+        wanted = 0 if is_minimal == "yes" else int(cover) // int(size)
+        centres = [tuple(sum(part) / 3 for part in zip(*mark)) for mark in it.marks]
+        inside = {sum(is_inside(*place, tile) for tile in it.polygons()) for place in centres}
+        checks.same(f"type {number}: marks", (len(it.marks), inside), (wanted, {1} if wanted else set()))
+        checks.same(f"type {number}: classes", len(it.tiles), 1)
+
+
+def kept(checks, made, name):
+    """The gallery in docs/gallery has the tilings of its file: the exact drawings, and a picture of each."""
+    for part in ("exact", "patches"):
+        folders = f"{checks.room}/{made}/{part}", f"{HERE}/../docs/gallery/{name}/{part}"
+        found, wanted = (sorted(os.listdir(it)) for it in folders)
+        checks.same(f"docs/gallery/{name}/{part}", found, wanted)
+        if part == "exact":
+            _, differ, errors = filecmp.cmpfiles(*folders, wanted, shallow=False)
+            checks.same(f"docs/gallery/{name}: exact drawings that differ", (differ, errors), ([], []))
+
+
 def left_out(checks):
     """Symbols that cannot be drawn are listed, and the others are drawn. A file with a fault has no page."""
     many = TRIANGLES
@@ -183,5 +216,8 @@ def look(checks):
     checks.same("cards of the gallery", (page.count("<article"), len(pictures)), (22, 22))
     measured(checks, pictures)
     counted(checks, text, pictures)
+    kept(checks, "all", "archimedean")
+    marked(checks)
+    kept(checks, "types", "isohedral")
     left_out(checks)
     colours(checks)

@@ -12,7 +12,7 @@ def page(title, intro, entries):
     drawn = [it for it in entries if it.tiling]
     parts = {
         "title": html.escape(title),
-        "intro": "\n".join(f"<p>{marked_up(it)}</p>" for it in intro if it),
+        "intro": "\n".join(f"<p>{marked_up(it)}</p>" for it in intro),
         "colours": colours(drawn),
         "filters": "\n".join(select(it, label, drawn) for it, label in FILTERS.items()),
         "left_out": left_out([it for it in entries if not it.tiling]),
@@ -34,16 +34,16 @@ def card(entry):
     """Returns the card of a tiling. Its data are what the filters compare."""
     facts, name = entry.facts, html.escape(entry.name)
     data = " ".join(f'data-{it}="{facts[it]}"' for it in FILTERS)
-    counts = ", ".join(
-        [count(facts["tiles"], "class of tiles", "classes of tiles"), f"{facts['vertices']} of vertices", f"{facts['edges']} of edges"]
-    )
+    counts = f"{count(facts['tiles'], 'class', 'classes')} of tiles, {facts['vertices']} of vertices, {facts['edges']} of edges"
     return f"""<article {data}>
 <a href="patches/{entry.file}"><img src="patches/{entry.file}" alt="Patch of {name}" loading="lazy" width="400" height="300"></a>
 <div class="facts">
 <h2>{name}</h2>
 <p class="counts">Group <span class="group">{facts["group"]}</span>. {counts}.</p>
 <ul class="key" aria-label="Colours of the classes of tiles">{key(entry)}</ul>
-{warning(entry)}<div class="symbol"><code>{html.escape(entry.line)}</code><button type="button" hidden aria-label="Copy the symbol of {name}">Copy</button></div>
+{warning(entry)}<div class="symbol">
+<code>{html.escape(entry.line)}</code><button type="button" hidden aria-label="Copy the symbol of {name}">Copy</button>
+</div>
 <p class="counts"><a href="exact/{entry.file}" aria-label="Exact drawing of {name}">Exact drawing</a></p>
 </div>
 </article>"""
@@ -67,10 +67,14 @@ def colours(entries):
     rules, dark = [], []
     for rank in range(min(most, len(picture.LIGHT) * len(picture.TURNS))):
         colour, turn = picture.look(rank)
-        stripes = "" if turn is None else f";background-image:repeating-linear-gradient({(turn + 180) % 360}deg,#fff 0 2px,#0000 2px 5px)"
-        rules.append(f".{swatch(rank)}{{background-color:{picture.LIGHT[colour]}{stripes}}}")
+        rules.append(f".{swatch(rank)}{{background-color:{picture.LIGHT[colour]}{stripes(turn)}}}")
         dark.append(f".{swatch(rank)}{{background-color:{picture.DARK[colour]}}}")
     return f"{''.join(rules)}@media(prefers-color-scheme:dark){{{''.join(dark)}}}"
+
+
+def stripes(turn):
+    """Returns the style of stripes at an angle. An angle of CSS is that of the normal of the stripes."""
+    return "" if turn is None else f";background-image:repeating-linear-gradient({turn}deg,#fff 0 2px,#0000 2px 5px)"
 
 
 def warning(entry):
@@ -99,5 +103,6 @@ def left_out(entries):
     """Returns the list of the symbols that the program refused to draw, each with the reason."""
     if not entries:
         return ""
-    lines = "".join(f"<li>{html.escape(it.name)}: {html.escape(it.refusal)} <code>{html.escape(it.line)}</code></li>" for it in entries)
+    rows = [[html.escape(text) for text in (it.name, it.refusal, it.line)] for it in entries]
+    lines = "".join(f"<li>{name}: {refusal} <code>{line}</code></li>" for name, refusal, line in rows)
     return f"<section>\n<p>{count(len(entries), 'symbol', 'symbols')} could not be drawn:</p>\n<ul>{lines}</ul>\n</section>"

@@ -62,7 +62,7 @@ class Patch:
     def marks(self):
         """Returns a path element that marks each copy of chamber 1 of the symbol."""
         parts = [self.path(it) for tile in self.tiling.tiles for it in tile.marks]
-        return f'<path fill="{MARK}" stroke="none" d="{"".join(parts)}"/>'
+        return f'<path fill="{MARK}" stroke="#fff" stroke-width="{self.stroke() // 2}" d="{"".join(parts)}"/>'
 
     def copies(self):
         """Returns the offsets of the copies that reach into the picture, whose middle is the origin of the cell's group."""
@@ -90,11 +90,12 @@ class Patch:
         stripes = "".join(stripe(it) for it in turns if it is not None)
         cell = "\n".join([*self.paths(), *([self.marks()] if marked else [])])
         uses = "".join(f'<use href="#cell" x="{x}" y="{y}"/>' for x, y in self.copies())
+        box, line = f"{-WIDTH // 2} {-HEIGHT // 2} {WIDTH} {HEIGHT}", f'stroke="{LINE}" stroke-width="{self.stroke()}"'
         return (
-            f'<svg xmlns="http://www.w3.org/2000/svg" viewBox="{-WIDTH // 2} {-HEIGHT // 2} {WIDTH} {HEIGHT}">\n'
+            f'<svg xmlns="http://www.w3.org/2000/svg" viewBox="{box}">\n'
             f"<title>{html.escape(name)}</title>\n"
             f"<style>@media(prefers-color-scheme:dark){{{dark}#cell{{stroke:{LINE_DARK}}}}}</style>\n"
-            f'<defs>{stripes}<g id="cell" stroke="{LINE}" stroke-width="{self.stroke()}" stroke-linejoin="round">\n{cell}\n</g></defs>\n'
+            f'<defs>{stripes}<g id="cell" {line} stroke-linejoin="round">\n{cell}\n</g></defs>\n'
             f"{uses}\n</svg>\n"
         )
 
@@ -103,5 +104,5 @@ def stripe(turn):
     """Returns a pattern of stripes at an angle."""
     return (
         f'<pattern id="s{turn}" width="120" height="120" patternUnits="userSpaceOnUse" patternTransform="rotate({turn})">'
-        '<path d="M0 0h120" stroke="#fff" stroke-width="50"/></pattern>'
+        '<path d="M0 60h120" stroke="#fff" stroke-width="50"/></pattern>'
     )
