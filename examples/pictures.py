@@ -1,7 +1,8 @@
 """Measures pictures that `tools/gallery` makes: lengths of edges, tiles and their copies.
 
-It also compares what the gallery says of symbols that cannot be drawn. All numbers are read from the SVG texts. The wanted lengths follow from angles: a vertex is the mean of its neighbours, and the
-symmetries of these tilings fix the angles between its edges.
+It also compares what the gallery says of symbols that cannot be drawn. All numbers are read from the SVG texts. The wanted
+lengths follow from angles: a vertex is the mean of its neighbours, and the symmetries of these tilings fix the angles between
+its edges.
 """
 import filecmp, itertools, math, os, re, subprocess, sys
 
@@ -214,6 +215,8 @@ def look(checks):
     checks.same("status of the gallery", status, 0)
     page, pictures = read(checks, "all")
     checks.same("cards of the gallery", (page.count("<article"), len(pictures)), (22, 22))
+    links = re.findall(r'(?:src|href)="([^"]*)"', page)
+    checks.same("files of the page", (len(links), [it for it in links if not os.path.isfile(f"{checks.room}/all/{it}")]), (68, []))
     measured(checks, pictures)
     counted(checks, text, pictures)
     kept(checks, "all", "archimedean")
