@@ -171,7 +171,7 @@ fn catalogues_are_read(rt: HostRuntime) {
 
 #[test]
 fn other_commands_are_read(rt: HostRuntime) {
-    let rows: [(&[&str], &str); 6] = [
+    let rows: [(&[&str], &str); 9] = [
         (&["canon", "f"], "Canon f"),
         (&["dual", "--", "f"], "Dual f"),
         (&["exercise", "1", "00"], "exercise 1 0"),
