@@ -1,6 +1,6 @@
 use crate::symbols::made;
 use dd_covers::torus;
-use dd_gram::{Gram, carry, gram, own_frame};
+use dd_gram::{Gram, Matrix, carry, gram, matrix, own_frame};
 use dd_lattice::shifts;
 use dd_model::Frame;
 use std::alloc::Global;
@@ -43,6 +43,30 @@ fn symmetries_of_squares(rt: HostRuntime) {
         let map = carry(rt.alloc(), &t, k + 1).expect(&rt, "an answer");
         assert!(rt; map.is_some());
     }
+}
+
+/// The symmetry of the squares that takes chamber 1 to chamber 2 is a reflection.
+#[test]
+fn matrix_of_a_reflection(rt: HostRuntime) {
+    let symbol = made(&rt, [&[1]; 3], &[4], &[4]);
+    assert!(rt; symbol.symbol().size() <= 1024);
+    let cover = torus(rt.alloc(), &symbol).expect(&rt, "a flat symbol");
+    assert!(rt; cover.symbol.symbol().size() == 8);
+    let net = shifts(rt.alloc(), &cover.symbol).expect(&rt, "a net");
+    assert!(rt; net.vertices <= 96);
+    let map = carry(rt.alloc(), &cover.symbol, 2)
+        .expect(&rt, "an answer")
+        .expect(&rt, "a map");
+    let found = matrix(rt.alloc(), &cover.symbol, &net, &map).expect(&rt, "a matrix");
+    assert_eq!(rt;
+        found,
+        Matrix {
+            xx: -1,
+            xy: 0,
+            yx: 0,
+            yy: 1
+        }
+    );
 }
 
 /// A symbol of two chambers, of tiles with 3 edges and with 6.
