@@ -4,13 +4,13 @@ ghost use Rattle.dd_ports.specs.Texts.{FillsOk, FillsKnown};
 use crate::fault_count::FaultCount;
 use crate::store::{Fetched, Store, StoreFault};
 use std::alloc::Global;
-use std::fs::OpenFile;
-use std::io::{Read, Write};
+use std::fs::{FileType, OpenFile, OpenOptions};
+use std::io::{ErrorKind, Read, Write};
 use std::rt::Files;
 use std::{fs, io};
 
-/// Files of the system under their paths, whose faults are counted. It tells nothing of what they
-/// hold.
+/// Files of the system under their paths, whose faults are counted. Contracts don't see what the
+/// files hold.
 #[derive(Drop)]
 pub struct FileStore<R: Files + Drop> {
     rt: R,
@@ -53,10 +53,32 @@ fn read_some<F: Read>(file: &mut F, into: &mut Vec<u8>, limit: usize) -> Result<
     Err(StoreFault::Failed)
 }
 
-/// Writes a new file, flushes it to the disk, and gives it its name, so that a stop at any moment
-/// leaves under the name the old text or the new one.
+/// Returns what a name names, or `None` if there is nothing. A link is not followed.
+fn kind_of<R: Files>(rt: &R, name: &str) -> io::Result<Option<FileType>> {
+    match fs::symlink_metadata(rt, name) {
+        Ok(found) => Ok(Some(found.file_type())),
+        Err(why) if why.kind() == ErrorKind::NotFound => Ok(None),
+        Err(why) => Err(why),
+    }
+}
+
+/// Makes a file and opens it for writing. A plain file or a link of this name is removed first. If
+/// the name names anything else, it stays, and the call fails.
+fn make_anew<R: Files>(rt: &R, name: &str) -> io::Result<R::File> {
+    if kind_of(rt, name)?.is_some_and(|kind| kind.is_file() || kind.is_symlink()) {
+        fs::remove_file(rt, name)?;
+    }
+    OpenOptions::new().write(true).create_new(true).open(rt, name)
+}
+
+/// Writes a new file, flushes it to the disk, and gives it its name. So a stop at any moment leaves
+/// under the name the old text or the new one. If the name names something that is no plain file,
+/// such as a link, a folder or a device, it stays, and the call fails before it writes anything.
 fn replace<R: Files>(rt: &R, fresh: &str, name: &str, bytes: &[u8]) -> io::Result<()> {
-    let mut file = fs::create(rt, fresh)?;
+    if kind_of(rt, name)?.is_some_and(|kind| !kind.is_file()) {
+        return Err(ErrorKind::AlreadyExists.into());
+    }
+    let mut file = make_anew(rt, fresh)?;
     file.write_all(bytes)?;
     file.sync_all()?;
     fs::rename(rt, fresh, name)
