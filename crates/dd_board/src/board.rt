@@ -92,28 +92,28 @@ impl<N: Naming, K: Ledger, L: Ledger, S: Ledger, D: Ledger, B: Ledger> Board<N, 
         self.waiting.load(Ordering::SeqCst)
     }
 
-    /// Whether some job is out, so that there may be more to do. Nothing rests on it.
+    /// Returns whether some job is out, so that there may be more to do. Nothing rests on it.
     pub fn has_out(&self) -> bool {
         self.out.load(Ordering::SeqCst) > 0
     }
 
-    /// Tells the other workers that a job is being split, so that there may soon be more to do.
+    /// Lets the other workers know that a job is being split, so that there may soon be more to do.
     pub fn begin_split(&self) {
         self.splitting.fetch_add(1, Ordering::SeqCst);
     }
 
-    /// Tells them that this is over.
+    /// Lets the other workers know that a split is over.
     pub fn end_split(&self) {
         self.splitting.fetch_sub(1, Ordering::SeqCst);
     }
 
-    /// Whether some worker is just splitting a job. Nothing rests on it.
+    /// Returns whether some worker is just splitting a job. Nothing rests on it.
     pub fn is_splitting(&self) -> bool {
         self.splitting.load(Ordering::SeqCst) > 0
     }
 
-    /// Puts the jobs in the place of the ticket's. `Err` comes for want of memory alone, and has
-    /// the ticket.
+    /// Puts the jobs in the place of the ticket's. It fails only if an allocation fails, and then
+    /// returns the ticket.
     pub fn split<R: Wait>(
         &self,
         rt: &R,
@@ -132,8 +132,8 @@ impl<N: Naming, K: Ledger, L: Ledger, S: Ledger, D: Ledger, B: Ledger> Board<N, 
         Ok(())
     }
 
-    /// Books what was found under the ticket's job. `Err` comes for want of memory alone, and has
-    /// the ticket.
+    /// Books what was found under the ticket's job. It fails only if an allocation fails, and then
+    /// returns the ticket.
     pub fn finish<R: Wait>(
         &self,
         rt: &R,
@@ -150,8 +150,8 @@ impl<N: Naming, K: Ledger, L: Ledger, S: Ledger, D: Ledger, B: Ledger> Board<N, 
         Ok(())
     }
 
-    /// Makes the ticket's entry open again. `Err` comes for want of memory alone, and has the
-    /// ticket.
+    /// Makes the ticket's entry open again. It fails only if an allocation fails, and then returns
+    /// the ticket.
     pub fn back<R: Wait>(
         &self,
         rt: &R,

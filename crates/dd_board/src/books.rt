@@ -4,7 +4,7 @@ ghost use Rattle.dd_board.specs.Shares.{HaveAmounts};
 use crate::shares::Shares;
 use std::sync::ledger::{Blank, Book, Ledger};
 
-/// New ledgers of a board, one for each kind of call, which no type stands for yet.
+/// New ledgers of a board, one for each kind of call. No type names them yet.
 pub struct Blanks {
     pub take: Blank,
     pub look: Blank,
@@ -14,7 +14,7 @@ pub struct Blanks {
 }
 
 impl Blanks {
-    /// New ledgers of so many parts each.
+    /// Returns new ledgers of `parts` parts each.
     pub fn new(parts: u64) -> Blanks
         ensures { (result.take.parts ≡ parts) × (result.look.parts ≡ parts)
             × (result.split.parts ≡ parts) × (result.finish.parts ≡ parts)

@@ -37,7 +37,8 @@ impl<N: Naming, K: Ledger, L: Ledger, S: Ledger, D: Ledger, B: Ledger> Model
 }
 
 impl<N: Naming, K: Ledger, L: Ledger, S: Ledger, D: Ledger, B: Ledger> Counted<N, K, L, S, D, B> {
-    /// Gives out the first job that is open, or books that there is none, each under the number of the seat's worker.
+    /// Gives out the first job that is open, or books that there is none, each under the number of
+    /// the seat's worker.
     pub fn take(&mut self, seat: &mut Seat<K, L, S, D, B>) -> Result<Taken<N>, Memory>
         ensures takes { IfOk result (Takes seat.old.worker self.old self.new) }
         ensures counts { CountsTaken seat.old seat.new result }

@@ -187,9 +187,9 @@ impl<N: Naming> Desk<N> {
         })
     }
 
-    /// Puts the jobs in the place of the ticket's. Where the ticket's entry is not out with its
-    /// job, or the numbers of entries would end, number 0 is booked. `Err` comes for want of
-    /// memory alone: it has the ticket, and the desk is as before.
+    /// Puts the jobs in the place of the ticket's. If the ticket's entry is not out with its job,
+    /// or if the numbers of entries would end, books number 0. It fails only if an allocation
+    /// fails: it then returns the ticket, and the desk is as before.
     pub fn split(&mut self, worker: u32, ticket: Ticket<N>, jobs: Vec<Job>) -> Result<(), Ticket<N>>
         requires { AreChildren N.request ticket.job jobs.items }
         ensures books { OnOk result
@@ -215,9 +215,9 @@ impl<N: Naming> Desk<N> {
         })
     }
 
-    /// Books what was found under the ticket's job, with number 0 where the ticket's entry is not
-    /// out with its job. `Err` comes for want of memory alone: it has the ticket, and the desk is
-    /// as before.
+    /// Books what was found under the ticket's job, with number 0 if the ticket's entry is not out
+    /// with its job. It fails only if an allocation fails: it then returns the ticket, and the desk
+    /// is as before.
     pub fn finish(
         &mut self,
         worker: u32,

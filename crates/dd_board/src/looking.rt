@@ -7,21 +7,21 @@ ghost use Rattle.dd_board.specs.Desk.{first_place};
 use dd_front::{Entry, Front, State};
 use dd_model::{Job, Memory, Position};
 
-/// Whether two jobs are equal.
+/// Returns whether two jobs are equal.
 fn is_same(job: &Job, other: &Job) -> bool
     ensures { IsTrue result ↔ (job.now ≡ other.now) }
 {
     job.size == other.size && job.prefix.as_slice() == other.prefix.as_slice()
 }
 
-/// Whether an entry is out with this job.
+/// Returns whether an entry is out with this job.
 fn is_out_with(entry: &Entry, job: &Job) -> bool
     ensures { IsTrue result ↔ ((entry.now.job ≡ job.now) × (entry.now.state ≡ State.Out)) }
 {
     entry.state.is_out() && is_same(&entry.job, job)
 }
 
-/// Whether the entry of a number is out with this job.
+/// Returns whether the entry of a number is out with this job.
 pub fn has_out_with(front: &Front, number: u64, job: &Job) -> bool
     ensures { IsTrue result ↔ Contains front.now.entries (entry_of number job.now State.Out) }
 {

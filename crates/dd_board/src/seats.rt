@@ -9,7 +9,7 @@ use dd_model::Memory;
 use std::alloc::Global;
 use std::sync::ledger::Ledger;
 
-/// Seats for so many workers, among whom the shares are dealt out.
+/// Returns a seat for each of `workers` workers, among whom the shares are dealt out.
 pub fn seats_of<K: Ledger, L: Ledger, S: Ledger, D: Ledger, B: Ledger>(
     alloc: Global,
     mut shares: Shares<K, L, S, D, B>,

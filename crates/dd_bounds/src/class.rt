@@ -10,7 +10,7 @@ pub(crate) struct Class {
 }
 
 impl Class {
-    /// The class of so many chambers.
+    /// Returns the class of a path of `chambers` chambers with open ends.
     pub(crate) fn of(chambers: u8) -> Class
         requires { chambers < 64 }
         ensures { result.number ≡ chambers }
@@ -25,7 +25,7 @@ impl Class {
         self.number % 64
     }
 
-    /// Whether an involution is known to fix a chamber.
+    /// Returns whether an involution is known to fix a chamber.
     pub(crate) fn is_capped(self) -> bool
         ensures { IsTrue result ↔ (64 ≤ self.number) }
     {

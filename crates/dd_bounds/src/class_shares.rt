@@ -10,12 +10,16 @@ use crate::degrees::{least_degree, share_of, share_of_cell};
 use crate::whole_cell::WholeCell;
 use dd_model::{Pair, Request};
 
-/// What the chambers of the paths of a pair have together in tables of a size: for each class of paths
-/// with ends, as many shares as it has chambers, each that of the least degree which a request allows
-/// and which a cell with these chambers has room for; and after those,
-/// for each number of turns, what as many chambers of a whole cell have, which is 0 where the request
-/// allows it no degree. What two paths have that are joined stands at the sum of their classes, also
-/// where the path that they make has no ends.
+/// The sums of shares of the chambers of paths, for one pair and one size of tables, by class of
+/// paths.
+///
+/// For each class of paths with ends, the sum is the number of chambers times the share of a
+/// degree. That degree is the least that a request allows and for which a cell with these chambers
+/// has room. After the classes with ends come the numbers of turns: the sum of the chambers of a
+/// whole cell with these turns, which is 0 if the request allows the cell no degree.
+///
+/// The sum of two paths that are joined is at the sum of their classes, also if the path that they
+/// make has no ends.
 #[derive(Clone, Copy, Drop)]
 pub(crate) struct ClassShares {
     pub(crate) request: Request,
@@ -50,7 +54,8 @@ fn share_of_class(request: &Request, pair: Pair, size: u8, class: u8) -> u64
     share_of(least_degree(request, pair, turns.clamp(1, 36)))
 }
 
-/// What the chambers of a path of a class, or as many of a whole cell as it has turns, have together.
+/// What the chambers of a path of a class, or as many of a whole cell as it has turns, have
+/// together.
 fn weight_of_class(request: &Request, pair: Pair, size: u8, class: u8) -> u64
     requires { class < 192 }
     ensures { IsClassWeight request.now pair size class result }
@@ -78,8 +83,8 @@ impl ClassShares {
         }
     }
 
-    /// Those of tables of another size. Only paths with all chambers of a table of either size may have
-    /// others than before.
+    /// Returns the sums of tables of another size. Only paths with all chambers of a table of
+    /// either size may have other sums than before.
     pub(crate) fn for_size(&self, size: u8) -> ClassShares
         requires { size ≤ 36 }
         ensures request { result.request ≡ self.now.request }

@@ -6,10 +6,14 @@ use crate::whole_cell::WholeCell;
 use dd_model::Pair;
 use dd_partial_table::Rows;
 
-/// The whole cells of a pair, their chambers, what they add at most, the paths with one fixed end, the
-/// chambers that an involution is known to fix, and a chamber of each whole cell. Of these chambers it
-/// is told how many come before them, as bits. All this only tells when a census is worth its time
-/// and where it has to look, and no clause reads it.
+/// Counts of a pair. They are
+///
+/// - its whole cells, their chambers, and what they add at most;
+/// - the paths with one fixed end, and the chambers that an involution is known to fix;
+/// - a chamber of each whole cell, as the number of chambers before it, as bits.
+///
+/// No clause reads the counts. They only show when a census is worth its time, and where it has to
+/// look.
 #[derive(Clone, Copy, Drop)]
 pub(crate) struct Counts {
     cells: u8,
@@ -26,7 +30,7 @@ fn bit(chamber: u8) -> u64 {
 }
 
 impl Counts {
-    /// Those of a table of which nothing is known.
+    /// Returns the counts of a table of which nothing is known.
     pub(crate) fn none() -> Counts {
         Counts {
             cells: 0,
@@ -76,7 +80,8 @@ impl Counts {
         }
     }
 
-    /// After a path with so many chambers, and what they have together, became whole at one of them.
+    /// Counts a path of `chambers` chambers, whose sum of shares is `weight`, that became whole at
+    /// one of them.
     pub(crate) fn close(&mut self, chambers: u8, chamber: u8, weight: u64) {
         self.closed |= bit(chamber);
         self.cells = self.cells.wrapping_add(1);
@@ -84,8 +89,8 @@ impl Counts {
         self.most = self.most.wrapping_add(weight);
     }
 
-    /// What all cells add at most, as a census would tell it; None where there are more than a limit
-    /// allows.
+    /// Returns what all cells add at most, as a census would find it, or None if there are more
+    /// than a limit allows.
     pub(crate) fn bound(&self, limit: u32, size: u8) -> Option<u64> {
         if limit == 0 || limit > 36 {
             return Some(u64::MAX);

@@ -8,7 +8,7 @@ use dd_model::{Pair, Request};
 /// A number that each of 1 to 36 divides. The shares of chambers are parts of it.
 pub const SHARE_UNIT: u64 = 144_403_552_893_600;
 
-/// Whether a request allows the degree to the cells of a pair.
+/// Returns whether a request allows the degree to the cells of a pair.
 fn allows(request: &Request, pair: Pair, degree: u32) -> bool
     ensures { IsTrue result ↔ IsAllowed request.now pair degree }
 {
@@ -33,8 +33,8 @@ pub fn least_degree(request: &Request, pair: Pair, from: u32) -> u32
     217
 }
 
-/// SHARE_UNIT divided by the degree, rounded up. No division is made for the degrees that paths have
-/// most often.
+/// SHARE_UNIT divided by the degree, rounded up. No division is made for the degrees that paths
+/// have most often.
 pub fn share_of(degree: u32) -> u64
     requires { 1 ≤ degree }
     ensures share { result ≡ (share_unit - 1) / degree + 1 }
@@ -59,7 +59,7 @@ pub fn share_of(degree: u32) -> u64
     }
 }
 
-/// Whether a cell of so many turns may have the branching value.
+/// Returns whether a cell of `turns` turns may have the branching value.
 fn allows_cell(request: &Request, pair: Pair, branching: u32, turns: u8) -> bool
     requires branching { branching ≤ 6 }
     ensures { IsTrue result
@@ -68,8 +68,8 @@ fn allows_cell(request: &Request, pair: Pair, branching: u32, turns: u8) -> bool
     [1, 2, 3, 4, 6].contains(&branching) && allows(request, pair, branching * u32::from(turns))
 }
 
-/// SHARE_UNIT divided by the least degree that a request allows to a cell of so many turns, rounded
-/// up; 0 where it allows none. The degree is the branching value times the turns.
+/// Returns SHARE_UNIT divided by the least degree that a request allows to a cell of `turns` turns,
+/// rounded up, or 0 if it allows none. The degree is the branching value times the turns.
 pub fn share_of_cell(request: &Request, pair: Pair, turns: u8) -> u64
     requires { 1 ≤ turns }
     ensures share { (v : ℕ) → IsCrystallographic v → IsAllowed request.now pair (v * turns)

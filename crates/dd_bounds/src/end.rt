@@ -21,8 +21,8 @@ impl End {
         }
     }
 
-    /// What stands at the other end of a path that goes on to a further end at this one, or is fixed
-    /// there: nothing where an involution fixes that other end, too.
+    /// What stands at the other end of a path that goes on to a further end at this one, or is
+    /// fixed there: nothing where an involution fixes that other end, too.
     pub(crate) fn beyond(self, further: u8, class: Class) -> End
         requires { further < 74 }
         ensures fixed { 64 ≤ self.class.number → result.class.number ≡ 0 }

@@ -12,10 +12,10 @@ ghost use Rattle.dd_bounds.specs.Changes.{IsFixedEnd, AreFixed, AreClosed, IsAlo
 ghost use Rattle.dd_bounds.specs.Passing.{Passes, AreEndsOf};
 ghost use Rattle.dd_bounds.specs.PathEnd.{PathEnd, weight};
 
-/// Where an involution joins two paths in all of some tables, their chambers have one share from
-/// then on: one that is right for each allowed degree from half of their number on, or from all of
-/// it where an involution fixes one of them, or where they are all chambers and their number is odd.
-/// The total loses what the chambers had, and gains what they have.
+/// Let an involution join two paths in all of some tables. Then their chambers have one share from
+/// then on. It is right for each allowed degree from half of their number on. If an involution
+/// fixes one of them, or if they are all chambers and their number is odd, it is right from their
+/// whole number on. The total loses what the chambers had, and gains what they have.
 pub fn joined_paths_have_one_share()
     ensures { (q : Request) (P : Symbol) (test : Symbol → Bool) (p : Pair)
         → (old new : ℕ → PathEnd) (total more x y k v : ℕ) → AreEndsOf q P test p old total
@@ -26,8 +26,8 @@ pub fn joined_paths_have_one_share()
         → AreEndsOf q P test p new more }
 {}
 
-/// Where an involution fixes the end of a path in all of some tables, its chambers have a share
-/// that is right for each allowed degree from their number on, and the other end alone is left.
+/// Let an involution fix the end of a path in all of some tables. Then its chambers have a share
+/// that is right for each allowed degree from their number on, and only the other end is left.
 pub fn a_path_with_a_fixed_end_has_the_share_of_a_chain()
     ensures { (q : Request) (P : Symbol) (test : Symbol → Bool) (p : Pair)
         → (old new : ℕ → PathEnd) (total more x k v : ℕ) → AreEndsOf q P test p old total
@@ -36,8 +36,8 @@ pub fn a_path_with_a_fixed_end_has_the_share_of_a_chain()
         → AreEndsOf q P test p new more }
 {}
 
-/// Where a path has no ends any more, its chambers have whatever share is right for one of them, as
-/// that which the degree of a whole cell tells.
+/// If a path has no ends any more, its chambers have any share that is right for one of them, such
+/// as the share of the degree of the whole cell.
 pub fn a_closed_path_has_the_share_of_its_cell()
     ensures { (q : Request) (P : Symbol) (test : Symbol → Bool) (p : Pair)
         → (old new : ℕ → PathEnd) (total more x v : ℕ) → AreEndsOf q P test p old total
@@ -47,7 +47,7 @@ pub fn a_closed_path_has_the_share_of_its_cell()
         → AreEndsOf q P test p new more }
 {}
 
-/// Each chamber is a path alone where nothing more is known of it: its two flags are the ends, and
+/// Each chamber of which nothing more is known is a path by itself. Its two flags are the ends, and
 /// its share is right for each allowed degree.
 pub fn each_chamber_is_a_path_alone()
     ensures { (q : Request) (P : Symbol) (test : Symbol → Bool) (p : Pair) (ends : ℕ → PathEnd)

@@ -18,10 +18,11 @@ pub fn shares_stay_while_a_table_is_filled()
         → AreKept (partial_of old) shares → AreKept (partial_of new) shares }
 {}
 
-/// What a census tells of the cells of a pair holds of each sought symbol, where a request sets a
-/// limit: no more cells are whole than the limit, each chamber is in a whole cell where as many
-/// are, and the sum of 1/m is at most what whole cells add, 1 for each further chain and 2 for each
-/// further cycle.
+/// Let a request set a limit. Then the census of the cells of a pair holds of each sought symbol:
+///
+/// - No more cells are whole than the limit.
+/// - If as many cells are whole as the limit, each chamber is in one of them.
+/// - The sum of 1/m is at most what whole cells add, 1 for each further chain and 2 for each further cycle.
 pub fn whole_cells_count()
     ensures { (q : Request) (partial : Symbol) (p : Pair) (c : Census) (limit : ℕ)
         → (p ≡ Tile) ⊎ (p ≡ Vertex)

@@ -1,5 +1,5 @@
-//! What cuts the search: bounds on the degrees of every symbol that completes a partial table, kept at
-//! the ends of the paths of the table.
+//! What cuts the search: bounds on the degrees of every symbol that completes a partial table, kept
+//! at the ends of the paths of the table.
 #![tactic(auto)]
 
 mod class;

@@ -15,7 +15,7 @@ use crate::whole_cell::WholeCell;
 use dd_model::{Pair, Request};
 use dd_partial_table::Rows;
 
-/// At most so many cells of a pair are asked for; 0 sets no limit.
+/// Returns the most cells of a pair that are asked for; 0 sets no limit.
 fn limit_of(request: &Request, pair: Pair) -> u32
     ensures { 1 ≤ result → (s : Tiling) → Wanted request.now s → AtMost s pair result }
 {
@@ -26,9 +26,9 @@ fn limit_of(request: &Request, pair: Pair) -> u32
     }
 }
 
-/// What a table tells of the cells of a pair: the cells that are whole, how many of them are
-/// chains, their chambers, what they add at most, and how often an involution of the pair is known
-/// to fix a chamber.
+/// What is known of the cells of a pair in a table: how many cells are whole, how many of them are
+/// chains, their chambers, and what they add at most. It also has how often an involution of the
+/// pair is known to fix a chamber.
 #[derive(Drop)]
 pub(crate) struct Census {
     cells: u32,
@@ -41,7 +41,7 @@ pub(crate) struct Census {
 impl Census {
     ghost use Rattle.dd_bounds.specs.Census.{IsCensus, IsSmall, HasRoom};
 
-    /// What no chambers tell.
+    /// The census of no chambers.
     fn none() -> Census
         ensures census { (q : Request) (partial : Tiling) (p : Pair)
             → IsCensus q partial p 0 result }
@@ -56,8 +56,8 @@ impl Census {
         }
     }
 
-    /// With what the chamber after k tells, and its cell, where that is to be looked at and the chamber
-    /// is the least of a whole one.
+    /// Adds the chamber after k. If `with_cell` is true and the chamber is the least of a whole
+    /// cell, adds the cell too.
     fn add(&mut self, shares: &ClassShares, table: &Rows, k: u8, with_cell: bool)
         requires ready { IsReady table.now }
         requires pair { (shares.now.pair ≡ Tile) ⊎ (shares.now.pair ≡ Vertex) }
@@ -84,8 +84,8 @@ impl Census {
         self.most += shares.whole(&cell);
     }
 
-    /// Whether there are more cells than a limit allows: more are whole, or as many are and leave
-    /// chambers over.
+    /// Returns whether there are more cells than a limit allows: more are whole, or as many are and
+    /// leave chambers over.
     fn exceeds(&self, limit: u32, size: u8) -> bool
         ensures over { OnTrue result ((s : Tiling) (p : Pair) → s.size ≡ size
             → ¬ HasRoom s p self.now limit) }
@@ -94,8 +94,9 @@ impl Census {
         self.cells > limit || self.cells == limit && self.chambers < u32::from(size)
     }
 
-    /// What some chambers tell, and the cells of others, up to the first that tells of more cells than
-    /// a limit allows. For each of them how many come before it is given, as bits.
+    /// Returns the census of some chambers, and of the cells of others, up to the first at which
+    /// there are more cells than a limit allows. Each of them is given by how many come before it,
+    /// as bits.
     fn of(shares: &ClassShares, table: &Rows, fixed: u64, cells: u64, limit: u32) -> Census
         requires ready { IsReady table.now }
         requires pair { (shares.now.pair ≡ Tile) ⊎ (shares.now.pair ≡ Vertex) }
@@ -160,7 +161,7 @@ impl Side {
         self.counted(shares, table, limit)
     }
 
-    /// The same where no more cells than a limit are asked for.
+    /// Returns the same where no more cells than a limit are asked for.
     fn counted(&self, shares: &ClassShares, table: &Rows, limit: u32) -> Option<u64>
         requires ready { IsReady table.now }
         requires pair { (shares.now.pair ≡ Tile) ⊎ (shares.now.pair ≡ Vertex) }

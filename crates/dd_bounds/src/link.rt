@@ -21,7 +21,7 @@ fn index_of(place: u8) -> Index
 }
 
 impl Link {
-    /// The image that a number at a place of a code tells.
+    /// Returns the image that a number at a place of a code means.
     pub(crate) fn told(place: u8, number: u8) -> Link
         requires place { place < 108 }
         requires number { number ≤ 36 }

@@ -7,8 +7,8 @@ ghost use Rattle.dd_partial_table.specs.Rows.{partial_of, IsReady};
 use dd_model::Index;
 use dd_partial_table::Rows;
 
-/// Whether it is sure that no least table completes the table: its size is odd, and s0 moves
-/// chamber 1.
+/// Returns whether it is sure that no least table completes the table: its size is odd, and s0
+/// moves chamber 1.
 pub fn parity_rules_out(table: &Rows) -> bool
     requires { IsReady table.now }
     ensures { IsTrue result → (s : Tiling) → Completes (partial_of table.now) s → ¬ LeastTable s }

@@ -4,8 +4,8 @@ ghost use Rattle.dd_model.specs.declared.pair.Pair.TheVariants.{Tile, Vertex};
 use crate::class_shares::ClassShares;
 use dd_model::{Pair, Request};
 
-/// The shares that a request allows to the chambers of the tile paths and the vertex paths of tables of
-/// a size.
+/// The shares that a request allows to the chambers of the tile paths and the vertex paths of
+/// tables of a size.
 #[derive(Clone, Copy, Drop)]
 pub struct PathShares {
     pub(crate) request: Request,
@@ -21,7 +21,7 @@ pub struct PathShares {
 }
 
 impl PathShares {
-    /// Those of a request.
+    /// Returns the sums for a request.
     pub fn of(request: &Request, size: u8) -> PathShares
         requires { size ≤ 36 }
         ensures request { result.request ≡ request.now }
@@ -35,7 +35,7 @@ impl PathShares {
         }
     }
 
-    /// Those of tables of another size. Few are reckoned anew.
+    /// Returns the sums for tables of another size. Few are computed anew.
     pub fn for_size(&self, size: u8) -> PathShares
         requires { size ≤ 36 }
         ensures request { result.request ≡ self.now.request }

@@ -13,9 +13,9 @@ use crate::class_shares::ClassShares;
 use crate::counts::Counts;
 use crate::end::End;
 
-/// The paths of a pair in a table that a search fills, told at their ends, and the sum of the
+/// The paths of a pair in a table that a search fills, kept at their ends, and the sum of the
 /// shares of all chambers. A flag is twice a chamber, and 1 more for the second involution of the
-/// pair; it is an end of a path where its image is not known.
+/// pair. It is an end of a path if its image is not known.
 #[derive(Clone, Copy, Drop)]
 pub(crate) struct Side {
     ends: [End; 74],
@@ -124,8 +124,8 @@ impl Side {
         fixed != 0
     }
 
-    /// Joins the ends of two paths, which closes them where the other ends are fixed. False where no
-    /// wanted symbol completes the table, since the request allows the closed path no degree.
+    /// Joins the ends of two paths, which closes them where the other ends are fixed. False where
+    /// no wanted symbol completes the table, since the request allows the closed path no degree.
     #[inline(always)]
     fn connect(&mut self, shares: &ClassShares, x: u8, y: u8) -> bool
         requires pair { (shares.now.pair ≡ Tile) ⊎ (shares.now.pair ≡ Vertex) }

@@ -16,11 +16,11 @@ use crate::side::Side;
 use dd_model::{Index, Request};
 use dd_partial_table::Rows;
 
-/// The paths of both pairs of a table that a search fills, with two shares for each chamber, one for
-/// each pair. The share of a chamber is SHARE_UNIT divided by the least degree that a request allows
-/// and that its path has room for, rounded up. Flat symbols have large shares, so that a search can
-/// turn back where their sum is too small. A search copies the paths before it puts a number in, so
-/// that it can go back; no call allocates.
+/// The paths of both pairs of a table that a search fills, with two shares for each chamber, one
+/// for each pair. The share of a chamber is SHARE_UNIT divided by the least degree that a request
+/// allows and that its path has room for, rounded up. Flat symbols have large shares, so that a
+/// search can turn back where their sum is too small. A search copies the paths before it puts a
+/// number in, so that it can go back; no call allocates.
 #[derive(Clone, Copy, Drop)]
 pub struct Sides {
     pub(crate) tiles: Side,
@@ -28,7 +28,7 @@ pub struct Sides {
 }
 
 impl Sides {
-    /// Those of a table of which nothing but the size is known.
+    /// Returns the paths of a table of which only the size is known.
     pub fn start(classes: &PathShares) -> Sides
         ensures { (partial : Tiling) → partial.size ≡ classes.now.size
             → AreSides classes.now partial result }
@@ -96,8 +96,8 @@ impl Sides {
         }
     }
 
-    /// Whether it is sure that no wanted symbol completes the table that has a number at a place of
-    /// its code: the shares are then too small.
+    /// Returns whether it is sure that no wanted symbol completes the table that has a number at a
+    /// place of its code: the shares are then too small.
     #[inline(always)]
     pub fn rules_out_number(
         &self,
@@ -119,9 +119,9 @@ impl Sides {
         is_too_small(tiles, vertices, table.size())
     }
 
-    /// Of some numbers, as bits, those that the shares do not rule out at a place of the code. It is
-    /// asked about all of them at once, since most of what is reckoned for one, as the path that ends
-    /// at the chamber, is the same for the others.
+    /// Returns those of some numbers, as bits, that the shares do not rule out at a place of the
+    /// code. It takes all numbers at once, since most of what it computes for one, such as the path
+    /// that ends at the chamber, is the same for the others.
     #[inline(always)]
     pub fn sieve(&self, classes: &PathShares, table: &Rows, place: u8, numbers: u64) -> u64
         requires ready { IsReady table.now }
@@ -144,8 +144,9 @@ impl Sides {
         kept
     }
 
-    /// Joins the paths that what was put into the table after a mark joins. True where a cell is then
-    /// whole to which the request allows no degree, so that no wanted symbol completes the table.
+    /// Joins the paths that what was put into the table after a mark joins. True where a cell is
+    /// then whole to which the request allows no degree, so that no wanted symbol completes the
+    /// table.
     pub fn learn(&mut self, classes: &PathShares, table: &Rows, mark: usize) -> bool
         requires ready { IsReady table.now }
         requires kept { AreSides classes.now (partial_of table.now) self.old }
@@ -162,7 +163,7 @@ impl Sides {
         false
     }
 
-    /// Whether the totals are too small.
+    /// Returns whether the totals are too small.
     #[inline(always)]
     fn are_too_small(&self, classes: &PathShares, table: &Rows) -> bool
         requires ready { IsReady table.now }
@@ -173,8 +174,9 @@ impl Sides {
         is_too_small(self.tiles.total, self.vertices.total, table.size())
     }
 
-    /// Whether it is sure that no wanted symbol completes the table: the shares are too small, where
-    /// the limits of the request are looked at, too, or there are more cells than these allow.
+    /// Returns whether it is sure that no wanted symbol completes the table: the shares are too
+    /// small, where the limits of the request are looked at, too, or there are more cells than
+    /// these allow.
     #[inline(always)]
     pub fn rules_out(&self, classes: &PathShares, table: &Rows) -> bool
         requires ready { IsReady table.now }
@@ -192,9 +194,9 @@ impl Sides {
         self.limits_rule_out(classes, table)
     }
 
-    /// Whether the limits of the request, with what the table tells of its cells, make it sure that no
-    /// wanted symbol completes the table. A census is taken only where the counts tell that it may
-    /// show this.
+    /// Returns whether the limits of the request and the cells of the table make it sure that no
+    /// wanted symbol completes the table. It takes a census only if the counts show that the census
+    /// may rule the table out.
     fn limits_rule_out(&self, classes: &PathShares, table: &Rows) -> bool
         requires ready { IsReady table.now }
         requires kept { AreSides classes.now (partial_of table.now) self.now }
@@ -213,8 +215,8 @@ impl Sides {
         is_too_small(tiles, vertices, table.size())
     }
 
-    /// Whether the counts tell that there are more cells than the limits of the request allow, or
-    /// that these make the totals too small.
+    /// Returns whether the counts show more cells than the limits of the request allow, or cells
+    /// that make the totals too small.
     fn may_exceed(&self, request: &Request, size: u8) -> bool
         requires tiles { self.now.tiles.total ≤ 36 * share_unit }
         requires vertices { self.now.vertices.total ≤ 36 * share_unit }
@@ -233,7 +235,7 @@ impl Sides {
     }
 }
 
-/// Whether two totals are less than those of a flat symbol of a size.
+/// Returns whether two totals are less than those of a flat symbol of a size.
 fn is_too_small(tiles: u64, vertices: u64, size: u8) -> bool
     requires tiles { tiles ≤ 36 * share_unit }
     requires vertices { vertices ≤ 36 * share_unit }

@@ -6,7 +6,8 @@ ghost use Rattle.dd_bounds.specs.Turning.{IsTurn, IsWholeCell};
 use dd_model::Pair;
 use dd_partial_table::Rows;
 
-/// The two chambers to which the steps of one turn lead, and whether one of them stays in its place.
+/// The two chambers to which the steps of one turn lead, and whether one of them stays in its
+/// place.
 #[derive(Clone, Copy, Drop)]
 pub(crate) struct Turn {
     beside: u8,

@@ -18,8 +18,8 @@ use std::alloc::Global;
 use std::marker::Model;
 
 /// A search for the members of one size of a catalogue: a prefix with its table, the shares of the
-/// table's paths, and what there was before each number. It grows and is shortened in place, in room
-/// that is taken once: only what lists members or jobs allocates.
+/// table's paths, and what there was before each number. It grows and is shortened in place, in
+/// room that is taken once: only what lists members or jobs allocates.
 #[derive(Drop)]
 pub struct Descent {
     alloc: Global,
@@ -62,7 +62,8 @@ impl Descent {
     ghost use Rattle.dd_branch.specs.Descent.{IsDescent, HasDescended, GoesBack, shorter, with_paths};
     ghost use Rattle.dd_bounds.specs.declared.sides.Sides.{Sides};
 
-    /// The search from the empty prefix, with the shares that the request allows to tables of the size.
+    /// The search from the empty prefix, with the shares that the request allows to tables of the
+    /// size.
     pub fn new(
         alloc: Global,
         request: &Request,
@@ -104,7 +105,8 @@ impl Descent {
         self.stem.mark()
     }
 
-    /// Whether the shares tell, before a number is put in, that no member is under the prefix with it.
+    /// Returns whether the shares show, before a number is put in, that no member is under the
+    /// prefix with it.
     fn shares_refuse(&self, number: u8) -> bool
         requires descent { IsDescent self.now }
         requires room { length (prefix_of self.now.stem) < 3 * size_of self.now.stem }
@@ -120,9 +122,9 @@ impl Descent {
                 .rules_out_number(&self.classes, self.stem.rows(), place, number)
     }
 
-    /// Puts a number at the end of the prefix, and where that is asked all that are known after it,
-    /// with a level for what there was, unless commuting forbids the number or the next chamber is then
-    /// one that was not met.
+    /// Puts a number at the end of the prefix, with a level for what there was. If `with_known` is
+    /// true, puts all numbers that are known after it too. Returns false if commuting forbids the
+    /// number, or if the next chamber is then one that was not met.
     fn put(&mut self, number: u8, with_known: bool, numbers: usize, rows: usize) -> bool
         requires descent { IsDescent self.old }
         requires numbers { numbers ≡ length (prefix_of self.old.stem) }
@@ -166,9 +168,9 @@ impl Descent {
         self.levels.learn(&self.classes, self.stem.rows(), rows)
     }
 
-    /// Whether it is sure that no member is under the prefix, which has grown since there were so
-    /// many numbers and so many images: its size is odd and s0 moves chamber 1, the shares are too
-    /// small, or another numbering has a smaller code.
+    /// Returns whether it is sure that no member is under the prefix, which has grown since it had
+    /// `numbers` numbers and `rows` images. There are three reasons: its size is odd and s0 moves
+    /// chamber 1, the shares are too small, or another numbering has a smaller code.
     fn is_cut(&mut self, numbers: usize, rows: usize) -> bool
         requires { IsDescent self.old }
         ensures same { self.new ≡ self.old }
@@ -184,8 +186,8 @@ impl Descent {
             || self.starts.any_beats(&self.stem, numbers, rows)
     }
 
-    /// Joins the paths that have met since there were so many numbers and so many images. True where
-    /// it is sure that no member is under the prefix.
+    /// Joins the paths that have met since there were `numbers` numbers and `rows` images. Returns
+    /// true if it is sure that no member is under the prefix.
     fn is_dead(&mut self, numbers: usize, rows: usize) -> bool
         requires { IsDescent self.old }
         ensures descent { IsDescent self.new }
@@ -237,7 +239,7 @@ impl Descent {
         true
     }
 
-    /// Whether a member may be under the prefix with one number more.
+    /// Returns whether a member may be under the prefix with one number more.
     pub fn may_grow(&mut self, number: u8) -> bool
         requires descent { IsDescent self.old }
         requires room { length (prefix_of self.old.stem) < 3 * size_of self.old.stem }
@@ -274,8 +276,8 @@ impl Descent {
         }
     }
 
-    /// Goes to a prefix from the one where it stands: back to where both begin with the same numbers,
-    /// and on number by number, unless it is sure that no member is under the prefix.
+    /// Goes to a prefix from the one where it stands: back to where both begin with the same
+    /// numbers, and on number by number, unless it is sure that no member is under the prefix.
     pub fn reach(&mut self, prefix: &[u8]) -> bool
         requires back { GoesBack self.old }
         requires short { length prefix.now ≤ 3 * size_of self.old.stem }

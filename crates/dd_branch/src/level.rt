@@ -1,7 +1,7 @@
 use dd_bounds::Sides;
 
 /// A step of a search: the paths of the table there, and how much there was before the next number
-/// was put in, as numbers of the prefix, images in the table, and moves of starts.
+/// was put in. That is counted in numbers of the prefix, images in the table, and moves of starts.
 #[derive(Clone, Copy, Drop)]
 pub(crate) struct Level {
     pub(crate) numbers: usize,

@@ -13,12 +13,13 @@ use dd_partial_table::Rows;
 use std::alloc::Global;
 use std::marker::Model;
 
-/// How many levels there may be: one for each number of the longest code, and that of the whole one.
+/// How many levels there may be: one for each number of the longest code, and that of the whole
+/// one.
 const ROOM: usize = 109;
 
-/// The levels of a search, the one where it stands at the end. The room for all is taken once. A level
-/// is large: it is read and changed where it lies, and where one was taken away the next one is
-/// written in its place, so that the paths are copied once for each number that is put in.
+/// The levels of a search, the one where it is at the end. The room for all is taken once. A level
+/// is large, so it is read and changed in place. If a level was taken away, the next one is written
+/// in its place. So the paths are copied once for each number that is put in.
 #[derive(Drop)]
 pub(crate) struct Levels {
     levels: Vec<Level>,
@@ -43,7 +44,7 @@ impl Model for Levels {
 impl Levels {
     ghost use Rattle.dd_branch.specs.Levels.{level_of, Leveled};
 
-    /// The first one alone.
+    /// Only the first level.
     pub(crate) fn new(alloc: Global, sides: &Sides) -> Result<Levels, Memory>
         ensures before { IfOk result (λ levels. levels.before ≡ []) }
         ensures sides { IfOk result (λ levels. levels.sides ≡ sides.now) }
@@ -80,8 +81,8 @@ impl Levels {
         &self.levels[self.count - 1]
     }
 
-    /// Joins the paths that what was put into the table after a mark joins. True where no wanted symbol
-    /// completes the table.
+    /// Joins the paths that what was put into the table after a mark joins. True where no wanted
+    /// symbol completes the table.
     pub(crate) fn learn(&mut self, classes: &PathShares, table: &Rows, mark: usize) -> bool
         requires ready { IsReady table.now }
         requires kept { AreSides classes.now (partial_of table.now) self.old.sides }

@@ -17,8 +17,8 @@ use std::alloc::Global;
 use std::marker::Model;
 
 /// The search for the members of the catalogue of a request, job by job, with the shares that the
-/// request allows, from which those for tables of a size are made. What it has put in for one job it
-/// keeps for the next of the same size, whose prefix mostly begins with the same numbers.
+/// request allows, from which those for tables of a size are made. What it has put in for one job
+/// it keeps for the next of the same size, whose prefix mostly begins with the same numbers.
 #[derive(Drop)]
 pub struct Search {
     request: Request,

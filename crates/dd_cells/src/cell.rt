@@ -6,7 +6,7 @@ use dd_symbol::Kind;
 pub struct Cell {
     /// The least of its chambers.
     pub least: u32,
-    /// Whether it is a cycle or a chain.
+    /// A cycle or a chain.
     pub kind: Kind,
     /// The least positive number of turns that fixes a chamber.
     pub r: u32,

@@ -12,9 +12,9 @@ use std::alloc::Global;
 /// Two colors, as they are carried from chamber 1 to its neighbors and on.
 #[derive(Drop)]
 struct Coloring {
-    /// Whether a chamber is met.
+    /// For each chamber, true if it is met.
     seen: Vec<bool>,
-    /// Whether a chamber that is met has another color than chamber 1.
+    /// For each chamber that is met, true if its color is not that of chamber 1.
     colors: Vec<bool>,
     /// The chambers met, in order.
     queue: Vec<u32>,
@@ -25,7 +25,7 @@ impl Coloring {
     ghost use Rattle.dd_symbol.specs.Walk.{IsMarked, Grows};
     ghost use Rattle.dd_cells.specs.Coloring.{IsColoring, IsForced};
 
-    /// Chamber 1 alone is met.
+    /// Only chamber 1 is met.
     fn new(alloc: Global, symbol: &Symbol) -> Result<Coloring, Memory>
         ensures coloring { IfOk result (λ coloring. IsColoring symbol.now coloring) }
         ensures first { IfOk result (λ coloring. IsMarked coloring.seen.items 1) }
@@ -115,7 +115,7 @@ fn forced_colors(alloc: Global, s: &Connected) -> Result<Vec<bool>, Memory>
     Ok(coloring.colors)
 }
 
-/// Whether an involution exchanges the colors of the chambers that it moves.
+/// Returns whether an involution exchanges the colors of the chambers that it moves.
 fn exchanges_by(symbol: &Symbol, i: Index, colors: &[bool]) -> bool
     requires { length colors.now ≡ symbol.now.size }
     ensures { IsTrue result ↔ ExchangesBy symbol.now i colors.now }
@@ -130,7 +130,7 @@ fn exchanges_by(symbol: &Symbol, i: Index, colors: &[bool]) -> bool
     true
 }
 
-/// Whether each involution exchanges the colors of the chambers that it moves.
+/// Returns whether each involution exchanges the colors of the chambers that it moves.
 fn exchange(symbol: &Symbol, colors: &[bool]) -> bool
     requires { length colors.now ≡ symbol.now.size }
     ensures { IsTrue result ↔ AreWeakColors symbol.now colors.now }
@@ -140,7 +140,7 @@ fn exchange(symbol: &Symbol, colors: &[bool]) -> bool
         && exchanges_by(symbol, Index::Two, colors)
 }
 
-/// Whether an involution fixes no chamber.
+/// Returns whether an involution fixes no chamber.
 fn is_free_of(symbol: &Symbol, i: Index) -> bool
     ensures { IsTrue result ↔ IsFreeOf symbol.now i }
 {
@@ -152,7 +152,7 @@ fn is_free_of(symbol: &Symbol, i: Index) -> bool
     true
 }
 
-/// Whether no involution fixes a chamber.
+/// Returns whether no involution fixes a chamber.
 fn is_free(symbol: &Symbol) -> bool
     ensures { IsTrue result ↔ ((i : Index) → IsFreeOf symbol.now i) }
 {

@@ -8,8 +8,8 @@ ghost use Rattle.dd_cells.specs.Euler.{orbits as orbits_of, IsEuler};
 use dd_model::{Index, Pair};
 use dd_symbol::{Connected, Symbol};
 
-/// A smaller chamber of the cell of a chamber; None where that is the least of its cell. The walk through the cell ends at
-/// a smaller chamber.
+/// A smaller chamber of the cell of a chamber; None where that is the least of its cell. The walk
+/// through the cell ends at a smaller chamber.
 fn smaller_in_cell(symbol: &Symbol, pair: Pair, chamber: u32) -> Option<u32>
     requires { IsChamber symbol.now chamber }
     ensures { MatchOption result (IsLeastOfCell symbol.now pair chamber)
@@ -32,7 +32,7 @@ fn smaller_in_cell(symbol: &Symbol, pair: Pair, chamber: u32) -> Option<u32>
     unreachable!()
 }
 
-/// Whether a chamber is the least of its cell.
+/// Returns whether a chamber is the least of its cell.
 pub(crate) fn is_least_of_cell(symbol: &Symbol, pair: Pair, chamber: u32) -> bool
     requires { IsChamber symbol.now chamber }
     ensures { IsTrue result ↔ IsLeastOfCell symbol.now pair chamber }
@@ -56,7 +56,7 @@ pub fn count(s: &Connected, pair: Pair) -> u32
     cells
 }
 
-/// Whether a pair has at most so many cells, where 0 sets no limit. It takes no memory.
+/// Returns whether a pair has at most `limit` cells, where 0 sets no limit. It takes no memory.
 pub fn has_at_most(s: &Connected, pair: Pair, limit: u32) -> bool
     ensures { IsTrue result ↔ AtMost s.now pair limit }
 {

@@ -62,7 +62,7 @@ pub fn curvature(s: &Connected) -> Fraction
     Fraction::of_difference(gain(s), loss, 2 * COMMON_MULTIPLE)
 }
 
-/// Whether the curvature is 0. It takes no memory.
+/// Returns whether the curvature is 0. It takes no memory.
 pub fn is_flat(s: &Connected) -> bool
     ensures { IsTrue result ↔ Flat s.now }
 {

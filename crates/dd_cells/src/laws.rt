@@ -17,7 +17,7 @@ ghost use Rattle.dd_symbol.specs.declared.kind.Kind.TheVariants.{Cycle, Chain};
 
 use crate::curvatures::COMMON_MULTIPLE;
 
-/// A pair determines all that is told of its cells.
+/// A pair determines its list of cells.
 pub fn a_pair_determines_its_cells()
     ensures { (s : Symbol) (p : Pair) (cells others : List Cell) → AreCellsOf s p cells
         → AreCellsOf s p others → cells ≡ others }
@@ -39,9 +39,9 @@ pub fn a_symbol_determines_its_curvature()
         → Flat s ↔ (x.num ≡ pos 0) }
 {}
 
-/// Twice the number of the chains of a pair is that of the chambers that its first involution fixes
-/// and of those that its second fixes, and twice the number of the orbits of an involution is that
-/// of all chambers and of those that it fixes.
+/// Twice the number of chains of a pair is the number of chambers that its first involution fixes
+/// and of those that its second fixes. Twice the number of orbits of an involution is the number of
+/// all chambers and of those that it fixes.
 pub fn fixed_chambers_are_the_ends_of_chains()
     ensures chains { (s : Symbol) (p : Pair) (cells : List Cell) → IsSymbol s → AreCellsOf s p cells
         → 2 * chains cells ≡ fixed_chambers s (first p) + fixed_chambers s (second p) }

@@ -24,7 +24,8 @@ fn rank(i: Index, chamber: u32) -> u32
     }
 }
 
-/// Whether by a step from a chamber, to the chamber from which it is told, one is reached sooner.
+/// Returns whether the step from the chamber `there` leads to a chamber that is reached sooner by
+/// another step.
 fn is_sooner(symbol: &Symbol, numbers: &[u32], j: Index, there: u32, own: u32) -> bool
     requires visits { AreVisitNumbers symbol.now numbers.now }
     requires chamber { IsChamber symbol.now there }
@@ -33,7 +34,7 @@ fn is_sooner(symbol: &Symbol, numbers: &[u32], j: Index, there: u32, own: u32) -
     rank(j, item(numbers, symbol.op(j, there))) < own
 }
 
-/// Whether a chamber is first reached by a step.
+/// Returns whether a chamber is first reached by a step.
 fn is_first(symbol: &Symbol, numbers: &[u32], i: Index, chamber: u32) -> bool
     requires visits { AreVisitNumbers symbol.now numbers.now }
     requires chamber { IsChamber symbol.now chamber }
@@ -53,7 +54,7 @@ fn is_first(symbol: &Symbol, numbers: &[u32], i: Index, chamber: u32) -> bool
     !is_sooner(symbol, numbers, Index::Two, there, own)
 }
 
-/// Whether a side is free, and the chamber is its least.
+/// Returns whether a side is free, and the chamber is its least.
 fn is_free(symbol: &Symbol, numbers: &[u32], i: Index, chamber: u32) -> bool
     requires visits { AreVisitNumbers symbol.now numbers.now }
     requires chamber { IsChamber symbol.now chamber }
@@ -91,8 +92,7 @@ fn other_end(i: Index) -> Pair
     }
 }
 
-/// The number of the cell of a chamber. Those of vertices come after those of tiles, and those of
-/// edges after both.
+/// Returns the number of the cell of a chamber. Tiles come first, then vertices, then edges.
 pub(crate) fn cell_number(symbol: &Symbol, pair: Pair, chamber: u32) -> u32
     requires { IsChamber symbol.now chamber }
     ensures { IsCellNumber symbol.now pair chamber result }

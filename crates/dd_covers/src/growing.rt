@@ -25,8 +25,8 @@ pub(crate) fn new_end(join: &Join) -> u32
     }
 }
 
-/// Of each cell, the sides that have an end at it. A side is told by how many come after it, so
-/// that a heap gives the first one first.
+/// Returns for each cell the sides that have an end at it. A side is given by the number of sides
+/// that come after it, so that a heap gives the first side first.
 fn sides_at_cells(alloc: Global, sides: &[Side], cells: usize) -> Result<Vec<Vec<usize>>, Memory>
     requires { (x : Side) → Contains sides.now x → (x.from < cells) × (x.to < cells) }
     ensures many { IfOk result (λ at. length at.items ≡ cells) }
@@ -67,8 +67,8 @@ fn next_join(waiting: &mut BinaryHeap<usize>, sides: &[Side], reached: &[bool]) 
     None
 }
 
-/// The sides by which all cells are joined to the tile of chamber 1, one after the other: each time
-/// the first free side that leads from a cell that is reached to one that is not.
+/// Returns the sides that join all cells to the tile of chamber 1, in order. Each is the first free
+/// side that leads from a cell that is reached to one that is not.
 pub(crate) fn joins(
     alloc: Global,
     s: &Connected,

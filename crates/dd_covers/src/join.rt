@@ -4,6 +4,6 @@ use crate::side::Side;
 #[derive(Clone, Copy)]
 pub(crate) struct Join {
     pub side: Side,
-    /// Whether the new cell is that at the first end.
+    /// True if the new cell is that at the first end.
     pub out: bool,
 }

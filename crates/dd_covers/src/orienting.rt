@@ -17,8 +17,8 @@ use dd_model::Memory;
 use dd_symbol::{Connected, Symbol};
 use std::alloc::Global;
 
-/// Whether a symbol is oriented. It takes the memory of one coloring, and none if some involution
-/// fixes a chamber.
+/// Returns whether a symbol is oriented. It takes the memory of one coloring, and none if some
+/// involution fixes a chamber.
 pub fn is_oriented(alloc: Global, s: &Connected) -> Result<bool, Memory>
     ensures { IfOk result (λ yes. IsTrue yes ↔ IsOriented s.now) }
 {
@@ -31,7 +31,7 @@ pub fn is_oriented(alloc: Global, s: &Connected) -> Result<bool, Memory>
     }
 }
 
-/// Whether some involution fixes a chamber.
+/// Returns whether some involution fixes a chamber.
 fn has_mirror(symbol: &Symbol) -> bool
     ensures yes { OnTrue result (HasFixedChamber symbol.now) }
     ensures no { OnFalse result ((i : Index) (d : ℕ) → IsChamber symbol.now d
@@ -69,8 +69,9 @@ fn both_sheets(alloc: Global, s: &Connected) -> Result<Connected, Memory>
     Ok(sheets(alloc, s, 2, &ones)?)
 }
 
-/// The oriented cover of a symbol of at most 8,192 chambers: the symbol itself if it is oriented, and
-/// else its two sheets. Memory alone can be wanting. After Dress and Huson.
+/// Returns the oriented cover of a symbol of at most 8,192 chambers. This is the symbol itself if
+/// it is oriented, and its two sheets otherwise. It fails only if an allocation fails. After Dress
+/// and Huson.
 pub fn oriented(alloc: Global, s: &Connected) -> Result<Cover, Memory>
     requires { s.now.size ≤ 8192 }
     ensures cover { IfOk result (λ cover. IsOrientedCover s.now cover.symbol cover.below) }

@@ -26,8 +26,8 @@ impl Shifts {
         }
     }
 
-    /// From the white chamber of a side it leads so many sheets on, and from the black one as many
-    /// back.
+    /// Sets how many sheets the step over a side leads on from its white chamber. From its black
+    /// chamber it leads back by the same number.
     fn put(&mut self, symbol: &Symbol, white: &[bool], k: u32, side: &Side, shift: u32)
         requires sizes { HaveSize symbol.now self.old }
         requires whites { length white.now ≡ symbol.now.size }

@@ -1,6 +1,6 @@
 use dd_model::Index;
 
-/// A side, which is told by the least of its chambers, and the numbers of the cells at its ends.
+/// A side, given by the least of its chambers, and the numbers of the cells at its ends.
 #[derive(Clone, Copy)]
 pub(crate) struct Side {
     pub chamber: u32,

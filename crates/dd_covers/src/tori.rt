@@ -8,7 +8,7 @@ use dd_model::{Memory, Pair};
 use dd_symbol::{Connected, Symbol};
 use std::alloc::Global;
 
-/// Whether every cell of a pair has the branching value 1.
+/// Returns whether every cell of a pair has the branching value 1.
 fn is_smooth_at(symbol: &Symbol, pair: Pair) -> bool
     ensures { IsTrue result ↔ IsSmoothAt symbol.now pair }
 {
@@ -20,7 +20,7 @@ fn is_smooth_at(symbol: &Symbol, pair: Pair) -> bool
     true
 }
 
-/// Whether every cell of all three pairs has the branching value 1.
+/// Returns whether every cell of all three pairs has the branching value 1.
 fn is_smooth(symbol: &Symbol) -> bool
     ensures { IsTrue result ↔ ((pair : Pair) → IsSmoothAt symbol.now pair) }
 {
@@ -33,8 +33,8 @@ fn is_smooth(symbol: &Symbol) -> bool
     is_smooth_at(symbol, Pair::Edge)
 }
 
-/// Whether a symbol is oriented and flat, with the branching value 1 in every cell of all three
-/// pairs.
+/// Returns whether a symbol is oriented and flat, with the branching value 1 in every cell of all
+/// three pairs.
 pub fn is_torus(alloc: Global, s: &Connected) -> Result<bool, Memory>
     ensures { IfOk result (λ yes. IsTrue yes ↔ IsTorus s.now) }
 {

@@ -16,12 +16,12 @@ pub(crate) struct Visits {
     order: Vec<u32>,
     /// The number of each chamber in this order, 0 where it has none.
     pub number: Vec<u32>,
-    /// Whether a chamber that has a number is white, as chamber 1 is.
+    /// For each chamber that has a number, true if it is white, as chamber 1 is.
     pub white: Vec<bool>,
 }
 
 impl Visits {
-    /// Chamber 1 alone is visited.
+    /// Only chamber 1 is visited.
     fn new(alloc: Global, s: &Connected) -> Result<Visits, Memory>
         requires { IsOriented s.now }
         ensures { IfOk result (λ visits. IsVisiting s.now visits.order.items visits.number.items

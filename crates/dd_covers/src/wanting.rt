@@ -55,8 +55,9 @@ fn greater_value(symbol: &Symbol, chamber: u32, so_far: u32) -> u32
     )
 }
 
-/// The greatest of a value and of the branching value of a pair at a chamber. The cell is not walked
-/// if a neighbor in it is smaller, since it was walked from there, or if the degree is no greater.
+/// The greatest of a value and of the branching value of a pair at a chamber. The cell is not
+/// walked if a neighbor in it is smaller, since it was walked from there, or if the degree is no
+/// greater.
 fn greater_at(symbol: &Symbol, pair: Pair, chamber: u32, neighbor: u32, so_far: u32) -> u32
     requires symbol { IsSmallSymbol symbol.now }
     requires chamber { IsChamber symbol.now chamber }

@@ -17,8 +17,8 @@ pub fn flat_symbols_have_crystallographic_values()
         → (p : Pair) (d v : ℕ) → IsChamber s d → IsBranching s p d v → IsCrystallographic v }
 {}
 
-/// Whether the curvature is 0. If it is, every branching value of the tiles, vertices and edges is 1,
-/// 2, 3, 4 or 6. It takes no memory.
+/// Returns whether the curvature is 0. If it is, every branching value of the tiles, vertices and
+/// edges is 1, 2, 3, 4 or 6. It takes no memory.
 pub fn flat_branching(s: &Connected) -> bool
     ensures flat { IsTrue result ↔ Flat s.now }
     ensures values { OnTrue result ((p : Pair) (d v : ℕ) → IsChamber s.now d

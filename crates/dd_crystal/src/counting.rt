@@ -26,12 +26,12 @@ fn torus_sheets(alloc: Global, s: &Connected) -> Result<u32, Memory>
     Ok(2 * greatest)
 }
 
-/// Returns the number of sheets of the torus cover of a flat symbol, without making the cover. It is
-/// the greatest branching value of the tiles, vertices and edges, times 2 unless the symbol is
+/// Returns the number of sheets of the torus cover of a flat symbol, without making the cover. It
+/// is the greatest branching value of the tiles, vertices and edges, times 2 unless the symbol is
 /// oriented. No torus covers the symbol with fewer sheets.
 ///
-/// It takes the memory of one coloring. It fails with `NotFlat` exactly if the curvature is not 0, and
-/// with `Memory` only if an allocation fails.
+/// It takes the memory of one coloring. It fails with `NotFlat` exactly if the curvature is not 0,
+/// and with `Memory` only if an allocation fails.
 pub fn sheets(alloc: Global, s: &Connected) -> Result<u32, SheetsFault>
     ensures number { IfOk result (λ n. IsTorusSheets s.now n) }
     ensures cover { IfOk result (λ n. (t : Symbol) (below : List ℕ)

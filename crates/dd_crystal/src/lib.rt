@@ -1,9 +1,9 @@
-//! What crystallographers expect of flat tilings: the orders of rotations, and the fewest sheets of a
-//! torus above a tiling.
+//! What crystallographers expect of flat tilings: the orders of rotations, and the fewest sheets of
+//! a torus above a tiling.
 //!
-//! A flat tiling has rotations of order 1, 2, 3, 4 and 6 only. Each torus that covers a symbol has a
-//! number of sheets that is a multiple of the number that `sheets` returns, and the torus cover has
-//! exactly this number. So the number is the order of the point group.
+//! A flat tiling has rotations of order 1, 2, 3, 4 and 6 only. Each torus that covers a symbol has
+//! a number of sheets that is a multiple of the number that `sheets` returns, and the torus cover
+//! has exactly this number. So the number is the order of the point group.
 #![tactic(auto)]
 
 mod any_branching_laws;

@@ -8,7 +8,8 @@ ghost use Rattle.dd_covers.specs.Torus.{IsTorus};
 ghost use Rattle.dd_covers.specs.TorusCover.{IsTorusCover};
 ghost use Rattle.dd_crystal.specs.SheetCounts.{HasSheets, HasSheetNumber, IsTorusSheets};
 
-/// A morphism to a connected symbol leads onto it, and equally many chambers lie above each chamber.
+/// A morphism to a connected symbol leads onto it, and equally many chambers lie above each
+/// chamber.
 pub fn morphisms_have_sheets()
     ensures { (s t : Symbol) (below : List ℕ) → IsTable s → AllReached s → IsTable t
         → IsMorphism t s below → HasSheetNumber s t below }
@@ -18,9 +19,9 @@ pub fn morphisms_have_sheets()
 /// number of sheets of each such torus is a multiple of the number of the torus cover, which is the
 /// greatest branching value, times 2 unless the symbol is oriented.
 ///
-/// A chamber above a cell of branching value v lies in a cell of value 1, so the number of sheets is a
-/// multiple of v. A morphism from an oriented symbol onto one that is not oriented passes through the
-/// oriented cover, which gives the factor 2.
+/// A chamber above a cell of branching value v lies in a cell of value 1, so the number of sheets
+/// is a multiple of v. A morphism from an oriented symbol onto one that is not oriented passes
+/// through the oriented cover, which gives the factor 2.
 pub fn torus_covers_have_the_fewest_sheets()
     ensures cover { (s t : Symbol) (below : List ℕ) (n : ℕ) → IsSymbol s → AllReached s → Flat s
         → IsTorusSheets s n → IsTorusCover s t below → HasSheets s t below n }

@@ -25,9 +25,9 @@ use dd_symbol::Connected;
 use dd_symbol_list::SymbolList;
 use std::alloc::Global;
 
-/// A search for the degrees of a table: those of the first places are told. A degree is told at the
-/// least chamber of a cell, and at once at the others that follow, and all are taken away again in
-/// place. No such step allocates.
+/// A search for the degrees of a table, of which those of the first places are set. A degree is set
+/// at the least chamber of a cell, and at once at the others that follow. All are taken away again
+/// in place. No such step allocates.
 #[derive(Drop)]
 pub(crate) struct Assignment {
     alloc: Global,
@@ -36,18 +36,18 @@ pub(crate) struct Assignment {
     table: Connected,
     /// The starts from which the table is numbered as it stands: leastness is decided under these.
     ties: Ties,
-    /// What the table tells of each degree.
+    /// What the table decides of each degree.
     pub(crate) places: ArrayVec<Place, 72>,
     /// What the degrees from each place on will have of the budget.
     rests: Rests,
-    /// The degrees that are told.
+    /// The degrees that are set.
     pub(crate) degrees: ArrayVec<u8, 72>,
     /// How many symbols the list had when the table came to which the members go.
     pub(crate) first: usize,
 }
 
 impl Assignment {
-    /// The search from a table of which no degree is told.
+    /// The search from a table of which no degree is set.
     pub(crate) fn new(
         alloc: Global,
         table: Connected,
@@ -98,7 +98,8 @@ impl Assignment {
         self.places.as_slice()[self.degrees.len()]
     }
 
-    /// What all degrees have to take of the budget beyond their least, where none is told. None where they cannot spend it.
+    /// Returns what all degrees have to take of the budget beyond their least, if none is set.
+    /// Returns None if they cannot spend it.
     pub(crate) fn whole_budget(&self) -> Option<u16>
         requires ready { IsAssignment self.now }
         requires none { self.now.degrees.items ≡ [] }
@@ -114,8 +115,8 @@ impl Assignment {
         Some(whole - least)
     }
 
-    /// What the next degree may have of the budget beyond its least, as bits, where so much is left: its set allows
-    /// it, and the later degrees may have the rest.
+    /// What the next degree may have of the budget beyond its least, as bits, where so much is
+    /// left: its set allows it, and the later degrees may have the rest.
     pub(crate) fn fitting(&self, left: u16) -> u64
         requires ready { IsAssignment self.now }
         requires room { told self.now < 2 * self.now.table.size }
@@ -127,7 +128,8 @@ impl Assignment {
         self.rests.fitting(self.degrees.len() + 1, shares, left)
     }
 
-    /// Tells the degrees that follow from those told, up to the least chamber of another cell.
+    /// Sets the degrees that follow from those that are set, up to the least chamber of another
+    /// cell.
     fn force(&mut self)
         requires { IsAssignment self.old }
         ensures ready { IsAssignment self.new }
@@ -144,7 +146,7 @@ impl Assignment {
         }
     }
 
-    /// Tells the degree of the least chamber of a cell, and the degrees that follow.
+    /// Sets the degree of the least chamber of a cell, and the degrees that follow.
     pub(crate) fn enter(&mut self, degree: u8)
         requires ready { IsAssignment self.old }
         requires room { told self.old < 2 * self.old.table.size }
@@ -161,8 +163,9 @@ impl Assignment {
         self.force();
     }
 
-    /// Whether the symbol with the degrees that are told is a member: only its leastness, and what is
-    /// asked of minimality, is open. Most tables have no ties, and then no symbol is made.
+    /// Returns whether the symbol with the degrees that are set is a member, if its other
+    /// conditions hold: only its leastness and what is asked of minimality are open. Most tables
+    /// have no ties, and then no symbol is made.
     fn is_asked(&self, m01: &[u8], m12: &[u8]) -> Result<bool, Memory>
         requires ready { IsAssignment self.now }
         requires small { IsSmallSymbol (with_degrees self.now.table m01.now m12.now) }
@@ -181,8 +184,8 @@ impl Assignment {
         is_minimal(self.alloc, &symbol)
     }
 
-    /// Puts the symbol with the degrees that are told at the end of a list. Only the first one of the
-    /// table needs the table.
+    /// Puts the symbol with the degrees that are set at the end of a list. Only the first one of
+    /// the table needs the table.
     fn push(&self, list: &mut SymbolList) -> Result<(), Memory>
         requires small { IsSmallSymbol (with_told self.now.table self.now.degrees.items) }
         requires last { HasLast self.now list.old }
@@ -197,7 +200,7 @@ impl Assignment {
         list.push(&self.table, degrees)
     }
 
-    /// Adds the member with the degrees that are told, if there is one.
+    /// Adds the member with the degrees that are set, if there is one.
     fn add_member(&self, list: &mut SymbolList) -> Result<(), Memory>
         requires ready { IsAssignment self.now }
         requires whole { told self.now ≡ 2 * self.now.table.size }
@@ -214,8 +217,8 @@ impl Assignment {
         self.push(list)
     }
 
-    /// Tells degrees while one share alone fits. What is then left of the budget, and the shares of the next degree
-    /// that fit, if there is one.
+    /// Sets degrees as long as exactly one share fits. Returns what is then left of the budget, and
+    /// the shares of the next degree that fit, if there is one.
     pub(crate) fn go_down(&mut self, left: u16) -> (u16, u64)
         requires ready { IsAssignment self.old }
         requires root { IsAtRoot self.old }
@@ -241,8 +244,9 @@ impl Assignment {
         (left, 0)
     }
 
-    /// Adds the members with the degrees that are told, where so much of the budget is left beyond the least of the
-    /// others. It goes down the cells by the shares that fit, the greatest first, which has the least branching value.
+    /// Adds the members with the degrees that are set, if `left` of the budget is left beyond the
+    /// least of the others. It goes down the cells by the shares that fit, the greatest first,
+    /// which has the least branching value.
     pub(crate) fn add_members(
         &mut self,
         fitting: u64,
@@ -279,7 +283,7 @@ impl Assignment {
         Ok(())
     }
 
-    /// Adds all members with the involutions of the table, of which no degree is told.
+    /// Adds all members with the involutions of the table, of which no degree is set.
     pub(crate) fn add_all(&mut self, list: &mut SymbolList) -> Result<(), Memory>
         requires ready { IsAssignment self.old }
         requires root { IsAtRoot self.old }

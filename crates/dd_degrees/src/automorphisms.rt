@@ -76,7 +76,7 @@ fn undone(list: &[u8]) -> ArrayVec<u8, 36>
     first_of(&back, list.len() as u32)
 }
 
-/// Whether a list undoes another one.
+/// Returns whether a list undoes another one.
 fn undoes(back: &[u8], list: &[u8]) -> bool
     requires small { length list.now ≤ 36 }
     requires same { length back.now ≡ length list.now }
@@ -94,7 +94,7 @@ fn undoes(back: &[u8], list: &[u8]) -> bool
     true
 }
 
-/// Whether the neighbor of a chamber goes to the neighbor of where the chamber goes.
+/// Returns whether the neighbor of a chamber goes to the neighbor of where the chamber goes.
 fn goes_along_with(s: &Symbol, list: &[u8], i: Index, chamber: u32) -> bool
     requires length { length list.now ≡ s.now.size }
     requires chamber { IsChamber s.now chamber }
@@ -107,7 +107,7 @@ fn goes_along_with(s: &Symbol, list: &[u8], i: Index, chamber: u32) -> bool
     u32::from(list[neighbor as usize - 1]) == s.op(i, there)
 }
 
-/// Whether all three neighbors of a chamber do.
+/// Returns whether all three neighbors of a chamber do.
 fn goes_along_at(s: &Symbol, list: &[u8], chamber: u32) -> bool
     requires length { length list.now ≡ s.now.size }
     requires chamber { IsChamber s.now chamber }
@@ -120,7 +120,7 @@ fn goes_along_at(s: &Symbol, list: &[u8], chamber: u32) -> bool
         && goes_along_with(s, list, Index::Two, chamber)
 }
 
-/// Whether all neighbors do.
+/// Returns whether all neighbors do.
 fn goes_along(s: &Symbol, list: &[u8]) -> bool
     requires length { length list.now ≡ s.now.size }
     requires there { (k : ℕ) → IsChamber s.now k → IsChamber s.now (item list.now k) }
@@ -135,7 +135,7 @@ fn goes_along(s: &Symbol, list: &[u8]) -> bool
     true
 }
 
-/// Whether a list says where the chambers go together.
+/// Returns whether a list says where the chambers go together.
 fn is_automorphism(s: &Symbol, start: u32, list: &[u8], back: &[u8]) -> bool
     requires small { s.now.size ≤ 36 }
     requires list { length list.now ≡ s.now.size }
@@ -155,8 +155,9 @@ fn is_automorphism(s: &Symbol, start: u32, list: &[u8], back: &[u8]) -> bool
 }
 
 impl Automorphism {
-    /// That of chamber 1 to a start, if there is one. What was followed is looked through afterwards, since a start
-    /// from which the table is not numbered as it stands has none.
+    /// Returns the automorphism that takes chamber 1 to a start, if there is one. The chambers that
+    /// were followed are checked afterwards, since a start from which the table is not numbered as
+    /// it is has no automorphism.
     pub(crate) fn to(s: &Symbol, start: u32) -> Option<Automorphism>
         requires small { s.now.size ≤ 36 }
         requires start { IsChamber s.now start }
@@ -186,7 +187,8 @@ fn stands(own: &[u8], list: &[u8]) -> Ordering
     Ordering::Equal
 }
 
-/// Whether degrees are greater than those of the chambers to which an automorphism sends theirs.
+/// Returns whether degrees are greater than those of the chambers to which an automorphism sends
+/// theirs.
 fn are_behind(list: &[u8], m01: &[u8], m12: &[u8]) -> bool
     requires tiles { IsWithin (length m01.now) list.now }
     requires vertices { IsWithin (length m12.now) list.now }
@@ -199,7 +201,7 @@ fn are_behind(list: &[u8], m01: &[u8], m12: &[u8]) -> bool
     stands(m12, list).is_gt()
 }
 
-/// Whether no automorphism sends the chambers to smaller degrees.
+/// Returns whether no automorphism sends the chambers to smaller degrees.
 pub(crate) fn none_is_smaller(automorphisms: &[Automorphism], m01: &[u8], m12: &[u8]) -> bool
     requires tiles { (j : ℕ) (x : Turned) → j < length automorphisms.now
         → IsWithin (length m01.now) (slice_index_or automorphisms.now j x).chambers.items }

@@ -7,7 +7,7 @@ use crate::places::Place;
 use dd_model::Request;
 use dd_symbol::Connected;
 
-/// How many cells some places tell: each has sides at one of them.
+/// Returns how many cells some places have: each cell has sides at one of them.
 fn count_cells(places: &[Place]) -> u32
     requires { length places.now ≤ 72 }
     ensures { result ≡ cells_to places.now (length places.now) }
@@ -19,7 +19,7 @@ fn count_cells(places: &[Place]) -> u32
     cells
 }
 
-/// Whether some places tell no more than so many cells, where 0 sets no limit.
+/// Returns whether some places have at most `limit` cells, where 0 sets no limit.
 fn tell_at_most(places: &[Place], limit: u32) -> bool
     requires { length places.now ≤ 72 }
     ensures { IsTrue result
@@ -28,8 +28,9 @@ fn tell_at_most(places: &[Place], limit: u32) -> bool
     limit == 0 || count_cells(places) <= limit
 }
 
-/// Whether a table has no more chambers and classes than a request asks for. Each symbol with its
-/// involutions has as many. What it tells of its degrees tells the classes too, and no cell is walked.
+/// Returns whether a table has no more chambers and classes than a request asks for. Each symbol
+/// with its involutions has the same numbers. The places of its degrees give the classes too, and
+/// no cell is walked.
 pub(crate) fn has_limits(t: &Connected, places: &[Place], q: &Request) -> bool
     requires small { t.now.size ≤ 36 }
     requires places { ArePlaces q.now t.now places.now }

@@ -18,8 +18,9 @@ use dd_symbol::Involutions;
 use dd_symbol_list::SymbolList;
 use std::alloc::Global;
 
-/// The table with these involutions, which are known to be those of one, and what it tells of its
-/// degrees. Each cell is walked once: the degrees of a table are the numbers of turns of its cells.
+/// Returns the table with these involutions, which are known to be those of a table, and what it
+/// decides of its degrees. Each cell is walked once: the degrees of a table are the numbers of
+/// turns of its cells.
 pub fn with_places(
     involutions: Involutions,
     q: &Request,
@@ -36,8 +37,9 @@ pub fn with_places(
     Ok((table, places))
 }
 
-/// Adds all members of a request's catalogue that have the involutions of a table, ascending. What the
-/// table tells of its degrees is known, and the chambers from which it may be numbered as it stands.
+/// Adds all members of a request's catalogue that have the involutions of a table, ascending.
+/// `places` is what the table decides of its degrees, and `ties` are the chambers from which it may
+/// be numbered as it is.
 pub fn add_tied(
     alloc: Global,
     t: Table,

@@ -6,8 +6,8 @@ use dd_model::{Index, Memory};
 use dd_symbol::{Connected, Symbol};
 use std::alloc::Global;
 
-/// Whether the degrees of two chambers differ, or those of the vertices at the other ends of their
-/// edges, or of the tiles beyond these.
+/// Returns whether the degrees of two chambers differ, or those of the vertices at the other ends
+/// of their edges, or of the tiles beyond these.
 fn are_told_apart(symbol: &Symbol, one: u32, other: u32) -> bool
     requires one { IsChamber symbol.now one }
     requires other { IsChamber symbol.now other }
@@ -28,7 +28,7 @@ fn are_told_apart(symbol: &Symbol, one: u32, other: u32) -> bool
     false
 }
 
-/// Whether a chamber is told apart from each other one.
+/// Returns whether a chamber differs from each other one.
 fn is_like_no_other(symbol: &Symbol, chamber: u32) -> bool
     requires { IsChamber symbol.now chamber }
     ensures { IsTrue result → (e : ℕ) → IsChamber symbol.now e → Alike symbol.now chamber e
@@ -43,8 +43,8 @@ fn is_like_no_other(symbol: &Symbol, chamber: u32) -> bool
     true
 }
 
-/// Whether a chamber is seen to be like no other one. Then no two chambers are alike, since a word
-/// that leads from one of two to that chamber leads from the other to it too.
+/// Returns whether a chamber is seen to be like no other one. Then no two chambers are alike, since
+/// a word that leads from one of two to that chamber leads from the other to it too.
 fn has_one_like_no_other(s: &Connected) -> bool
     ensures { IsTrue result → Minimal s.now }
 {
@@ -57,8 +57,8 @@ fn has_one_like_no_other(s: &Connected) -> bool
     false
 }
 
-/// Whether alike chambers are equal. Most symbols of a catalogue have a chamber like no other one,
-/// and only the classes of the others are refined.
+/// Returns whether alike chambers are equal. Most symbols of a catalogue have a chamber like no
+/// other one, and only the classes of the others are refined.
 pub(crate) fn is_minimal(alloc: Global, s: &Connected) -> Result<bool, Memory>
     ensures { IfOk result (λ yes. IsTrue yes ↔ Minimal s.now) }
 {

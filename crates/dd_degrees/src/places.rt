@@ -12,8 +12,8 @@ use arrayvec::ArrayVec;
 use dd_model::{Allowed, Pair, Request};
 use dd_symbol::{CellShape, Involutions, Kind};
 
-/// What a table tells of one degree. The degrees of a table have places, those of the tiles at the
-/// chambers 1 to n first, and then those of the vertices. The budget is counted in twelfths.
+/// What a table decides of one degree. The degrees of a table have places, those of the tiles at
+/// the chambers 1 to n first, and then those of the vertices. The budget is counted in twelfths.
 #[derive(Clone, Copy, Default, Drop)]
 pub struct Place {
     /// The place of the least chamber of the cell.
@@ -24,8 +24,8 @@ pub struct Place {
     pub(crate) sides: u8,
     /// At least what the degree will have of the budget.
     pub(crate) most: u8,
-    /// What the degree may have of the budget beyond its least, which is 2 for each side, as bits: a share for
-    /// each branching value that its set allows. At other chambers than the least 0.
+    /// What the degree may have of the budget beyond its least, which is 2 for each side, as bits:
+    /// a share for each branching value that its set allows. At other chambers than the least 0.
     pub(crate) shares: u32,
 }
 
@@ -60,11 +60,11 @@ fn sides_of(shape: &CellShape, chamber: u32) -> u8
 /// The parts of sides with the branching values 1 to 6, each at its value.
 const PARTS: [u8; 7] = [0, 12, 6, 4, 3, 2, 2];
 
-/// The branching values of flat symbols, each at what a side with it has of the budget beyond 2. The table spares
-/// the search for degrees a division.
+/// The branching values of flat symbols, each at what a side with it has of the budget beyond 2.
+/// The table spares the search for degrees a division.
 const VALUES: [u8; 11] = [6, 4, 3, 0, 2, 0, 0, 0, 0, 0, 1];
 
-/// What so many sides of a cell with a branching value have of the budget beyond 2 each.
+/// Returns what `sides` sides of a cell with a branching value take of the budget beyond 2 each.
 fn share_of(value: u8, sides: u8) -> u8
     requires value { (1 ≤ value) × (value ≤ 6) }
     requires sides { sides ≤ 2 }
@@ -74,8 +74,8 @@ fn share_of(value: u8, sides: u8) -> u8
     sides * (PARTS[value as usize] - 2)
 }
 
-/// What a degree of a cell with so many turns and sides may have of the budget beyond its least, as bits: a share
-/// for each branching value that a set allows.
+/// Returns what a degree of a cell with these turns and sides may take of the budget beyond its
+/// least, as bits: a share for each branching value that a set allows.
 fn shares_of(set: &Allowed, turns: u8, sides: u8) -> u32
     requires turns { turns ≤ 36 }
     requires sides { sides ≤ 2 }
@@ -103,7 +103,8 @@ fn most_part(shares: u32, sides: u8) -> u8
     shares.ilog2() as u8 + 2 * sides
 }
 
-/// What a table tells of the degree of a pair at a chamber whose cell is walked, where chamber 1 has the place `first`.
+/// Returns what a table decides of the degree of a pair at a chamber whose cell is walked, if
+/// chamber 1 has the place `first`.
 fn place_of(table: &Involutions, set: &Allowed, pair: Pair, first: u8, chamber: u32) -> Place
     requires three { AreThreeInvolutions table.now }
     requires small { table.now.size ≤ 36 }
@@ -124,7 +125,7 @@ fn place_of(table: &Involutions, set: &Allowed, pair: Pair, first: u8, chamber: 
     }
 }
 
-/// What is then told at another chamber of the cell, which has nothing of the budget.
+/// Returns the place of another chamber of the cell, which takes nothing of the budget.
 fn beside(place: &Place) -> Place
     ensures root { result.root ≡ place.now.root }
     ensures turns { result.turns ≡ place.now.turns }
@@ -157,8 +158,8 @@ fn smaller_neighbor(table: &Involutions, pair: Pair, chamber: u32) -> Option<u32
     None
 }
 
-/// Adds what a table tells of the degree of a pair at a chamber, where that of the smaller chambers is at the places from
-/// `first` on. A cell is walked only where no neighbor is smaller.
+/// Adds what a table decides of the degree of a pair at a chamber, if the degrees of the smaller
+/// chambers are at the places from `first` on. It walks a cell only if no neighbor is smaller.
 fn add_place(
     places: &mut ArrayVec<Place, 72>,
     table: &Involutions,
@@ -197,7 +198,7 @@ fn add_places(places: &mut ArrayVec<Place, 72>, table: &Involutions, set: &Allow
     }
 }
 
-/// What a table tells of its degrees. It is read from the involutions alone.
+/// Returns what a table decides of its degrees. It reads only the involutions.
 pub(crate) fn all_places(table: &Involutions, q: &Request) -> ArrayVec<Place, 72>
     requires { table.now.size ≤ 36 }
     ensures { ArePlaces q.now table.now result.items }

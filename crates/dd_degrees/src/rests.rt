@@ -10,10 +10,11 @@ use crate::places::Place;
 pub(crate) struct Rests {
     /// At each place, the sum of `most` of it and of the later places.
     pub(crate) most: [u16; 73],
-    /// At each place, what it and the later places have at least: 2 for each side, that with the branching value 6.
+    /// At each place, what it and the later places have at least: 2 for each side, that with the
+    /// branching value 6.
     pub(crate) least: [u16; 73],
-    /// At each place, what it and the later places may have beyond that, as bits from the top on: that of 0 is the
-    /// highest. 64 and more is not told.
+    /// At each place, what it and the later places may take beyond that, as bits from the top on:
+    /// the bit of 0 is the highest. 64 and more is not kept.
     pub(crate) surplus: [u64; 73],
 }
 
@@ -61,8 +62,9 @@ impl Rests {
         }
     }
 
-    /// Those of the shares of a place, as bits, that leave to the later places what these may have, where so much is
-    /// left for all. From 64 on that is not told, and the most that they may have decides.
+    /// Returns those of the shares of a place, as bits, that leave to the later places what these
+    /// may take, if `left` is left for all. From 64 on that is not kept, and the most that they may
+    /// take decides.
     pub(crate) fn fitting(&self, later: usize, shares: u32, left: u16) -> u64
         requires least { later < length self.now.least }
         requires most { later < length self.now.most }

@@ -50,8 +50,9 @@ impl Table {
         Ok(Some(Table { symbol }))
     }
 
-    /// The table with these involutions, which are known to be those of one, and with the least positive
-    /// numbers of turns that fix its chambers, round tiles and round vertices. Nothing is tested.
+    /// The table with these involutions, which are known to be those of one, and with the least
+    /// positive numbers of turns that fix its chambers, round tiles and round vertices. Nothing is
+    /// tested.
     pub fn known(involutions: Involutions, m01: &[u8], m12: &[u8]) -> Result<Table, Memory>
         requires table { AreOfTable involutions }
         requires tiles { ArePeriods involutions Pair.Tile m01.now }
@@ -89,7 +90,7 @@ impl Table {
         &self.symbol
     }
 
-    /// The same symbol, for a caller that keeps it.
+    /// Returns the same symbol, for a caller that keeps it.
     pub fn into_symbol(self) -> Connected
         ensures same { result ≡ self }
         ensures table { IsBareTable self }

@@ -24,7 +24,7 @@ pub struct Ties {
 }
 
 impl Ties {
-    /// Those of a table with these starts.
+    /// Returns the ties of a table with these starts.
     pub fn of(alloc: Global, s: &Symbol, starts: Vec<u32>) -> Result<Ties, Memory>
         requires small { s.now.size ≤ 36 }
         requires starts { (d : ℕ) → Contains starts.items d → IsChamber s.now d }
@@ -39,8 +39,8 @@ impl Ties {
         })
     }
 
-    /// Whether no numbering of a table with some degrees from a start is smaller. Where the automorphisms are
-    /// known the degrees alone decide, and no symbol is made.
+    /// Returns whether no numbering of a table with some degrees from a start is smaller. If the
+    /// automorphisms are known, only the degrees decide, and no symbol is made.
     pub fn are_least(
         &self,
         alloc: Global,

@@ -5,8 +5,8 @@ use crate::rest::Rest;
 use dd_front::{Naming, Ticket};
 
 impl<N: Naming> Rest<N> {
-    /// Takes a ticket out of one of the deques. `None` comes exactly where all of them are empty: as many tickets were
-    /// then pushed as were popped, stolen and given here.
+    /// Takes a ticket out of one of the deques. `None` comes exactly where all of them are empty:
+    /// as many tickets were then pushed as were popped, stolen and given here.
     pub fn next(&mut self) -> Option<Ticket<N>>
         ensures pushed { rest_pushed self.new ≡ rest_pushed self.old }
         ensures taken { MatchOption result (rest_taken self.new ≡ rest_taken self.old)

@@ -20,8 +20,8 @@ pub struct Hand<N: Naming> {
 }
 
 impl<N: Naming> Hand<N> {
-    /// Puts the ticket at the end of the hand's own deque. `Err` comes exactly where the hand has pushed as many
-    /// tickets as there is room for, and has the ticket.
+    /// Puts the ticket at the end of the hand's own deque. `Err` comes exactly where the hand has
+    /// pushed as many tickets as there is room for, and has the ticket.
     pub fn push(&mut self, ticket: Ticket<N>) -> Result<(), Ticket<N>>
         ensures refused { IsErr result ↔ (hand_pushed self.old ≡ hand_room self.old) }
         ensures ticket { IfErr result (λ back. back ≡ ticket) }
@@ -35,8 +35,9 @@ impl<N: Naming> Hand<N> {
         self.owner.push(ticket)
     }
 
-    /// Takes the first ticket of the hand's own deque, which was found empty where there is none. Where no other
-    /// hand has a way into it, `None` comes exactly where the hand has popped all that it pushed.
+    /// Takes the first ticket of the hand's own deque, which was found empty where there is none.
+    /// Where no other hand has a way into it, `None` comes exactly where the hand has popped all
+    /// that it pushed.
     pub fn pop(&mut self) -> Option<Ticket<N>>
         ensures popped { MatchOption result (hand_popped self.new ≡ hand_popped self.old)
             (λ _. hand_popped self.new ≡ hand_popped self.old + 1) }
@@ -68,8 +69,9 @@ impl<N: Naming> Hand<N> {
         self.ways.iter().position(|way| way.from == from)
     }
 
-    /// Takes the first ticket of the deque of the worker with the number `from`. It tries again where another hand
-    /// was quicker. A hand has no way into its own deque, and gets nothing there.
+    /// Takes the first ticket of the deque of the worker with the number `from`. It tries again
+    /// where another hand was quicker. A hand has no way into its own deque, and gets nothing
+    /// there.
     pub fn steal<R: Wait>(&mut self, rt: &R, from: u32) -> Option<Ticket<N>>
         ensures from { MatchOption result (hand_thefts self.new ≡ hand_thefts self.old)
             (λ _. StealsFrom from (hand_thefts self.old) (hand_thefts self.new)) }

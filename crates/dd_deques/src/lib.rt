@@ -1,4 +1,5 @@
-//! The deques of a round: each worker pushes and pops tickets at its own, and steals from the others.
+//! The deques of a round: each worker pushes and pops tickets at its own, and steals from the
+//! others.
 #![tactic(auto)]
 
 mod emptying;

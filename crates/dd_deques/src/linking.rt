@@ -11,7 +11,7 @@ use dd_front::Naming;
 use dd_model::Memory;
 use std::alloc::Global;
 
-/// Hands of so many workers, each with an empty deque and no ways.
+/// Returns a hand for each of `workers` workers, with an empty deque and no ways.
 pub fn bare_hands<N: Naming>(alloc: Global, workers: u32, room: u32) -> Result<Vec<Hand<N>>, Memory>
     ensures count { IfOk result (λ hands. length hands.items ≡ workers) }
     ensures new { IfOk result (λ hands. All (IsNew room) hands.items) }

@@ -7,7 +7,7 @@ use crossbeam_deque::Worker;
 use dd_front::Naming;
 use std::alloc::Global;
 
-/// The owner's end of a deque, with room for so many pushes.
+/// The owner's end of a deque, with room for a fixed number of pushes.
 #[derive(Drop)]
 pub struct Owner<N: Naming> {
     pub(crate) own: Worker<Slot<N>, Global, Known, Numbered>,

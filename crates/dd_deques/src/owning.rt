@@ -12,7 +12,7 @@ use dd_model::Memory;
 use std::alloc::Global;
 
 impl<N: Naming> Owner<N> {
-    /// A deque with room for so many pushes.
+    /// Returns a deque with room for `room` pushes.
     pub(crate) fn open(alloc: Global, room: u32) -> Result<Owner<N>, Memory>
         ensures room { IfOk result (λ owner. owner.room ≡ room) }
         ensures pushed { IfOk result (λ owner. owner.pushed ≡ 0) }

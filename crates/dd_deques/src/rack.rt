@@ -21,8 +21,8 @@ pub struct Rack<N: Naming> {
 }
 
 impl<N: Naming> Rack<N> {
-    /// A rack of empty deques, each with room for so many pushes, and the hands of its workers in order. Each hand has
-    /// a way into the deque of each other worker.
+    /// Returns a rack of empty deques, each with room for `room` pushes, and the hands of its
+    /// workers in order. Each hand has a way into the deque of each other worker.
     pub fn open(alloc: Global, workers: u32, room: u32) -> Result<(Rack<N>, Vec<Hand<N>>), Memory>
         requires workers { (1 ≤ workers) × (workers ≤ 64) }
         requires room { (1 ≤ room) × (room ≤ 4096) }

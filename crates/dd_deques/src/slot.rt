@@ -9,8 +9,8 @@ pub struct Slot<N: Naming> {
     pub ticket: Ticket<N>,
 }
 
-/// The rule of every deque of a rack: each number that its owner gave stands once among the content and what was
-/// taken.
+/// The rule of every deque of a rack: each number that its owner gave stands once among the content
+/// and what was taken.
 pub struct Numbered;
 
 impl<N: Naming> Protocol<Slot<N>, Known> for Numbered {
@@ -46,7 +46,7 @@ impl<N: Naming> Outcome<Slot<N>, Known> for Popped {
     ghost empty = { TookAll };
 }
 
-/// A thief takes the first ticket. An empty deque tells it nothing.
+/// A thief takes the first ticket. From an empty deque it learns nothing.
 pub struct Stolen;
 
 impl<N: Naming> Outcome<Slot<N>, Known> for Stolen {

@@ -206,7 +206,8 @@ fn put_vertices(out: &mut Vec<u8>, frame: Frame, points: &[Point]) -> Result<(),
     Ok(())
 }
 
-/// Appends the drawing of a placed net. If an allocation fails, the text may have a part of the drawing.
+/// Appends the drawing of a placed net. If an allocation fails, the text may have a part of the
+/// drawing.
 fn append_svg(out: &mut Vec<u8>, net: &Net, places: &Places, frame: Frame) -> Result<(), Memory>
     requires connected { IsConnectedNet net.now }
     requires count { length places.now.points.items ≡ net.now.vertices }
@@ -224,8 +225,8 @@ fn append_svg(out: &mut Vec<u8>, net: &Net, places: &Places, frame: Frame) -> Re
     Ok(())
 }
 
-/// Appends the drawing of a placed net: its cell, its edges and its vertices with their exact places.
-/// Returns `Err` only if an allocation fails. The text is then as before.
+/// Appends the drawing of a placed net: its cell, its edges and its vertices with their exact
+/// places. Returns `Err` only if an allocation fails. The text is then as before.
 pub fn svg(out: &mut Vec<u8>, net: &Net, places: &Places, frame: Frame) -> Result<(), Memory>
     requires connected { IsConnectedNet net.now }
     requires count { length places.now.points.items ≡ net.now.vertices }

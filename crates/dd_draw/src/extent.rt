@@ -14,7 +14,7 @@ pub struct Extent {
 }
 
 impl Extent {
-    /// The box of the start of the cell alone.
+    /// Returns the box that has only the start of the cell.
     pub fn at_start() -> Extent
         ensures small { IsSmallExtent result }
         ensures same { result ≡ box_at start }

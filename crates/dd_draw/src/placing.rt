@@ -20,8 +20,8 @@ use std::alloc::Global;
 /// The most vertices of a net that is placed.
 pub const MOST_VERTICES: u32 = 96;
 
-/// The points that the last table tells: the first vertex is at the origin, and of each other one
-/// the coordinates stand in the two columns of the shifts.
+/// Returns the points that the last table has. The first vertex is at the origin. The coordinates
+/// of each other vertex are in the two columns of the shifts.
 fn points_of(alloc: Global, vertices: usize, rows: &[Vec<Fraction>]) -> Result<Vec<Point>, Memory>
     requires some { 1 ≤ vertices }
     requires few { vertices ≤ 96 }

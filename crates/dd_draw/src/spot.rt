@@ -54,7 +54,7 @@ impl Spot {
         }
     }
 
-    /// The spot that is so many cells away.
+    /// Returns the spot that is `x` and `y` cells away.
     pub fn moved(self, frame: Frame, x: i64, y: i64) -> Spot
         requires x { nat_abs self.x ≤ 2 ^ 125 + 2 ^ 73 }
         requires y { nat_abs self.y ≤ 2 ^ 125 + 2 ^ 73 }

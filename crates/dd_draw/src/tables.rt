@@ -23,8 +23,8 @@ fn first_table(alloc: Global, net: &Net) -> Result<Vec<Vec<Fraction>>, PlaceFaul
     Ok(rows)
 }
 
-/// One step of the elimination: the row at a place is divided by its pivot, and from each other row
-/// as much of it is taken away as leaves 0 in the column of the pivot.
+/// Does one step of the elimination. The row at a place is divided by its pivot. Then a multiple of
+/// it is taken away from each other row, which leaves 0 in the column of the pivot.
 fn eliminate(
     alloc: Global,
     net: &Net,

@@ -8,7 +8,8 @@ use crate::tallies::Tally;
 use dd_model::Memory;
 use std::alloc::Global;
 
-/// What an exercise writes that makes so many items from a number on. Memory alone can be wanting.
+/// Returns what an exercise writes that makes `count` items from a number on. It fails only if an
+/// allocation fails.
 pub fn exercise(alloc: Global, start: u32, count: u32) -> Result<Vec<u8>, Memory>
     requires start { start ≤ 2147483647 }
     requires count { count ≤ 10000 }

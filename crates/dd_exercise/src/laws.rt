@@ -10,8 +10,8 @@ pub fn an_exercise_has_one_text()
         → IsExerciseText start count b → a ≡ b }
 {}
 
-/// An item of an exercise has at most 384 chambers: a seed has at most 2, two changes make at most 32 of
-/// them, and a torus cover has at most 12 sheets.
+/// An item of an exercise has at most 384 chambers: a seed has at most 2, two changes make at most
+/// 32 of them, and a torus cover has at most 12 sheets.
 pub fn items_have_at_most_384_chambers()
     ensures { (seeds : List Symbol) (z : ℕ) (form : Symbol) → AreSeeds seeds
         → IsItem seeds z form → form.size ≤ 384 }

@@ -7,7 +7,7 @@ use crate::draws::Generator;
 use dd_model::Memory;
 use std::alloc::Global;
 
-/// The new numbers of so many chambers.
+/// Returns new numbers for `size` chambers.
 pub fn renumbering(alloc: Global, size: u32, generator: &mut Generator) -> Result<Vec<u32>, Memory>
     requires { (1 ≤ size) × (size ≤ 16384) }
     ensures list { IfOk result (λ list. list.items ≡ renumbering size generator.old) }
@@ -17,7 +17,7 @@ pub fn renumbering(alloc: Global, size: u32, generator: &mut Generator) -> Resul
     Ok(exchange(list, generator))
 }
 
-/// The numbers from 1 on, so many of them.
+/// Returns the numbers from 1 to `size`.
 fn numbers(alloc: Global, size: u32) -> Result<Vec<u32>, Memory>
     requires { size ≤ 16384 }
     ensures { IfOk result (λ list. list.items ≡ count_from 1 size) }
@@ -29,7 +29,8 @@ fn numbers(alloc: Global, size: u32) -> Result<Vec<u32>, Memory>
     Ok(list)
 }
 
-/// Exchanges each item, from the last one down to the second, with one that a draw picks of those up to it.
+/// Exchanges each item, from the last one down to the second, with one that a draw picks of those
+/// up to it.
 fn exchange(mut list: Vec<u32>, generator: &mut Generator) -> Vec<u32>
     requires { 1 ≤ length list.items }
     ensures list { result.items ≡ exchanged (length list.items - 1) generator.old list.items }

@@ -22,7 +22,7 @@ pub struct Tally {
 }
 
 impl Tally {
-    /// Of no item.
+    /// Returns the tally of no items.
     pub fn new(alloc: Global) -> Tally
         ensures chambers { result.chambers ≡ 0 }
         ensures classes { counted_in result.classes ≡ [] }
@@ -47,7 +47,7 @@ impl Tally {
         Ok(())
     }
 
-    /// The text that tells of so many items.
+    /// Returns the text about `count` items.
     pub fn text(&self, alloc: Global, count: u32) -> Result<Vec<u8>, Memory>
         ensures { IfOk result (λ text. text.items ≡ tally_text count self.now.chambers
             (length (counted_in self.now.classes)) (counted_in self.now.groups)) }

@@ -63,8 +63,8 @@ impl Front {
         Ok(left)
     }
 
-    /// Answers the first so many members of the first entry from where the front goes on. After
-    /// `Err` the front is as before.
+    /// Returns the first `count` members of the first entry, from where the front is on. If it
+    /// fails, the front is as before.
     pub fn part(&mut self, count: u64) -> Result<Members, Memory>
         requires allowed { MayPart self.old count }
         requires room { HasRoom self.old (Part count) }

@@ -15,14 +15,14 @@ pub enum State {
 }
 
 impl State {
-    /// Whether it waits.
+    /// Returns whether it waits.
     pub fn is_open(&self) -> bool
         ensures { IsTrue result ↔ (self.now ≡ State.Open) }
     {
         matches!(self, State::Open)
     }
 
-    /// Whether a worker has it.
+    /// Returns whether a worker has it.
     pub fn is_out(&self) -> bool
         ensures { IsTrue result ↔ (self.now ≡ State.Out) }
     {

@@ -16,7 +16,7 @@ pub struct EntryList {
     all: Vec<Entry>,
     /// How many have left.
     gone: usize,
-    /// Of those that are kept, none of the first so many is open.
+    /// None of the first `shut` entries that are kept is open.
     shut: usize,
 }
 
@@ -103,7 +103,7 @@ impl EntryList {
         Some(&self.as_slice()[place])
     }
 
-    /// Whether the entry of a number is open.
+    /// Returns whether the entry of a number is open.
     pub fn has_open(&self, number: u64) -> bool
         ensures { IsTrue result
             ↔ ((job : Part) × Contains self.now (entry_of number job State.Open)) }
@@ -114,7 +114,7 @@ impl EntryList {
         }
     }
 
-    /// Whether the entry of a number is out.
+    /// Returns whether the entry of a number is out.
     pub fn has_out(&self, number: u64) -> bool
         ensures { IsTrue result
             ↔ ((job : Part) × Contains self.now (entry_of number job State.Out)) }
@@ -170,8 +170,8 @@ impl EntryList {
         Ok(())
     }
 
-    /// Puts open entries for jobs, numbered from `next` on, in the place of the one of a number. The
-    /// number 0 changes nothing.
+    /// Puts open entries for jobs, numbered from `next` on, in the place of the one of a number.
+    /// The number 0 changes nothing.
     pub fn split(
         &mut self,
         alloc: Global,

@@ -32,7 +32,7 @@ pub enum Event {
     },
     /// The first entry leaves, and its members are emitted.
     Emit,
-    /// The first so many members of the first entry are emitted.
+    /// The first `count` members of the first entry are emitted.
     Part {
         count: u64,
     },

@@ -8,8 +8,9 @@ use dd_model::{Job, Memory, Request};
 use dd_symbol_list::SymbolList;
 use std::alloc::Global;
 
-/// Finds what is under a job of a catalogue, or splits the job into smaller ones. What it keeps of one
-/// job for the next only saves time, so that no clause tells of it. `Err` comes for want of memory alone.
+/// Finds what is under a job of a catalogue, or splits the job into smaller ones. What it keeps of
+/// one job for the next only saves time, so no clause speaks of it. It fails only if an allocation
+/// fails.
 pub trait Finder: Drop {
     ghost request: { Self → Asked };
 
@@ -21,8 +22,8 @@ pub trait Finder: Drop {
     fn fork(&self) -> Self
         ensures { request result ≡ request self.now };
 
-    /// Whether a member may be under a job; false where it is sure that none is. It is sooner told
-    /// than the members are found.
+    /// Returns whether a member may be under a job; false if it is sure that none is. This takes
+    /// less time than finding the members.
     fn may_find(&mut self, alloc: Global, job: &Job) -> Result<bool, Memory>
         requires valid { IsValid (request self.old) }
         requires job { IsJobOf (request self.old) job.now }

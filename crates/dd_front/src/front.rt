@@ -56,7 +56,8 @@ impl Front {
     ghost use Rattle.dd_front.specs.Places.{HasNoneOf, IsEntryOf};
     ghost use Rattle.dd_front.specs.Rounds.{IsFirstOpen};
 
-    /// A front with these jobs, all open, that goes on from a position after so many lines.
+    /// Returns a front with these jobs, all open, that continues from a position after `lines`
+    /// lines.
     pub fn open(
         alloc: Global,
         request: Request,
@@ -87,7 +88,7 @@ impl Front {
         })
     }
 
-    /// Whether an event is allowed, but for what its jobs and its list are.
+    /// Returns whether an event is allowed, but for what its jobs and its list are.
     pub fn allowed(&self, event: &Event) -> bool
         ensures { IsTrue result ↔ IsPermitted self.now event.now }
     {
@@ -132,7 +133,7 @@ impl Front {
         self.entries.get(number)
     }
 
-    /// Whether the entry of a number is out.
+    /// Returns whether the entry of a number is out.
     pub fn has_out(&self, number: u64) -> bool
         ensures { IsTrue result ↔ HasState self.now number State.Out }
     {

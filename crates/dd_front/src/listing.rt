@@ -34,7 +34,7 @@ pub fn copies_of(alloc: Global, jobs: &[Job]) -> Result<Vec<Job>, Memory>
     Ok(copies)
 }
 
-/// Where a machine stands that has these entries and goes on from a position.
+/// Returns where a machine is that has these entries and continues from a position.
 pub fn position_of(entries: &[Entry], from: &Position) -> Result<Position, Memory>
     ensures { IfOk result (λ position. StandsAt from.now entries.now position) }
 {

@@ -52,8 +52,8 @@ pub fn first_list(entries: &[Entry]) -> Option<&Members>
     }
 }
 
-/// How many of the first entries are not open, after the one at a place gets a state, where so many
-/// were not before: perhaps not all that there are.
+/// Returns a number of first entries that are not open, after the entry at a place gets a state, if
+/// `shut` were not open before. There may be more.
 pub fn shut_after(entries: &[Entry], shut: usize, place: usize, state: &State) -> usize
     requires shut { IsShutTo shut entries.now }
     requires place { place < length entries.now }

@@ -13,8 +13,8 @@ use dd_symbol_list::SymbolList;
 use std::alloc::Global;
 use std::marker::Model;
 
-/// Members of a catalogue in order, in spans that follow each other, so that lists are joined and cut
-/// without a copy of a member.
+/// Members of a catalogue in order, in spans that follow each other, so that lists are joined and
+/// cut without a copy of a member.
 #[derive(Drop)]
 pub struct Members {
     spans: Vec<Span>,
@@ -29,7 +29,8 @@ impl Model for Members {
     ghost invariant = { λ a. a.count ≡ length (joined_spans a.spans.items) };
 }
 
-/// How many spans the first so many members fill, and how many members of the next one they are.
+/// Returns how many spans the first `count` members fill, and how many members of the next span
+/// they are.
 fn cut(spans: &[Span], count: usize) -> (usize, usize)
     requires { count ≤ length (joined_spans spans.now) }
     ensures { IsCut spans.now count result.0 result.1 }
@@ -55,7 +56,8 @@ impl Members {
         }
     }
 
-    /// The members of a list, which is moved and not copied. Of an empty one nothing is allocated.
+    /// Returns the members of a list, which is moved and not copied. It allocates nothing for an
+    /// empty list.
     pub fn new(alloc: Global, list: SymbolList) -> Result<Members, Memory>
         ensures { IfOk result (λ members. members ≡ list) }
     {
@@ -125,7 +127,7 @@ impl Members {
         self.spans[k].symbols().copy(*self.allocator(), rest)
     }
 
-    /// Leaves out the first so many members.
+    /// Leaves out the first `count` members.
     pub fn skip(&mut self, count: usize)
         requires { count ≤ length self.old }
         ensures { self.new ≡ drop count self.old }
@@ -139,7 +141,7 @@ impl Members {
         self.count -= count;
     }
 
-    /// Keeps the first so many members alone.
+    /// Keeps only the first `count` members.
     pub fn keep(&mut self, count: usize)
         requires { count ≤ length self.old }
         ensures { self.new ≡ take count self.old }

@@ -7,7 +7,7 @@ use crate::joining::join;
 use dd_model::{Job, Memory};
 use std::alloc::Global;
 
-/// Copies of the jobs of the first open entries, at most so many.
+/// Returns copies of the jobs of the first open entries, at most `most`.
 fn first_open(alloc: Global, entries: &[Entry], most: usize) -> Result<Vec<Job>, Memory>
     ensures { IfOk result (λ jobs. jobs.items ≡ take most (open_jobs entries.now)) }
 {
@@ -26,7 +26,7 @@ fn first_open(alloc: Global, entries: &[Entry], most: usize) -> Result<Vec<Job>,
 impl Front {
     ghost use Rattle.dd_front.specs.Absorbed.{MayAbsorb, Absorbs};
 
-    /// Copies of the jobs of the first open entries, at most so many.
+    /// Returns copies of the jobs of the first open entries, at most `most`.
     pub fn first(&self, most: u32) -> Result<Vec<Job>, Memory>
         ensures { IfOk result (λ jobs. jobs.items ≡ take most (open_jobs self.now.entries)) }
     {

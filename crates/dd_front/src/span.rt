@@ -8,8 +8,8 @@ use std::alloc::Global;
 use std::marker::Model;
 use std::sync::Arc;
 
-/// A list of members of a catalogue in order, or a part of one. The list may have several owners, so
-/// that what stands in an entry and in a log is there once.
+/// A list of members of a catalogue in order, or a part of one. The list may have several owners,
+/// so that what stands in an entry and in a log is there once.
 #[derive(Drop)]
 pub struct Span {
     list: Arc<SymbolList, Global>,
@@ -64,7 +64,7 @@ impl Span {
         self.end - self.start
     }
 
-    /// Leaves out the first so many members.
+    /// Leaves out the first `count` members.
     pub fn skip(&mut self, count: usize)
         requires { count ≤ length self.old }
         ensures { self.new ≡ drop count self.old }
@@ -72,7 +72,7 @@ impl Span {
         self.start += count;
     }
 
-    /// Keeps the first so many members alone.
+    /// Keeps only the first `count` members.
     pub fn keep(&mut self, count: usize)
         requires { count ≤ length self.old }
         ensures { self.new ≡ take count self.old }

@@ -13,8 +13,8 @@ impl Front {
     ghost use Rattle.dd_front.specs.Room.{HasRoom};
     ghost use Rattle.dd_front.specs.Step.{IsStep, with_state, split_entries, taken_numbers};
 
-    /// Does an event that is allowed. After `Err`, which comes for want of memory alone, the front
-    /// is as before.
+    /// Does an event that is allowed. It fails only if an allocation fails, and the front is then
+    /// as before.
     pub fn step(&mut self, event: Event) -> Result<(), Memory>
         requires allowed { IsAllowed self.old event }
         requires room { HasRoom self.old event }
@@ -49,7 +49,8 @@ impl Front {
         self.entries.set_state(number, state);
     }
 
-    /// Puts open entries for jobs in the place of the one of a number. The number 0 changes nothing.
+    /// Puts open entries for jobs in the place of the one of a number. The number 0 changes
+    /// nothing.
     fn split(&mut self, number: u64, jobs: JobList) -> Result<(), Memory>
         requires children { (number ≡ 0) ⊎ MaySplit self.old number jobs }
         requires room { self.old.next + taken_numbers number jobs < 2 ^ 64 }

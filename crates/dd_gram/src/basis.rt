@@ -25,7 +25,7 @@ fn sum_of_images(numbers: &[i64], map: &Map, walk: &[u32]) -> i64
     sum
 }
 
-/// Two closed walks, by which the shifts of all others are told.
+/// Two closed walks that span the shifts of all closed walks.
 #[derive(Drop)]
 pub(crate) struct Basis {
     /// The shifts of the edges.

@@ -37,7 +37,7 @@ pub(crate) struct EdgeNumbers {
 }
 
 impl EdgeNumbers {
-    /// Reads the shifts of the edges of a net, which are told by their least chambers.
+    /// Reads the shifts of the edges of a net at their least chambers.
     pub(crate) fn new(
         alloc: Global,
         t: &Connected,

@@ -14,14 +14,14 @@ use dd_model::{Index, Memory};
 use dd_symbol::{Connected, Symbol};
 use std::alloc::Global;
 
-/// Whether an edge has no shift.
+/// Returns whether an edge has no shift.
 fn is_still(edge: NetEdge) -> bool
     ensures { IsTrue result ↔ IsStill edge }
 {
     edge.x == 0 && edge.y == 0
 }
 
-/// Whether a vertex is met.
+/// Returns whether a vertex is met.
 fn is_met(met: &[bool], vertex: u32) -> bool
     requires low { 1 ≤ vertex }
     requires high { vertex ≤ length met.now }

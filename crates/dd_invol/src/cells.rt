@@ -21,7 +21,7 @@ fn image_of(size: u8, images: &[u8], i: Index, chamber: u8) -> u8
     images[place_of(i, chamber) as usize]
 }
 
-/// Whether a chamber is the least of its cell. The walk through the cell ends at a smaller
+/// Returns whether a chamber is the least of its cell. The walk through the cell ends at a smaller
 /// chamber, or where it comes back.
 fn is_least_of_cell(size: u8, images: &[u8], pair: Pair, chamber: u8) -> bool
     requires size { size ≤ 36 }
@@ -65,8 +65,8 @@ fn count(size: u8, images: &[u8], pair: Pair) -> u32
     cells
 }
 
-/// Whether a pair has at most so many cells, where 0 sets no limit. All images stand in the order
-/// of codes.
+/// Returns whether a pair has at most `limit` cells, where 0 sets no limit. All images are in the
+/// order of codes.
 pub(crate) fn has_at_most(size: u8, images: &[u8], pair: Pair, limit: u32) -> bool
     requires size { size ≤ 36 }
     requires whole { length images.now ≡ 3 * size }

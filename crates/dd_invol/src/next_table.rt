@@ -13,7 +13,7 @@ use crate::tables::Tables;
 use arrayvec::ArrayVec;
 use dd_model::{Pair, Request};
 
-/// Whether all images, in the order of codes, have no more cells than a request asks for.
+/// Returns whether all images, in the order of codes, have no more cells than a request asks for.
 fn has_limits(size: u8, images: &[u8], request: &Request) -> bool
     requires size { size ≤ 36 }
     requires whole { length images.now ≡ 3 * size }
@@ -25,7 +25,7 @@ fn has_limits(size: u8, images: &[u8], request: &Request) -> bool
         && has_at_most(size, images, Pair::Vertex, request.vertices)
 }
 
-/// Whether the whole prefix of a search is that of a table that its request asks for.
+/// Returns whether the whole prefix of a search is that of a table that its request asks for.
 fn is_sought(tables: &mut Tables) -> bool
     requires stem { IsStem tables.old.stem }
     requires whole { length (prefix_of tables.old.stem) ≡ 3 * size_of tables.old.stem }
@@ -40,7 +40,7 @@ fn is_sought(tables: &mut Tables) -> bool
     has_limits(tables.size(), tables.prefix(), tables.request())
 }
 
-/// The same numbers, for a caller that keeps them.
+/// Returns the same numbers, for a caller that keeps them.
 pub(crate) fn kept(numbers: &[u8]) -> ArrayVec<u8, 108>
     requires { length numbers.now ≤ 108 }
     ensures { result.items ≡ numbers.now }

@@ -31,7 +31,7 @@ pub(crate) fn stem_of(job: &Job, visit: &mut Visit) -> Option<Stem>
     Some(stem)
 }
 
-/// Whether something may be under a stem with one number more.
+/// Returns whether something may be under a stem with one number more.
 fn may_grow(stem: &mut Stem, visit: &mut Visit, number: u8) -> bool
     requires stem { IsStem stem.old }
     requires room { length (prefix_of stem.old) < 3 * size_of stem.old }

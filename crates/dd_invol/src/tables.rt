@@ -83,7 +83,7 @@ impl Tables {
         self.stem.prefix()
     }
 
-    /// Whether the images, which are all told, are those of a least table.
+    /// Returns whether the images, which are all known, are those of a least table.
     pub(crate) fn is_least(&mut self) -> bool
         requires stem { IsStem self.old.stem }
         requires whole { length (prefix_of self.old.stem) ≡ 3 * size_of self.old.stem }

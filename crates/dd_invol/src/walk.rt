@@ -13,12 +13,15 @@ use dd_model::{Job, Memory, Request};
 use std::alloc::Global;
 use std::marker::Model;
 
-/// A walk over the tables that a request and a job ask for: connected ones of the job's size with
-/// s0 s2 = s2 s0, whose codes begin with the job's prefix, of which no renumbering is smaller, and
-/// with no more classes of tiles and of vertices than the request allows. They come in the order
-/// of their codes, each once. The walk stands at the table to which it came last. Its search may be
-/// one table ahead, where there was no memory for that table; all its room lies in the walk itself,
-/// so that no memory is taken where it goes on.
+/// A walk over the tables that a request and a job ask for, in the order of their codes, each once.
+/// They are the connected tables with these properties:
+///
+/// - They have the job's size, s0 s2 = s2 s0, and their codes begin with the job's prefix.
+/// - No renumbering is smaller.
+/// - They have no more classes of tiles and of vertices than the request allows.
+///
+/// The walk is at the table to which it came last. Its search may be one table ahead, if there was
+/// no memory for that table. The walk has all its room in itself, so it takes no memory on its way.
 #[derive(Drop)]
 pub struct Walk {
     alloc: Global,

@@ -39,7 +39,7 @@ fn head(above: &mut Vec<u32>, node: u32) -> u32
     place
 }
 
-/// Joins the parts of two nodes, and tells whether they were two.
+/// Joins the parts of two nodes, and returns whether they were two.
 pub(crate) fn join(above: &mut Vec<u32>, one: u32, other: u32) -> bool
     requires falls { IsFalling above.old.items }
     requires one { one < length above.old.items }

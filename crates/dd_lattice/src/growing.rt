@@ -10,7 +10,8 @@ use dd_model::{Index, Memory, Pair};
 use dd_symbol::Symbol;
 use std::alloc::Global;
 
-/// Whether the edge of a chamber is a crossing edge. The edges are told by their least chambers.
+/// Returns whether the edge of a chamber is a crossing edge. `crossing` has the edges at their
+/// least chambers.
 fn crosses(symbol: &Symbol, crossing: &[bool], chamber: u32) -> bool
     requires crossing { AreCrossing symbol.now crossing.now }
     requires symbol { IsSmallSymbol symbol.now }
@@ -25,14 +26,14 @@ fn crosses(symbol: &Symbol, crossing: &[bool], chamber: u32) -> bool
 /// Chambers that steps join to a first one.
 #[derive(Drop)]
 struct Growing {
-    /// Whether each chamber is the first one, or one to which a step leads.
+    /// For each chamber, true if it is the first one, or a step leads to it.
     met: Vec<bool>,
     /// The steps, each from a chamber that was met before.
     steps: Vec<Step>,
 }
 
 impl Growing {
-    /// The first chamber alone is met.
+    /// Only the first chamber is met.
     fn new(alloc: Global, symbol: &Symbol, first: u32) -> Result<Growing, Memory>
         requires { IsChamber symbol.now first }
         ensures { IfOk result (λ tree. IsGrowing symbol.now first tree.met.items tree.steps.items) }

@@ -27,7 +27,7 @@ pub enum EdgeKind {
 impl EdgeKind {
     ghost use Rattle.dd_lattice.specs.Edges.{is_crossing, is_left};
 
-    /// Whether it is a crossing edge.
+    /// Returns whether it is a crossing edge.
     pub fn is_crossing(self) -> bool
         ensures { result ≡ is_crossing self }
     {
@@ -37,7 +37,7 @@ impl EdgeKind {
         }
     }
 
-    /// Whether it is left.
+    /// Returns whether it is left.
     pub fn is_left(self) -> bool
         ensures { result ≡ is_left self }
     {
@@ -48,7 +48,8 @@ impl EdgeKind {
     }
 }
 
-/// Joins the parts of the two cells of a chamber and of its image, and tells whether they were two.
+/// Joins the parts of the two cells of a chamber and of its image, and returns whether they were
+/// two.
 fn join_cells(above: &mut Vec<u32>, symbol: &Symbol, pair: Pair, i: Index, chamber: u32) -> bool
     requires symbol { IsSmallSymbol symbol.now }
     requires chamber { IsChamber symbol.now chamber }

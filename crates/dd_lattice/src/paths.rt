@@ -29,7 +29,7 @@ fn back(exits: &mut Vec<bool>, place: u32, step: Step) -> u32
 /// A closed path over the tiles of a torus.
 #[derive(Drop)]
 pub(crate) struct Path {
-    /// Whether the path leaves the tile of a chamber across the edge of the chamber.
+    /// For each chamber, true if the path leaves its tile across its edge.
     pub exits: Vec<bool>,
 }
 

@@ -5,6 +5,6 @@ pub(crate) struct Step {
     pub from: u32,
     /// Where it leads.
     pub to: u32,
-    /// Whether it crosses the edge of both chambers. Else it goes round their tile.
+    /// True if it crosses the edge of both chambers. Else it goes round their tile.
     pub crosses: bool,
 }

@@ -40,14 +40,14 @@ impl Allowed {
         self.table[m as usize] = true;
     }
 
-    /// Whether m is in the set.
+    /// Returns whether m is in the set.
     pub fn has(&self, m: u32) -> bool
         ensures { IsTrue result ↔ IsIn self.now m }
     {
         m <= 216 && self.table[m as usize]
     }
 
-    /// Whether the set has a number.
+    /// Returns whether the set has a number.
     pub fn is_some(&self) -> bool
         ensures { IsTrue result ↔ ((m : ℕ) × IsIn self.now m) }
     {

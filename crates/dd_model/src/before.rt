@@ -5,7 +5,8 @@ ghost use Rattle.dd_model.specs.Position.{IsWhollyBefore, IsWithin};
 use crate::jobs::{Job, Position};
 use crate::memory::Memory;
 
-/// Whether the first list is smaller at the first place that both have and where they differ.
+/// Returns whether the first list is smaller at the first place that both have and where they
+/// differ.
 fn is_smaller_where_they_differ(numbers: &[u8], others: &[u8]) -> bool
     ensures { IsTrue result ↔ IsSmallerWhereTheyDiffer numbers.now others.now }
 {
@@ -31,7 +32,7 @@ impl Position {
 }
 
 impl Job {
-    /// Whether all that may be under the job is before a position.
+    /// Returns whether all that may be under the job is before a position.
     pub fn is_wholly_before(&self, position: &Position) -> bool
         ensures { IsTrue result ↔ IsWhollyBefore position.now self.now }
     {
@@ -48,7 +49,7 @@ impl Job {
         }
     }
 
-    /// Whether the job is of another's size, and its prefix begins with the other's.
+    /// Returns whether the job is of another's size, and its prefix begins with the other's.
     pub fn extends(&self, other: &Job) -> bool
         ensures { IsTrue result
             ↔ ((self.now.size ≡ other.now.size) × Begins other.now.prefix self.now.prefix) }
@@ -57,7 +58,7 @@ impl Job {
         self.size == other.size && numbers.starts_with(other.prefix.as_slice())
     }
 
-    /// Whether a position is at the job or further on in it.
+    /// Returns whether a position is at the job or further on in it.
     pub fn has_within(&self, position: &Position) -> bool
         ensures { IsTrue result ↔ IsWithin self.now position.now }
     {

@@ -12,7 +12,7 @@ ghost use Rattle.dd_model.specs.Text.{AreLines, IsText, beginning};
 ghost use Rattle.dd_model.specs.declared.jobs.Position.{Position};
 ghost use Rattle.dd_model.specs.declared.requests.Request.{Request};
 
-/// Of the symbols that are isomorphic to one another at most one is least.
+/// At most one of the symbols that are isomorphic to one another is least.
 pub fn isomorphic_least_symbols_are_equal()
     ensures { (s t : Symbol) → IsSymbol s → IsSymbol t → Least s → Least t → Isomorphic s t
         → s ≡ t }

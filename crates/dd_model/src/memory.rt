@@ -1,6 +1,6 @@
 use std::alloc::{AllocError, AllocFailed};
 
-/// Want of memory.
+/// Out of memory.
 #[derive(Debug, Clone, Copy, PartialEq, Eq)]
 pub struct Memory;
 

@@ -5,17 +5,17 @@ use crate::allowed::Allowed;
 /// Which symbols are asked for.
 #[derive(Clone, Copy)]
 pub struct Request {
-    /// At most so many chambers, 1 to 36.
+    /// The most chambers, 1 to 36.
     pub chambers: u32,
-    /// At most so many classes of tiles, 1 to 36; 0 sets no limit.
+    /// The most classes of tiles, 1 to 36; 0 sets no limit.
     pub tiles: u32,
-    /// At most so many classes of vertices, 1 to 36; 0 sets no limit.
+    /// The most classes of vertices, 1 to 36; 0 sets no limit.
     pub vertices: u32,
     /// The numbers of edges that tiles may have.
     pub faces: Allowed,
     /// The degrees that vertices may have.
     pub degrees: Allowed,
-    /// Whether minimal symbols alone are asked for.
+    /// True if only minimal symbols are asked for.
     pub minimal: bool,
 }
 
@@ -23,7 +23,8 @@ impl Request {
     ghost use Rattle.dd_model.specs.Request.{IsValid};
     ghost use Rattle.dd_model.specs.Allowed.{IsFrom};
 
-    /// All symbols of at most so many chambers whose tiles and vertices have three edges or more.
+    /// Returns the request for all symbols of at most `chambers` chambers whose tiles and vertices
+    /// have three edges or more.
     pub fn up_to(chambers: u32) -> Request
         requires { (1 ≤ chambers) × (chambers ≤ 36) }
         ensures valid { IsValid result }
@@ -42,7 +43,7 @@ impl Request {
         }
     }
 
-    /// Whether each field is in its range.
+    /// Returns whether each field is in its range.
     pub fn is_valid(&self) -> bool
         ensures { IsTrue result ↔ IsValid self.now }
     {

@@ -40,7 +40,7 @@ pub fn truncated_squares_backwards_are_not_least()
     ensures not_least { ¬ Least truncated_squares_backwards }
 {}
 
-/// Three symbols have one chamber, whether all are asked for or the minimal ones alone.
+/// Three symbols have one chamber, and all three are minimal.
 pub fn single_chambers_are_three()
     ensures catalogue { (q : Request) → AsksForOneChamber q → IsCatalogue q single_chambers }
     ensures text { (q : Request) → AsksForOneChamber q

@@ -6,8 +6,8 @@ use dd_model::Pair;
 use dd_symbol::Symbol;
 use std::mem::swap;
 
-/// The other end of the chain of a pair that begins at a flag. The two involutions lead in turn from
-/// chamber to chamber, until one fixes a chamber.
+/// The other end of the chain of a pair that begins at a flag. The two involutions lead in turn
+/// from chamber to chamber, until one fixes a chamber.
 pub fn other_end(symbol: &Symbol, pair: Pair, flag: Flag) -> Flag
     requires { IsEnd symbol.now pair flag }
     ensures joined { IsJoined symbol.now pair flag result }

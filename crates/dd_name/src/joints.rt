@@ -3,7 +3,8 @@ use crate::flags::{Flag, other_pair};
 use dd_model::Pair;
 use dd_symbol::Symbol;
 
-/// A flag of a boundary, the pair of the chain that joins it to the next, and the value of that chain.
+/// A flag of a boundary, the pair of the chain that joins it to the next, and the value of that
+/// chain.
 #[derive(Debug, Clone, Copy, PartialEq, Eq)]
 pub struct Joint {
     /// The flag at which the chain begins.

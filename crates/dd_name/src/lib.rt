@@ -1,8 +1,8 @@
 //! The orbifold of a symbol, and its name in Conway's notation.
 //!
-//! The cones are the cycles with a value above 1. The boundaries run along flags, places where an involution
-//! fixes a chamber: each chain of a pair joins two of them, and its value is a corner where it is above 1. The
-//! Euler number and the orientation tell the handles or crosscaps.
+//! The cones are the cycles with a value above 1. The boundaries run along flags, places where an
+//! involution fixes a chamber: each chain of a pair joins two of them, and its value is a corner if
+//! it is above 1. The Euler number and the orientation determine the handles or crosscaps.
 #![tactic(auto)]
 
 mod boundaries;

@@ -47,7 +47,7 @@ fn put_boundaries(out: &mut Vec<u8>, boundaries: &[Orders]) -> Result<(), Memory
     Ok(())
 }
 
-/// Appends a sign so many times.
+/// Appends a sign `count` times.
 fn put_signs(out: &mut Vec<u8>, sign: u8, count: u32) -> Result<(), Memory>
     ensures signs { OnOk result (out.new.items ≡ out.old.items ++ replicate count sign) }
     ensures longer { IsLonger out.old.items out.new.items }
@@ -69,7 +69,8 @@ fn put_parts(out: &mut Vec<u8>, o: &Orbifold) -> Result<(), Memory>
     put_signs(out, b'x', o.crosscaps)
 }
 
-/// Appends the name, or 1 where the orbifold has no parts. After want of memory the text may be longer.
+/// Appends the name, or 1 where the orbifold has no parts. If memory runs out, the text may be
+/// longer.
 fn put_name(out: &mut Vec<u8>, o: &Orbifold) -> Result<(), Memory>
     ensures name { OnOk result (out.new.items ≡ out.old.items ++ name_text o.now) }
     ensures longer { IsLonger out.old.items out.new.items }
@@ -82,7 +83,7 @@ fn put_name(out: &mut Vec<u8>, o: &Orbifold) -> Result<(), Memory>
     Ok(())
 }
 
-/// Appends the name of an orbifold. After want of memory the text is as before.
+/// Appends the name of an orbifold. If memory runs out, the text is as before.
 pub fn name(out: &mut Vec<u8>, o: &Orbifold) -> Result<(), Memory>
     ensures name { OnOk result (out.new.items ≡ out.old.items ++ name_text o.now) }
     ensures same { OnErr result (out.new.items ≡ out.old.items) }

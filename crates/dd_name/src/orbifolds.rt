@@ -1,6 +1,6 @@
 use crate::orders::{Boundaries, Orders};
 
-/// The orbifold of a symbol: what its name tells.
+/// The orbifold of a symbol: the data of its name.
 #[derive(Drop)]
 pub struct Orbifold {
     /// The handles, where the surface is orientable.

@@ -57,8 +57,8 @@ fn round_from(
     Ok(Round { joints })
 }
 
-/// Looks at the flag at a place: adds the round that begins there, unless no involution fixes the chamber,
-/// or the flag is on an earlier round.
+/// Looks at the flag at a place: adds the round that begins there, unless no involution fixes the
+/// chamber, or the flag is on an earlier round.
 fn look_at(
     alloc: Global,
     s: &Connected,

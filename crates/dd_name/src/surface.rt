@@ -17,7 +17,7 @@ fn room(s: &Connected, boundaries: usize) -> u32
     ((2 - euler) as usize).saturating_sub(boundaries) as u32
 }
 
-/// The numbers of handles and of crosscaps of a surface with so many boundaries.
+/// Returns the numbers of handles and of crosscaps of a surface with `boundaries` boundaries.
 pub fn handles_and_crosscaps(
     alloc: Global,
     s: &Connected,

@@ -1,4 +1,5 @@
-//! A list of numbers, kept in bytes while each number fits in one, and in words of 32 bits otherwise.
+//! A list of numbers, kept in bytes while each number fits in one, and in words of 32 bits
+//! otherwise.
 #![tactic(auto)]
 
 mod numbers;

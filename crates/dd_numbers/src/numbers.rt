@@ -48,7 +48,7 @@ fn add_bytes(words: &mut Vec<u32>, bytes: &[u8]) -> Result<(), Memory>
     Ok(())
 }
 
-/// Whether each of some numbers fits in a byte.
+/// Returns whether each of some numbers fits in a byte.
 fn are_bytes(numbers: &[u32]) -> bool
     ensures { IsTrue result → (k : ℕ) → k < length numbers.now → slice_index numbers.now k < 256 }
 {
@@ -95,8 +95,8 @@ impl Numbers {
         })
     }
 
-    /// No numbers, with room for the code of a symbol of so many chambers. Where there are more than
-    /// 255 chambers some have numbers that do not fit in a byte, and the list begins in words, so
+    /// Returns an empty list with room for the code of a symbol of `size` chambers. If there are
+    /// more than 255 chambers, some numbers don't fit in a byte. The list then begins in words, so
     /// that it is not copied on the way.
     pub fn with_room_for(alloc: Global, size: usize) -> Result<Numbers, Memory>
         requires { size ≤ 16384 }
@@ -121,7 +121,7 @@ impl Numbers {
         }
     }
 
-    /// The same numbers, for a reader that asks once in which form they are kept.
+    /// Returns the same numbers, for a reader that asks once in which form they are kept.
     pub fn lend(&self) -> NumbersRef<'_>
         ensures { lent_items result ≡ self.now }
     {
@@ -240,7 +240,7 @@ impl Numbers {
         }
     }
 
-    /// Keeps the first numbers alone.
+    /// Keeps only the first numbers.
     pub fn truncate(&mut self, count: usize)
         ensures { self.new ≡ take count self.old }
     {
@@ -283,14 +283,14 @@ impl Numbers {
         Ok(Numbers { held })
     }
 
-    /// The same numbers.
+    /// Returns the same numbers.
     pub fn try_copy(&self, alloc: Global) -> Result<Numbers, Memory>
         ensures { IfOk result (λ copy. copy ≡ self.now) }
     {
         self.front_with(alloc, self.len(), &[], &[])
     }
 
-    /// Whether the first numbers of two lists are equal.
+    /// Returns whether the first numbers of two lists are equal.
     pub fn has_front_of(&self, other: &Numbers, count: usize) -> bool
         requires own { count ≤ length self.now }
         requires other { count ≤ length other.now }

@@ -1,7 +1,7 @@
 ghost use Rattle.std.specs.Prelude.{◌≡◌, ◌+◌, ◌<◌, ◌∷◌, [], length, slice_index};
 
-/// Numbers that are lent, in the form in which they are kept. Who reads many of them is told once
-/// which form that is, and reads slices from then on.
+/// Numbers that are lent, in the form in which they are kept. A reader of many numbers matches the
+/// form once, and reads slices from then on.
 #[derive(Clone, Copy, Drop)]
 pub enum NumbersRef<'a> {
     Bytes(&'a [u8]),

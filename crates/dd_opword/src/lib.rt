@@ -1,7 +1,7 @@
 //! Words of operations: "truncate the ambo" is the word `ta`. The last letter is done first.
 //!
-//! The tables of two operations, one after the other, are one table. `compose` makes it, and `apply_word`
-//! applies it.
+//! The tables of two operations, one after the other, are one table. `compose` makes it, and
+//! `apply_word` applies it.
 #![tactic(auto)]
 
 mod applying;

@@ -17,7 +17,8 @@ pub enum OpWord {
 }
 
 impl OpWord {
-    /// Reads a word. Returns None if the text is not one to three of the letters `d`, `a`, `t` and `c`.
+    /// Reads a word. Returns None if the text is not one to three of the letters `d`, `a`, `t` and
+    /// `c`.
     pub fn read(text: &str) -> Option<OpWord>
         ensures { MatchOption result ((w : Word) → IsSpelled text.now w → ⊥) (IsSpelled text.now) }
     {

@@ -29,8 +29,8 @@ pub fn begin<T: PrefixSearch>(search: &T) -> Levels
     levels
 }
 
-/// Goes on from the last level to the next whole prefix under which something may be; false where
-/// nothing is left, and the search then stands where it began. It takes no memory.
+/// Moves from the last level to the next whole prefix under which something may be. Returns false
+/// if nothing is left, and the search is then where it began. It takes no memory.
 pub fn advance<T: PrefixSearch>(search: &mut T, levels: &mut Levels) -> bool
     requires valid { T.valid search.old }
     requires at { IsAt T.request T.wanted T.size T.prefix T.end T.depth T.undone T.valid

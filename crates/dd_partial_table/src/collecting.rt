@@ -19,8 +19,9 @@ pub trait CollectingSearch: PrefixSearch {
             list.old list.new) };
 }
 
-/// Adds what is under the prefix of a search. `Err` comes only if an allocation fails. The list then has what it had, perhaps
-/// with more behind it, and the search stands anywhere: neither is of use any more.
+/// Adds what is under the prefix of a search. `Err` comes only if an allocation fails. The list
+/// then has what it had, perhaps with more behind it, and the search stands anywhere: neither is of
+/// use any more.
 pub fn find<T: CollectingSearch>(search: &mut T, list: &mut SymbolList) -> Result<(), Memory>
     requires valid { T.valid search.old }
     requires end { T.end (T.size search.old) ≤ 5 * T.size search.old }

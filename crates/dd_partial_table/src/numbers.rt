@@ -5,7 +5,7 @@ ghost use Rattle.dd_jobs.specs.FirstVisit.{greatest};
 use std::marker::Model;
 
 /// The first numbers of a code. A number is put at the end and taken away again in place, and the
-/// greatest of them is told without a look at all.
+/// greatest of them is known without a look at all.
 #[derive(Drop)]
 pub(crate) struct Numbers {
     numbers: [u8; 108],
@@ -65,8 +65,8 @@ impl Numbers {
         self.mosts[count]
     }
 
-    /// Whether each number is at most one more than the greatest of 1 and the numbers before it. The
-    /// loop has no way out but its end, so that many numbers are compared at once.
+    /// Returns whether each number is at most one more than the greatest of 1 and the numbers
+    /// before it. The loop has no way out but its end, so that many numbers are compared at once.
     pub(crate) fn grows(&self) -> bool
         ensures { IsTrue result ↔ Grows 1 self.now }
     {

@@ -6,8 +6,8 @@ ghost use Rattle.dd_model.specs.declared.requests.Request.{Request as Asked};
 ghost use Rattle.dd_jobs.specs.Under.{HasNothingUnder};
 ghost use Rattle.dd_partial_table.specs.Search.{GoesOn};
 
-/// A prefix of codes of one size, with what a search keeps to tell early that nothing is under it.
-/// A number is put at its end and taken away again, in place.
+/// A prefix of codes of one size, with what a search keeps to see early that nothing is under the
+/// prefix. A number is put at its end and taken away again, in place.
 pub trait PrefixSearch {
     ghost request: { Self → Asked };
 
@@ -28,7 +28,7 @@ pub trait PrefixSearch {
     // what a search keeps true of its states
     ghost valid: { Self → Type 0 };
 
-    /// Whether the prefix is whole.
+    /// Returns whether the prefix is whole.
     fn is_whole(&self) -> bool
         requires { valid self.now }
         ensures whole { IsTrue result ↔ (length (prefix self.now) ≡ end (size self.now)) }

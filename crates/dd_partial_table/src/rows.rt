@@ -55,10 +55,11 @@ fn bits_of(chamber: u8, image: u8) -> u64
     (1 << chamber) | (1 << image)
 }
 
-/// What is known of three involutions of at most 36 chambers, in the order of codes, where 0
-/// stands for an image that is not known; for each involution the chambers whose images are not
-/// known, as bits; and of each two places that were filled at once, since an involution leads back,
-/// the one, in order, so that both can be cleared again. No call allocates.
+/// What is known of three involutions of at most 36 chambers. No call allocates. It keeps
+///
+/// - the images in the order of codes, where 0 is an image that is not known;
+/// - for each involution the chambers whose images are not known, as bits;
+/// - one of each two places that were filled at once, since an involution leads back. They are in order, so that both can be cleared again.
 #[derive(Drop)]
 pub struct Rows {
     size: u8,
@@ -118,7 +119,8 @@ impl Rows {
         self.numbers[place]
     }
 
-    /// The place at which the image of a place leads back; the place itself where no image is known.
+    /// The place at which the image of a place leads back; the place itself where no image is
+    /// known.
     pub(crate) fn back_from(&self, place: u8) -> u8
         requires ready { IsReady self.now }
         requires place { place < 108 }

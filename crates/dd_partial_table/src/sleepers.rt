@@ -12,7 +12,7 @@ struct Wait {
     place: u8,
 }
 
-/// Start chambers that sleep, each until the image at a place is told, and where each waited
+/// Start chambers that sleep, each until the image at a place is known, and where each waited
 /// before it was moved, in order.
 #[derive(Drop)]
 pub(crate) struct Sleepers {

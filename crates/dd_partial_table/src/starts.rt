@@ -45,8 +45,8 @@ impl Starts {
         self.sleepers.undo(mark);
     }
 
-    /// The starts that wait for what was put into a stem after it had so many numbers, and so much
-    /// was in its table, as bits.
+    /// Returns, as bits, the starts that wait for what was put into a stem since it had `numbers`
+    /// numbers and its table had the mark `mark`.
     fn woken(&self, stem: &Stem, numbers: usize, mark: usize) -> u64
         requires { IsStem stem.now }
     {
@@ -61,9 +61,9 @@ impl Starts {
         woken
     }
 
-    /// Whether the traversal from one of the starts that wait for what was put into a stem gives a
-    /// smaller code, so that nothing is under its prefix. A tie is none. It is told how many
-    /// numbers the stem had before, and how much was in its table.
+    /// Returns whether the traversal from one of the starts that wait for what was put into a stem
+    /// gives a smaller code, so that nothing is under its prefix. A tie is not smaller. `numbers`
+    /// and `mark` are the numbers that the stem had before, and the mark of its table.
     pub fn any_beats(&mut self, stem: &Stem, numbers: usize, mark: usize) -> bool
         requires { IsStem stem.now }
         ensures { IsTrue result

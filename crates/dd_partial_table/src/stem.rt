@@ -57,7 +57,7 @@ impl Stem {
         &self.rows
     }
 
-    /// Whether all images are told.
+    /// Returns whether all images are known.
     pub fn is_whole(&self) -> bool
         requires { IsStem self.now }
         ensures { IsTrue result ↔ (length (prefix_of self.now) ≡ 3 * size_of self.now) }
@@ -72,9 +72,9 @@ impl Stem {
         self.rows.mark()
     }
 
-    /// The numbers that may come next, as bits: the one that is known there, or each chamber without
-    /// an image up to the first that has not been met. There are none where the chamber whose image
-    /// is next has not been met.
+    /// The numbers that may come next, as bits: the one that is known there, or each chamber
+    /// without an image up to the first that has not been met. There are none where the chamber
+    /// whose image is next has not been met.
     #[inline(always)]
     pub fn candidates(&self) -> u64
         requires stem { IsStem self.now }
@@ -115,8 +115,8 @@ impl Stem {
         true
     }
 
-    /// Puts the numbers at the end that are known already, up to the first place where none is. The
-    /// same tables are under the prefix before and after.
+    /// Puts the numbers at the end that are known already, up to the first place with none. The
+    /// tables under the prefix are the same before and after.
     pub fn absorb(&mut self)
         requires { IsStem self.old }
         ensures stem { IsStem self.new }
@@ -131,8 +131,8 @@ impl Stem {
         }
     }
 
-    /// Whether the chamber whose image is next has not been met, so that nothing is under the
-    /// prefix.
+    /// Returns whether the chamber whose image is next has not been met, so that nothing is under
+    /// the prefix.
     pub fn is_stuck(&self) -> bool
         requires { IsStem self.now }
         ensures { IsTrue result → HasNothingUnder Any (size_of self.now) (prefix_of self.now) }
@@ -143,14 +143,15 @@ impl Stem {
         1 + self.prefix.len() / 3 > self.prefix.greatest() as usize
     }
 
-    /// Whether each number is at most one more than the greatest of 1 and the numbers before it.
+    /// Returns whether each number is at most one more than the greatest of 1 and the numbers
+    /// before it.
     pub fn grows(&self) -> bool
         ensures { IsTrue result ↔ Grows 1 (prefix_of self.now) }
     {
         self.prefix.grows()
     }
 
-    /// Whether each chamber but 1 is met among the images of the chambers before it.
+    /// Returns whether each chamber but 1 is met among the images of the chambers before it.
     pub fn meets_all(&self) -> bool
         requires { length (prefix_of self.now) ≡ 3 * size_of self.now }
         ensures { IsTrue result ↔ AreMet (size_of self.now) (prefix_of self.now) }
@@ -178,8 +179,8 @@ impl Stem {
         stand(&self.rows, self.prefix.as_slice(), start, visit)
     }
 
-    /// Whether the traversal from some start gives a smaller code, so that nothing is under the
-    /// prefix. A tie is none. Chamber 1 reads as the prefix itself, and is not tried.
+    /// Returns whether the traversal from some start gives a smaller code, so that nothing is under
+    /// the prefix. A tie is none. Chamber 1 reads as the prefix itself, and is not tried.
     pub fn is_beaten(&self, visit: &mut Visit) -> bool
         requires stem { IsStem self.now }
         requires visiting { IsVisiting visit.old }
@@ -230,7 +231,7 @@ impl Stem {
         self.cut(count, mark);
     }
 
-    /// Takes away all but so many numbers, and what was put into the table after a mark.
+    /// Takes away all but `count` numbers, and what was put into the table after a mark.
     pub fn cut(&mut self, count: usize, mark: usize)
         requires { IsReady self.old.rows }
         ensures { self.new ≡ cut_to self.old count mark }

@@ -46,7 +46,7 @@ impl Visit {
         number
     }
 
-    /// The start alone has a number.
+    /// Only the start has a number.
     fn begin(&mut self, start: u8)
         requires visiting { IsVisiting self.old }
         requires start { (1 ≤ start) × (start ≤ 36) }
@@ -74,9 +74,9 @@ impl Visit {
     }
 }
 
-/// How the traversal from a start chamber stands to a prefix: it reads as the prefix and then
-/// smaller, or larger, whatever else is put in; or that is not decided before the image at a place
-/// is told.
+/// How the traversal from a start chamber compares with a prefix. It reads as the prefix and then
+/// smaller, or larger, whatever else is put in. Or that is not decided before the image at a place
+/// is known.
 #[derive(Clone, Copy, Debug, PartialEq, Eq)]
 pub enum Standing {
     Smaller,

@@ -1,4 +1,4 @@
-//! What the images of a table decide where all of them are told.
+//! What the images of a table decide if all of them are known.
 
 ghost use Rattle.std.specs.Prelude.{◌≡◌, ◌*◌, IfOk, MatchOption, length};
 ghost use Rattle.std.specs.Bool.{OnTrue, OnFalse};
@@ -15,8 +15,9 @@ use dd_model::Memory;
 use dd_symbol::Involutions;
 use std::alloc::Global;
 
-/// Whether the images, which are all told, are those of a least table: the chambers come in the order
-/// of their first visits, all of them are met, and the traversal from no start reads smaller.
+/// Returns whether the images, which are all known, are those of a least table. The chambers come
+/// in the order of their first visits, all of them are met, and the traversal from no start reads
+/// smaller.
 pub fn is_least(stem: &Stem, visit: &mut Visit) -> bool
     requires stem { IsStem stem.now }
     requires whole { length (prefix_of stem.now) ≡ 3 * size_of stem.now }
@@ -37,9 +38,9 @@ pub fn is_least(stem: &Stem, visit: &mut Visit) -> bool
     true
 }
 
-/// The chambers but 1 from which the numbering of the whole table may have the same code; None
-/// where the numbering from some chamber has a smaller one, where the chambers do not come in the
-/// order of their first visits, or where not all of them are connected.
+/// Returns the chambers other than 1 from which the numbering of the whole table may have the same
+/// code. Returns None in three cases: the numbering from some chamber has a smaller code, the
+/// chambers don't come in the order of their first visits, or not all of them are connected.
 pub fn ties(stem: &Stem, alloc: Global) -> Result<Option<Vec<u32>>, Memory>
     requires stem { IsStem stem.now }
     requires whole { length (prefix_of stem.now) ≡ 3 * size_of stem.now }

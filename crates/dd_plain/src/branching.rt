@@ -6,14 +6,14 @@ ghost use Rattle.dd_model.specs.Wanted.{IsCrystallographic};
 use dd_model::Pair;
 use dd_symbol::Connected;
 
-/// Whether a number is 1, 2, 3, 4 or 6.
+/// Returns whether a number is 1, 2, 3, 4 or 6.
 fn is_crystallographic(value: u32) -> bool
     ensures { IsTrue result ↔ IsCrystallographic value }
 {
     [1, 2, 3, 4, 6].contains(&value)
 }
 
-/// Whether each branching value of a pair is 1, 2, 3, 4 or 6.
+/// Returns whether each branching value of a pair is 1, 2, 3, 4 or 6.
 pub fn has_crystallographic_cells(s: &Connected, pair: Pair) -> bool
     ensures { IsTrue result
         ↔ ((d v : ℕ) → IsChamber s.now d → IsBranching s.now pair d v → IsCrystallographic v) }

@@ -123,8 +123,9 @@ fn add_size(alloc: Global, q: &Request, size: u32, list: &mut Vec<Connected>) ->
     Ok(())
 }
 
-/// The catalogue of a request of at most three chambers, ascending. All triples of lists of chambers are
-/// tried, with all lists of degrees of tiles and of vertices. `Err` comes for want of memory alone.
+/// Returns the catalogue of a request of at most three chambers, ascending. It tries all triples of
+/// lists of chambers, with all lists of degrees of tiles and of vertices. It fails only if an
+/// allocation fails.
 pub fn plain_catalogue(alloc: Global, q: &Request) -> Result<Vec<Connected>, Memory>
     requires valid { IsValid q.now }
     requires few { q.now.chambers ≤ 3 }

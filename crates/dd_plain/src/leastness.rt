@@ -12,7 +12,7 @@ use dd_model::Memory;
 use dd_symbol::{Connected, cmp_code, is_bijection};
 use std::alloc::Global;
 
-/// Whether the list with this number renumbers a symbol to one with a smaller code.
+/// Returns whether the list with this number renumbers a symbol to one with a smaller code.
 fn is_beaten_by(alloc: Global, symbol: &Connected, number: u64) -> Result<bool, Memory>
     requires { symbol.now.size ≤ 3 }
     ensures beaten { IfOk result (λ beaten. OnTrue beaten (Least symbol.now → ⊥)) }
@@ -28,7 +28,7 @@ fn is_beaten_by(alloc: Global, symbol: &Connected, number: u64) -> Result<bool, 
     Ok(cmp_code(symbol.symbol(), other.symbol()).is_gt())
 }
 
-/// Whether no renumbering has a smaller code, for a symbol of at most three chambers.
+/// Returns whether no renumbering has a smaller code, for a symbol of at most three chambers.
 pub fn is_least(alloc: Global, symbol: &Connected) -> Result<bool, Memory>
     requires { symbol.now.size ≤ 3 }
     ensures { IfOk result (λ least. IsTrue least ↔ Least symbol.now) }

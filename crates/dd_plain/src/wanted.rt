@@ -11,7 +11,7 @@ use dd_quotient::is_minimal;
 use dd_symbol::Connected;
 use std::alloc::Global;
 
-/// Whether each degree of a pair is in a set.
+/// Returns whether each degree of a pair is in a set.
 fn has_degrees_in(s: &Connected, pair: Pair, set: &Allowed) -> bool
     ensures { IsTrue result ↔ ((d : ℕ) → IsChamber s.now d → IsIn set.now (degree s.now pair d)) }
 {
@@ -24,7 +24,7 @@ fn has_degrees_in(s: &Connected, pair: Pair, set: &Allowed) -> bool
     true
 }
 
-/// Whether a symbol is wanted, but for what is asked of minimality.
+/// Returns whether a symbol is wanted, but for what is asked of minimality.
 fn passes(q: &Request, s: &Connected) -> bool
     ensures { IsTrue result ↔ Passes q.now s.now }
 {
@@ -38,7 +38,7 @@ fn passes(q: &Request, s: &Connected) -> bool
         && has_at_most(s, Pair::Vertex, q.vertices)
 }
 
-/// Whether a symbol is one that a request asks for.
+/// Returns whether a symbol is one that a request asks for.
 pub fn is_wanted(alloc: Global, q: &Request, connected: &Connected) -> Result<bool, Memory>
     ensures { IfOk result (λ yes. IsTrue yes ↔ Wanted q.now connected.now) }
 {

@@ -2,7 +2,8 @@ ghost use Rattle.std.specs.Prelude.{◌≡◌, ℕ, ◌≤◌};
 
 use std::marker::Model;
 
-/// How often something has failed, or has run out of memory. At the last value of its type the count stays.
+/// How often something has failed, or has run out of memory. At the last value of its type the
+/// count stays.
 #[derive(Clone, Copy, Debug, PartialEq, Eq)]
 pub(crate) struct FaultCount {
     count: u64,

@@ -1,4 +1,5 @@
-//! The outside of the program: where it stores texts, where it writes, and the gate before each job.
+//! The outside of the program: where it stores texts, where it writes, and the gate before each
+//! job.
 #![tactic(auto)]
 
 mod fault_count;

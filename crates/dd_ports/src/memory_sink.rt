@@ -9,7 +9,7 @@ use crate::schedule::Schedule;
 use crate::sink::{Sink, SinkFault};
 use std::alloc::Global;
 
-/// A sink in memory that takes at most so many bytes a write, and whose writes with the listed
+/// A sink in memory that takes at most `most` bytes a write, and whose writes with the listed
 /// numbers fail.
 #[derive(Drop)]
 pub struct MemorySink {

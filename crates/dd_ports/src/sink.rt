@@ -25,7 +25,7 @@ impl From<AllocError> for SinkFault {
 
 /// A stream of bytes to the outside.
 pub trait Sink {
-    /// The bytes that it holds, where it tells them.
+    /// The bytes that it holds, if they are known.
     ghost held: { Self → Option (List ℕ) };
 
     /// How often it has failed. It never falls.
@@ -34,7 +34,7 @@ pub trait Sink {
     /// How often it has run out of memory. It never falls.
     ghost shortages: { Self → ℕ };
 
-    /// Whether no write to come fails.
+    /// True if no write to come fails.
     ghost sure: { Self → Bool };
 
     /// Takes some bytes from the front of a piece, and answers how many.

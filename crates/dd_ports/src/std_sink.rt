@@ -4,13 +4,13 @@ use crate::fault_count::FaultCount;
 use crate::sink::{Sink, SinkFault};
 use std::io::Write;
 
-/// How many bytes are handed to a writer at once. Where it was measured, a file took 32 MiB in pieces
-/// of 4 MiB within 41 to 53 ms in four of five tries and 10 ms in the fifth, and within 8 to 15 ms in
-/// pieces of 1 MiB and less, but for a first try.
+/// How many bytes are handed to a writer at once. This was measured with 32 MiB into a file. Pieces
+/// of 4 MiB took 41 to 53 ms in four of five tries, and 10 ms in the fifth. Pieces of 1 MiB and
+/// less took 8 to 15 ms, except in a first try.
 const PIECE: usize = 262_144;
 
-/// A writer of the system, whose faults are counted. It tells what it holds where the writer does,
-/// which a real stream does not.
+/// A writer of the system, whose faults are counted. What it holds is known if it is known of the
+/// writer, and it is not known of a real stream.
 #[derive(Drop)]
 pub struct StdSink<W: Write + Drop> {
     inner: W,

@@ -19,7 +19,7 @@ pub enum Fetched {
 pub enum StoreFault {
     /// The store failed, and counted it.
     Failed,
-    /// Want of memory.
+    /// Out of memory.
     Memory,
 }
 
@@ -41,16 +41,16 @@ impl<T: Drop> From<AllocFailed<T>> for StoreFault {
 
 /// Texts under names.
 pub trait Store {
-    /// Whether it tells what it holds.
+    /// True if it is known what the store holds.
     ghost tells: { Self → Bool };
 
-    /// The text under a name, where it tells it.
+    /// The text under a name, if it is known.
     ghost held: { Self → List ℕ → Option (List ℕ) };
 
     /// How often it has failed. It never falls.
     ghost faults: { Self → ℕ };
 
-    /// Whether no call to come fails, but a fetch of a name that holds nothing.
+    /// True if no call to come fails, but a fetch of a name that holds nothing.
     ghost sure: { Self → Bool };
 
     /// Fetches the first bytes of a text. It changes no text.

@@ -4,7 +4,7 @@ use crate::fault_count::FaultCount;
 use crate::sink::{Sink, SinkFault};
 use std::alloc::Global;
 
-/// A sink in memory that never fails but for want of memory.
+/// A sink in memory that never fails but for lack of memory.
 #[derive(Drop)]
 pub struct SureSink {
     bytes: Vec<u8>,

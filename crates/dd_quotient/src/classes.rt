@@ -10,7 +10,8 @@ use std::collections::BTreeMap;
 /// The degrees of a chamber, its class and the classes of its three neighbors.
 type Signature = [u32; 6];
 
-/// The first chamber that came with a signature; the given one, which is kept, where there was none.
+/// The first chamber that came with a signature; the given one, which is kept, where there was
+/// none.
 fn meet(
     firsts: &mut BTreeMap<Signature, u32>,
     signature: Signature,
@@ -25,7 +26,7 @@ fn meet(
     Ok(chamber)
 }
 
-/// What tells a chamber from others at once.
+/// Returns what distinguishes a chamber from others at once.
 fn signature_of(s: &Symbol, classes: &[u32], chamber: u32) -> Signature
     requires images { length classes.now ≡ s.now.size }
     requires chamber { IsChamber s.now chamber }
@@ -41,7 +42,7 @@ fn signature_of(s: &Symbol, classes: &[u32], chamber: u32) -> Signature
     ]
 }
 
-/// Tells chambers of one class apart where a neighbor tells them apart.
+/// Puts chambers of one class into different classes if their neighbors are in different ones.
 fn refined(alloc: Global, s: &Symbol, classes: &[u32]) -> Result<Vec<u32>, Memory>
     requires { length classes.now ≡ s.now.size }
     ensures { IfOk result (λ finer. IsRefined s.now classes.now finer.items) }
@@ -55,8 +56,8 @@ fn refined(alloc: Global, s: &Symbol, classes: &[u32]) -> Result<Vec<u32>, Memor
     Ok(finer)
 }
 
-/// For each chamber the least one that is alike with it. The classes are refined by what the
-/// neighbors tell, until nothing more is told.
+/// Returns for each chamber the least one that is alike with it. The classes are refined by the
+/// classes of the neighbors until no class is split any more.
 pub(crate) fn alike_classes(alloc: Global, s: &Connected) -> Result<Vec<u32>, Memory>
     ensures { IfOk result (λ classes. AreAlikeClasses s.now classes.items) }
 {

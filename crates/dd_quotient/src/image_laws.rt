@@ -35,8 +35,8 @@ pub fn minimal_symbols_are_their_images()
     ensures order { (s : Symbol) → IsInOrder s (count_from 1 s.size) }
 {}
 
-/// Where a minimal image has a branching value over 30 none has small values alone, and the first
-/// such value does not depend on the image.
+/// If one minimal image has a branching value over 30, all have one. The first such value does not
+/// depend on the image.
 pub fn first_large_values_are_unique()
     ensures excluded { (s m t : Symbol) (f g : List ℕ) (v : ℕ) → IsTable s → IsFirstTooLarge s m f v
         → IsMinimalImage s t g → AreAllSmall t → ⊥ }

@@ -6,7 +6,8 @@ use dd_model::Memory;
 use dd_symbol::Connected;
 use std::alloc::Global;
 
-/// Whether alike chambers are equal: whether no two chambers agree in the degrees at all words.
+/// Returns whether alike chambers are equal: whether no two chambers agree in the degrees at all
+/// words.
 pub fn is_minimal(alloc: Global, s: &Connected) -> Result<bool, Memory>
     ensures { IfOk result (λ yes. IsTrue yes ↔ Minimal s.now) }
 {

@@ -2,23 +2,25 @@ ghost use Rattle.std.specs.Prelude.{◌*◌, ◌<◌, IsTrue, length};
 
 use dd_model::Job;
 
-/// So many jobs for each worker are to wait.
+/// How many jobs for each worker are to wait.
 const AHEAD: u64 = 4;
 
-/// While fewer than so many for each worker wait, longer jobs are split too.
+/// While fewer jobs than this wait for each worker, longer jobs are split too.
 const SCARCE: u64 = 2;
 
-/// In tables of at least so many chambers a job of a few numbers may have more under it than all other jobs of its round.
+/// From this number of chambers on, a job of a few numbers may have more under it than all other
+/// jobs of its round.
 const LARGE: u32 = 16;
 
-/// Whether something may be under one of a job's children. Where nothing is under any of them a search
-/// may answer one child alone, with the number 0.
+/// Returns whether something may be under one of a job's children. If nothing is under any of them,
+/// a search may return a single child, with the number 0.
 pub fn is_worth_a_split(children: &[Job]) -> bool {
     !matches!(children, [only] if only.prefix.as_slice().last() == Some(&0))
 }
 
-/// How many numbers a job may have that is split. Much is under a job of a few numbers; but of the jobs of a large size
-/// one with 18 numbers may have nearly half of the work, and the other workers then have nothing to do at last.
+/// Returns how many numbers a job may have that is split. Much is under a job of a few numbers. But
+/// one job of a large size with 18 numbers may have nearly half of the work of all, and the other
+/// workers then have nothing to do at last.
 fn longest_split(size: u32, waiting: u64, others: u64) -> u64 {
     if waiting / SCARCE <= others {
         30
@@ -31,8 +33,8 @@ fn longest_split(size: u32, waiting: u64, others: u64) -> u64 {
     }
 }
 
-/// Whether a job is to be split: its prefix is short, so that much may be under it, and the more so the fewer jobs wait
-/// for as many workers. A worker that is alone splits none.
+/// Returns whether a job is to be split. Its prefix is short, so that much may be under it. It may
+/// be longer if fewer jobs wait for the workers. A single worker splits none.
 pub fn is_to_split(job: &Job, waiting: u64, others: usize) -> bool
     ensures { IsTrue result → length job.now.prefix < 3 * job.now.size }
 {

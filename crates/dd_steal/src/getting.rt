@@ -10,7 +10,8 @@ use std::hint;
 use std::sync::Wait;
 use std::sync::ledger::Ledger;
 
-/// How often a worker looks for a job that is open, while none is just being split, before it is through: some 50 microseconds.
+/// How often a worker looks for a job that is open, while none is just being split, before it is
+/// through: some 50 microseconds.
 const LOOKS: u32 = 2000;
 
 /// How often it looks at all: some seconds.
@@ -71,8 +72,9 @@ fn wait_for_jobs<N: Naming, K: Ledger, L: Ledger, S: Ledger, D: Ledger, B: Ledge
     }
 }
 
-/// The next ticket: the first of the worker's own deque, else that of the first job that is open, else one of another
-/// worker. A worker that has done a job and finds its deque empty takes another job ahead.
+/// The next ticket: the first of the worker's own deque, else that of the first job that is open,
+/// else one of another worker. A worker that has done a job and finds its deque empty takes another
+/// job ahead.
 pub fn next_ticket<N: Naming, K: Ledger, L: Ledger, S: Ledger, D: Ledger, B: Ledger, R: Wait>(
     rt: &R,
     board: &Board<N, K, L, S, D, B>,

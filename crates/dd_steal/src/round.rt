@@ -21,8 +21,8 @@ use std::sync::ledger::Ledger;
 use std::thread;
 use std::thread::Threads;
 
-/// How many tickets a worker may put into its deque: one for each job of the round. A deque's room is all taken at once, and a
-/// round may be short.
+/// How many tickets a worker may put into its deque: one for each job of the round. A deque's room
+/// is all taken at once, and a round may be short.
 fn room_for(jobs: usize) -> u32
     ensures low { 1 ≤ result }
     ensures high { result ≤ 4096 }
@@ -30,8 +30,8 @@ fn room_for(jobs: usize) -> u32
     jobs.clamp(1, 4096) as u32
 }
 
-/// How many workers do a round that may have so many: one where nothing is under its jobs. That is
-/// sooner seen than a thread is started, and in many rounds of a large size it is so.
+/// Returns how many of at most `workers` workers do a round: one if nothing is under its jobs. To
+/// see this takes less time than to start a thread, and many rounds of a large size are so.
 fn crew_size<F: Finder>(
     alloc: Global,
     finder: &mut F,
@@ -55,9 +55,9 @@ fn crew_size<F: Finder>(
     Ok(1)
 }
 
-/// Does the jobs of a round by at most so many workers. Each entry that comes back is done with what is under its job. The jobs
-/// of the entries are parts of the round's jobs, of each at least one, and in order they have all that is under these.
-/// `Err` comes for want of memory alone.
+/// Does the jobs of a round by at most `workers` workers. Each entry that comes back is done with
+/// what is under its job. The jobs of the entries are parts of the round's jobs, at least one of
+/// each, and in order they have all that is under these. It fails only if an allocation fails.
 pub fn run_round<R: Threads + Wait + Sync, F: Finder + Sync, G: Gate + Sync>(
     rt: &R,
     alloc: Global,

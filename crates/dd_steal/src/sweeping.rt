@@ -11,8 +11,8 @@ use dd_model::Memory;
 use dd_symbol_list::SymbolList;
 use std::alloc::Global;
 
-/// Gives back every job that is out and then does every one that is open, on this thread and as worker 1. After `Err`
-/// some of it is done.
+/// Gives back every job that is out and then does every one that is open, on this thread and as
+/// worker 1. After `Err` some of it is done.
 pub fn sweep<N: Naming, F: Finder>(
     alloc: Global,
     finder: &mut F,

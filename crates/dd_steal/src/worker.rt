@@ -73,8 +73,8 @@ fn do_job<N: Naming, K: Ledger, L: Ledger, S: Ledger, D: Ledger, B: Ledger, R: W
     }
 }
 
-/// What a worker does in a round, until no job is open or memory runs out. It passes the gate before each job, and has
-/// at most one ticket outside its deque.
+/// What a worker does in a round, until no job is open or memory runs out. It passes the gate
+/// before each job, and has at most one ticket outside its deque.
 pub fn work<
     N: Naming,
     K: Ledger,

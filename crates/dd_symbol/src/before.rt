@@ -9,8 +9,8 @@ impl Table {
     ghost use Rattle.dd_symbol.specs.Table.{symbol_of};
     ghost use Rattle.dd_model.specs.Position.{IsBefore};
 
-    /// Whether the code is smaller at the first place that it shares with a list and where they
-    /// differ.
+    /// Returns whether the code is smaller at the first place that it shares with a list and where
+    /// they differ.
     fn is_smaller_where_they_differ(&self, others: &[u8]) -> bool
         ensures { IsTrue result ↔ IsSmallerWhereTheyDiffer (code (symbol_of self.now)) others.now }
     {
@@ -25,7 +25,7 @@ impl Table {
         false
     }
 
-    /// Whether the symbol of the lists is before a position.
+    /// Returns whether the symbol of the lists is before a position.
     pub(crate) fn is_before(&self, position: &Position) -> bool
         ensures { IsTrue result ↔ IsBefore position.now (symbol_of self.now) }
     {

@@ -66,8 +66,9 @@ pub fn build_on(
     Ok(Connected::from_symbol(Symbol::from_table(table)))
 }
 
-/// The connected symbol with these involutions and degrees, which are known to be those of one where
-/// the involutions are connected and s0 s2 is s2 s0; None where they are not. Degrees are not tested.
+/// The connected symbol with these involutions and degrees, which are known to be those of one
+/// where the involutions are connected and s0 s2 is s2 s0; None where they are not. Degrees are not
+/// tested.
 pub fn build_fitting(
     alloc: Global,
     involutions: Involutions,

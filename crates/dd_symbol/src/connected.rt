@@ -46,7 +46,7 @@ impl Connected {
         &self.symbol
     }
 
-    /// The same symbol, for a reader of many of its numbers.
+    /// Returns the same symbol, for a reader of many of its numbers.
     pub fn lend(&self) -> SymbolRef<'_>
         ensures same { result ≡ self.now }
         ensures symbol { IsSmallSymbol self.now }

@@ -97,7 +97,8 @@ impl Table {
         Ok(())
     }
 
-    /// Refuses a degree that is no multiple of the r of its cell, which is counted once for each cell.
+    /// Refuses a degree that is no multiple of the r of its cell, which is counted once for each
+    /// cell.
     fn check_multiples(&self, pair: Pair, least: &[u32]) -> Result<(), Refusal>
         requires table { AreConnected (symbol_of self.now) }
         requires positive { OfBoth (ArePositive (symbol_of self.now)) }

@@ -54,8 +54,8 @@ impl Involutions {
     ghost use Rattle.dd_model.specs.Code.{code};
     ghost use Rattle.dd_model.specs.Involutions.{HaveSameInvolutions};
 
-    /// The involutions with these images, s0, s1 and s2 of chamber 1, then those of chamber 2 and so
-    /// on; None where they are no involutions.
+    /// The involutions with these images, s0, s1 and s2 of chamber 1, then those of chamber 2 and
+    /// so on; None where they are no involutions.
     pub fn from_bytes(
         alloc: Global,
         images: &[u8],
@@ -166,7 +166,7 @@ impl Involutions {
         self.rows.numbers.cmp(&other.rows.numbers)
     }
 
-    /// Whether these are the same three involutions of as many chambers.
+    /// Returns whether these are the same three involutions of as many chambers.
     pub(crate) fn is_same(&self, other: &Involutions) -> bool
         ensures { IsTrue result ↔ HaveSameInvolutions other.now self.now }
     {
@@ -189,7 +189,7 @@ impl Involutions {
         })
     }
 
-    /// The same involutions, followed by degrees.
+    /// Returns the same involutions, followed by degrees.
     pub(crate) fn followed_by(
         self,
         alloc: Global,
@@ -208,7 +208,7 @@ impl Involutions {
         })
     }
 
-    /// The same involutions, followed by degrees that fit in bytes.
+    /// Returns the same involutions, followed by degrees that fit in bytes.
     pub(crate) fn followed_by_bytes(self, m01: &[u8], m12: &[u8]) -> Result<Involutions, Memory>
         requires tiles { length m01.now ≡ self.size }
         ensures { IfOk result (λ it. it ≡ with_degrees self m01.now m12.now) }

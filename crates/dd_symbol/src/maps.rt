@@ -44,7 +44,7 @@ pub fn inverse(alloc: Global, map: &[u32]) -> Result<Option<Vec<u32>>, Memory>
     Ok(Some(back))
 }
 
-/// Whether a list is a bijection of the chambers.
+/// Returns whether a list is a bijection of the chambers.
 pub fn is_bijection(alloc: Global, map: &[u32]) -> Result<bool, Memory>
     requires { length map.now ≤ 16384 }
     ensures { IfOk result (λ yes. IsTrue yes ↔ IsBijection (length map.now) map.now) }

@@ -7,7 +7,8 @@ ghost use Rattle.dd_symbol.specs.Refusals.{IsRefused};
 use dd_model::{Index, Memory, Pair};
 use std::fmt;
 
-/// Why five lists are not taken as a connected symbol, in the order in which the causes are looked for.
+/// Why five lists are not taken as a connected symbol, in the order in which the causes are looked
+/// for.
 #[derive(Debug, Clone, Copy, PartialEq, Eq)]
 pub enum Refusal {
     /// There is no chamber.
@@ -39,7 +40,8 @@ pub enum Refusal {
         pair: Pair,
         chamber: u32,
     },
-    /// A degree is not that of the least chamber of its cell: of tiles before vertices, the least chamber.
+    /// A degree is not that of the least chamber of its cell: of tiles before vertices, the least
+    /// chamber.
     DegreeVaries {
         pair: Pair,
         chamber: u32,

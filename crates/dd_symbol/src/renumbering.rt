@@ -63,7 +63,7 @@ impl Involutions {
         Ok(())
     }
 
-    /// The same involutions under the numbers that a map gives.
+    /// Returns the same involutions under the numbers that a map gives.
     fn renumbered(&self, alloc: Global, map: &[u32], back: &[u32]) -> Result<Involutions, Memory>
         requires maps { AreInverse self.now.size map.now back.now }
         ensures carried { IfOk result (λ it. IsCarried self.now it map.now back.now) }
@@ -102,7 +102,7 @@ impl Table {
         Ok(degrees)
     }
 
-    /// The same chambers under the numbers that a map gives.
+    /// Returns the same chambers under the numbers that a map gives.
     pub(crate) fn renumbered(
         &self,
         alloc: Global,

@@ -15,8 +15,8 @@ pub(crate) struct Rows {
     ghost small: { size < 16385 },
 }
 
-/// Where the image under an involution stands in the row of a chamber. It is a choice of a number, and
-/// not of a call, so that a list is read in one place.
+/// Where the image under an involution stands in the row of a chamber. It is a choice of a number,
+/// and not of a call, so that a list is read in one place.
 fn row_place(i: Index) -> usize
     ensures place { result ≡ row_place i }
     ensures small { result < 3 }
@@ -32,8 +32,8 @@ impl Rows {
     ghost use Rattle.dd_symbol.specs.Images.{rows_of, of_rows};
     ghost use Rattle.dd_model.specs.Symbol.{IsChamber, op};
 
-    /// The rows with these images, s0, s1 and s2 of chamber 1, then those of chamber 2 and so on, and
-    /// with room for degrees.
+    /// The rows with these images, s0, s1 and s2 of chamber 1, then those of chamber 2 and so on,
+    /// and with room for degrees.
     pub(crate) fn from_bytes(alloc: Global, images: &[u8], size: u32) -> Result<Rows, Memory>
         requires length { length images.now ≡ 3 * size }
         requires small { size ≤ 16384 }
@@ -52,7 +52,7 @@ impl Rows {
         self.size
     }
 
-    /// Whether a chamber number is one of 1 to the size.
+    /// Returns whether a chamber number is one of 1 to the size.
     pub(crate) fn has(&self, chamber: u32) -> bool
         ensures { IsTrue result ↔ IsChamber (rows_of self.now) chamber }
     {

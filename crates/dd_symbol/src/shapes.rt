@@ -1,11 +1,11 @@
 use crate::kind::Kind;
 
-/// What is told of one cell of a pair.
+/// The shape of one cell of a pair.
 #[derive(Debug, Clone, Copy, PartialEq, Eq)]
 pub struct CellShape {
     /// The least of its chambers.
     pub least: u32,
-    /// Whether it is a cycle or a chain.
+    /// A cycle or a chain.
     pub kind: Kind,
     /// The least positive number of turns that fixes a chamber.
     pub r: u32,

@@ -59,7 +59,7 @@ impl Symbol {
         self.table.size()
     }
 
-    /// The same symbol, for a reader of many of its numbers.
+    /// Returns the same symbol, for a reader of many of its numbers.
     pub(crate) fn lend(&self) -> SymbolRef<'_>
         ensures { result ≡ self.now }
     {
@@ -144,21 +144,22 @@ impl Symbol {
         self.table.code(alloc)
     }
 
-    /// Whether the symbol is before a position.
+    /// Returns whether the symbol is before a position.
     pub fn is_before(&self, position: &Position) -> bool
         ensures { IsTrue result ↔ IsBefore position.now self.now }
     {
         self.table.is_before(position)
     }
 
-    /// Whether another symbol has as many chambers and the same three involutions.
+    /// Returns whether another symbol has as many chambers and the same three involutions.
     pub fn has_involutions_of(&self, other: &Symbol) -> bool
         ensures { IsTrue result ↔ HaveSameInvolutions other.now self.now }
     {
         self.table.involutions.is_same(&other.table.involutions)
     }
 
-    /// The symbol with these involutions and other degrees, which are known to be those of a symbol.
+    /// The symbol with these involutions and other degrees, which are known to be those of a
+    /// symbol.
     pub(crate) fn with_known_degrees(
         &self,
         alloc: Global,

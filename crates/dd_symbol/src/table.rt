@@ -31,7 +31,7 @@ impl Table {
         self.involutions.size()
     }
 
-    /// The same lists, for a reader of many numbers.
+    /// Returns the same lists, for a reader of many numbers.
     pub(crate) fn lend(&self) -> SymbolRef<'_>
         ensures { result ≡ symbol_of self.now }
     {

@@ -13,7 +13,8 @@ use std::marker::Model;
 #[derive(Drop)]
 pub struct Alike<'a> {
     pub(crate) table: &'a Connected,
-    /// Of each symbol the degrees of its tiles at the chambers 1 to n, and then those of its vertices.
+    /// For each symbol, the degrees of its tiles at the chambers 1 to n, and then those of its
+    /// vertices.
     pub(crate) degrees: &'a [u8],
     pub(crate) count: usize,
 }

@@ -6,8 +6,8 @@ ghost use Rattle.dd_symbol.specs.Images.{with_degrees};
 
 use dd_symbol::Connected;
 
-/// A symbol of a list: a table, which has its involutions and any degrees, and its own degrees of the
-/// tiles and the vertices.
+/// A symbol of a list: a table, which has its involutions and any degrees, and its own degrees of
+/// the tiles and the vertices.
 #[derive(Drop)]
 pub struct Listed<'a> {
     pub table: &'a Connected,
@@ -35,7 +35,8 @@ impl<'a> Listed<'a> {
         u32::from(self.m12[place - 4 * size])
     }
 
-    /// Whether the code is smaller at the first place that it shares with a list and where they differ.
+    /// Returns whether the code is smaller at the first place that it shares with a list and where
+    /// they differ.
     pub(crate) fn is_smaller_where_they_differ(&self, others: &[u8]) -> bool
         requires { IsSmallSymbol (with_degrees self.now.table.now self.now.m01.now
             self.now.m12.now) }

@@ -29,7 +29,8 @@ impl Series {
     }
 }
 
-/// The number of the first series that begins after a symbol; where there is none, how many there are.
+/// The number of the first series that begins after a symbol; where there is none, how many there
+/// are.
 pub(crate) fn next_after(series: &[Series], symbol: usize) -> usize
     requires { IsNonDecreasingBy (λ (one : Series). one.first) series.now }
     ensures within { result ≤ length series.now }
@@ -39,8 +40,8 @@ pub(crate) fn next_after(series: &[Series], symbol: usize) -> usize
     series.partition_point(|one| one.first <= symbol)
 }
 
-/// The number of the symbol before which a series ends: that of the first one of the next series, but
-/// none over `most`.
+/// The number of the symbol before which a series ends: that of the first one of the next series,
+/// but none over `most`.
 pub(crate) fn end_before(series: &[Series], next: usize, most: usize) -> usize
     ensures most { result ≤ most }
     ensures next { next < length series.now → result ≤ (series_at series.now next).first }

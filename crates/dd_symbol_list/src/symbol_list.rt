@@ -11,9 +11,9 @@ use dd_symbol::{Connected, Symbol};
 use std::alloc::Global;
 use std::marker::Model;
 
-/// Connected symbols in order, with degrees of at most 255. Of symbols that follow each other and have
-/// the same involutions one is kept, their table, and of each of them the degrees of its tiles and
-/// vertices alone, two bytes a chamber.
+/// Connected symbols in order, with degrees of at most 255. Symbols that follow each other and have
+/// the same involutions share one table. The list keeps only the degrees of each, two bytes a
+/// chamber.
 #[derive(Drop)]
 pub struct SymbolList {
     pub(crate) series: Vec<Series>,
@@ -33,7 +33,7 @@ impl Model for SymbolList {
     ghost invariant = { λ a. AreListed a.series.items a.degrees.items a.count };
 }
 
-/// Whether the last series has the involutions of a symbol.
+/// Returns whether the last series has the involutions of a symbol.
 fn has_last(series: &[Series], symbol: &Symbol) -> bool
     ensures { IsTrue result ↔ IsLast symbol.now series.now }
 {
@@ -43,8 +43,8 @@ fn has_last(series: &[Series], symbol: &Symbol) -> bool
     }
 }
 
-/// Begins a series where the last one has other involutions than a table: so many symbols are before
-/// it, and so many bytes of degrees.
+/// Begins a series if the last one has other involutions than a table. The series notes how many
+/// symbols, and how many bytes of degrees, are before it.
 fn begin(
     series: &mut Vec<Series>,
     table: &Connected,
@@ -92,9 +92,9 @@ impl SymbolList {
         self.count
     }
 
-    /// Appends the symbol with the involutions of a table and these degrees, those of the tiles at the
-    /// chambers 1 to n and then those of the vertices. They are known to be those of a symbol. At `Err`
-    /// the list is as before.
+    /// Appends the symbol with the involutions of a table and these degrees, those of the tiles at
+    /// the chambers 1 to n and then those of the vertices. They are known to be those of a symbol.
+    /// At `Err` the list is as before.
     pub fn push(&mut self, table: &Connected, degrees: &[u8]) -> Result<(), Memory>
         requires { IsSmallSymbol (with_told table.now degrees.now) }
         ensures list { OnOk result
@@ -108,8 +108,8 @@ impl SymbolList {
         Ok(())
     }
 
-    /// Appends the symbol with the involutions of the last one and these degrees, as `push` has them. It
-    /// compares no tables. At `Err` the list is as before.
+    /// Appends the symbol with the involutions of the last one and these degrees, as `push` has
+    /// them. It compares no tables. At `Err` the list is as before.
     pub fn push_alike(&mut self, degrees: &[u8]) -> Result<(), Memory>
         requires some { 1 ≤ length self.old }
         requires small { (s : Tiling) → s ≡ slice_index_or self.old (length self.old - 1) s

@@ -38,7 +38,7 @@ impl<'a> Symbols<'a> {
         self.end - self.start
     }
 
-    /// The first so many, and the others.
+    /// Returns the first `count` symbols, and the others.
     pub fn split_at(&self, count: usize) -> (Symbols<'a>, Symbols<'a>)
         requires { count ≤ length self.now }
         ensures first { result.0 ≡ take count self.now }
@@ -77,7 +77,7 @@ impl<'a> Symbols<'a> {
         table.with_known_degrees(alloc, m01, m12)
     }
 
-    /// Whether the symbol at a place is before a position.
+    /// Returns whether the symbol at a place is before a position.
     pub fn is_before(&self, place: usize, at: &Position) -> bool
         requires { place < length self.now }
         ensures { (s : Tiling) → s ≡ slice_index_or self.now place s

@@ -5,8 +5,9 @@ ghost use Rattle.dd_template.specs.Shares.{share, curvature_unit};
 use crate::tables::{Degree, Kind, Template};
 use dd_model::Pair;
 
-/// Curvature is counted in parts of 1, of which there are so many: the least common multiple of 1
-/// to 64, so that 1/c is a whole number of parts for each factor or degree c of a lawful table.
+/// The number of parts into which 1 is cut when curvature is counted. It is the least common
+/// multiple of 1 to 64, so 1/c is a whole number of parts for each factor or degree c of a lawful
+/// table.
 const CURVATURE_UNIT: u128 = 1182266884102822267511361600;
 
 /// A fraction 1/c, counted in parts of 1.
@@ -51,7 +52,7 @@ impl<const K: usize> Template<K> {
         total
     }
 
-    /// Whether the table keeps the curvature of every symbol.
+    /// Returns whether the table keeps the curvature of every symbol.
     pub(crate) fn keeps_curvature(&self) -> bool
         requires some { 1 ≤ K }
         requires few { K ≤ 64 }

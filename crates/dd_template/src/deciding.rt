@@ -7,7 +7,7 @@ ghost use Rattle.dd_template.specs.Moves.{AreUndone};
 use crate::tables::Template;
 use dd_model::Pair;
 
-/// Whether the moves lead back, s0 and s2 commute, and the parts are joined.
+/// Returns whether the moves lead back, s0 and s2 commute, and the parts are joined.
 fn have_moves<const K: usize>(template: &Template<K>) -> bool
     requires some { 1 ≤ K }
     ensures moves { IsTrue result ↔ HaveMoves (table_of template.now) }
@@ -16,7 +16,7 @@ fn have_moves<const K: usize>(template: &Template<K>) -> bool
     template.are_undone() && template.commute() && template.are_joined() && template.are_used()
 }
 
-/// Whether the entries are those of tiles and vertices, and keep the curvature.
+/// Returns whether the entries are those of tiles and vertices, and keep the curvature.
 fn have_entries<const K: usize>(template: &Template<K>) -> bool
     requires some { 1 ≤ K }
     requires few { K ≤ 64 }
@@ -30,8 +30,8 @@ fn have_entries<const K: usize>(template: &Template<K>) -> bool
         && template.keeps_curvature()
 }
 
-/// Whether a table of 1 to 64 parts is lawful: its moves lead back, commute and join all parts, and
-/// its entries fit them and add up. It takes no memory.
+/// Returns whether a table of 1 to 64 parts is lawful: its moves lead back, commute and join all
+/// parts, and its entries fit them and add up. It takes no memory.
 pub fn is_lawful<const K: usize>(template: &Template<K>) -> bool
     ensures { IsTrue result ↔ IsLawful (table_of template.now) }
 {

@@ -9,7 +9,7 @@ impl<const K: usize> Template<K> {
     ghost use Rattle.dd_template.specs.Moves.{AreUndone};
     ghost use Rattle.dd_template.specs.Entries.{AllFit, GoWithin, IsApart, IsTurned, Fits, entries};
 
-    /// Whether the moves of a pair go by the involutions of another, or by none.
+    /// Returns whether the moves of a pair go by the involutions of another, or by none.
     fn go_within(&self, pair: Pair, other: Pair, part: usize) -> bool
         requires part { part < K }
         ensures { IsTrue result ↔ GoWithin (table_of self.now) pair other part }
@@ -18,7 +18,7 @@ impl<const K: usize> Template<K> {
             && goes_by(other, self.move_of(pair.second(), part).by)
     }
 
-    /// Whether fewer turns do not lead a part back to itself.
+    /// Returns whether fewer turns do not lead a part back to itself.
     fn is_apart(&self, pair: Pair, part: usize, turns: usize) -> bool
         requires undone { AreUndone (table_of self.now) }
         requires part { part < K }
@@ -33,7 +33,8 @@ impl<const K: usize> Template<K> {
         true
     }
 
-    /// Whether a part is first met again after so many turns, with two letters of the other pair.
+    /// Returns whether a part is first met again after `turns` turns, with two letters of the other
+    /// pair.
     fn is_turned(&self, pair: Pair, other: Pair, part: usize, turns: u32) -> bool
         requires undone { AreUndone (table_of self.now) }
         requires part { part < K }
@@ -49,7 +50,7 @@ impl<const K: usize> Template<K> {
                 || walk.word.is_two(other.second(), other.first()))
     }
 
-    /// Whether the entry of a part fits the moves of its pair.
+    /// Returns whether the entry of a part fits the moves of its pair.
     fn fits(&self, pair: Pair, part: usize) -> bool
         requires undone { AreUndone (table_of self.now) }
         requires part { part < K }
@@ -72,7 +73,7 @@ impl<const K: usize> Template<K> {
         }
     }
 
-    /// Whether the entries of all parts fit.
+    /// Returns whether the entries of all parts fit.
     pub(crate) fn all_fit(&self, pair: Pair) -> bool
         requires undone { AreUndone (table_of self.now) }
         requires few { K ≤ 64 }

@@ -49,7 +49,8 @@ impl<const K: usize> Template<K> {
         None
     }
 
-    /// Whether moves that stay in the chamber join all parts: each step meets one part more.
+    /// Returns whether moves that stay in the chamber join all parts: each step meets one part
+    /// more.
     pub(crate) fn are_joined(&self) -> bool
         requires undone { AreUndone (table_of self.now) }
         requires some { 1 ≤ K }
@@ -66,7 +67,7 @@ impl<const K: usize> Template<K> {
         true
     }
 
-    /// Whether some move goes by the involution.
+    /// Returns whether some move goes by the involution.
     fn is_used(&self, index: Index) -> bool
         ensures { IsTrue result ↔ IsUsed (table_of self.now) index }
     {
@@ -81,7 +82,7 @@ impl<const K: usize> Template<K> {
         false
     }
 
-    /// Whether each of the three involutions is that of some move.
+    /// Returns whether each of the three involutions is that of some move.
     pub(crate) fn are_used(&self) -> bool
         ensures { IsTrue result ↔ AreUsed (table_of self.now) }
     {

@@ -12,7 +12,7 @@ pub(crate) struct Walk {
     pub(crate) word: Letters,
 }
 
-/// Whether a move goes by an involution of the pair, or by none.
+/// Returns whether a move goes by an involution of the pair, or by none.
 pub(crate) fn goes_by(pair: Pair, by: Option<Index>) -> bool
     ensures { IsTrue result ↔ GoesBy pair by }
 {
@@ -50,7 +50,8 @@ impl<const K: usize> Template<K> {
         self.moves_by(index)[part]
     }
 
-    /// Whether each move of a row, which has one for each part, leads back by the same involution.
+    /// Returns whether each move of a row, which has one for each part, leads back by the same
+    /// involution.
     fn lead_back(row: &[Move; K]) -> bool
         ensures back { IsTrue result ↔ RowLeadsBack row.now }
         ensures parts { length row.now ≡ K }
@@ -68,7 +69,7 @@ impl<const K: usize> Template<K> {
         true
     }
 
-    /// Whether all moves by an involution lead back.
+    /// Returns whether all moves by an involution lead back.
     fn are_undone_by(&self, index: Index) -> bool
         ensures undone { IsTrue result ↔ AreUndoneBy (table_of self.now) index }
         ensures parts { length (moves (table_of self.now) index) ≡ K }
@@ -76,7 +77,7 @@ impl<const K: usize> Template<K> {
         Self::lead_back(self.moves_by(index))
     }
 
-    /// Whether all moves lead back.
+    /// Returns whether all moves lead back.
     pub(crate) fn are_undone(&self) -> bool
         ensures undone { IsTrue result ↔ AreUndone (table_of self.now) }
         ensures parts { IsTrue result → (i : Index) → length (moves (table_of self.now) i) ≡ K }
@@ -86,7 +87,7 @@ impl<const K: usize> Template<K> {
             && self.are_undone_by(Index::Two)
     }
 
-    /// Where so many turns of a pair lead.
+    /// Returns where `turns` turns of a pair lead.
     pub(crate) fn turned(&self, pair: Pair, part: usize, turns: usize) -> Walk
         requires undone { AreUndone (table_of self.now) }
         requires part { part < K }
@@ -109,7 +110,8 @@ impl<const K: usize> Template<K> {
         Walk { part: place, word }
     }
 
-    /// Whether so many turns of a pair lead a part back to itself with a word that reduces to none.
+    /// Returns whether `turns` turns of a pair lead a part back to itself with a word that reduces
+    /// to none.
     pub(crate) fn leads_back(&self, pair: Pair, part: usize, turns: usize) -> bool
         requires undone { AreUndone (table_of self.now) }
         requires part { part < K }
@@ -120,7 +122,7 @@ impl<const K: usize> Template<K> {
         walk.part == part && walk.word.is_empty()
     }
 
-    /// Whether s0 and s2 commute.
+    /// Returns whether s0 and s2 commute.
     pub(crate) fn commute(&self) -> bool
         requires undone { AreUndone (table_of self.now) }
         ensures { IsTrue result ↔ Commute (table_of self.now) }
@@ -145,7 +147,7 @@ impl<const K: usize> Template<K> {
         }
     }
 
-    /// Whether the entries are equal along the moves of the pair from a part.
+    /// Returns whether the entries are equal along the moves of the pair from a part.
     fn is_constant(&self, pair: Pair, part: usize) -> bool
         requires undone { AreUndone (table_of self.now) }
         requires part { part < K }
@@ -157,7 +159,7 @@ impl<const K: usize> Template<K> {
         self.entry_of(pair, first) == own && self.entry_of(pair, second) == own
     }
 
-    /// Whether the entries are equal along all moves of the pair.
+    /// Returns whether the entries are equal along all moves of the pair.
     pub(crate) fn are_constant(&self, pair: Pair) -> bool
         requires undone { AreUndone (table_of self.now) }
         ensures { IsTrue result ↔ AreConstant (table_of self.now) pair }

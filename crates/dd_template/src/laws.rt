@@ -30,8 +30,8 @@ pub fn fractions_are_whole_numbers_of_parts()
     ensures { (c : ℕ) → 1 ≤ c → c ≤ 64 → c * (curvature_unit / c) ≡ curvature_unit }
 {}
 
-/// Where moves lead back and fewer than so many turns never lead a part back to itself, there are
-/// no more turns than parts.
+/// Let moves lead back, and let fewer than a number of turns never lead a part back to itself. Then
+/// there are no more turns than parts.
 pub fn parts_are_met_again()
     ensures { (t : Table) → AreUndone t → (p : Pair) (x c : ℕ) → IsPart t x → IsApart t p x c
         → c ≤ t.parts }

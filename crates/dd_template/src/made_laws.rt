@@ -37,8 +37,9 @@ pub fn parts_go_by_their_moves()
         → item (made t s).m12 (chamber_of t d x) ≡ degree_of s (entry t.degree x) d }
 {}
 
-/// A word acts on the chambers of a symbol as its reduced word does, and on a part of a chamber as
-/// its moves act on the part, and the reduced word of their involutions on the chamber.
+/// A word acts on the chambers of a symbol as its reduced word does. On a part of a chamber it acts
+/// by two things: its moves act on the part, and the reduced word of their involutions acts on the
+/// chamber.
 pub fn words_act_by_their_reduced_words()
     ensures reduced { (s : Symbol) → IsSymbol s → (w : Word) (d : ℕ) → IsChamber s d
         → composed s (reduced w) d ≡ composed s w d }

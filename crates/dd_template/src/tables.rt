@@ -12,15 +12,15 @@ pub struct Move {
 /// A degree of a part.
 #[derive(Debug, Clone, Copy, PartialEq, Eq)]
 pub enum Degree {
-    /// So many times m01 of the chamber.
+    /// This multiple of m01 of the chamber.
     OfTile(u32),
-    /// So many times m12 of the chamber.
+    /// This multiple of m12 of the chamber.
     OfVertex(u32),
     /// The degree itself.
     Fixed(u32),
 }
 
-/// Of which degree of the chamber a degree is a multiple.
+/// The degree of the chamber of which a degree is a multiple.
 #[derive(Debug, Clone, Copy, PartialEq, Eq)]
 pub enum Kind {
     /// The degree m01.

@@ -80,14 +80,14 @@ impl Letters {
         }
     }
 
-    /// Whether the word has no letters.
+    /// Returns whether the word has no letters.
     pub(crate) fn is_empty(&self) -> bool
         ensures { IsTrue result ↔ (word_of self.now ≡ []) }
     {
         self.count == 0
     }
 
-    /// Whether the word has these two letters.
+    /// Returns whether the word has these two letters.
     pub(crate) fn is_two(&self, a: Index, b: Index) -> bool
         ensures { IsTrue result ↔ (word_of self.now ≡ a ∷ b ∷ []) }
     {

@@ -105,8 +105,8 @@ fn name_of(event: &Event) -> &'static str {
     }
 }
 
-/// Adds the names of a desk's events, the numbers of its open entries, and a line for each member of those that
-/// are done.
+/// Adds the names of a desk's events, the numbers of its open entries, and a line for each member
+/// of those that are done.
 fn show<N: Naming>(shown: &mut Vec<u8>, desk: &Desk<N>) -> Result<(), Memory> {
     for event in desk.log() {
         shown.extend_from_slice(name_of(event).as_bytes())?;
@@ -333,7 +333,8 @@ fn split_next<N: Naming, R: Abort>(rt: &R, alloc: Global, request: &Request, des
     assert!(rt; desk.split(2, ticket, jobs).is_ok());
 }
 
-/// One entry is given back and taken again, and its first ticket still fits. A split makes it stale.
+/// One entry is given back and taken again, and its first ticket still fits. A split makes it
+/// stale.
 fn book_stale<N: Naming, R: Abort>(rt: &R, alloc: Global, request: &Request, desk: &mut Desk<N>)
     requires request { request.now ≡ N.request }
     requires valid { IsValid request.now }

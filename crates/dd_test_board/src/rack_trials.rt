@@ -30,7 +30,7 @@ fn next_ticket<N: Naming, R: Abort>(rt: &R, desk: &mut Desk<N>) -> Ticket<N> {
     }
 }
 
-/// Whether the hand at this index has room for the ticket.
+/// Returns whether the hand at this index has room for the ticket.
 fn push_to<N: Naming>(hands: &mut Vec<Hand<N>>, index: usize, ticket: Ticket<N>) -> bool
     requires index { index < length hands.old.items }
     requires rack { IsRack (map hand_place hands.old.items) }
@@ -89,7 +89,8 @@ fn leave_the_third<N: Naming, R: Abort + Wait>(rt: &R, hands: &mut Vec<Hand<N>>)
     assert_eq!(rt; entry_of(pop_by(hands, 0)), 2);
 }
 
-/// Hand 2 steals the first of three tickets, and hand 1 pops the others, of which it cannot push the last again.
+/// Hand 2 steals the first of three tickets, and hand 1 pops the others, of which it cannot push
+/// the last again.
 fn leave_none<N: Naming, R: Abort + Wait>(rt: &R, hands: &mut Vec<Hand<N>>)
     requires hands { length hands.old.items ≡ 2 }
     requires rack { IsRack (map hand_place hands.old.items) }
@@ -114,7 +115,7 @@ fn find_none<N: Naming, R: Abort + Wait>(rt: &R, hands: &mut Vec<Hand<N>>)
     assert!(rt; pop_by(hands, 1).is_none());
 }
 
-/// Of three tickets, one is stolen, one is popped, and the third is left.
+/// One of three tickets is stolen, one is popped, and the third is left.
 fn left_by_two_hands<N: Naming, R: Abort + Wait>(rt: &R, alloc: Global, desk: &mut Desk<N>) {
     let (rack, mut hands) = Rack::open(alloc, 2, 3).expect(rt, "a rack of two hands");
     push_three(rt, desk, &mut hands);
@@ -158,7 +159,7 @@ fn steal_in_a_ring<N: Naming, R: Abort + Wait>(rt: &R, hands: &mut Vec<Hand<N>>)
     assert_eq!(rt; entry_of(steal_by(rt, hands, 2, 1)), 0);
 }
 
-/// Of three tickets, each is stolen by another hand, and none is left.
+/// Each of three tickets is stolen by another hand, and none is left.
 fn stolen_by_three_hands<N: Naming, R: Abort + Wait>(rt: &R, alloc: Global, desk: &mut Desk<N>) {
     let (rack, mut hands) = Rack::open(alloc, 3, 1).expect(rt, "a rack of three hands");
     push_one_each(rt, desk, &mut hands);

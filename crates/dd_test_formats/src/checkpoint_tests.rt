@@ -11,7 +11,7 @@ const PAUSED: &[u8] =
 const ROUND: &[u8] =
     b"dressline checkpoint 2\nrun 1\nrequest 2 0 0 all\nfaces 3-216\ndegrees 3-216\nlines 3\nbytes 54\nat 2 1 1 2 2 2 1\n";
 
-/// The same in version 1.
+/// The first round in version 1.
 const OLD_ROUND: &[u8] =
     b"dressline checkpoint 1\nrun 1\nrequest 2 0 0 3 3 all\nlines 3\nbytes 54\nat 2 1 1 2 2 2 1\n";
 
@@ -63,7 +63,7 @@ fn fault_of(alloc: Global, text: &[u8]) -> Option<CheckFault> {
     read_checkpoint(alloc, text).err()
 }
 
-/// The text of version 2 of what a text tells.
+/// Returns the text of version 2 of the checkpoint that a text states.
 fn rewritten<R: Abort>(rt: &R, alloc: Global, text: &[u8]) -> Vec<u8> {
     let check = read_checkpoint(alloc, text).expect(rt, "a checkpoint");
     let mut out = Vec::new(alloc);
@@ -71,7 +71,7 @@ fn rewritten<R: Abort>(rt: &R, alloc: Global, text: &[u8]) -> Vec<u8> {
     out
 }
 
-/// The fault of the beginning of so many bytes, from where the lines end.
+/// Returns the fault of the first `length` bytes of a text whose lines end at `ends`.
 fn fault_of_beginning(ends: &[usize], length: usize) -> CheckFault {
     let mut line = 1u32;
     for end in ends {

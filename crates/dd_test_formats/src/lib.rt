@@ -1,5 +1,5 @@
-//! Worked rows of files, lists, checkpoint texts, command words, sets and requests. The crate has only
-//! tests.
+//! Worked rows of files, lists, checkpoint texts, command words, sets and requests. The crate has
+//! only tests.
 #![tactic(auto)]
 
 #[cfg(test)]

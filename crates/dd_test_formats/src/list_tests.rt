@@ -69,7 +69,7 @@ fn is_code<R: Abort + Alloc<A = Global>>(rt: &R, symbol: &Symbol, numbers: &[u32
     code.as_slice() == numbers
 }
 
-/// Whether the code of the symbol at a place is this.
+/// Returns whether the code of the symbol at a place is this.
 fn has_code<R: Abort + Alloc<A = Global>>(
     rt: &R,
     all: &Symbols,
@@ -81,7 +81,7 @@ fn has_code<R: Abort + Alloc<A = Global>>(
     is_code(rt, symbol.symbol(), numbers)
 }
 
-/// Whether the lines of symbols, after so many others, are these.
+/// Returns whether the lines of symbols, after `before` others, are these.
 fn has_lines<R: Abort + Alloc<A = Global>>(
     rt: &R,
     all: &Symbols,

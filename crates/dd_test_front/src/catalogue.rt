@@ -67,7 +67,7 @@ impl Catalogue {
         Ok(spans)
     }
 
-    /// Whether a list has the members at these places.
+    /// Returns whether a list has the members at these places.
     pub(crate) fn has(&self, list: &Members, (first, end): Span) -> Result<bool, Memory> {
         let Some(members) = self.members.as_slice().get(first..end) else {
             return Ok(false);

@@ -108,7 +108,7 @@ fn finish_job(alloc: Global, front: &mut Front, entry: u64, job: &Job) -> Result
     })?)
 }
 
-/// Whether no member may be told of an entry.
+/// Returns whether no list of members may be given for an entry.
 fn may_finish(alloc: Global, front: &Front, entry: u64) -> bool {
     let event = Event::Finish {
         worker: 1,
@@ -172,7 +172,7 @@ fn split_job(
     Ok(spans)
 }
 
-/// Whether an entry may be split into no jobs.
+/// Returns whether an entry may be split into no jobs.
 fn may_split(alloc: Global, front: &Front, entry: u64) -> bool {
     let event = Event::Split {
         worker: 1,
@@ -242,7 +242,8 @@ pub(crate) struct Deed {
     pub(crate) emitted: Option<Members>,
 }
 
-/// Does an event that emits nothing and is no split, where it is allowed, and answers whether it was.
+/// Does an event that emits nothing and is no split, where it is allowed, and answers whether it
+/// was.
 fn is_done(alloc: Global, front: &mut Front, action: Action) -> Result<bool, Fail> {
     match action {
         Action::Take(entry) => Ok(take(front, entry)?),

@@ -32,7 +32,7 @@ fn opened<R: Abort>(rt: &R, alloc: Global) -> Front {
     Front::open(alloc, request, jobs, Position::End, 5).expect(rt, "a front")
 }
 
-/// Whether the event is allowed; then it is done.
+/// Returns whether the event is allowed; then it is done.
 fn take(front: &mut Front, entry: u64) -> Result<bool, Memory> {
     let event = Event::Take { worker: 1, entry };
     if !front.allowed(&event) {
@@ -42,7 +42,7 @@ fn take(front: &mut Front, entry: u64) -> Result<bool, Memory> {
     Ok(true)
 }
 
-/// Whether the event is allowed; then it is done.
+/// Returns whether the event is allowed; then it is done.
 fn give_back(front: &mut Front, entry: u64) -> Result<bool, Memory> {
     let event = Event::Back { worker: 1, entry };
     if !front.allowed(&event) {
@@ -104,7 +104,7 @@ fn singles<R: Abort>(rt: &R, alloc: Global) -> Members {
     Members::new(alloc, list_of_singles(rt, alloc, &job)).expect(rt, "room for members")
 }
 
-/// The first so many of them.
+/// Returns the first `count` of them.
 fn first_singles<R: Abort>(rt: &R, alloc: Global, count: usize) -> Members {
     let mut members = singles(rt, alloc);
     assert!(rt; count <= members.len());

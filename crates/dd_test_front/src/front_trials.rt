@@ -27,7 +27,7 @@ fn stage_of(state: &State) -> Stage {
     }
 }
 
-/// Whether a front shows what a plain list shows.
+/// Returns whether a front shows what a plain list shows.
 fn agrees(front: &Front, plain: &PlainFront) -> bool {
     let entries = front.entries();
     front.lines() == plain.lines
@@ -45,7 +45,7 @@ enum Outcome {
     Differs,
 }
 
-/// Whether a plain list shows an event that a front did as the front does.
+/// Returns whether a plain list shows an event that a front did as the front does.
 fn is_same(
     plain: &mut PlainFront,
     catalogue: &Catalogue,
@@ -101,7 +101,7 @@ fn kind(action: Action) -> usize {
     }
 }
 
-/// Whether the entry of a number has a whole prefix, so that it has no parts.
+/// Returns whether the entry of a number has a whole prefix, so that it has no parts.
 fn is_whole(front: &Front, number: u64) -> bool {
     front.entries().iter().any(|entry| entry.number == number
         && entry.job.prefix.as_slice().len() as u64 >= 3 * entry.job.size as u64)
@@ -119,7 +119,7 @@ fn next_action(numbers: &mut Numbers, front: &Front, plain: &PlainFront) -> Acti
     }
 }
 
-/// A front of these jobs, before all members.
+/// Returns a front with these jobs that begins before all members.
 fn front_of(alloc: Global, request: Request, jobs: Vec<Job>) -> Result<Front, Memory>
     requires valid { IsValid request }
     requires ascending { AreAscendingJobs jobs.items }

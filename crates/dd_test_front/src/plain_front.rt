@@ -86,7 +86,8 @@ impl PlainFront {
             .any(|row| row.number == number && row.stage == stage)
     }
 
-    /// Where those members stand that the first entry has and that were not emitted yet, where it is done.
+    /// Where those members stand that the first entry has and that were not emitted yet, where it
+    /// is done.
     fn left(&self) -> Option<Span> {
         let row = self.rows.first()?;
         if row.stage != Stage::Done {
@@ -160,7 +161,8 @@ impl PlainFront {
         Ok(())
     }
 
-    /// Does what is allowed, with the parts of a split, and answers where the members stand that are emitted.
+    /// Does what is allowed, with the parts of a split, and answers where the members stand that
+    /// are emitted.
     pub(crate) fn act(&mut self, action: Action, parts: &[Span]) -> Result<Span, AllocError> {
         let left = self.left();
         match action {

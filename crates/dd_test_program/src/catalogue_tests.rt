@@ -25,10 +25,10 @@ const VERTICES: [Limit; 4] = [
     (3, "--vertices=3"),
 ];
 
-/// Whether only minimal symbols are wanted, and its word.
+/// Both values of the filter for minimal symbols, and the word for each.
 const MINIMAL: [(bool, &str); 2] = [(false, ""), (true, "--minimal")];
 
-/// Whether the program writes this text with these words and no empty one.
+/// Returns whether the program writes this text with these words and no empty one.
 fn writes<R: Threads + Wait + Sync + Abort>(
     rt: &R,
     alloc: Global,

@@ -10,7 +10,8 @@ use std::thread::Threads;
 /// The words of the first call.
 const FIRST: [&str; 6] = ["catalogue", "3", "--round", "1", "--checkpoint", "c"];
 
-/// Which call of the store fails, and what it leaves, and which write of the first run; 0 stands for none.
+/// Which call of the store fails, and what it leaves, and which write of the first run fails; 0 is
+/// none.
 #[derive(Clone, Copy, Debug)]
 struct Faults {
     call: u64,
@@ -26,7 +27,8 @@ fn store_of<R: Abort>(rt: &R, alloc: Global, call: u64, keeps_new: bool) -> Memo
     MemoryStore::new(alloc, calls, keeps_new)
 }
 
-/// The number of the run of the checkpoint that the name holds, and how many bytes it tells; zeros where there is none.
+/// Returns the number of the run of the checkpoint that the name holds, and its number of bytes;
+/// zeros if there is none.
 fn check_of(alloc: Global, store: &MemoryStore) -> (u32, usize) {
     let Some(text) = store.held("c") else {
         return (0, 0);
@@ -37,7 +39,8 @@ fn check_of(alloc: Global, store: &MemoryStore) -> (u32, usize) {
     }
 }
 
-/// How much of what a call wrote counts: all of it after the last call, else as much as the checkpoint tells that it put.
+/// Returns how much of what a call wrote counts: all of it after the last call, else as much as the
+/// checkpoint of the call says.
 fn kept_of(alloc: Global, store: &MemoryStore, number: u32, done: bool, written: usize) -> usize {
     let (now, bytes) = check_of(alloc, store);
     if done {
@@ -49,7 +52,8 @@ fn kept_of(alloc: Global, store: &MemoryStore, number: u32, done: bool, written:
     }
 }
 
-/// Goes on from what the store holds, and adds what counts of what is written. Whether the chain has come to its end.
+/// Resumes from what the store holds, and adds what counts of what is written. Returns whether the
+/// chain has come to its end.
 fn call<R: Threads + Wait + Sync + Abort>(
     rt: &R,
     alloc: Global,
@@ -72,7 +76,8 @@ fn call<R: Threads + Wait + Sync + Abort>(
     done
 }
 
-/// What the calls of a chain write together, each of which goes on from what the one before left.
+/// Returns what the calls of a chain write together, each of which resumes from what the one before
+/// left.
 fn joined<R: Threads + Wait + Sync + Abort>(
     rt: &R,
     alloc: Global,
@@ -94,7 +99,7 @@ fn joined<R: Threads + Wait + Sync + Abort>(
     panic!(rt; "a chain does not come to its end")
 }
 
-/// Whether a chain in which this fails writes this text.
+/// Returns whether a chain in which this fails writes this text.
 fn writes<R: Threads + Wait + Sync + Abort>(
     rt: &R,
     alloc: Global,
@@ -123,7 +128,8 @@ fn chains_that_are_stopped(rt: HostRuntime) {
     }
 }
 
-/// The third call of the store fails, after six lines were written. How many bytes the checkpoint then tells.
+/// Returns how many bytes the checkpoint says if the third call of the store fails, after six lines
+/// were written.
 fn bytes_told<R: Threads + Wait + Sync + Abort>(rt: &R, alloc: Global, keeps_new: bool) -> usize {
     let mut store = store_of(rt, alloc, 3, keeps_new);
     put_in_vain(rt, alloc, &mut store);

@@ -16,7 +16,8 @@ use std::thread::Threads;
 /// The words of the first run.
 const FIRST: [&str; 6] = ["catalogue", "2", "--round", "1", "--checkpoint", "c"];
 
-/// Which call of the store fails, and what it leaves, and which write of the first run; 0 stands for none.
+/// Which call of the store fails, and what it leaves, and which write of the first run fails; 0 is
+/// none.
 #[derive(Clone, Copy, Debug)]
 struct Faults {
     call: u64,
@@ -93,7 +94,8 @@ fn whole<R: Threads + Wait + Sync + Abort>(rt: &R, alloc: Global) -> SureSink {
     out
 }
 
-/// A chain in which this fails ends with a status, after so many runs that write this text.
+/// Checks that a chain in which this fails ends with a status, after `runs` runs that write this
+/// text.
 fn check_drive<R: Threads + Wait + Sync + Abort>(
     rt: &R,
     alloc: Global,

@@ -1,5 +1,5 @@
-//! The whole program over stores and sinks in memory that fail, chains of runs that are driven, and the
-//! stores and sinks themselves. The crate has only tests.
+//! The whole program over stores and sinks in memory that fail, chains of runs that are driven, and
+//! the stores and sinks themselves. The crate has only tests.
 #![tactic(auto)]
 
 #[cfg(test)]

@@ -47,7 +47,8 @@ fn put_twice<S: Store>(store: &mut S) -> Result<(), StoreFault> {
     store.put("a", b"two more")
 }
 
-/// Whether a store gives these bytes of the name `a`, of which at most `most` may be fetched.
+/// Returns whether a store gives these bytes of the name `a`, of which at most `most` may be
+/// fetched.
 fn gives<R: Abort + Alloc<A = Global>, S: Store>(
     rt: &R,
     store: &mut S,
@@ -85,7 +86,7 @@ fn a_file_that_is_not_there(rt: HostRuntime) {
     assert_eq!(rt; fetched, Err(StoreFault::Failed));
 }
 
-/// Whether a store whose second call fails keeps this text.
+/// Returns whether a store whose second call fails keeps this text.
 fn keeps<R: Abort + Alloc<A = Global>>(rt: &R, keeps_new: bool, left: &[u8]) -> bool {
     let mut store = MemoryStore::new(rt.alloc(), failing(rt, 2), keeps_new);
     put_twice(&mut store) == Err(StoreFault::Failed)

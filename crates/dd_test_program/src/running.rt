@@ -26,7 +26,8 @@ pub(crate) fn store_with<R: Abort>(rt: &R, alloc: Global, file: &str) -> SureSto
     store
 }
 
-/// A sink that takes so many bytes at a time, and fails at the write of this number; 0 stands for none.
+/// Returns a sink that takes at most `most` bytes at a time, and fails at the write of this number;
+/// 0 is none.
 pub(crate) fn sink_failing_at<R: Abort>(
     rt: &R,
     alloc: Global,
@@ -52,7 +53,8 @@ pub(crate) fn run_words<R: Threads + Wait + Sync + Abort, S: Store, O: Sink, E: 
     run(rt, alloc, &words, store, out, err, &OpenGate::new())
 }
 
-/// Runs the program with these words over a store and a sink. It has to end like this, and to tell this line.
+/// Runs the program with these words over a store and a sink. It checks how the program ends, and
+/// the line that it writes.
 pub(crate) fn run_to_end<R: Threads + Wait + Sync + Abort, S: Store, O: Sink>(
     rt: &R,
     alloc: Global,
@@ -66,7 +68,8 @@ pub(crate) fn run_to_end<R: Threads + Wait + Sync + Abort, S: Store, O: Sink>(
     assert_eq!(rt; err.held(), line.as_bytes());
 }
 
-/// The same with an empty file under `f`, which is to stay as it is, where the end has to be done.
+/// Returns the same with an empty file under `f`, which is to stay as it is, where the end has to
+/// be done.
 fn run_beside_a_file<R: Threads + Wait + Sync + Abort>(
     rt: &R,
     alloc: Global,

@@ -1,4 +1,5 @@
-//! Workers that steal, and rounds, with the jobs and members of the search. The crate has only tests.
+//! Workers that steal, and rounds, with the jobs and members of the search. The crate has only
+//! tests.
 #![tactic(auto)]
 
 #[cfg(test)]

@@ -1,12 +1,12 @@
 use dd_ports::Gate;
 use std::sync::atomic::{AtomicU64, Ordering};
 
-/// How often a worker that is held looks for another one before it is let through alone.
+/// How often a worker that is held looks for another one before it is let through by itself.
 const TURNS: u64 = 200_000_000;
 
 /// A gate that holds the first job until a second one has entered. It counts the jobs that entered,
-/// and those that it let through alone because its turns ran out: where one thread does all jobs,
-/// the first job is let through alone.
+/// and those that it let through by themselves because its turns ran out. If one thread does all
+/// jobs, the first job is let through by itself.
 #[derive(Drop)]
 pub(crate) struct PairGate {
     entered: AtomicU64,
@@ -26,7 +26,7 @@ impl PairGate {
         self.entered.load(Ordering::SeqCst)
     }
 
-    /// Returns how many jobs were let through alone.
+    /// Returns how many jobs were let through by themselves.
     pub(crate) fn let_through_alone(&self) -> u64 {
         self.alone.load(Ordering::SeqCst)
     }

@@ -74,7 +74,7 @@ fn lines_of_round<R: Threads + Wait + Sync + Abort>(rt: &R, alloc: Global, worke
     lines_of(rt, alloc, &entries)
 }
 
-/// Whether a round writes these lines.
+/// Returns whether a round writes these lines.
 fn has_lines<R: Threads + Wait + Sync + Abort>(
     rt: &R,
     alloc: Global,

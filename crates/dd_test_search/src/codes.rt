@@ -8,7 +8,7 @@ fn is_code<R: Abort + Alloc<A = Global>>(rt: &R, symbol: &Symbol, expected: &[u3
     code.as_slice() == expected
 }
 
-/// Whether the code of the symbol at a place of a list is this.
+/// Returns whether the code of the symbol at a place of a list is this.
 pub(crate) fn has_code<R: Abort + Alloc<A = Global>>(
     rt: &R,
     symbols: &SymbolList,
@@ -20,7 +20,7 @@ pub(crate) fn has_code<R: Abort + Alloc<A = Global>>(
     is_code(rt, symbol.symbol(), expected)
 }
 
-/// Whether the codes of symbols are these, in this order.
+/// Returns whether the codes of symbols are these, in this order.
 pub(crate) fn have_codes<const N: usize, R: Abort + Alloc<A = Global>>(
     rt: &R,
     symbols: &SymbolList,

@@ -1,5 +1,5 @@
-//! Worked rows of openings, prefixes, tables and shares, and how soon the search turns back. The crate
-//! has only tests.
+//! Worked rows of openings, prefixes, tables and shares, and how soon the search turns back. The
+//! crate has only tests.
 #![tactic(auto)]
 
 #[cfg(test)]

@@ -27,7 +27,7 @@ fn found<R: Abort + Alloc<A = Global>>(rt: &R, job: &Job) -> SymbolList {
     search.find(rt.alloc(), job).expect(rt, "members")
 }
 
-/// Whether the codes of the members of at most two chambers under a job are these.
+/// Returns whether the codes of the members of at most two chambers under a job are these.
 fn finds<const N: usize, R: Abort + Alloc<A = Global>>(
     rt: &R,
     job: &Job,
@@ -55,7 +55,7 @@ fn two_chambers_are_found(rt: HostRuntime) {
     assert!(rt; finds(&rt, &job, expected.as_slice()));
 }
 
-/// Whether a member of at most two chambers may be under a job.
+/// Returns whether a member of at most two chambers may be under a job.
 fn may_find<R: Abort + Alloc<A = Global>>(rt: &R, job: &Job) -> bool {
     assert!(rt; job.size >= 1 && job.size <= 2);
     assert!(rt; job.prefix.as_slice().len() as u64 <= 3 * job.size as u64);
@@ -86,7 +86,7 @@ fn has(job: &Job, size: u32, numbers: &[u8]) -> bool {
     job.size == size && job.prefix.as_slice() == numbers
 }
 
-/// Whether a job is split into two of two chambers, with these numbers.
+/// Returns whether a job is split into two of two chambers, with these numbers.
 fn splits<R: Abort + Alloc<A = Global>>(rt: &R, job: &Job, first: &[u8], second: &[u8]) -> bool {
     let jobs = split(rt, job);
     jobs.len() == 2 && has(&jobs[0], 2, first) && has(&jobs[1], 2, second)

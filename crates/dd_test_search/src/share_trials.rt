@@ -9,7 +9,7 @@ use dd_model::{Allowed, Request};
 use dd_partial_table::{Rows, Stem, Visit};
 use std::test::Fail;
 
-/// Requests for at most so many classes of tiles, with degrees from a least one on.
+/// Returns a request for at most `tiles` classes of tiles, with degrees from a least one on.
 fn asked(tiles: u32, least: u32) -> Request
     requires { (1 ≤ least) × (least ≤ 36) }
 {
@@ -23,7 +23,7 @@ fn asked(tiles: u32, least: u32) -> Request
     }
 }
 
-/// Whether nothing with so many chambers is sought.
+/// Returns whether nothing with `size` chambers is sought.
 fn is_empty(tiles: u32, least: u32, size: u8) -> bool
     requires least { (1 ≤ least) × (least ≤ 36) }
     requires size { (1 ≤ size) × (size ≤ 36) }
@@ -44,8 +44,8 @@ fn a_tile_has_at_most_twelve_chambers(rt: HostRuntime) -> Result<(), Fail> {
     Ok(())
 }
 
-/// Puts a number in at a place of a code, and learns from it; false where that cannot be, or where a
-/// cell is then whole that may have no degree.
+/// Puts a number in at a place of a code, and learns from it; false where that cannot be, or where
+/// a cell is then whole that may have no degree.
 fn put(rows: &mut Rows, classes: &PathShares, sides: &mut Sides, place: u8, number: u8) -> bool
     requires ready { IsReady rows.old }
     requires place { place < 3 * (partial_of rows.old).size }
@@ -100,7 +100,7 @@ fn a_long_chain_exceeds(rt: HostRuntime) -> Result<(), Fail> {
     Ok(())
 }
 
-/// Whether nothing with three chambers is sought, where chamber 1 is a whole tile.
+/// Returns whether nothing with three chambers is sought, where chamber 1 is a whole tile.
 fn is_empty_with_a_tile(tiles: u32, least: u32) -> bool
     requires { (1 ≤ least) × (least ≤ 36) }
 {
@@ -122,8 +122,8 @@ fn a_whole_tile_leaves_no_room(rt: HostRuntime) -> Result<(), Fail> {
     Ok(())
 }
 
-/// Whether nothing is sought where faces have five edges, before and after chambers 1 and 2 are a
-/// whole tile, of which the degree is even.
+/// Returns whether nothing is sought where faces have five edges, before and after chambers 1 and 2
+/// are a whole tile, of which the degree is even.
 fn answers_for_pentagons() -> [bool; 3] {
     let mut faces = Allowed::none();
     faces.add(5);
@@ -147,7 +147,7 @@ fn a_whole_tile_has_an_allowed_degree(rt: HostRuntime) -> Result<(), Fail> {
     Ok(())
 }
 
-/// Whether nothing of a size is sought that has one tile, in which s0 fixes chamber 1.
+/// Returns whether nothing of a size is sought that has one tile, in which s0 fixes chamber 1.
 fn is_empty_with_a_chain(size: u8) -> bool
     requires { (1 ≤ size) × (size ≤ 36) }
 {

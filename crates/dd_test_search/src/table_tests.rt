@@ -26,7 +26,7 @@ fn job<R: Abort>(rt: &R, alloc: Global, size: u32, numbers: &[u8]) -> Job {
     Job { size, prefix }
 }
 
-/// The opening of a request for at most so many chambers.
+/// Returns the opening of a request for at most `chambers` chambers.
 fn opened<R: Abort>(rt: &R, alloc: Global, chambers: u32) -> Vec<Job> {
     let q = asked(chambers);
     assert!(rt; q.is_valid());
@@ -79,7 +79,7 @@ fn openings_by_size(rt: HostRuntime) {
     }
 }
 
-/// Whether a job of two chambers is one of an opening.
+/// Returns whether a job of two chambers is one of an opening.
 fn is_opening_job<R: Abort>(rt: &R, alloc: Global, numbers: &[u8]) -> bool {
     let job = job(rt, alloc, 2, numbers);
     is_opening(&asked(2), &job)
@@ -163,7 +163,7 @@ fn least_tables_by_size(rt: HostRuntime) {
     }
 }
 
-/// Whether numbers are those of a table of two chambers.
+/// Returns whether numbers are those of a table of two chambers.
 fn is_table<R: Abort>(rt: &R, alloc: Global, numbers: &[u8; 6]) -> bool {
     let found = Table::of(alloc, 2, numbers.as_slice()).expect(rt, "an answer");
     found.is_some()
@@ -229,7 +229,7 @@ fn tables_from<R: Abort>(rt: &R, alloc: Global, q: &Request, numbers: &[u8]) -> 
     tables(rt, alloc, q, &job)
 }
 
-/// Whether the images of chamber 1 in tables are these.
+/// Returns whether the images of chamber 1 in tables are these.
 fn begin_with(tables: &[Table], expected: &[[u32; 3]]) -> bool {
     tables.len() == expected.len()
         && tables
@@ -290,7 +290,8 @@ fn a_walk_advances(rt: HostRuntime) {
     assert_eq!(rt; next_images(&rt, &mut walk), None);
 }
 
-/// The tables of two chambers, where only so many classes of tiles and of vertices are asked for.
+/// Returns the tables of two chambers for a request with limits on the classes of tiles and of
+/// vertices.
 fn limited<R: Abort>(rt: &R, alloc: Global, tiles: u32, vertices: u32) -> Vec<Table> {
     let mut q = asked(2);
     q.tiles = tiles;

@@ -12,7 +12,7 @@ use dd_symbol_list::SymbolList;
 use std::alloc::Global;
 use std::process::Abort;
 
-/// The request for at most so many chambers, with all degrees.
+/// Returns the request for at most `chambers` chambers, with all degrees.
 fn asked(chambers: u32) -> Request {
     Request {
         chambers,
@@ -55,7 +55,7 @@ fn counts_of_ties<R: Abort + Alloc<A = Global>>(rt: &R, table: &Table) -> (u64, 
     (ties.starts.len() as u64, found)
 }
 
-/// The same for all tables under a job.
+/// Returns the same for all tables under a job.
 fn ties_under<R: Abort + Alloc<A = Global>>(rt: &R, request: &Request, job: &Job) -> (u64, u64) {
     let tables = tables(rt, request, job);
     let mut ties = 0u64;
@@ -89,7 +89,7 @@ fn count_starts<R: Abort + Alloc<A = Global>>(rt: &R, symbol: &Connected) -> u64
     (ties.len() as u64).saturating_add(1)
 }
 
-/// The same for the member at a place of a list.
+/// Returns the same for the member at a place of a list.
 fn count_starts_at<R: Abort + Alloc<A = Global>>(rt: &R, list: &SymbolList, place: usize) -> u64 {
     assert!(rt; place < list.len());
     let member = list.all().copy(rt.alloc(), place).expect(rt, "a copy");
@@ -117,7 +117,7 @@ fn counts_of_members<R: Abort + Alloc<A = Global>>(
     (list.len() as u64, count_made(rt, starts, &list))
 }
 
-/// The same for all tables under a job.
+/// Returns the same for all tables under a job.
 fn members_under<R: Abort + Alloc<A = Global>>(rt: &R, request: &Request, job: &Job) -> (u64, u64) {
     let mut members = 0u64;
     let mut made = 0u64;

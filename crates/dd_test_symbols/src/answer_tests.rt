@@ -16,7 +16,7 @@ fn two_chambers<R: Abort + Alloc<A = Global>>(rt: &R, m01: &[u32; 2]) -> Connect
     made(rt, [&[1, 2], &[1, 2], &[2, 1]], m01, &[4, 4])
 }
 
-/// Whether the isomorphism that is found from one symbol to the other is this, or none.
+/// Returns whether the isomorphism that is found from one symbol to the other is this, or none.
 fn has_map<R: Abort + Alloc<A = Global>>(
     rt: &R,
     one: &Connected,
@@ -31,7 +31,7 @@ fn has_map<R: Abort + Alloc<A = Global>>(
     }
 }
 
-/// The same with the symbol of two chambers that has these degrees.
+/// Returns the same with the symbol of two chambers that has these degrees.
 fn maps_to<R: Abort + Alloc<A = Global>>(
     rt: &R,
     one: &Connected,

@@ -30,7 +30,7 @@ fn chambers<R: Abort + Alloc<A = Global>>(rt: &R, size: u32) -> Vec<u32> {
     all
 }
 
-/// The same degree for each chamber.
+/// Returns the same degree for each chamber.
 fn degrees<R: Abort + Alloc<A = Global>>(rt: &R, size: u32, degree: u32) -> Vec<u32> {
     let mut all = Vec::new(rt.alloc());
     for _ in 0..size {

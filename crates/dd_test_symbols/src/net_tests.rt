@@ -18,7 +18,7 @@ fn net_over<R: Abort + Alloc<A = Global>>(rt: &R, m01: u32, m12: u32) -> Net {
     net_of(rt, &symbol)
 }
 
-/// Whether a net has one vertex, and edges with these shifts in this order.
+/// Returns whether a net has one vertex, and edges with these shifts in this order.
 fn has_shifts(net: &Net, shifts: &[(i64, i64)]) -> bool {
     net.vertices == 1
         && net.edges.len() == shifts.len()

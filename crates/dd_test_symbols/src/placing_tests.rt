@@ -19,8 +19,8 @@ fn a_pair_is_placed(rt: HostRuntime) -> Result<(), Fail> {
     Ok(())
 }
 
-/// The pivots of fans are quotients of Fibonacci numbers. That of the 45th step is the first number
-/// over 2^62, and the step before it makes it.
+/// The pivots of fans are quotients of Fibonacci numbers. The pivot of the 45th step is the first
+/// number over 2^62, and the step before it makes it.
 #[test]
 fn a_fan_of_48_is_too_wide(rt: HostRuntime) -> Result<(), Fail> {
     let net = fan(rt.alloc(), 48)?;

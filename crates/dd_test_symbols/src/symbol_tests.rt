@@ -24,7 +24,8 @@ const TABLES: [([u32; 2], Refusal); 3] = [
     ([1, 2], Refusal::NotConnected { chamber: 2 }),
 ];
 
-/// Degrees of the tiles and of the vertices of two chambers that s0 exchanges, and why they are refused.
+/// Degrees of the tiles and of the vertices of two chambers that s0 exchanges, and why they are
+/// refused.
 const DEGREES: [([u32; 2], [u32; 2], Refusal); 5] = [
     (
         [4, 6],
@@ -116,7 +117,7 @@ fn octagons<R: Abort + Alloc<A = Global>>(rt: &R) -> Connected {
     made(rt, ops, &[4, 8, 8], &[3, 3, 3])
 }
 
-/// The same in another numbering.
+/// Returns the same in another numbering.
 fn other_octagons<R: Abort + Alloc<A = Global>>(rt: &R) -> Connected {
     let ops: [&[u32]; 3] = [&[1, 2, 3], &[2, 1, 3], &[3, 2, 1]];
     made(rt, ops, &[8, 8, 4], &[3, 3, 3])
@@ -174,7 +175,7 @@ fn octagons_to<R: Abort + Alloc<A = Global>>(rt: &R, other: &Connected) -> Order
     cmp_code(octagons.symbol(), other.symbol())
 }
 
-/// The same with that of another after it is renumbered.
+/// Returns the same with that of another after it is renumbered.
 fn octagons_to_renumbered<R: Abort + Alloc<A = Global>>(
     rt: &R,
     other: &Connected,

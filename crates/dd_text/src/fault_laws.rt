@@ -11,7 +11,7 @@ pub fn a_faulty_file_spells_nothing()
         → fault.why ≢ whys.Memory → Reads bytes symbols → ⊥ }
 {}
 
-/// A file has at most one fault, beside want of memory.
+/// A file has at most one fault, beside a lack of memory.
 pub fn a_file_has_one_fault()
     ensures { (bytes : List ℕ) (one other : FileFault) → IsFileFault bytes one
         → IsFileFault bytes other → one.why ≢ whys.Memory → other.why ≢ whys.Memory → one ≡ other }

@@ -9,7 +9,7 @@ use std::fmt;
 /// Why a file is not read.
 #[derive(Debug, Clone, Copy, PartialEq, Eq)]
 pub enum Why {
-    /// A byte stands where no part may begin or go on with it.
+    /// A byte is where no part may begin with it or continue with it.
     Stray,
     /// The input ends inside a symbol.
     UnexpectedEnd,
@@ -19,7 +19,7 @@ pub enum Why {
     Dimension,
     /// A size is 0 or over 1,024.
     Size,
-    /// A list ends before all its values are told.
+    /// A list ends before all its values are given.
     ListShort,
     /// A list has a number too many.
     ListLong,
@@ -31,7 +31,7 @@ pub enum Why {
     TooManySymbols,
     /// There are over 16,777,216 bytes.
     Long,
-    /// Want of memory.
+    /// Out of memory.
     Memory,
 }
 
@@ -84,7 +84,7 @@ pub(crate) struct Fault {
 impl Fault {
     ghost use Rattle.dd_text.specs.declared.faults.Why.TheVariants as whys;
 
-    /// Want of memory, at no place.
+    /// Returns the fault of a lack of memory, which has no place.
     fn memory() -> Self
         ensures { result.why ≡ whys.Memory }
     {

@@ -22,7 +22,7 @@ fn next_unknown(images: &[u32], chamber: usize) -> usize
     first
 }
 
-/// Whether a number is a chamber without an image.
+/// Returns whether a number is a chamber without an image.
 fn is_free(images: &[u32], number: u32) -> bool
     ensures { IsTrue result ↔ IsFree images.now number }
 {
@@ -33,7 +33,8 @@ fn is_free(images: &[u32], number: u32) -> bool
     images[place - 1] == 0
 }
 
-/// The images of an involution of `size` chambers, from a list that tells each pair of chambers once.
+/// Returns the images of an involution of `size` chambers, from a list that has each pair of
+/// chambers once.
 pub(crate) fn images(alloc: Global, size: u32, list: &NumberList) -> Result<Vec<u32>, Fault>
     requires { size ≤ 1024 }
     ensures ok { IfOk result (λ images. IsToldBy size (values (told_of list.now)) images.items) }

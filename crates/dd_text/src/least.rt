@@ -6,8 +6,8 @@ ghost use Rattle.dd_text.specs.Told.{AddsLeast};
 use dd_model::{Memory, Pair};
 use dd_symbol::Symbol;
 
-/// Whether a chamber is the least one of its cell. The walk round the cell ends at the first chamber
-/// that is smaller.
+/// Returns whether a chamber is the least one of its cell. The walk round the cell ends at the
+/// first chamber that is smaller.
 #[inline(always)]
 fn is_least(symbol: &Symbol, pair: Pair, chamber: u32) -> bool
     requires { IsChamber symbol.now chamber }
@@ -30,9 +30,9 @@ fn is_least(symbol: &Symbol, pair: Pair, chamber: u32) -> bool
     unreachable!()
 }
 
-/// Appends a chamber where it is the least one of its cell. Its two neighbors there are known, and the
-/// cell is walked only where neither is smaller. It is inlined where the pair is known, so that the
-/// pair is not tested again at each step.
+/// Appends a chamber where it is the least one of its cell. Its two neighbors there are known, and
+/// the cell is walked only where neither is smaller. It is inlined where the pair is known, so that
+/// the pair is not tested again at each step.
 #[inline(always)]
 pub(crate) fn add_least(
     chambers: &mut Vec<u32>,

@@ -6,8 +6,8 @@ use crate::outline::Outline;
 use dd_model::Memory;
 use dd_symbol_list::Symbols;
 
-/// Appends the lines of the symbols of a list, numbered from `before + 1` on. At `Err` the text is as
-/// before.
+/// Appends the lines of the symbols of a list, numbered from `before + 1` on. At `Err` the text is
+/// as before.
 pub fn put_list(out: &mut Vec<u8>, before: u64, symbols: &Symbols<'_>) -> Result<(), Memory>
     ensures lines { OnOk result (AddsLines before symbols.now out.old.items out.new.items) }
     ensures same { OnErr result (out.new.items ≡ out.old.items) }

@@ -55,8 +55,8 @@ impl Outline {
         })
     }
 
-    /// Becomes the outline of the lines of the symbols with the involutions of a symbol. The loop over
-    /// lines, which seldom comes here, is faster without this code in it.
+    /// Becomes the outline of the lines of the symbols with the involutions of a symbol. The loop
+    /// over lines, which seldom comes here, is faster without this code in it.
     #[inline(never)]
     pub(crate) fn make(&mut self, symbol: &Symbol) -> Result<(), Memory>
         ensures { OnOk result ((k : ℕ) → HasNumber k self.old
@@ -69,8 +69,8 @@ impl Outline {
         self.finish()
     }
 
-    /// Keeps the number of the line, puts the number of chambers after it, and tells chamber 1, which is
-    /// the least one of its cells.
+    /// Keeps the number of the line, puts the number of chambers after it, and takes chamber 1,
+    /// which is the least one of its cells.
     #[inline(always)]
     fn begin(&mut self, symbol: &Symbol) -> Result<(), Memory>
         ensures { OnOk result (IsBegun symbol.now self.old self.new) }
@@ -88,7 +88,7 @@ impl Outline {
         Ok(())
     }
 
-    /// Keeps the number of the line alone.
+    /// Keeps only the number of the line.
     #[inline(always)]
     fn clear(&mut self)
         ensures head { self.new.head.items ≡ take self.old.number_end self.old.head.items }
@@ -105,8 +105,7 @@ impl Outline {
         self.vertices.clear();
     }
 
-    /// Goes on to another chamber: its images are told, and it is listed where it is the least one of a
-    /// cell.
+    /// Moves to another chamber: puts its images, and lists it if it is the least one of a cell.
     #[inline(always)]
     fn tell(&mut self, symbol: &Symbol, chamber: u32) -> Result<(), Memory>
         requires { IsChamber symbol.now chamber }
@@ -143,8 +142,7 @@ impl Outline {
         Ok(outline)
     }
 
-    /// Goes on from one symbol to the next: the outline is made anew only where the involutions are
-    /// others.
+    /// Moves from one symbol to the next. It makes the outline anew only if the involutions differ.
     pub(crate) fn follow(&mut self, last: &Symbol, next: &Symbol) -> Result<(), Memory>
         ensures { OnOk result ((k : ℕ) → IsOutlineOf k last.now self.old
             → IsOutlineOf k next.now self.new) }
@@ -179,7 +177,8 @@ impl Outline {
         Ok(())
     }
 
-    /// Appends the line of a symbol of a list. It is put together here, so that the text grows once.
+    /// Appends the line of a symbol of a list. It is put together here, so that the text grows
+    /// once.
     #[inline(always)]
     pub(crate) fn put_listed(
         &mut self,

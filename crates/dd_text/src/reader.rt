@@ -3,7 +3,7 @@ ghost use Rattle.dd_model.specs.Parts.{is_blank};
 
 use dd_model::{Part, Placed};
 
-/// Whether a byte is a blank.
+/// Returns whether a byte is a blank.
 pub(crate) fn is_blank(byte: u8) -> bool
     ensures { result ≡ is_blank byte }
 {

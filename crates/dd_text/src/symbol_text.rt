@@ -58,7 +58,7 @@ fn number(part: Placed) -> Result<Numeral, Fault>
     }
 }
 
-/// Whether a part is this sign.
+/// Returns whether a part is this sign.
 fn is_sign(part: Placed, byte: u8) -> bool
     ensures { IsTrue result ↔ (part ≡ sign_part byte part.at) }
 {

@@ -27,8 +27,8 @@ fn put_degree(out: &mut Vec<u8>, degree: u8)
     out.push_reserved(b'0' + degree % 10);
 }
 
-/// Appends the degrees at some chambers, one for each chamber being listed, where there is room for a
-/// space and three digits for each.
+/// Appends the degrees at some chambers, one for each chamber being listed, where there is room for
+/// a space and three digits for each.
 #[inline(always)]
 fn put_at(out: &mut Vec<u8>, degrees: &[u8], chambers: &[u32])
     requires within { All (IsWithin (length degrees.now)) chambers.now }
@@ -48,8 +48,8 @@ fn put_at(out: &mut Vec<u8>, degrees: &[u8], chambers: &[u32])
     }
 }
 
-/// Appends the degrees of the tiles and of the vertices, which are told by their least chambers, and
-/// the line's end. Room for all of it is asked for once.
+/// Appends the degrees of the tiles and of the vertices at their least chambers, and the line's
+/// end. It asks for room for all of it once.
 #[inline(always)]
 pub(crate) fn put_told(
     out: &mut Vec<u8>,

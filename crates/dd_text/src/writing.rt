@@ -12,8 +12,8 @@ use dd_symbol::{Connected, Symbol};
 use itoa::Buffer;
 
 /// Appends the line of number k: `<1.k:n:` with the number n of chambers, the images of the three
-/// involutions, the degrees of the tiles and of the vertices, and `>` with a line feed. At `Err` the
-/// text is as before.
+/// involutions, the degrees of the tiles and of the vertices, and `>` with a line feed. At `Err`
+/// the text is as before.
 pub fn put_line(out: &mut Vec<u8>, k: u128, symbol: &Symbol) -> Result<(), Memory>
     ensures line { OnOk result (AddsLine k symbol.now out.old.items out.new.items) }
     ensures same { OnErr result (out.new.items ≡ out.old.items) }
@@ -26,7 +26,8 @@ pub fn put_line(out: &mut Vec<u8>, k: u128, symbol: &Symbol) -> Result<(), Memor
     written
 }
 
-/// Appends the lines of some symbols, numbered from `before + 1` on. At `Err` the text is as before.
+/// Appends the lines of some symbols, numbered from `before + 1` on. At `Err` the text is as
+/// before.
 pub fn put_lines(out: &mut Vec<u8>, before: u64, symbols: &[Connected]) -> Result<(), Memory>
     ensures lines { OnOk result (AddsLines before symbols.now out.old.items out.new.items) }
     ensures same { OnErr result (out.new.items ≡ out.old.items) }
@@ -65,7 +66,7 @@ fn append_line(out: &mut Vec<u8>, k: u128, symbol: &Symbol) -> Result<(), Memory
     Outline::of(*out.allocator(), k, symbol)?.put_line(out, symbol)
 }
 
-/// Appends the degrees of the cells, which are told by their least chambers, and the line's end.
+/// Appends the degrees of the cells at their least chambers, and the line's end.
 pub(crate) fn put_cells(
     out: &mut Vec<u8>,
     symbol: &Symbol,
@@ -85,7 +86,8 @@ pub(crate) fn put_cells(
     put_bytes(out, b">\n")
 }
 
-/// Appends a space and the image of a chamber under an involution where the two are not told yet.
+/// Appends a space and the image of a chamber under an involution, if the line doesn't have the two
+/// yet.
 #[inline(always)]
 pub(crate) fn put_image(out: &mut Vec<u8>, chamber: u32, image: u32) -> Result<(), Memory>
     ensures image { OnOk result (TellsImage chamber image out.old.items out.new.items) }
@@ -98,8 +100,8 @@ pub(crate) fn put_image(out: &mut Vec<u8>, chamber: u32, image: u32) -> Result<(
     Ok(())
 }
 
-/// Appends the degrees of a pair at some chambers. It is inlined where the pair is known, so that the
-/// pair is not tested again for each chamber.
+/// Appends the degrees of a pair at some chambers. It is inlined where the pair is known, so that
+/// the pair is not tested again for each chamber.
 #[inline(always)]
 fn put_degrees(
     out: &mut Vec<u8>,
