@@ -7,7 +7,7 @@ from math import ceil, floor
 
 WIDTH, HEIGHT, CELLS = 12000, 9000, 4
 
-# Each colour has its own lightness, so that no two look alike to any eye. `examples/pictures.py` checks it.
+# Each colour has its own lightness, so that no two look alike to any eye. `tests/pictures.py` checks it.
 LIGHT = ("#f3d9a0", "#3b7ea1", "#88c0b0", "#8c3b52", "#d98a4b", "#27365e")
 DARK = ("#d2b676", "#2f6f96", "#6bab9b", "#85324c", "#b96f35", "#2a3560")
 LINE, LINE_DARK, MARK = "#1d2026", "#0c0d10", "#27365e"

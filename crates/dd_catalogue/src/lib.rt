@@ -1,5 +1,36 @@
-//! The writing of a catalogue: runs from a position on, their rounds on workers, and the checkpoints that
-//! runs keep.
+//! The writing of a catalogue: runs from a position on, their rounds on workers, and the
+//! checkpoints that runs keep.
+//!
+//! A run of a catalogue (`Run` of dd_pages) has a beginning: a position, and the number of lines
+//! before it. It opens a front with the opening's jobs that are not wholly before the position.
+//! While one is open, the first `--round` of them go to `run_round`.
+//!
+//! - **Jobs that are not counted.** If several workers are to do a round, and no checkpoint limits
+//!   how far it may be ahead, jobs under which the finder sees that nothing is go along and are not
+//!   counted (`do_long_round`). They are most of the jobs.
+//! - **Several workers** take the jobs of a round from a board and do them. They split jobs under
+//!   which much may be, and steal from each other. A sweep does what they leave.
+//! - **One worker** does the jobs in order, with no board, no lock and no deque (`do_alone`). It is
+//!   also one if nothing is under any of the jobs. If no checkpoint is kept, a round has at most
+//!   four of them, so that few members are held.
+//! - **A worker that finds no open job and none to steal** waits as long as another one is
+//!   splitting a job, and a moment longer, and then ends. It ends at once if no job is out.
+//!
+//! The front absorbs what comes back, and emits the entries at its front. Their members go to a
+//! page. Its lines are written if there are enough of them, and after each round if the run keeps a
+//! checkpoint: the checkpoint is put then, so it covers all that went out.
+//!
+//! - **With several workers** members wait on the page until it is worth the start of several
+//!   threads to make their lines and to give their memory back. If no checkpoint is kept, they wait
+//!   from one round to the next. The threads get spans of the lists in which members were found. So
+//!   no member is copied on its way to its line.
+//! - **One worker** makes the lines of 512 members at a time, so that few are collected before they
+//!   are written.
+//!
+//! A run has a last line: that of its pause or that of the largest number. If the first entry has
+//! more members, the front emits only the first ones and stands at the next one. The clauses on
+//! what is written say the same as over one thread, since the front's law holds for whatever a
+//! round brings back.
 #![tactic(auto)]
 
 mod catalogue;

@@ -1,4 +1,33 @@
 //! Symbols, and the connected ones.
+//!
+//! A symbol is one list, its code: the images s0(1), s1(1), s2(1), s0(2) to s2(n), then the degrees
+//! of the tiles and those of the vertices at the chambers 1 to n.
+//!
+//! - **`Numbers`** keeps such a list in bytes up to the first number over 255, and in words from
+//!   then on. Up to 110 bytes, the code of a symbol of 22 chambers, lie in the value itself. A
+//!   larger symbol has one vector.
+//! - **`Involutions`** is such a list whose images are known to be involutions of the chambers 1 to
+//!   n, so no function of it has that as a requirement. If nothing follows the images, its degrees
+//!   are empty. A `Table` has as many degrees as chambers.
+//! - **Reading.** The code and the order read the list as it is. `Symbol::images` gives the three
+//!   images of a chamber at once. A reader that reads a symbol over and over, such as a traversal
+//!   from each start, has it lent (`SymbolRef`). The traversal then asks once whether it is kept in
+//!   bytes or in words, and each read is one place of a slice.
+//! - **Contracts** see a record of a size and five lists. Nothing above `impl Model` names the one
+//!   list.
+//!
+//! `build` tests the images first, makes the involutions, and then tests commuting, connectedness
+//! and degrees. Callers that know more test less:
+//!
+//! | the caller has | call |
+//! |---|---|
+//! | involutions (the reader of files) | `build_on` |
+//! | degrees that fit if the involutions are connected and commute (tables of any numbers) | `build_fitting` |
+//! | the involutions of a whole stem (`involutions` of dd_partial_table) | `from_known_bytes` |
+//! | a table (`Table::known`) and the turns that the places of its degrees give (`with_places`) | `build_known` |
+//! | degrees of a symbol with the same involutions | `with_known_degrees`, which copies the images |
+//!
+//! `with_places` is of dd_degrees. It walks each cell once.
 #![tactic(auto)]
 
 mod before;

@@ -6,8 +6,8 @@ its edges.
 """
 import filecmp, itertools, math, os, re, subprocess, sys
 
-HERE = os.path.dirname(os.path.realpath(__file__))
-TOOLS = os.path.join(HERE, "..", "tools")
+TOP = os.path.dirname(os.path.dirname(os.path.realpath(__file__)))
+TOOLS = os.path.join(TOP, "tools")
 GALLERY = os.path.join(TOOLS, "gallery")
 
 # A tiling, the length of its longest edge divided by that of its shortest, and the tolerance.
@@ -151,7 +151,7 @@ def counted(checks, text, pictures):
 
 def marked(checks):
     """A net with more symmetries than the group has one mark for each chamber over chamber 1, and each is in one tile."""
-    with open(f"{HERE}/isohedral.ds", encoding="utf-8") as it:
+    with open(f"{TOP}/examples/isohedral.ds", encoding="utf-8") as it:
         text = it.read()
     checks.same("status of a gallery with marks", called(checks, text, "types")[0], 0)
     _, pictures = read(checks, "types")
@@ -169,7 +169,7 @@ def marked(checks):
 def kept(checks, made, name):
     """The gallery in docs/gallery has the tilings of its file: the exact drawings, and a picture of each."""
     for part in ("exact", "patches"):
-        folders = f"{checks.room}/{made}/{part}", f"{HERE}/../docs/gallery/{name}/{part}"
+        folders = f"{checks.room}/{made}/{part}", f"{TOP}/docs/gallery/{name}/{part}"
         found, wanted = (sorted(os.listdir(it)) for it in folders)
         checks.same(f"docs/gallery/{name}/{part}", found, wanted)
         if part == "exact":
@@ -209,7 +209,7 @@ def colours(checks):
 
 def look(checks):
     """Looks at the pictures of the Archimedean tilings and of their duals, and at a file that cannot be drawn as a whole."""
-    with open(f"{HERE}/archimedean.ds", encoding="utf-8") as it:
+    with open(f"{TOP}/examples/archimedean.ds", encoding="utf-8") as it:
         text = it.read()
     status, _ = called(checks, text, "all", "--duals")
     checks.same("status of the gallery", status, 0)
