@@ -68,7 +68,10 @@ fn make_anew<R: Files>(rt: &R, name: &str) -> io::Result<R::File> {
     if kind_of(rt, name)?.is_some_and(|kind| kind.is_file() || kind.is_symlink()) {
         fs::remove_file(rt, name)?;
     }
-    OpenOptions::new().write(true).create_new(true).open(rt, name)
+    OpenOptions::new()
+        .write(true)
+        .create_new(true)
+        .open(rt, name)
 }
 
 /// Writes a new file, flushes it to the disk, and gives it its name. So a stop at any moment leaves
