@@ -32,7 +32,10 @@ def on_terminal(words, folder, script):
 
 
 def help_on_terminals(checks):
-    """The program's line comes first, then help. Into a pipe only the program's line goes."""
+    """The program's line comes first, then help. Into a pipe only the program's line goes. The script runs the program
+    of the source tree, so it is not called if another one is named."""
+    if "DRESSLINE" in os.environ:
+        return
     script = f"{checks.top}/dressline"
     for words, file, status, wanted in HELP:
         _, line, _ = checks.run(words, file)
