@@ -136,6 +136,16 @@ two_first a b =
       fixed = fixed_of_two a b;
     }
 
+-- what is needed to compose a letter with a table that is that of a letter
+pub record IsOverLetter (a : Letter) (t : Table) : Type 0 where
+  pub few : t.parts ≤ 16
+  pub together : GoTogether (table_of_letter a) t
+  pub first : MayGoFirst (composed (table_of_letter a) t)
+
+pub over_letter : (a l : Letter) (t : Table) → t ≡ table_of_letter l → IsOverLetter a t
+over_letter a l t e = subst (IsOverLetter a) (sym e)
+    (record { few = (letter_first l).few; together = letter_follows a (table_of_letter l) (letter_first l); first = two_first a l })
+
 -- ## What words make
 
 -- one table over another
@@ -152,10 +162,6 @@ meaning_symbol [] s is = is
 meaning_symbol (l ∷ ls) s is = made_symbol (table_of_letter l) (meaning ls s) (letter_lawful l) (meaning_symbol ls s is)
 
 -- ## Words of letters
-
--- what holds of two letters holds of those that are these
-pub of_two_letters : {l m : Letter} (P : Letter → Letter → Type 0) (a b : Letter) → l ≡ a → m ≡ b → P a b → P l m
-of_two_letters {l} {m} P a b first second h = subst (λ x. P x m) (sym first) (subst (P a) (sym second) h)
 
 -- the parts of three letters
 pub parts_of_three : (x y z : Letter) → (table_of_letter z).parts * (table_of_letter y).parts * (table_of_letter x).parts ≡ parts_of (x ∷ y ∷ z ∷ [])

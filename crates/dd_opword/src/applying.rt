@@ -130,6 +130,52 @@ fn apply_after_two<
     apply_after::<M, A, T, C>(alloc, letter, &both, symbol)
 }
 
+/// Returns what the first of two letters makes of what the second makes of what an inner table of L
+/// parts makes of a symbol. The inner table is that of a letter. L2 is twice L, L3 is three times L,
+/// and so on.
+fn apply_both_after<
+    const L: usize,
+    const L2: usize,
+    const L3: usize,
+    const L4: usize,
+    const L6: usize,
+    const L8: usize,
+    const L9: usize,
+    const L12: usize,
+    const L16: usize,
+>(
+    alloc: Global,
+    first: Letter,
+    second: Letter,
+    inner: &Template<L>,
+    symbol: &Connected,
+) -> Result<Connected, ApplyFault>
+    requires third { (third : Letter) × (table_of inner.now ≡ table_of_letter third) }
+    requires low { (L2 ≡ L * 2) × (L3 ≡ L * 3) × (L4 ≡ L * 4) × (L6 ≡ L * 6) }
+    requires high { (L8 ≡ L * 8) × (L9 ≡ L * 9) × (L12 ≡ L * 12) × (L16 ≡ L * 16) }
+    ensures made { IfOk result (λ derived. derived ≡ made (table_of_letter first)
+        (made (table_of_letter second) (made (table_of inner.now) symbol.now))) }
+    ensures within { OnOk result (symbol.now.size
+        * (L * (table_of_letter second).parts * (table_of_letter first).parts) ≤ 1024) }
+    ensures why { IfErr result (λ why. IsFaultOf (composed (table_of_letter first)
+        (composed (table_of_letter second) (table_of inner.now))) symbol.now why) }
+{
+    match second {
+        Letter::Dual => {
+            apply_after_two::<1, L, L, L2, L3, L4>(alloc, first, &DUAL, inner, symbol)
+        }
+        Letter::Ambo => {
+            apply_after_two::<2, L, L2, L4, L6, L8>(alloc, first, &AMBO, inner, symbol)
+        }
+        Letter::Truncate => {
+            apply_after_two::<3, L, L3, L6, L9, L12>(alloc, first, &TRUNCATE, inner, symbol)
+        }
+        Letter::Chamfer => {
+            apply_after_two::<4, L, L4, L8, L12, L16>(alloc, first, &CHAMFER, inner, symbol)
+        }
+    }
+}
+
 /// Returns what the first of three letters makes of what the other two make of a symbol.
 fn apply_three(
     alloc: Global,
@@ -146,27 +192,18 @@ fn apply_three(
     ensures why { IfErr result (λ why. IsFaultOf (composed (table_of_letter first)
         (composed (table_of_letter second) (table_of_letter third))) symbol.now why) }
 {
-    macro_rules! after {
-        ($middle:ident $k:literal $inner:ident $l:literal $m:literal $a:literal $t:literal $c:literal) => {
-            apply_after_two::<$k, $l, $m, $a, $t, $c>(alloc, first, &$middle, &$inner, symbol)
-        };
-    }
-    match (second, third) {
-        (Letter::Dual, Letter::Dual) => after!(DUAL 1 DUAL 1 1 2 3 4),
-        (Letter::Dual, Letter::Ambo) => after!(DUAL 1 AMBO 2 2 4 6 8),
-        (Letter::Dual, Letter::Truncate) => after!(DUAL 1 TRUNCATE 3 3 6 9 12),
-        (Letter::Dual, Letter::Chamfer) => after!(DUAL 1 CHAMFER 4 4 8 12 16),
-        (Letter::Ambo, Letter::Dual) => after!(AMBO 2 DUAL 1 2 4 6 8),
-        (Letter::Ambo, Letter::Ambo) => after!(AMBO 2 AMBO 2 4 8 12 16),
-        (Letter::Ambo, Letter::Truncate) => after!(AMBO 2 TRUNCATE 3 6 12 18 24),
-        (Letter::Ambo, Letter::Chamfer) => after!(AMBO 2 CHAMFER 4 8 16 24 32),
-        (Letter::Truncate, Letter::Dual) => after!(TRUNCATE 3 DUAL 1 3 6 9 12),
-        (Letter::Truncate, Letter::Ambo) => after!(TRUNCATE 3 AMBO 2 6 12 18 24),
-        (Letter::Truncate, Letter::Truncate) => after!(TRUNCATE 3 TRUNCATE 3 9 18 27 36),
-        (Letter::Truncate, Letter::Chamfer) => after!(TRUNCATE 3 CHAMFER 4 12 24 36 48),
-        (Letter::Chamfer, Letter::Dual) => after!(CHAMFER 4 DUAL 1 4 8 12 16),
-        (Letter::Chamfer, Letter::Ambo) => after!(CHAMFER 4 AMBO 2 8 16 24 32),
-        (Letter::Chamfer, Letter::Truncate) => after!(CHAMFER 4 TRUNCATE 3 12 24 36 48),
-        (Letter::Chamfer, Letter::Chamfer) => after!(CHAMFER 4 CHAMFER 4 16 32 48 64),
+    match third {
+        Letter::Dual => {
+            apply_both_after::<1, 2, 3, 4, 6, 8, 9, 12, 16>(alloc, first, second, &DUAL, symbol)
+        }
+        Letter::Ambo => {
+            apply_both_after::<2, 4, 6, 8, 12, 16, 18, 24, 32>(alloc, first, second, &AMBO, symbol)
+        }
+        Letter::Truncate => apply_both_after::<3, 6, 9, 12, 18, 24, 27, 36, 48>(
+            alloc, first, second, &TRUNCATE, symbol,
+        ),
+        Letter::Chamfer => apply_both_after::<4, 8, 12, 16, 24, 32, 36, 48, 64>(
+            alloc, first, second, &CHAMFER, symbol,
+        ),
     }
 }
