@@ -1,7 +1,7 @@
 use Rattle.std.proofs.Common.{◌≡◌, ◌≢◌, get_or, ap, ◌∙◌, arith}
 use Rattle.std.proofs.lemmas.List.{get_or_default, length-set}
-use Rattle.dd_lattice.proofs.ForestLemmas.{twice_low, halved_falls, halved_value, halved_parts, halved_heads, parts_along}
-use Rattle.dd_lattice.proofs.forest.head.Goals as goal
+use Rattle.dd_forest.proofs.PartLemmas.{twice_low, halved_falls, halved_value, halved_parts, halved_heads, parts_along}
+use Rattle.dd_forest.proofs.forests.head.Goals as goal
 
 pub loop-place-preserved : goal.loop-place-preserved
 loop-place-preserved c =

@@ -1,5 +1,5 @@
 use Rattle.std.specs.Prelude.{◌≡◌, ℕ, ◌<◌, length, slice_index}
-use Rattle.dd_lattice.proofs.forest.parted.Given as goal
+use Rattle.dd_forest.proofs.forests.Forest.new.Given as goal
 
 abbrev pub invariant-loop-node : goal.invariant-loop-node
 invariant-loop-node l = record {

@@ -2,7 +2,7 @@
 use Rattle.std.proofs.Common.{◌≡◌, ◌≢◌, ℕ, zero, suc, ◌+◌, ◌-◌, ◌<◌, ◌≤◌, ◌⊎◌, List, [], ◌∷◌, ◌++◌, length, get_or, set, refl, sym, ap, ◌∙◌, subst, ⊎_elim, arith}
 use Rattle.std.proofs.lemmas.Bool.{cases_lt, cases_eq}
 use Rattle.std.proofs.lemmas.List.{get_or-set_same, get_or-set_other, get_or_append_left, get_or_push, length-set}
-use Rattle.dd_lattice.specs.Forest.{IsFalling, IsLevel, AreInOnePart, HaveSameParts, AreJoinedAt}
+use Rattle.dd_forest.specs.Parts.{IsFalling, IsLevel, AreInOnePart, HaveSameParts, AreJoinedAt, AreJoinedAlong}
 
 -- ## The head of a part
 
@@ -199,3 +199,46 @@ module _ (zeroth first second : List ℕ) (one : HaveSameParts zeroth first) (tw
           let v = values h (before h level) in
           sym v.0 ∙ back_value h (put_value second high low h inside level) ∙ v.1;
     }
+
+-- ## The smallest node of a part
+
+climb_low : (above : List ℕ) → IsFalling above → (k n : ℕ) → climb above k n ≤ n
+climb_low above falls zero n = omega arith
+climb_low above falls (suc k) n =
+    let down = falls n in
+    let low = climb_low above falls k (get_or above n 0) in
+    omega arith
+
+-- no node of a head's part is smaller
+pub head_smallest : (above : List ℕ) → IsFalling above → (p : ℕ) → get_or above p 0 ≡ p → (n : ℕ) → n < p → AreInOnePart above n p → ⊥
+head_smallest above falls p head n less same =
+    let low = climb_low above falls n n in
+    let e : root above n ≡ p = same (root above) (root_level above falls) ∙ root_of_head above p head in
+    omega arith
+
+-- above a node that is no head there is a smaller one
+pub smaller_above : (above : List ℕ) → IsFalling above → (p : ℕ) → p < length above → get_or above p 0 ≢ p → (n : ℕ) × (n < p) × AreInOnePart above n p
+smaller_above above falls p inside moves =
+    let down = falls p in
+    (get_or above p 0, omega arith, λ h level. level p inside)
+
+-- ## Two lists
+
+pub joined_at_none : (above ones others : List ℕ) → AreJoinedAlong above ones others 0 above
+joined_at_none above ones others = record {
+  lengths = refl;
+  to = λ h level same. level;
+  from = λ h level. level;
+  joined = λ k low. absurd (omega arith);
+}
+
+pub joined_one_more : (old now new ones others : List ℕ) (n : ℕ) → AreJoinedAlong old ones others n now → AreJoinedAt now (get_or ones n 0) (get_or others n 0) new → AreJoinedAlong old ones others (n + 1) new
+joined_one_more old now new ones others n before step = record {
+  lengths = step.lengths ∙ before.lengths;
+  to = λ h level same. step.to h (before.to h level (λ k low. same k (omega arith))) (same n (omega arith));
+  from = λ h level. before.from h (step.from h level);
+  joined = λ k low. ⊎_elim
+      (λ early h level. before.joined k early h (step.from h level))
+      (λ late. let e : n ≡ k = omega arith in subst (λ j. AreInOnePart new (get_or ones j 0) (get_or others j 0)) e step.joined)
+      (cases_lt k n);
+}

@@ -25,3 +25,10 @@ pub record AreJoinedAt (old : List ℕ) (a b : ℕ) (new : List ℕ) : Type 0 wh
   pub to : (h : ℕ → ℕ) → IsLevel old h → h a ≡ h b → IsLevel new h
   pub from : (h : ℕ → ℕ) → IsLevel new h → IsLevel old h
   pub joined : AreInOnePart new a b
+
+-- the parts of the nodes at each of the first n places of two lists are one now, and nothing else is joined
+pub record AreJoinedAlong (old ones others : List ℕ) (n : ℕ) (new : List ℕ) : Type 0 where
+  pub lengths : length new ≡ length old
+  pub to : (h : ℕ → ℕ) → IsLevel old h → ((k : ℕ) → k < n → h (slice_index ones k) ≡ h (slice_index others k)) → IsLevel new h
+  pub from : (h : ℕ → ℕ) → IsLevel new h → IsLevel old h
+  pub joined : (k : ℕ) → k < n → AreInOnePart new (slice_index ones k) (slice_index others k)

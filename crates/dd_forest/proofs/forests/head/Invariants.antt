@@ -1,6 +1,6 @@
 use Rattle.std.specs.Prelude.{◌≡◌, ℕ, ◌<◌, length, slice_index}
-use Rattle.dd_lattice.specs.Forest.{IsFalling, AreInOnePart, HaveSameParts}
-use Rattle.dd_lattice.proofs.forest.head.Given as goal
+use Rattle.dd_forest.specs.Parts.{IsFalling, AreInOnePart, HaveSameParts}
+use Rattle.dd_forest.proofs.forests.head.Given as goal
 
 abbrev pub invariant-loop-place : goal.invariant-loop-place
 invariant-loop-place l = record {

@@ -1,8 +1,9 @@
-use Rattle.std.proofs.Common.{◌≡◌, ◌≢◌, ℕ, ◌<◌, length, not, nat_eq, max, min, sym, subst, inl, inr, ⊎_elim, arith}
+use Rattle.std.proofs.Common.{◌≡◌, ◌≢◌, ℕ, ◌<◌, length, not, nat_eq, max, min, set, sym, subst, inl, inr, ⊎_elim, arith}
 use Rattle.std.proofs.lemmas.Bool.{cases_eq, cases_lt, eq-eqb, ne_eqb}
 use Rattle.std.specs.Bool.{OnTrue, OnFalse}
-use Rattle.dd_lattice.proofs.ForestLemmas.{AreOrdered, two_parts, one_part, are_joined}
-use Rattle.dd_lattice.proofs.forest.join.Goals as goal
+use Rattle.dd_forest.specs.Parts.{AreInOnePart, AreJoinedAt}
+use Rattle.dd_forest.proofs.PartLemmas.{AreOrdered, two_parts, one_part, are_joined}
+use Rattle.dd_forest.proofs.forests.Forest.join.Goals as goal
 
 ordered : (a b high low : ℕ) → high ≡ max a b → low ≡ min a b → AreOrdered a b high low
 ordered a b high low most least =
@@ -36,21 +37,24 @@ returns-clause-joined c =
     let order = ordered c.head-first.result c.head-second.result c.max.result c.min.result c.max.ensures c.min.ensures in
     let inside = c.head-second.ensures.inside in
     let first : c.head-first.result < length c.head-second.new.above.items = let e = two.parts.lengths in let low = one.inside in omega arith in
-    are_joined c.args.above.now.items c.head-first.new.above.items c.head-second.new.above.items one.parts two.parts c.args.one c.args.other c.head-first.result c.head-second.result one.in_part two.in_part
-    two.falls (two.others c.head-first.result one.head) two.head c.max.result c.min.result order (high_inside c.head-first.result c.head-second.result c.max.result c.min.result (length c.head-second.new.above.items) order first inside)
+    subst (λ xs. AreJoinedAt xs c.args.one c.args.other (set c.head-second.new.above.items c.max.result c.min.result)) c.self.view_is
+    (are_joined c.self.inside.above.items c.head-first.new.above.items c.head-second.new.above.items one.parts two.parts c.args.one c.args.other c.head-first.result c.head-second.result one.in_part two.in_part
+    two.falls (two.others c.head-first.result one.head) two.head c.max.result c.min.result order (high_inside c.head-first.result c.head-second.result c.max.result c.min.result (length c.head-second.new.above.items) order first inside))
 
 pub returns-clause-two : goal.returns-clause-two
 returns-clause-two c =
     let one = c.head-first.ensures in
     let two = c.head-second.ensures in
     where_unequal c.head-first.result c.head-second.result _
-    (two_parts c.args.above.now.items c.head-first.new.above.items c.head-second.new.above.items one.parts two.parts c.args.one c.args.other c.head-first.result c.head-second.result one.in_part two.in_part
-    two.falls (two.others c.head-first.result one.head) two.head)
+    (λ differ. subst (λ xs. AreInOnePart xs c.args.one c.args.other → ⊥) c.self.view_is
+    (two_parts c.self.inside.above.items c.head-first.new.above.items c.head-second.new.above.items one.parts two.parts c.args.one c.args.other c.head-first.result c.head-second.result one.in_part two.in_part
+    two.falls (two.others c.head-first.result one.head) two.head differ))
 
 pub returns-clause-one_part : goal.returns-clause-one_part
 returns-clause-one_part c =
     let one = c.head-first.ensures in
     let two = c.head-second.ensures in
     where_equal c.head-first.result c.head-second.result _
-    (one_part c.args.above.now.items c.head-first.new.above.items c.head-second.new.above.items one.parts two.parts c.args.one c.args.other c.head-first.result c.head-second.result one.in_part two.in_part
-    two.falls (two.others c.head-first.result one.head) two.head)
+    (λ same. subst (λ xs. AreInOnePart xs c.args.one c.args.other) c.self.view_is
+    (one_part c.self.inside.above.items c.head-first.new.above.items c.head-second.new.above.items one.parts two.parts c.args.one c.args.other c.head-first.result c.head-second.result one.in_part two.in_part
+    two.falls (two.others c.head-first.result one.head) two.head same))
