@@ -1,10 +1,9 @@
 use Rattle.std.proofs.Common.{◌+◌, ◌*◌, ◌≤◌}
-use Rattle.dd_canon.specs.Standing.{IsBestForm, IsReady}
-use Rattle.dd_canon.proofs.forms.least.Given as goal
+use Rattle.dd_canon.specs.Best.{IsBestNumbering}
+use Rattle.dd_canon.proofs.best_numbering.best_numbering.Given as goal
 
 abbrev pub invariant-loop-k : goal.invariant-loop-k
 invariant-loop-k g l = record {
-  ready : IsReady l.s l.visit;
-  best : IsBestForm l.s l.k l.form;
+  best : IsBestNumbering l.s l.k l.best;
   count : l.steps ≤ l.initial.steps + 5 * l.s.size * l.k;
 }
