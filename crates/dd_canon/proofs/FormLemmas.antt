@@ -1,26 +1,22 @@
 -- The best of the starts.
-use Rattle.std.proofs.Common.{◌≡◌, ◌≢◌, ℕ, true, false, ◌+◌, ◌-◌, ◌≤◌, List, length, sym, ap, ◌∙◌, subst, ⊎_elim, arith}
+use Rattle.std.proofs.Common.{◌≡◌, ℕ, true, false, ◌+◌, ◌-◌, ◌≤◌, List, length, sym, ap, ◌∙◌, subst, ⊎_elim, arith}
 use Rattle.std.proofs.lemmas.Bool.{cases_lt}
-use Rattle.std.specs.Ordering.{is_lt, is_eq, ordering_reverse}
+use Rattle.std.specs.Ordering.{is_lt, ordering_reverse}
 use Rattle.std.specs.declared.cmp.Ordering.{Ordering}
 use Rattle.std.specs.declared.cmp.Ordering.TheVariants.{Less, Equal}
 use Rattle.dd_model.specs.Symbol.{Symbol, IsTable, IsSymbol, IsChamber, item}
 use Rattle.dd_model.specs.Connected.{Connected}
 use Rattle.dd_model.specs.Isomorphic.{IsBijection, IsIsomorphism, Isomorphic}
 use Rattle.dd_model.specs.Code.{code_cmp, Least, IsLeastForm}
-use Rattle.dd_model.specs.FirstVisit.{IsFirstVisit, IsNumberedFrom}
+use Rattle.dd_model.specs.FirstVisit.{IsNumberedFrom}
 use Rattle.dd_canon.specs.Standing.{IsBestTo, IsStanding, IsWhole}
-use Rattle.std.proofs.lemmas.Cmp.{tied_itself}
 use Rattle.dd_model.proofs.Bijections.{after}
 use Rattle.dd_model.proofs.Codes.{same_from_code_cmp, code_cmp_total}
-use Rattle.dd_model.proofs.Isomorphisms.{Isomorphic-refl, Isomorphic-sym, Isomorphic-trans, inverse_isomorphism, IsIsomorphism-after}
+use Rattle.dd_model.proofs.Isomorphisms.{inverse_isomorphism, IsIsomorphism-after}
 use Rattle.dd_model.proofs.Exchanges.{renumbered, renumbered_table, renumbered_isomorphism}
-use Rattle.dd_model.proofs.LeastForms.{new_best, below_back, least_of_best, least_form_numbered, form_as_symbol, form_as_table, copy_is_symbol}
+use Rattle.dd_model.proofs.LeastForms.{new_best, below_back, least_of_best, form_as_symbol, copy_is_symbol}
 use Rattle.dd_model.proofs.Numberings.{numbered_from}
 use Rattle.dd_canon.proofs.OrderLemmas.{less_of}
-
-pub nothing_best : (s t : Symbol) → IsBestTo s 0 t
-nothing_best s t = record { best = λ d u low high. absurd (omega arith) }
 
 -- a numbering that is not below leaves the best as it is
 pub stays_best : (s t : Symbol) (start : ℕ) (o : Ordering) → IsBestTo s (start - 1) t → IsStanding s t start o → is_lt o ≡ false → IsBestTo s start t
@@ -59,9 +55,6 @@ beaten s start o is con h standing less least =
     let there : Isomorphic s u.0 = (a.map, a.isomorphism) in
     least u.0 (copy_is_symbol s u.0 is a.table there) there (below_back u.0 s (standing.stands u.0 a ∙ less_of o less))
 
-pub unbeaten : (s : Symbol) (n : ℕ) → IsSymbol s → Connected s → n ≡ s.size → IsBestTo s n s → Least s
-unbeaten s n is con e best = (best_is_least s s n is con is.table (Isomorphic-refl s is.table) e best).least
-
 -- the numbers as a bijection
 pub whole_bijection : (s : Symbol) (start : ℕ) (order number : List ℕ) → IsWhole s start order number → IsBijection s.size number
 whole_bijection s start order number whole = record {
@@ -97,39 +90,6 @@ reached_back s b start order number is whole iso =
       morphism = iso.morphism;
     } in
     inverse_isomorphism s b number is there
-
--- the codes of the first starts differ from that of the form
-abbrev pub AreApart : Symbol → Symbol → ℕ → Type 0
-AreApart s b n = (d : ℕ) (t : Symbol) → 1 ≤ d → d ≤ n → IsNumberedFrom s d t → code_cmp t b ≢ Equal
-
-pub more_apart : (s b : Symbol) (k : ℕ) (o : Ordering) → AreApart s b k → IsStanding s b (k + 1) o → is_eq o ≡ false → AreApart s b (k + 1)
-more_apart s b k o apart standing differ d t low high a same =
-    ⊎_elim
-    (λ early. apart d t low (omega arith) a same)
-    (λ late.
-    let e : d ≡ k + 1 = omega arith in
-    let stands : code_cmp t b ≡ o = standing.stands t (subst (λ c. IsNumberedFrom s c t) e a) in
-    let equal : is_eq o ≡ true = ap is_eq (sym stands ∙ same) in
-    cc)
-    (cases_lt d (k + 1))
-
-pub none_apart : (s b : Symbol) (n : ℕ) → IsTable s → IsTable b → n ≡ s.size → AreApart s b n → IsFirstVisit b → Isomorphic s b → ⊥
-none_apart s b n is ib e apart first (f, iso) =
-    let bij = iso.bijection in
-    let pos = is.chambers in
-    let start = item bij.inverse 1 in
-    let h = bij.right.within 1 (omega arith) pos in
-    apart start b h.0 (omega (arith, h.1))
-    (record { table = ib; map = f; isomorphism = iso; start_first = bij.right.undone 1 (omega arith) pos; first_visit = first })
-    (tied_itself code_cmp_total b)
-
-pub form_first_visit : (s t : Symbol) → IsSymbol s → Connected s → IsLeastForm s t → IsFirstVisit t
-form_first_visit s t is con form = (least_form_numbered s t is.table con (form_as_table s t form)).numbered.first_visit
-
--- what is not isomorphic to the form of another symbol is not isomorphic to that symbol
-pub not_through_form : (a b t : Symbol) → IsTable a → IsTable b → Isomorphic a t → (Isomorphic b t → ⊥) → Isomorphic a b → ⊥
-not_through_form a b t ia ib there none iso =
-    none (Isomorphic-trans b a t ib (Isomorphic-sym a b ia iso) there)
 
 -- the maps through the form
 pub through_form : (a b t : Symbol) (f g : List ℕ) → IsTable a → IsIsomorphism a t f → IsIsomorphism t b g → IsIsomorphism a b (after g f)

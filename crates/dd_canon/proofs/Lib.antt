@@ -6,5 +6,7 @@ mod VisitLemmas
 mod StandingLemmas
 mod NumberingLemmas
 mod FormLemmas
+mod OrbitLemmas
+mod BestLemmas
 mod SymmetryLemmas
 mod TieLemmas

@@ -50,3 +50,8 @@ equal_from Greater e = cc
 
 pub not_equal_of : (o : Ordering) → is_ne o ≡ true → o ≢ Equal
 not_equal_of o ne same = let e : is_ne o ≡ false = ap is_ne same in cc
+
+pub tied : (o : Ordering) → is_gt o ≡ false → is_lt o ≡ false → o ≡ Equal
+tied Less not_gt not_lt = cc
+tied Equal not_gt not_lt = refl
+tied Greater not_gt not_lt = cc

@@ -8,7 +8,7 @@ use Rattle.dd_model.specs.declared.pair.Pair.{Pair}
 use Rattle.dd_model.specs.Symbol.{Symbol, IsTable, item, op, degree}
 use Rattle.dd_model.specs.Connected.{Connected}
 use Rattle.dd_model.specs.Small.{IsSmallSymbol}
-use Rattle.dd_model.specs.Isomorphic.{IsIsomorphism, Isomorphic}
+use Rattle.dd_model.specs.Isomorphic.{IsIsomorphism}
 use Rattle.dd_model.specs.Code.{code_cmp, chambers}
 use Rattle.dd_model.specs.FirstVisit.{rows, IsNumberedFrom}
 use Rattle.dd_canon.specs.Traversal.{IsVisit, IsMeeting, IsTraversal}
@@ -39,12 +39,6 @@ pub record IsStanding (s b : Symbol) (start : ℕ) (o : Ordering) : Type 0 where
 -- no numbering by first visits from one of the chambers 1 to n is below t
 pub record IsBestTo (s : Symbol) (n : ℕ) (t : Symbol) : Type 0 where
   pub best : (d : ℕ) (u : Symbol) → 1 ≤ d → d ≤ n → IsNumberedFrom s d u → code_cmp t u ≢ Greater
-
--- the best of the numberings from the chambers 1 to n, a renumbering of s
-pub record IsBestForm (s : Symbol) (n : ℕ) (t : Symbol) : Type 0 where
-  pub table : IsTable t
-  pub isomorphic : Isomorphic s t
-  pub best : IsBestTo s n t
 
 -- a traversal from the start that is above b, or one that goes on
 abbrev pub IsOngoing : Symbol → Symbol → ℕ → List ℕ → List ℕ → ℕ → (Symbol → List ℕ) → Ordering → Type 0

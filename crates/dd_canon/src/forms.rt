@@ -1,38 +1,13 @@
-ghost use Rattle.std.specs.Prelude.{◌≡◌, ◌+◌, ◌-◌, ◌*◌, ◌≤◌, ◌<◌, ◌↔◌, IsTrue, IfOk};
-ghost use Rattle.dd_model.specs.Symbol.{IsChamber};
+ghost use Rattle.std.specs.Prelude.{◌≡◌, ◌+◌, ◌*◌, ◌≤◌, ◌<◌, ◌↔◌, IsTrue, IfOk};
 ghost use Rattle.dd_model.specs.Code.{Least, IsLeastForm};
-ghost use Rattle.dd_canon.specs.Standing.{IsBestForm, IsReady};
 
+use crate::best_numbering::{BestNumbering, best_numbering};
 use crate::steps::Steps;
-use crate::visits::Visit;
 use dd_model::Memory;
-use dd_symbol::Connected;
+use dd_symbol::{Connected, cmp_code};
 use std::alloc::Global;
 use std::marker::Brand;
 use std::sync::ledger::{Blank, Ledger};
-
-/// The better of a form and of the numbering by first visits from a start.
-fn improved<L: Ledger>(
-    alloc: Global,
-    s: &Connected,
-    start: u32,
-    form: Connected,
-    visit: &mut Visit,
-    steps: &mut Steps<L>,
-) -> Result<Connected, Memory>
-    requires ready { IsReady s.now visit.old }
-    requires start { IsChamber s.now start }
-    requires best { IsBestForm s.now (start - 1) form }
-    ensures ready { IsReady s.now visit.new }
-    ensures best { IfOk result (λ better. IsBestForm s.now start better) }
-    ensures count { steps.new ≤ steps.old + 5 * s.now.size }
-{
-    let order = visit.stand(s, start, &form, steps);
-    if order.is_lt() {
-        return Ok(s.renumber(alloc, &visit.number)?);
-    }
-    Ok(form)
-}
 
 /// The least form of a symbol of n chambers, in at most 5 n n comparisons of code numbers.
 pub fn least<L: Ledger>(
@@ -43,12 +18,8 @@ pub fn least<L: Ledger>(
     ensures least { IfOk result (λ form. IsLeastForm s.now form) }
     ensures count { steps.new ≤ steps.old + 5 * s.now.size * s.now.size }
 {
-    let mut form = s.try_copy(alloc)?;
-    let mut visit = Visit::new(alloc, s)?;
-    for k in 0..s.symbol().size() {
-        form = improved(alloc, s, k + 1, form, &mut visit, steps)?;
-    }
-    Ok(form)
+    let best = best_numbering(alloc, s, steps)?;
+    Ok(best.form)
 }
 
 /// The least form, where the comparisons are counted from a blank on.
@@ -77,10 +48,13 @@ fn is_least_from<L: Ledger>(alloc: Global, s: &Connected, blank: Blank) -> Resul
     ensures { IfOk result (λ least. IsTrue least ↔ Least s.now) }
 {
     let mut steps = Steps::<L>::begin(blank);
-    let mut visit = Visit::new(alloc, s)?;
-    for k in 0..s.symbol().size() {
-        let order = visit.stand(s, k + 1, s, &mut steps);
-        if order.is_lt() {
+    let mut best = BestNumbering::new(alloc, s)?;
+    if cmp_code(best.form.symbol(), s.symbol()).is_ne() {
+        return Ok(false);
+    }
+    for k in 1..s.symbol().size() {
+        let better = best.improve(alloc, s, k + 1, &mut steps)?;
+        if better {
             return Ok(false);
         }
     }

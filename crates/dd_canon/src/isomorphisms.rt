@@ -1,41 +1,14 @@
 ghost use Rattle.std.specs.Prelude.{◌≡◌, ℕ, ◌<◌, ◌≤◌, List, length, map, IfOk, MatchOption};
-ghost use Rattle.std.specs.Bool.{OnTrue, OnFalse};
 ghost use Rattle.dd_model.specs.Symbol.{item};
 ghost use Rattle.dd_model.specs.Isomorphic.{IsIsomorphism, Isomorphic};
-ghost use Rattle.dd_model.specs.FirstVisit.{IsFirstVisit};
-ghost use Rattle.dd_canon.specs.Standing.{IsReady};
 
-use crate::forms::least;
+use crate::best_numbering::best_numbering;
 use crate::steps::Steps;
-use crate::visits::Visit;
 use dd_model::{Map, Memory};
-use dd_symbol::Connected;
+use dd_symbol::{Connected, cmp_code};
 use std::alloc::Global;
 use std::marker::Brand;
 use std::sync::ledger::{Blank, Ledger};
-
-/// Whether the numbers from some start make a symbol the form; they are left in the visit.
-fn reaches<L: Ledger>(
-    visit: &mut Visit,
-    s: &Connected,
-    form: &Connected,
-    steps: &mut Steps<L>,
-) -> bool
-    requires ready { IsReady s.now visit.old }
-    requires size { form.now.size ≡ s.now.size }
-    requires first_visit { IsFirstVisit form.now }
-    ensures there { OnTrue result (IsIsomorphism s.now form.now visit.new.number.items) }
-    ensures back { OnTrue result (IsIsomorphism form.now s.now visit.new.order.items) }
-    ensures none { OnFalse result (¬ Isomorphic s.now form.now) }
-{
-    for k in 0..form.symbol().size() {
-        let order = visit.stand(s, k + 1, form, steps);
-        if order.is_eq() {
-            return true;
-        }
-    }
-    false
-}
 
 /// First one map, then another.
 pub(crate) fn joined(alloc: Global, first: &[u32], then: &[u32]) -> Result<Map, Memory>
@@ -67,17 +40,13 @@ fn isomorphic_from<L: Ledger>(
         return Ok(None);
     }
     let mut steps = Steps::<L>::begin(blank);
-    let form = least(alloc, a, &mut steps)?;
-    let mut here = Visit::new(alloc, a)?;
-    let mut there = Visit::new(alloc, b)?;
-    // The form is that of `a`, so some start reaches it, and this return is never taken.
-    if !reaches(&mut here, a, &form, &mut steps) {
+    let one = best_numbering(alloc, a, &mut steps)?;
+    let other = best_numbering(alloc, b, &mut steps)?;
+    let order = cmp_code(one.form.symbol(), other.form.symbol());
+    if order.is_ne() {
         return Ok(None);
     }
-    if !reaches(&mut there, b, &form, &mut steps) {
-        return Ok(None);
-    }
-    Ok(Some(joined(alloc, &here.number, &there.order)?))
+    Ok(Some(joined(alloc, &one.home.number, &other.home.order)?))
 }
 
 /// A map to an isomorphic symbol, if the symbols are isomorphic.

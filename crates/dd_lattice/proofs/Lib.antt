@@ -1,4 +1,3 @@
-pub mod ForestLemmas
 pub mod KindLemmas
 pub mod FreshLinks
 pub mod KindCounts

@@ -1,5 +1,4 @@
 pub mod Edges
-pub mod Forest
 pub mod Growing
 pub mod Lists
 pub mod Nets

@@ -6,9 +6,9 @@ ghost use Rattle.dd_model.specs.Small.{IsSmallSymbol};
 ghost use Rattle.dd_model.specs.declared.pair.Pair.TheVariants.{Edge};
 ghost use Rattle.dd_symbol.specs.Cells.{IsLeastFor};
 ghost use Rattle.dd_lattice.specs.Edges.{IsKindOf, AreKindsOf, AreVerticesTo, AreTilesTo};
-ghost use Rattle.dd_lattice.specs.Forest.{IsFalling, AreInOnePart, AreJoinedAt};
+ghost use Rattle.dd_forest.specs.Parts.{IsFalling, AreInOnePart, AreJoinedAt};
 
-use crate::forest::{join, parted};
+use dd_forest::Forest;
 use dd_model::{Index, Memory, Pair};
 use dd_symbol::{Connected, Symbol};
 use std::alloc::Global;
@@ -50,25 +50,24 @@ impl EdgeKind {
 
 /// Joins the parts of the two cells of a chamber and of its image, and returns whether they were
 /// two.
-fn join_cells(above: &mut Vec<u32>, symbol: &Symbol, pair: Pair, i: Index, chamber: u32) -> bool
+fn join_cells(above: &mut Forest, symbol: &Symbol, pair: Pair, i: Index, chamber: u32) -> bool
     requires symbol { IsSmallSymbol symbol.now }
     requires chamber { IsChamber symbol.now chamber }
-    requires nodes { length above.old.items ≡ symbol.now.size + 1 }
-    requires falls { IsFalling above.old.items }
-    ensures falls { IsFalling above.new.items }
+    requires nodes { length above.old ≡ symbol.now.size + 1 }
+    ensures falls { IsFalling above.new }
     ensures joined { (a b : ℕ) → IsLeastFor symbol.now pair chamber a
         → IsLeastFor symbol.now pair (op symbol.now i chamber) b
-        → AreJoinedAt above.old.items a b above.new.items }
+        → AreJoinedAt above.old a b above.new }
     ensures two { (a b : ℕ) → IsLeastFor symbol.now pair chamber a
         → IsLeastFor symbol.now pair (op symbol.now i chamber) b
-        → OnTrue result (AreInOnePart above.old.items a b → ⊥) }
+        → OnTrue result (AreInOnePart above.old a b → ⊥) }
     ensures one_part { (a b : ℕ) → IsLeastFor symbol.now pair chamber a
         → IsLeastFor symbol.now pair (op symbol.now i chamber) b
-        → OnFalse result (AreInOnePart above.old.items a b) }
+        → OnFalse result (AreInOnePart above.old a b) }
 {
     let one = symbol.cell(pair, chamber).least;
     let other = symbol.cell(pair, symbol.op(i, chamber)).least;
-    join(above, one, other)
+    above.join(one, other)
 }
 
 /// What an edge is, after the smaller ones. Its two vertices are joined, and where they were joined
@@ -77,17 +76,17 @@ fn kind_of(
     symbol: &Symbol,
     edges: &[u32],
     k: usize,
-    vertices: &mut Vec<u32>,
-    tiles: &mut Vec<u32>,
+    vertices: &mut Forest,
+    tiles: &mut Forest,
 ) -> EdgeKind
     requires symbol { IsSmallSymbol symbol.now }
     requires edges { AreCells symbol.now Edge edges.now }
     requires inside { k < length edges.now }
-    requires vertices { AreVerticesTo symbol.now edges.now k vertices.old.items }
-    requires tiles { AreTilesTo symbol.now edges.now k tiles.old.items }
+    requires vertices { AreVerticesTo symbol.now edges.now k vertices.old }
+    requires tiles { AreTilesTo symbol.now edges.now k tiles.old }
     ensures kind { IsKindOf symbol.now (slice_index edges.now k) result }
-    ensures vertices { AreVerticesTo symbol.now edges.now (k + 1) vertices.new.items }
-    ensures tiles { AreTilesTo symbol.now edges.now (k + 1) tiles.new.items }
+    ensures vertices { AreVerticesTo symbol.now edges.now (k + 1) vertices.new }
+    ensures tiles { AreTilesTo symbol.now edges.now (k + 1) tiles.new }
 {
     if join_cells(vertices, symbol, Pair::Vertex, Index::Zero, edges[k]) {
         return EdgeKind::Tree;
@@ -104,8 +103,8 @@ pub fn edge_kinds(alloc: Global, t: &Connected, edges: &[u32]) -> Result<Vec<Edg
     ensures { IfOk result (λ kinds. AreKindsOf t.now edges.now kinds.items) }
 {
     let symbol = t.symbol();
-    let mut vertices = parted(alloc, symbol.size() + 1)?;
-    let mut tiles = parted(alloc, symbol.size() + 1)?;
+    let mut vertices = Forest::new(alloc, symbol.size() + 1)?;
+    let mut tiles = Forest::new(alloc, symbol.size() + 1)?;
     let mut kinds = Vec::new(alloc);
     for k in 0..edges.len() {
         kinds.push(kind_of(symbol, edges, k, &mut vertices, &mut tiles))?;

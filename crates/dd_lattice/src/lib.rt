@@ -1,7 +1,6 @@
 //! Nets of tori: which edges are tree edges, crossing edges and left, and the shifts.
 #![tactic(auto)]
 
-mod forest;
 mod growing;
 mod kinds;
 mod laws;

@@ -1,31 +1,39 @@
-use Rattle.dd_model.specs.Isomorphic.{IsIsomorphism}
-use Rattle.dd_canon.proofs.FormLemmas.{form_first_visit, not_through_form, through_form, within_form}
+use Rattle.std.proofs.Common.{◌≡◌, sym, ◌∙◌}
+use Rattle.std.specs.declared.cmp.Ordering.TheVariants.{Equal}
+use Rattle.dd_model.specs.Code.{code_cmp}
+use Rattle.dd_model.proofs.Orders.{equal_of}
+use Rattle.dd_canon.proofs.BestLemmas.{not_isomorphic, joins, maps}
 use Rattle.dd_canon.proofs.isomorphisms.isomorphic_from.Goals as goal
 
-pub reaches-requires-clause-first_visit : goal.reaches-requires-clause-first_visit
-reaches-requires-clause-first_visit g c = form_first_visit c.args.a.now c.in_ok-form.form c.symbol.ensures.symbol.symbol c.symbol.ensures.connected c.in_ok-form.ensures.least
-
-pub reaches-requires-2-clause-first_visit : goal.reaches-requires-2-clause-first_visit
-reaches-requires-2-clause-first_visit g c = form_first_visit c.args.a.now c.in_ok-form.form c.symbol.ensures.symbol.symbol c.symbol.ensures.connected c.in_ok-form.ensures.least
-
-pub returns-then-not-reaches-2 : goal.returns-then-not-reaches-2
-returns-then-not-reaches-2 g c =
-    not_through_form c.args.a.now c.args.b.now c.in_ok-form.form c.symbol.ensures.symbol.symbol.table c.symbol-2.ensures.symbol.symbol.table
-    c.in_ok-form.ensures.least.renumbering c.if-not-reaches-2.ensures.none
+pub returns-then-is_ne : goal.returns-then-is_ne
+returns-then-is_ne g c =
+    let x = c.in_ok-one.one in
+    let y = c.in_ok-other.other in
+    let one = c.in_ok-one.ensures.best in
+    let other = c.in_ok-other.ensures.best in
+    let compared : c.cmp_code-order.result ≡ code_cmp x.form y.form = rw (← c.symbol-3.ensures.same, ← c.symbol-4.ensures.same) c.cmp_code-order.ensures in
+    not_isomorphic c.args.a.now c.args.b.now x y one.home.symbol.symbol other.home.symbol.symbol one.home.connected other.home.connected one other (cc)
 
 pub joined-requires : goal.joined-requires
-joined-requires g c = record {
-  within =
-      let there : IsIsomorphism c.args.a.now c.in_ok-form.form c.reaches.new.visit.number.items = c.if-not-reaches.ensures.there in
-      let back : IsIsomorphism c.in_ok-form.form c.args.b.now c.reaches-2.new.visit.order.items = c.if-not-reaches-2.ensures.back in
-      rw (c.deref.ensures.value, c.deref-2.ensures.value)
-      (within_form c.args.a.now c.args.b.now c.in_ok-form.form c.reaches.new.visit.number.items c.reaches-2.new.visit.order.items there back);
-}
+joined-requires g c =
+    let x = c.in_ok-one.one in
+    let y = c.in_ok-other.other in
+    let one = c.in_ok-one.ensures.best in
+    let other = c.in_ok-other.ensures.best in
+    let compared : c.cmp_code-order.result ≡ code_cmp x.form y.form = rw (← c.symbol-3.ensures.same, ← c.symbol-4.ensures.same) c.cmp_code-order.ensures in
+    let equal : c.cmp_code-order.result ≡ Equal = equal_of c.cmp_code-order.result (cc) in
+    record {
+      within = rw (c.deref.ensures.value, c.deref-2.ensures.value)
+          (joins c.args.a.now c.args.b.now x y one.home.symbol.symbol other.home.symbol.symbol one.home.connected other.home.connected one other (sym compared ∙ equal));
+    }
 
 pub returns : goal.returns
 returns g c =
-    let there : IsIsomorphism c.args.a.now c.in_ok-form.form c.reaches.new.visit.number.items = c.if-not-reaches.ensures.there in
-    let back : IsIsomorphism c.in_ok-form.form c.args.b.now c.reaches-2.new.visit.order.items = c.if-not-reaches-2.ensures.back in
-    let whole = through_form c.args.a.now c.args.b.now c.in_ok-form.form c.reaches.new.visit.number.items c.reaches-2.new.visit.order.items
-    c.symbol.ensures.symbol.symbol.table there back in
-    rw (c.in_ok-joined.ensures, c.deref.ensures.value, c.deref-2.ensures.value) whole
+    let x = c.in_ok-one.one in
+    let y = c.in_ok-other.other in
+    let one = c.in_ok-one.ensures.best in
+    let other = c.in_ok-other.ensures.best in
+    let compared : c.cmp_code-order.result ≡ code_cmp x.form y.form = rw (← c.symbol-3.ensures.same, ← c.symbol-4.ensures.same) c.cmp_code-order.ensures in
+    let equal : c.cmp_code-order.result ≡ Equal = equal_of c.cmp_code-order.result (cc) in
+    rw (c.in_ok-joined.ensures, c.deref.ensures.value, c.deref-2.ensures.value)
+    (maps c.args.a.now c.args.b.now x y one.home.symbol.symbol other.home.symbol.symbol one.home.connected other.home.connected one other (sym compared ∙ equal))

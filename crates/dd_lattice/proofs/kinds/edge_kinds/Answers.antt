@@ -21,9 +21,9 @@ loop-k-init c =
     let cells : AreCells t Edge c.args.edges.now = rw c.symbol-symbol.ensures.same c.requires in
     let inv = c.size.ensures.symbol.symbol.table.involutions in
     record {
-      vertices = forest_first t inv Vertex Zero (λ e. Unit {0}) c.args.edges.now cells c.in_ok-vertices.vertices.items (c.in_ok-vertices.ensures.many ∙ ap (λ n. n + 1) c.size.ensures.size) c.in_ok-vertices.ensures.falls
+      vertices = forest_first t inv Vertex Zero (λ e. Unit {0}) c.args.edges.now cells c.in_ok-vertices.vertices (c.in_ok-vertices.ensures.many ∙ ap (λ n. n + 1) c.size.ensures.size) c.in_ok-vertices.ensures.falls
           c.in_ok-vertices.ensures.level;
-      tiles = forest_first t inv Tile Two (λ e. ¬ IsTreeEdge t e) c.args.edges.now cells c.in_ok-tiles.tiles.items (c.in_ok-tiles.ensures.many ∙ ap (λ n. n + 1) c.size-2.ensures.size) c.in_ok-tiles.ensures.falls
+      tiles = forest_first t inv Tile Two (λ e. ¬ IsTreeEdge t e) c.args.edges.now cells c.in_ok-tiles.tiles (c.in_ok-tiles.ensures.many ∙ ap (λ n. n + 1) c.size-2.ensures.size) c.in_ok-tiles.ensures.falls
           c.in_ok-tiles.ensures.level;
       many = ap length c.new-kinds.ensures.items;
       each = λ j d low. absurd (omega arith);

@@ -1,0 +1,106 @@
+ghost use Rattle.std.specs.Prelude.{◌≡◌, ◌+◌, ◌-◌, ◌*◌, ◌≤◌, IfOk, OnOk};
+ghost use Rattle.std.specs.Bool.{OnTrue, OnFalse};
+ghost use Rattle.std.specs.declared.cmp.Ordering.TheVariants.{Less};
+ghost use Rattle.dd_model.specs.Symbol.{IsChamber};
+ghost use Rattle.dd_model.specs.Code.{code_cmp};
+ghost use Rattle.dd_canon.specs.Best.{IsBestNumbering};
+
+use crate::steps::Steps;
+use crate::visits::Visit;
+use dd_forest::Forest;
+use dd_model::Memory;
+use dd_symbol::Connected;
+use std::alloc::Global;
+use std::mem::swap;
+use std::sync::ledger::Ledger;
+
+/// The best of the numberings by first visits from the starts 1 to some start.
+///
+/// Two starts have one code if an automorphism takes one to the other. A traversal that ties with
+/// the best one to its end is an automorphism: it takes the k-th chamber of the best numbering to
+/// its own k-th chamber. So the chambers are joined along it, and a start that is joined with a
+/// smaller one is left out. Each tie at least doubles the group of the automorphisms that were
+/// found, which has at most as many members as there are chambers.
+#[derive(Drop)]
+pub(crate) struct BestNumbering {
+    /// The numbers of the first visits from the best start.
+    pub home: Visit,
+    /// The symbol in these numbers.
+    pub form: Connected,
+    /// The first visits from another start.
+    there: Visit,
+    /// The chambers, joined along automorphisms. Node 0 is no chamber.
+    orbits: Forest,
+}
+
+impl BestNumbering {
+    ghost use Rattle.dd_canon.specs.Best.{IsBestNumbering};
+
+    /// Numbers the chambers of a symbol from chamber 1.
+    pub(crate) fn new(alloc: Global, s: &Connected) -> Result<BestNumbering, Memory>
+        ensures { IfOk result (λ best. IsBestNumbering s.now 1 best) }
+    {
+        let mut home = Visit::new(alloc, s)?;
+        let there = Visit::new(alloc, s)?;
+        home.number_from(s, 1);
+        let form = s.renumber(alloc, &home.number)?;
+        let orbits = Forest::new(alloc, s.symbol().size() + 1)?;
+        Ok(BestNumbering {
+            home,
+            form,
+            there,
+            orbits,
+        })
+    }
+
+    /// Compares the numbering from the next start with the best one, and keeps the better. Returns
+    /// whether the new one is better.
+    pub(crate) fn improve<L: Ledger>(
+        &mut self,
+        alloc: Global,
+        s: &Connected,
+        start: u32,
+        steps: &mut Steps<L>,
+    ) -> Result<bool, Memory>
+        requires start { IsChamber s.now start }
+        requires best { IsBestNumbering s.now (start - 1) self.old }
+        ensures best { OnOk result (IsBestNumbering s.now start self.new) }
+        ensures better { IfOk result (λ better.
+            OnTrue better (code_cmp self.new.form self.old.form ≡ Less)) }
+        ensures same { IfOk result (λ better. OnFalse better (self.new.form ≡ self.old.form)) }
+        ensures count { steps.new ≤ steps.old + 5 * s.now.size }
+    {
+        if !self.orbits.is_smallest(start) {
+            return Ok(false);
+        }
+        let order = self.there.stand(s, start, &self.form, steps);
+        if order.is_gt() {
+            return Ok(false);
+        }
+        let better = order.is_lt();
+        if better {
+            self.form = s.renumber(alloc, &self.there.number)?;
+            swap(&mut self.home, &mut self.there);
+            return Ok(true);
+        }
+        self.orbits.join_along(&self.home.order, &self.there.order);
+        Ok(false)
+    }
+}
+
+/// Returns the best of all numberings by first visits, in at most 5 n n comparisons of code numbers
+/// for n chambers.
+pub(crate) fn best_numbering<L: Ledger>(
+    alloc: Global,
+    s: &Connected,
+    steps: &mut Steps<L>,
+) -> Result<BestNumbering, Memory>
+    ensures best { IfOk result (λ best. IsBestNumbering s.now s.now.size best) }
+    ensures count { steps.new ≤ steps.old + 5 * s.now.size * s.now.size }
+{
+    let mut best = BestNumbering::new(alloc, s)?;
+    for k in 1..s.symbol().size() {
+        best.improve(alloc, s, k + 1, steps)?;
+    }
+    Ok(best)
+}
