@@ -2,6 +2,7 @@ pub mod LinesUpTo
 pub mod Fronts
 pub mod ChainStops
 pub mod ReadingBack
+pub mod ShardTexts
 pub mod ChainParts
 mod ChainSteps
 pub mod Chained

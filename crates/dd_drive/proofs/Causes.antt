@@ -10,7 +10,8 @@ use Rattle.dd_ports.specs.Causes.{Rose}
 use Rattle.dd_ports.specs.Sinks.{memory_sink_held}
 use Rattle.dd_ports.specs.declared.memory_sink.MemorySink.{MemorySink}
 use Rattle.dd_check.specs.Between.{AreLinesBetween}
-use Rattle.dd_check.specs.Calls.{Catalogue, Resume}
+use Rattle.dd_jobs.specs.Portions.{whole}
+use Rattle.dd_check.specs.Calls.{Catalogues, Begin, Resume}
 use Rattle.dd_check.specs.ChainStarts.{Start, StartsAt}
 use Rattle.dd_check.proofs.LinesUpTo.{joined_between}
 use Rattle.dd_check.proofs.Lone.{none_asked}
@@ -72,10 +73,10 @@ module _ (words : List (List ℕ)) (from to : Kept) (old new : MemorySink) (p : 
 
 -- ## Calls that go on from the name
 
-one_name : (a b : List ℕ) → Resume a ≡ Resume b → a ≡ b
+one_name : (a b : List ℕ) → Resume Catalogues a ≡ Resume Catalogues b → a ≡ b
 one_name a b e = cc
 
-other_task : (q : Request) (n : Option (List ℕ)) (name : List ℕ) → Catalogue q n ≡ Resume name → ⊥
+other_task : (q : Request) (n : Option (List ℕ)) (name : List ℕ) → Begin (whole q) n ≡ Resume Catalogues name → ⊥
 other_task q n name e = cc
 
 module _ (name : List ℕ) (asked : AskForRun (resume_words name) (resume_order name)) (from to : Kept) (old new : MemorySink) (p : ProgramCall) (is : IsRun (resume_words name) from to old new p) where
@@ -96,8 +97,8 @@ module _ (name : List ℕ) (asked : AskForRun (resume_words name) (resume_order 
       go (inr (inr (fault, check))) =
           let named : check.name ≡ name =
           one_name check.name name (ap (λ (o : Order). o.task)
-          (one_order (resume_words name) (record { task = Resume check.name; round = check.asked.round; pause = check.asked.pause }) (resume_order name)
-          (subst (λ ws. AskForRun ws (record { task = Resume check.name; round = check.asked.round; pause = check.asked.pause })) is.words_are check.asked.run) asked)) in
+          (one_order (resume_words name) (record { task = Resume Catalogues check.name; round = check.asked.round; pause = check.asked.pause }) (resume_order name)
+          (subst (λ ws. AskForRun ws (record { task = Resume Catalogues check.name; round = check.asked.round; pause = check.asked.pause })) is.words_are check.asked.run) asked)) in
           let held_is : from.held name ≡ Some check.holds.bytes =
           sym (ap (λ b. b.held name) is.before) ∙ ap p.before.held (sym named) ∙ check.holds.fetched is.is_call.tells in
           out_of_range q (from.held name) check.holds.bytes fault valid held held_is check.holds.faulty
@@ -113,8 +114,8 @@ first_refused words name asked from to old new p is e = go (is.cause.refused e)
     go (inr (inl (refusal, file))) = not_both p.words p.order file.command file.name is.is_call.asked file.asked
     go (inr (inr (fault, check))) =
         other_task asked.request (Some name) check.name (ap (λ (o : Order). o.task)
-        (one_order words (first_order asked) (record { task = Resume check.name; round = check.asked.round; pause = check.asked.pause }) asked.run
-        (subst (λ ws. AskForRun ws (record { task = Resume check.name; round = check.asked.round; pause = check.asked.pause })) is.words_are check.asked.run)))
+        (one_order words (first_order asked) (record { task = Resume Catalogues check.name; round = check.asked.round; pause = check.asked.pause }) asked.run
+        (subst (λ ws. AskForRun ws (record { task = Resume Catalogues check.name; round = check.asked.round; pause = check.asked.pause })) is.words_are check.asked.run)))
 
 -- ## Lines that are too many
 
@@ -127,9 +128,9 @@ too_many words from to old new p q members is upto e all =
     let u = upto h.start (begun p.order.task p.before h.start is.is_call.tells begins) in
     let rest = h.lines.lines in
     let s = h.start in
-    let whole = joined_between q beginning s.at rest.at 0 s.lines most_lines u.bytes h.output u.lines
-    (subst (λ r. AreLinesBetween r s.at rest.at s.lines most_lines h.output) u.request rest.written) in
-    more_members q rest.at most_lines _ members whole (subst (λ r. IsNextMember r rest.at) u.request rest.next) all
+    let whole = joined_between (whole q) beginning s.at rest.at 0 s.lines most_lines u.bytes h.output u.lines
+    (subst (λ r. AreLinesBetween r s.at rest.at s.lines most_lines h.output) u.portion rest.written) in
+    more_members q rest.at most_lines _ members whole (subst (λ r. IsNextMember r rest.at) u.portion rest.next) all
 
 -- ## The sentences on the last call
 

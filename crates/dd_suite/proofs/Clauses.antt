@@ -2,14 +2,13 @@
 use Rattle.std.proofs.Common.{◌≡◌, ◌⊎◌, ◌≤◌, ℕ, List, [], true, Result, Ok, Err, IsErrOf, length, inl, inr, refl, sym, ap, ◌∙◌, subst}
 use Rattle.std.specs.Prelude.{OnOk}
 use Rattle.dd_model.specs.Symbol.{Symbol}
-use Rattle.dd_model.specs.Wanted.{IsCatalogue}
-use Rattle.dd_model.specs.declared.requests.Request.{Request}
+use Rattle.dd_jobs.specs.declared.portions.Portion.{Portion}
+use Rattle.dd_jobs.specs.Portions.{ArePortionMembers}
 use Rattle.dd_ports.specs.Causes.{Rose}
 use Rattle.dd_ports.specs.Grows.{GrowsByPrefix}
 use Rattle.dd_ports.specs.declared.sink.SinkFault.{SinkFault as WriteFault}
 use Rattle.dd_ports.specs.declared.sink.SinkFault.TheVariants.{Failed, Memory as NoRoom}
-use Rattle.dd_check.specs.declared.checkpoint.Checkpoint.{Checkpoint}
-use Rattle.dd_check.specs.Calls.{Catalogue, Resume}
+use Rattle.dd_check.specs.Calls.{Kind, Begin, Resume}
 use Rattle.dd_check.specs.ChainStarts.{Start}
 use Rattle.dd_pages.specs.Runs.{most_lines, WritesRest}
 use Rattle.dd_tasks.specs.declared.ending.Ending.{Ending}
@@ -17,7 +16,7 @@ use Rattle.dd_tasks.specs.declared.ending.Ending.TheVariants as ending
 use Rattle.dd_tasks.specs.declared.status.Status.{Status}
 use Rattle.dd_tasks.specs.declared.status.Status.TheVariants.{Done, Usage, Refused, Paused, StoreFault, SinkFault, Memory, TooManyLines}
 use Rattle.dd_tasks.specs.Arguments.{AreRefused, IsFileAccepted, IsCheckAccepted, KeepUnder, SameButKept}
-use Rattle.dd_tasks.specs.Beginnings.{HoldsCheck}
+use Rattle.dd_tasks.specs.Beginnings.{HoldsSomeCheck}
 use Rattle.dd_tasks.specs.Cuts.{Pauses, CutsShort, IsEndOfOwn}
 use Rattle.dd_tasks.specs.Endings.{status_of}
 use Rattle.dd_tasks.specs.Messages.{IsItsCause}
@@ -25,10 +24,10 @@ use Rattle.dd_tasks.specs.Outside.{Before, After, WritesNothing, KeepsNames}
 use Rattle.dd_tasks.specs.Output.{AppendsOutput, IsKnownOutput, IsFileOutput}
 use Rattle.dd_tasks.specs.Runs.{IsStopped, IsCallOf}
 use Rattle.dd_tasks.specs.Stops.{IsOutcome, untaken, unread, on_file, of_exercise, of_run}
-use Rattle.dd_tasks.specs.Words.{Order, run_command, file_command, AskForRun, AskFor, AskToResume, NameFile, AreTaken}
+use Rattle.dd_tasks.specs.Words.{Order, file_command, AskForRun, AskFor, AskToResume, NameFile, AreTaken}
 use Rattle.dd_suite.proofs.ExerciseOutcomes.{exercise_known, exercise_whole, exercise_complete, exercise_told, exercise_sink, exercise_never}
 use Rattle.dd_suite.proofs.FileOutcomes.{file_known, file_whole, file_nothing, file_refused, file_quiet, file_complete, file_told, file_store, file_sink, file_usage, file_ends}
-use Rattle.dd_tasks.proofs.Requests.{one_order, not_both, run_or_exercise, file_or_exercise}
+use Rattle.dd_tasks.proofs.Requests.{one_order, order_told, not_both, run_or_exercise, file_or_exercise}
 use Rattle.dd_suite.proofs.RunEndings.{done_ending, usage_ending, store_ending, sink_ending, whole_result}
 use Rattle.dd_suite.proofs.RunOutcomes.{ran_known, ran_whole, ran_pauses, ran_cuts, ran_store, ran_quiet, ran_told, ran_complete}
 use Rattle.dd_suite.proofs.RunOutcomes.{stop_refused, stop_complete, stop_told, run_usage, run_store, run_sink, stop_usage, stop_store, stop_sink}
@@ -62,7 +61,7 @@ module _ (words : List (List ℕ)) (end : Ending) (before : Before) (after : Aft
   whole (of_run order asked (inr stops)) h = let f : IsStopped Done = subst IsStopped h stops.not_run.stopped in absurd f
 
   call : IsOutcome words end before after → (order : Order) → AskForRun words order → IsCallOf order (status_of end) before after
-  call (untaken e none left) order asked = absurd (none (run_command order.task asked.workers order.round order.pause, asked.command))
+  call (untaken e none left) order asked = let x = order_told words order asked in absurd (none (x.command, x.asked))
   call (unread e left) order asked = inr (record { stopped = subst (λ x. IsStopped (status_of x)) (sym e) tt; nothing = left.nothing; same = left.same })
   call (on_file command name named ends) order asked = absurd (not_both words order command name asked named)
   call (of_exercise start count is ends) order asked = absurd (run_or_exercise words order start count asked is)
@@ -73,12 +72,12 @@ module _ (words : List (List ℕ)) (end : Ending) (before : Before) (after : Aft
   call_as outcome state e order asked = subst (λ s. IsCallOf order s before after) (sym e) (call outcome order asked)
 
   -- words that go on from no checkpoint text write nothing, and leave every name as it was
-  pub not_resumed : IsOutcome words end before after → (name : List ℕ) → AskToResume words name → ((c : Checkpoint) → HoldsCheck before.tells (before.held name) c → ⊥)
+  pub not_resumed : IsOutcome words end before after → (kind : Kind) (name : List ℕ) → AskToResume words kind name → (HoldsSomeCheck kind before.tells (before.held name) → ⊥)
       → WritesNothing before after × KeepsNames before after
-  not_resumed outcome name asked none = go (call outcome (record { task = Resume name; round = asked.round; pause = asked.pause }) asked.run)
+  not_resumed outcome kind name asked none = go (call outcome (record { task = Resume kind name; round = asked.round; pause = asked.pause }) asked.run)
     where
-      go : IsCallOf (record { task = Resume name; round = asked.round; pause = asked.pause }) (status_of end) before after → WritesNothing before after × KeepsNames before after
-      go (inl ran) = absurd (none ran.begins.0 ran.begins.1)
+      go : IsCallOf (record { task = Resume kind name; round = asked.round; pause = asked.pause }) (status_of end) before after → WritesNothing before after × KeepsNames before after
+      go (inl ran) = absurd (none ran.begins.held_is)
       go (inr stops) = (stops.nothing, stops.same)
 
   pub usage : IsOutcome words end before after → status_of end ≡ Usage → AreTaken words → ⊥
@@ -94,7 +93,7 @@ module _ (words : List (List ℕ)) (end : Ending) (before : Before) (after : Aft
   not_taken (unread e left) h = inr (ap status_of e)
   not_taken (on_file command name asked ends) h = absurd (h (file_command command name, asked))
   not_taken (of_exercise start count asked ends) h = absurd (h (_, asked))
-  not_taken (of_run order asked o) h = absurd (h (run_command order.task asked.workers order.round order.pause, asked.command))
+  not_taken (of_run order asked o) h = let x = order_told words order asked in absurd (h (x.command, x.asked))
 
   pub refused : IsOutcome words end before after → status_of end ≡ Refused → AreRefused words before.tells before.held
   refused (untaken e none left) h = let f = other end ending.Usage Refused e h in absurd (cc)
@@ -172,10 +171,10 @@ module _ (words : List (List ℕ)) (end : Ending) (before : Before) (after : Aft
   cut_short (of_run order asked (inl ends)) h = ran_cuts words order before after asked (status_of end) ends.ran h
   cut_short (of_run order asked (inr stops)) h = let f : IsStopped TooManyLines = subst IsStopped h stops.not_run.stopped in absurd f
 
-  pub not_cut : IsOutcome words end before after → status_of end ≡ Done → (q : Request) (members : List Symbol) → AskFor words q → IsCatalogue q members → length members ≤ most_lines
-  not_cut outcome h q members asked is = go (call outcome (record { task = Catalogue q asked.name; round = asked.round; pause = asked.pause }) asked.run)
+  pub not_cut : IsOutcome words end before after → status_of end ≡ Done → (q : Portion) (members : List Symbol) → AskFor words q → ArePortionMembers q members → length members ≤ most_lines
+  not_cut outcome h q members asked is = go (call outcome (record { task = Begin q asked.name; round = asked.round; pause = asked.pause }) asked.run)
     where
-      go : IsCallOf (record { task = Catalogue q asked.name; round = asked.round; pause = asked.pause }) (status_of end) before after → length members ≤ most_lines
+      go : IsCallOf (record { task = Begin q asked.name; round = asked.round; pause = asked.pause }) (status_of end) before after → length members ≤ most_lines
       go (inl ran) =
           let out = output_of asked.name ran.start asked.round asked.pause before after ran.result ran.runs in
           let rest = rest_written ran.start asked.pause before.written after.written ran.result out.0 (whole_result ran.result (sym h ∙ ran.status_is)) out.1 in

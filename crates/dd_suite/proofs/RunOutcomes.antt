@@ -3,10 +3,14 @@ use Rattle.std.proofs.Common.{◌≡◌, ◌⊎◌, ℕ, List, true, Option, Som
 use Rattle.dd_ports.specs.Causes.{Rose}
 use Rattle.dd_ports.specs.Grows.{GrowsByPrefix}
 use Rattle.dd_check.specs.declared.faults.CheckFault.{CheckFault}
+use Rattle.dd_jobs.specs.declared.shards.Shard.{Shard}
+use Rattle.dd_check.specs.declared.checkpoint.Checkpoint.{Checkpoint}
 use Rattle.dd_check.specs.Accepted.{IsCheckpointText}
+use Rattle.dd_check.specs.ShardChecks.{IsAcceptedText}
 use Rattle.dd_check.proofs.Exclusion.{no_fault as never_both}
-use Rattle.dd_check.specs.Calls.{Task, Catalogue, Resume}
-use Rattle.dd_check.specs.ChainStarts.{Start, next_start}
+use Rattle.dd_jobs.specs.Portions.{IsPortionText}
+use Rattle.dd_check.specs.Calls.{Kind, Catalogues, Shards, kind_of, Task, Begin, Resume}
+use Rattle.dd_check.specs.ChainStarts.{Start}
 use Rattle.dd_pages.specs.declared.fault.RunFault.{RunFault}
 use Rattle.dd_pages.specs.declared.fault.RunFault.TheVariants as fault
 use Rattle.dd_pages.specs.declared.finish.Finish.{Finish}
@@ -15,7 +19,6 @@ use Rattle.dd_tasks.specs.declared.ending.Ending.{Ending}
 use Rattle.dd_tasks.specs.declared.ending.Ending.TheVariants.{Done, Usage, Refused, RefusedSymbol, RefusedCheck, Paused, StoreFault, SinkFault, Memory, TooManyLines}
 use Rattle.dd_tasks.specs.declared.status.Status.{Status}
 use Rattle.dd_tasks.specs.declared.status.Status.TheVariants as status
-use Rattle.dd_model.specs.Text.{IsText}
 use Rattle.dd_tasks.specs.Arguments.{AreRefused, IsCheckAccepted, KeepUnder, SameButKept}
 use Rattle.dd_tasks.specs.Beginnings.{HoldsNoCheck, BeginsAt, IsCheckRefused}
 use Rattle.dd_tasks.specs.Cuts.{Pauses, CutsShort, IsEndOfOwn}
@@ -25,9 +28,9 @@ use Rattle.dd_tasks.specs.Outcomes.{EndsRun, StopsRun, IsRunEnding, IsStopEnding
 use Rattle.dd_tasks.specs.Output.{AppendsOutput, IsKnownOutput}
 use Rattle.dd_tasks.specs.Outside.{Before, After}
 use Rattle.dd_tasks.specs.Runs.{Runs, HasRunAs, name_of}
-use Rattle.dd_tasks.specs.Words.{Order, run_command, AskForRun}
-use Rattle.dd_tasks.proofs.HeldTexts.{some_injective, one_check}
-use Rattle.dd_tasks.proofs.Requests.{one_order, not_both, run_or_exercise}
+use Rattle.dd_tasks.specs.Words.{Order, AskForRun}
+use Rattle.dd_tasks.proofs.HeldTexts.{some_injective, one_next}
+use Rattle.dd_tasks.proofs.Requests.{one_order, order_told, not_both, run_or_exercise}
 use Rattle.dd_suite.proofs.RunEndings.{whole_result, paused_result, cut_result, store_result, not_refused}
 use Rattle.dd_suite.proofs.RunOutputs.{output_of, front_prefix, whole_of_task, rest_written}
 
@@ -39,16 +42,16 @@ module _ (words : List (List ℕ)) (order : Order) (before : Before) (after : Af
   pub ran_known : (state : Status) → HasRunAs order state before after → (bytes : List ℕ) → IsKnownOutput words before.tells before.held bytes → GrowsByPrefix before.written after.written bytes
   ran_known state ran bytes (inl is) =
       let out = output_of (name_of order.task) ran.start order.round order.pause before after ran.result ran.runs in
-      let at : ran.start ≡ _ = begins_same (record { task = Catalogue is.request is.asked.name; round = is.asked.round; pause = is.asked.pause }) ran.start is.asked.run ran.begins in
-      front_prefix ran.start order.pause before.written after.written ran.result out.0 bytes out.1 (subst (λ (s : Start). IsText s.request s.at s.lines bytes) (sym at) is.text)
+      let at : ran.start ≡ _ = begins_same (record { task = Begin is.portion is.asked.name; round = is.asked.round; pause = is.asked.pause }) ran.start is.asked.run ran.begins in
+      front_prefix ran.start order.pause before.written after.written ran.result out.0 bytes out.1 (subst (λ (s : Start). IsPortionText s.portion s.at s.lines bytes) (sym at) is.text)
   ran_known state ran bytes (inr (inl (told, is))) =
       let out = output_of (name_of order.task) ran.start order.round order.pause before after ran.result ran.runs in
-      let at = begins_same (record { task = Resume is.name; round = is.asked.round; pause = is.asked.pause }) ran.start is.asked.run ran.begins in
-      let same : ran.start ≡ next_start is.check = at.2 ∙ ap next_start (one_check before.tells (before.held is.name) at.0 is.check told at.1 is.holds) in
-      front_prefix ran.start order.pause before.written after.written ran.result out.0 bytes out.1 (subst (λ (s : Start). IsText s.request s.at s.lines bytes) (sym same) is.text)
+      let at = begins_same (record { task = Resume is.kind is.name; round = is.asked.round; pause = is.asked.pause }) ran.start is.asked.run ran.begins in
+      let same : is.start ≡ ran.start = one_next is.kind before.tells (before.held is.name) is.start ran.start told is.begins at in
+      front_prefix ran.start order.pause before.written after.written ran.result out.0 bytes out.1 (subst (λ (s : Start). IsPortionText s.portion s.at s.lines bytes) same is.text)
   ran_known state ran bytes (inr (inr (inl (told, file)))) = absurd (not_both words order file.command file.name asked file.asked)
   ran_known state ran bytes (inr (inr (inr (inl is)))) = absurd (run_or_exercise words order is.start is.count asked is.asked)
-  ran_known state ran bytes (inr (inr (inr (inr none)))) = absurd (none.0 (run_command order.task asked.workers order.round order.pause, asked.command))
+  ran_known state ran bytes (inr (inr (inr (inr none)))) = let x = order_told words order asked in absurd (none.0 (x.command, x.asked))
 
   pub ran_whole : (state : Status) → HasRunAs order state before after → state ≡ status.Done → AppendsOutput words before.tells before.held before.written after.written
   ran_whole state ran e =
@@ -104,9 +107,10 @@ module _ (words : List (List ℕ)) (order : Order) (before : Before) (after : Af
   -- ## Calls that never began to run
 
   check_refused : (task : Task) (round : ℕ) (pause : Option ℕ) (fault : CheckFault) → AskForRun words (record { task = task; round = round; pause = pause }) → IsCheckRefused task before.tells before.held fault
-      → (name : List ℕ) × AskForRun words (record { task = Resume name; round = round; pause = pause }) × HoldsNoCheck before.tells (before.held name) fault
-  check_refused (Catalogue q name) round pause fault is c = absurd c
-  check_refused (Resume name) round pause fault is c = (name, is, c)
+      → (name : List ℕ) × AskForRun words (record { task = Resume Catalogues name; round = round; pause = pause }) × HoldsNoCheck before.tells (before.held name) fault
+  check_refused (Begin q name) round pause fault is c = absurd c
+  check_refused (Resume Catalogues name) round pause fault is c = (name, is, c)
+  check_refused (Resume Shards name) round pause fault is c = absurd c
 
   pub stop_refused : (ending : Ending) → StopsRun order ending before after → status_of ending ≡ status.Refused → AreRefused words before.tells before.held
   stop_refused Done stops e = absurd (cc)
@@ -122,6 +126,13 @@ module _ (words : List (List ℕ)) (order : Order) (before : Before) (after : Af
   stop_refused Memory stops e = absurd (cc)
   stop_refused TooManyLines stops e = absurd (cc)
 
+  other_kind : Shards ≡ Catalogues → ⊥
+  other_kind e = cc
+
+  of_catalogue : (shard : Option Shard) (text : List ℕ) (c : Checkpoint) → kind_of shard ≡ Catalogues → IsAcceptedText shard text c → IsCheckpointText text c
+  of_catalogue None text c kind is = is
+  of_catalogue (Some shard) text c kind is = absurd (other_kind kind)
+
   pub stop_complete : (ending : Ending) → StopsRun order ending before after → IsCheckAccepted words before.tells before.held → (¬ Rose before.store_faults after.store_faults) → status_of ending ≡ status.Memory
   stop_complete Done stops accepted kept = absurd stops.cause
   stop_complete Usage stops accepted kept = absurd stops.cause
@@ -129,9 +140,9 @@ module _ (words : List (List ℕ)) (order : Order) (before : Before) (after : Af
   stop_complete (RefusedSymbol refusal) stops accepted kept = absurd stops.cause
   stop_complete (RefusedCheck fault) stops accepted kept =
       let is = check_refused order.task order.round order.pause fault asked stops.cause in
-      let ok = accepted is.0 (record { round = order.round; pause = order.pause; run = is.1 }) in
-      let same : ok.2.text ≡ is.2.bytes = some_injective ok.2.text is.2.bytes (sym ok.2.held_is ∙ is.2.fetched ok.0) in
-      absurd (never_both is.2.bytes ok.1 fault (subst (λ b. IsCheckpointText b ok.1) same ok.2.accepted) is.2.faulty)
+      let ok = accepted Catalogues is.0 (record { round = order.round; pause = order.pause; run = is.1 }) in
+      let same : ok.1.holds.text ≡ is.2.bytes = some_injective ok.1.holds.text is.2.bytes (sym ok.1.holds.held_is ∙ is.2.fetched ok.0) in
+      absurd (never_both is.2.bytes ok.1.check fault (of_catalogue ok.1.shard is.2.bytes ok.1.check ok.1.kind_is (subst (λ b. IsAcceptedText ok.1.shard b ok.1.check) same ok.1.holds.accepted)) is.2.faulty)
   stop_complete (Paused lines) stops accepted kept = absurd stops.cause
   stop_complete StoreFault stops accepted kept = absurd (kept stops.cause)
   stop_complete SinkFault stops accepted kept = absurd stops.cause

@@ -1,5 +1,5 @@
-ghost use Rattle.std.specs.Prelude.{◌≡◌, ◌≤◌, IfOk, IfErr, IsSome, true};
-ghost use Rattle.dd_check.specs.Calls.{Resume};
+ghost use Rattle.std.specs.Prelude.{◌≡◌, ◌≤◌, IfOk, IfErr, IsSome, None, true};
+ghost use Rattle.dd_check.specs.Calls.{Catalogues, Resume};
 ghost use Rattle.dd_ports.specs.Texts.{SameTexts};
 ghost use Rattle.dd_check.specs.Accepted.{IsCheckpointText};
 ghost use Rattle.dd_check.specs.ChainStarts.{next_start};
@@ -9,6 +9,7 @@ ghost use Rattle.dd_tasks.specs.Outcomes.{IsRunOutcome, IsReadStop, IsHeldStop};
 
 use crate::kept::keep_run;
 use dd_check::{CheckFault, Checkpoint, read_checkpoint};
+use dd_jobs::{Portion, Shard};
 use dd_pages::{Pace, Run};
 use dd_ports::{Gate, Sink, Store, StoreFault};
 use dd_tasks::{Ending, fetch_all};
@@ -21,7 +22,7 @@ const MOST_BYTES: usize = 4096;
 
 /// The checkpoint whose text a name holds.
 fn fetch_check<S: Store>(alloc: Global, name: &str, store: &mut S) -> Result<Checkpoint, Ending>
-    ensures check { IfOk result (HoldsCheck (S.tells store.old) (S.held store.old name.now)) }
+    ensures check { IfOk result (HoldsCheck None (S.tells store.old) (S.held store.old name.now)) }
     ensures why { IfErr result (λ ending.
         IsHeldStop ending (S.tells store.old) (S.held store.old name.now)
         (S.faults store.old) (S.faults store.new)) }
@@ -68,7 +69,7 @@ pub fn resume<R: Threads + Wait + Sync, S: Store, G: Gate + Sync, O: Sink>(
     requires workers { (1 ≤ pace.workers) × (pace.workers ≤ 64) }
     requires round { 1 ≤ pace.round }
     ensures outcome { IsRunOutcome
-        (record { task = Resume name.now; round = pace.round; pause = pause })
+        (record { task = Resume Catalogues name.now; round = pace.round; pause = pause })
         result
         (record {
           tells = S.tells store.old;
@@ -95,21 +96,24 @@ pub fn resume<R: Threads + Wait + Sync, S: Store, G: Gate + Sync, O: Sink>(
         Ok(check) => check,
         Err(ending) => return ending,
     };
-    let run = next_run(check, pace, pause);
+    let run = next_run(check, None, pace, pause);
     keep_run(rt, alloc, &run, name, gate, store, out)
 }
 
-/// The run after that of a checkpoint.
-fn next_run(check: Checkpoint, pace: Pace, pause: Option<u32>) -> Run
+/// The run after that of a checkpoint, of a catalogue or of the shard if there is one.
+fn next_run(check: Checkpoint, shard: Option<Shard>, pace: Pace, pause: Option<u32>) -> Run
     requires run { (1 ≤ check.run) × (check.run ≤ 999999999) }
     requires lines { check.lines ≤ 1000000000000000000 }
-    ensures start { start_of result ≡ next_start check }
+    ensures start { start_of result ≡ next_start shard check }
     ensures pace { result.pace ≡ pace }
     ensures pause { result.pause ≡ pause }
 {
     Run {
         number: check.run + 1,
-        request: check.request,
+        portion: Portion {
+            request: check.request,
+            shard,
+        },
         at: check.at,
         lines: check.lines as u64,
         pace,

@@ -10,7 +10,11 @@ use Rattle.dd_words.specs.declared.commands.Command.{Command}
 use Rattle.dd_words.specs.declared.commands.Command.TheVariants.{Catalogue, Resume, File, Apply, Exercise, Draw as Drawing}
 use Rattle.dd_words.specs.declared.commands.FileKind.{FileKind}
 use Rattle.dd_words.specs.declared.commands.FileKind.TheVariants as kind
-use Rattle.dd_check.specs.Calls.{Task as ChainTask, Catalogue as First, Resume as Next}
+use Rattle.dd_jobs.specs.declared.shards.Shard.{Shard}
+use Rattle.dd_jobs.specs.declared.portions.Portion.{Portion}
+use Rattle.dd_jobs.specs.Portions.{whole}
+use Rattle.dd_model.proofs.Options.{some_same}
+use Rattle.dd_check.specs.Calls.{Catalogues, Shards, Task as ChainTask, Begin, Resume as Next}
 use Rattle.dd_commands.specs.declared.commands.FileCommand.{FileCommand}
 use Rattle.dd_commands.specs.declared.commands.FileCommand.TheVariants.{Symbols, Info, Sheets, Draw}
 use Rattle.dd_commands.specs.declared.commands.SymbolCommand.{SymbolCommand}
@@ -18,7 +22,7 @@ use Rattle.dd_commands.specs.declared.commands.SymbolCommand.TheVariants.{Lines,
 use Rattle.dd_pages.specs.declared.pace.Pace.{Pace}
 use Rattle.dd_tasks.specs.declared.task.Task.{Task}
 use Rattle.dd_tasks.specs.declared.task.Task.TheVariants as task
-use Rattle.dd_tasks.specs.Words.{Order, run_command, AskForRun, file_command, IsOnFile, AskToExercise, AreTaken}
+use Rattle.dd_tasks.specs.Words.{Order, begin_command, run_command, AreOf, AskForRun, file_command, IsOnFile, AskToExercise, AreTaken}
 use Rattle.dd_tasks.specs.Commands.{AskForTask}
 
 -- what a command on a file asks for, and its file
@@ -59,15 +63,32 @@ same_asked p q e =
     (ap (λ (r : FileCommand × List ℕ). r.0) same, ap (λ (r : FileCommand × List ℕ). r.1) same)
 
 -- the run that a command asks for, and nothing for other commands
-order_of : Command → Option Order
-order_of (Catalogue q workers round pause name) = Some (record { task = First q name; round = round; pause = pause })
-order_of (Resume name workers round pause) = Some (record { task = Next name; round = round; pause = pause })
+pub order_of : Command → Option Order
+order_of (Catalogue q workers round pause name) = Some (record { task = Begin (whole q) name; round = round; pause = pause })
+order_of (Resume name workers round pause) = Some (record { task = Next Catalogues name; round = round; pause = pause })
 order_of other = None
 
-order_told : (task : ChainTask) (workers round : ℕ) (pause : Option ℕ) → order_of (run_command task workers round pause) ≡ Some (record { task = task; round = round; pause = pause })
+-- the command of a run's words
+pub record IsToldBy (words : List (List ℕ)) (order : Order) : Type 0 where
+  pub command : Command
+  pub asked : IsCommand words command
+  pub order_is : order_of command ≡ Some order
+
+begin_told : (words : List (List ℕ)) (shard : Option Shard) (q : Request) (name : Option (List ℕ)) (workers round : ℕ) (pause : Option ℕ) → AreOf words (begin_command shard q name workers round pause)
+    → IsToldBy words (record { task = Begin (record { request = q; shard = shard }) name; round = round; pause = pause })
 unfolding order_of
-order_told (First q name) workers round pause = refl
-order_told (Next name) workers round pause = refl
+begin_told words None q name workers round pause is = record { command = Catalogue q workers round pause name; asked = is; order_is = refl }
+begin_told words (Some shard) q name workers round pause is = absurd is
+
+run_told : (words : List (List ℕ)) (task : ChainTask) (workers round : ℕ) (pause : Option ℕ) → AreOf words (run_command task workers round pause)
+    → IsToldBy words (record { task = task; round = round; pause = pause })
+unfolding order_of
+run_told words (Begin p name) workers round pause is = begin_told words p.shard p.request name workers round pause is
+run_told words (Next Catalogues name) workers round pause is = record { command = Resume name workers round pause; asked = is; order_is = refl }
+run_told words (Next Shards name) workers round pause is = absurd is
+
+pub order_told : (words : List (List ℕ)) (order : Order) → AskForRun words order → IsToldBy words order
+order_told words order a = run_told words order.task a.workers order.round order.pause a.command
 
 no_order : (k : FileCommand) (name : List ℕ) → order_of (file_command k name) ≡ None
 unfolding order_of
@@ -91,13 +112,15 @@ none_some a e = cc
 
 pub one_order : (words : List (List ℕ)) (a b : Order) → AskForRun words a → AskForRun words b → a ≡ b
 one_order words a b h i =
-    same_some a b
-    (sym (order_told a.task h.workers a.round a.pause) ∙ ap order_of (one_command words _ _ h.command i.command) ∙ order_told b.task i.workers b.round b.pause)
+    let x = order_told words a h in
+    let y = order_told words b i in
+    same_some a b (sym x.order_is ∙ ap order_of (one_command words x.command y.command x.asked y.asked) ∙ y.order_is)
 
 -- no words are those of a run and of a command on a file
 pub not_both : (words : List (List ℕ)) (order : Order) (k : FileCommand) (name : List ℕ) → AskForRun words order → IsOnFile words k name → ⊥
 not_both words order k name a b =
-    none_some order (sym (order_told order.task a.workers order.round order.pause) ∙ ap order_of (one_command words _ _ a.command b) ∙ no_order k name)
+    let x = order_told words order a in
+    none_some order (sym x.order_is ∙ ap order_of (one_command words x.command (file_command k name) x.asked b) ∙ no_order k name)
 
 pub same_command : (words : List (List ℕ)) (k l : FileCommand) (a b : List ℕ) → IsOnFile words k a → IsOnFile words l b → (k ≡ l) × (a ≡ b)
 same_command words k l a b h i =
@@ -107,7 +130,8 @@ same_command words k l a b h i =
 pub run_or_exercise : (words : List (List ℕ)) (order : Order) (start count : ℕ) → AskForRun words order → AskToExercise words start count → ⊥
 unfolding order_of
 run_or_exercise words order start count a b =
-    none_some order (sym (order_told order.task a.workers order.round order.pause) ∙ ap order_of (one_command words _ _ a.command b))
+    let x = order_told words order a in
+    none_some order (sym x.order_is ∙ ap order_of (one_command words x.command (Exercise start count) x.asked b))
 
 none_asked : (a : FileCommand × List ℕ) → Some a ≡ None → ⊥
 none_asked a e = cc
@@ -144,21 +168,48 @@ pub record AsksForRun (words : List (List ℕ)) (order : Order) (pace : Pace) : 
   pub order_asked : AskForRun words order
   pub in_range : IsPace pace.workers pace.round
 
-pub lone_asked : (words : List (List ℕ)) (q : Request) (pace : Pace) → AskForTask words (task.Catalogue q pace)
-    → IsValid q × AsksForRun words (record { task = First q None; round = pace.round; pause = None }) pace
-lone_asked words q pace is =
-    let said : IsCommand words (Catalogue q pace.workers pace.round is.task_is.0 None) = subst (IsCommand words) is.task_is.1 is.asked in
-    let own = subst (λ (p : Option ℕ). IsCommand words (Catalogue q pace.workers pace.round p None)) (lone_pause words q pace.workers pace.round is.task_is.0 said) said in
-    (valid words q pace.workers pace.round None None own, record { order_asked = record { workers = pace.workers; command = own }; in_range = pace_of words q pace.workers pace.round None None own })
+-- the command that begins a portion asks for a valid request, at a pace in range
+pub record IsBegunWell (words : List (List ℕ)) (p : Portion) (name : Option (List ℕ)) (pace : Pace) (pause : Option ℕ) : Type 0 where
+  pub valid : IsValid p.request
+  pub asked : AsksForRun words (record { task = Begin p name; round = pace.round; pause = pause }) pace
 
-pub kept_asked : (words : List (List ℕ)) (q : Request) (name : List ℕ) (pace : Pace) (pause : Option ℕ) → AskForTask words (task.Kept q name pace pause)
-    → IsValid q × AsksForRun words (record { task = First q (Some name); round = pace.round; pause = pause }) pace
-kept_asked words q name pace pause is =
-    let own : IsCommand words (Catalogue q pace.workers pace.round pause (Some name)) = subst (IsCommand words) is.task_is is.asked in
-    (valid words q pace.workers pace.round pause (Some name) own, record { order_asked = record { workers = pace.workers; command = own }; in_range = pace_of words q pace.workers pace.round pause (Some name) own })
+no_command : (c : Command) → None ≡ Some c → ⊥
+no_command c e = cc
+
+begun_well : (words : List (List ℕ)) (shard : Option Shard) (q : Request) (name : Option (List ℕ)) (pace : Pace) (pause : Option ℕ) (c : Command) → IsCommand words c
+    → begin_command shard q name pace.workers pace.round pause ≡ Some c → IsBegunWell words (record { request = q; shard = shard }) name pace pause
+begun_well words None q name pace pause c is e =
+    let own : IsCommand words (Catalogue q pace.workers pace.round pause name) = subst (IsCommand words) (sym (some_same (Catalogue q pace.workers pace.round pause name) c e)) is in
+    record {
+      valid = valid words q pace.workers pace.round pause name own;
+      asked = record { order_asked = record { workers = pace.workers; command = own }; in_range = pace_of words q pace.workers pace.round pause name own };
+    }
+begun_well words (Some shard) q name pace pause c is e = absurd (no_command c e)
+
+-- without a name there is no pause
+no_pause : (words : List (List ℕ)) (shard : Option Shard) (q : Request) (pace : Pace) (pause : Option ℕ) (c : Command) → IsCommand words c
+    → begin_command shard q None pace.workers pace.round pause ≡ Some c → pause ≡ None
+no_pause words None q pace pause c is e =
+    lone_pause words q pace.workers pace.round pause (subst (IsCommand words) (sym (some_same (Catalogue q pace.workers pace.round pause None) c e)) is)
+no_pause words (Some shard) q pace pause c is e = absurd (no_command c e)
+
+lone_begun : (words : List (List ℕ)) (shard : Option Shard) (q : Request) (workers round : ℕ) (pause : Option ℕ) → AreOf words (begin_command shard q None workers round pause) → pause ≡ None
+lone_begun words None q workers round pause is = lone_pause words q workers round pause is
+lone_begun words (Some shard) q workers round pause is = absurd is
+
+pub lone_run : (words : List (List ℕ)) (p : Portion) (workers round : ℕ) (pause : Option ℕ) → AreOf words (run_command (Begin p None) workers round pause) → pause ≡ None
+lone_run words p = lone_begun words p.shard p.request
+
+pub lone_asked : (words : List (List ℕ)) (p : Portion) (pace : Pace) → AskForTask words (task.Alone p pace) → IsBegunWell words p None pace None
+lone_asked words p pace is =
+    let own = begun_well words p.shard p.request None pace is.task_is.0 is.command is.asked is.task_is.1 in
+    subst (IsBegunWell words p None pace) (no_pause words p.shard p.request pace is.task_is.0 is.command is.asked is.task_is.1) own
+
+pub kept_asked : (words : List (List ℕ)) (p : Portion) (name : List ℕ) (pace : Pace) (pause : Option ℕ) → AskForTask words (task.Kept p name pace pause) → IsBegunWell words p (Some name) pace pause
+kept_asked words p name pace pause is = begun_well words p.shard p.request (Some name) pace pause is.command is.asked is.task_is
 
 pub resume_asked : (words : List (List ℕ)) (name : List ℕ) (pace : Pace) (pause : Option ℕ) → AskForTask words (task.Resume name pace pause)
-    → AsksForRun words (record { task = Next name; round = pace.round; pause = pause }) pace
+    → AsksForRun words (record { task = Next Catalogues name; round = pace.round; pause = pause }) pace
 resume_asked words name pace pause is =
     let own : IsCommand words (Resume name pace.workers pace.round pause) = subst (IsCommand words) is.task_is is.asked in
     record { order_asked = record { workers = pace.workers; command = own }; in_range = resume_pace words name pace.workers pace.round pause own }

@@ -2,9 +2,9 @@
 use Rattle.std.specs.Prelude.{◌≡◌, ◌⊎◌, ℕ, List, Option, Some, Bool, true, IsSome}
 use Rattle.dd_model.specs.Symbol.{Symbol}
 use Rattle.dd_model.specs.Reading.{Reads}
-use Rattle.dd_check.specs.declared.checkpoint.Checkpoint.{Checkpoint}
 use Rattle.dd_check.specs.declared.faults.CheckFault.{CheckFault}
-use Rattle.dd_check.specs.ChainStarts.{Holds}
+use Rattle.dd_check.specs.Calls.{Kind}
+use Rattle.dd_check.specs.ChainStarts.{HoldsKind}
 use Rattle.dd_text.specs.declared.faults.FileFault.{FileFault}
 use Rattle.dd_commands.specs.declared.commands.FileCommand.{FileCommand}
 use Rattle.dd_commands.specs.declared.refusals.SymbolRefusal.{SymbolRefusal}
@@ -37,7 +37,7 @@ AreRefused words tells held =
 -- the store holds the file that the words name, if they name one, and the name that they go on from
 pub record AreHeld (words : List (List ℕ)) (held : List ℕ → Option (List ℕ)) : Type 0 where
   pub file : (command : FileCommand) (name : List ℕ) → IsOnFile words command name → IsSome (held name)
-  pub check : (name : List ℕ) → AskToResume words name → IsSome (held name)
+  pub check : (kind : Kind) (name : List ℕ) → AskToResume words kind name → IsSome (held name)
 
 -- the symbols of a file that a name holds, of each of which a command makes something
 pub record SpellsSymbols (command : FileCommand) (held : Option (List ℕ)) : Type 0 where
@@ -51,9 +51,9 @@ pub record SpellsSymbols (command : FileCommand) (held : Option (List ℕ)) : Ty
 abbrev pub IsFileAccepted : List (List ℕ) → Bool → (List ℕ → Option (List ℕ)) → Type 0
 IsFileAccepted words tells held = (command : FileCommand) (name : List ℕ) → IsOnFile words command name → (tells ≡ true) × SpellsSymbols command (held name)
 
--- the name that the words go on from, if they do, holds a checkpoint text
+-- the name that the words go on from, if they do, holds a checkpoint text of their kind
 abbrev pub IsCheckAccepted : List (List ℕ) → Bool → (List ℕ → Option (List ℕ)) → Type 0
-IsCheckAccepted words tells held = (name : List ℕ) → AskToResume words name → (tells ≡ true) × (c : Checkpoint) × Holds (held name) c
+IsCheckAccepted words tells held = (kind : Kind) (name : List ℕ) → AskToResume words kind name → (tells ≡ true) × HoldsKind kind (held name)
 
 -- the words keep a checkpoint under the name
 pub record KeepUnder (words : List (List ℕ)) (name : List ℕ) : Type 0 where

@@ -1,4 +1,4 @@
-use Rattle.std.proofs.Common.{◌≤◌, sym, ap, subst, arith}
+use Rattle.std.proofs.Common.{◌≤◌, None, sym, ap, subst, arith}
 use Rattle.dd_model.specs.Request.{IsValid}
 use Rattle.dd_model.specs.Position.{IsPosition}
 use Rattle.dd_check.specs.ChainStarts.{Start, next_start}
@@ -18,7 +18,7 @@ next_run-run-requires-clause-lines g c = let holds = c.in-Ok.ensures.check in (c
 pub keep_run-requires-clause-valid : goal.keep_run-requires-clause-valid
 keep_run-requires-clause-valid g c κs within =
     let holds = c.in-Ok.ensures.check in
-    subst IsValid (sym (ap (λ (s : Start). s.request) c.next_run-run.ensures.start)) (check_valid holds.bytes c.in-Ok.check holds.accepted)
+    subst IsValid (sym (ap (λ (s : Start). s.portion.request) c.next_run-run.ensures.start)) (check_valid holds.bytes c.in-Ok.check holds.accepted)
 
 pub keep_run-requires-clause-position : goal.keep_run-requires-clause-position
 keep_run-requires-clause-position g c κs within =
@@ -64,5 +64,5 @@ returns-clause-outcome g c =
     let run = c.next_run-run.result in
     let ends = ends_earlier (start_of run) c.args.name.now run.pace.round run.pause before after (g.S.Store.tells c.fetch_check.new.store) (g.S.Store.held c.fetch_check.new.store) (g.S.Store.faults c.fetch_check.new.store)
     c.fetch_check.ensures.same c.fetch_check.ensures.count c.keep_run.result c.keep_run.ensures.run in
-    resumed_outcome check c.args.name.now c.args.pace.round c.args.pause c.keep_run.result before after c.in-Ok.ensures.check
-    (same_run run (next_start check) c.args.name.now c.args.pace c.args.pause c.keep_run.result before after c.next_run-run.ensures.start c.next_run-run.ensures.pace c.next_run-run.ensures.pause ends)
+    resumed_outcome None check c.args.name.now c.args.pace.round c.args.pause c.keep_run.result before after c.in-Ok.ensures.check
+    (same_run run (next_start None check) c.args.name.now c.args.pace c.args.pause c.keep_run.result before after c.next_run-run.ensures.start c.next_run-run.ensures.pace c.next_run-run.ensures.pause ends)
