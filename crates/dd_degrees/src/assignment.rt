@@ -1,4 +1,4 @@
-ghost use Rattle.std.specs.Prelude.{◌≡◌, ℕ, ◌*◌, ◌/◌, ◌+◌, ◌≤◌, ◌<◌, [], ◌∷◌, ◌++◌, ◌↔◌, IsTrue, IfOk, IfSome, OnOk, MatchOption, length, slice_index};
+ghost use Rattle.std.specs.Prelude.{◌≡◌, ℕ, ◌*◌, ◌/◌, ◌+◌, ◌≤◌, ◌<◌, [], ◌∷◌, ◌++◌, ◌↔◌, IsTrue, IfOk, IfSome, OnOk, OnErr, MatchOption, length, slice_index};
 ghost use Rattle.std.specs.Bool.{OnTrue, OnFalse};
 ghost use Rattle.dd_model.specs.Symbol.{Symbol as Tiling};
 ghost use Rattle.dd_model.specs.Small.{IsSmallSymbol};
@@ -9,6 +9,7 @@ ghost use Rattle.dd_model.specs.Minimal.{Minimal};
 ghost use Rattle.dd_model.specs.Wanted.{IsMember};
 ghost use Rattle.dd_partial_table.specs.Table.{IsBareTable};
 ghost use Rattle.dd_jobs.specs.Under.{next_number, AreUnder, Appends};
+ghost use Rattle.dd_partial_table.specs.Growth.{HasGrown};
 ghost use Rattle.dd_degrees.specs.Choice.{IsChoice};
 ghost use Rattle.dd_degrees.specs.Assignment.{HasLast, HasLimits, IsAssignment, IsAtRoot, IsMemberUnder, next_place, prefix_of, spent_by, told};
 ghost use Rattle.dd_degrees.specs.Place.{ArePlaces};
@@ -192,6 +193,7 @@ impl Assignment {
         ensures list { OnOk result
             (list.new ≡ list.old ++ with_told self.now.table self.now.degrees.items ∷ []) }
         ensures last { OnOk result (HasLast self.now list.new) }
+        ensures same { OnErr result (list.new ≡ list.old) }
     {
         let degrees = self.degrees.as_slice();
         if list.len() > self.first {
@@ -209,6 +211,7 @@ impl Assignment {
         ensures list { OnOk result (Appends (AreUnder (IsMember self.now.request)
             self.now.table.size (prefix_of self.now)) list.old list.new) }
         ensures last { OnOk result (HasLast self.now list.new) }
+        ensures same { OnErr result (list.new ≡ list.old) }
     {
         let (m01, m12) = self.degrees.as_slice().split_at(self.size());
         if !self.is_asked(m01, m12)? {
@@ -264,6 +267,7 @@ impl Assignment {
         ensures list { OnOk result (Appends
             (AreUnder (IsMember self.old.request) self.old.table.size (prefix_of self.old))
             list.old list.new) }
+        ensures grown { HasGrown list.old list.new }
     {
         let next = self.degrees.len();
         let place = self.next_place();
@@ -289,8 +293,9 @@ impl Assignment {
         requires root { IsAtRoot self.old }
         requires none { self.old.degrees.items ≡ [] }
         requires first { self.old.first ≡ length list.old }
-        ensures { OnOk result (Appends (AreUnder (IsMember self.old.request) self.old.table.size
-            (prefix_of self.old)) list.old list.new) }
+        ensures list { OnOk result (Appends (AreUnder (IsMember self.old.request)
+            self.old.table.size (prefix_of self.old)) list.old list.new) }
+        ensures grown { HasGrown list.old list.new }
     {
         match self.whole_budget() {
             Some(left) => {

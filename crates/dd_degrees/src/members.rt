@@ -2,6 +2,7 @@ ghost use Rattle.std.specs.Prelude.{IfOk, OnOk};
 ghost use Rattle.dd_canon.specs.Ties.{AreTies};
 ghost use Rattle.dd_partial_table.specs.Table.{AreOfTable, IsBareTable};
 ghost use Rattle.dd_jobs.specs.Under.{Appends};
+ghost use Rattle.dd_partial_table.specs.Growth.{HasGrown};
 ghost use Rattle.dd_model.specs.Involutions.{HaveSameInvolutions};
 ghost use Rattle.dd_degrees.specs.Members.{AreMembersWith};
 ghost use Rattle.dd_degrees.specs.Place.{ArePlaces};
@@ -50,7 +51,8 @@ pub fn add_tied(
 ) -> Result<(), Memory>
     requires ties { AreTies t ties.items }
     requires places { ArePlaces q.now t places.items }
-    ensures { OnOk result (Appends (AreMembersWith q.now t) list.old list.new) }
+    ensures list { OnOk result (Appends (AreMembersWith q.now t) list.old list.new) }
+    ensures grown { HasGrown list.old list.new }
 {
     let table = t.into_symbol();
     if !has_limits(&table, places.as_slice(), q) {
@@ -68,7 +70,8 @@ pub fn add_members_of(
     q: &Request,
     list: &mut SymbolList,
 ) -> Result<(), Memory>
-    ensures { OnOk result (Appends (AreMembersWith q.now t) list.old list.new) }
+    ensures list { OnOk result (Appends (AreMembersWith q.now t) list.old list.new) }
+    ensures grown { HasGrown list.old list.new }
 {
     let Some(ties) = tied_starts(alloc, t.symbol())? else {
         return Ok(());

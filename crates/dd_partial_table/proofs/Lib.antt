@@ -3,6 +3,7 @@ pub mod LevelSteps
 pub mod Weights
 pub mod Advances
 pub mod Founds
+pub mod GrowthLemmas
 pub mod Extensions
 pub mod TableFronts
 pub mod Unbranched

@@ -12,3 +12,4 @@ pub mod Rows
 pub mod Commuting
 pub mod Visit
 pub mod Stem
+pub mod Growth

@@ -1,5 +1,6 @@
 ghost use Rattle.std.specs.Prelude.{◌≡◌, ◌*◌, ◌≤◌, OnOk, length};
 ghost use Rattle.dd_jobs.specs.Under.{AreUnder, Appends};
+ghost use Rattle.dd_partial_table.specs.Growth.{HasGrown};
 
 use crate::advancing::{advance, begin, go_back};
 use crate::prefix_search::PrefixSearch;
@@ -16,7 +17,8 @@ pub trait CollectingSearch: PrefixSearch {
         ensures list { OnOk result (Appends
             (AreUnder (Self.wanted (Self.request self.old)) (Self.size self.old)
             (Self.prefix self.old))
-            list.old list.new) };
+            list.old list.new) }
+        ensures grown { HasGrown list.old list.new };
 }
 
 /// Adds what is under the prefix of a search. `Err` comes only if an allocation fails. The list
@@ -30,6 +32,7 @@ pub fn find<T: CollectingSearch>(search: &mut T, list: &mut SymbolList) -> Resul
     ensures list { OnOk result (Appends
         (AreUnder (T.wanted (T.request search.old)) (T.size search.old) (T.prefix search.old))
         list.old list.new) }
+    ensures grown { HasGrown list.old list.new }
 {
     if search.is_whole() {
         return search.add(list);

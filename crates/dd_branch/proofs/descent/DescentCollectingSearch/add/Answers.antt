@@ -46,4 +46,4 @@ returns-clause-list c =
     (λ (d : Descending). Appends (AreUnder (IsMember d.request) (size_of d.stem) (prefix_of d.stem)) old new)
     c.self.view_is
     (appends_carried q n prefix c.in_ok-table.table old new of whole added))
-    c.add_tied.ensures
+    c.add_tied.ensures.list

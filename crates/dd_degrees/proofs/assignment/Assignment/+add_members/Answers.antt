@@ -3,6 +3,7 @@ use Rattle.std.proofs.lemmas.Nat.{one_shl}
 use Rattle.dd_model.specs.Symbol.{Symbol}
 use Rattle.dd_model.specs.Wanted.{IsMember}
 use Rattle.dd_jobs.specs.Under.{Appends, AreUnder}
+use Rattle.dd_partial_table.proofs.GrowthLemmas.{grown_same, grown_by, grown_through}
 use Rattle.dd_partial_table.proofs.Prefixes.{appends_dead}
 use Rattle.dd_degrees.specs.Assignment.{HasLast, next_place, prefix_of, shortened, told}
 use Rattle.dd_degrees.specs.Budget.{no_place}
@@ -17,7 +18,7 @@ use Rattle.dd_degrees.proofs.assignment.Assignment.+add_members.Goals as goal
 use Rattle.dd_degrees.proofs.assignment.Assignment.+add_members.Goals.{then-len+in_ok-add_members, else-len+then-left-eq0+in_ok-add_member, else-len+else-left-eq0}
 
 pub loop-fitting-init : goal.loop-fitting-init
-loop-fitting-init t c = record { same = refl; left_over = λ e there. there; last = c.requires.last; tried = none_tried c.args.self.now c.args.left c.args.fitting c.requires.fitting c.args.list.now }
+loop-fitting-init t c = record { same = refl; left_over = λ e there. there; last = c.requires.last; tried = none_tried c.args.self.now c.args.left c.args.fitting c.requires.fitting c.args.list.now; grown = grown_same c.args.list.now c.args.list.now refl }
 
 pub degree_with-requires-clause-sides : goal.degree_with-requires-clause-sides
 degree_with-requires-clause-sides t c =
@@ -154,6 +155,7 @@ loop-fitting-preserved t c =
       last = subst (λ (x : Assignment). HasLast x c.if-len.list) through done.last;
       tried = subst (λ y. HasTried a (n - y) c.args.list.now c.if-len.list) (sym one)
           (share_tried a n k m c.requires.ready c.requires.room c.requires.root low high has (with has.value has.crystallographic has.beyond) c.args.list.now c.loop-fitting.list c.if-len.list c.loop-fitting.invariant.tried found);
+      grown = grown_through c.args.list.now c.loop-fitting.list c.if-len.list c.loop-fitting.invariant.grown (grown_by c.loop-fitting.list c.if-len.list done.found);
     }
 
 pub returns-clause-list : goal.returns-clause-list

@@ -1,5 +1,6 @@
 use Rattle.std.proofs.Common.{◌≡◌, ℕ, ◌*◌, ◌-◌, length}
 use Rattle.std.specs.Int.{bit_at}
+use Rattle.dd_partial_table.specs.Growth.{HasGrown}
 use Rattle.dd_degrees.specs.Assignment.{HasLast}
 use Rattle.dd_degrees.proofs.Finishing.{HasTried}
 use Rattle.dd_degrees.proofs.assignment.Assignment.+add_members.Given as goal
@@ -13,6 +14,7 @@ invariant-loop-fitting l = record {
   left_over : (e : ℕ) → bit_at l.fitting e ≡ 1 → bit_at l.fn.fitting e ≡ 1;
   last : HasLast l.fn.self l.list;
   tried : HasTried l.fn.self l.fitting l.fn.list l.list;
+  grown : HasGrown l.fn.list l.list;
 }
 
 abbrev pub decreases-loop-fitting : goal.decreases-loop-fitting
