@@ -40,7 +40,7 @@ pub fn least_form(alloc: Global, s: &Connected) -> Result<Connected, Memory>
     least_from::<Brand>(alloc, s, Blank::new(1))
 }
 
-/// Whether no numbering by first visits has a smaller code.
+/// Returns whether no numbering by first visits has a smaller code.
 fn is_least_from<L: Ledger>(alloc: Global, s: &Connected, blank: Blank) -> Result<bool, Memory>
     requires name { blank.name ≡ L.name }
     requires parts { blank.parts ≡ L.parts }
@@ -61,7 +61,7 @@ fn is_least_from<L: Ledger>(alloc: Global, s: &Connected, blank: Blank) -> Resul
     Ok(true)
 }
 
-/// Whether no renumbering has a smaller code.
+/// Returns whether no renumbering has a smaller code.
 pub fn is_least(alloc: Global, s: &Connected) -> Result<bool, Memory>
     ensures { IfOk result (λ least. IsTrue least ↔ Least s.now) }
 {

@@ -26,7 +26,7 @@ fn keep(ties: &mut Vec<u32>, order: Ordering, start: u32) -> Result<(), Memory>
     Ok(())
 }
 
-/// The same, where the comparisons are counted from a blank on.
+/// Returns the ties, and counts the comparisons from a blank on.
 fn ties_by<L: Ledger>(
     alloc: Global,
     s: &Connected,
@@ -60,7 +60,7 @@ pub fn tied_starts(alloc: Global, s: &Connected) -> Result<Option<Vec<u32>>, Mem
     ties_by::<Brand>(alloc, s, Blank::new(1))
 }
 
-/// Whether no numbering from some starts is smaller, with comparisons counted from a blank.
+/// Returns whether no numbering from some starts is smaller, with comparisons counted from a blank.
 fn is_least_by<L: Ledger>(
     alloc: Global,
     s: &Connected,
@@ -84,8 +84,8 @@ fn is_least_by<L: Ledger>(
     Ok(true)
 }
 
-/// Whether no numbering by first visits from one of some starts has a smaller code. Where there are
-/// no starts it takes no memory.
+/// Returns whether no numbering by first visits from one of some starts has a smaller code. Where
+/// there are no starts it takes no memory.
 pub fn is_least_from_ties(alloc: Global, s: &Connected, starts: &[u32]) -> Result<bool, Memory>
     requires { (d : ℕ) → Contains starts.now d → IsChamber s.now d }
     ensures { IfOk result (λ least. IsTrue least ↔ IsLeastFrom s.now starts.now) }

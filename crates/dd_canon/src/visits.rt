@@ -60,7 +60,7 @@ impl Visit {
         number
     }
 
-    /// The start alone has a number.
+    /// Only the start has a number.
     fn begin(&mut self, s: &SymbolRef<'_>, start: u32)
         requires ready { IsReady s.now self.old }
         requires start { IsChamber s.now start }

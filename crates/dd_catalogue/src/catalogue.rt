@@ -17,8 +17,9 @@ use std::alloc::Global;
 use std::sync::Wait;
 use std::thread::Threads;
 
-/// Writes the lines of a run that keeps no checkpoint: does its jobs round by round, and writes the lines of what was found
-/// page by page. Neither the workers nor what they choose changes what is written.
+/// Writes the lines of a run that keeps no checkpoint: does its jobs round by round, and writes the
+/// lines of what was found page by page. Neither the workers nor what they choose changes what is
+/// written.
 pub fn write_catalogue<R: Threads + Wait + Sync, F: Finder + Sync, G: Gate + Sync, O: Sink>(
     rt: &R,
     alloc: Global,

@@ -23,9 +23,10 @@ use std::alloc::Global;
 use std::sync::Wait;
 use std::thread::Threads;
 
-/// Writes the lines of a run, and keeps its checkpoint under the name, so that a run that was stopped can be gone on with: it is
-/// put before the first line where the run is the first of a chain, after every round, and at a pause. Neither the workers nor
-/// what they choose changes what is written.
+/// Writes the lines of a run, and keeps its checkpoint under the name, so that a run that was
+/// stopped can be resumed. It puts the checkpoint after every round and at a pause. The first run
+/// of a chain also puts it before the first line. Neither the workers nor what they choose changes
+/// what is written.
 pub fn write_run<R: Threads + Wait + Sync, F: Finder + Sync, G: Gate + Sync, S: Store, O: Sink>(
     rt: &R,
     alloc: Global,
@@ -65,8 +66,8 @@ pub fn write_run<R: Threads + Wait + Sync, F: Finder + Sync, G: Gate + Sync, S: 
     )
 }
 
-/// Writes the lines of a run from its first round on, and puts its checkpoint to the name: before the first line where it is the
-/// first of a chain, after every round, and at a pause.
+/// Writes the lines of a run from its first round on. It puts the checkpoint after every round and
+/// at a pause. The first run of a chain also puts it before the first line.
 fn keep_rounds<R: Threads + Wait + Sync, F: Finder + Sync, G: Gate + Sync, S: Store, O: Sink>(
     rt: &R,
     alloc: Global,
@@ -116,8 +117,8 @@ fn keep_rounds<R: Threads + Wait + Sync, F: Finder + Sync, G: Gate + Sync, S: St
     Err(RunFault::Memory)
 }
 
-/// Writes the lines of a round that is done. Where there is a line after the last one that may be written, the front stops at its
-/// member, and the answer is false.
+/// Writes the lines of a round that is done. Where there is a line after the last one that may be
+/// written, the front stops at its member, and the answer is false.
 fn write_round<R: Threads + Sync, O: Sink>(
     rt: &R,
     threads: u32,
@@ -150,7 +151,7 @@ fn write_round<R: Threads + Sync, O: Sink>(
     }
 }
 
-/// The same with the fault of the sink.
+/// Returns the same with the fault of the sink.
 fn write_and_flush<R: Threads + Sync, O: Sink>(
     rt: &R,
     threads: u32,
@@ -180,7 +181,8 @@ fn write_and_flush<R: Threads + Sync, O: Sink>(
     Ok(all)
 }
 
-/// Ends a run that has a line after its last one. Where it is to pause there, its checkpoint is put.
+/// Ends a run that has a line after its last one. Where it is to pause there, its checkpoint is
+/// put.
 fn end_full<S: Store>(
     alloc: Global,
     run: &Run,

@@ -28,8 +28,9 @@ fn next_list(front: &mut Front) -> Members
     members
 }
 
-/// Emits the entries at the front that are done, and puts their lines, made by so many threads, to the page. Where there is a line
-/// after the last one that may be written, the front stops at its member, and the answer is false.
+/// Emits the entries at the front that are done, and puts their lines, made by `threads` threads,
+/// to the page. If there is a line after the last one that may be written, the front stops at its
+/// member, and the call returns false.
 pub fn write_done<R: Threads + Sync, O: Sink>(
     rt: &R,
     threads: u32,
@@ -64,7 +65,8 @@ pub fn write_done<R: Threads + Sync, O: Sink>(
     Ok(true)
 }
 
-/// Emits so many members of the first entry, after which there is one more, and puts their lines to the page.
+/// Emits `count` members of the first entry, after which there is one more, and puts their lines to
+/// the page.
 fn write_last<R: Threads + Sync, O: Sink>(
     rt: &R,
     threads: u32,

@@ -20,14 +20,15 @@ use std::alloc::Global;
 use std::sync::Wait;
 use std::thread::Threads;
 
-/// How many workers a job may keep busy by its parts. More threads than that would be started for nothing.
+/// How many workers a job may keep busy by its parts. More threads than that would be started for
+/// nothing.
 const WORKERS_A_JOB: u32 = 8;
 
-/// How many jobs one worker does before what it found is written: few, so that few members are held at once, and what is
-/// written is still near.
+/// How many jobs one worker does before what it found is written: few, so that few members are held
+/// at once, and what is written is still near.
 const JOBS_ALONE: u32 = 4;
 
-/// How many of the workers a round of so many jobs has use for.
+/// Returns how many of the workers a round of `jobs` jobs has use for.
 fn useful_workers(workers: u32, jobs: usize) -> u32
     requires some { 1 ≤ workers }
     requires jobs { 1 ≤ jobs }
@@ -45,7 +46,7 @@ fn jobs_from(mut jobs: Vec<Job>, at: &Position) -> Vec<Job>
     jobs
 }
 
-/// A front of the jobs of a run.
+/// Returns a front with the jobs of a run.
 pub fn front_of(alloc: Global, run: &Run) -> Result<Front, Memory>
     requires valid { IsValid run.now.portion.request }
     requires position { IsPosition run.now.at }
@@ -61,8 +62,9 @@ pub fn front_of(alloc: Global, run: &Run) -> Result<Front, Memory>
     )
 }
 
-/// The pace of a round in which as many jobs as are asked for have something under them, as far as the search sees it. Of the
-/// others there are many at a stretch, and a round of these alone has nothing for several workers to do.
+/// Returns the pace of a round in which as many jobs as are asked for have something under them, as
+/// far as the search sees it. Many jobs with nothing under them follow each other. A round of only
+/// these has nothing for several workers to do.
 fn pace_without_empty_jobs<F: Finder>(
     alloc: Global,
     finder: &mut F,
@@ -93,9 +95,10 @@ fn pace_without_empty_jobs<F: Finder>(
     })
 }
 
-/// Does the next round of a front of which no checkpoint is kept, and answers whether there was one. One worker does a few
-/// jobs of it at a time; where several are to do it, jobs under which nothing is are not counted. After `Err`, which comes
-/// for want of memory alone, the front is as before.
+/// Does the next round of a front whose run keeps no checkpoint, and returns whether there was
+/// one. One worker does a few jobs of it at a time. If there are several workers, jobs under which
+/// nothing is are not counted. It fails only if an allocation fails, and the front is then as
+/// before.
 pub fn do_long_round<R: Threads + Wait + Sync, F: Finder + Sync, G: Gate + Sync>(
     rt: &R,
     alloc: Global,
@@ -128,8 +131,8 @@ pub fn do_long_round<R: Threads + Wait + Sync, F: Finder + Sync, G: Gate + Sync>
     do_round(rt, alloc, finder, gate, longer, front)
 }
 
-/// Does the next round of a front, and answers whether there was one. After `Err`, which comes for want of memory alone,
-/// the front is as before.
+/// Does the next round of a front, and returns whether there was one. It fails only if an
+/// allocation fails, and the front is then as before.
 pub fn do_round<R: Threads + Wait + Sync, F: Finder + Sync, G: Gate + Sync>(
     rt: &R,
     alloc: Global,

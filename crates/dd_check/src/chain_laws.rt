@@ -12,8 +12,9 @@ ghost use Rattle.dd_check.specs.Clauses.{MeetsClauses};
 ghost use Rattle.dd_check.specs.Chains.{IsChain, HasBegun, EndsAs, IsJoined, held_after};
 ghost use Rattle.dd_check.specs.ChainOutcomes.{IsCutAt, IsFront};
 
-/// Where a chain has begun and its last call came to its end, its calls have written the whole
-/// text of its portion together, however often they were stopped: of the catalogue, or of the shard.
+/// Let a chain have begun, and let its last call have come to its end. Then its calls have written
+/// the whole text of its portion together, however often they were stopped. The portion is the
+/// catalogue or the shard.
 pub fn a_finished_chain_writes_its_text()
     ensures { (p : Portion) (name : Option (List ℕ)) (calls : List Call) (bytes : List ℕ)
         → IsChain p name calls → AllByRecursion MeetsClauses calls → HasBegun calls
@@ -40,8 +41,8 @@ pub fn a_begun_chain_makes_a_text()
         → (bytes : List ℕ) × IsJoined calls bytes }
 {}
 
-/// Whatever stopped its last call, a chain that has begun has written a front of the text of
-/// its portion.
+/// Whatever stopped its last call, a chain that has begun has written a prefix of the text of its
+/// portion.
 pub fn a_begun_chain_writes_a_front()
     ensures { (p : Portion) (name : Option (List ℕ)) (calls : List Call) (bytes : List ℕ)
         → IsChain p name calls → AllByRecursion MeetsClauses calls → HasBegun calls

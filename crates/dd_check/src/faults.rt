@@ -18,7 +18,7 @@ pub enum CheckFault {
     Position,
     /// There are over 4,096 bytes.
     Long,
-    /// Want of memory.
+    /// Out of memory.
     Memory,
 }
 

@@ -1,4 +1,4 @@
-/// An item of a set as it is told: one number, or the two ends of a row of numbers.
+/// An item of a set as the text has it: one number, or the two ends of a row of numbers.
 #[derive(Clone, Copy)]
 pub(crate) enum Item {
     One(u64),

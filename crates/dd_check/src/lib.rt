@@ -1,4 +1,5 @@
-//! The texts of checkpoints, and the laws of chains of runs that resume from each other's checkpoints.
+//! The texts of checkpoints, and the laws of chains of runs that resume from each other's
+//! checkpoints.
 #![tactic(auto)]
 
 mod chain_laws;

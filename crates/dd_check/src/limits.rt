@@ -1,4 +1,4 @@
-/// The numbers of a request, as they are told.
+/// The numbers of a request, as the text has them.
 #[derive(Clone, Copy)]
 pub(crate) struct Limits {
     pub chambers: u64,

@@ -58,7 +58,7 @@ pub(crate) fn limits_at(alloc: Global, lines: &[&[u8]], line: u32) -> Result<Lim
     Ok(limits)
 }
 
-/// The same in version 1, with the least numbers of the sets.
+/// Returns the same in version 1, with the least numbers of the sets.
 pub(crate) fn old_limits_at(
     alloc: Global,
     lines: &[&[u8]],

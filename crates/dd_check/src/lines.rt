@@ -38,7 +38,7 @@ pub(crate) fn end_at(lines: &[&[u8]], line: u32) -> Result<(), CheckFault>
     }
 }
 
-/// Whether the first line is this one.
+/// Returns whether the first line is this one.
 pub(crate) fn is_first(lines: &[&[u8]], line: &[u8]) -> bool
     ensures { IsTrue result ↔ IsLine (texts lines.now) 1 line.now }
 {

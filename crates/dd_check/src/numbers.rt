@@ -30,7 +30,7 @@ pub(crate) fn read_number(word: &[u8]) -> Option<u64>
     Some(number)
 }
 
-/// Whether a word is a number in decimal.
+/// Returns whether a word is a number in decimal.
 fn is_written(word: &[u8], number: u64) -> bool
     ensures { IsTrue result ↔ (word.now ≡ decimal number) }
 {

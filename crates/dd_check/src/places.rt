@@ -1,4 +1,4 @@
-/// A position as it is told: the end, or a size and the numbers after it.
+/// A position as the text has it: the end, or a size and the numbers after it.
 #[derive(Drop)]
 pub(crate) enum Place {
     At(u64, Vec<u64>),

@@ -5,7 +5,7 @@ use crate::places::Place;
 use dd_model::{Job, Memory, Position, Prefix};
 use std::alloc::Global;
 
-/// The position that is told.
+/// Returns the position that a text has.
 pub(crate) fn position(alloc: Global, place: &Place) -> Result<Position, Memory>
     requires { IsSmallPlace place.now }
     ensures { IfOk result (λ at. at ≡ position_of place.now) }

@@ -6,14 +6,14 @@ ghost use Rattle.dd_check.specs.Told.{position_of};
 use crate::limits::{Limits, OldLimits};
 use crate::places::Place;
 
-/// Whether the numbers of a request are in range.
+/// Returns whether the numbers of a request are in range.
 pub(crate) fn are_limits(limits: &Limits) -> bool
     ensures { IsTrue result ↔ AreLimits limits.now }
 {
     limits.chambers >= 1 && limits.chambers <= 36 && limits.tiles <= 36 && limits.vertices <= 36
 }
 
-/// Whether the numbers of a request of version 1 are in range.
+/// Returns whether the numbers of a request of version 1 are in range.
 pub(crate) fn are_old_limits(limits: &OldLimits) -> bool
     ensures { IsTrue result ↔ AreOldLimits limits.now }
 {
@@ -24,14 +24,14 @@ pub(crate) fn are_old_limits(limits: &OldLimits) -> bool
         && is_from_to(1, 36, limits.least_degree)
 }
 
-/// Whether a number is from low to high.
+/// Returns whether a number is from low to high.
 pub(crate) fn is_from_to(low: u64, high: u64, number: u64) -> bool
     ensures { IsTrue result ↔ IsFromTo low high number }
 {
     low <= number && number <= high
 }
 
-/// Whether a position is in range: at most 180 numbers, images and then degrees.
+/// Returns whether a position is in range: at most 180 numbers, images and then degrees.
 pub(crate) fn is_in_range(chambers: u64, place: &Place) -> bool
     requires { chambers ≤ 36 }
     ensures { IsTrue result ↔ IsInRange chambers (position_of place.now) }
@@ -46,7 +46,7 @@ pub(crate) fn is_in_range(chambers: u64, place: &Place) -> bool
     }
 }
 
-/// The same in version 1: at most 108 numbers, images alone.
+/// Returns whether a position of version 1 is in range: at most 108 numbers, which are images.
 pub(crate) fn is_in_old_range(chambers: u64, place: &Place) -> bool
     ensures { IsTrue result ↔ IsInOldRange chambers (position_of place.now) }
 {
@@ -58,7 +58,7 @@ pub(crate) fn is_in_old_range(chambers: u64, place: &Place) -> bool
     }
 }
 
-/// Whether the first numbers are chambers, and those after them degrees.
+/// Returns whether the first numbers are chambers, and those after them degrees.
 fn are_images_and_degrees(size: u64, numbers: &[u64]) -> bool
     requires { size ≤ 36 }
     ensures { IsTrue result ↔ AreImagesAndDegrees size numbers.now }
@@ -79,7 +79,7 @@ fn greatest_at(size: u64, place: u64) -> u64
     if place < 3 * size { size } else { 216 }
 }
 
-/// Whether all numbers are chambers.
+/// Returns whether all numbers are chambers.
 fn are_images(size: u64, numbers: &[u64]) -> bool
     ensures { IsTrue result ↔ AreImages size numbers.now }
 {

@@ -38,7 +38,7 @@ pub(crate) fn limits_row(words: &[&[u8]]) -> Option<Limits>
     })
 }
 
-/// The same in version 1, with the least numbers of the sets.
+/// Returns the same in version 1, with the least numbers of the sets.
 pub(crate) fn old_limits_row(words: &[&[u8]]) -> Option<OldLimits>
     ensures some { IfSome result (λ limits. IsOldLimitsRow (texts words.now) limits) }
     ensures none { IfNone result
@@ -60,7 +60,7 @@ pub(crate) fn old_limits_row(words: &[&[u8]]) -> Option<OldLimits>
     })
 }
 
-/// Whether minimal symbols alone are asked for.
+/// Returns whether only minimal symbols are asked for.
 fn read_filter(word: &[u8]) -> Option<bool>
     ensures some { IfSome result (λ minimal. word.now ≡ filter_word minimal) }
     ensures none { IfNone result ((minimal : Bool) → word.now ≡ filter_word minimal → ⊥) }

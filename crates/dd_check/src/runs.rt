@@ -3,7 +3,7 @@ ghost use Rattle.dd_model.specs.Allowed.{IsIn};
 
 use dd_model::Allowed;
 
-/// Whether a row of numbers of a set begins at a number.
+/// Returns whether a row of numbers of a set begins at a number.
 pub(crate) fn begins_run(set: &Allowed, number: u32) -> bool
     requires { 1 ≤ number }
     ensures { IsTrue result

@@ -65,7 +65,7 @@ fn item_of(words: &[&[u8]]) -> Option<Item>
     }
 }
 
-/// Whether the items are in range, ascending and apart.
+/// Returns whether the items are in range, ascending and apart.
 pub(crate) fn are_items(items: &[Item]) -> bool
     ensures { IsTrue result ↔ AreItems items.now }
 {
@@ -82,7 +82,7 @@ pub(crate) fn are_items(items: &[Item]) -> bool
     true
 }
 
-/// Whether an item is in range.
+/// Returns whether an item is in range.
 fn is_item(item: Item) -> bool
     ensures { IsTrue result ↔ IsItem item }
 {

@@ -6,8 +6,9 @@ use dd_jobs::is_opening;
 use dd_model::{Job, Memory, Position, Prefix, Request};
 use std::alloc::Global;
 
-/// Whether a catalogue may stop at a position: at the end, at a job of the opening, or at a size
-/// with as many numbers as a whole code has, of which the first are a job of the opening.
+/// Returns whether a catalogue may stop at a position: at the end, at a job of the opening, or at a
+/// whole code. A whole code is given by its size and as many numbers as it has, of which the first
+/// are a job of the opening.
 pub(crate) fn is_place(alloc: Global, q: &Request, at: &Position) -> Result<bool, Memory>
     ensures { IfOk result (λ answer. IsTrue answer ↔ IsPlace q.now at.now) }
 {
@@ -17,7 +18,7 @@ pub(crate) fn is_place(alloc: Global, q: &Request, at: &Position) -> Result<bool
     }
 }
 
-/// Whether a job is one of the opening, or has as many numbers as a whole code.
+/// Returns whether a job is one of the opening, or has as many numbers as a whole code.
 fn is_job_place(alloc: Global, q: &Request, job: &Job) -> Result<bool, Memory>
     ensures { IfOk result (λ answer. IsTrue answer
         ↔ (IsOpeningJob q.now job.now ⊎ IsWholePlace q.now job.now)) }
@@ -28,7 +29,8 @@ fn is_job_place(alloc: Global, q: &Request, job: &Job) -> Result<bool, Memory>
     is_whole_place(alloc, q, job)
 }
 
-/// Whether a job has as many numbers as a whole code, and the first are a job of the opening.
+/// Returns whether a job has as many numbers as a whole code, and the first are a job of the
+/// opening.
 fn is_whole_place(alloc: Global, q: &Request, job: &Job) -> Result<bool, Memory>
     ensures { IfOk result (λ answer. IsTrue answer ↔ IsWholePlace q.now job.now) }
 {
@@ -45,7 +47,7 @@ fn is_whole_place(alloc: Global, q: &Request, job: &Job) -> Result<bool, Memory>
     Ok(is_opening(q, &first))
 }
 
-/// The same of version 1: the end, or a job of the opening.
+/// Returns the same of version 1: the end, or a job of the opening.
 pub(crate) fn is_old_place(q: &Request, at: &Position) -> bool
     ensures { IsTrue result ↔ IsOldPlace q.now at.now }
 {

@@ -33,7 +33,7 @@ pub fn what_was_written_reads_back()
         → IsCheckpointText text c }
 {}
 
-/// A checkpoint has one text: its sets are told by their longest rows of numbers.
+/// A checkpoint has one text: its sets are written as their longest rows of numbers.
 pub fn a_checkpoint_has_one_text()
     ensures { (c : Checkpoint) (a b : List ℕ) → IsCheckText c a → IsCheckText c b → a ≡ b }
 {}

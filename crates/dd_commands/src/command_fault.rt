@@ -8,6 +8,6 @@ pub enum CommandFault {
     File(FileFault),
     /// The first symbol of which the command makes nothing.
     Symbol(SymbolRefusal),
-    /// Want of memory.
+    /// Out of memory.
     Memory,
 }

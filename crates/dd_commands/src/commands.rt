@@ -32,7 +32,7 @@ pub enum FileCommand {
     Info,
     /// The number of sheets of the torus cover of each symbol.
     Sheets,
-    /// The net of the torus cover of each symbol, as a drawing in a cell of this shape, or of the shape that
-    /// the symmetries of the torus cover keep.
+    /// The net of the torus cover of each symbol, as a drawing in a cell of this shape, or of the
+    /// shape that the symmetries of the torus cover keep.
     Draw(Option<Frame>),
 }

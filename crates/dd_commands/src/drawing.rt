@@ -31,8 +31,8 @@ struct TorusNet {
     net: Net,
 }
 
-/// Returns the least form of the torus cover, and its net. The vertices are counted in the cover, which
-/// has as many, since the least form of a large cover takes long.
+/// Returns the least form of the torus cover, and its net. The vertices are counted in the cover,
+/// which has as many, since the least form of a large cover takes long.
 fn torus_net(alloc: Global, s: &Connected) -> Result<TorusNet, Stop<SymbolFault>>
     requires { IsReadable s.now }
     ensures least { IfOk result (λ of. IsLeastTorus s.now of.torus) }

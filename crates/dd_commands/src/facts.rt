@@ -7,7 +7,7 @@ use dd_quotient::is_minimal;
 use dd_symbol::Connected;
 use std::alloc::{AllocError, Global};
 
-/// What `info` tells of a symbol, besides its group.
+/// What `info` writes about a symbol, besides its group.
 #[derive(Clone, Copy, Debug, PartialEq, Eq)]
 pub struct Facts {
     /// The number of its chambers.
@@ -22,7 +22,7 @@ pub struct Facts {
     pub curvature: Fraction,
     /// Its orientation.
     pub orientation: Orientation,
-    /// Whether it is minimal.
+    /// True if it is minimal.
     pub minimal: bool,
 }
 

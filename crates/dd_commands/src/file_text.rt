@@ -37,7 +37,7 @@ pub fn text_of_file(
     }
 }
 
-/// Why there is no text where the file has a fault. Want of memory is no refusal.
+/// Returns why there is no text if the file has a fault. A lack of memory is no refusal.
 fn fault_of(fault: FileFault) -> CommandFault
     ensures { result ≡ fault_of_why fault.why fault }
 {

@@ -10,7 +10,7 @@ use dd_name::{name, orbifold};
 use dd_symbol::Connected;
 use std::alloc::Global;
 
-/// A line for each symbol, which tells what it is, and how often each group comes.
+/// Returns a line of facts for each symbol, and how often each group comes.
 pub fn info_of(alloc: Global, symbols: &[Connected]) -> Result<Vec<u8>, Memory>
     requires { length symbols.now ≤ 1000000 }
     ensures { IfOk result (λ text. IsInfo symbols.now text.items) }

@@ -7,7 +7,7 @@ use std::fmt;
 /// Why a command makes nothing of a symbol.
 #[derive(Clone, Copy, Debug, PartialEq, Eq)]
 pub enum SymbolFault {
-    /// So many chambers would become more than 1,024.
+    /// There would be more than 1,024 chambers.
     TooManyChambers {
         /// The number of chambers of the symbol.
         n: u32,

@@ -1,12 +1,12 @@
 use dd_model::Memory;
 use std::alloc::AllocFailed;
 
-/// Why something was not made: it is refused, or memory is wanting.
+/// Why something was not made: it is refused, or memory ran out.
 #[derive(Clone, Copy, Debug, PartialEq, Eq)]
 pub enum Stop<T> {
     /// Why it is refused.
     Refused(T),
-    /// Want of memory.
+    /// Out of memory.
     Memory,
 }
 

@@ -25,7 +25,8 @@ impl Totals {
         }
     }
 
-    /// Counts a name once more. After `Err`, which comes if an allocation fails, the counts are as before.
+    /// Counts a name once more. After `Err`, which comes if an allocation fails, the counts are as
+    /// before.
     pub fn add(&mut self, name: Vec<u8>) -> Result<(), Memory>
         requires { AllByRecursion (λ e. e.1 < 1000000000) (counted_in self.old) }
         ensures counted { OnOk result
@@ -47,7 +48,8 @@ impl Totals {
         self.counts.len()
     }
 
-    /// Appends a line for each name, which begins with a word. At `Err` the old text stays in front.
+    /// Appends a line for each name, which begins with a word. At `Err` the old text stays in
+    /// front.
     pub fn put(&self, word: &str, out: &mut Vec<u8>) -> Result<(), Memory>
         ensures lines { OnOk result (out.new.items ≡ out.old.items
             ++ flat_map (total_text word.now) (counted_in self.now)) }

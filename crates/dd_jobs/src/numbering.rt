@@ -13,7 +13,7 @@ pub fn greatest(numbers: &[u8]) -> u8
     most
 }
 
-/// Whether a new number fits one at an earlier place of the same involution.
+/// Returns whether a new number fits one at an earlier place of the same involution.
 fn fits_at(prefix: &[u8], number: u8, earlier: usize) -> bool
     requires { earlier < length prefix.now }
     ensures { IsTrue result ↔ FitsAt prefix.now number (length prefix.now) earlier }
@@ -27,7 +27,7 @@ fn fits_at(prefix: &[u8], number: u8, earlier: usize) -> bool
     is_back == is_forth
 }
 
-/// Whether a new number fits all at earlier places of the same involution.
+/// Returns whether a new number fits all at earlier places of the same involution.
 fn fits(prefix: &[u8], number: u8) -> bool
     ensures { IsTrue result
         ↔ ((u : ℕ) → u < length prefix.now → u % 3 ≡ length prefix.now % 3
@@ -43,7 +43,7 @@ fn fits(prefix: &[u8], number: u8) -> bool
     true
 }
 
-/// Whether the next chamber is among the images of the first ones, where these are all told.
+/// Returns whether the next chamber is among the images of the first ones, if these are all known.
 fn reaches(size: u32, prefix: &[u8], number: u8) -> bool
     requires { length prefix.now < 2 ^ 32 }
     ensures { IsTrue result
@@ -69,7 +69,7 @@ fn reaches(size: u32, prefix: &[u8], number: u8) -> bool
     false
 }
 
-/// Whether a number may come after a first-visit prefix of the codes of a size.
+/// Returns whether a number may come after a first-visit prefix of the codes of a size.
 pub fn can_follow(size: u32, prefix: &[u8], number: u8) -> bool
     requires { length prefix.now < 2 ^ 32 }
     ensures { IsTrue result ↔ CanFollow size prefix.now number }
@@ -82,7 +82,7 @@ pub fn can_follow(size: u32, prefix: &[u8], number: u8) -> bool
         && number - 1 <= greatest(prefix)
 }
 
-/// Whether the chambers come in the order of their first visit in the beginning of a code.
+/// Returns whether the chambers come in the order of their first visit in the beginning of a code.
 pub fn is_first_visit(size: u32, prefix: &[u8]) -> bool
     requires { length prefix.now < 2 ^ 32 }
     ensures { IsTrue result ↔ IsFirstVisitPrefix size prefix.now }

@@ -78,7 +78,7 @@ pub fn shard_opening(alloc: Global, q: &Request, shard: Shard) -> Result<Vec<Job
     Ok(jobs)
 }
 
-/// Whether a job is one of the opening of a request.
+/// Returns whether a job is one of the opening of a request.
 pub fn is_opening(q: &Request, job: &Job) -> bool
     ensures { IsTrue result ↔ IsOpeningJob q.now job.now }
 {

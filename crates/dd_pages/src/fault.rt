@@ -5,6 +5,6 @@ pub enum RunFault {
     Store,
     /// A write failed, and was counted.
     Sink,
-    /// Want of memory.
+    /// Out of memory.
     Memory,
 }

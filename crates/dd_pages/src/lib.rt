@@ -1,5 +1,5 @@
-//! What a run of a catalogue writes: a page of lines, how far its lines may go, and the checkpoints that
-//! it keeps.
+//! What a run of a catalogue writes: a page of lines, how far its lines may go, and the checkpoints
+//! that it keeps.
 #![tactic(auto)]
 
 mod fault;

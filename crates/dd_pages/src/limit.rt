@@ -10,7 +10,7 @@ pub const MOST_LINES: u64 = 1_000_000_000_000_000_000;
 pub struct Limit {
     /// The number of the last line.
     pub last: u64,
-    /// Whether the run is to pause after it.
+    /// True if the run is to pause after it.
     pub pauses: bool,
 }
 

@@ -13,11 +13,13 @@ use std::thread::Threads;
 /// How many lines a thread makes at least, so that it is worth its start.
 const FEWEST: usize = 2048;
 
-/// How many parts there are for each thread, each with a thread of its own: the lines of equally many members take up to twice as
-/// long where few of them share a table, and the processors should not wait for the last part.
+/// How many parts there are for each thread, each with a thread of its own. Equally many members
+/// may take twice as long if few of them share a table. The processors should not wait for the last
+/// part.
 const PARTS: usize = 4;
 
-/// How many bytes the lines of some members take, mostly a few less: a catalogue goes by size, so that the first one tells.
+/// Returns how many bytes the lines of some members take, or a few more. A catalogue goes by size,
+/// so the first member decides.
 fn room_for(members: &Members) -> usize {
     let Some(first) = members.spans().first() else {
         return 0;
@@ -44,7 +46,8 @@ fn lines_of(part: Part) -> Result<Vec<u8>, Memory>
     Ok(lines)
 }
 
-/// Cuts members into parts of so many, the first one maybe shorter. They are taken off the end.
+/// Cuts members into parts of `size` members. The first part may be shorter. They are taken off the
+/// end.
 fn parts_of(size: usize, before: u64, mut members: Members) -> Result<Vec<Part>, Memory>
     requires size { 1 ≤ size }
     requires few { before + length members < 2 ^ 64 }
@@ -66,8 +69,8 @@ fn parts_of(size: usize, before: u64, mut members: Members) -> Result<Vec<Part>,
     Ok(parts)
 }
 
-/// The lines of members, numbered from `before + 1` on, as texts that follow each other. Where there are many, a few parts for each
-/// of so many threads are made at once.
+/// Returns the lines of members, numbered from `before + 1` on, as texts that follow each other. If
+/// there are many, a few parts for each of the threads are made at once.
 pub fn lines_by<R: Threads + Sync>(
     rt: &R,
     threads: u32,

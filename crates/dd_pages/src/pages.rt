@@ -18,16 +18,17 @@ use std::thread::Threads;
 /// How many bytes are collected before they are written.
 const FULL: usize = 65_536;
 
-/// How many members wait until several threads make their lines: the lists of most entries, and of most rounds, are too short
-/// to be worth the start of a thread.
+/// How many members wait until several threads make their lines: the lists of most entries, and of
+/// most rounds, are too short to be worth the start of a thread.
 const BATCH: usize = 65_536;
 
-/// Of how many members one thread makes the lines before it looks whether to write: so few that the lines are still in the
-/// processor's cache when they are written.
+/// The number of members of which one thread makes the lines before it looks whether to write. It
+/// is so small that the lines are still in the processor's cache when they are written.
 const PART: usize = 512;
 
-/// Lines on their way out: members that wait for their lines to be made, lines that are collected to be written at once, the
-/// number of the last line of all these, and how many bytes were written.
+/// Lines on their way out: members that wait for their lines, and lines that are collected to be
+/// written at once. The page also has the number of the last line of all these, and how many bytes
+/// were written.
 #[derive(Drop)]
 pub struct Page {
     waiting: Members,
@@ -36,7 +37,8 @@ pub struct Page {
     pub bytes: u128,
 }
 
-/// Puts a text behind what is collected. Where nothing is collected, the text is taken as it is and not copied.
+/// Puts a text behind what is collected. Where nothing is collected, the text is taken as it is and
+/// not copied.
 fn put_behind(collected: &mut Vec<u8>, text: Vec<u8>) -> Result<(), Memory>
     ensures { OnOk result (collected.new.items ≡ collected.old.items ++ text.items) }
 {
@@ -49,7 +51,7 @@ fn put_behind(collected: &mut Vec<u8>, text: Vec<u8>) -> Result<(), Memory>
 }
 
 impl Page {
-    /// An empty page after so many lines.
+    /// Returns an empty page after `count` lines.
     pub fn new(alloc: Global, count: u64) -> Page
         ensures empty { IsEmpty result }
         ensures count { result.count ≡ count }
@@ -124,7 +126,8 @@ impl Page {
         Ok(())
     }
 
-    /// Puts texts behind what is collected, one after the other, and writes each time that is enough.
+    /// Puts texts behind what is collected, one after the other, and writes each time that is
+    /// enough.
     fn put_all<O: Sink>(&mut self, texts: Vec<Vec<u8>>, out: &mut O) -> Result<(), SinkFault>
         ensures sent { OnOk result (IsSent (O.held out.old) (O.held out.new)
             (self.old.buffer.items ++ joined texts.items) self.old.bytes self.new) }
@@ -142,7 +145,8 @@ impl Page {
         Ok(())
     }
 
-    /// Makes the lines of the members that wait, by so many threads, and writes lines once there are enough.
+    /// Makes the lines of the members that wait, by `threads` threads, and writes lines once there
+    /// are enough.
     fn make<R: Threads + Sync, O: Sink>(
         &mut self,
         rt: &R,
@@ -207,7 +211,8 @@ impl Page {
         Ok(())
     }
 
-    /// Makes the lines of the next members, where none waits before them, and writes lines once there are enough.
+    /// Makes the lines of the next members, where none waits before them, and writes lines once
+    /// there are enough.
     fn add_part<O: Sink>(&mut self, part: &Symbols<'_>, out: &mut O) -> Result<(), SinkFault>
         requires waiting { self.old.waiting ≡ [] }
         requires few { self.old.count + length part.now ≤ 1000000000000000000 }
@@ -228,7 +233,8 @@ impl Page {
         Ok(())
     }
 
-    /// Makes the lines of a list of members part by part, where none waits before them, so that few lines are collected at a time.
+    /// Makes the lines of a list of members part by part, where none waits before them, so that few
+    /// lines are collected at a time.
     fn add_list<O: Sink>(&mut self, list: Symbols<'_>, out: &mut O) -> Result<(), SinkFault>
         requires waiting { self.old.waiting ≡ [] }
         requires few { self.old.count + length list ≤ 1000000000000000000 }
@@ -274,7 +280,8 @@ impl Page {
         Ok(())
     }
 
-    /// Takes the next members, whose lines are made by so many threads, and writes lines once there are enough.
+    /// Takes the next members, whose lines `threads` threads make, and writes lines once there are
+    /// enough.
     pub fn add<R: Threads + Sync, O: Sink>(
         &mut self,
         rt: &R,

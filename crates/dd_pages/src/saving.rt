@@ -44,7 +44,8 @@ fn write_saved(out: &mut Vec<u8>, shard: Option<Shard>, check: &Checkpoint) -> R
     }
 }
 
-/// Puts the checkpoint of a run that stands where its front does, with the lines of its page, all of which were written.
+/// Puts the checkpoint of a run that stands where its front does, with the lines of its page, all
+/// of which were written.
 pub fn save<S: Store>(
     alloc: Global,
     run: &Run,

@@ -59,7 +59,8 @@ fn bits_of(chamber: u8, image: u8) -> u64
 ///
 /// - the images in the order of codes, where 0 is an image that is not known;
 /// - for each involution the chambers whose images are not known, as bits;
-/// - one of each two places that were filled at once, since an involution leads back. They are in order, so that both can be cleared again.
+/// - one of each two places that were filled at once, since an involution leads back. They are in
+///   order, so that both can be cleared again.
 #[derive(Drop)]
 pub struct Rows {
     size: u8,

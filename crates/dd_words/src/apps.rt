@@ -30,7 +30,7 @@ pub static SETTINGS: [Setting; 12] = [
     Setting::Cell,
 ];
 
-/// What clap is told of a verb: its arguments and its settings, and nothing of clap's own.
+/// Returns what clap needs of a verb: its arguments and its settings, and nothing of clap's own.
 pub fn app_for<'a>(alloc: Global, verb: Verb) -> Result<App<'a>, AllocError>
     ensures { IfOk result (λ app. app_of app ≡ app_for verb) }
 {

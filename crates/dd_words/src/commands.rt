@@ -10,7 +10,7 @@ pub enum FileKind {
     Canon,
     /// Lines with positions.
     Lines,
-    /// What is told of each symbol.
+    /// Facts about each symbol.
     Info,
     /// Minimal images.
     Minimal,

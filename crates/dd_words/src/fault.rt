@@ -10,12 +10,12 @@ use std::alloc::{AllocError, AllocFailed};
 pub enum WordsFault {
     /// No command fits the words.
     NotTaken,
-    /// Want of memory.
+    /// Out of memory.
     Memory,
 }
 
 impl WordsFault {
-    /// What it means that clap reads no words: want of memory, or that it does not take them.
+    /// Returns what an error of clap means: a lack of memory, or words that it does not accept.
     pub(crate) fn of(error: &Error) -> WordsFault
         ensures not_taken { result ≡ WordsFault.NotTaken
             → kind_of error.now ≢ ErrorKind.OutOfMemory }

@@ -57,7 +57,7 @@ pub fn number_if_given(
     Some(Some(number))
 }
 
-/// Whether a flag is given.
+/// Returns whether a flag is given.
 pub fn flag_if_given(settings: &[Given<'_>], setting: Setting) -> Option<bool>
     requires { AreSingle (map given_of settings.now) }
     ensures some { IfSome result (λ flag. IsFlagIfGiven (map given_of settings.now) setting flag) }
@@ -94,8 +94,8 @@ pub fn set_of(settings: &[Given<'_>], set: Setting, least: Setting) -> Option<Al
     }
 }
 
-/// Returns the shape of a cell, or None if the setting has another word. A shape that is None is the
-/// tiling's own.
+/// Returns the shape of a cell, or None if the setting has another word. A shape that is None is
+/// the tiling's own.
 pub fn frame_of(settings: &[Given<'_>]) -> Option<Option<Frame>>
     requires { AreSingle (map given_of settings.now) }
     ensures some { IfSome result (λ frame. IsFramed (map given_of settings.now) frame) }

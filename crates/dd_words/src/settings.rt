@@ -20,7 +20,7 @@ pub enum Setting {
     Faces,
     /// The degrees of vertices.
     Degrees,
-    /// Minimal symbols alone, a flag.
+    /// Only minimal symbols, a flag.
     Minimal,
     /// The number of workers.
     Workers,
@@ -64,7 +64,7 @@ impl Setting {
         }
     }
 
-    /// Whether the setting has a value, and is no flag.
+    /// Returns whether the setting has a value, and is no flag.
     pub fn has_value(self) -> bool
         ensures { result ≡ has_value self }
     {
@@ -74,7 +74,7 @@ impl Setting {
         }
     }
 
-    /// Whether the setting is one of the command.
+    /// Returns whether the setting is one of the command.
     pub fn is_of(self, verb: Verb) -> bool
         ensures { result ≡ has_setting verb self }
     {
@@ -86,7 +86,7 @@ impl Setting {
         }
     }
 
-    /// Whether the two settings are one.
+    /// Returns whether the two settings are one.
     pub fn is(self, other: Setting) -> bool
         ensures { IsTrue result ↔ (self ≡ other) }
     {

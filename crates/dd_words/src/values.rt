@@ -35,7 +35,7 @@ pub fn read_number_in(text: &str, low: u32, high: u32) -> Option<u32>
     Some(number as u32)
 }
 
-/// Whether a word may name a file: it is not empty and does not begin with a dash.
+/// Returns whether a word may name a file: it is not empty and does not begin with a dash.
 pub fn is_name(word: &str) -> bool
     ensures { IsTrue result ↔ IsName word.now }
 {
