@@ -1,9 +1,9 @@
 /* Refuses one call of a program that is started with this library before its own, and counts them.
 
-   REFUSE_KIND is `memory`, `calls` or `short`: requests for memory; reads, writes, syncs, openings and renamings; or reads and
-   writes of several bytes, of which the one that is chosen moves one byte. REFUSE_NUMBER says which, counted from 1; 0 refuses
-   none. How many there were goes to the file REFUSE_TOLD. Only what the program itself asks for counts, and nothing that the
-   libraries of the system ask for each other. */
+   REFUSE_KIND is `memory`, `calls` or `short`. `memory` are requests for memory. `calls` are reads, writes, syncs, openings,
+   renamings, removals, and looks at what a name names. `short` are reads and writes of several bytes, of which the one that is
+   chosen moves one byte. REFUSE_NUMBER says which call, counted from 1; 0 refuses none. How many there were goes to the file
+   REFUSE_TOLD. Only what the program itself asks for counts, and nothing that the libraries of the system ask for each other. */
 #define _GNU_SOURCE
 #include <errno.h>
 #include <fcntl.h>
@@ -13,6 +13,7 @@
 #include <stdio.h>
 #include <stdlib.h>
 #include <string.h>
+#include <sys/stat.h>
 #include <sys/syscall.h>
 #include <unistd.h>
 
@@ -105,6 +106,14 @@ int open(const char *path, int flags, ...) {
 
 int rename(const char *from, const char *to) {
     return CHOSEN("calls") ? failed() : syscall(SYS_renameat2, AT_FDCWD, from, AT_FDCWD, to, 0);
+}
+
+int statx(int folder, const char *path, int flags, unsigned wanted, struct statx *found) {
+    return CHOSEN("calls") ? failed() : syscall(SYS_statx, folder, path, flags, wanted, found);
+}
+
+int unlink(const char *path) {
+    return CHOSEN("calls") ? failed() : syscall(SYS_unlinkat, AT_FDCWD, path, 0);
 }
 
 /* The program ends by this call, after which no library is told. */
