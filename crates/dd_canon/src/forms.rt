@@ -9,7 +9,8 @@ use std::alloc::Global;
 use std::marker::Brand;
 use std::sync::ledger::{Blank, Ledger};
 
-/// The least form of a symbol of n chambers, in at most 5 n n comparisons of code numbers.
+/// Returns the least form of a symbol of n chambers, in at most 5 n n comparisons of code numbers. A
+/// symbol whose traversals tie only along automorphisms takes some n log n of them.
 pub fn least<L: Ledger>(
     alloc: Global,
     s: &Connected,
@@ -40,7 +41,8 @@ pub fn least_form(alloc: Global, s: &Connected) -> Result<Connected, Memory>
     least_from::<Brand>(alloc, s, Blank::new(1))
 }
 
-/// Whether no numbering by first visits has a smaller code.
+/// Returns whether no numbering by first visits has a smaller code, with comparisons counted from a
+/// blank.
 fn is_least_from<L: Ledger>(alloc: Global, s: &Connected, blank: Blank) -> Result<bool, Memory>
     requires name { blank.name ≡ L.name }
     requires parts { blank.parts ≡ L.parts }
@@ -61,7 +63,7 @@ fn is_least_from<L: Ledger>(alloc: Global, s: &Connected, blank: Blank) -> Resul
     Ok(true)
 }
 
-/// Whether no renumbering has a smaller code.
+/// Returns whether no renumbering has a smaller code.
 pub fn is_least(alloc: Global, s: &Connected) -> Result<bool, Memory>
     ensures { IfOk result (λ least. IsTrue least ↔ Least s.now) }
 {
