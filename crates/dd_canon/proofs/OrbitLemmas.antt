@@ -10,7 +10,7 @@ use Rattle.dd_model.specs.Connected.{Connected}
 use Rattle.dd_model.specs.Isomorphic.{IsIsomorphism}
 use Rattle.dd_model.specs.Code.{code_cmp}
 use Rattle.dd_model.specs.FirstVisit.{IsNumberedFrom}
-use Rattle.dd_forest.specs.Parts.{AreInOnePart, AreJoinedAlong}
+use Rattle.dd_forest.specs.Parts.{AreInOnePart, AreJoinedAt, AreJoinedAlong}
 use Rattle.dd_model.proofs.Bijections.{after, item-after}
 use Rattle.dd_model.proofs.Codes.{code_cmp_total, same_from_code_cmp}
 use Rattle.dd_model.proofs.Isomorphisms.{inverse_isomorphism, IsIsomorphism-after}
@@ -179,4 +179,23 @@ order_inside s start order number above k whole orbits low =
     let back : k + 1 - 1 ≡ k = omega arith in
     let w = (whole.inverse.right.within (k + 1) (omega arith) (omega arith)).1 in
     let here : get_or order k 0 ≤ s.size = subst (λ j. get_or order j 0 ≤ s.size) back w in
+    omega arith
+
+-- ## A known automorphism
+
+-- the chamber k + 1 is joined with its image
+pub joined_image : (s : Symbol) (f old new : List ℕ) (k : ℕ) → IsIsomorphism s s f → k < s.size → AreOrbits s old → AreJoinedAt old (k + 1) (get_or f k 0) new → AreOrbits s new
+joined_image s f old new k iso low orbits joined =
+    let back : k + 1 - 1 ≡ k = omega arith in
+    record {
+      nodes = joined.lengths ∙ orbits.nodes;
+      level = λ h kept. joined.to h (orbits.level h kept)
+          (sym (subst (λ j. h (get_or f j 0) ≡ h (k + 1)) back (kept f (k + 1) iso (omega arith, omega arith))));
+    }
+
+pub image_inside : (s : Symbol) (f : List ℕ) (above : List ℕ) (k : ℕ) → IsIsomorphism s s f → k < s.size → AreOrbits s above → get_or f k 0 < length above
+image_inside s f above k iso low orbits =
+    let nodes = orbits.nodes in
+    let back : k + 1 - 1 ≡ k = omega arith in
+    let here : get_or f k 0 ≤ s.size = subst (λ j. get_or f j 0 ≤ s.size) back (iso.morphism.within (k + 1) (omega arith, omega arith)).1 in
     omega arith

@@ -3,6 +3,7 @@ ghost use Rattle.std.specs.Bool.{OnTrue, OnFalse};
 ghost use Rattle.std.specs.declared.cmp.Ordering.TheVariants.{Less};
 ghost use Rattle.dd_model.specs.Symbol.{IsChamber};
 ghost use Rattle.dd_model.specs.Code.{code_cmp};
+ghost use Rattle.dd_model.specs.Isomorphic.{IsIsomorphism};
 ghost use Rattle.dd_canon.specs.Best.{IsBestNumbering};
 
 use crate::steps::Steps;
@@ -86,6 +87,34 @@ impl BestNumbering {
         self.orbits.join_along(&self.home.order, &self.there.order);
         Ok(false)
     }
+
+    /// Joins the chambers along an automorphism.
+    pub(crate) fn join_by(&mut self, s: &Connected, automorphism: &[u32])
+        requires best { IsBestNumbering s.now 1 self.old }
+        requires automorphism { IsIsomorphism s.now s.now automorphism.now }
+        ensures { IsBestNumbering s.now 1 self.new }
+    {
+        for k in 0..s.symbol().size() {
+            self.orbits.join(k + 1, automorphism[k as usize]);
+        }
+    }
+
+    /// Compares the numberings from all other starts than chamber 1, and keeps the best.
+    pub(crate) fn improve_to_end<L: Ledger>(
+        &mut self,
+        alloc: Global,
+        s: &Connected,
+        steps: &mut Steps<L>,
+    ) -> Result<(), Memory>
+        requires { IsBestNumbering s.now 1 self.old }
+        ensures best { OnOk result (IsBestNumbering s.now s.now.size self.new) }
+        ensures count { steps.new ≤ steps.old + 5 * s.now.size * s.now.size }
+    {
+        for k in 1..s.symbol().size() {
+            self.improve(alloc, s, k + 1, steps)?;
+        }
+        Ok(())
+    }
 }
 
 /// Returns the best of all numberings by first visits, in at most 5 n n comparisons of code numbers
@@ -99,8 +128,6 @@ pub(crate) fn best_numbering<L: Ledger>(
     ensures count { steps.new ≤ steps.old + 5 * s.now.size * s.now.size }
 {
     let mut best = BestNumbering::new(alloc, s)?;
-    for k in 1..s.symbol().size() {
-        best.improve(alloc, s, k + 1, steps)?;
-    }
+    best.improve_to_end(alloc, s, steps)?;
     Ok(best)
 }

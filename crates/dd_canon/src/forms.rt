@@ -1,5 +1,6 @@
 ghost use Rattle.std.specs.Prelude.{◌≡◌, ◌+◌, ◌*◌, ◌≤◌, ◌<◌, ◌↔◌, IsTrue, IfOk};
 ghost use Rattle.dd_model.specs.Code.{Least, IsLeastForm};
+ghost use Rattle.dd_model.specs.Isomorphic.{IsIsomorphism};
 
 use crate::best_numbering::{BestNumbering, best_numbering};
 use crate::steps::Steps;
@@ -9,7 +10,8 @@ use std::alloc::Global;
 use std::marker::Brand;
 use std::sync::ledger::{Blank, Ledger};
 
-/// The least form of a symbol of n chambers, in at most 5 n n comparisons of code numbers.
+/// Returns the least form of a symbol of n chambers, in at most 5 n n comparisons of code numbers. A
+/// symbol whose traversals tie only along automorphisms takes some n log n of them.
 pub fn least<L: Ledger>(
     alloc: Global,
     s: &Connected,
@@ -40,7 +42,41 @@ pub fn least_form(alloc: Global, s: &Connected) -> Result<Connected, Memory>
     least_from::<Brand>(alloc, s, Blank::new(1))
 }
 
-/// Returns whether no numbering by first visits has a smaller code.
+/// The least form of a symbol with a known automorphism, counted from a blank on.
+fn least_along<L: Ledger>(
+    alloc: Global,
+    s: &Connected,
+    automorphism: &[u32],
+    blank: Blank,
+) -> Result<Connected, Memory>
+    requires automorphism { IsIsomorphism s.now s.now automorphism.now }
+    requires name { blank.name ≡ L.name }
+    requires parts { blank.parts ≡ L.parts }
+    requires some { 0 < blank.parts }
+    ensures { IfOk result (λ form. IsLeastForm s.now form) }
+{
+    let mut steps = Steps::<L>::begin(blank);
+    let mut best = BestNumbering::new(alloc, s)?;
+    best.join_by(s, automorphism);
+    best.improve_to_end(alloc, s, &mut steps)?;
+    Ok(best.form)
+}
+
+/// Returns the least form of a symbol with a known automorphism, given as the image of each chamber.
+/// Fewer traversals tie than in `least_form`.
+pub fn least_form_with(
+    alloc: Global,
+    s: &Connected,
+    automorphism: &[u32],
+) -> Result<Connected, Memory>
+    requires { IsIsomorphism s.now s.now automorphism.now }
+    ensures { IfOk result (λ form. IsLeastForm s.now form) }
+{
+    least_along::<Brand>(alloc, s, automorphism, Blank::new(1))
+}
+
+/// Returns whether no numbering by first visits has a smaller code, with comparisons counted from a
+/// blank.
 fn is_least_from<L: Ledger>(alloc: Global, s: &Connected, blank: Blank) -> Result<bool, Memory>
     requires name { blank.name ≡ L.name }
     requires parts { blank.parts ≡ L.parts }

@@ -26,7 +26,7 @@ mod traversal_laws;
 mod visits;
 
 pub use automorphism_laws::automorphisms_keep_codes;
-pub use forms::{is_least, least, least_form};
+pub use forms::{is_least, least, least_form, least_form_with};
 pub use isomorphisms::isomorphic;
 pub use steps::Steps;
 pub use symmetries::Symmetries;

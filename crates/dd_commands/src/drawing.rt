@@ -11,12 +11,14 @@ ghost use Rattle.dd_commands.specs.Made.{IsLeastTorus};
 ghost use Rattle.dd_commands.specs.Stops.{IsStop};
 ghost use Rattle.dd_lattice.specs.NetOf.{IsNet};
 ghost use Rattle.dd_model.specs.Code.{IsLeastForm};
+ghost use Rattle.dd_model.specs.Isomorphic.{IsIsomorphism};
 
 use crate::refusals::{SymbolFault, SymbolRefusal};
 use crate::stop::Stop;
 use crate::symbol_commands::flat_torus;
-use dd_canon::least_form;
+use dd_canon::least_form_with;
 use dd_cells::count;
+use dd_covers::Cover;
 use dd_draw::{MOST_VERTICES, PlaceFault, Places, place, svg};
 use dd_gram::{gram, own_frame};
 use dd_lattice::{Net, shifts};
@@ -32,7 +34,7 @@ struct TorusNet {
 }
 
 /// Returns the least form of the torus cover, and its net. The vertices are counted in the cover,
-/// which has as many, since the least form of a large cover takes long.
+/// which has equally many, before the least form is taken.
 fn torus_net(alloc: Global, s: &Connected) -> Result<TorusNet, Stop<SymbolFault>>
     requires { IsReadable s.now }
     ensures least { IfOk result (λ of. IsLeastTorus s.now of.torus) }
@@ -50,18 +52,19 @@ fn torus_net(alloc: Global, s: &Connected) -> Result<TorusNet, Stop<SymbolFault>
     if count > MOST_VERTICES {
         return Err(Stop::Refused(SymbolFault::TooManyVertices { count }));
     }
-    Ok(least_net(alloc, &cover.symbol)?)
+    Ok(least_net(alloc, &cover)?)
 }
 
-/// Returns the least form of a torus, and its net.
-fn least_net(alloc: Global, torus: &Connected) -> Result<TorusNet, Memory>
-    requires { IsTorus torus.now }
-    ensures least { IfOk result (λ of. IsLeastForm torus.now of.torus) }
+/// Returns the least form of a torus cover, and its net.
+fn least_net(alloc: Global, cover: &Cover) -> Result<TorusNet, Memory>
+    requires torus { IsTorus cover.now.symbol }
+    requires turn { IsIsomorphism cover.now.symbol cover.now.symbol cover.now.turn }
+    ensures least { IfOk result (λ of. IsLeastForm cover.now.symbol of.torus) }
     ensures torus { IfOk result (λ of. IsTorus of.torus) }
     ensures net { IfOk result (λ of. IsNet of.torus of.net) }
     ensures connected { IfOk result (λ of. IsConnectedNet of.net) }
 {
-    let form = least_form(alloc, torus)?;
+    let form = least_form_with(alloc, &cover.symbol, cover.turn.as_slice())?;
     let net = shifts(alloc, &form)?;
     Ok(TorusNet { torus: form, net })
 }

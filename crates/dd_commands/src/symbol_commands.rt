@@ -2,6 +2,7 @@ ghost use Rattle.std.specs.Prelude.{IfOk, IfErr};
 ghost use Rattle.std.specs.List.{AllByRecursion};
 ghost use Rattle.dd_model.specs.Flat.{Flat};
 ghost use Rattle.dd_model.specs.Code.{IsLeastForm};
+ghost use Rattle.dd_model.specs.Isomorphic.{IsIsomorphism};
 ghost use Rattle.dd_model.specs.Reading.{IsReadable};
 ghost use Rattle.dd_covers.specs.Torus.{IsTorus};
 ghost use Rattle.dd_covers.specs.TorusCover.{IsTorusCover};
@@ -15,7 +16,7 @@ ghost use Rattle.dd_commands.specs.Stops.{IsStop};
 use crate::commands::SymbolCommand;
 use crate::refusals::{SymbolFault, SymbolRefusal};
 use crate::stop::Stop;
-use dd_canon::least_form;
+use dd_canon::{least_form, least_form_with};
 use dd_covers::{Cover, TorusFault, oriented, torus};
 use dd_model::Memory;
 use dd_opword::{OpWord, apply_word};
@@ -134,7 +135,7 @@ fn least_cover(alloc: Global, s: &Connected) -> Result<Connected, Memory>
     ensures { IfOk result (λ form. IsLeastCover s.now form) }
 {
     let cover = oriented(alloc, s)?;
-    least_form(alloc, &cover.symbol)
+    least_form_with(alloc, &cover.symbol, cover.turn.as_slice())
 }
 
 /// The torus cover of a flat symbol.
@@ -142,6 +143,7 @@ pub(crate) fn flat_torus(alloc: Global, s: &Connected) -> Result<Cover, Stop<Sym
     requires { IsReadable s.now }
     ensures cover { IfOk result (λ cover. IsTorusCover s.now cover.symbol cover.below) }
     ensures torus { IfOk result (λ cover. IsTorus cover.symbol) }
+    ensures turn { IfOk result (λ cover. IsIsomorphism cover.symbol cover.symbol cover.turn) }
     ensures flat { IfOk result (λ _. Flat s.now) }
     ensures why { IfErr result (IsStop (IsCurved s.now)) }
 {
@@ -164,7 +166,7 @@ fn least_torus(alloc: Global, s: &Connected) -> Result<Connected, Stop<SymbolFau
         Ok(cover) => cover,
         Err(stop) => return Err(stop),
     };
-    Ok(least_form(alloc, &cover.symbol)?)
+    Ok(least_form_with(alloc, &cover.symbol, cover.turn.as_slice())?)
 }
 
 /// The least form of what the table of an operation makes of a symbol.

@@ -2,6 +2,7 @@ pub mod Mapped
 pub mod Trees
 pub mod SheetLemmas
 pub mod BelowLemmas
+pub mod TurnLemmas
 pub mod OrientedLemmas
 pub mod PushLemmas
 pub mod BuiltSheets

@@ -41,7 +41,7 @@ sheet_end a k n below = grind arith
 
 -- ## Chambers of sheets
 
-chamber_in : (s : Symbol) (k d a : ℕ) → IsChamber s d → a < k → (1 ≤ d + a * s.size) × (d + a * s.size ≤ k * s.size)
+pub chamber_in : (s : Symbol) (k d a : ℕ) → IsChamber s d → a < k → (1 ≤ d + a * s.size) × (d + a * s.size ≤ k * s.size)
 chamber_in s k d a h below = let end = sheet_end a k s.size below in (omega (arith, h.0), omega (arith, h.1, end))
 
 -- a chamber of k sheets, as one of a sheet

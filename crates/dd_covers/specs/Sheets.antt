@@ -45,3 +45,15 @@ sheets_of s k x = record {
 -- the chamber below each chamber of the sheets
 abbrev pub below_sheets : Symbol → ℕ → List ℕ
 below_sheets s k = all_sheets k (alike (chambers s))
+
+-- where each chamber goes that goes j sheets further on
+abbrev pub turned_in : Symbol → ℕ → ℕ → ℕ → ℕ → ℕ
+turned_in s k j a d = d + (a + j) % k * s.size
+
+-- the same of the chambers of a sheet
+abbrev pub turned_sheet : Symbol → ℕ → ℕ → ℕ → List ℕ
+turned_sheet s k j a = map (turned_in s k j a) (chambers s)
+
+-- and of all sheets
+abbrev pub turned : Symbol → ℕ → ℕ → List ℕ
+turned s k j = all_sheets k (turned_sheet s k j)

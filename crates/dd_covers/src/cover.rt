@@ -8,4 +8,6 @@ pub struct Cover {
     pub symbol: Connected,
     /// The chamber below each of its chambers, which is a morphism.
     pub below: Map,
+    /// The chamber in the next sheet, for each of its chambers. This is an automorphism.
+    pub turn: Map,
 }

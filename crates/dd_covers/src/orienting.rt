@@ -2,7 +2,7 @@ ghost use Rattle.std.specs.Prelude.{◌≡◌, ◌≢◌, ◌≤◌, ◌↔◌, 
 ghost use Rattle.std.specs.Bool.{OnTrue, OnFalse};
 ghost use Rattle.dd_model.specs.Symbol.{IsChamber, op};
 ghost use Rattle.dd_model.specs.Connected.{Connected as AllReached};
-ghost use Rattle.dd_model.specs.Isomorphic.{IsMorphism};
+ghost use Rattle.dd_model.specs.Isomorphic.{IsMorphism, IsIsomorphism};
 ghost use Rattle.dd_model.specs.declared.index.Index.{Index};
 ghost use Rattle.dd_cells.specs.Orientation.{IsOriented};
 ghost use Rattle.dd_covers.specs.OrientedCover.{two_sheets, IsOrientedCover};
@@ -10,7 +10,7 @@ ghost use Rattle.dd_covers.specs.Mirrors.{HasFixedChamber};
 ghost use Rattle.dd_covers.specs.Shifts.{AreOnes};
 
 use crate::cover::Cover;
-use crate::sheets::{below, sheets};
+use crate::sheets::{below, sheets, turn};
 use crate::shifts::Shifts;
 use dd_cells::{Orientation, orientation};
 use dd_model::Memory;
@@ -76,6 +76,7 @@ pub fn oriented(alloc: Global, s: &Connected) -> Result<Cover, Memory>
     requires { s.now.size ≤ 8192 }
     ensures cover { IfOk result (λ cover. IsOrientedCover s.now cover.symbol cover.below) }
     ensures morphism { IfOk result (λ cover. IsMorphism cover.symbol s.now cover.below) }
+    ensures turn { IfOk result (λ cover. IsIsomorphism cover.symbol cover.symbol cover.turn) }
     ensures oriented { IfOk result (λ cover. IsOriented cover.symbol) }
     ensures connected { IfOk result (λ cover. AllReached cover.symbol) }
 {
@@ -83,10 +84,12 @@ pub fn oriented(alloc: Global, s: &Connected) -> Result<Cover, Memory>
         return Ok(Cover {
             symbol: s.try_copy(alloc)?,
             below: below(alloc, s.symbol(), 1)?,
+            turn: below(alloc, s.symbol(), 1)?,
         });
     }
     Ok(Cover {
         symbol: both_sheets(alloc, s)?,
         below: below(alloc, s.symbol(), 2)?,
+        turn: turn(alloc, s.symbol(), 2)?,
     })
 }

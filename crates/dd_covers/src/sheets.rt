@@ -1,7 +1,7 @@
 ghost use Rattle.std.specs.Prelude.{◌≡◌, ◌*◌, ◌<◌, ◌≤◌, ◌++◌, IfOk, OnOk};
 ghost use Rattle.dd_model.specs.Symbol.{IsChamber};
 ghost use Rattle.dd_model.specs.Code.{chambers};
-ghost use Rattle.dd_covers.specs.Sheets.{all_sheets, all_images_in, alike, sheet_images, sheets_of, below_sheets, degrees_of};
+ghost use Rattle.dd_covers.specs.Sheets.{all_sheets, all_images_in, alike, sheet_images, sheets_of, below_sheets, degrees_of, turned_in, turned_sheet, turned};
 ghost use Rattle.dd_covers.specs.Shifts.{AreBelow, shifts_by, shift};
 ghost use Rattle.dd_symbol.specs.Building.{IsConnectedSymbol};
 
@@ -111,6 +111,31 @@ pub(crate) fn below(alloc: Global, symbol: &Symbol, k: u32) -> Result<Map, Memor
         push_chambers(&mut below, symbol)?;
     }
     Ok(Map::from_vec(below))
+}
+
+/// Appends the chambers of the sheet after one, the first sheet after the last.
+fn push_turned(turn: &mut Vec<u32>, symbol: &Symbol, k: u32, sheet: u32) -> Result<(), Memory>
+    requires small { k * symbol.now.size ≤ 16384 }
+    requires sheet { sheet < k }
+    ensures { OnOk result (turn.new.items ≡ turn.old.items ++ turned_sheet symbol.now k 1 sheet) }
+{
+    let there = (sheet + 1) % k;
+    for j in 0..symbol.size() {
+        turn.push(j + 1 + there * symbol.size())?;
+    }
+    Ok(())
+}
+
+/// Returns the chamber in the next sheet, for each chamber of k sheets.
+pub(crate) fn turn(alloc: Global, symbol: &Symbol, k: u32) -> Result<Map, Memory>
+    requires { k * symbol.now.size ≤ 16384 }
+    ensures { IfOk result (λ map. map ≡ turned symbol.now k 1) }
+{
+    let mut turn = Vec::new(alloc);
+    for sheet in 0..k {
+        push_turned(&mut turn, symbol, k, sheet)?;
+    }
+    Ok(Map::from_vec(turn))
 }
 
 /// The symbol of k sheets, which is known to be one.

@@ -1,7 +1,7 @@
 ghost use Rattle.std.specs.Prelude.{◌≡◌, ◌*◌, ◌≤◌, ℕ, List, length, map, IfOk, IfErr};
 ghost use Rattle.dd_model.specs.Symbol.{item};
 ghost use Rattle.dd_model.specs.Flat.{Flat};
-ghost use Rattle.dd_model.specs.Isomorphic.{IsMorphism};
+ghost use Rattle.dd_model.specs.Isomorphic.{IsMorphism, IsIsomorphism};
 ghost use Rattle.dd_cells.specs.Orientation.{IsOriented};
 ghost use Rattle.dd_covers.specs.PlaneValues.{IsGreatestValue};
 ghost use Rattle.dd_covers.specs.Torus.{IsTorus};
@@ -10,7 +10,7 @@ ghost use Rattle.dd_covers.specs.TorusFaults.{IsTorusFault};
 
 use crate::cover::Cover;
 use crate::orienting::oriented;
-use crate::sheets::{below, sheets};
+use crate::sheets::{below, sheets, turn};
 use crate::torus_faults::TorusFault;
 use crate::torus_shifts::torus_shifts;
 use crate::wanting::greatest_value;
@@ -25,13 +25,15 @@ fn torus_over(alloc: Global, s: &Connected, k: u32) -> Result<Cover, Memory>
     requires oriented { IsOriented s.now }
     requires flat { Flat s.now }
     requires greatest { IsGreatestValue s.now k }
-    ensures { IfOk result (λ cover. IsTorusCoverOf s.now k cover.symbol cover.below) }
+    ensures cover { IfOk result (λ cover. IsTorusCoverOf s.now k cover.symbol cover.below) }
+    ensures turn { IfOk result (λ cover. IsIsomorphism cover.symbol cover.symbol cover.turn) }
 {
     let symbol = s.symbol();
     let shifts = torus_shifts(alloc, s, k)?;
     Ok(Cover {
         symbol: sheets(alloc, s, k, &shifts)?,
         below: below(alloc, symbol, k)?,
+        turn: turn(alloc, symbol, k)?,
     })
 }
 
@@ -55,6 +57,7 @@ fn flat_torus(alloc: Global, s: &Connected) -> Result<Cover, Memory>
     ensures cover { IfOk result (λ cover. IsTorusCover s.now cover.symbol cover.below) }
     ensures torus { IfOk result (λ cover. IsTorus cover.symbol) }
     ensures morphism { IfOk result (λ cover. IsMorphism cover.symbol s.now cover.below) }
+    ensures turn { IfOk result (λ cover. IsIsomorphism cover.symbol cover.symbol cover.turn) }
 {
     let _symbol = s.symbol();
     let middle = oriented(alloc, s)?;
@@ -64,6 +67,7 @@ fn flat_torus(alloc: Global, s: &Connected) -> Result<Cover, Memory>
     Ok(Cover {
         symbol: upper.symbol,
         below,
+        turn: upper.turn,
     })
 }
 
@@ -74,6 +78,7 @@ pub fn torus(alloc: Global, s: &Connected) -> Result<Cover, TorusFault>
     ensures cover { IfOk result (λ cover. IsTorusCover s.now cover.symbol cover.below) }
     ensures torus { IfOk result (λ cover. IsTorus cover.symbol) }
     ensures morphism { IfOk result (λ cover. IsMorphism cover.symbol s.now cover.below) }
+    ensures turn { IfOk result (λ cover. IsIsomorphism cover.symbol cover.symbol cover.turn) }
     ensures flat { IfOk result (λ _. Flat s.now) }
     ensures why { IfErr result (λ fault. IsTorusFault s.now fault) }
 {

@@ -12,7 +12,7 @@ composed-requires c =
     let upper = c.in_ok-upper.upper in
     record {
       within = within_lower s middle.symbol upper.symbol c.greatest_value-k.result middle.below upper.below
-          (middle_of s middle.symbol middle.below c.symbol-symbol.ensures.symbol.symbol c.symbol-symbol.ensures.connected c.in_ok-middle.ensures.cover) c.in_ok-upper.ensures;
+          (middle_of s middle.symbol middle.below c.symbol-symbol.ensures.symbol.symbol c.symbol-symbol.ensures.connected c.in_ok-middle.ensures.cover) c.in_ok-upper.ensures.cover;
     }
 
 pub returns-clause-torus : goal.returns-clause-torus
@@ -25,7 +25,7 @@ returns-clause-torus c =
       oriented = c.in_ok-middle.ensures.cover;
       sheets = c.greatest_value-k.result;
       upper = upper.below;
-      torus = c.in_ok-upper.ensures;
+      torus = c.in_ok-upper.ensures.cover;
       composed = c.in_ok-below.ensures;
     })
 
@@ -39,6 +39,6 @@ returns-clause-morphism c =
       oriented = c.in_ok-middle.ensures.cover;
       sheets = c.greatest_value-k.result;
       upper = upper.below;
-      torus = c.in_ok-upper.ensures;
+      torus = c.in_ok-upper.ensures.cover;
       composed = c.in_ok-below.ensures;
     })

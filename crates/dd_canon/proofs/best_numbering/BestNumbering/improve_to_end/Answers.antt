@@ -1,8 +1,8 @@
-use Rattle.std.proofs.Common.{◌≡◌, ap, subst, arith}
+use Rattle.std.proofs.Common.{◌≡◌, ◌+◌, ◌-◌, ap, subst, arith}
 use Rattle.dd_model.specs.Symbol.{Symbol}
 use Rattle.dd_canon.specs.Best.{IsBestNumbering}
 use Rattle.dd_canon.proofs.BestLemmas.{one_more_counted, all_counted}
-use Rattle.dd_canon.proofs.best_numbering.best_numbering.Goals as goal
+use Rattle.dd_canon.proofs.best_numbering.BestNumbering.improve_to_end.Goals as goal
 
 pub returns-in_err-improve-clause-count : goal.returns-in_err-improve-clause-count
 returns-in_err-improve-clause-count g c =
@@ -20,7 +20,7 @@ returns-clause-best g c =
     let test = c.loop-k-test.false in
     let high = c.loop-k.auto.k-end in
     let some = c.symbol.ensures.symbol.symbol.table.chambers in
-    subst (λ n. IsBestNumbering s n c.loop-k.best) (omega (arith, size, end, test, high, some)) c.loop-k.invariant.best
+    subst (λ n. IsBestNumbering s n c.loop-k.self) (omega (arith, size, end, test, high, some)) c.loop-k.invariant.best
 
 pub returns-clause-count : goal.returns-clause-count
 returns-clause-count g c =
@@ -30,3 +30,9 @@ returns-clause-count g c =
     let high = c.loop-k.auto.k-end in
     let some = c.symbol.ensures.symbol.symbol.table.chambers in
     all_counted s.size c.loop-k.k c.args.steps.now c.loop-k.steps (omega (arith, size, end, high, some)) c.loop-k.invariant.count
+
+pub improve-requires-clause-best : goal.improve-requires-clause-best
+improve-requires-clause-best g c =
+    let k = c.loop-k.k in
+    let e : k ≡ k + 1 - 1 = omega arith in
+    subst (λ n. IsBestNumbering c.args.s.now n c.loop-k.self) e c.loop-k.invariant.best

@@ -1,9 +1,9 @@
 use Rattle.std.proofs.Common.{◌+◌, ◌*◌, ◌≤◌}
 use Rattle.dd_canon.specs.Best.{IsBestNumbering}
-use Rattle.dd_canon.proofs.best_numbering.best_numbering.Given as goal
+use Rattle.dd_canon.proofs.best_numbering.BestNumbering.improve_to_end.Given as goal
 
 abbrev pub invariant-loop-k : goal.invariant-loop-k
 invariant-loop-k g l = record {
-  best : IsBestNumbering l.s l.k l.best;
+  best : IsBestNumbering l.s l.k l.self;
   count : l.steps ≤ l.initial.steps + 5 * l.s.size * l.k;
 }
