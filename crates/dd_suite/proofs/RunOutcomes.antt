@@ -12,7 +12,7 @@ use Rattle.dd_pages.specs.declared.fault.RunFault.TheVariants as fault
 use Rattle.dd_pages.specs.declared.finish.Finish.{Finish}
 use Rattle.dd_pages.specs.Runs.{Finishes}
 use Rattle.dd_tasks.specs.declared.ending.Ending.{Ending}
-use Rattle.dd_tasks.specs.declared.ending.Ending.TheVariants.{Done, Usage, Refused, RefusedSymbol, RefusedCheck, Paused, StoreFault, SinkFault, Memory, TooManyLines}
+use Rattle.dd_tasks.specs.declared.ending.Ending.TheVariants.{Done, Usage, Refused, RefusedSymbol, RefusedCheck, RefusedMerge, Paused, StoreFault, SinkFault, Memory, TooManyLines}
 use Rattle.dd_tasks.specs.declared.status.Status.{Status}
 use Rattle.dd_tasks.specs.declared.status.Status.TheVariants as status
 use Rattle.dd_model.specs.Text.{IsText}
@@ -27,7 +27,7 @@ use Rattle.dd_tasks.specs.Outside.{Before, After}
 use Rattle.dd_tasks.specs.Runs.{Runs, HasRunAs, name_of}
 use Rattle.dd_tasks.specs.Words.{Order, run_command, AskForRun}
 use Rattle.dd_tasks.proofs.HeldTexts.{some_injective, one_check}
-use Rattle.dd_tasks.proofs.Requests.{one_order, not_both, run_or_exercise}
+use Rattle.dd_tasks.proofs.Requests.{one_order, not_both, run_or_merge, run_or_exercise}
 use Rattle.dd_suite.proofs.RunEndings.{whole_result, paused_result, cut_result, store_result, not_refused}
 use Rattle.dd_suite.proofs.RunOutputs.{output_of, front_prefix, whole_of_task, rest_written}
 
@@ -47,8 +47,9 @@ module _ (words : List (List ℕ)) (order : Order) (before : Before) (after : Af
       let same : ran.start ≡ next_start is.check = at.2 ∙ ap next_start (one_check before.tells (before.held is.name) at.0 is.check told at.1 is.holds) in
       front_prefix ran.start order.pause before.written after.written ran.result out.0 bytes out.1 (subst (λ (s : Start). IsText s.request s.at s.lines bytes) (sym same) is.text)
   ran_known state ran bytes (inr (inr (inl (told, file)))) = absurd (not_both words order file.command file.name asked file.asked)
-  ran_known state ran bytes (inr (inr (inr (inl is)))) = absurd (run_or_exercise words order is.start is.count asked is.asked)
-  ran_known state ran bytes (inr (inr (inr (inr none)))) = absurd (none.0 (run_command order.task asked.workers order.round order.pause, asked.command))
+  ran_known state ran bytes (inr (inr (inr (inl (told, is))))) = absurd (run_or_merge words order is.names asked is.asked)
+  ran_known state ran bytes (inr (inr (inr (inr (inl is))))) = absurd (run_or_exercise words order is.start is.count asked is.asked)
+  ran_known state ran bytes (inr (inr (inr (inr (inr none))))) = absurd (none.0 (run_command order.task asked.workers order.round order.pause, asked.command))
 
   pub ran_whole : (state : Status) → HasRunAs order state before after → state ≡ status.Done → AppendsOutput words before.tells before.held before.written after.written
   ran_whole state ran e =
@@ -115,7 +116,8 @@ module _ (words : List (List ℕ)) (order : Order) (before : Before) (after : Af
   stop_refused (RefusedSymbol refusal) stops e = absurd stops.cause
   stop_refused (RefusedCheck fault) stops e =
       let is = check_refused order.task order.round order.pause fault asked stops.cause in
-      inr (inr (fault, record { name = is.0; asked = record { round = order.round; pause = order.pause; run = is.1 }; holds = is.2 }))
+      inr (inr (inl (fault, record { name = is.0; asked = record { round = order.round; pause = order.pause; run = is.1 }; holds = is.2 })))
+  stop_refused (RefusedMerge refusal) stops e = absurd stops.cause
   stop_refused (Paused lines) stops e = absurd (cc)
   stop_refused StoreFault stops e = absurd (cc)
   stop_refused SinkFault stops e = absurd (cc)
@@ -132,6 +134,7 @@ module _ (words : List (List ℕ)) (order : Order) (before : Before) (after : Af
       let ok = accepted is.0 (record { round = order.round; pause = order.pause; run = is.1 }) in
       let same : ok.2.text ≡ is.2.bytes = some_injective ok.2.text is.2.bytes (sym ok.2.held_is ∙ is.2.fetched ok.0) in
       absurd (never_both is.2.bytes ok.1 fault (subst (λ b. IsCheckpointText b ok.1) same ok.2.accepted) is.2.faulty)
+  stop_complete (RefusedMerge refusal) stops accepted kept = absurd stops.cause
   stop_complete (Paused lines) stops accepted kept = absurd stops.cause
   stop_complete StoreFault stops accepted kept = absurd (kept stops.cause)
   stop_complete SinkFault stops accepted kept = absurd stops.cause
@@ -146,6 +149,7 @@ module _ (words : List (List ℕ)) (order : Order) (before : Before) (after : Af
   stop_told (RefusedCheck fault) stops =
       let is = check_refused order.task order.round order.pause fault asked stops.cause in
       record { name = is.0; asked = record { round = order.round; pause = order.pause; run = is.1 }; holds = is.2 }
+  stop_told (RefusedMerge refusal) stops = absurd stops.cause
   stop_told (Paused lines) stops = absurd stops.cause
   stop_told StoreFault stops = tt
   stop_told SinkFault stops = tt
@@ -158,6 +162,7 @@ module _ (words : List (List ℕ)) (order : Order) (before : Before) (after : Af
   ran_told (Refused fault) ends = absurd ends.cause
   ran_told (RefusedSymbol refusal) ends = absurd ends.cause
   ran_told (RefusedCheck fault) ends = absurd ends.cause
+  ran_told (RefusedMerge refusal) ends = absurd ends.cause
   ran_told (Paused lines) ends = record { order = order; asked = asked; start = ends.ran.start; begins = ends.ran.begins; pause_is = ends.cause }
   ran_told StoreFault ends = tt
   ran_told SinkFault ends = tt
@@ -171,6 +176,7 @@ ran_complete Usage s pause before after c kept sank = absurd c
 ran_complete (Refused fault) s pause before after c kept sank = absurd c
 ran_complete (RefusedSymbol refusal) s pause before after c kept sank = absurd c
 ran_complete (RefusedCheck fault) s pause before after c kept sank = absurd c
+ran_complete (RefusedMerge refusal) s pause before after c kept sank = absurd c
 ran_complete (Paused lines) s pause before after c kept sank = inl (inr (inl refl))
 ran_complete StoreFault s pause before after c kept sank = absurd (kept c)
 ran_complete SinkFault s pause before after c kept sank = absurd (sank c)

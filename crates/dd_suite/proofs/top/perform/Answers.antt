@@ -1,12 +1,16 @@
-use Rattle.std.proofs.Common.{ℕ, List, None, Some, map, refl, subst}
+use Rattle.std.proofs.Common.{ℕ, ◌≤◌, List, None, Some, map, length, refl, sym, subst}
+use Rattle.std.specs.List.{AllByRecursion}
+use Rattle.std.specs.Prelude.{IsSome}
 use Rattle.std.specs.Rc.{rc_str_bytes}
 use Rattle.dd_check.specs.Calls.{Catalogue as First, Resume as Next}
-use Rattle.dd_tasks.specs.declared.task.Task.TheVariants.{Catalogue, Kept, Resume, OnFile, Exercise}
+use Rattle.dd_tasks.specs.declared.task.Task.TheVariants.{Catalogue, Kept, Resume, OnFile, Merge, Exercise}
 use Rattle.dd_tasks.specs.Outcomes.{IsRunOutcome}
 use Rattle.dd_tasks.specs.Outside.{Before, After}
-use Rattle.dd_tasks.specs.Stops.{EndsOnFile, on_file, of_exercise, of_run}
+use Rattle.dd_tasks.specs.Stops.{EndsOnFile, on_file, of_merge, of_exercise, of_run}
+use Rattle.dd_tasks.specs.Merges.{AskToMerge}
+use Rattle.dd_tasks.specs.MergeEndings.{EndsMerge}
 use Rattle.dd_tasks.specs.Words.{IsOnFile, AskToExercise}
-use Rattle.dd_tasks.proofs.Requests.{asked_of, file_asked, lone_asked, kept_asked, resume_asked, exercise_asked, exercise_range}
+use Rattle.dd_tasks.proofs.Requests.{asked_of, file_asked, lone_asked, kept_asked, resume_asked, merge_asked, few_files, exercise_asked, exercise_range}
 use Rattle.dd_suite.proofs.RunCalls.{lone_outcome}
 use Rattle.dd_suite.proofs.top.perform.Goals as goal
 
@@ -141,6 +145,45 @@ returns-in-OnFile-clause-outcome g c =
     on_file command name asked
     (subst (λ (n : List ℕ). EndsOnFile command n c.write_file.result before after) c.as_str-in-OnFile.ensures
     (record { cause = c.write_file.ensures.cause; prefix = c.write_file.ensures.prefix; whole = c.write_file.ensures.whole; same = λ told. (c.write_file.ensures.same told).1 }))
+
+pub write_merge-requires : goal.write_merge-requires
+write_merge-requires g c =
+    let words = map rc_str_bytes c.args.words.now in
+    let names = c.in-Merge.names in
+    record {
+      few = subst (λ ns. length ns ≤ 8) (sym c.as_slice.ensures)
+          (few_files words names (merge_asked words names (asked_of words c.in-Ok-Some.field-0 c.in-Ok-Some.task (Merge names) c.in-Ok-Some.ensures c.in-Ok-Some.field-0-is c.in-Merge.is)));
+    }
+
+pub returns-in-Merge-clause-store_sure : goal.returns-in-Merge-clause-store_sure
+returns-in-Merge-clause-store_sure g c sure all =
+    let words = map rc_str_bytes c.args.words.now in
+    let names = c.in-Merge.names in
+    let held = g.S.Store.held c.args.store.now in
+    let merged = all.merged names (merge_asked words names (asked_of words c.in-Ok-Some.field-0 c.in-Ok-Some.task (Merge names) c.in-Ok-Some.ensures c.in-Ok-Some.field-0-is c.in-Merge.is)) in
+    c.write_merge.ensures.store_sure sure merged.0 (subst (AllByRecursion (λ name. IsSome (held name))) (sym c.as_slice.ensures) merged.1)
+
+pub returns-in-Merge-clause-outcome : goal.returns-in-Merge-clause-outcome
+returns-in-Merge-clause-outcome g c =
+    let words = map rc_str_bytes c.args.words.now in
+    let names = c.in-Merge.names in
+    let asked : AskToMerge words names = merge_asked words names (asked_of words c.in-Ok-Some.field-0 c.in-Ok-Some.task (Merge names) c.in-Ok-Some.ensures c.in-Ok-Some.field-0-is c.in-Merge.is) in
+    let before : Before = record {
+      tells = g.S.Store.tells c.args.store.now;
+      held = g.S.Store.held c.args.store.now;
+      store_faults = g.S.Store.faults c.args.store.now;
+      written = g.O.Sink.held c.args.out.now;
+      sink_faults = g.O.Sink.faults c.args.out.now;
+    } in
+    let after : After = record {
+      held = g.S.Store.held c.write_merge.new.store;
+      store_faults = g.S.Store.faults c.write_merge.new.store;
+      written = g.O.Sink.held c.write_merge.new.out;
+      sink_faults = g.O.Sink.faults c.write_merge.new.out;
+    } in
+    of_merge names asked
+    (subst (λ ns. EndsMerge ns c.write_merge.result before after) c.as_slice.ensures
+    (record { cause = c.write_merge.ensures.cause; prefix = c.write_merge.ensures.prefix; whole = c.write_merge.ensures.whole; same = λ told. (c.write_merge.ensures.same told).1 }))
 
 pub write_exercise-requires-clause-start : goal.write_exercise-requires-clause-start
 write_exercise-requires-clause-start g c =
