@@ -4,3 +4,7 @@ pub mod Places
 pub mod Growth
 pub mod FirstVisits
 pub mod CodeFronts
+pub mod Listings
+mod ShardJobs
+pub mod PortionLaws
+pub mod ShardLaws

@@ -63,17 +63,22 @@ apart_from_lengths (j ∷ jobs) ascending long = (
           (λ begins. job_not_below_itself j k below size (same_when_whole k.prefix j.prefix begins (sym as_long))),
         )
 
--- the jobs of an opening are apart
-pub opening_apart : (q : Request) (jobs : List Job) → IsOpening q jobs → AreApart jobs
-opening_apart q jobs is = apart_from_lengths jobs is.ascending (λ j k hj hk size.
-    ((is.members j).0 hj).numbers ∙ ap (λ n. min (3 * n) 9) size ∙ sym ((is.members k).0 hk).numbers)
+-- jobs of an opening, ascending, are apart
+pub opening_jobs_apart : (q : Request) (jobs : List Job) → AreAscendingJobs jobs → ((job : Job) → Contains jobs job → IsOpeningJob q job) → AreApart jobs
+opening_jobs_apart q jobs ascending each = apart_from_lengths jobs ascending (λ j k hj hk size. (each j hj).numbers ∙ ap (λ n. min (3 * n) 9) size ∙ sym (each k hk).numbers)
 
 -- they are jobs of a search
-pub opening_jobs : (q : Request) (jobs : List Job) → IsOpening q jobs → AllByRecursion (IsJobOf q) jobs
-opening_jobs q jobs is = all_from_members (IsJobOf q) jobs (λ job there.
-    let o = (is.members job).0 there in
+pub opening_jobs_search : (q : Request) (jobs : List Job) → ((job : Job) → Contains jobs job → IsOpeningJob q job) → AllByRecursion (IsJobOf q) jobs
+opening_jobs_search q jobs each = all_from_members (IsJobOf q) jobs (λ job there.
+    let o = each job there in
     let numbers = o.numbers in
     record { positive = o.size.0; small = o.size.1; short = omega arith })
+
+pub opening_apart : (q : Request) (jobs : List Job) → IsOpening q jobs → AreApart jobs
+opening_apart q jobs is = opening_jobs_apart q jobs is.ascending (λ job there. (is.members job).0 there)
+
+pub opening_jobs : (q : Request) (jobs : List Job) → IsOpening q jobs → AllByRecursion (IsJobOf q) jobs
+opening_jobs q jobs is = opening_jobs_search q jobs (λ job there. (is.members job).0 there)
 
 -- each member is under one of them
 pub opening_covers : (q : Request) (jobs : List Job) (s : Symbol) → IsOpening q jobs → IsMember q s → IsUnderOne q jobs s

@@ -3,3 +3,6 @@ pub mod Under
 pub mod Opening
 pub mod Places
 pub mod FirstVisit
+pub mod ShardNumbers
+pub mod Shards
+pub mod Portions

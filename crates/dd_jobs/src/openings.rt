@@ -4,8 +4,10 @@ ghost use Rattle.dd_model.specs.Jobs.{extended};
 ghost use Rattle.dd_jobs.specs.FirstVisit.{IsFirstVisitPrefix};
 ghost use Rattle.dd_jobs.specs.Opening.{IsOpeningJob, IsOpening, AreJobsUnder};
 ghost use Rattle.dd_jobs.specs.Under.{Appends};
+ghost use Rattle.dd_jobs.specs.Shards.{IsShardOpening};
 
 use crate::numbering::{can_follow, greatest, is_first_visit};
+use crate::shards::Shard;
 use arrayvec::ArrayVec;
 use dd_model::{Job, Memory, Prefix, Request};
 use std::alloc::Global;
@@ -55,6 +57,23 @@ pub fn opening(alloc: Global, q: &Request) -> Result<Vec<Job>, Memory>
     for k in 0..q.chambers {
         let mut prefix = ArrayVec::new();
         add_jobs(alloc, k + 1, &mut prefix, &mut jobs)?;
+    }
+    Ok(jobs)
+}
+
+/// Returns the jobs of a shard of the opening of a request, in order. Fails only if an allocation
+/// fails.
+pub fn shard_opening(alloc: Global, q: &Request, shard: Shard) -> Result<Vec<Job>, Memory>
+    requires { IsValid q.now }
+    ensures { IfOk result (λ jobs. IsShardOpening q.now shard jobs.items) }
+{
+    let mut jobs = Vec::new(alloc);
+    let mut place = 0;
+    for job in opening(alloc, q)? {
+        if place + 1 == shard.index() {
+            jobs.push(job)?;
+        }
+        place = (place + 1) % shard.count();
     }
     Ok(jobs)
 }
