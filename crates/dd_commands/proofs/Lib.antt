@@ -8,3 +8,4 @@ pub mod InfoLemmas
 pub mod SheetLinesOnce
 pub mod FileTexts
 pub mod CanonTexts
+pub mod MergedTexts

@@ -1,5 +1,5 @@
 -- Words ask for one thing at most.
-use Rattle.std.proofs.Common.{◌≡◌, ◌≤◌, ℕ, List, [], ◌∷◌, Option, Some, None, MatchOption, refl, sym, ap, ◌∙◌, subst}
+use Rattle.std.proofs.Common.{◌≡◌, ◌≤◌, ℕ, List, [], ◌∷◌, length, Option, Some, None, MatchOption, refl, sym, ap, ◌∙◌, subst}
 use Rattle.dd_model.specs.declared.requests.Request.{Request}
 use Rattle.dd_model.specs.Request.{IsValid}
 use Rattle.dd_words.specs.Grammar.{IsCommand, IsExercise, OnTwo}
@@ -7,7 +7,7 @@ use Rattle.dd_words.specs.Values.{Text}
 use Rattle.dd_words.proofs.ReadCommands.{one_command}
 use Rattle.dd_words.proofs.Validity.{valid, IsPace, pace as pace_of, resume_pace, lone_pause}
 use Rattle.dd_words.specs.declared.commands.Command.{Command}
-use Rattle.dd_words.specs.declared.commands.Command.TheVariants.{Catalogue, Resume, File, Apply, Exercise, Draw as Drawing}
+use Rattle.dd_words.specs.declared.commands.Command.TheVariants.{Catalogue, Resume, File, Apply, Merge, Exercise, Draw as Drawing}
 use Rattle.dd_words.specs.declared.commands.FileKind.{FileKind}
 use Rattle.dd_words.specs.declared.commands.FileKind.TheVariants as kind
 use Rattle.dd_jobs.specs.declared.shards.Shard.{Shard}
@@ -17,12 +17,12 @@ use Rattle.dd_model.proofs.Options.{some_same}
 use Rattle.dd_check.specs.Calls.{Catalogues, Shards, Task as ChainTask, Begin, Resume as Next}
 use Rattle.dd_commands.specs.declared.commands.FileCommand.{FileCommand}
 use Rattle.dd_commands.specs.declared.commands.FileCommand.TheVariants.{Symbols, Info, Sheets, Draw}
-use Rattle.dd_commands.specs.declared.commands.SymbolCommand.{SymbolCommand}
 use Rattle.dd_commands.specs.declared.commands.SymbolCommand.TheVariants.{Lines, Canon, Minimal, Dual, Oriented, Torus, Derived, Applied}
 use Rattle.dd_pages.specs.declared.pace.Pace.{Pace}
 use Rattle.dd_tasks.specs.declared.task.Task.{Task}
 use Rattle.dd_tasks.specs.declared.task.Task.TheVariants as task
 use Rattle.dd_tasks.specs.Words.{Order, begin_command, run_command, AreOf, AskForRun, file_command, IsOnFile, AskToExercise, AreTaken}
+use Rattle.dd_tasks.specs.Merges.{AskToMerge}
 use Rattle.dd_tasks.specs.Commands.{AskForTask}
 
 -- what a command on a file asks for, and its file
@@ -126,6 +126,12 @@ pub same_command : (words : List (List ℕ)) (k l : FileCommand) (a b : List ℕ
 same_command words k l a b h i =
     same_asked (k, a) (l, b) (sym (back_from_command k a) ∙ ap asked_by (one_command words _ _ h i) ∙ back_from_command l b)
 
+-- those of a merge are neither
+pub run_or_merge : (words : List (List ℕ)) (order : Order) (names : List (List ℕ)) → AskForRun words order → AskToMerge words names → ⊥
+unfolding order_of
+run_or_merge words order names a b =
+    none_some order (sym (order_told order.task a.workers order.round order.pause) ∙ ap order_of (one_command words _ _ a.command b))
+
 -- those of an exercise are neither
 pub run_or_exercise : (words : List (List ℕ)) (order : Order) (start count : ℕ) → AskForRun words order → AskToExercise words start count → ⊥
 unfolding order_of
@@ -139,6 +145,29 @@ none_asked a e = cc
 pub file_or_exercise : (words : List (List ℕ)) (k : FileCommand) (name : List ℕ) (start count : ℕ) → IsOnFile words k name → AskToExercise words start count → ⊥
 unfolding asked_by
 file_or_exercise words k name start count a b = none_asked (k, name) (sym (back_from_command k name) ∙ ap asked_by (one_command words _ _ a b))
+
+pub file_or_merge : (words : List (List ℕ)) (k : FileCommand) (name : List ℕ) (names : List (List ℕ)) → IsOnFile words k name → AskToMerge words names → ⊥
+unfolding asked_by
+file_or_merge words k name names a b = none_asked (k, name) (sym (back_from_command k name) ∙ ap asked_by (one_command words _ _ a b))
+
+-- the files of a merge, and nothing for other commands
+merged_by : Command → Option (List (List ℕ))
+merged_by (Merge names) = Some names
+merged_by other = None
+
+same_names : (xs ys : List (List ℕ)) → Some xs ≡ Some ys → xs ≡ ys
+same_names xs ys e = cc
+
+no_names : (xs : List (List ℕ)) → Some xs ≡ None → ⊥
+no_names xs e = cc
+
+pub one_merge : (words : List (List ℕ)) (xs ys : List (List ℕ)) → AskToMerge words xs → AskToMerge words ys → xs ≡ ys
+unfolding merged_by
+one_merge words xs ys a b = same_names xs ys (ap merged_by (one_command words _ _ a b))
+
+pub merge_or_exercise : (words : List (List ℕ)) (names : List (List ℕ)) (start count : ℕ) → AskToMerge words names → AskToExercise words start count → ⊥
+unfolding merged_by
+merge_or_exercise words names start count a b = no_names names (ap merged_by (one_command words _ _ a b))
 
 same_numbers : (start count first number : ℕ) → Exercise start count ≡ Exercise first number → (start ≡ first) × (count ≡ number)
 same_numbers start count first number e = (cc, cc)
@@ -216,6 +245,13 @@ resume_asked words name pace pause is =
 
 pub exercise_asked : (words : List (List ℕ)) (start count : ℕ) → AskForTask words (task.Exercise start count) → AskToExercise words start count
 exercise_asked words start count is = subst (IsCommand words) is.task_is is.asked
+
+pub merge_asked : (words : List (List ℕ)) (names : List (List ℕ)) → AskForTask words (task.Merge names) → AskToMerge words names
+merge_asked words names is = subst (IsCommand words) is.task_is is.asked
+
+-- there are at most eight files
+pub few_files : (words : List (List ℕ)) (names : List (List ℕ)) → AskToMerge words names → length names ≤ 8
+few_files words names is = subst (λ xs. length xs ≤ 8) is.said.same is.said.few
 
 numbers_in_range : (arguments : List Text) (start count : ℕ) → OnTwo arguments (λ first second. IsExercise first second start count) → (start ≤ 2147483647) × (count ≤ 10000)
 numbers_in_range [] start count is = absurd is

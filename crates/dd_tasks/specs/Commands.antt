@@ -3,7 +3,7 @@ use Rattle.std.specs.Prelude.{◌≡◌, ℕ, List, Option, None, Some}
 use Rattle.dd_words.specs.declared.commands.Command.{Command}
 use Rattle.dd_words.specs.declared.commands.Command.TheVariants as command
 use Rattle.dd_tasks.specs.declared.task.Task.{Task}
-use Rattle.dd_tasks.specs.declared.task.Task.TheVariants.{Alone, Kept, Resume, OnFile, Exercise}
+use Rattle.dd_tasks.specs.declared.task.Task.TheVariants.{Alone, Kept, Resume, OnFile, Merge, Exercise}
 use Rattle.dd_words.specs.Grammar.{IsCommand}
 use Rattle.dd_jobs.specs.declared.portions.Portion.{Portion}
 use Rattle.dd_pages.specs.declared.pace.Pace.{Pace}
@@ -19,6 +19,7 @@ IsTaskOf c (Alone p pace) = (pause : Option ℕ) × IsBegunBy p None pace pause 
 IsTaskOf c (Kept p name pace pause) = IsBegunBy p (Some name) pace pause c
 IsTaskOf c (Resume name pace pause) = c ≡ command.Resume name pace.workers pace.round pause
 IsTaskOf c (OnFile asked name) = c ≡ file_command asked name
+IsTaskOf c (Merge names) = c ≡ command.Merge names
 IsTaskOf c (Exercise start count) = c ≡ command.Exercise start count
 
 -- the words ask for this task

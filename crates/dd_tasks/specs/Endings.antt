@@ -11,11 +11,12 @@ use Rattle.dd_commands.specs.declared.command_fault.CommandFault.TheVariants.{Fi
 use Rattle.dd_text.specs.declared.faults.FileFault.{FileFault}
 use Rattle.dd_text.specs.Messages.{fault_text}
 use Rattle.dd_commands.specs.declared.refusals.SymbolRefusal.{SymbolRefusal}
-use Rattle.dd_commands.specs.Messages.{symbol_refusal_text}
+use Rattle.dd_commands.specs.Messages.{symbol_refusal_text, merge_refusal_text}
+use Rattle.dd_commands.specs.declared.merge_refusal.MergeRefusal.{MergeRefusal}
 use Rattle.dd_tasks.specs.declared.status.Status.{Status}
 use Rattle.dd_tasks.specs.declared.status.Status.TheVariants as status
 use Rattle.dd_tasks.specs.declared.ending.Ending.{Ending}
-use Rattle.dd_tasks.specs.declared.ending.Ending.TheVariants.{Done, Usage, Refused, RefusedSymbol, RefusedCheck}
+use Rattle.dd_tasks.specs.declared.ending.Ending.TheVariants.{Done, Usage, Refused, RefusedSymbol, RefusedCheck, RefusedMerge}
 use Rattle.dd_tasks.specs.declared.ending.Ending.TheVariants.{Paused, StoreFault, SinkFault, Memory, TooManyLines}
 
 -- the status without its cause
@@ -25,6 +26,7 @@ status_of Usage = status.Usage
 status_of (Refused fault) = status.Refused
 status_of (RefusedSymbol refusal) = status.Refused
 status_of (RefusedCheck fault) = status.Refused
+status_of (RefusedMerge refusal) = status.Refused
 status_of (Paused lines) = status.Paused
 status_of StoreFault = status.StoreFault
 status_of SinkFault = status.SinkFault
@@ -43,6 +45,10 @@ refusal_line refusal = codes "dressline: " ++ (symbol_refusal_text refusal ++ co
 abbrev pub check_line : CheckFault → List ℕ
 check_line fault = codes "dressline: checkpoint: " ++ (check_fault_text fault ++ codes "\n")
 
+-- the line that tells why files are not merged
+abbrev pub merge_line : MergeRefusal → List ℕ
+merge_line refusal = codes "dressline: " ++ (merge_refusal_text refusal ++ codes "\n")
+
 -- the line that tells after how many lines of its chain a run paused
 abbrev pub pause_line : ℕ → List ℕ
 pause_line lines = codes "dressline: paused at " ++ (decimal lines ++ codes " lines\n")
@@ -54,6 +60,7 @@ message_of Usage = codes "dressline: words not taken\n"
 message_of (Refused fault) = fault_line fault
 message_of (RefusedSymbol refusal) = refusal_line refusal
 message_of (RefusedCheck fault) = check_line fault
+message_of (RefusedMerge refusal) = merge_line refusal
 message_of (Paused lines) = pause_line lines
 message_of StoreFault = codes "dressline: store failed\n"
 message_of SinkFault = codes "dressline: sink failed\n"

@@ -5,6 +5,7 @@
 mod ending;
 mod fetching;
 mod file;
+mod merging;
 mod status;
 mod task;
 mod telling;
@@ -13,6 +14,7 @@ mod words;
 pub use ending::Ending;
 pub use fetching::fetch_all;
 pub use file::{write_file, write_text};
+pub use merging::write_merge;
 pub use status::Status;
 pub use task::Task;
 pub use telling::tell;

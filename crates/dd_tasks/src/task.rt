@@ -1,7 +1,7 @@
 use dd_commands::FileCommand;
 use dd_jobs::Portion;
 use dd_pages::Pace;
-use dd_words::Name;
+use dd_words::{Name, Names};
 
 /// What the program does.
 #[derive(Drop)]
@@ -24,6 +24,8 @@ pub enum Task {
     },
     /// A command on the file of a name.
     OnFile(FileCommand, Name),
+    /// The symbols of the files of some names, in one list.
+    Merge(Names),
     /// So many items of an exercise from a number on.
     Exercise {
         start: u32,

@@ -56,6 +56,7 @@ fn task_of(command: Command) -> Task
             Task::OnFile(FileCommand::Symbols(SymbolCommand::Applied(word)), file)
         }
         Command::Draw { file, frame } => Task::OnFile(FileCommand::Draw(frame), file),
+        Command::Merge { files } => Task::Merge(files),
         Command::Exercise { start, count } => Task::Exercise { start, count },
     }
 }

@@ -24,6 +24,7 @@ words_for verb.Resume ws = refl
 words_for verb.Draw ws = refl
 words_for verb.Exercise ws = refl
 words_for verb.Apply ws = refl
+words_for verb.Merge ws = refl
 words_for (verb.File kind) ws = refl
 
 abbrev built_app : List Rule → App

@@ -201,4 +201,5 @@ module _ (gs hs : List Given) (m : SameValues gs hs) where
   said (command.Draw file frame) (word ∷ x ∷ xs) h = elim h [ ]
   said (command.Exercise start count) xs h = h
   said (command.Apply word file) xs h = h
+  said (command.Merge files) xs h = h
   said (command.File kind file) xs h = h

@@ -149,7 +149,12 @@ module _ (gs : List Given) (single : AreSingle gs) where
   value_plain (command.Draw file frame) (n ∷ m ∷ ns) h s x o v has = elim h [ ]
   value_plain (command.Exercise start count) xs h s x o v has = absurd (cc)
   value_plain (command.Apply word file) xs h s x o v has = absurd (cc)
+  value_plain (command.Merge files) xs h s x o v has = absurd (cc)
   value_plain (command.File kind file) xs h s x o v has = absurd (cc)
+
+names_plain : (ws : List Text) → AllByRecursion IsName ws → AllByRecursion IsPlain ws
+names_plain [] all = tt
+names_plain (w ∷ ws) all = (name_plain w all.0, names_plain ws all.1)
 
 -- the arguments
 pub argument_plain : (c : Command) (xs : List Text) (gs : List Given) → IsSaid c xs gs → AllByRecursion IsPlain xs
@@ -170,6 +175,7 @@ argument_plain (command.Apply w file) (first ∷ second ∷ []) gs h = (op_word_
 argument_plain (command.Apply w file) [] gs h = tt
 argument_plain (command.Apply w file) (n ∷ []) gs h = elim h [ ]
 argument_plain (command.Apply w file) (n ∷ m ∷ o ∷ ns) gs h = elim h [ ]
+argument_plain (command.Merge files) xs gs h = names_plain xs h.are_names
 argument_plain (command.File kind file) (word ∷ []) gs h = (name_plain word (subst IsName (sym h.same) h.is_name), tt)
 argument_plain (command.File kind file) [] gs h = tt
 argument_plain (command.File kind file) (n ∷ m ∷ ns) gs h = elim h [ ]

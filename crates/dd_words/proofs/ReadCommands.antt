@@ -1,5 +1,5 @@
 -- What a verb, its arguments and settings ask for.
-use Rattle.std.proofs.Common.{◌≡◌, ◌≤◌, ◌<◌, ℕ, List, [], ◌∷◌, length, get_or, Option, Some, None, Bool, true, not, Bor, rules, refl, sym, ◌∙◌, subst, arith}
+use Rattle.std.proofs.Common.{◌≡◌, ◌≤◌, ◌<◌, ℕ, zero, suc, List, [], ◌∷◌, length, get_or, Option, Some, None, Bool, true, not, Bor, rules, refl, sym, ap, ◌∙◌, subst, arith}
 use Rattle.std.specs.Prelude.{IsSome, is_some}
 use Rattle.dd_model.specs.declared.requests.Request.{Request}
 use Rattle.dd_model.proofs.Lists.{cons_head, cons_tail}
@@ -12,11 +12,12 @@ use Rattle.dd_words.specs.declared.commands.FileKind.{FileKind}
 use Rattle.dd_words.specs.declared.settings.Setting.TheVariants.{Pause, Checkpoint}
 use Rattle.dd_words.specs.declared.verbs.Verb.{Verb}
 use Rattle.dd_words.specs.declared.verbs.Verb.TheVariants as verb
-use Rattle.dd_words.specs.Values.{Text}
+use Rattle.std.specs.List.{AllByRecursion}
+use Rattle.dd_words.specs.Values.{Text, IsName}
 use Rattle.dd_words.specs.Layout.{IsLaid}
 use Rattle.dd_words.specs.Given.{Given, AreSingle}
 use Rattle.dd_words.specs.Laying.{texts}
-use Rattle.dd_words.specs.Grammar.{IsCatalogue, IsResumed, IsDrawn, IsRequested, IsSaid, IsCommand}
+use Rattle.dd_words.specs.Grammar.{IsCatalogue, IsResumed, IsDrawn, AreMerged, IsRequested, IsSaid, IsCommand}
 use Rattle.dd_words.specs.GivenValues.{IsNumberIfGiven, IsNameIfGiven}
 use Rattle.dd_words.specs.FirstWords.{first_word, verb_of}
 use Rattle.dd_words.specs.Reading.{IsReadAs}
@@ -58,6 +59,16 @@ pub no_drawing : (xs : List Text) (ss : List Given) (w : Text) → xs ≡ w ∷ 
     → (c : Command) → IsReadAs verb.Draw xs ss c → ⊥
 no_drawing xs ss w e none (command.Draw file frame) h = none file frame (subst (λ ys. IsSaid (command.Draw file frame) ys ss) e h.said)
 no_drawing xs ss w e none other h = let same = h.verb_is in absurd (cc)
+
+-- a word at a place of a list of names
+pub name_at : (ws : List (Bor Text)) (k : ℕ) (d : Bor Text) → k < length ws → AllByRecursion IsName (texts ws) → IsName (get_or ws k d).now
+name_at [] k d low all = absurd (omega arith)
+name_at (w ∷ ws) zero d low all = all.0
+name_at (w ∷ ws) (suc k) d low all = name_at ws k d (omega arith) all.1
+
+pub no_merge : (xs : List Text) (ss : List Given) → ((files : List Text) → AreMerged xs files → ⊥) → (c : Command) → IsReadAs verb.Merge xs ss c → ⊥
+no_merge xs ss none (command.Merge files) h = none files h.said
+no_merge xs ss none other h = let same = h.verb_is in absurd (cc)
 
 pub some_told : {A : Type 0} (o : Option A) → is_some o ≡ true → IsSome o
 some_told None e = absurd (cc)
@@ -159,6 +170,9 @@ one_application [] ss w v f k a b = absurd a
 one_application (x ∷ []) ss w v f k a b = absurd a
 one_application (x ∷ y ∷ z ∷ xs) ss w v f k a b = absurd a
 
+one_merge : (xs : List Text) (ss : List Given) (f k : List Text) → IsSaid (command.Merge f) xs ss → IsSaid (command.Merge k) xs ss → command.Merge f ≡ command.Merge k
+one_merge xs ss f k a b = ap command.Merge (sym a.same ∙ b.same)
+
 one_file : (xs : List Text) (ss : List Given) (g j : FileKind) (f k : Text) → g ≡ j → IsSaid (command.File g f) xs ss → IsSaid (command.File j k) xs ss
     → command.File g f ≡ command.File j k
 one_file (x ∷ []) ss g j f k kind a b =
@@ -176,6 +190,7 @@ one_said xs ss (command.Resume n w r o) (command.Resume k u s m) single e a b = 
 one_said xs ss (command.Draw f g) (command.Draw k j) single e a b = one_drawing xs ss f k g j single a b
 one_said xs ss (command.Exercise s n) (command.Exercise t m) single e a b = one_exercise xs ss s n t m a b
 one_said xs ss (command.Apply w f) (command.Apply v k) single e a b = one_application xs ss w v f k a b
+one_said xs ss (command.Merge f) (command.Merge k) single e a b = one_merge xs ss f k a b
 one_said xs ss (command.File g f) (command.File j k) single e a b = one_file xs ss g j f k (same_kind g j e) a b
 one_said xs ss c d single e a b = absurd (cc)
 

@@ -35,6 +35,7 @@ first_word verb.Resume = codes "resume"
 first_word verb.Draw = codes "draw"
 first_word verb.Exercise = codes "exercise"
 first_word verb.Apply = codes "apply"
+first_word verb.Merge = codes "merge"
 first_word (verb.File kind) = word_of_kind kind
 
 -- what a command does, without its values
@@ -44,4 +45,5 @@ verb_of (command.Resume name workers round pause) = verb.Resume
 verb_of (command.Draw file frame) = verb.Draw
 verb_of (command.Exercise start count) = verb.Exercise
 verb_of (command.Apply word file) = verb.Apply
+verb_of (command.Merge files) = verb.Merge
 verb_of (command.File kind file) = verb.File kind

@@ -1,5 +1,6 @@
 -- Which words ask for which command.
-use Rattle.std.specs.Prelude.{◌≡◌, ℕ, List, [], ◌∷◌, Option, IsSome}
+use Rattle.std.specs.Prelude.{◌≡◌, ℕ, ◌≤◌, List, [], ◌∷◌, length, Option, IsSome}
+use Rattle.std.specs.List.{AllByRecursion}
 use Rattle.dd_model.specs.declared.requests.Request.{Request}
 use Rattle.dd_words.specs.declared.settings.Setting.TheVariants.{Tiles, Vertices, LeastFace, LeastDegree, Faces, Degrees, Minimal, Workers, Round, Pause, Checkpoint}
 use Rattle.dd_model.specs.declared.frame.Frame.{Frame}
@@ -58,6 +59,13 @@ pub record IsApplied (first second : Text) (word : OpWord) (file : Text) : Type 
   pub same : second ≡ file
   pub is_name : IsName file
 
+-- the arguments of a merge, one to eight files
+pub record AreMerged (arguments files : List Text) : Type 0 where
+  pub same : arguments ≡ files
+  pub some : 1 ≤ length arguments
+  pub few : length arguments ≤ 8
+  pub are_names : AllByRecursion IsName arguments
+
 -- the argument of a command on a file
 pub record IsOnFile (word file : Text) : Type 0 where
   pub same : word ≡ file
@@ -81,6 +89,7 @@ IsSaid (command.Resume name workers round pause) arguments settings = OnOne argu
 IsSaid (command.Draw file frame) arguments settings = OnOne arguments (λ word. IsDrawn word settings file frame)
 IsSaid (command.Exercise start count) arguments settings = OnTwo arguments (λ first second. IsExercise first second start count)
 IsSaid (command.Apply word file) arguments settings = OnTwo arguments (λ first second. IsApplied first second word file)
+IsSaid (command.Merge files) arguments settings = AreMerged arguments files
 IsSaid (command.File kind file) arguments settings = OnOne arguments (λ word. IsOnFile word file)
 
 -- the words ask for the command

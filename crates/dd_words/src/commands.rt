@@ -1,4 +1,4 @@
-use crate::names::Name;
+use crate::names::{Name, Names};
 use dd_model::{Frame, Request};
 use dd_opword::OpWord;
 use dd_template::Operation;
@@ -73,6 +73,11 @@ pub enum Command {
         word: OpWord,
         /// The file.
         file: Name,
+    },
+    /// One list of the symbols of files that ascend.
+    Merge {
+        /// The files, 1 to 8.
+        files: Names,
     },
     /// A command on the symbols of a file.
     File {

@@ -9,7 +9,7 @@ ghost use Rattle.dd_words.specs.Reading.{IsReadAs};
 
 use crate::commands::{Command, FileKind};
 use crate::fault::WordsFault;
-use crate::given::{frame_of, name_if_given, read_name};
+use crate::given::{frame_of, name_if_given, read_name, read_names};
 use crate::layouts::lay_out;
 use crate::requests::{read_request, read_run};
 use crate::settings::{Given, Setting};
@@ -24,6 +24,9 @@ const LAST_START: u32 = 2_147_483_647;
 
 /// The most items of an exercise.
 const MOST_ITEMS: u32 = 10_000;
+
+/// The most files of a merge.
+const MOST_FILES: usize = 8;
 
 /// The command that the words after the program's name ask for.
 pub fn read_words(alloc: Global, words: &[RcStr]) -> Result<Command, WordsFault>
@@ -72,6 +75,7 @@ fn read_command(
         Verb::Draw => read_drawing(alloc, arguments, settings),
         Verb::Exercise => read_exercise(arguments, settings),
         Verb::Apply => read_application(alloc, arguments, settings),
+        Verb::Merge => read_merge(alloc, arguments, settings),
         Verb::File(kind) => read_file(alloc, kind, arguments, settings),
     }
 }
@@ -198,6 +202,25 @@ fn read_application(
     };
     let file = read_name(alloc, file)?;
     Ok(Command::Apply { word, file })
+}
+
+/// A merge of the files of these arguments.
+fn read_merge(
+    alloc: Global,
+    arguments: &[&str],
+    settings: &[Given<'_>],
+) -> Result<Command, WordsFault>
+    requires { AreSingle (map given_of settings.now) }
+    ensures command { IfOk result
+        (IsReadAs Verb.Merge (texts arguments.now) (map given_of settings.now)) }
+    ensures not_taken { result ≡ Err WordsFault.NotTaken → (c : Command)
+        → IsReadAs Verb.Merge (texts arguments.now) (map given_of settings.now) c → ⊥ }
+{
+    if arguments.is_empty() || arguments.len() > MOST_FILES {
+        return Err(WordsFault::NotTaken);
+    }
+    let files = read_names(alloc, arguments)?;
+    Ok(Command::Merge { files })
 }
 
 /// A command on the file of these arguments.

@@ -17,6 +17,8 @@ pub enum Verb {
     Exercise,
     /// `apply`.
     Apply,
+    /// `merge`.
+    Merge,
     /// A command on the symbols of a file.
     File(FileKind),
 }
@@ -33,6 +35,7 @@ impl Verb {
             "draw" => Some(Verb::Draw),
             "exercise" => Some(Verb::Exercise),
             "apply" => Some(Verb::Apply),
+            "merge" => Some(Verb::Merge),
             "canon" => Some(Verb::File(FileKind::Canon)),
             "lines" => Some(Verb::File(FileKind::Lines)),
             "info" => Some(Verb::File(FileKind::Info)),

@@ -1,0 +1,5 @@
+pub mod AscendingLists
+mod TaggedMembers
+mod KeptPairs
+mod SortedMembers
+mod LeastDoubles

@@ -1,0 +1,12 @@
+//! Shards of a catalogue, and how the texts of shards are joined.
+#![tactic(auto)]
+
+mod ascending;
+mod doubles;
+mod member;
+mod members;
+mod merge_fault;
+mod merging;
+
+pub use merge_fault::MergeFault;
+pub use merging::merge;
