@@ -4,6 +4,7 @@ pub mod ChainStops
 pub mod ReadingBack
 pub mod ShardTexts
 pub mod ShardReads
+pub mod KindFaults
 pub mod ChainParts
 mod ChainSteps
 pub mod Chained

@@ -1,5 +1,5 @@
 -- Which texts begin with the line of a shard.
-use Rattle.std.proofs.Common.{◌≡◌, ◌≢◌, ◌↔◌, IsTrue, ℕ, zero, suc, ◌+◌, ◌-◌, ◌*◌, ◌<◌, ◌≤◌, min, Bool, true, false, Result, Ok, Err, ⊎_elim, List, [], ◌∷◌, ◌++◌, length, get_or, take, drop, append_assoc, Option, None, Some, refl, sym, ap, ◌∙◌, subst, inl, inr, arith}
+use Rattle.std.proofs.Common.{◌≡◌, ◌≢◌, ◌↔◌, IsTrue, ℕ, zero, suc, ◌+◌, ◌-◌, ◌*◌, ◌<◌, ◌≤◌, min, Bool, Result, Ok, ⊎_elim, List, [], ◌∷◌, ◌++◌, length, get_or, take, drop, append_assoc, Option, None, Some, refl, sym, ap, ◌∙◌, subst, inl, inr, arith}
 use Rattle.std.proofs.lemmas.Bool.{cases_lt}
 use Rattle.std.proofs.lemmas.List.{append_cancel_left, take_all}
 use Rattle.std.proofs.Math.Seq.{take-length, take-suc}
@@ -14,7 +14,6 @@ use Rattle.dd_model.specs.declared.requests.Request.{Request}
 use Rattle.dd_model.proofs.Lists.{Contains-head, Contains-later, Contains-one}
 use Rattle.dd_jobs.specs.declared.shards.Shard.{Shard}
 use Rattle.dd_jobs.specs.Shards.{IsShardJob, IsShardOpening}
-use Rattle.dd_jobs.specs.ShardNumbers.{AreShardNumbers, HasNumbers}
 use Rattle.dd_check.specs.declared.checkpoint.Checkpoint.{Checkpoint}
 use Rattle.dd_check.specs.declared.faults.CheckFault.{CheckFault}
 use Rattle.dd_check.specs.Texts.{Text}
@@ -53,6 +52,9 @@ line_bytes shard rest =
     let count = one_digit shard.count (omega (arith, few)) in
     let words : line_words shard ≡ shard_words ++ (48 + shard.index) ∷ 32 ∷ (48 + shard.count) ∷ [] = λ i. shard_words ++ (index i ++ 32 ∷ count i) in
     append_assoc (line_words shard) (10 ∷ []) rest ∙ ap (λ ws. ws ++ 10 ∷ rest) words
+
+pub line_length : (shard : Shard) (rest : Text) → length (shard_line shard ++ rest) ≡ 20 + length rest
+line_length shard rest = let n = ap length (line_bytes shard rest) in omega (arith, n)
 
 -- the words of the line come first
 words_first : (shard : Shard) (text rest : Text) → IsRest shard text rest → text ≡ shard_words ++ number_bytes shard rest

@@ -5,6 +5,7 @@ mod chain_laws;
 mod checkpoint;
 mod faults;
 mod items;
+mod kinds;
 mod limits;
 mod line_reading;
 mod lines;
@@ -31,6 +32,7 @@ pub use chain_laws::{
 };
 pub use checkpoint::Checkpoint;
 pub use faults::CheckFault;
+pub use kinds::Kind;
 pub use reading::read_checkpoint;
 pub use shard_faults::ShardFault;
 pub use shard_reading::read_shard;

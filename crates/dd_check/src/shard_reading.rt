@@ -77,12 +77,7 @@ fn shard_of(index: u8, count: u8) -> Option<Shard>
 }
 
 /// Returns whether a position is the end, or has a job of a shard as its first numbers.
-fn is_shard_place(
-    alloc: Global,
-    q: &Request,
-    shard: Shard,
-    at: &Position,
-) -> Result<bool, Memory>
+fn is_shard_place(alloc: Global, q: &Request, shard: Shard, at: &Position) -> Result<bool, Memory>
     requires { IsValid q.now }
     ensures { IfOk result (λ answer. IsTrue answer ↔ IsShardPlace q.now shard at.now) }
 {

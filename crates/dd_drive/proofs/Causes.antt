@@ -11,7 +11,8 @@ use Rattle.dd_ports.specs.Sinks.{memory_sink_held}
 use Rattle.dd_ports.specs.declared.memory_sink.MemorySink.{MemorySink}
 use Rattle.dd_check.specs.Between.{AreLinesBetween}
 use Rattle.dd_jobs.specs.Portions.{whole}
-use Rattle.dd_check.specs.Calls.{Catalogues, Begin, Resume}
+use Rattle.dd_check.specs.declared.kinds.Kind.TheVariants.{Catalogues}
+use Rattle.dd_check.specs.Calls.{Begin, Resume}
 use Rattle.dd_check.specs.ChainStarts.{Start, StartsAt}
 use Rattle.dd_check.proofs.LinesUpTo.{joined_between}
 use Rattle.dd_check.proofs.Lone.{none_asked}

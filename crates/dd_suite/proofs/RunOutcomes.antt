@@ -9,7 +9,9 @@ use Rattle.dd_check.specs.Accepted.{IsCheckpointText}
 use Rattle.dd_check.specs.ShardChecks.{IsAcceptedText}
 use Rattle.dd_check.proofs.Exclusion.{no_fault as never_both}
 use Rattle.dd_jobs.specs.Portions.{IsPortionText}
-use Rattle.dd_check.specs.Calls.{Kind, Catalogues, Shards, kind_of, Task, Begin, Resume}
+use Rattle.dd_check.specs.declared.kinds.Kind.{Kind}
+use Rattle.dd_check.specs.declared.kinds.Kind.TheVariants.{Catalogues, Shards}
+use Rattle.dd_check.specs.Calls.{kind_of, Task, Begin, Resume}
 use Rattle.dd_check.specs.ChainStarts.{Start}
 use Rattle.dd_pages.specs.declared.fault.RunFault.{RunFault}
 use Rattle.dd_pages.specs.declared.fault.RunFault.TheVariants as fault

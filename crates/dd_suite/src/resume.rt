@@ -1,5 +1,6 @@
 ghost use Rattle.std.specs.Prelude.{◌≡◌, ◌≤◌, IfOk, IfErr, IsSome, None, true};
-ghost use Rattle.dd_check.specs.Calls.{Catalogues, Resume};
+ghost use Rattle.dd_check.specs.declared.kinds.Kind.TheVariants.{Catalogues};
+ghost use Rattle.dd_check.specs.Calls.{Resume};
 ghost use Rattle.dd_ports.specs.Texts.{SameTexts};
 ghost use Rattle.dd_check.specs.Accepted.{IsCheckpointText};
 ghost use Rattle.dd_check.specs.ChainStarts.{next_start};

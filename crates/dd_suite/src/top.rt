@@ -7,7 +7,7 @@ ghost use Rattle.dd_ports.specs.Texts.{SameTexts};
 ghost use Rattle.dd_model.specs.Symbol.{Symbol};
 ghost use Rattle.dd_jobs.specs.declared.portions.Portion.{Portion};
 ghost use Rattle.dd_jobs.specs.Portions.{ArePortionMembers};
-ghost use Rattle.dd_check.specs.Calls.{Kind};
+ghost use Rattle.dd_check.specs.declared.kinds.Kind.{Kind};
 ghost use Rattle.dd_pages.specs.Runs.{most_lines};
 ghost use Rattle.dd_tasks.specs.Words.{Order, AskForRun, AskFor, AskToResume, NameFile, AreTaken};
 ghost use Rattle.dd_tasks.specs.Beginnings.{HoldsSomeCheck};

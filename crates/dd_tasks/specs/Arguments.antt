@@ -3,7 +3,7 @@ use Rattle.std.specs.Prelude.{◌≡◌, ◌⊎◌, ℕ, List, Option, Some, Boo
 use Rattle.dd_model.specs.Symbol.{Symbol}
 use Rattle.dd_model.specs.Reading.{Reads}
 use Rattle.dd_check.specs.declared.faults.CheckFault.{CheckFault}
-use Rattle.dd_check.specs.Calls.{Kind}
+use Rattle.dd_check.specs.declared.kinds.Kind.{Kind}
 use Rattle.dd_check.specs.ChainStarts.{HoldsKind}
 use Rattle.dd_text.specs.declared.faults.FileFault.{FileFault}
 use Rattle.dd_commands.specs.declared.commands.FileCommand.{FileCommand}

@@ -6,7 +6,7 @@ use Rattle.dd_model.specs.declared.jobs.Position.TheVariants.{End}
 use Rattle.dd_jobs.specs.declared.portions.Portion.{Portion}
 use Rattle.dd_jobs.specs.Portions.{IsPortionText}
 use Rattle.dd_check.specs.Between.{AreLinesBetween}
-use Rattle.dd_check.specs.Calls.{Kind}
+use Rattle.dd_check.specs.declared.kinds.Kind.{Kind}
 use Rattle.dd_check.specs.ChainStarts.{Start}
 use Rattle.dd_commands.specs.declared.commands.FileCommand.{FileCommand}
 use Rattle.dd_pages.specs.Runs.{most_lines}

@@ -7,7 +7,9 @@ use Rattle.dd_words.specs.declared.commands.Command.TheVariants as command
 use Rattle.dd_words.specs.declared.commands.FileKind.TheVariants as kind
 use Rattle.dd_jobs.specs.declared.shards.Shard.{Shard}
 use Rattle.dd_jobs.specs.declared.portions.Portion.{Portion}
-use Rattle.dd_check.specs.Calls.{Kind, Catalogues, Shards, Task, Begin, Resume}
+use Rattle.dd_check.specs.declared.kinds.Kind.{Kind}
+use Rattle.dd_check.specs.declared.kinds.Kind.TheVariants.{Catalogues, Shards}
+use Rattle.dd_check.specs.Calls.{Task, Begin, Resume}
 use Rattle.dd_commands.specs.declared.commands.FileCommand.{FileCommand}
 use Rattle.dd_commands.specs.declared.commands.FileCommand.TheVariants.{Symbols, Info, Sheets, Draw}
 use Rattle.dd_commands.specs.declared.commands.SymbolCommand.{SymbolCommand}

@@ -1,4 +1,4 @@
-use Rattle.std.proofs.Common.{◌*◌, min, ap, sym, ◌∙◌, arith}
+use Rattle.std.proofs.Common.{◌*◌, min, arith}
 use Rattle.dd_check.proofs.ShardReads.{first_numbers, listed_jobs}
 use Rattle.dd_check.proofs.shard_reading.is_shard_job.Goals as goal
 

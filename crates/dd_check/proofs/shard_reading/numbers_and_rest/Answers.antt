@@ -1,4 +1,4 @@
-use Rattle.std.proofs.Common.{get_or, length, take, drop, ◌-◌, ap, sym, ◌∙◌, ◌≡◌, ◌∷◌, ◌+◌, arith}
+use Rattle.std.proofs.Common.{get_or, length, take, drop, ◌-◌, ap, ◌∙◌, ◌≡◌, ◌∷◌, arith}
 use Rattle.std.proofs.lemmas.Bool.Decides.{nat_tests}
 use Rattle.dd_check.proofs.ShardReads.{rest_after, after_rest, four_bytes}
 use Rattle.dd_check.proofs.shard_reading.numbers_and_rest.Goals.{then-space-ne32-via-then-space-ne32, then-space-ne32-via-else-space-ne32+then-feed-ne10}
@@ -14,8 +14,8 @@ pub returns-then-space-ne32 : goal.returns-then-space-ne32
 returns-then-space-ne32 c shard rest is =
     let e = rest_after shard c.args.bytes.now rest is in
     elim c.then-space-ne32.branch [
-      then-space-ne32-via-then-space-ne32 w ↦ let p = ap (λ ys. get_or ys 1 0) e in let h = w.if-space-ne32 in grind (arith, nat_tests)
-    | then-space-ne32-via-else-space-ne32+then-feed-ne10 w ↦ let p = ap (λ ys. get_or ys 3 0) e in let h = w.if-feed-ne10 in grind (arith, nat_tests)
+      | then-space-ne32-via-then-space-ne32 w ↦ let p = ap (λ ys. get_or ys 1 0) e in let h = w.if-space-ne32 in grind (arith, nat_tests)
+      | then-space-ne32-via-else-space-ne32+then-feed-ne10 w ↦ let p = ap (λ ys. get_or ys 3 0) e in let h = w.if-feed-ne10 in grind (arith, nat_tests)
     ]
 
 pub returns-in_default-shard_of : goal.returns-in_default-shard_of

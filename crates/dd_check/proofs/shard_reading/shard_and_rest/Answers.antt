@@ -10,5 +10,5 @@ use Rattle.dd_check.proofs.shard_reading.shard_and_rest.Goals as goal
 pub returns : goal.returns
 returns c =
     let is : c.args.bytes.now ≡ shard_words ++ c.in_ok-strip_prefix.field-0.now =
-        strip_prefix_is Decides-eqb c.args.bytes.now shard_words (Some c.in_ok-strip_prefix.field-0) c.in_ok-strip_prefix.ensures.cases in
+    strip_prefix_is Decides-eqb c.args.bytes.now shard_words (Some c.in_ok-strip_prefix.field-0) c.in_ok-strip_prefix.ensures.cases in
     subst (λ text. MatchOption c.numbers_and_rest.result ((shard : Shard) (rest : Text) → IsRest shard text rest → ⊥) (λ told. IsRest told.0 text told.1.now)) (sym is) c.numbers_and_rest.ensures

@@ -1,6 +1,7 @@
 use Rattle.std.proofs.Common.{ℕ, List, None, Some, IsSome, map, refl, sym, subst}
 use Rattle.std.specs.Rc.{rc_str_bytes}
-use Rattle.dd_check.specs.Calls.{Catalogues, Begin, Resume as Next}
+use Rattle.dd_check.specs.declared.kinds.Kind.TheVariants.{Catalogues}
+use Rattle.dd_check.specs.Calls.{Begin, Resume as Next}
 use Rattle.dd_tasks.specs.declared.task.Task.TheVariants.{Alone, Kept, Resume, OnFile, Exercise}
 use Rattle.dd_tasks.specs.Outcomes.{IsRunOutcome}
 use Rattle.dd_tasks.specs.Outside.{Before, After}
