@@ -2,7 +2,7 @@
 use Rattle.std.specs.Prelude.{◌≡◌, ◌⊎◌, ℕ, List, Option, Some, Bool, true, IsSome}
 use Rattle.dd_model.specs.Symbol.{Symbol}
 use Rattle.dd_model.specs.Reading.{Reads}
-use Rattle.dd_check.specs.declared.faults.CheckFault.{CheckFault}
+use Rattle.dd_check.specs.declared.shard_faults.ShardFault.{ShardFault}
 use Rattle.dd_check.specs.declared.kinds.Kind.{Kind}
 use Rattle.dd_check.specs.ChainStarts.{HoldsKind}
 use Rattle.dd_text.specs.declared.faults.FileFault.{FileFault}
@@ -35,7 +35,7 @@ pub record NameRefused (words : List (List ℕ)) (tells : Bool) (held : List ℕ
 abbrev pub AreRefused : List (List ℕ) → Bool → (List ℕ → Option (List ℕ)) → Type 0
 AreRefused words tells held =
     ((fault : FileFault) × NameFaulty words tells held fault)
-    ⊎ (((r : SymbolRefusal) × NameRefused words tells held r) ⊎ (((fault : CheckFault) × NameNoCheck words tells held fault)
+    ⊎ (((r : SymbolRefusal) × NameRefused words tells held r) ⊎ (((fault : ShardFault) × NameNoCheck words tells held fault)
     ⊎ ((r : MergeRefusal) × NameUnmerged words tells held r)))
 
 -- the store holds the file that the words name, if they name one, the name that they go on from, and the files that they merge

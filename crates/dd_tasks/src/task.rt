@@ -1,3 +1,4 @@
+use dd_check::Kind;
 use dd_commands::FileCommand;
 use dd_jobs::Portion;
 use dd_pages::Pace;
@@ -16,8 +17,9 @@ pub enum Task {
         pace: Pace,
         pause: Option<u32>,
     },
-    /// Going on from the checkpoint of a name, in the same way.
+    /// Going on from the checkpoint of a name, of a catalogue or of a shard, in the same way.
     Resume {
+        kind: Kind,
         name: Name,
         pace: Pace,
         pause: Option<u32>,

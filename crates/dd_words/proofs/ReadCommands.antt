@@ -19,7 +19,7 @@ use Rattle.dd_words.specs.Values.{Text, IsName}
 use Rattle.dd_words.specs.Layout.{IsLaid}
 use Rattle.dd_words.specs.Given.{Given, AreSingle}
 use Rattle.dd_words.specs.Laying.{texts}
-use Rattle.dd_words.specs.Grammar.{IsCatalogue, HasNoCatalogue, IsShardOf, IsSharded, IsResumed, IsDrawn, AreMerged, IsRequested, IsSaid, IsCommand}
+use Rattle.dd_words.specs.Grammar.{IsCatalogue, IsSharded, IsResumed, IsDrawn, AreMerged, IsRequested, IsSaid, IsCommand}
 use Rattle.dd_words.specs.GivenValues.{IsNumberIfGiven, IsNameIfGiven}
 use Rattle.dd_words.specs.FirstWords.{first_word, verb_of}
 use Rattle.dd_words.specs.Reading.{IsReadAs}
@@ -36,6 +36,21 @@ one_text (x ∷ y ∷ xs) d low high = absurd (omega arith)
 pub record IsOneText (xs : List (Bor Text)) : Type 0 where
   pub text : Text
   pub is : texts xs ≡ text ∷ []
+
+-- lists of three texts
+pub two_and_third : (xs : List (Bor Text)) (d e : Bor Text) → 3 ≤ length xs → length xs < 4 → (third : Text) × (texts xs ≡ (get_or xs 0 d).now ∷ (get_or xs 1 e).now ∷ third ∷ [])
+two_and_third (x ∷ y ∷ z ∷ []) d e low high = (z.now, refl)
+two_and_third [] d e low high = absurd (omega arith)
+two_and_third (x ∷ []) d e low high = absurd (omega arith)
+two_and_third (x ∷ y ∷ []) d e low high = absurd (omega arith)
+two_and_third (x ∷ y ∷ z ∷ v ∷ xs) d e low high = absurd (omega arith)
+
+pub two_before_third : (xs : List (Bor Text)) (f : Bor Text) → 3 ≤ length xs → length xs < 4 → (first : Text) × (second : Text) × (texts xs ≡ first ∷ second ∷ (get_or xs 2 f).now ∷ [])
+two_before_third (x ∷ y ∷ z ∷ []) f low high = (x.now, y.now, refl)
+two_before_third [] f low high = absurd (omega arith)
+two_before_third (x ∷ []) f low high = absurd (omega arith)
+two_before_third (x ∷ y ∷ []) f low high = absurd (omega arith)
+two_before_third (x ∷ y ∷ z ∷ v ∷ xs) f low high = absurd (omega arith)
 
 pub some_one_text : (xs : List (Bor Text)) → 1 ≤ length xs → length xs < 2 → IsOneText xs
 some_one_text [] low high = absurd (omega arith)

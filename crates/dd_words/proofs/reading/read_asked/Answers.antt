@@ -3,8 +3,8 @@ use Rattle.dd_words.specs.Settings.{given_of}
 use Rattle.dd_words.proofs.ReadCommands.{no_checkpoint, some_told, none_told}
 use Rattle.dd_words.proofs.reading.read_asked.Goals as goal
 
-pub returns-in_default-read_request-clause-not_taken : goal.returns-in_default-read_request-clause-not_taken
-returns-in_default-read_request-clause-not_taken c _ q workers round pause checkpoint h = c.in_default-read_request.ensures.none q h.request
+pub returns-in_default-clause-not_taken : goal.returns-in_default-clause-not_taken
+returns-in_default-clause-not_taken c _ q workers round pause checkpoint h = c.in_default.ensures.none q h.request
 
 pub returns-in_default-read_run-clause-not_taken : goal.returns-in_default-read_run-clause-not_taken
 returns-in_default-read_run-clause-not_taken c _ q workers round pause checkpoint h = c.in_default-read_run.ensures.none workers round pause h.run

@@ -1,0 +1,11 @@
+use Rattle.std.proofs.Common.{Err, map, ap}
+use Rattle.dd_words.specs.Laying.{texts}
+use Rattle.dd_words.specs.Settings.{given_of}
+use Rattle.dd_words.proofs.Faults.{same_fault}
+use Rattle.dd_words.proofs.ReadCommands.{one_text, no_catalogue}
+use Rattle.dd_words.proofs.reading.read_catalogue.Goals as goal
+
+pub returns-in_err-asked-clause-not_taken : goal.returns-in_err-asked-clause-not_taken
+returns-in_err-asked-clause-not_taken c failed =
+    no_catalogue (texts c.args.arguments.now) (map given_of c.args.settings.now) _ (one_text c.args.arguments.now _ c.in-len1.len_at_least c.in-len1.len_below)
+    (c.in_err-asked.ensures.not_taken (ap Err (same_fault c.from_residual.result c.in_err-asked.field-0.0 c.from_residual.ensures.1 failed)))
