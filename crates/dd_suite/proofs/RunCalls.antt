@@ -111,19 +111,19 @@ module _ (s : Start) (name : List ℕ) (round : ℕ) (pause : Option ℕ) (befor
 
 -- ## Calls that never began to run
 
-pub stopped_outcome : (ending : Ending) (name : List ℕ) (round : ℕ) (pause : Option ℕ) (before : Before) (after : After)
-    → IsHeldStop ending before.tells (before.held name) before.store_faults after.store_faults → WritesNothing before after → KeepsNames before after
-    → IsRunOutcome (record { task = Resume Catalogues name; round = round; pause = pause }) ending before after
-stopped_outcome Done name round pause before after c nothing same = absurd c
-stopped_outcome Usage name round pause before after c nothing same = absurd c
-stopped_outcome (Refused fault) name round pause before after c nothing same = absurd c
-stopped_outcome (RefusedSymbol refusal) name round pause before after c nothing same = absurd c
-stopped_outcome (RefusedCheck fault) name round pause before after c nothing same = inr (record { not_run = record { stopped = tt; nothing = nothing; same = same }; cause = c })
-stopped_outcome (Paused lines) name round pause before after c nothing same = absurd c
-stopped_outcome StoreFault name round pause before after c nothing same = inr (record { not_run = record { stopped = tt; nothing = nothing; same = same }; cause = c })
-stopped_outcome SinkFault name round pause before after c nothing same = absurd c
-stopped_outcome Memory name round pause before after c nothing same = inr (record { not_run = record { stopped = tt; nothing = nothing; same = same }; cause = c })
-stopped_outcome TooManyLines name round pause before after c nothing same = absurd c
+pub stopped_outcome : (kind : Kind) (ending : Ending) (name : List ℕ) (round : ℕ) (pause : Option ℕ) (before : Before) (after : After)
+    → IsHeldStop kind ending before.tells (before.held name) before.store_faults after.store_faults → WritesNothing before after → KeepsNames before after
+    → IsRunOutcome (record { task = Resume kind name; round = round; pause = pause }) ending before after
+stopped_outcome kind Done name round pause before after c nothing same = absurd c
+stopped_outcome kind Usage name round pause before after c nothing same = absurd c
+stopped_outcome kind (Refused fault) name round pause before after c nothing same = absurd c
+stopped_outcome kind (RefusedSymbol refusal) name round pause before after c nothing same = absurd c
+stopped_outcome kind (RefusedCheck fault) name round pause before after c nothing same = inr (record { not_run = record { stopped = tt; nothing = nothing; same = same }; cause = c })
+stopped_outcome kind (Paused lines) name round pause before after c nothing same = absurd c
+stopped_outcome kind StoreFault name round pause before after c nothing same = inr (record { not_run = record { stopped = tt; nothing = nothing; same = same }; cause = c })
+stopped_outcome kind SinkFault name round pause before after c nothing same = absurd c
+stopped_outcome kind Memory name round pause before after c nothing same = inr (record { not_run = record { stopped = tt; nothing = nothing; same = same }; cause = c })
+stopped_outcome kind TooManyLines name round pause before after c nothing same = absurd c
 
 -- ## Runs without a name
 

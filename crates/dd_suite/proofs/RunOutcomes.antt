@@ -2,7 +2,9 @@
 use Rattle.std.proofs.Common.{◌≡◌, ◌⊎◌, ℕ, List, true, Option, Some, None, Result, Err, IfOk, inl, inr, refl, sym, ap, ◌∙◌, subst}
 use Rattle.dd_ports.specs.Causes.{Rose}
 use Rattle.dd_ports.specs.Grows.{GrowsByPrefix}
-use Rattle.dd_check.specs.declared.faults.CheckFault.{CheckFault}
+use Rattle.dd_check.specs.declared.shard_faults.ShardFault.{ShardFault}
+use Rattle.dd_check.specs.ShardFaults.{HasKindFault}
+use Rattle.dd_check.proofs.KindFaults.{no_kind_fault}
 use Rattle.dd_jobs.specs.declared.shards.Shard.{Shard}
 use Rattle.dd_check.specs.declared.checkpoint.Checkpoint.{Checkpoint}
 use Rattle.dd_check.specs.Accepted.{IsCheckpointText}
@@ -108,11 +110,10 @@ module _ (words : List (List ℕ)) (order : Order) (before : Before) (after : Af
 
   -- ## Calls that never began to run
 
-  check_refused : (task : Task) (round : ℕ) (pause : Option ℕ) (fault : CheckFault) → AskForRun words (record { task = task; round = round; pause = pause }) → IsCheckRefused task before.tells before.held fault
-      → (name : List ℕ) × AskForRun words (record { task = Resume Catalogues name; round = round; pause = pause }) × HoldsNoCheck before.tells (before.held name) fault
+  check_refused : (task : Task) (round : ℕ) (pause : Option ℕ) (fault : ShardFault) → AskForRun words (record { task = task; round = round; pause = pause }) → IsCheckRefused task before.tells before.held fault
+      → NameNoCheck words before.tells before.held fault
   check_refused (Begin q name) round pause fault is c = absurd c
-  check_refused (Resume Catalogues name) round pause fault is c = (name, is, c)
-  check_refused (Resume Shards name) round pause fault is c = absurd c
+  check_refused (Resume kind name) round pause fault is c = record { kind = kind; name = name; asked = record { round = round; pause = pause; run = is }; holds = c }
 
   pub stop_refused : (ending : Ending) → StopsRun order ending before after → status_of ending ≡ status.Refused → AreRefused words before.tells before.held
   stop_refused Done stops e = absurd (cc)
@@ -120,20 +121,12 @@ module _ (words : List (List ℕ)) (order : Order) (before : Before) (after : Af
   stop_refused (Refused fault) stops e = absurd stops.cause
   stop_refused (RefusedSymbol refusal) stops e = absurd stops.cause
   stop_refused (RefusedCheck fault) stops e =
-      let is = check_refused order.task order.round order.pause fault asked stops.cause in
-      inr (inr (fault, record { name = is.0; asked = record { round = order.round; pause = order.pause; run = is.1 }; holds = is.2 }))
+      inr (inr (inl (fault, check_refused order.task order.round order.pause fault asked stops.cause)))
   stop_refused (Paused lines) stops e = absurd (cc)
   stop_refused StoreFault stops e = absurd (cc)
   stop_refused SinkFault stops e = absurd (cc)
   stop_refused Memory stops e = absurd (cc)
   stop_refused TooManyLines stops e = absurd (cc)
-
-  other_kind : Shards ≡ Catalogues → ⊥
-  other_kind e = cc
-
-  of_catalogue : (shard : Option Shard) (text : List ℕ) (c : Checkpoint) → kind_of shard ≡ Catalogues → IsAcceptedText shard text c → IsCheckpointText text c
-  of_catalogue None text c kind is = is
-  of_catalogue (Some shard) text c kind is = absurd (other_kind kind)
 
   pub stop_complete : (ending : Ending) → StopsRun order ending before after → IsCheckAccepted words before.tells before.held → (¬ Rose before.store_faults after.store_faults) → status_of ending ≡ status.Memory
   stop_complete Done stops accepted kept = absurd stops.cause
@@ -142,9 +135,11 @@ module _ (words : List (List ℕ)) (order : Order) (before : Before) (after : Af
   stop_complete (RefusedSymbol refusal) stops accepted kept = absurd stops.cause
   stop_complete (RefusedCheck fault) stops accepted kept =
       let is = check_refused order.task order.round order.pause fault asked stops.cause in
-      let ok = accepted Catalogues is.0 (record { round = order.round; pause = order.pause; run = is.1 }) in
-      let same : ok.1.holds.text ≡ is.2.bytes = some_injective ok.1.holds.text is.2.bytes (sym ok.1.holds.held_is ∙ is.2.fetched ok.0) in
-      absurd (never_both is.2.bytes ok.1.check fault (of_catalogue ok.1.shard is.2.bytes ok.1.check ok.1.kind_is (subst (λ b. IsAcceptedText ok.1.shard b ok.1.check) same ok.1.holds.accepted)) is.2.faulty)
+      let ok = accepted is.kind is.name is.asked in
+      let held = ok.1 in
+      let same : held.holds.text ≡ is.holds.bytes = some_injective held.holds.text is.holds.bytes (sym held.holds.held_is ∙ is.holds.fetched ok.0) in
+      absurd (no_kind_fault held.shard is.holds.bytes held.check fault (subst (λ b. IsAcceptedText held.shard b held.check) same held.holds.accepted)
+      (subst (λ kind. HasKindFault kind is.holds.bytes fault) (sym held.kind_is) is.holds.faulty))
   stop_complete (Paused lines) stops accepted kept = absurd stops.cause
   stop_complete StoreFault stops accepted kept = absurd (kept stops.cause)
   stop_complete SinkFault stops accepted kept = absurd stops.cause
@@ -157,8 +152,7 @@ module _ (words : List (List ℕ)) (order : Order) (before : Before) (after : Af
   stop_told (Refused fault) stops = absurd stops.cause
   stop_told (RefusedSymbol refusal) stops = absurd stops.cause
   stop_told (RefusedCheck fault) stops =
-      let is = check_refused order.task order.round order.pause fault asked stops.cause in
-      record { name = is.0; asked = record { round = order.round; pause = order.pause; run = is.1 }; holds = is.2 }
+      check_refused order.task order.round order.pause fault asked stops.cause
   stop_told (Paused lines) stops = absurd stops.cause
   stop_told StoreFault stops = tt
   stop_told SinkFault stops = tt
