@@ -112,6 +112,10 @@ NOT_TAKEN = (
     "apply t f g",
     "apply t f --cell square",
     "apply t -f",
+    "merge",
+    "merge -f",
+    "merge f --minimal",
+    "merge f f f f f f f f f",
 )
 
 FIRST_ROUND = "dressline checkpoint 2\nrun 1\nrequest 2 0 0 all\nfaces 3-216\ndegrees 3-216\nlines 3\nbytes 54\nat 2 1 1 2 2 2 1\n"
@@ -240,6 +244,35 @@ FILES = (
         "1 chambers 2 tiles 1 vertices 1 edges 1 curvature 0 orientation oriented group 442 minimal no\n"
         "total 442 1\n",
     ),
+)
+
+# Files, and the places of the symbols that a merge writes of them.
+EVEN = (0, 1, 2, 6, 9, 10, 11, 13, 14)
+ODD = (3, 4, 5, 7, 8, 12, 15, 16, 17)
+MERGES = (
+    ((EVEN, ODD), ALL),
+    ((ODD, EVEN), ALL),
+    ((ALL,), ALL),
+    (((),), ()),
+    (((), (2, 4), ()), (2, 4)),
+    (((7,), (6,), (5,), (4,), (3,), (2,), (1,), (0,)), tuple(range(8))),
+    (((0, 9, 17), (3, 4), (1, 10)), (0, 1, 3, 4, 9, 10, 17)),
+)
+
+# Files that are not merged, and why.
+STRAY = "<1.1;1"
+NOT_MERGED = (
+    (((0, 1, 2), (0, 1, 2)), "file 2: symbol 1 doubled"),
+    (((0, 0),), "file 1: symbol 2 not ascending"),
+    (((1, 0),), "file 1: symbol 2 not ascending"),
+    (((0, 1, 4), (2, 8), (5, 8, 1)), "file 3: symbol 3 not ascending"),
+    (((0, 1, 4), (2, 8), (5, 8)), "file 3: symbol 2 doubled"),
+    (((3, 7), (0, 7), (3, 5)), "file 2: symbol 2 doubled"),
+    (((0, 1), (0, 1), (4, 2)), "file 3: symbol 2 not ascending"),
+    (((8, 3), (4, 2)), "file 1: symbol 2 not ascending"),
+    (((2, 1), STRAY), "file 2: symbol 1 at 4: stray"),
+    ((STRAY, (0, 1), "#<"), "file 1: symbol 1 at 4: stray"),
+    (((0,), "<1:1,1,1:3,3><2"), "file 2: symbol 2 at 15: unexpected end"),
 )
 
 # What exercises write, and how one begins that is made twice.

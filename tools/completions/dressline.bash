@@ -4,7 +4,7 @@ _dressline() {
     local files="lines canon info minimal dual oriented torus sheets ambo truncate chamfer"
     COMPREPLY=()
     if [ "$COMP_CWORD" = 1 ]; then
-        COMPREPLY=($(compgen -W "catalogue resume draw apply exercise $files" -- "$word"))
+        COMPREPLY=($(compgen -W "catalogue resume draw apply merge exercise $files" -- "$word"))
         return
     fi
     case $before in

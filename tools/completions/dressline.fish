@@ -1,5 +1,5 @@
 # Completions of dressline for fish.
-set -l files lines canon info minimal dual oriented torus sheets draw ambo truncate chamfer apply resume
+set -l files lines canon info minimal dual oriented torus sheets draw ambo truncate chamfer apply merge resume
 complete -c dressline -f
 complete -c dressline -n __fish_use_subcommand -a catalogue -d 'the symbols of at most N chambers'
 complete -c dressline -n __fish_use_subcommand -a resume -d 'the lines that are left, from a checkpoint on'
@@ -16,6 +16,7 @@ complete -c dressline -n __fish_use_subcommand -a ambo -d 'a vertex on each edge
 complete -c dressline -n __fish_use_subcommand -a truncate -d 'each vertex cut off'
 complete -c dressline -n __fish_use_subcommand -a chamfer -d 'each edge made a hexagon'
 complete -c dressline -n __fish_use_subcommand -a apply -d 'one to three operations'
+complete -c dressline -n __fish_use_subcommand -a merge -d 'ascending files in one list'
 complete -c dressline -n __fish_use_subcommand -a exercise -d 'symbols made from a number'
 complete -c dressline -n "__fish_seen_subcommand_from $files" -F
 complete -c dressline -n '__fish_seen_subcommand_from catalogue' -l tiles -x -d 'classes of tiles at most'

@@ -25,7 +25,7 @@ use Rattle.dd_tasks.specs.Runs.{IsStopped, IsCallOf}
 use Rattle.dd_tasks.specs.Words.{Order, AskForRun}
 use Rattle.dd_tasks.specs.declared.status.Status.TheVariants as status
 use Rattle.dd_suite.proofs.ProgramCalls.{begun}
-use Rattle.dd_tasks.proofs.Requests.{one_order, not_both}
+use Rattle.dd_tasks.proofs.Requests.{run_or_merge, one_order, not_both}
 use Rattle.dd_suite.proofs.RunCalls.{rose_earlier}
 use Rattle.dd_suite.proofs.RunEndings.{not_usage, not_refused}
 use Rattle.dd_drive.specs.Words.{AskToKeep, resume_words}
@@ -95,7 +95,7 @@ module _ (name : List ℕ) (asked : AskForRun (resume_words name) (resume_order 
       go : AreRefused p.words p.before.tells p.before.held → HoldsOutOfRange (from.held name)
       go (inl (fault, file)) = absurd (not_both p.words p.order file.command file.name is.is_call.asked file.asked)
       go (inr (inl (refusal, file))) = absurd (not_both p.words p.order file.command file.name is.is_call.asked file.asked)
-      go (inr (inr (fault, check))) =
+      go (inr (inr (inl (fault, check)))) =
           let named : check.name ≡ name =
           one_name check.name name (ap (λ (o : Order). o.task)
           (one_order (resume_words name) (record { task = Resume Catalogues check.name; round = check.asked.round; pause = check.asked.pause }) (resume_order name)
@@ -103,6 +103,7 @@ module _ (name : List ℕ) (asked : AskForRun (resume_words name) (resume_order 
           let held_is : from.held name ≡ Some check.holds.bytes =
           sym (ap (λ b. b.held name) is.before) ∙ ap p.before.held (sym named) ∙ check.holds.fetched is.is_call.tells in
           out_of_range q (from.held name) check.holds.bytes fault valid held held_is check.holds.faulty
+      go (inr (inr (inr (refusal, files)))) = absurd (run_or_merge p.words p.order files.names is.is_call.asked files.asked)
 
 -- ## The first call
 
@@ -113,7 +114,8 @@ first_refused words name asked from to old new p is e = go (is.cause.refused e)
     go : AreRefused p.words p.before.tells p.before.held → ⊥
     go (inl (fault, file)) = not_both p.words p.order file.command file.name is.is_call.asked file.asked
     go (inr (inl (refusal, file))) = not_both p.words p.order file.command file.name is.is_call.asked file.asked
-    go (inr (inr (fault, check))) =
+    go (inr (inr (inr (refusal, files)))) = run_or_merge p.words p.order files.names is.is_call.asked files.asked
+    go (inr (inr (inl (fault, check)))) =
         other_task asked.request (Some name) check.name (ap (λ (o : Order). o.task)
         (one_order words (first_order asked) (record { task = Resume Catalogues check.name; round = check.asked.round; pause = check.asked.pause }) asked.run
         (subst (λ ws. AskForRun ws (record { task = Resume Catalogues check.name; round = check.asked.round; pause = check.asked.pause })) is.words_are check.asked.run)))

@@ -3,3 +3,4 @@ mod TaggedMembers
 mod KeptPairs
 mod SortedMembers
 mod LeastDoubles
+mod ShardsMerged

@@ -1,6 +1,7 @@
 pub mod RunEndings
 pub mod RunOutputs
 pub mod FileOutcomes
+pub mod MergeOutcomes
 pub mod RunOutcomes
 pub mod ExerciseOutcomes
 pub mod Clauses

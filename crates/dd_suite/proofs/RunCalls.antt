@@ -21,7 +21,7 @@ use Rattle.dd_pages.specs.Outputs.{IsOutput}
 use Rattle.dd_pages.specs.Runs.{start_of, IsPause}
 use Rattle.dd_pages.specs.Names.{HasRun, LeavesName}
 use Rattle.dd_tasks.specs.declared.ending.Ending.{Ending}
-use Rattle.dd_tasks.specs.declared.ending.Ending.TheVariants.{Done, Usage, Refused, RefusedSymbol, RefusedCheck, Paused, StoreFault, SinkFault, Memory, TooManyLines}
+use Rattle.dd_tasks.specs.declared.ending.Ending.TheVariants.{Done, Usage, Refused, RefusedSymbol, RefusedCheck, RefusedMerge, Paused, StoreFault, SinkFault, Memory, TooManyLines}
 use Rattle.dd_tasks.specs.Beginnings.{HoldsCheck}
 use Rattle.dd_tasks.specs.Endings.{run_ending}
 use Rattle.dd_tasks.specs.Lone.{run_result, IsLoneEnding}
@@ -85,6 +85,7 @@ module _ (s : Start) (name : List ℕ) (round : ℕ) (pause : Option ℕ) (befor
   earlier_cause (Refused fault) c = c
   earlier_cause (RefusedSymbol refusal) c = c
   earlier_cause (RefusedCheck fault) c = c
+  earlier_cause (RefusedMerge refusal) c = c
   earlier_cause (Paused lines) c = c
   earlier_cause StoreFault c = rose_earlier before.store_faults faults after.store_faults later c
   earlier_cause SinkFault c = c
@@ -119,6 +120,7 @@ stopped_outcome kind Usage name round pause before after c nothing same = absurd
 stopped_outcome kind (Refused fault) name round pause before after c nothing same = absurd c
 stopped_outcome kind (RefusedSymbol refusal) name round pause before after c nothing same = absurd c
 stopped_outcome kind (RefusedCheck fault) name round pause before after c nothing same = inr (record { not_run = record { stopped = tt; nothing = nothing; same = same }; cause = c })
+stopped_outcome kind (RefusedMerge refusal) name round pause before after c nothing same = absurd c
 stopped_outcome kind (Paused lines) name round pause before after c nothing same = absurd c
 stopped_outcome kind StoreFault name round pause before after c nothing same = inr (record { not_run = record { stopped = tt; nothing = nothing; same = same }; cause = c })
 stopped_outcome kind SinkFault name round pause before after c nothing same = absurd c
