@@ -67,7 +67,7 @@ module _ (words : List (List ℕ)) (end : Ending) (before : Before) (after : Aft
   whole (of_run order asked (inr stops)) h = let f : IsStopped Done = subst IsStopped h stops.not_run.stopped in absurd f
 
   call : IsOutcome words end before after → (order : Order) → AskForRun words order → IsCallOf order (status_of end) before after
-  call (untaken e none left) order asked = let x = order_told words order asked in absurd (none (x.command, x.asked))
+  call (untaken e none left) order asked = absurd (none (run_command order.task asked.workers order.round order.pause, asked.command))
   call (unread e left) order asked = inr (record { stopped = subst (λ x. IsStopped (status_of x)) (sym e) tt; nothing = left.nothing; same = left.same })
   call (on_file command name named ends) order asked = absurd (not_both words order command name asked named)
   call (of_exercise start count is ends) order asked = absurd (run_or_exercise words order start count asked is)

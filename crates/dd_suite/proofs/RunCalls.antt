@@ -9,7 +9,7 @@ use Rattle.dd_ports.specs.Texts.{SameTexts, SameOthers}
 use Rattle.dd_ports.specs.declared.sink.SinkFault.{SinkFault as WriteFault}
 use Rattle.dd_ports.specs.declared.sink.SinkFault.TheVariants as sink
 use Rattle.dd_check.specs.declared.checkpoint.Checkpoint.{Checkpoint}
-use Rattle.dd_check.specs.declared.kinds.Kind.TheVariants.{Catalogues}
+use Rattle.dd_check.specs.declared.kinds.Kind.{Kind}
 use Rattle.dd_check.specs.Calls.{kind_of, Begin, Resume}
 use Rattle.dd_check.specs.ChainStarts.{Start, first_start, next_start}
 use Rattle.dd_pages.specs.declared.fault.RunFault.{RunFault}

@@ -1,6 +1,6 @@
-ghost use Rattle.std.specs.Prelude.{◌≡◌, ◌≤◌, IfOk, IfErr, IsSome, None, true};
-ghost use Rattle.dd_check.specs.declared.kinds.Kind.TheVariants.{Catalogues};
-ghost use Rattle.dd_check.specs.Calls.{Resume};
+ghost use Rattle.std.specs.Prelude.{◌≡◌, ◌≤◌, IfOk, IfErr, IsSome, true};
+ghost use Rattle.dd_check.specs.declared.kinds.Kind.TheVariants.{Catalogues, Shards};
+ghost use Rattle.dd_check.specs.Calls.{kind_of, Resume};
 ghost use Rattle.dd_ports.specs.Texts.{SameTexts};
 ghost use Rattle.dd_check.specs.ShardChecks.{IsAcceptedText};
 ghost use Rattle.dd_check.specs.ChainStarts.{next_start};
