@@ -47,12 +47,12 @@ write_kept-requires-clause-round g c κs within =
 pub resume-requires-clause-workers : goal.resume-requires-clause-workers
 resume-requires-clause-workers g c κs within =
     let words = map rc_str_bytes c.args.words.now in
-    (resume_asked words c.in-Resume.name c.in-Resume.pace c.in-Resume.pause (asked_of words c.in-Ok-Some.field-0 c.in-Ok-Some.task (Resume c.in-Resume.name c.in-Resume.pace c.in-Resume.pause) c.in-Ok-Some.ensures c.in-Ok-Some.field-0-is c.in-Resume.is)).in_range.workers_are
+    (resume_asked words c.in-Resume.kind c.in-Resume.name c.in-Resume.pace c.in-Resume.pause (asked_of words c.in-Ok-Some.field-0 c.in-Ok-Some.task (Resume c.in-Resume.kind c.in-Resume.name c.in-Resume.pace c.in-Resume.pause) c.in-Ok-Some.ensures c.in-Ok-Some.field-0-is c.in-Resume.is)).in_range.workers_are
 
 pub resume-requires-clause-round : goal.resume-requires-clause-round
 resume-requires-clause-round g c κs within =
     let words = map rc_str_bytes c.args.words.now in
-    (resume_asked words c.in-Resume.name c.in-Resume.pace c.in-Resume.pause (asked_of words c.in-Ok-Some.field-0 c.in-Ok-Some.task (Resume c.in-Resume.name c.in-Resume.pace c.in-Resume.pause) c.in-Ok-Some.ensures c.in-Ok-Some.field-0-is c.in-Resume.is)).in_range.round_is.0
+    (resume_asked words c.in-Resume.kind c.in-Resume.name c.in-Resume.pace c.in-Resume.pause (asked_of words c.in-Ok-Some.field-0 c.in-Ok-Some.task (Resume c.in-Resume.kind c.in-Resume.name c.in-Resume.pace c.in-Resume.pause) c.in-Ok-Some.ensures c.in-Ok-Some.field-0-is c.in-Resume.is)).in_range.round_is.0
 
 pub returns-in-Alone-clause-outcome : goal.returns-in-Alone-clause-outcome
 returns-in-Alone-clause-outcome g c =
