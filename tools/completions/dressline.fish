@@ -1,8 +1,10 @@
 # Completions of dressline for fish.
-set -l files lines canon info minimal dual oriented torus sheets draw ambo truncate chamfer apply merge resume
+set -l files lines canon info minimal dual oriented torus sheets draw ambo truncate chamfer apply merge resume resume-shard
 complete -c dressline -f
 complete -c dressline -n __fish_use_subcommand -a catalogue -d 'the symbols of at most N chambers'
 complete -c dressline -n __fish_use_subcommand -a resume -d 'the lines that are left, from a checkpoint on'
+complete -c dressline -n __fish_use_subcommand -a shard -d 'the lines under every M-th job, from job I on'
+complete -c dressline -n __fish_use_subcommand -a resume-shard -d 'the lines that are left of a shard'
 complete -c dressline -n __fish_use_subcommand -a lines -d 'each symbol as it was read'
 complete -c dressline -n __fish_use_subcommand -a canon -d 'the canonical form of each symbol'
 complete -c dressline -n __fish_use_subcommand -a info -d 'a line of facts for each symbol'
@@ -19,15 +21,15 @@ complete -c dressline -n __fish_use_subcommand -a apply -d 'one to three operati
 complete -c dressline -n __fish_use_subcommand -a merge -d 'ascending files in one list'
 complete -c dressline -n __fish_use_subcommand -a exercise -d 'symbols made from a number'
 complete -c dressline -n "__fish_seen_subcommand_from $files" -F
-complete -c dressline -n '__fish_seen_subcommand_from catalogue' -l tiles -x -d 'classes of tiles at most'
-complete -c dressline -n '__fish_seen_subcommand_from catalogue' -l vertices -x -d 'classes of vertices at most'
-complete -c dressline -n '__fish_seen_subcommand_from catalogue' -l faces -x -d 'edges of a tile'
-complete -c dressline -n '__fish_seen_subcommand_from catalogue' -l degrees -x -d 'degrees of a vertex'
-complete -c dressline -n '__fish_seen_subcommand_from catalogue' -l least-face -x -d 'edges of a tile at least'
-complete -c dressline -n '__fish_seen_subcommand_from catalogue' -l least-degree -x -d 'degree of a vertex at least'
-complete -c dressline -n '__fish_seen_subcommand_from catalogue' -l minimal -d 'only minimal symbols'
-complete -c dressline -n '__fish_seen_subcommand_from catalogue' -l checkpoint -r -F -d 'file of the checkpoint'
-complete -c dressline -n '__fish_seen_subcommand_from catalogue resume' -l workers -x -d 'threads, 1 to 64'
-complete -c dressline -n '__fish_seen_subcommand_from catalogue resume' -l round -x -d 'jobs of a round, 1 to 4096'
-complete -c dressline -n '__fish_seen_subcommand_from catalogue resume' -l pause -x -d 'stop after P lines'
+complete -c dressline -n '__fish_seen_subcommand_from catalogue shard' -l tiles -x -d 'classes of tiles at most'
+complete -c dressline -n '__fish_seen_subcommand_from catalogue shard' -l vertices -x -d 'classes of vertices at most'
+complete -c dressline -n '__fish_seen_subcommand_from catalogue shard' -l faces -x -d 'edges of a tile'
+complete -c dressline -n '__fish_seen_subcommand_from catalogue shard' -l degrees -x -d 'degrees of a vertex'
+complete -c dressline -n '__fish_seen_subcommand_from catalogue shard' -l least-face -x -d 'edges of a tile at least'
+complete -c dressline -n '__fish_seen_subcommand_from catalogue shard' -l least-degree -x -d 'degree of a vertex at least'
+complete -c dressline -n '__fish_seen_subcommand_from catalogue shard' -l minimal -d 'only minimal symbols'
+complete -c dressline -n '__fish_seen_subcommand_from catalogue shard' -l checkpoint -r -F -d 'file of the checkpoint'
+complete -c dressline -n '__fish_seen_subcommand_from catalogue shard resume resume-shard' -l workers -x -d 'threads, 1 to 64'
+complete -c dressline -n '__fish_seen_subcommand_from catalogue shard resume resume-shard' -l round -x -d 'jobs of a round, 1 to 4096'
+complete -c dressline -n '__fish_seen_subcommand_from catalogue shard resume resume-shard' -l pause -x -d 'stop after P lines'
 complete -c dressline -n '__fish_seen_subcommand_from draw' -l cell -x -a 'square hex own' -d 'shape of the cell'

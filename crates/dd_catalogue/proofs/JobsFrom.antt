@@ -1,4 +1,4 @@
--- The jobs of an opening that are not wholly before a position.
+-- The jobs of a portion that are not wholly before a position.
 use Rattle.std.proofs.Common.{◌≡◌, ◌⊎◌, Bool, true, false, length, List, [], ◌∷◌, ◌++◌, inl, inr, ⊎_elim, refl, sym, ap, ◌∙◌, subst, arith}
 use Rattle.std.proofs.lemmas.List.{append-nil}
 use Rattle.std.proofs.lemmas.List.Elements.{Contains-append_left, Contains-append_right}
@@ -9,8 +9,6 @@ use Rattle.dd_model.specs.Lists.{IsWithout}
 use Rattle.dd_model.specs.Position.{IsBefore, IsWhollyBefore, IsWithin}
 use Rattle.dd_model.specs.Jobs.{AreAscendingJobs, AreApart, IsJobOf}
 use Rattle.dd_model.specs.Joined.{IsPartBelow, IsUnderOne}
-use Rattle.dd_model.specs.Wanted.{IsMember}
-use Rattle.dd_model.specs.declared.requests.Request.{Request}
 use Rattle.dd_model.specs.declared.jobs.Job.{Job}
 use Rattle.dd_model.specs.declared.jobs.Position.{Position}
 use Rattle.dd_model.specs.declared.jobs.Position.TheVariants.{At, End}
@@ -21,38 +19,45 @@ use Rattle.dd_model.proofs.Positions.{begun_before, under_wholly_before, not_bef
 use Rattle.dd_model.proofs.Without.{without_all, without_first, without_kept, without_none, without_pairs, without_there}
 use Rattle.dd_front.specs.declared.entry.Entry.{Entry}
 use Rattle.dd_front.specs.Machine.{StandsAt, jobs_of}
-use Rattle.dd_jobs.specs.Opening.{IsOpening, IsOpeningJob}
-use Rattle.dd_jobs.proofs.OpeningLaws.{opening_apart, opening_jobs, opening_covers}
+use Rattle.dd_jobs.specs.declared.portions.Portion.{Portion}
+use Rattle.dd_jobs.specs.Portions.{IsPortionJob, IsPortionOpening, IsPortionMember}
+use Rattle.dd_jobs.proofs.PortionLaws.{portion_apart, portion_jobs, portion_covers, under_portion}
 use Rattle.dd_board.specs.Desk.{AreJobsOf}
 use Rattle.dd_pages.specs.Rounds.{AreJobsFrom}
 
-opening_pairs : (q : Request) (jobs : List Job) → IsOpening q jobs → ArePairs IsPartBelow jobs
-opening_pairs q jobs is = part_pairs jobs is.ascending (opening_apart q jobs is)
+opening_pairs : (q : Portion) (jobs : List Job) → IsPortionOpening q jobs → ArePairs IsPartBelow jobs
+opening_pairs q jobs is = part_pairs jobs is.ascending (portion_apart q jobs is)
 
-from_pairs : (q : Request) (at : Position) (jobs : List Job) → AreJobsFrom q at jobs → ArePairs IsPartBelow jobs
+from_pairs : (q : Portion) (at : Position) (jobs : List Job) → AreJobsFrom q at jobs → ArePairs IsPartBelow jobs
 from_pairs q at jobs from = without_pairs (IsWhollyBefore at) IsPartBelow from.opening jobs from.left (opening_pairs q from.opening from.is_opening)
 
-pub from_ascending : (q : Request) (at : Position) (jobs : List Job) → AreJobsFrom q at jobs → AreAscendingJobs jobs
+pub from_ascending : (q : Portion) (at : Position) (jobs : List Job) → AreJobsFrom q at jobs → AreAscendingJobs jobs
 from_ascending q at jobs from = pairs_ascending_jobs jobs (from_pairs q at jobs from)
 
-pub from_apart : (q : Request) (at : Position) (jobs : List Job) → AreJobsFrom q at jobs → AreApart jobs
+pub from_apart : (q : Portion) (at : Position) (jobs : List Job) → AreJobsFrom q at jobs → AreApart jobs
 from_apart q at jobs from = pairs_apart jobs (from_pairs q at jobs from)
 
-pub from_jobs : (q : Request) (at : Position) (jobs : List Job) → AreJobsFrom q at jobs → AreJobsOf q jobs
-from_jobs q at jobs from = without_all (IsWhollyBefore at) (IsJobOf q) from.opening jobs from.left (opening_jobs q from.opening from.is_opening)
+pub from_jobs : (q : Portion) (at : Position) (jobs : List Job) → AreJobsFrom q at jobs → AreJobsOf q.request jobs
+from_jobs q at jobs from = without_all (IsWhollyBefore at) (IsJobOf q.request) from.opening jobs from.left (portion_jobs q from.opening from.is_opening)
 
-pub from_opening : (q : Request) (at : Position) (jobs : List Job) (job : Job) → AreJobsFrom q at jobs → Contains jobs job → IsOpeningJob q job
+pub from_opening : (q : Portion) (at : Position) (jobs : List Job) (job : Job) → AreJobsFrom q at jobs → Contains jobs job → IsPortionJob q job
 from_opening q at jobs job from there = (from.is_opening.members job).0 (without_there (IsWhollyBefore at) from.opening jobs job from.left there).0
 
 -- each member that is not before the position is under one of them
-pub from_covers : (q : Request) (at : Position) (jobs : List Job) (s : Symbol) → AreJobsFrom q at jobs → IsMember q s → (¬ IsBefore at s) → IsUnderOne q jobs s
+pub from_covers : (q : Portion) (at : Position) (jobs : List Job) (s : Symbol) → AreJobsFrom q at jobs → IsPortionMember q s → (¬ IsBefore at s) → IsUnderOne q.request jobs s
 from_covers q at jobs s from member later =
-    let under = opening_covers q from.opening s from.is_opening member in
+    let under = portion_covers q from.opening s from.is_opening member in
     record {
       job = under.job;
-      listed = without_kept (IsWhollyBefore at) from.opening jobs under.job from.left under.listed (λ wholly. later (under_wholly_before q at under.job s wholly under.under));
+      listed = without_kept (IsWhollyBefore at) from.opening jobs under.job from.left under.listed (λ wholly. later (under_wholly_before q.request at under.job s wholly under.under));
       under = under.under;
     }
+
+-- and what is under one of them is a member
+pub from_member : (q : Portion) (at : Position) (jobs : List Job) (s : Symbol) → AreJobsFrom q at jobs → IsUnderOne q.request jobs s → IsPortionMember q s
+from_member q at jobs s from under =
+    under_portion q from.opening s from.is_opening
+    (record { job = under.job; listed = (without_there (IsWhollyBefore at) from.opening jobs under.job from.left under.listed).0; under = under.under })
 
 -- ## Those that are left
 
@@ -105,7 +110,7 @@ one_first R (z ∷ zs) x y pairs hx hy =
     (Contains-cases z x zs hx)
 
 -- Where a machine stands that still has these jobs, those jobs are the ones that are not wholly before.
-pub jobs_left : (q : Request) (at p : Position) (jobs gone : List Job) (es : List Entry) → AreJobsFrom q at jobs → jobs ≡ gone ++ jobs_of es → StandsAt at es p → AreJobsFrom q p (jobs_of es)
+pub jobs_left : (q : Portion) (at p : Position) (jobs gone : List Job) (es : List Entry) → AreJobsFrom q at jobs → jobs ≡ gone ++ jobs_of es → StandsAt at es p → AreJobsFrom q p (jobs_of es)
 jobs_left q at p jobs gone [] from parts stands = record {
   opening = from.opening;
   is_opening = from.is_opening;
@@ -164,9 +169,9 @@ jobs_left q at p jobs gone (e ∷ es) from parts stands = ⊎_elim begun unbegun
             apart)
             (one_first IsPartBelow from.opening j e.job (opening_pairs q from.opening from.is_opening) there own.0)
 
--- Where some job is gone, a machine stands at the end or at a job of the opening.
-pub stands_at_job : (q : Request) (at p : Position) (jobs gone : List Job) (d : Job) (es : List Entry) → AreJobsFrom q at jobs → jobs ≡ (d ∷ gone) ++ jobs_of es → StandsAt at es p
-    → (p ≡ End) ⊎ ((job : Job) × IsOpeningJob q job × (p ≡ At job))
+-- Where some job is gone, a machine stands at the end or at a job of the portion.
+pub stands_at_job : (q : Portion) (at p : Position) (jobs gone : List Job) (d : Job) (es : List Entry) → AreJobsFrom q at jobs → jobs ≡ (d ∷ gone) ++ jobs_of es → StandsAt at es p
+    → (p ≡ End) ⊎ ((job : Job) × IsPortionJob q job × (p ≡ At job))
 stands_at_job q at p jobs gone d [] from parts stands = inl stands
 stands_at_job q at p jobs gone d (e ∷ es) from parts stands =
     let pairs = subst (ArePairs IsPartBelow) parts (from_pairs q at jobs from) in

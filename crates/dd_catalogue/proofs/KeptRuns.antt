@@ -7,7 +7,6 @@ use Rattle.std.proofs.lemmas.Bool.{cases_eq}
 use Rattle.std.specs.Prelude.{if◌then◌else◌, MatchBool}
 use Rattle.dd_model.specs.Position.{IsWhollyBefore, IsWithin}
 use Rattle.dd_model.specs.Text.{AreLines, beginning, first_job}
-use Rattle.dd_model.specs.declared.requests.Request.{Request}
 use Rattle.dd_model.specs.declared.jobs.Job.{Job}
 use Rattle.dd_model.specs.declared.jobs.Position.{Position}
 use Rattle.dd_model.specs.declared.jobs.Position.TheVariants.{At, End}
@@ -18,7 +17,9 @@ use Rattle.dd_front.specs.declared.entry.Entry.{Entry}
 use Rattle.dd_front.specs.Machine.{Machine, StandsAt, jobs_of}
 use Rattle.dd_front.specs.Step.{at_symbol}
 use Rattle.dd_front.proofs.Standing.{stands_once, stands_somewhere}
-use Rattle.dd_jobs.specs.Opening.{IsOpeningJob}
+use Rattle.dd_jobs.specs.declared.portions.Portion.{Portion}
+use Rattle.dd_jobs.specs.Portions.{IsPortionJob}
+use Rattle.dd_jobs.proofs.PortionLaws.{portion_job}
 use Rattle.dd_check.specs.declared.checkpoint.Checkpoint.{Checkpoint}
 use Rattle.dd_ports.proofs.Growth.{Appends_trans}
 use Rattle.dd_front.specs.Rounds.{open_jobs}
@@ -49,7 +50,7 @@ pub record IsKeptPut (s : Start) (held : Option (List ℕ)) (base : List ℕ) (p
   pub at_is : check.at ≡ p
   pub put : IsPut held base s check
   pub all : check.bytes ≡ length base
-  pub stop : IsRoundStop s.request check.at
+  pub stop : IsRoundStop s.portion check.at
   pub due : (s.number ≡ 1) ⊎ HasWork s
 
 -- It does, or the run has not moved.
@@ -69,19 +70,19 @@ pub record IsHead (s : Start) (tells : Bool) (old before held now : Option (List
   pub empty : IsEmpty page
   pub settled : page.bytes ≡ length base
   pub ended : f.entries ≡ [] → (since ≡ s.at) ⊎ (since ≡ End)
-  pub left : AreJobsFrom s.request since (jobs_of f.entries)
+  pub left : AreJobsFrom s.portion since (jobs_of f.entries)
   pub kept : tells ≡ true → IsKept s before held base since
   pub put : tells ≡ true → s.number ≡ 1 → IsKeptPut s held base since
 
 -- a run with a job has work
-has_work : (s : Start) (jobs : List Job) → AreJobsFrom s.request s.at jobs → 0 < length jobs → HasWork s
+has_work : (s : Start) (jobs : List Job) → AreJobsFrom s.portion s.at jobs → 0 < length jobs → HasWork s
 has_work s [] from some = absurd (omega (arith, some))
 has_work s (job ∷ jobs) from some =
     let there : Contains (job ∷ jobs) job = Contains-head job jobs in
-    record { job = job; opening = from_opening s.request s.at (job ∷ jobs) job from there; left = (without_there (IsWhollyBefore s.at) from.opening (job ∷ jobs) job from.left there).1 }
+    record { job = job; opening = from_opening s.portion s.at (job ∷ jobs) job from there; left = (without_there (IsWhollyBefore s.at) from.opening (job ∷ jobs) job from.left there).1 }
 
 -- between two rounds a run may stop
-may_stop : (q : Request) (p : Position) → IsRoundStop q p → IsStop q p
+may_stop : (q : Portion) (p : Position) → IsRoundStop q p → IsStop q p
 may_stop q End stop = tt
 may_stop q (At job) stop = inl stop
 
@@ -101,13 +102,13 @@ more_put s held base z output c is all put =
       run = put.run;
       request = put.request;
       within = omega (arith, size, all);
-      written = subst (AreLinesBetween s.request s.at c.at s.lines c.lines) (sym front) put.written;
+      written = subst (AreLinesBetween s.portion s.at c.at s.lines c.lines) (sym front) put.written;
       stop = put.stop;
     }
 
 -- a checkpoint that was put where the machine stands, with all its lines written
 pub check_put : (s : Start) (page : Page) (f : Machine) (held : Option (List ℕ)) (output : List ℕ) (check : HoldsCheckAt s page f held) → page.bytes ≡ length output
-    → AreLinesBetween s.request s.at check.is_check.check.at s.lines page.count output → IsStop s.request check.is_check.check.at → IsPut held output s check.is_check.check
+    → AreLinesBetween s.portion s.at check.is_check.check.at s.lines page.count output → IsStop s.portion check.is_check.check.at → IsPut held output s check.is_check.check
 check_put s page f held output check bytes lines stop =
     let c = check.is_check.check in
     let all : c.bytes ≡ length output = check.is_check.bytes ∙ bytes in
@@ -120,13 +121,13 @@ check_put s page f held output check bytes lines stop =
       run = check.is_check.run;
       request = check.is_check.request;
       within = omega (arith, all);
-      written = subst (AreLinesBetween s.request s.at c.at s.lines c.lines) (sym whole) (subst (λ n. AreLinesBetween s.request s.at c.at s.lines n output) (sym check.is_check.lines) lines);
+      written = subst (AreLinesBetween s.portion s.at c.at s.lines c.lines) (sym whole) (subst (λ n. AreLinesBetween s.portion s.at c.at s.lines n output) (sym check.is_check.lines) lines);
       stop = stop;
     }
 
 -- ## Rounds
 
-pub of_round : (w : Way) (most : ℕ) (old now : Option (List ℕ)) (output : List ℕ) (js : List Job) → WentOut w old now output → AreJobsFrom w.start.request w.since js → w.round ≡ take most js
+pub of_round : (w : Way) (most : ℕ) (old now : Option (List ℕ)) (output : List ℕ) (js : List Job) → WentOut w old now output → AreJobsFrom w.start.portion w.since js → w.round ≡ take most js
     → IsOfRound w.start most w.since output
 of_round w most old now output js went left round m member later shown not =
     ⊎_elim
@@ -163,7 +164,7 @@ pub rebased : (w : Way) (now : Option (List ℕ)) (page : Page) (f : Machine) (p
     → IsUnderWay (head_way w.start w.jobs (w.base ++ way.lines.written) now p) now page f
 rebased w now page f p way empty opens stands =
     let base = w.base ++ way.lines.written in
-    let between = held_between w.start.request w.start.at p w.jobs f way.members way.emitted.from way.emitted.held stands in
+    let between = held_between w.start.portion w.start.at p w.jobs f way.members way.emitted.from way.emitted.held stands in
     record {
       members = way.members;
       emitted = record {
@@ -202,41 +203,41 @@ head_begun s tells old before held page f begun empty count bytes later same =
       empty = empty;
       settled = bytes;
       ended = λ none. inl refl;
-      left = subst (AreJobsFrom s.request s.at) way.emitted.jobs_are begun.from;
+      left = subst (AreJobsFrom s.portion s.at) way.emitted.jobs_are begun.from;
       kept = λ told. inl (same told, refl);
       put = λ told one. absurd (later one);
     }
 
 -- the first job of all is a job of each opening
-module _ (s : Start) (first : s ≡ first_start s.request) (f : Machine) (begun : IsBegun s f) where
+module _ (s : Start) (first : s ≡ first_start s.portion) (f : Machine) (begun : IsBegun s f) where
   at_beginning : s.at ≡ beginning
   at_beginning = ap (λ (t : Start). t.at) first
 
-  begun_stop : (p : Position) (es : List Entry) → jobs_of es ≡ begun.jobs → StandsAt s.at es p → IsRoundStop s.request p
-  begun_stop p [] listed stands = subst (IsRoundStop s.request) (sym stands) tt
+  begun_stop : (p : Position) (es : List Entry) → jobs_of es ≡ begun.jobs → StandsAt s.at es p → IsRoundStop s.portion p
+  begun_stop p [] listed stands = subst (IsRoundStop s.portion) (sym stands) tt
   begun_stop p (e ∷ es) listed stands =
       ⊎_elim
-      (λ begun_it. subst (IsRoundStop s.request) (sym (begun_it.1 ∙ at_beginning)) (within_first (subst (λ at. IsWhollyBefore at e.job ⊎ IsWithin e.job at) at_beginning begun_it.0)))
-      (λ other. subst (IsRoundStop s.request) (sym other.1) opening)
+      (λ begun_it. subst (IsRoundStop s.portion) (sym (begun_it.1 ∙ at_beginning)) (within_first (subst (λ at. IsWhollyBefore at e.job ⊎ IsWithin e.job at) at_beginning begun_it.0)))
+      (λ other. subst (IsRoundStop s.portion) (sym other.1) opening)
       stands
     where
       there : Contains begun.jobs e.job
       there = subst (λ js. Contains js e.job) listed (Contains-head e.job (jobs_of es))
 
-      opening : IsOpeningJob s.request e.job
-      opening = from_opening s.request s.at begun.jobs e.job begun.from there
+      opening : IsPortionJob s.portion e.job
+      opening = from_opening s.portion s.at begun.jobs e.job begun.from there
 
       first_is : (job : Job) → job.size ≡ 1 → job.prefix ≡ 1 ∷ 1 ∷ 1 ∷ [] → job ≡ first_job
       first_is job size prefix = λ i. record { size = size i; prefix = prefix i }
 
-      within_first : IsWhollyBefore beginning e.job ⊎ IsWithin e.job beginning → IsOpeningJob s.request first_job
+      within_first : IsWhollyBefore beginning e.job ⊎ IsWithin e.job beginning → IsPortionJob s.portion first_job
       within_first (inl wholly) =
           absurd ((without_there (IsWhollyBefore s.at) begun.from.opening begun.jobs e.job begun.from.left there).1 (subst (λ at. IsWhollyBefore at e.job) (sym at_beginning) wholly))
       within_first (inr within) =
           let size = within.0 in
-          let numbers = opening.numbers in
+          let numbers = (portion_job s.portion e.job opening).numbers in
           let three : length e.job.prefix ≡ 3 = numbers ∙ ap (λ n. min (3 * n) 9) size in
-          subst (IsOpeningJob s.request) (first_is e.job size (sym (same_when_whole e.job.prefix (1 ∷ 1 ∷ 1 ∷ []) within.1 three))) opening
+          subst (IsPortionJob s.portion) (first_is e.job size (sym (same_when_whole e.job.prefix (1 ∷ 1 ∷ 1 ∷ []) within.1 three))) opening
 
   -- what the first checkpoint of a chain tells
   pub first_put : (page : Page) (held known : Option (List ℕ)) (check : HoldsCheckAt s page f held) → IsEmpty page → page.count ≡ s.lines → page.bytes ≡ 0
@@ -250,7 +251,7 @@ module _ (s : Start) (first : s ≡ first_start s.request) (f : Machine) (begun 
       record {
         check = check.is_check.check;
         at_is = refl;
-        put = check_put s page f held [] check bytes lines (may_stop s.request p stop);
+        put = check_put s page f held [] check bytes lines (may_stop s.portion p stop);
         all = check.is_check.bytes ∙ bytes;
         stop = stop;
         due = inl (ap (λ (t : Start). t.number) first);
@@ -270,7 +271,7 @@ module _ (s : Start) (first : s ≡ first_start s.request) (f : Machine) (begun 
         empty = empty;
         settled = bytes;
         ended = λ none. inr (subst (λ es. StandsAt f.from es p) none stands);
-        left = jobs_left s.request s.at p begun.jobs [] f.entries begun.from way.emitted.jobs_are (subst (λ from. StandsAt from f.entries p) way.emitted.stays stands);
+        left = jobs_left s.portion s.at p begun.jobs [] f.entries begun.from way.emitted.jobs_are (subst (λ from. StandsAt from f.entries p) way.emitted.stays stands);
         kept = λ told. inr (put told);
         put = λ told one. put told;
       }
@@ -283,13 +284,13 @@ gone_some jobs (d ∷ ds) js parts fewer = (d, ds, refl)
 
 module _ (w : Way) (old now : Option (List ℕ)) (page : Page) (g : Machine) (way : IsUnderWay w now page g) (empty : IsEmpty page) (fewer : length (jobs_of g.entries) < length w.jobs) (appended : Appends old w.known w.base) where
   -- where the run stands, it may stop
-  next_stop : (p : Position) → StandsAt g.from g.entries p → IsRoundStop w.start.request p
+  next_stop : (p : Position) → StandsAt g.from g.entries p → IsRoundStop w.start.portion p
   next_stop p stands =
       let some = gone_some w.jobs way.emitted.gone (jobs_of g.entries) way.emitted.jobs_are fewer in
       ⊎_elim
-      (λ end. subst (IsRoundStop w.start.request) (sym end) tt)
-      (λ job. subst (IsRoundStop w.start.request) (sym job.2) job.1)
-      (stands_at_job w.start.request w.start.at p w.jobs some.1 some.0 g.entries way.emitted.from (way.emitted.jobs_are ∙ ap (λ gone. gone ++ jobs_of g.entries) some.2) (subst (λ from. StandsAt from g.entries p) way.emitted.stays stands))
+      (λ end. subst (IsRoundStop w.start.portion) (sym end) tt)
+      (λ job. subst (IsRoundStop w.start.portion) (sym job.2) job.1)
+      (stands_at_job w.start.portion w.start.at p w.jobs some.1 some.0 g.entries way.emitted.from (way.emitted.jobs_are ∙ ap (λ gone. gone ++ jobs_of g.entries) some.2) (subst (λ from. StandsAt from g.entries p) way.emitted.stays stands))
 
   pub next_put : (held : Option (List ℕ)) (check : HoldsCheckAt w.start page g held) → IsKeptPut w.start held (w.base ++ way.lines.written) check.is_check.check.at
   next_put held check =
@@ -299,7 +300,7 @@ module _ (w : Way) (old now : Option (List ℕ)) (page : Page) (g : Machine) (wa
         check = check.is_check.check;
         at_is = refl;
         put = check_put w.start page g held (w.base ++ way.lines.written) check way.lines.bytes (lines_between w now page g way.members p way.emitted.from way.emitted.held way.lines empty stands)
-            (may_stop w.start.request p (next_stop p stands));
+            (may_stop w.start.portion p (next_stop p stands));
         all = check.is_check.bytes ∙ way.lines.bytes;
         stop = next_stop p stands;
         due = inr (has_work w.start w.jobs way.emitted.from (omega (arith, fewer)));
@@ -316,7 +317,7 @@ module _ (w : Way) (old now : Option (List ℕ)) (page : Page) (g : Machine) (wa
     empty = empty;
     settled = way.lines.bytes;
     ended = λ none. inr (subst (λ es. StandsAt g.from es p) none stands);
-    left = jobs_left w.start.request w.start.at p w.jobs way.emitted.gone g.entries way.emitted.from way.emitted.jobs_are (subst (λ from. StandsAt from g.entries p) way.emitted.stays stands);
+    left = jobs_left w.start.portion w.start.at p w.jobs way.emitted.gone g.entries way.emitted.from way.emitted.jobs_are (subst (λ from. StandsAt from g.entries p) way.emitted.stays stands);
     kept = λ told. inr (put told);
     put = λ told one. put told;
   }
@@ -329,7 +330,7 @@ not_worked output fault (Ok end) none stopped worked = cc
 not_worked output fault (Err e) none stopped worked = ⊎_elim (λ some. some none) (λ ok. cc) worked
 
 -- a checkpoint that tells all of the output: each member of it is before where the checkpoint stands
-puts_here : (s : Start) (most : ℕ) (held : Option (List ℕ)) (output : List ℕ) (n : ℕ) (check : Checkpoint) → IsPut held output s check → AreLinesBetween s.request s.at check.at s.lines n output
+puts_here : (s : Start) (most : ℕ) (held : Option (List ℕ)) (output : List ℕ) (n : ℕ) (check : Checkpoint) → IsPut held output s check → AreLinesBetween s.portion s.at check.at s.lines n output
     → PutsCheck s most held output
 puts_here s most held output n check put lines = record { check = check; put = put; of_round = λ m member later shown not. absurd (not (shown_earlier s check.at n output lines m member shown)) }
 
@@ -341,7 +342,7 @@ nothing_done s most pause old before tells fault = record {
   left = λ told. record { held = inl (record { same = refl; of_round = none_shown s most s.at }); first = λ one worked. absurd (not_worked [] fault (Err fault) refl refl worked); idle = λ later none. refl; finish = tt };
 }
 
-module _ (s : Start) (f : Machine) (begun : IsBegun s f) (page : Page) (empty : IsEmpty page) (count : page.count ≡ s.lines) (bytes : page.bytes ≡ 0) (first : s.number ≡ 1 → s ≡ first_start s.request) where
+module _ (s : Start) (f : Machine) (begun : IsBegun s f) (page : Page) (empty : IsEmpty page) (count : page.count ≡ s.lines) (bytes : page.bytes ≡ 0) (first : s.number ≡ 1 → s ≡ first_start s.portion) where
   -- the first checkpoint could not be put
   pub first_failed : (most : ℕ) (pause : Option ℕ) (old before after : Option (List ℕ)) (tells : Bool) (fault : RunFault) → (tells ≡ true → SavesFirst s page f before after (Err fault))
       → HasRun s most pause old old tells before after (Err fault)
@@ -436,8 +437,8 @@ module _ (s : Start) (tells : Bool) (old before held now : Option (List ℕ)) (p
             at_end = put.at_is ∙ end;
           }
 
-          left_none : AreJobsFrom s.request head.since []
-          left_none = subst (λ es. AreJobsFrom s.request head.since (jobs_of es)) none head.left
+          left_none : AreJobsFrom s.portion head.since []
+          left_none = subst (λ es. AreJobsFrom s.portion head.since (jobs_of es)) none head.left
 
           no_work : head.since ≡ s.at → HasWork s → ⊥
           no_work same work =
@@ -521,7 +522,7 @@ module _ (s : Start) (tells : Bool) (old before held mid : Option (List ℕ)) (p
           put_all after check =
               let put = check_of after check in
               let lines = lines_between round_way now new h way.members check.is_check.check.at way.emitted.from way.emitted.held way.lines empty check.is_check.stands in
-              puts_here s most after (head.base ++ way.lines.written) new.count put.check put.put (subst (λ p. AreLinesBetween s.request s.at p s.lines new.count (head.base ++ way.lines.written)) (sym put.at_is) lines)
+              puts_here s most after (head.base ++ way.lines.written) new.count put.check put.put (subst (λ p. AreLinesBetween s.portion s.at p s.lines new.count (head.base ++ way.lines.written)) (sym put.at_is) lines)
 
       pub head_after : (after : Option (List ℕ)) → (tells ≡ true → HoldsCheckAt s new h after) → IsHead s tells old before after now new h
       head_after after saves =
@@ -547,8 +548,8 @@ module _ (s : Start) (tells : Bool) (old before held mid : Option (List ℕ)) (p
           let put = check_put s new h after full_output check full.lines.bytes lines (next_stop_at at (stands_once h.from (at_symbol full.next) at h.entries full.stands check.is_check.stands)) in
           (put, puts_here s most after full_output new.count check.is_check.check put lines)
         where
-          next_stop_at : (p : Position) → at_symbol full.next ≡ p → IsStop s.request p
-          next_stop_at p same = subst (IsStop s.request) same (inr (record { next = full.next; member = full.member; job_is = refl }))
+          next_stop_at : (p : Position) → at_symbol full.next ≡ p → IsStop s.portion p
+          next_stop_at p same = subst (IsStop s.portion) same (inr (record { next = full.next; member = full.member; job_is = refl }))
 
       pub full_ended : (after : Option (List ℕ)) (result : Result Finish RunFault) → IfOk result (λ finish. finish ≡ (if limit.pauses then Paused else CutShort))
           → (tells ≡ true → MatchBool limit.pauses (Saves s new h held after result) (after ≡ held)) → HasRun s most pause old now tells before after result
@@ -582,7 +583,7 @@ module _ (s : Start) (tells : Bool) (old before held mid : Option (List ℕ)) (p
             put = (put_full after check).0;
             pause_is = subst (IsPause s.lines pause) (sym (check.is_check.lines ∙ full.count)) p;
             all = check.is_check.bytes ∙ full.lines.bytes;
-            next = subst (IsNextMember s.request) (stands_once h.from (at_symbol full.next) check.is_check.check.at h.entries full.stands check.is_check.stands) (record { next = full.next; member = full.member; job_is = refl });
+            next = subst (IsNextMember s.portion) (stands_once h.from (at_symbol full.next) check.is_check.check.at h.entries full.stands check.is_check.stands) (record { next = full.next; member = full.member; job_is = refl });
           }
 
           leaves : (b : Bool) → MatchBool b (IsPause s.lines pause limit.last) (IsBeforePause s.lines pause limit.last) → (r : Result Finish RunFault) → IfOk r (λ finish. finish ≡ (if b then Paused else CutShort))

@@ -8,10 +8,11 @@ use Rattle.dd_model.specs.Symbol.{Symbol}
 use Rattle.dd_model.specs.Code.{IsBelow}
 use Rattle.dd_model.specs.Lists.{Begins}
 use Rattle.dd_model.specs.Position.{IsBefore}
-use Rattle.dd_model.specs.Text.{AreLines, IsText}
-use Rattle.dd_model.specs.Wanted.{IsMember}
+use Rattle.dd_model.specs.Text.{AreLines}
 use Rattle.dd_model.specs.Joined.{IsUnderOne}
-use Rattle.dd_model.specs.declared.requests.Request.{Request}
+use Rattle.dd_jobs.specs.declared.portions.Portion.{Portion}
+use Rattle.dd_jobs.specs.Portions.{IsPortionMember, IsPortionText}
+use Rattle.dd_jobs.proofs.PortionLaws.{portion_member, portion_symbol}
 use Rattle.dd_model.specs.declared.jobs.Job.{Job}
 use Rattle.dd_model.specs.declared.jobs.Position.{Position}
 use Rattle.dd_model.specs.declared.jobs.Position.TheVariants.{End}
@@ -39,30 +40,30 @@ use Rattle.dd_pages.specs.Outputs.{IsShown}
 use Rattle.dd_pages.specs.declared.finish.Finish.TheVariants.{Paused, CutShort}
 use Rattle.dd_pages.specs.declared.limit.Limit.{Limit}
 use Rattle.dd_pages.specs.declared.pages.Page.{Page}
-use Rattle.dd_catalogue.proofs.JobsFrom.{from_covers}
+use Rattle.dd_catalogue.proofs.JobsFrom.{from_covers, from_member}
 use Rattle.dd_catalogue.proofs.WaySteps.{way_round}
 
 -- ## What a machine has emitted
 
 -- It is the members between the start and where the machine stands.
-pub held_between : (q : Request) (at p : Position) (jobs : List Job) (f : Machine) (out : List Symbol) → AreJobsFrom q at jobs → IsHeld q jobs at f out → StandsAt f.from f.entries p → AreMembersBetween q at p out
+pub held_between : (q : Portion) (at p : Position) (jobs : List Job) (f : Machine) (out : List Symbol) → AreJobsFrom q at jobs → IsHeld q.request jobs at f out → StandsAt f.from f.entries p → AreMembersBetween q at p out
 held_between q at p jobs f out from held stands =
-    let covered = held_covered q jobs at f out held in
+    let covered = held_covered q.request jobs at f out held in
     let same : covered.stands ≡ p = stands_once f.from covered.stands p f.entries covered.stands_at stands in
     record {
       ascending = covered.ascending;
       members = λ s. (
-        (λ there. let between = (covered.emitted s).0 there in record { member = between.from.under.under.member; later = between.from.later; earlier = subst (λ z. IsBefore z s) same between.before }),
+        (λ there. let between = (covered.emitted s).0 there in record { member = from_member q at jobs s from between.from.under; later = between.from.later; earlier = subst (λ z. IsBefore z s) same between.before }),
         (λ is. (covered.emitted s).1 (record { from = record { under = from_covers q at jobs s from is.member is.later; later = is.later }; before = subst (λ z. IsBefore z s) (sym same) is.earlier })),
       );
     }
 
-pub held_no_earlier : (q : Request) (at p : Position) (jobs : List Job) (f : Machine) (out : List Symbol) → IsHeld q jobs at f out → StandsAt f.from f.entries p → IsNoEarlier q at p
+pub held_no_earlier : (q : Portion) (at p : Position) (jobs : List Job) (f : Machine) (out : List Symbol) → IsHeld q.request jobs at f out → StandsAt f.from f.entries p → IsNoEarlier q at p
 held_no_earlier q at p jobs f out held stands s member before =
-    before_stands f.from p (jobs_of f.entries) s (jobs_stand f.from p f.entries stands) (held.go_on.further s member before)
+    before_stands f.from p (jobs_of f.entries) s (jobs_stand f.from p f.entries stands) (held.go_on.further s (portion_member q s member) before)
 
 -- the members up to a position begin with those up to an earlier one
-first_members : (q : Request) (at p r : Position) (ss ts : List Symbol) → AreMembersBetween q at p ss → AreMembersBetween q at r ts → IsNoEarlier q p r → (rest : List Symbol) × (ts ≡ ss ++ rest)
+first_members : (q : Portion) (at p r : Position) (ss ts : List Symbol) → AreMembersBetween q at p ss → AreMembersBetween q at r ts → IsNoEarlier q p r → (rest : List Symbol) × (ts ≡ ss ++ rest)
 first_members q at p r ss ts early late order =
     begins_with ss ts early.ascending late.ascending
     (λ s there. let own = (early.members s).0 there in (late.members s).1 (record { member = own.member; later = own.later; earlier = order s own.member own.earlier }))
@@ -72,7 +73,7 @@ first_members q at p r ss ts early late order =
     (λ before. inl ((early.members t).1 (record { member = own.member; later = own.later; earlier = before })))
     (λ not. inr (all_from_members (λ m. IsBelow m t) ss (λ m among.
     let other = (early.members m).0 among in
-    below_over p m t other.member.wanted.symbol.table own.member.wanted.symbol.table other.earlier not)))
+    below_over p m t (portion_symbol q m other.member).table (portion_symbol q t own.member).table other.earlier not)))
     (before_or_not p t))
 
 -- a text of more lines begins with what went out
@@ -88,15 +89,15 @@ pub next_round : (w : Way) (most : ℕ) (now : Option (List ℕ)) (page : Page) 
     → (p : Position) × IsUnderWay (record { start = w.start; jobs = w.jobs; base = w.base; known = w.known; since = p; round = take most (jobs_of f.entries) }) now page g
 next_round w most now page f g round opens way =
     let at = stands_somewhere f.from f.entries in
-    let between = held_between w.start.request w.start.at at.0 w.jobs f way.members way.emitted.from way.emitted.held at.1 in
+    let between = held_between w.start.portion w.start.at at.0 w.jobs f way.members way.emitted.from way.emitted.held at.1 in
     (at.0, way_round w most now page f g at.0 round opens way (λ s there. ((between.members s).0 there).earlier))
 
 -- ## What went out
 
 pub record WentOut (w : Way) (old now : Option (List ℕ)) (output : List ℕ) : Type 0 where
   pub appended : Appends old now output
-  pub front : (text : List ℕ) → IsText w.start.request w.start.at w.start.lines text → Begins output text
-  pub shown : (m : Symbol) → IsMember w.start.request m → (¬ IsBefore w.start.at m) → IsShown w.start output m → IsBefore w.since m ⊎ IsUnderOne w.start.request w.round m
+  pub front : (text : List ℕ) → IsPortionText w.start.portion w.start.at w.start.lines text → Begins output text
+  pub shown : (m : Symbol) → IsPortionMember w.start.portion m → (¬ IsBefore w.start.at m) → IsShown w.start output m → IsBefore w.since m ⊎ IsUnderOne w.start.portion.request w.round m
 
 pub went_out : (w : Way) (old now : Option (List ℕ)) (part : IsPartOut w now) → Appends old w.known w.base → WentOut w old now (w.base ++ part.out.written)
 went_out w old now part before = record {
@@ -109,8 +110,8 @@ went_out w old now part before = record {
   shown = λ m member later is. part.recent m (among m member later is);
 }
   where
-    q : Request
-    q = w.start.request
+    q : Portion
+    q = w.start.portion
 
     at : Position
     at = w.start.at
@@ -127,17 +128,19 @@ went_out w old now part before = record {
     p : Position
     p = where_it.0
 
-    between : AreMembersBetween w.start.request w.start.at p part.members
-    between = held_between w.start.request w.start.at p w.jobs part.machine part.members part.from part.held where_it.1
+    between : AreMembersBetween w.start.portion w.start.at p part.members
+    between = held_between w.start.portion w.start.at p w.jobs part.machine part.members part.from part.held where_it.1
 
-    among : (m : Symbol) → IsMember w.start.request m → (¬ IsBefore w.start.at m) → IsShown w.start (w.base ++ part.out.written) m → Contains part.members m
+    among : (m : Symbol) → IsPortionMember w.start.portion m → (¬ IsBefore w.start.at m) → IsShown w.start (w.base ++ part.out.written) m → Contains part.members m
     among m member later is =
         ⊎_elim
         (λ before. (between.members m).1 (record { member = member; later = later; earlier = before }))
         (λ not.
-        let order : IsNoEarlier w.start.request p (at_symbol m) = λ s other early.
-        before_symbol s m other.wanted.symbol.table member.wanted.symbol.table (below_over p s m other.wanted.symbol.table member.wanted.symbol.table early not) in
-        let first = first_members w.start.request w.start.at p (at_symbol m) part.members is.lines.members between is.lines.between order in
+        let order : IsNoEarlier w.start.portion p (at_symbol m) = λ s other early.
+        let one = (portion_symbol q s other).table in
+        let two = (portion_symbol q m member).table in
+        before_symbol s m one two (below_over p s m one two early not) in
+        let first = first_members w.start.portion w.start.at p (at_symbol m) part.members is.lines.members between is.lines.between order in
         let begins = text_begins w.start.lines out.shown out.later first.0 is.lines.members (w.base ++ out.written) out.rest is.before (first.1 ∙ ap (λ ss. ss ++ first.0) out.parts) out.lines is.lines.lines in
         let size = ap length begins.1 ∙ length-append (w.base ++ out.written) begins.0 in
         let shorter = is.shorter in
@@ -145,26 +148,28 @@ went_out w old now part before = record {
         (before_or_not p m)
 
 -- where nothing is collected, what was written are the lines up to where the machine stands
-pub lines_between : (w : Way) (now : Option (List ℕ)) (page : Page) (f : Machine) (members : List Symbol) (p : Position) → AreJobsFrom w.start.request w.start.at w.jobs
-    → IsHeld w.start.request w.jobs w.start.at f members → (has : HasLines w.start.lines w.base w.known now page members) → IsEmpty page → StandsAt f.from f.entries p
-    → AreLinesBetween w.start.request w.start.at p w.start.lines page.count (w.base ++ has.written)
+pub lines_between : (w : Way) (now : Option (List ℕ)) (page : Page) (f : Machine) (members : List Symbol) (p : Position) → AreJobsFrom w.start.portion w.start.at w.jobs
+    → IsHeld w.start.portion.request w.jobs w.start.at f members → (has : HasLines w.start.lines w.base w.known now page members) → IsEmpty page → StandsAt f.from f.entries p
+    → AreLinesBetween w.start.portion w.start.at p w.start.lines page.count (w.base ++ has.written)
 lines_between w now page f members p from held has empty stands = record {
   members = members;
-  between = held_between w.start.request w.start.at p w.jobs f members from held stands;
-  no_earlier = held_no_earlier w.start.request w.start.at p w.jobs f members held stands;
+  between = held_between w.start.portion w.start.at p w.jobs f members from held stands;
+  no_earlier = held_no_earlier w.start.portion w.start.at p w.jobs f members held stands;
   count = has.count;
   lines = all_written w.start.lines w.base w.known now page members empty has;
 }
 
 -- a member whose line is in the lines up to a position, in whole or in part, is before it
-pub shown_earlier : (s : Start) (p : Position) (n : ℕ) (output : List ℕ) → AreLinesBetween s.request s.at p s.lines n output → (m : Symbol) → IsMember s.request m → IsShown s output m → IsBefore p m
+pub shown_earlier : (s : Start) (p : Position) (n : ℕ) (output : List ℕ) → AreLinesBetween s.portion s.at p s.lines n output → (m : Symbol) → IsPortionMember s.portion m → IsShown s output m → IsBefore p m
 shown_earlier s p n output lines m member is =
     ⊎_elim
     (λ before. before)
     (λ not.
-    let order : IsNoEarlier s.request p (at_symbol m) = λ x other early.
-    before_symbol x m other.wanted.symbol.table member.wanted.symbol.table (below_over p x m other.wanted.symbol.table member.wanted.symbol.table early not) in
-    let first = first_members s.request s.at p (at_symbol m) lines.members is.lines.members lines.between is.lines.between order in
+    let order : IsNoEarlier s.portion p (at_symbol m) = λ x other early.
+    let one = (portion_symbol s.portion x other).table in
+    let two = (portion_symbol s.portion m member).table in
+    before_symbol x m one two (below_over p x m one two early not) in
+    let first = first_members s.portion s.at p (at_symbol m) lines.members is.lines.members lines.between is.lines.between order in
     let begins = text_begins s.lines lines.members [] first.0 is.lines.members output [] is.before (first.1 ∙ ap (λ ss. ss ++ first.0) (sym (append-nil lines.members)))
     (subst (AreLines s.lines lines.members) (sym (append-nil output)) lines.lines) is.lines.lines in
     let size = ap length begins.1 ∙ length-append output begins.0 in
@@ -174,7 +179,7 @@ shown_earlier s p n output lines m member is =
 
 -- ## Ends of the run's own
 
-pub finish_whole : (s : Start) (pause : Option ℕ) (limit : Limit) (count : ℕ) (output : List ℕ) → IsLimit s.lines pause limit → AreLinesBetween s.request s.at End s.lines count output → count ≤ limit.last
+pub finish_whole : (s : Start) (pause : Option ℕ) (limit : Limit) (count : ℕ) (output : List ℕ) → IsLimit s.lines pause limit → AreLinesBetween s.portion s.at End s.lines count output → count ≤ limit.last
     → WritesRest s pause output
 finish_whole s pause limit count output is lines low = go limit.pauses is
   where
@@ -204,7 +209,7 @@ finish_full s pause limit output is lines = go limit.pauses is
 pub full_lines : (w : Way) (now : Option (List ℕ)) (page : Page) (last : ℕ) (f : Machine) (full : IsFull w now page last f) → IsEmpty page → WritesUpTo w.start last (w.base ++ full.lines.written)
 full_lines w now page last f full empty = record {
   at = at_symbol full.next;
-  written = subst (λ n. AreLinesBetween w.start.request w.start.at (at_symbol full.next) w.start.lines n (w.base ++ full.lines.written)) full.count
+  written = subst (λ n. AreLinesBetween w.start.portion w.start.at (at_symbol full.next) w.start.lines n (w.base ++ full.lines.written)) full.count
       (lines_between w now page f full.members (at_symbol full.next) full.from full.held full.lines empty full.stands);
   next = record { next = full.next; member = full.member; job_is = refl };
 }

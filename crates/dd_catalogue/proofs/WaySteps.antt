@@ -12,7 +12,7 @@ use Rattle.dd_model.specs.Position.{IsBefore}
 use Rattle.dd_model.specs.Jobs.{IsMemberUnder, IsJobOf}
 use Rattle.dd_model.specs.declared.jobs.Job.{Job}
 use Rattle.dd_model.specs.declared.jobs.Position.{Position}
-use Rattle.dd_model.proofs.Lists.{Contains-none, Contains-head, Contains-later, Contains-cases}
+use Rattle.dd_model.proofs.Lists.{Contains-none, Contains-head, Contains-later, Contains-cases, Contains-map}
 use Rattle.dd_model.proofs.Without.{without_there}
 use Rattle.dd_front.specs.declared.entry.Entry.{Entry}
 use Rattle.dd_front.specs.declared.entry.State.{State}
@@ -35,7 +35,7 @@ use Rattle.dd_pages.specs.Pages.{IsEmpty, AddsAll, KeepsLines, WritesFront, Writ
 use Rattle.dd_pages.specs.Rounds.{IsBegun, AreOpen, AreDoneThenOpen, IsRoundDone}
 use Rattle.dd_catalogue.specs.Ways.{Way, AreRecent, AreOfRound, HasEmitted, EmitsMore, IsUnderWay, IsFull, IsPartOut, IsAny, GoesOn, FillsUp, WritesPart}
 use Rattle.dd_pages.specs.declared.pages.Page.{Page}
-use Rattle.dd_catalogue.proofs.JobsFrom.{from_jobs}
+use Rattle.dd_catalogue.proofs.JobsFrom.{from_jobs, from_member}
 use Rattle.dd_pages.proofs.PageLemmas.{front_kept}
 use Rattle.dd_catalogue.proofs.RoundEntries.{open_all, opened_open, round_jobs, round_entries, done_in_round}
 
@@ -76,7 +76,7 @@ way_first s known page f p begun empty count bytes =
         gone = [];
         jobs_are = sym listed;
         entries_are = subst AreDoneThenOpen (sym o.entries) (open_all (open_entries 1 begun.jobs) (opened_open 1 begun.jobs));
-        held = held_first s.request begun.jobs s.at s.lines f o;
+        held = held_first s.portion.request begun.jobs s.at s.lines f o;
         recent = λ m there. absurd (Contains-none m there);
         of_round = none_done w f.entries (begun_open s f begun);
       };
@@ -99,7 +99,7 @@ way_round w most now page f g p round opens way before =
         gone = been.gone;
         jobs_are = been.jobs_are ∙ ap (λ js. been.gone ++ js) (sym (round_jobs most f g round));
         entries_are = round_entries most f g round opens;
-        held = held_absorbed w.start.request w.jobs w.start.at f g way.members round.count round.found been.held round.may round.absorbs;
+        held = held_absorbed w.start.portion.request w.jobs w.start.at f g way.members round.count round.found been.held round.may round.absorbs;
         recent = λ s there. inl (before s there);
         of_round = done_in_round most f g round opens;
       };
@@ -120,7 +120,7 @@ module _ (w : Way) (f : Machine) (ss : List Symbol) (been : HasEmitted w f ss) (
   entry_there : Contains f.entries (entry_of first.number first.job (Done list))
   entry_there = subst (λ es. Contains es (entry_of first.number first.job (Done list))) (sym first.entries) (Contains-head (entry_of first.number first.job (Done list)) first.rest)
 
-  first_under : (s : Symbol) → Contains list s → IsMemberUnder w.start.request first.job s
+  first_under : (s : Symbol) → Contains list s → IsMemberUnder w.start.portion.request first.job s
   first_under s there = ((been.held.found (entry_of first.number first.job (Done list)) entry_there list refl).members s).0 there
 
   recent_more : (emitted : List Symbol) → ((s : Symbol) → Contains emitted s → Contains list s) → AreRecent w (ss ++ emitted)
@@ -144,7 +144,7 @@ emits_first f g emitted emits w ss been =
       gone = been.gone ++ first.job ∷ [];
       jobs_are = been.jobs_are ∙ ap (λ js. been.gone ++ js) jobs ∙ sym (append_assoc been.gone (first.job ∷ []) (jobs_of g.entries));
       entries_are = subst AreDoneThenOpen (sym rest) (first_done f.entries first.rest first.number first.job emits.list first.entries been.entries_are);
-      held = held_next w.start.request w.jobs w.start.at f g ss emitted Emit been.held (record { allowed = (emits.list, first); step = emits });
+      held = held_next w.start.portion.request w.jobs w.start.at f g ss emitted Emit been.held (record { allowed = (emits.list, first); step = emits });
       recent = recent_more w f ss been emits.list first emitted inside;
       of_round = λ e there done. been.of_round e (subst (λ es. Contains es e) (sym first.entries) (Contains-later (entry_of first.number first.job (Done emits.list)) e first.rest (subst (λ es. Contains es e) rest there))) done;
     }
@@ -220,8 +220,8 @@ module _ (w : Way) (before now : Option (List ℕ)) (old : Page) (f g : Machine)
       let is = part.count in
       record { list = part.list; done = part.first; later = emitted ++ part.next ∷ part.rest; not_before = part.not_before; more = omega (arith, size, is) }
 
-  held_after : IsHeld w.start.request w.jobs w.start.at g (way.members ++ emitted)
-  held_after = held_next w.start.request w.jobs w.start.at f g way.members emitted (Part count) way.emitted.held (record { allowed = more; step = part })
+  held_after : IsHeld w.start.portion.request w.jobs w.start.at g (way.members ++ emitted)
+  held_after = held_next w.start.portion.request w.jobs w.start.at f g way.members emitted (Part count) way.emitted.held (record { allowed = more; step = part })
 
   recent_after : AreRecent w (way.members ++ emitted)
   recent_after = recent_more w f way.members way.emitted part.list part.first emitted emitted_in
@@ -230,6 +230,10 @@ module _ (w : Way) (before now : Option (List ℕ)) (old : Page) (f g : Machine)
   part_full new adds size =
       let first = part.first in
       let under = first_under w f way.members way.emitted part.list first part.next (inside part.next (Contains-append_right emitted (part.next ∷ part.rest) part.next (Contains-head part.next part.rest))) in
+      let listed : Contains w.jobs first.job =
+      subst (λ js. Contains js first.job) (sym way.emitted.jobs_are)
+      (Contains-append_right way.emitted.gone (jobs_of f.entries) first.job
+      (Contains-map (λ (e : Entry). e.job) f.entries (entry_of first.number first.job (Done part.list)) (entry_there w f way.members way.emitted part.list first))) in
       let entries : g.entries ≡ entry_of first.number first.job (Done part.list) ∷ first.rest = ap (λ (m : Machine). m.entries) part.after ∙ first.entries in
       let from : g.from ≡ at_symbol part.next = ap (λ (m : Machine). m.from) part.after in
       record {
@@ -240,7 +244,7 @@ module _ (w : Way) (before now : Option (List ℕ)) (old : Page) (f g : Machine)
         recent = recent_after;
         count = size ∙ ap (λ n. old.count + n) part.count;
         next = part.next;
-        member = under.member;
+        member = from_member w.start.portion w.start.at w.jobs part.next way.emitted.from (record { job = first.job; listed = listed; under = under });
         stands = subst (λ es. StandsAt g.from es (at_symbol part.next)) (sym entries)
             (subst (λ p. StandsAt p (entry_of first.number first.job (Done part.list) ∷ first.rest) (at_symbol part.next)) (sym from) (inl (inr (sym under.size, under.begins), refl)));
       }
@@ -320,9 +324,9 @@ none_on_way f None not first = first
 none_on_way f (Some n) not first = cc
 
 -- the jobs of a run under way are jobs of its request
-pub way_jobs : (w : Way) (now : Option (List ℕ)) (page : Page) (f : Machine) → IsUnderWay w now page f → AreJobsOf w.start.request (jobs_of f.entries)
+pub way_jobs : (w : Way) (now : Option (List ℕ)) (page : Page) (f : Machine) → IsUnderWay w now page f → AreJobsOf w.start.portion.request (jobs_of f.entries)
 way_jobs w now page f way =
-    all_back (IsJobOf w.start.request) way.emitted.gone (jobs_of f.entries) (subst (AreJobsOf w.start.request) way.emitted.jobs_are (from_jobs w.start.request w.start.at w.jobs way.emitted.from))
+    all_back (IsJobOf w.start.portion.request) way.emitted.gone (jobs_of f.entries) (subst (AreJobsOf w.start.portion.request) way.emitted.jobs_are (from_jobs w.start.portion w.start.at w.jobs way.emitted.from))
 
 -- ## What was collected is written
 

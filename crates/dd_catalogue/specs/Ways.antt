@@ -4,7 +4,7 @@ use Rattle.std.specs.List.{Contains}
 use Rattle.dd_model.specs.Symbol.{Symbol}
 use Rattle.dd_model.specs.Position.{IsBefore}
 use Rattle.dd_model.specs.Joined.{IsUnderOne}
-use Rattle.dd_model.specs.Wanted.{IsMember}
+use Rattle.dd_jobs.specs.Portions.{IsPortionMember}
 use Rattle.dd_model.specs.declared.jobs.Job.{Job}
 use Rattle.dd_model.specs.declared.jobs.Position.{Position}
 use Rattle.dd_front.specs.declared.entry.Entry.{Entry}
@@ -30,7 +30,7 @@ pub record Way : Type 0 where
 
 -- Each member that was emitted is before the beginning of the round, or under one of its jobs.
 abbrev pub AreRecent : Way → List Symbol → Type 0
-AreRecent w ss = (s : Symbol) → Contains ss s → IsBefore w.since s ⊎ IsUnderOne w.start.request w.round s
+AreRecent w ss = (s : Symbol) → Contains ss s → IsBefore w.since s ⊎ IsUnderOne w.start.portion.request w.round s
 
 -- the entries that are done are those of the round
 abbrev pub AreOfRound : Way → List Entry → Type 0
@@ -38,13 +38,13 @@ AreOfRound w es = (e : Entry) → Contains es e → IsDone e.state → Contains 
 
 -- the machine has emitted these members since the start
 pub record HasEmitted (w : Way) (f : Machine) (members : List Symbol) : Type 0 where
-  pub from : AreJobsFrom w.start.request w.start.at w.jobs
+  pub from : AreJobsFrom w.start.portion w.start.at w.jobs
   pub opened : f.opened ≡ w.start.lines
   pub stays : f.from ≡ w.start.at
   pub gone : List Job
   pub jobs_are : w.jobs ≡ gone ++ jobs_of f.entries
   pub entries_are : AreDoneThenOpen f.entries
-  pub held : IsHeld w.start.request w.jobs w.start.at f members
+  pub held : IsHeld w.start.portion.request w.jobs w.start.at f members
   pub recent : AreRecent w members
   pub of_round : AreOfRound w f.entries
 
@@ -66,13 +66,13 @@ pub record GoesOn (before now : Option (List ℕ)) (old new : Page) (f g : Machi
 -- the machine has emitted the members up to a last line, and stands at one more
 pub record IsFull (w : Way) (now : Option (List ℕ)) (page : Page) (last : ℕ) (g : Machine) : Type 0 where
   pub members : List Symbol
-  pub from : AreJobsFrom w.start.request w.start.at w.jobs
-  pub held : IsHeld w.start.request w.jobs w.start.at g members
+  pub from : AreJobsFrom w.start.portion w.start.at w.jobs
+  pub held : IsHeld w.start.portion.request w.jobs w.start.at g members
   pub lines : HasLines w.start.lines w.base w.known now page members
   pub recent : AreRecent w members
   pub count : page.count ≡ last
   pub next : Symbol
-  pub member : IsMember w.start.request next
+  pub member : IsPortionMember w.start.portion next
   pub stands : StandsAt g.from g.entries (at_symbol next)
 
 -- Whatever was under way comes to its last line.
@@ -83,8 +83,8 @@ FillsUp before now old new last f g = (w : Way) → IsUnderWay w before old f �
 pub record IsPartOut (w : Way) (now : Option (List ℕ)) : Type 0 where
   pub machine : Machine
   pub members : List Symbol
-  pub from : AreJobsFrom w.start.request w.start.at w.jobs
-  pub held : IsHeld w.start.request w.jobs w.start.at machine members
+  pub from : AreJobsFrom w.start.portion w.start.at w.jobs
+  pub held : IsHeld w.start.portion.request w.jobs w.start.at machine members
   pub recent : AreRecent w members
   pub out : IsFrontOut w.start.lines w.base w.known now members
 

@@ -27,8 +27,8 @@ pub fn write_catalogue<R: Threads + Wait + Sync, F: Finder + Sync, G: Gate + Syn
     run: &Run,
     out: &mut O,
 ) -> Result<Finish, SinkFault>
-    requires request { F.request finder.old ≡ run.now.request }
-    requires valid { IsValid run.now.request }
+    requires request { F.request finder.old ≡ run.now.portion.request }
+    requires valid { IsValid run.now.portion.request }
     requires position { IsPosition run.now.at }
     requires lines { run.now.lines ≤ 1000000000000000000 }
     requires workers { (1 ≤ run.now.pace.workers) × (run.now.pace.workers ≤ 64) }
@@ -58,8 +58,8 @@ fn write_rounds<R: Threads + Wait + Sync, F: Finder + Sync, G: Gate + Sync, O: S
     page: &mut Page,
     out: &mut O,
 ) -> Result<Finish, SinkFault>
-    requires request { F.request finder.old ≡ run.now.request }
-    requires valid { IsValid run.now.request }
+    requires request { F.request finder.old ≡ run.now.portion.request }
+    requires valid { IsValid run.now.portion.request }
     requires lines { run.now.lines ≤ 1000000000000000000 }
     requires workers { (1 ≤ run.now.pace.workers) × (run.now.pace.workers ≤ 64) }
     requires round { 1 ≤ run.now.pace.round }

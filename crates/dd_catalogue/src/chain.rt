@@ -36,11 +36,11 @@ pub fn write_run<R: Threads + Wait + Sync, F: Finder + Sync, G: Gate + Sync, S: 
     store: &mut S,
     out: &mut O,
 ) -> Result<Finish, RunFault>
-    requires request { F.request finder.old ≡ run.now.request }
-    requires valid { IsValid run.now.request }
+    requires request { F.request finder.old ≡ run.now.portion.request }
+    requires valid { IsValid run.now.portion.request }
     requires position { IsPosition run.now.at }
     requires lines { run.now.lines ≤ 1000000000000000000 }
-    requires first { run.now.number ≡ 1 → start_of run.now ≡ first_start run.now.request }
+    requires first { run.now.number ≡ 1 → start_of run.now ≡ first_start run.now.portion }
     requires workers { (1 ≤ run.now.pace.workers) × (run.now.pace.workers ≤ 64) }
     requires round { 1 ≤ run.now.pace.round }
     ensures request { F.request finder.new ≡ F.request finder.old }
@@ -79,10 +79,10 @@ fn keep_rounds<R: Threads + Wait + Sync, F: Finder + Sync, G: Gate + Sync, S: St
     store: &mut S,
     out: &mut O,
 ) -> Result<Finish, RunFault>
-    requires request { F.request finder.old ≡ run.now.request }
-    requires valid { IsValid run.now.request }
+    requires request { F.request finder.old ≡ run.now.portion.request }
+    requires valid { IsValid run.now.portion.request }
     requires lines { run.now.lines ≤ 1000000000000000000 }
-    requires first { run.now.number ≡ 1 → start_of run.now ≡ first_start run.now.request }
+    requires first { run.now.number ≡ 1 → start_of run.now ≡ first_start run.now.portion }
     requires workers { (1 ≤ run.now.pace.workers) × (run.now.pace.workers ≤ 64) }
     requires round { 1 ≤ run.now.pace.round }
     requires begun { IsBegun (start_of run.now) front.old }

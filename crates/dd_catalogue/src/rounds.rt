@@ -12,7 +12,6 @@ ghost use Rattle.dd_pages.specs.Runs.{start_of};
 ghost use Rattle.dd_pages.specs.Rounds.{IsBegun, AreOpen, IsRoundDone, IsAtEnd};
 
 use dd_front::{Entry, Finder, Front, State};
-use dd_jobs::opening;
 use dd_model::{Job, Memory, Position};
 use dd_pages::{Pace, Run};
 use dd_ports::Gate;
@@ -48,14 +47,14 @@ fn jobs_from(mut jobs: Vec<Job>, at: &Position) -> Vec<Job>
 
 /// A front of the jobs of a run.
 pub fn front_of(alloc: Global, run: &Run) -> Result<Front, Memory>
-    requires valid { IsValid run.now.request }
+    requires valid { IsValid run.now.portion.request }
     requires position { IsPosition run.now.at }
     ensures { IfOk result (IsBegun (start_of run.now)) }
 {
-    let jobs = jobs_from(opening(alloc, &run.request)?, &run.at);
+    let jobs = jobs_from(run.portion.opening(alloc)?, &run.at);
     Front::open(
         alloc,
-        run.request,
+        run.portion.request,
         jobs,
         run.at.try_copy()?,
         u128::from(run.lines),

@@ -1,5 +1,5 @@
 -- Where a run may stop, a catalogue may go on.
-use Rattle.std.proofs.Common.{◌≡◌, ℕ, ◌+◌, ◌-◌, ◌*◌, ◌<◌, ◌≤◌, min, List, ◌++◌, length, take, get_or, sym, ap, ◌∙◌, subst, inl, inr, arith}
+use Rattle.std.proofs.Common.{◌≡◌, ℕ, ◌+◌, ◌-◌, ◌*◌, ◌<◌, ◌≤◌, min, List, ◌++◌, length, take, take_all, get_or, Some, sym, ap, ◌∙◌, subst, inl, inr, arith}
 use Rattle.std.proofs.lemmas.List.{append_assoc, length-append, get_or-append-add}
 use Rattle.std.proofs.lemmas.List.Elements.{Contains-get_or}
 use Rattle.std.specs.List.{AllByRecursion}
@@ -8,6 +8,7 @@ use Rattle.dd_model.specs.Code.{code, all_images}
 use Rattle.dd_model.specs.Allowed.{IsIn}
 use Rattle.dd_model.specs.Request.{IsValid}
 use Rattle.dd_model.specs.Wanted.{IsMember}
+use Rattle.dd_model.specs.Jobs.{IsMemberUnder}
 use Rattle.dd_model.specs.declared.allowed.Allowed.{Allowed}
 use Rattle.dd_model.specs.declared.jobs.Job.{Job}
 use Rattle.dd_model.specs.declared.jobs.Position.{Position}
@@ -19,32 +20,56 @@ use Rattle.dd_model.proofs.Ascending.{all-append}
 use Rattle.dd_model.proofs.Codes.{length-code, length-flat_images}
 use Rattle.dd_model.proofs.Lists.{all_from_members, each_of}
 use Rattle.dd_model.proofs.AllowedLemmas.{in_small}
+use Rattle.dd_jobs.specs.declared.shards.Shard.{Shard}
 use Rattle.dd_jobs.specs.Opening.{IsOpeningJob}
+use Rattle.dd_jobs.specs.Shards.{IsShardJob}
+use Rattle.dd_jobs.specs.declared.portions.Portion.{Portion}
+use Rattle.dd_jobs.proofs.PortionLaws.{shard_job, portion_job, portion_member}
 use Rattle.dd_jobs.proofs.Growth.{begins_take}
 use Rattle.dd_jobs.proofs.OpeningLaws.{covered}
 use Rattle.dd_jobs.proofs.Places.{chamber_at}
 use Rattle.dd_check.specs.Places.{opening_job, IsWholePlace, IsPlace}
 use Rattle.dd_check.specs.Ranges.{IsFromTo, IsJobInRange, IsInRange}
 use Rattle.dd_check.specs.ChainPuts.{IsStop}
+use Rattle.dd_check.specs.ShardChecks.{IsShardPlace}
 
 -- the size and the code of a symbol
 abbrev whole_job : Symbol → Job
 whole_job s = record { size = s.size; prefix = code s }
 
+-- the job that a member is under is the first numbers of its code
+first_numbers : (q : Request) (s : Symbol) (job : Job) → IsOpeningJob q job → IsMemberUnder q job s → job ≡ opening_job (whole_job s)
+first_numbers q s job is under =
+    let size : job.size ≡ s.size = sym under.size in
+    let prefix : job.prefix ≡ take (min (3 * s.size) 9) (code s) =
+    sym (begins_take job.prefix (code s) under.begins) ∙ ap (λ n. take n (code s)) (is.numbers ∙ ap (λ n. min (3 * n) 9) size) in
+    λ i. record { size = size i; prefix = prefix i }
+
 -- its first numbers are a job of the opening
 whole_place : (q : Request) (s : Symbol) → IsMember q s → IsWholePlace q (whole_job s)
 whole_place q s member =
     let c = covered q s member.wanted.symbol member.wanted.connected member.least member.wanted.chambers in
-    let size : c.job.size ≡ s.size = sym c.size in
-    let prefix : c.job.prefix ≡ take (min (3 * s.size) 9) (code s) =
-    sym (begins_take c.job.prefix (code s) c.begins) ∙ ap (λ n. take n (code s)) (c.opening.numbers ∙ ap (λ n. min (3 * n) 9) size) in
-    let same : c.job ≡ opening_job (whole_job s) = λ i. record { size = size i; prefix = prefix i } in
+    let same = first_numbers q s c.job c.opening (record { member = member; size = c.size; begins = c.begins }) in
     record { whole = length-code s member.wanted.symbol.table; begins = subst (IsOpeningJob q) same c.opening }
 
-pub stop_place : (q : Request) (at : Position) → IsStop q at → IsPlace q at
-stop_place q End stop = tt
-stop_place q (At job) (inl opening) = inl opening
-stop_place q (At job) (inr m) = inr (subst (IsWholePlace q) (sym m.job_is) (whole_place q m.next m.member))
+pub stop_place : (p : Portion) (at : Position) → IsStop p at → IsPlace p.request at
+stop_place p End stop = tt
+stop_place p (At job) (inl of_portion) = inl (portion_job p job of_portion)
+stop_place p (At job) (inr m) = inr (subst (IsWholePlace p.request) (sym m.job_is) (whole_place p.request m.next (portion_member p m.next m.member)))
+
+-- a job of the opening is its own first numbers
+own_numbers : (q : Request) (job : Job) → IsOpeningJob q job → job ≡ opening_job job
+own_numbers q job is =
+    let all = is.numbers in
+    let prefix : job.prefix ≡ take (min (3 * job.size) 9) job.prefix = sym (take_all (min (3 * job.size) 9) job.prefix (omega (arith, all))) in
+    λ i. record { size = job.size; prefix = prefix i }
+
+pub stop_in_shard : (q : Request) (shard : Shard) (at : Position) → IsStop (record { request = q; shard = Some shard }) at → IsShardPlace q shard at
+stop_in_shard q shard End stop = tt
+stop_in_shard q shard (At job) (inl of_shard) = subst (IsShardJob q shard) (own_numbers q job (shard_job q shard job of_shard)) of_shard
+stop_in_shard q shard (At job) (inr m) =
+    let same = first_numbers q m.next m.member.job (shard_job q shard m.member.job m.member.of_shard) m.member.under in
+    subst (λ j. IsShardJob q shard (opening_job j)) (sym m.job_is) (subst (IsShardJob q shard) same m.member.of_shard)
 
 degrees_in : (a : Allowed) (xs : List ℕ) (n : ℕ) → length xs ≡ n → ((d : ℕ) → (1 ≤ d) × (d ≤ n) → IsIn a (item xs d) × (1 ≤ item xs d)) → AllByRecursion (IsFromTo 1 216) xs
 degrees_in a xs n long each = all_from_members (IsFromTo 1 216) xs (λ x there.
@@ -87,9 +112,10 @@ whole_range q s valid member =
       numbers = record { images = λ t low image. chamber_at s table t image; degrees = degree_at q s member };
     }
 
-pub stop_range : (q : Request) → IsValid q → (at : Position) → IsStop q at → IsInRange q.chambers at
-stop_range q valid End stop = tt
-stop_range q valid (At job) (inl opening) =
+pub stop_range : (p : Portion) → IsValid p.request → (at : Position) → IsStop p at → IsInRange p.request.chambers at
+stop_range p valid End stop = tt
+stop_range p valid (At job) (inl of_portion) =
+    let opening = portion_job p job of_portion in
     let long = opening.numbers in
     record {
       size = opening.size;
@@ -99,4 +125,4 @@ stop_range q valid (At job) (inl opening) =
         degrees = λ t low high. absurd (omega (arith, long, low, high));
       };
     }
-stop_range q valid (At job) (inr m) = subst (IsJobInRange q.chambers) (sym m.job_is) (whole_range q m.next valid m.member)
+stop_range p valid (At job) (inr m) = subst (IsJobInRange p.request.chambers) (sym m.job_is) (whole_range p.request m.next valid (portion_member p m.next m.member))

@@ -6,12 +6,12 @@ use Rattle.dd_model.specs.Symbol.{Symbol, IsSymbol}
 use Rattle.dd_model.specs.Code.{IsBelow}
 use Rattle.dd_model.specs.Lists.{Begins, IsWithout}
 use Rattle.dd_model.specs.Position.{IsBefore}
-use Rattle.dd_model.specs.Text.{AreLines, IsText, beginning}
-use Rattle.dd_model.specs.Wanted.{IsMember, IsCatalogue}
+use Rattle.dd_model.specs.Text.{AreLines, beginning}
 use Rattle.dd_model.specs.declared.jobs.Position.{Position}
-use Rattle.dd_model.specs.declared.requests.Request.{Request}
+use Rattle.dd_jobs.specs.declared.portions.Portion.{Portion}
+use Rattle.dd_jobs.specs.Portions.{IsPortionMember, ArePortionMembers, IsPortionText}
+use Rattle.dd_jobs.proofs.PortionLaws.{IsTold, portion_symbol, told_text, text_from, members_unique}
 use Rattle.dd_model.proofs.Ascending.{ascending-append}
-use Rattle.dd_model.proofs.Catalogues.{catalogue_unique}
 use Rattle.dd_model.proofs.Lists.{all_from_members}
 use Rattle.dd_model.proofs.Pairs.{ascending_pairs, pairs_ascending}
 use Rattle.dd_model.proofs.Positions.{before_or_not, below_over}
@@ -28,24 +28,27 @@ without_some P decide (x ∷ xs) =
     ⊎_elim (λ holds. (rest.0, without_first P x xs rest.0 holds rest.1)) (λ not. (x ∷ rest.0, inr (not, refl, rest.1))) (decide x)
 
 -- a text from the beginning is the lines up to a position, and the text from there
-pub record IsParted (q : Request) (at : Position) (l : ℕ) (a text : Text) : Type 0 where
+pub record IsParted (q : Portion) (at : Position) (l : ℕ) (a text : Text) : Type 0 where
   pub rest : Text
-  pub from : IsText q at l rest
+  pub from : IsPortionText q at l rest
   pub text_is : text ≡ a ++ rest
 
-pub parted_text : (q : Request) (at : Position) (l : ℕ) (a text : Text) → AreLinesBetween q beginning at 0 l a → IsText q beginning 0 text → IsParted q at l a text
-parted_text q at l a text x t = record {
+pub parted_text : (q : Portion) (at : Position) (l : ℕ) (a text : Text) → AreLinesBetween q beginning at 0 l a → IsPortionText q beginning 0 text → IsParted q at l a text
+parted_text q at l a text x is = record {
   rest = parts.1;
-  from = record {
+  from = text_from q at l parts.1 (record {
     members = t.members;
     catalogue = t.catalogue;
     later = left.0;
     not_before = left.1;
     lines = subst (λ n. AreLines n left.0 parts.1) (sym x.count) parts.3;
-  };
+  });
   text_is = parts.4 ∙ ap (λ z. z ++ parts.1) (lines_unique 0 x.members parts.0 a parts.2 x.lines);
 }
   where
+    t : IsTold q beginning 0 text
+    t = told_text q beginning 0 text is
+
     left : (ss : List Symbol) × IsWithout (IsBefore at) t.members ss
     left = without_some (IsBefore at) (before_or_not at) t.members
 
@@ -54,24 +57,24 @@ parted_text q at l a text x t = record {
         let early = (x.between.members s).0 hs in
         let late = without_there (IsBefore at) t.members left.0 u left.1 hu in
         let member = (t.catalogue.members u).0 late.0 in
-        below_over at s u early.member.wanted.symbol.table member.wanted.symbol.table early.earlier late.1
+        below_over at s u (portion_symbol q s early.member).table (portion_symbol q u member).table early.earlier late.1
 
-    member_of : (s : Symbol) → Contains (x.members ++ left.0) s → IsMember q s
+    member_of : (s : Symbol) → Contains (x.members ++ left.0) s → IsPortionMember q s
     member_of s there =
         ⊎_elim
         (λ early. ((x.between.members s).0 early).member)
         (λ late. (t.catalogue.members s).0 (without_there (IsBefore at) t.members left.0 s left.1 late).0)
         (Contains-append_cases x.members left.0 s there)
 
-    there_is : (s : Symbol) → IsMember q s → Contains (x.members ++ left.0) s
+    there_is : (s : Symbol) → IsPortionMember q s → Contains (x.members ++ left.0) s
     there_is s member =
         ⊎_elim
         (λ before. Contains-append_left x.members left.0 s
-        ((x.between.members s).1 (record { member = member; later = nothing_before s member.wanted.symbol; earlier = before })))
+        ((x.between.members s).1 (record { member = member; later = nothing_before s (portion_symbol q s member); earlier = before })))
         (λ not. Contains-append_right x.members left.0 s (without_kept (IsBefore at) t.members left.0 s left.1 ((t.catalogue.members s).1 member) not))
         (before_or_not at s)
 
-    joined : IsCatalogue q (x.members ++ left.0)
+    joined : ArePortionMembers q (x.members ++ left.0)
     joined = record {
       ascending = ascending-append x.members left.0 x.between.ascending
           (pairs_ascending left.0 (without_pairs (IsBefore at) IsBelow t.members left.0 left.1 (ascending_pairs t.members t.catalogue.ascending))) below;
@@ -81,8 +84,8 @@ parted_text q at l a text x t = record {
     all_later : t.later ≡ x.members ++ left.0
     all_later =
         without_unique (IsBefore beginning) t.members t.later t.members t.not_before
-        (all_from_beginning t.members (all_from_members IsSymbol t.members (λ s there. ((t.catalogue.members s).0 there).wanted.symbol)))
-        ∙ catalogue_unique q t.members (x.members ++ left.0) t.catalogue joined
+        (all_from_beginning t.members (all_from_members IsSymbol t.members (λ s there. portion_symbol q s ((t.catalogue.members s).0 there))))
+        ∙ members_unique q t.members (x.members ++ left.0) t.catalogue joined
 
     parts : (b : Text) × (c : Text) × AreLines 0 x.members b × AreLines (0 + length x.members) left.0 c × (text ≡ b ++ c)
     parts = split_lines 0 x.members left.0 text (subst (λ ss. AreLines 0 ss text) all_later t.lines)

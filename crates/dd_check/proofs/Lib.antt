@@ -2,6 +2,9 @@ pub mod LinesUpTo
 pub mod Fronts
 pub mod ChainStops
 pub mod ReadingBack
+pub mod ShardTexts
+pub mod ShardReads
+pub mod KindFaults
 pub mod ChainParts
 mod ChainSteps
 pub mod Chained

@@ -9,6 +9,8 @@ use Rattle.dd_check.specs.declared.items.Item.{Item}
 use Rattle.dd_check.specs.declared.limits.Limits.{Limits}
 use Rattle.dd_check.specs.Texts.{Text, line_text}
 use Rattle.dd_check.specs.Rows.{number_row, filter_word, limits_row, set_row, place_row}
+use Rattle.dd_jobs.specs.declared.shards.Shard.{Shard}
+use Rattle.dd_check.specs.ShardChecks.{shard_line}
 use Rattle.dd_check.specs.Checks.{limits_of, check_text}
 use Rattle.dd_check.proofs.JoinLemmas.{numbers_joined}
 
@@ -30,6 +32,16 @@ job_line old o1 o2 o3 o4 size prefix e1 e2 e3 e4 =
     ∙ ap (λ z. old ++ (z ++ codes "\n")) (sym (numbers_joined (codes "at") (size ∷ prefix)))
   where
     regrouped : (old a b : Text) → old ++ codes "at" ++ (32 ∷ a) ++ b ++ codes "\n" ≡ old ++ ((codes "at" ++ ((32 ∷ a) ++ b)) ++ codes "\n")
+    regrouped old a b = simp append_assoc refl
+
+-- the line of a shard
+pub shard_row : (old o1 o2 o3 o4 : Text) (shard : Shard) → o1 ≡ old ++ codes "dressline shard" → o2 ≡ o1 ++ after_space shard.index → o3 ≡ o2 ++ after_space shard.count → o4 ≡ o3 ++ codes "\n"
+    → o4 ≡ old ++ shard_line shard
+shard_row old o1 o2 o3 o4 shard e1 e2 e3 e4 =
+    e4 ∙ ap (λ z. z ++ codes "\n") (e3 ∙ ap (λ z. z ++ after_space shard.count) (e2 ∙ ap (λ z. z ++ after_space shard.index) e1))
+    ∙ regrouped old (decimal shard.index) (decimal shard.count)
+  where
+    regrouped : (old a b : Text) → old ++ codes "dressline shard" ++ (32 ∷ a) ++ (32 ∷ b) ++ codes "\n" ≡ old ++ ((codes "dressline shard" ++ (32 ∷ (a ++ (32 ∷ b)))) ++ codes "\n")
     regrouped old a b = simp append_assoc refl
 
 -- the whole text

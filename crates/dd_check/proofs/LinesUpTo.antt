@@ -5,10 +5,12 @@ use Rattle.std.proofs.lemmas.List.Elements.{Contains-append_right, Contains-appe
 use Rattle.std.specs.List.{Contains}
 use Rattle.dd_model.specs.Symbol.{Symbol, IsSymbol}
 use Rattle.dd_model.specs.Code.{IsBelow}
-use Rattle.dd_model.specs.Text.{AreLines, IsText, beginning}
+use Rattle.dd_model.specs.Text.{AreLines, beginning}
 use Rattle.dd_model.specs.declared.jobs.Position.{Position}
 use Rattle.dd_model.specs.declared.jobs.Position.TheVariants.{End}
-use Rattle.dd_model.specs.declared.requests.Request.{Request}
+use Rattle.dd_jobs.specs.declared.portions.Portion.{Portion}
+use Rattle.dd_jobs.specs.Portions.{ArePortionMembers, IsPortionText}
+use Rattle.dd_jobs.proofs.PortionLaws.{portion_symbol, text_from}
 use Rattle.dd_model.proofs.Ascending.{ascending-append}
 use Rattle.dd_model.proofs.Lists.{Contains-none, all_from_members}
 use Rattle.dd_model.proofs.Positions.{before_or_not, below_over}
@@ -17,7 +19,7 @@ use Rattle.dd_check.specs.Texts.{Text}
 use Rattle.dd_check.specs.Between.{IsMemberBetween, AreLinesBetween, AreFirstLines}
 
 -- nothing is between a position and itself
-pub no_lines : (q : Request) (at : Position) (k : ℕ) → AreLinesBetween q at at k k []
+pub no_lines : (q : Portion) (at : Position) (k : ℕ) → AreLinesBetween q at at k k []
 no_lines q at k = record {
   members = [];
   between = record { ascending = tt; members = λ s. ((λ there. absurd (Contains-none s there)), (λ p. absurd (p.later p.earlier))) };
@@ -27,7 +29,7 @@ no_lines q at k = record {
 }
 
 -- the lines up to a position, and the lines from there to another
-pub joined_between : (q : Request) (from at to : Position) (k l m : ℕ) (a b : Text) → AreLinesBetween q from at k l a → AreLinesBetween q at to l m b → AreLinesBetween q from to k m (a ++ b)
+pub joined_between : (q : Portion) (from at to : Position) (k l m : ℕ) (a b : Text) → AreLinesBetween q from at k l a → AreLinesBetween q at to l m b → AreLinesBetween q from to k m (a ++ b)
 joined_between q from at to k l m a b x y = record {
   members = x.members ++ y.members;
   between = record {
@@ -43,7 +45,7 @@ joined_between q from at to k l m a b x y = record {
     below s t hs ht =
         let early = (x.between.members s).0 hs in
         let late = (y.between.members t).0 ht in
-        below_over at s t early.member.wanted.symbol.table late.member.wanted.symbol.table early.earlier late.later
+        below_over at s t (portion_symbol q s early.member).table (portion_symbol q t late.member).table early.earlier late.later
 
     parted : (s : Symbol) → Contains (x.members ++ y.members) s → IsMemberBetween q from to s
     parted s there =
@@ -59,24 +61,28 @@ joined_between q from at to k l m a b x y = record {
         (λ not. Contains-append_right x.members y.members s ((y.between.members s).1 (record { member = p.member; later = not; earlier = p.earlier })))
         (before_or_not at s)
 
--- the lines from the beginning to the end are the text of the catalogue
-abbrev pub whole_text : (q : Request) (l : ℕ) (a : Text) → AreLinesBetween q beginning End 0 l a → IsText q beginning 0 a
-whole_text q l a x = record {
-  members = x.members;
-  catalogue = record {
-    ascending = x.between.ascending;
-    members = λ s. (
-      (λ there. ((x.between.members s).0 there).member),
-      (λ member. (x.between.members s).1 (record { member = member; later = nothing_before s member.wanted.symbol; earlier = tt })),
-    );
-  };
-  later = x.members;
-  not_before = all_from_beginning x.members (all_from_members IsSymbol x.members (λ s there. ((x.between.members s).0 there).member.wanted.symbol));
-  lines = x.lines;
+-- the members from the beginning to the end are those of the portion
+pub whole_members : (q : Portion) (l : ℕ) (a : Text) → (x : AreLinesBetween q beginning End 0 l a) → ArePortionMembers q x.members
+whole_members q l a x = record {
+  ascending = x.between.ascending;
+  members = λ s. (
+    (λ there. ((x.between.members s).0 there).member),
+    (λ member. (x.between.members s).1 (record { member = member; later = nothing_before s (portion_symbol q s member); earlier = tt })),
+  );
 }
 
+-- and their lines its text
+pub whole_text : (q : Portion) (l : ℕ) (a : Text) → AreLinesBetween q beginning End 0 l a → IsPortionText q beginning 0 a
+whole_text q l a x = text_from q beginning 0 a (record {
+  members = x.members;
+  catalogue = whole_members q l a x;
+  later = x.members;
+  not_before = all_from_beginning x.members (all_from_members IsSymbol x.members (λ s there. portion_symbol q s ((x.between.members s).0 there).member));
+  lines = x.lines;
+})
+
 -- those from the beginning to any position are its first lines
-pub first_lines : (q : Request) (at : Position) (l : ℕ) (a : Text) → AreLinesBetween q beginning at 0 l a → AreFirstLines q l a
+pub first_lines : (q : Portion) (at : Position) (l : ℕ) (a : Text) → AreLinesBetween q beginning at 0 l a → AreFirstLines q l a
 first_lines q at l a x = record {
   members = x.members;
   first = record {
@@ -84,10 +90,10 @@ first_lines q at l a x = record {
     members = λ s there. ((x.between.members s).0 there).member;
     first = λ s member.
         ⊎_elim
-        (λ before. inl ((x.between.members s).1 (record { member = member; later = nothing_before s member.wanted.symbol; earlier = before })))
+        (λ before. inl ((x.between.members s).1 (record { member = member; later = nothing_before s (portion_symbol q s member); earlier = before })))
         (λ not. inr (all_from_members (λ m. IsBelow m s) x.members (λ m there.
         let p = (x.between.members m).0 there in
-        below_over at m s p.member.wanted.symbol.table member.wanted.symbol.table p.earlier not)))
+        below_over at m s (portion_symbol q m p.member).table (portion_symbol q s member).table p.earlier not)))
         (before_or_not at s);
   };
   count = let c = x.count in omega (arith, c);

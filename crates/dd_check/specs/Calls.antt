@@ -1,13 +1,23 @@
 -- Calls of the program that go on under one name of the store.
-use Rattle.std.specs.Prelude.{ℕ, Option, None}
+use Rattle.std.specs.Prelude.{ℕ, Option, None, Some}
 use Rattle.dd_model.specs.declared.requests.Request.{Request}
+use Rattle.dd_jobs.specs.declared.shards.Shard.{Shard}
+use Rattle.dd_jobs.specs.declared.portions.Portion.{Portion}
+use Rattle.dd_jobs.specs.Portions.{whole}
+use Rattle.dd_check.specs.declared.kinds.Kind.{Kind}
+use Rattle.dd_check.specs.declared.kinds.Kind.TheVariants.{Catalogues, Shards}
 use Rattle.dd_check.specs.Texts.{Text}
 
--- What a call is asked for: the catalogue of a request, with a name for its checkpoints or without one; or to go on from
+-- which texts the runs of a catalogue go on from, and those of the shard if there is one
+abbrev pub kind_of : Option Shard → Kind
+kind_of None = Catalogues
+kind_of (Some shard) = Shards
+
+-- What a call is asked for: a catalogue or a shard, with a name for its checkpoints or without one; or to go on from
 -- the checkpoint of a name.
 pub data Task : Type 0 where
-  Catalogue : Request → Option Text → Task
-  Resume : Text → Task
+  Begin : Portion → Option Text → Task
+  Resume : Kind → Text → Task
 
 -- how a call ended, as far as a chain asks: it wrote all that was left, it paused, or it stopped for any other cause
 pub data Ending : Type 0 where
@@ -27,4 +37,4 @@ pub record Call : Type 0 where
 
 -- a call for a catalogue without a name that wrote these bytes and came to its end
 abbrev pub lone_call : Request → Text → Call
-lone_call q bytes = record { task = Catalogue q None; pause = None; before = None; after = None; output = bytes; ending = Done }
+lone_call q bytes = record { task = Begin (whole q) None; pause = None; before = None; after = None; output = bytes; ending = Done }

@@ -2,33 +2,32 @@
 use Rattle.std.specs.Prelude.{◌≡◌, ◌⊎◌, ◌^◌, ◌<◌, ◌≤◌, Option, Some, length, take}
 use Rattle.dd_model.specs.Symbol.{Symbol}
 use Rattle.dd_model.specs.Code.{code}
-use Rattle.dd_model.specs.Wanted.{IsMember}
 use Rattle.dd_model.specs.declared.jobs.Job.{Job}
 use Rattle.dd_model.specs.declared.jobs.Position.{Position}
 use Rattle.dd_model.specs.declared.jobs.Position.TheVariants.{At, End}
-use Rattle.dd_model.specs.declared.requests.Request.{Request}
-use Rattle.dd_jobs.specs.Opening.{IsOpeningJob}
+use Rattle.dd_jobs.specs.declared.portions.Portion.{Portion}
+use Rattle.dd_jobs.specs.Portions.{IsPortionJob, IsPortionMember}
 use Rattle.dd_check.specs.declared.checkpoint.Checkpoint.{Checkpoint}
 use Rattle.dd_check.specs.Texts.{Text}
-use Rattle.dd_check.specs.Checks.{IsCheckText}
+use Rattle.dd_check.specs.ShardChecks.{IsSavedText}
 use Rattle.dd_check.specs.Calls.{Call}
 use Rattle.dd_check.specs.ChainStarts.{Start, StartsAt}
 use Rattle.dd_check.specs.Between.{AreLinesBetween}
 
 -- the size and the whole code of a member
-pub record IsAtMember (q : Request) (job : Job) : Type 0 where
+pub record IsAtMember (p : Portion) (job : Job) : Type 0 where
   pub next : Symbol
-  pub member : IsMember q next
+  pub member : IsPortionMember p next
   pub job_is : job ≡ record { size = next.size; prefix = code next }
 
-abbrev pub IsNextMember : Request → Position → Type 0
-IsNextMember q End = ⊥
-IsNextMember q (At job) = IsAtMember q job
+abbrev pub IsNextMember : Portion → Position → Type 0
+IsNextMember p End = ⊥
+IsNextMember p (At job) = IsAtMember p job
 
--- where a run may stop: at the end, at a job of the opening, or at a member
-abbrev pub IsStop : Request → Position → Type 0
-IsStop q End = Unit {0}
-IsStop q (At job) = IsOpeningJob q job ⊎ IsAtMember q job
+-- where a run may stop: at the end, at a job of its portion, or at a member
+abbrev pub IsStop : Portion → Position → Type 0
+IsStop p End = Unit {0}
+IsStop p (At job) = IsPortionJob p job ⊎ IsAtMember p job
 
 -- the numbers fit in their types, and may be out of the range in which they are read again
 pub record DoCountsFit (c : Checkpoint) : Type 0 where
@@ -41,13 +40,13 @@ pub record DoCountsFit (c : Checkpoint) : Type 0 where
 pub record IsPut (after : Option Text) (output : Text) (start : Start) (c : Checkpoint) : Type 0 where
   pub text : Text
   pub held : after ≡ Some text
-  pub is_text : IsCheckText c text
+  pub is_text : IsSavedText start.portion.shard c text
   pub fit : DoCountsFit c
   pub run : c.run ≡ start.number
-  pub request : c.request ≡ start.request
+  pub request : c.request ≡ start.portion.request
   pub within : c.bytes ≤ length output
-  pub written : AreLinesBetween start.request start.at c.at start.lines c.lines (take c.bytes output)
-  pub stop : IsStop start.request c.at
+  pub written : AreLinesBetween start.portion start.at c.at start.lines c.lines (take c.bytes output)
+  pub stop : IsStop start.portion c.at
 
 -- after the call it does
 abbrev pub HasPut : Call → Start → Checkpoint → Type 0

@@ -1,42 +1,49 @@
 -- Chains of calls, each of which goes on from what the one before left, and the bytes that they make together.
 use Rattle.std.specs.Prelude.{◌≡◌, ◌⊎◌, List, [], ◌∷◌, ◌++◌, Option, None, Some, take}
 use Rattle.dd_model.specs.Request.{IsValid}
-use Rattle.dd_model.specs.declared.requests.Request.{Request}
+use Rattle.dd_jobs.specs.declared.portions.Portion.{Portion}
 use Rattle.dd_check.specs.declared.checkpoint.Checkpoint.{Checkpoint}
 use Rattle.dd_check.specs.Texts.{Text}
-use Rattle.dd_check.specs.Calls.{Catalogue, Resume, Ending, Call}
-use Rattle.dd_check.specs.ChainStarts.{Holds, Start, StartsAt}
+use Rattle.dd_check.specs.declared.kinds.Kind.{Kind}
+use Rattle.dd_check.specs.Calls.{kind_of, Task, Begin, Resume, Ending, Call}
+use Rattle.dd_check.specs.ChainStarts.{Holds, HoldsKind, Start, StartsAt}
 use Rattle.dd_check.specs.Clauses.{HasWorked}
 
 -- the call goes on under the name from what it holds
-pub record IsResumed (name : Text) (held : Option Text) (call : Call) : Type 0 where
-  pub task : call.task ≡ Resume name
+pub record IsResumed (kind : Kind) (name : Text) (held : Option Text) (call : Call) : Type 0 where
+  pub task : call.task ≡ Resume kind name
   pub before : call.before ≡ held
 
 -- each call goes on from what the one before left
-abbrev pub AreResumed : Text → Option Text → List Call → Type 0
-AreResumed name held [] = Unit {0}
-AreResumed name held (call ∷ calls) = IsResumed name held call × AreResumed name call.after calls
+abbrev pub AreResumed : Kind → Text → Option Text → List Call → Type 0
+AreResumed kind name held [] = Unit {0}
+AreResumed kind name held (call ∷ calls) = IsResumed kind name held call × AreResumed kind name call.after calls
 
--- the calls after the first; a catalogue without a name is a chain by itself
-abbrev pub AreLater : Option Text → Option Text → List Call → Type 0
-AreLater None held calls = calls ≡ []
-AreLater (Some name) held calls = AreResumed name held calls
+-- the calls after the first; a first call without a name is a chain by itself
+abbrev pub AreLater : Kind → Option Text → Option Text → List Call → Type 0
+AreLater kind None held calls = calls ≡ []
+AreLater kind (Some name) held calls = AreResumed kind name held calls
 
--- a call for the catalogue of a valid request, and calls that go on from it
-pub record IsChainFrom (q : Request) (name : Option Text) (call : Call) (calls : List Call) : Type 0 where
-  pub valid : IsValid q
-  pub task : call.task ≡ Catalogue q name
-  pub later : AreLater name call.after calls
+-- a call for a portion of a valid request, and calls that go on from it
+pub record IsChainFrom (p : Portion) (name : Option Text) (call : Call) (calls : List Call) : Type 0 where
+  pub valid : IsValid p.request
+  pub task : call.task ≡ Begin p name
+  pub later : AreLater (kind_of p.shard) name call.after calls
 
-abbrev pub IsChain : Request → Option Text → List Call → Type 0
-IsChain q name [] = ⊥
-IsChain q name (call ∷ calls) = IsChainFrom q name call calls
+abbrev pub IsChain : Portion → Option Text → List Call → Type 0
+IsChain p name [] = ⊥
+IsChain p name (call ∷ calls) = IsChainFrom p name call calls
 
--- the name held no checkpoint text before the first call, or this call wrote a byte or came to its end or to a pause
+-- the texts that a call leaves and the next one goes on from
+abbrev pub kind_of_task : Task → Kind
+kind_of_task (Begin p name) = kind_of p.shard
+kind_of_task (Resume kind name) = kind
+
+-- The name held no checkpoint text of the calls' kind before the first call, or this call wrote a byte or came to its
+-- end or to a pause.
 abbrev pub HasBegun : List Call → Type 0
 HasBegun [] = ⊥
-HasBegun (call ∷ calls) = ((c : Checkpoint) → Holds call.before c → ⊥) ⊎ HasWorked call
+HasBegun (call ∷ calls) = (HoldsKind (kind_of_task call.task) call.before → ⊥) ⊎ HasWorked call
 
 -- how the last call ended
 abbrev pub EndsAs : List Call → Ending → Type 0
@@ -50,11 +57,11 @@ held_after [] = None
 held_after (call ∷ []) = call.after
 held_after (call ∷ next ∷ calls) = held_after (next ∷ calls)
 
--- after the call the name holds a checkpoint text with the number of its run
+-- after the call the name holds a checkpoint text of its portion with the number of its run
 pub record Leaves (call : Call) (c : Checkpoint) : Type 0 where
   pub start : Start
   pub starts : StartsAt call start
-  pub holds : Holds call.after c
+  pub holds : Holds start.portion.shard call.after c
   pub number : c.run ≡ start.number
 
 -- what a call that is not the last gives: as many bytes as its checkpoint says, or nothing where it left none

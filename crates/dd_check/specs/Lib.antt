@@ -18,5 +18,7 @@ pub mod Readings
 pub mod Told
 pub mod Places
 pub mod Accepted
+pub mod ShardChecks
 pub mod Refusals
 pub mod Messages
+pub mod ShardFaults

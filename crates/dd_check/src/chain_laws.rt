@@ -4,6 +4,8 @@ ghost use Rattle.dd_model.specs.declared.requests.Request.{Request};
 ghost use Rattle.dd_model.specs.declared.jobs.Position.{Position};
 ghost use Rattle.dd_model.specs.declared.jobs.Position.TheVariants.{End};
 ghost use Rattle.dd_model.specs.Text.{IsText, beginning};
+ghost use Rattle.dd_jobs.specs.declared.portions.Portion.{Portion};
+ghost use Rattle.dd_jobs.specs.Portions.{IsPortionText};
 ghost use Rattle.dd_check.specs.Between.{AreLinesBetween};
 ghost use Rattle.dd_check.specs.Calls.{Call, Done, Paused, lone_call};
 ghost use Rattle.dd_check.specs.Clauses.{MeetsClauses};
@@ -11,19 +13,19 @@ ghost use Rattle.dd_check.specs.Chains.{IsChain, HasBegun, EndsAs, IsJoined, hel
 ghost use Rattle.dd_check.specs.ChainOutcomes.{IsCutAt, IsFront};
 
 /// Where a chain has begun and its last call came to its end, its calls have written the whole
-/// catalogue together, however often they were stopped.
-pub fn a_finished_chain_writes_the_catalogue()
-    ensures { (q : Request) (name : Option (List ℕ)) (calls : List Call) (bytes : List ℕ)
-        → IsChain q name calls → AllByRecursion MeetsClauses calls → HasBegun calls
-        → EndsAs calls Done → IsJoined calls bytes → IsText q beginning 0 bytes }
+/// text of its portion together, however often they were stopped: of the catalogue, or of the shard.
+pub fn a_finished_chain_writes_its_text()
+    ensures { (p : Portion) (name : Option (List ℕ)) (calls : List Call) (bytes : List ℕ)
+        → IsChain p name calls → AllByRecursion MeetsClauses calls → HasBegun calls
+        → EndsAs calls Done → IsJoined calls bytes → IsPortionText p beginning 0 bytes }
 {}
 
 /// Where a chain has begun and its last call paused, they have written the first lines, as many as
 /// the checkpoint says.
 pub fn a_paused_chain_writes_the_first_lines()
-    ensures { (q : Request) (name : Option (List ℕ)) (calls : List Call) (bytes : List ℕ)
-        → IsChain q name calls → AllByRecursion MeetsClauses calls → HasBegun calls
-        → EndsAs calls Paused → IsJoined calls bytes → IsCutAt q (held_after calls) bytes }
+    ensures { (p : Portion) (name : Option (List ℕ)) (calls : List Call) (bytes : List ℕ)
+        → IsChain p name calls → AllByRecursion MeetsClauses calls → HasBegun calls
+        → EndsAs calls Paused → IsJoined calls bytes → IsCutAt p (held_after calls) bytes }
 {}
 
 /// The calls of a chain make one text.
@@ -33,25 +35,26 @@ pub fn a_chain_is_joined_once()
 
 /// A chain that has begun makes some text.
 pub fn a_begun_chain_makes_a_text()
-    ensures { (q : Request) (name : Option (List ℕ)) (calls : List Call) → IsChain q name calls
+    ensures { (p : Portion) (name : Option (List ℕ)) (calls : List Call) → IsChain p name calls
         → AllByRecursion MeetsClauses calls → HasBegun calls
         → (bytes : List ℕ) × IsJoined calls bytes }
 {}
 
-/// Whatever stopped its last call, a chain that has begun has written a front of the catalogue.
+/// Whatever stopped its last call, a chain that has begun has written a front of the text of
+/// its portion.
 pub fn a_begun_chain_writes_a_front()
-    ensures { (q : Request) (name : Option (List ℕ)) (calls : List Call) (bytes : List ℕ)
-        → IsChain q name calls → AllByRecursion MeetsClauses calls → HasBegun calls
-        → IsJoined calls bytes → IsFront q bytes }
+    ensures { (p : Portion) (name : Option (List ℕ)) (calls : List Call) (bytes : List ℕ)
+        → IsChain p name calls → AllByRecursion MeetsClauses calls → HasBegun calls
+        → IsJoined calls bytes → IsFront p bytes }
 {}
 
 /// Where the text from a position exists, the lines of all members from there to the end are that
 /// text.
 pub fn the_lines_to_the_end_are_the_text()
-    ensures same { (q : Request) (at : Position) (k l : ℕ) (bytes text : List ℕ)
-        → AreLinesBetween q at End k l bytes → IsText q at k text → bytes ≡ text }
-    ensures lines { (q : Request) (at : Position) (k : ℕ) (text : List ℕ) → IsText q at k text
-        → (l : ℕ) × AreLinesBetween q at End k l text }
+    ensures same { (p : Portion) (at : Position) (k l : ℕ) (bytes text : List ℕ)
+        → AreLinesBetween p at End k l bytes → IsPortionText p at k text → bytes ≡ text }
+    ensures lines { (p : Portion) (at : Position) (k : ℕ) (text : List ℕ)
+        → IsPortionText p at k text → (l : ℕ) × AreLinesBetween p at End k l text }
 {}
 
 /// What is asked of each call can be met: a catalogue without a name that wrote its text does.

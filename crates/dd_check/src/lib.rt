@@ -5,6 +5,7 @@ mod chain_laws;
 mod checkpoint;
 mod faults;
 mod items;
+mod kinds;
 mod limits;
 mod line_reading;
 mod lines;
@@ -18,20 +19,25 @@ mod reading;
 mod rows;
 mod runs;
 mod sets;
+mod shard_faults;
+mod shard_reading;
 mod stops;
 mod text_laws;
 mod writing;
 
 pub use chain_laws::{
     a_begun_chain_makes_a_text, a_begun_chain_writes_a_front, a_chain_is_joined_once,
-    a_finished_chain_writes_the_catalogue, a_lone_catalogue_meets_the_clauses,
+    a_finished_chain_writes_its_text, a_lone_catalogue_meets_the_clauses,
     a_paused_chain_writes_the_first_lines, the_lines_to_the_end_are_the_text,
 };
 pub use checkpoint::Checkpoint;
 pub use faults::CheckFault;
+pub use kinds::Kind;
 pub use reading::read_checkpoint;
+pub use shard_faults::ShardFault;
+pub use shard_reading::read_shard;
 pub use text_laws::{
     a_checkpoint_has_one_text, a_checkpoint_text_tells_one_checkpoint,
     a_faulty_text_tells_no_checkpoint, a_text_has_one_fault, what_was_written_reads_back,
 };
-pub use writing::write_checkpoint;
+pub use writing::{write_checkpoint, write_shard};

@@ -7,9 +7,12 @@ ghost use Rattle.dd_check.specs.Sets.{item_text};
 ghost use Rattle.dd_check.specs.Rows.{number_row, filter_word, limits_row, place_row};
 ghost use Rattle.dd_check.specs.Checks.{limits_of};
 ghost use Rattle.dd_check.specs.Writing.{run_of, next_item, AddsSet, AddsSetLine, AddsCheck};
+ghost use Rattle.dd_check.specs.Writing.{AddsShardCheck};
+ghost use Rattle.dd_check.specs.ShardChecks.{shard_line};
 
 use crate::checkpoint::Checkpoint;
 use crate::runs::{begins_run, last_of_run};
+use dd_jobs::Shard;
 use dd_model::{Allowed, Job, Memory, Position, Request, put_bytes};
 use itoa::Buffer;
 
@@ -24,6 +27,40 @@ pub fn write_checkpoint(out: &mut Vec<u8>, c: &Checkpoint) -> Result<(), Memory>
         out.truncate(length);
     }
     written
+}
+
+/// Appends the line of a shard and the text of a checkpoint. After `Err` the text is as before.
+pub fn write_shard(out: &mut Vec<u8>, shard: Shard, c: &Checkpoint) -> Result<(), Memory>
+    ensures check { OnOk result (AddsShardCheck shard c.now out.old.items out.new.items) }
+    ensures same { OnErr result (out.new.items ≡ out.old.items) }
+{
+    let length = out.len();
+    let written = put_shard(out, shard, c);
+    if written.is_err() {
+        out.truncate(length);
+    }
+    written
+}
+
+fn put_shard(out: &mut Vec<u8>, shard: Shard, c: &Checkpoint) -> Result<(), Memory>
+    ensures check { OnOk result (AddsShardCheck shard c.now out.old.items out.new.items) }
+    ensures longer { IsLonger out.old.items out.new.items }
+{
+    put_shard_line(out, shard)?;
+    put_checkpoint(out, c)?;
+    Ok(())
+}
+
+/// Appends the numbers of a shard.
+fn put_shard_line(out: &mut Vec<u8>, shard: Shard) -> Result<(), Memory>
+    ensures line { OnOk result (out.new.items ≡ out.old.items ++ shard_line shard) }
+    ensures longer { IsLonger out.old.items out.new.items }
+{
+    put_bytes(out, b"dressline shard")?;
+    put_next(out, u128::from(shard.index()))?;
+    put_next(out, u128::from(shard.count()))?;
+    put_bytes(out, b"\n")?;
+    Ok(())
 }
 
 fn put_checkpoint(out: &mut Vec<u8>, c: &Checkpoint) -> Result<(), Memory>

@@ -10,7 +10,11 @@ use Rattle.dd_ports.specs.Causes.{Rose}
 use Rattle.dd_ports.specs.Sinks.{memory_sink_held}
 use Rattle.dd_ports.specs.declared.memory_sink.MemorySink.{MemorySink}
 use Rattle.dd_check.specs.Between.{AreLinesBetween}
-use Rattle.dd_check.specs.Calls.{Catalogue, Resume}
+use Rattle.dd_jobs.specs.Portions.{whole}
+use Rattle.dd_check.specs.declared.kinds.Kind.{Kind}
+use Rattle.dd_check.specs.declared.kinds.Kind.TheVariants.{Catalogues}
+use Rattle.dd_check.specs.ShardFaults.{HasKindFault}
+use Rattle.dd_check.specs.Calls.{Begin, Resume}
 use Rattle.dd_check.specs.ChainStarts.{Start, StartsAt}
 use Rattle.dd_check.proofs.LinesUpTo.{joined_between}
 use Rattle.dd_check.proofs.Lone.{none_asked}
@@ -72,11 +76,11 @@ module _ (words : List (List ℕ)) (from to : Kept) (old new : MemorySink) (p : 
 
 -- ## Calls that go on from the name
 
-one_name : (a b : List ℕ) → Resume a ≡ Resume b → a ≡ b
-one_name a b e = cc
+same_task : (kind : Kind) (a b : List ℕ) → Resume kind a ≡ Resume Catalogues b → (kind ≡ Catalogues) × (a ≡ b)
+same_task kind a b e = (cc, cc)
 
-other_task : (q : Request) (n : Option (List ℕ)) (name : List ℕ) → Catalogue q n ≡ Resume name → ⊥
-other_task q n name e = cc
+other_task : (q : Request) (n : Option (List ℕ)) (kind : Kind) (name : List ℕ) → Begin (whole q) n ≡ Resume kind name → ⊥
+other_task q n kind name e = cc
 
 module _ (name : List ℕ) (asked : AskForRun (resume_words name) (resume_order name)) (from to : Kept) (old new : MemorySink) (p : ProgramCall) (is : IsRun (resume_words name) from to old new p) where
   pub resume_not_paused : p.status ≡ status.Paused → ⊥
@@ -94,13 +98,12 @@ module _ (name : List ℕ) (asked : AskForRun (resume_words name) (resume_order 
       go (inl (fault, file)) = absurd (not_both p.words p.order file.command file.name is.is_call.asked file.asked)
       go (inr (inl (refusal, file))) = absurd (not_both p.words p.order file.command file.name is.is_call.asked file.asked)
       go (inr (inr (inl (fault, check)))) =
-          let named : check.name ≡ name =
-          one_name check.name name (ap (λ (o : Order). o.task)
-          (one_order (resume_words name) (record { task = Resume check.name; round = check.asked.round; pause = check.asked.pause }) (resume_order name)
-          (subst (λ ws. AskForRun ws (record { task = Resume check.name; round = check.asked.round; pause = check.asked.pause })) is.words_are check.asked.run) asked)) in
+          let same = same_task check.kind check.name name (ap (λ (o : Order). o.task)
+          (one_order (resume_words name) (record { task = Resume check.kind check.name; round = check.asked.round; pause = check.asked.pause }) (resume_order name)
+          (subst (λ ws. AskForRun ws (record { task = Resume check.kind check.name; round = check.asked.round; pause = check.asked.pause })) is.words_are check.asked.run) asked)) in
           let held_is : from.held name ≡ Some check.holds.bytes =
-          sym (ap (λ b. b.held name) is.before) ∙ ap p.before.held (sym named) ∙ check.holds.fetched is.is_call.tells in
-          out_of_range q (from.held name) check.holds.bytes fault valid held held_is check.holds.faulty
+          sym (ap (λ b. b.held name) is.before) ∙ ap p.before.held (sym same.1) ∙ check.holds.fetched is.is_call.tells in
+          out_of_range q (from.held name) check.holds.bytes fault valid held held_is (subst (λ kind. HasKindFault kind check.holds.bytes fault) same.0 check.holds.faulty)
       go (inr (inr (inr (refusal, files)))) = absurd (run_or_merge p.words p.order files.names is.is_call.asked files.asked)
 
 -- ## The first call
@@ -114,9 +117,9 @@ first_refused words name asked from to old new p is e = go (is.cause.refused e)
     go (inr (inl (refusal, file))) = not_both p.words p.order file.command file.name is.is_call.asked file.asked
     go (inr (inr (inr (refusal, files)))) = run_or_merge p.words p.order files.names is.is_call.asked files.asked
     go (inr (inr (inl (fault, check)))) =
-        other_task asked.request (Some name) check.name (ap (λ (o : Order). o.task)
-        (one_order words (first_order asked) (record { task = Resume check.name; round = check.asked.round; pause = check.asked.pause }) asked.run
-        (subst (λ ws. AskForRun ws (record { task = Resume check.name; round = check.asked.round; pause = check.asked.pause })) is.words_are check.asked.run)))
+        other_task asked.request (Some name) check.kind check.name (ap (λ (o : Order). o.task)
+        (one_order words (first_order asked) (record { task = Resume check.kind check.name; round = check.asked.round; pause = check.asked.pause }) asked.run
+        (subst (λ ws. AskForRun ws (record { task = Resume check.kind check.name; round = check.asked.round; pause = check.asked.pause })) is.words_are check.asked.run)))
 
 -- ## Lines that are too many
 
@@ -129,9 +132,9 @@ too_many words from to old new p q members is upto e all =
     let u = upto h.start (begun p.order.task p.before h.start is.is_call.tells begins) in
     let rest = h.lines.lines in
     let s = h.start in
-    let whole = joined_between q beginning s.at rest.at 0 s.lines most_lines u.bytes h.output u.lines
-    (subst (λ r. AreLinesBetween r s.at rest.at s.lines most_lines h.output) u.request rest.written) in
-    more_members q rest.at most_lines _ members whole (subst (λ r. IsNextMember r rest.at) u.request rest.next) all
+    let whole = joined_between (whole q) beginning s.at rest.at 0 s.lines most_lines u.bytes h.output u.lines
+    (subst (λ r. AreLinesBetween r s.at rest.at s.lines most_lines h.output) u.portion rest.written) in
+    more_members q rest.at most_lines _ members whole (subst (λ r. IsNextMember r rest.at) u.portion rest.next) all
 
 -- ## The sentences on the last call
 

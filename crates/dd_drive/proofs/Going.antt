@@ -5,10 +5,12 @@ use Rattle.std.specs.List.{AllByRecursion}
 use Rattle.dd_model.specs.Text.{beginning}
 use Rattle.dd_model.specs.declared.requests.Request.{Request}
 use Rattle.dd_ports.specs.declared.memory_sink.MemorySink.{MemorySink}
-use Rattle.dd_check.specs.Calls.{Task, Catalogue, Resume}
-use Rattle.dd_check.specs.Chains.{IsPart, IsJoined}
+use Rattle.dd_jobs.specs.Portions.{whole}
+use Rattle.dd_check.specs.declared.kinds.Kind.TheVariants.{Catalogues}
+use Rattle.dd_check.specs.Calls.{kind_of, Task, Begin, Resume}
+use Rattle.dd_check.specs.Chains.{kind_of_task, IsPart, IsJoined}
 use Rattle.dd_check.specs.ChainStarts.{Holds, Start, next_start, Starts, StartsAt}
-use Rattle.dd_check.proofs.ChainParts.{starts_once}
+use Rattle.dd_check.proofs.ChainParts.{starts_once, start_kind, catalogue_next, no_shard}
 use Rattle.dd_suite.specs.Chains.{ProgramCall, call_of}
 use Rattle.dd_tasks.specs.Words.{Order, AskForRun}
 use Rattle.dd_tasks.specs.declared.status.Status.{Status}
@@ -24,8 +26,8 @@ use Rattle.dd_drive.proofs.RunLemmas.{next_words, one_more, IsCallAt, call_at}
 
 -- the task of the call that comes after these
 abbrev pub next_task : Request → List ℕ → List ProgramCall → Task
-next_task q name [] = Catalogue q (Some name)
-next_task q name (p ∷ calls) = Resume name
+next_task q name [] = Begin (whole q) (Some name)
+next_task q name (p ∷ calls) = Resume Catalogues name
 
 -- the number of a run with this task, and none where it cannot begin
 abbrev pub IsNumbered : Task → Option (List ℕ) → Option ℕ → Type 0
@@ -50,7 +52,7 @@ at_first words name from olds some = record {
   went = tt;
   parts = refl;
   said_is = refl;
-  numbered = λ q. (record { number = 1; request = q; at = beginning; lines = 0 }, refl, refl);
+  numbered = λ q. (record { number = 1; portion = whole q; at = beginning; lines = 0 }, refl, refl);
   long = refl;
   less = omega (arith, some);
 }
@@ -61,7 +63,7 @@ next_words_last : (words : List (List ℕ)) (name : List ℕ) (calls : List Prog
 next_words_last words name [] p = refl
 next_words_last words name (q ∷ calls) p = refl
 
-next_task_last : (q : Request) (name : List ℕ) (calls : List ProgramCall) (p : ProgramCall) → next_task q name (calls ++ (p ∷ [])) ≡ Resume name
+next_task_last : (q : Request) (name : List ℕ) (calls : List ProgramCall) (p : ProgramCall) → next_task q name (calls ++ (p ∷ [])) ≡ Resume Catalogues name
 next_task_last q name [] p = refl
 next_task_last q name (c ∷ calls) p = refl
 
@@ -83,9 +85,9 @@ call_is : (words : List (List ℕ)) (name : List ℕ) (asked : AskToKeep words n
 call_is words name asked [] now to old new p is = call_at words name (first_order asked) now to old new p asked.run refl is
 call_is words name asked (c ∷ calls) now to old new p is = call_at (resume_words name) name (resume_order name) now to old new p (resume_asked words name asked) refl is
 
-numbered_next : (name : List ℕ) (held : Option (List ℕ)) (next : Option ℕ) → IsNextNumber held next → IsNumbered (Resume name) held next
-numbered_next name held None none = λ s starts. none starts.0 starts.1
-numbered_next name held (Some n) is = (next_start is.0, (is.0, is.1, refl), is.2)
+numbered_next : (name : List ℕ) (held : Option (List ℕ)) (next : Option ℕ) → IsNextNumber held next → IsNumbered (Resume Catalogues name) held next
+numbered_next name held None none = λ s starts. let next = catalogue_next held s starts in none next.0 next.1
+numbered_next name held (Some n) is = (next_start None is.0, record { held = record { shard = None; kind_is = refl; check = is.0; holds = is.1 }; start_is = refl }, is.2)
 
 -- ## What a call gives that is not the last
 
@@ -104,23 +106,32 @@ own_start : (task : Task) (held : Option (List ℕ)) (number : Option ℕ) (run 
 own_start task held None run none e = absurd (no_number run e)
 own_start task held (Some n) run is e = (is.0, is.1, sym (some_number n run e) ∙ is.2)
 
-module _ (name : List ℕ) (task : Task) (now to : Kept) (p : ProgramCall) (at : IsCallAt name task now to (call_of p)) where
+module _ (name : List ℕ) (task : Task) (now to : Kept) (p : ProgramCall) (at : IsCallAt name task now to (call_of p)) (kind : kind_of_task task ≡ Catalogues) where
   starts_own : (s : Start) → Starts task (now.held name) s → StartsAt (call_of p) s
   starts_own s starts = subst (λ t. Starts t (call_of p).before s) (sym at.task_is) (subst (λ h. Starts task h s) (sym at.before_is) starts)
 
   starts_task : (s : Start) → StartsAt (call_of p) s → Starts task (now.held name) s
   starts_task s starts = subst (λ t. Starts t (now.held name) s) at.task_is (subst (λ h. Starts (call_of p).task h s) at.before_is starts)
 
+  -- the call begins with a catalogue
+  whole_start : (s : Start) → Starts task (now.held name) s → s.portion.shard ≡ None
+  whole_start s starts = no_shard s.portion.shard (start_kind task (now.held name) s starts ∙ kind)
+
   pub part_is : (number : Option ℕ) (part : List ℕ) → IsNumbered task (now.held name) number → IsPartOf number (to.held name) p.output part → IsPart (call_of p) part
   part_is number part numbered (inl (c, holds, e, same)) =
       let own = own_start task (now.held name) number c.run numbered e in
-      inl (c, record { start = own.0; starts = starts_own own.0 own.1; holds = subst (λ h. Holds h c) (sym at.after_is) holds; number = own.2 }, same)
+      inl (c, record { start = own.0; starts = starts_own own.0 own.1; holds = subst (λ h. Holds own.0.portion.shard h c) (sym at.after_is) (subst (λ z. Holds z (to.held name) c) (sym (whole_start own.0 own.1)) holds); number = own.2 }, same)
   part_is number part numbered (inr (none, same)) =
       inr (
         λ c leaves.
-            none c (subst (λ h. Holds h c) at.after_is leaves.holds) (own_number task (now.held name) number leaves.start c.run numbered (starts_task leaves.start leaves.starts) leaves.number),
+            none c (subst (λ z. Holds z (to.held name) c) (whole_start leaves.start (starts_task leaves.start leaves.starts)) (subst (λ h. Holds leaves.start.portion.shard h c) at.after_is leaves.holds)) (own_number task (now.held name) number leaves.start c.run numbered (starts_task leaves.start leaves.starts) leaves.number),
         same,
       )
+
+-- the task of each call is one of catalogues
+task_kind : (q : Request) (name : List ℕ) (calls : List ProgramCall) → kind_of_task (next_task q name calls) ≡ Catalogues
+task_kind q name [] = refl
+task_kind q name (p ∷ calls) = refl
 
 -- ## One more run
 
@@ -166,7 +177,7 @@ module _ (words : List (List ℕ)) (name : List ℕ) (from now to : Kept) (olds 
   goes_on text next part whole more not_done held is_part is_next_number bytes =
       let at = call_is words name asked going.calls now to ran.old ran.new ran.call (subst (λ ws. IsRun ws now to ran.old ran.new ran.call) going.said_is ran.is_run) in
       let part_here : IsPart (call_of ran.call) part =
-      part_is name (next_task asked.request name going.calls) now to ran.call at number part (going.numbered asked.request)
+      part_is name (next_task asked.request name going.calls) now to ran.call at (task_kind asked.request name going.calls) number part (going.numbered asked.request)
       (subst (λ h. IsPartOf number h ran.call.output part) (sym held) is_part) in
       let left : ran.call.after.held name ≡ Some text = ap (λ a. a.held name) ran.is_run.after ∙ held in
       record {
@@ -178,7 +189,7 @@ module _ (words : List (List ℕ)) (name : List ℕ) (from now to : Kept) (olds 
         said_is = sym (next_words_last words name going.calls ran.call);
         numbered = λ q.
             subst (λ t. IsNumbered t (to.held name) next) (sym (next_task_last q name going.calls ran.call))
-            (subst (λ h. IsNumbered (Resume name) h next) (sym held) (numbered_next name (Some text) next is_next_number));
+            (subst (λ h. IsNumbered (Resume Catalogues name) h next) (sym held) (numbered_next name (Some text) next is_next_number));
         long = ap (λ ns. length ns) ran.news_are ∙ length-set news k ran.new ∙ going.long;
         less = more;
       }

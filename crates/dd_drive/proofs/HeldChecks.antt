@@ -19,17 +19,22 @@ use Rattle.dd_model.proofs.Positions.{before_or_not, below_over, below_symbol}
 use Rattle.dd_model.proofs.Texts.{nothing_before}
 use Rattle.dd_model.proofs.AscendingFronts.{begins_with}
 use Rattle.dd_check.specs.declared.checkpoint.Checkpoint.{Checkpoint}
-use Rattle.dd_check.specs.declared.faults.CheckFault.{CheckFault}
+use Rattle.dd_check.specs.declared.shard_faults.ShardFault.{ShardFault}
 use Rattle.dd_check.specs.Accepted.{IsCheckpointText}
 use Rattle.dd_check.specs.Checks.{IsCheckText}
-use Rattle.dd_check.specs.Refusals.{HasFault}
+use Rattle.dd_check.specs.ShardFaults.{HasKindFault}
+use Rattle.dd_check.proofs.KindFaults.{no_kind_fault}
 use Rattle.dd_check.proofs.Exclusion.{one_checkpoint, no_fault}
 use Rattle.dd_check.proofs.ShortTexts.{written_reads_back}
 use Rattle.dd_check.specs.Between.{IsMemberBetween, AreLinesBetween}
-use Rattle.dd_check.specs.Calls.{Catalogue, Resume, Call}
+use Rattle.dd_jobs.specs.Portions.{whole}
+use Rattle.dd_check.specs.declared.kinds.Kind.TheVariants.{Catalogues}
+use Rattle.dd_check.specs.Calls.{Begin, Resume, Call}
+use Rattle.dd_check.specs.ShardChecks.{IsSavedText}
 use Rattle.dd_check.specs.Clauses.{MeetsClauses}
 use Rattle.dd_check.specs.ChainPuts.{DoCountsFit, IsStop, IsNextMember}
 use Rattle.dd_check.specs.ChainStarts.{Holds, Start, next_start, Starts, StartsAt}
+use Rattle.dd_check.proofs.ChainParts.{catalogue_next}
 use Rattle.dd_check.proofs.LinesUpTo.{no_lines, joined_between}
 use Rattle.dd_check.proofs.ReadingBack.{IsWritten, reads_or_not}
 use Rattle.dd_check.proofs.ChainStops.{stop_place, stop_range}
@@ -38,9 +43,9 @@ use Rattle.dd_drive.specs.Sentences.{HoldsOutOfRange}
 
 -- a run of the request begins after so many lines as there are before its position
 pub record IsUpTo (q : Request) (s : Start) : Type 0 where
-  pub request : s.request ≡ q
+  pub portion : s.portion ≡ whole q
   pub bytes : List ℕ
-  pub lines : AreLinesBetween q beginning s.at 0 s.lines bytes
+  pub lines : AreLinesBetween (whole q) beginning s.at 0 s.lines bytes
 
 -- the text of a checkpoint that a call of the chain has put
 pub record HoldsPut (q : Request) (held : Option (List ℕ)) : Type 0 where
@@ -49,8 +54,8 @@ pub record HoldsPut (q : Request) (held : Option (List ℕ)) : Type 0 where
   pub held_is : held ≡ Some text
   pub is_text : IsCheckText check text
   pub fit : DoCountsFit check
-  pub stop : IsStop q check.at
-  pub upto : IsUpTo q (next_start check)
+  pub stop : IsStop (whole q) check.at
+  pub upto : IsUpTo q (next_start None check)
 
 -- nothing, or such a text
 abbrev pub IsHeld : Request → Option (List ℕ) → Type 0
@@ -61,12 +66,12 @@ none_some x e = cc
 
 written : (q : Request) (held : Option (List ℕ)) → IsValid q → (p : HoldsPut q held) → IsWritten p.check p.text
 written q held valid p =
-    let own : IsValid p.check.request = subst IsValid (sym p.upto.request) valid in
-    let stop : IsStop p.check.request p.check.at = subst (λ r. IsStop r p.check.at) (sym p.upto.request) p.stop in
-    record { check = p.is_text; fit = p.fit; valid = own; range = stop_range p.check.request own p.check.at stop; place = stop_place p.check.request p.check.at stop }
+    let own : IsValid p.check.request = subst (λ r. IsValid r.request) (sym p.upto.portion) valid in
+    let stop : IsStop (whole p.check.request) p.check.at = subst (λ r. IsStop r p.check.at) (sym p.upto.portion) p.stop in
+    record { check = p.is_text; fit = p.fit; valid = own; range = stop_range (whole p.check.request) own p.check.at stop; place = stop_place (whole p.check.request) p.check.at stop }
 
 -- a checkpoint text that is held is the one that was put
-same_check : (q : Request) (held : Option (List ℕ)) (c : Checkpoint) → IsValid q → (p : HoldsPut q held) → Holds held c → p.check ≡ c
+same_check : (q : Request) (held : Option (List ℕ)) (c : Checkpoint) → IsValid q → (p : HoldsPut q held) → Holds None held c → p.check ≡ c
 same_check q held c valid p is =
     let accepted : IsCheckpointText p.text c = subst (λ t. IsCheckpointText t c) (some_injective is.text p.text (sym is.held_is ∙ p.held_is)) is.accepted in
     ⊎_elim
@@ -74,13 +79,14 @@ same_check q held c valid p is =
     (λ never. absurd (never c accepted))
     (reads_or_not p.check p.text (written q held valid p))
 
-pub starts_first : (q : Request) (name : List ℕ) (held : Option (List ℕ)) (s : Start) → Starts (Catalogue q (Some name)) held s → IsUpTo q s
-starts_first q name held s starts = subst (IsUpTo q) (sym starts) (record { request = refl; bytes = []; lines = no_lines q beginning 0 })
+pub starts_first : (q : Request) (name : List ℕ) (held : Option (List ℕ)) (s : Start) → Starts (Begin (whole q) (Some name)) held s → IsUpTo q s
+starts_first q name held s starts = subst (IsUpTo q) (sym starts) (record { portion = refl; bytes = []; lines = no_lines (whole q) beginning 0 })
 
-pub starts_later : (q : Request) (name : List ℕ) (held : Option (List ℕ)) (s : Start) → IsValid q → IsHeld q held → Starts (Resume name) held s → IsUpTo q s
-starts_later q name held s valid (inl none) starts = absurd (none_some starts.1.text (sym none ∙ starts.1.held_is))
+pub starts_later : (q : Request) (name : List ℕ) (held : Option (List ℕ)) (s : Start) → IsValid q → IsHeld q held → Starts (Resume Catalogues name) held s → IsUpTo q s
+starts_later q name held s valid (inl none) starts = let next = catalogue_next held s starts in absurd (none_some next.1.text (sym none ∙ next.1.held_is))
 starts_later q name held s valid (inr p) starts =
-    let same : next_start p.check ≡ s = ap next_start (same_check q held starts.0 valid p starts.1) ∙ sym starts.2 in
+    let next = catalogue_next held s starts in
+    let same : next_start None p.check ≡ s = ap (next_start None) (same_check q held next.0 valid p next.1) ∙ sym next.2 in
     subst (IsUpTo q) same p.upto
 
 -- after a call the name holds what it held, or what the call has put
@@ -97,20 +103,20 @@ held_after_call q call meets upto held =
       check = c;
       text = put.text;
       held_is = put.held;
-      is_text = put.is_text;
+      is_text = subst (λ r. IsSavedText r.shard c put.text) u.portion put.is_text;
       fit = put.fit;
-      stop = subst (λ r. IsStop r c.at) u.request put.stop;
+      stop = subst (λ r. IsStop r c.at) u.portion put.stop;
       upto = record {
-        request = put.request ∙ u.request;
+        portion = ap whole (put.request ∙ ap (λ r. r.request) u.portion);
         bytes = u.bytes ++ take c.bytes call.output;
-        lines = joined_between q beginning s.at c.at 0 s.lines c.lines u.bytes (take c.bytes call.output) u.lines
-            (subst (λ r. AreLinesBetween r s.at c.at s.lines c.lines (take c.bytes call.output)) u.request put.written);
+        lines = joined_between (whole q) beginning s.at c.at 0 s.lines c.lines u.bytes (take c.bytes call.output) u.lines
+            (subst (λ r. AreLinesBetween r s.at c.at s.lines c.lines (take c.bytes call.output)) u.portion put.written);
       };
     }))
     meets.held
 
 -- where what is held has a fault as a checkpoint, a number is out of range
-pub out_of_range : (q : Request) (held : Option (List ℕ)) (bytes : List ℕ) (fault : CheckFault) → IsValid q → IsHeld q held → held ≡ Some bytes → HasFault bytes fault → HoldsOutOfRange held
+pub out_of_range : (q : Request) (held : Option (List ℕ)) (bytes : List ℕ) (fault : ShardFault) → IsValid q → IsHeld q held → held ≡ Some bytes → HasKindFault Catalogues bytes fault → HoldsOutOfRange held
 out_of_range q held bytes fault valid (inl none) is faulty = absurd (none_some bytes (sym none ∙ is))
 out_of_range q held bytes fault valid (inr p) is faulty =
     let w = written q held valid p in
@@ -120,8 +126,8 @@ out_of_range q held bytes fault valid (inr p) is faulty =
       held_is = p.held_is;
       is_text = p.is_text;
       out = λ counts.
-          no_fault p.text p.check fault (written_reads_back p.check p.text w.check counts w.valid w.range w.place)
-          (subst (λ t. HasFault t fault) (some_injective bytes p.text (sym is ∙ p.held_is)) faulty);
+          no_kind_fault None p.text p.check fault (written_reads_back p.check p.text w.check counts w.valid w.range w.place)
+          (subst (λ t. HasKindFault Catalogues t fault) (some_injective bytes p.text (sym is ∙ p.held_is)) faulty);
     }
 
 -- ## Where lines are left
@@ -131,7 +137,7 @@ not_empty [] s there = absurd (let low = there.1 in omega (arith, low))
 not_empty (r ∷ rest) s there = omega arith
 
 -- where one more member follows, there are more members than lines before it
-pub more_members : (q : Request) (at : Position) (l : ℕ) (bytes : List ℕ) (members : List Symbol) → AreLinesBetween q beginning at 0 l bytes → IsNextMember q at → IsCatalogue q members → l < length members
+pub more_members : (q : Request) (at : Position) (l : ℕ) (bytes : List ℕ) (members : List Symbol) → AreLinesBetween (whole q) beginning at 0 l bytes → IsNextMember (whole q) at → IsCatalogue q members → l < length members
 more_members q End l bytes members lines next is = absurd next
 more_members q (At job) l bytes members lines next is =
     let all : length members ≡ length lines.members + length parts.0 = ap (λ ss. length ss) parts.1 ∙ length-append lines.members parts.0 in
@@ -139,7 +145,7 @@ more_members q (At job) l bytes members lines next is =
     let rest = some in
     omega (arith, rest, all, count)
   where
-    inside : (s : Symbol) → Contains lines.members s → IsMemberBetween q beginning (At job) s
+    inside : (s : Symbol) → Contains lines.members s → IsMemberBetween (whole q) beginning (At job) s
     inside s there = (lines.between.members s).0 there
 
     after : (s : Symbol) → IsMember q s → Contains lines.members s ⊎ AllByRecursion (λ m. IsBelow m s) lines.members

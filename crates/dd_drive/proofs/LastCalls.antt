@@ -4,6 +4,7 @@ use Rattle.std.specs.List.{HoldsAt}
 use Rattle.dd_model.specs.Request.{IsValid}
 use Rattle.dd_model.specs.declared.requests.Request.{Request}
 use Rattle.dd_ports.specs.declared.memory_sink.MemorySink.{MemorySink}
+use Rattle.dd_check.specs.declared.kinds.Kind.TheVariants.{Catalogues}
 use Rattle.dd_check.specs.Calls.{Task, Resume}
 use Rattle.dd_check.specs.ChainStarts.{Start, Starts, StartsAt}
 use Rattle.dd_suite.specs.Chains.{ProgramCall, call_of}
@@ -61,7 +62,7 @@ module _ (q : Request) (name : List ℕ) (valid : IsValid q) (asked : AskForRun 
   resume_upto : (from to : Kept) (old new : MemorySink) (p : ProgramCall) → IsRun (resume_words name) from to old new p → IsHeld q (from.held name)
       → (s : Start) → StartsAt (call_of p) s → IsUpTo q s
   resume_upto from to old new p is held =
-      begins_up_to q name (Resume name) from to p (call_at (resume_words name) name (resume_order name) from to old new p asked refl is)
+      begins_up_to q name (Resume Catalogues name) from to p (call_at (resume_words name) name (resume_order name) from to old new p asked refl is)
       (λ s starts. starts_later q name (from.held name) s valid held starts)
 
   later_last : (from to : Kept) (olds news : List MemorySink) (p : ProgramCall) (calls : List ProgramCall) → IsHeld q (from.held name)
@@ -89,7 +90,7 @@ module _ (q : Request) (name : List ℕ) (valid : IsValid q) (asked : AskForRun 
       let mid = runs.0 in
       let at = call_at (resume_words name) name (resume_order name) from mid old new p asked refl runs.1 in
       let upto = resume_upto from mid old new p runs.1 held in
-      let after = after_run_held q name (Resume name) (resume_words name) from mid old new p at runs.1 upto held in
+      let after = after_run_held q name (Resume Catalogues name) (resume_words name) from mid old new p at runs.1 upto held in
       let l = later_last mid to olds news next calls after runs.2 in
       let first = faults_later (resume_words name) from mid old new p runs.1 in
       let rest = l.later in

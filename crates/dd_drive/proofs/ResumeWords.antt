@@ -6,16 +6,18 @@ use Rattle.dd_words.specs.Grammar.{IsSaid, IsCommand}
 use Rattle.dd_words.specs.Layout.{IsPlain, argument, nothing}
 use Rattle.dd_words.specs.Values.{IsName}
 use Rattle.dd_words.specs.declared.commands.Command.TheVariants as command
-use Rattle.dd_check.specs.Calls.{Catalogue, Resume}
+use Rattle.dd_jobs.specs.Portions.{whole}
+use Rattle.dd_check.specs.declared.kinds.Kind.TheVariants.{Catalogues}
+use Rattle.dd_check.specs.Calls.{Begin, Resume}
 use Rattle.dd_tasks.specs.Words.{Order, AskForRun}
 use Rattle.dd_drive.specs.Words.{AskToKeep, resume_words}
 
 -- what is asked for by the words that go on from the name
 abbrev pub resume_order : List ℕ → Order
-resume_order name = record { task = Resume name; round = 64; pause = None }
+resume_order name = record { task = Resume Catalogues name; round = 64; pause = None }
 
 abbrev pub first_order : {words : List (List ℕ)} {name : List ℕ} → AskToKeep words name → Order
-first_order {words} {name} asked = record { task = Catalogue asked.request (Some name); round = asked.round; pause = asked.pause }
+first_order {words} {name} asked = record { task = Begin (whole asked.request) (Some name); round = asked.round; pause = asked.pause }
 
 plain : (name : List ℕ) → IsName name → IsPlain name
 plain [] is = absurd is

@@ -1,12 +1,15 @@
 -- Runs that follow each other, and the chain that they are.
-use Rattle.std.proofs.Common.{◌≡◌, ℕ, ◌<◌, List, [], ◌∷◌, ◌++◌, set, get_or, map, length, Some, None, inl, refl, sym, ap, ◌∙◌, subst, arith}
+use Rattle.std.proofs.Common.{◌≡◌, ℕ, ◌<◌, List, [], ◌∷◌, ◌++◌, set, get_or, map, length, Option, Some, None, inl, refl, sym, ap, ◌∙◌, subst, arith}
 use Rattle.std.specs.List.{AllByRecursion}
 use Rattle.dd_model.specs.Request.{IsValid}
 use Rattle.dd_ports.specs.declared.memory_sink.MemorySink.{MemorySink}
 use Rattle.dd_words.proofs.Validity.{valid}
 use Rattle.dd_check.specs.declared.checkpoint.Checkpoint.{Checkpoint}
+use Rattle.dd_check.specs.declared.kinds.Kind.TheVariants.{Catalogues}
 use Rattle.dd_check.specs.Calls.{Task, Call}
 use Rattle.dd_check.specs.Chains.{AreResumed, IsChain, HasBegun}
+use Rattle.dd_jobs.specs.declared.shards.Shard.{Shard}
+use Rattle.dd_jobs.specs.Portions.{whole}
 use Rattle.dd_check.specs.ChainStarts.{Holds}
 use Rattle.dd_suite.specs.Chains.{ProgramCall, IsProgramCall, held_under, call_of}
 use Rattle.dd_tasks.specs.Runs.{name_of}
@@ -68,24 +71,24 @@ call_at words name order from to old new p asked named is =
     }
 
 resumed : (name : List ℕ) (from to : Kept) (olds news : List MemorySink) (calls : List ProgramCall) → AskForRun (resume_words name) (resume_order name)
-    → AreRuns (resume_words name) name from to olds news calls → AreResumed name (from.held name) (map call_of calls)
+    → AreRuns (resume_words name) name from to olds news calls → AreResumed Catalogues name (from.held name) (map call_of calls)
 resumed name from to olds news [] asked runs = tt
 resumed name from to [] news (p ∷ calls) asked runs = absurd runs
 resumed name from to (old ∷ olds) [] (p ∷ calls) asked runs = absurd runs
 resumed name from to (old ∷ olds) (new ∷ news) (p ∷ calls) asked runs =
     let at = call_at (resume_words name) name (resume_order name) from runs.0 old new p asked refl runs.1 in
-    (record { task = at.task_is; before = at.before_is }, subst (λ h. AreResumed name h (map call_of calls)) (sym at.after_is) (resumed name runs.0 to olds news calls asked runs.2))
+    (record { task = at.task_is; before = at.before_is }, subst (λ h. AreResumed Catalogues name h (map call_of calls)) (sym at.after_is) (resumed name runs.0 to olds news calls asked runs.2))
 
 pub request_valid : (words : List (List ℕ)) (name : List ℕ) (asked : AskToKeep words name) → IsValid asked.request
 request_valid words name asked = valid words asked.request asked.run.workers asked.round asked.pause (Some name) asked.run.command
 
-none_held : (c : Checkpoint) → Holds None c → ⊥
-none_held c is = let e = is.held_is in absurd (cc)
+none_held : (shard : Option Shard) (c : Checkpoint) → Holds shard None c → ⊥
+none_held shard c is = let e = is.held_is in absurd (cc)
 
 -- the runs are a chain that has begun
 pub are_chain : (words : List (List ℕ)) (name : List ℕ) (from to : Kept) (olds news : List MemorySink) (p : ProgramCall) (calls : List ProgramCall) (asked : AskToKeep words name)
     → from.held name ≡ None → AreRuns words name from to olds news (p ∷ calls)
-    → IsChain asked.request (Some name) (map call_of (p ∷ calls)) × HasBegun (map call_of (p ∷ calls))
+    → IsChain (whole asked.request) (Some name) (map call_of (p ∷ calls)) × HasBegun (map call_of (p ∷ calls))
 are_chain words name from to [] news p calls asked empty runs = absurd runs
 are_chain words name from to (old ∷ olds) [] p calls asked empty runs = absurd runs
 are_chain words name from to (old ∷ olds) (new ∷ news) p calls asked empty runs =
@@ -93,7 +96,7 @@ are_chain words name from to (old ∷ olds) (new ∷ news) p calls asked empty r
       record {
         valid = request_valid words name asked;
         task = at.task_is;
-        later = subst (λ h. AreResumed name h (map call_of calls)) (sym at.after_is) (resumed name runs.0 to olds news calls (resume_asked words name asked) runs.2);
+        later = subst (λ h. AreResumed Catalogues name h (map call_of calls)) (sym at.after_is) (resumed name runs.0 to olds news calls (resume_asked words name asked) runs.2);
       },
-      inl (λ c held. none_held c (subst (λ h. Holds h c) (at.before_is ∙ empty) held)),
+      inl (λ h. none_held h.shard h.check (subst (λ z. Holds h.shard z h.check) (at.before_is ∙ empty) h.holds)),
     )

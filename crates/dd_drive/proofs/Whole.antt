@@ -5,7 +5,9 @@ use Rattle.dd_model.specs.Wanted.{IsCatalogue}
 use Rattle.dd_model.specs.declared.requests.Request.{Request}
 use Rattle.dd_ports.specs.Causes.{Rose}
 use Rattle.dd_ports.specs.declared.memory_sink.MemorySink.{MemorySink}
-use Rattle.dd_check.specs.Calls.{Catalogue, Done}
+use Rattle.dd_jobs.specs.declared.portions.Portion.{Portion}
+use Rattle.dd_jobs.specs.Portions.{whole}
+use Rattle.dd_check.specs.Calls.{Begin, Done}
 use Rattle.dd_check.specs.Chains.{IsJoined}
 use Rattle.dd_check.specs.ChainOutcomes.{IsFront}
 use Rattle.dd_check.proofs.Chained.{chain_ends, chain_writes}
@@ -25,33 +27,33 @@ use Rattle.dd_drive.proofs.LastCalls.{IsLast, IsOnly, last_of}
 use Rattle.dd_drive.proofs.ResumeWords.{first_order, resume_asked}
 use Rattle.dd_drive.proofs.RunLemmas.{all_calls, are_chain, request_valid}
 
-one_request : (q r : Request) (m n : Option (List ℕ)) → Catalogue q m ≡ Catalogue r n → q ≡ r
-one_request q r m n e = cc
+one_request : (q r : Request) (m n : Option (List ℕ)) → Begin (whole q) m ≡ Begin (whole r) n → q ≡ r
+one_request q r m n e = let same : whole q ≡ whole r = cc in ap (λ (p : Portion). p.request) same
 
 -- the words ask for one request
-pub request_is : (words : List (List ℕ)) (name : List ℕ) (asked : AskToKeep words name) (q : Request) → AskFor words q → asked.request ≡ q
+pub request_is : (words : List (List ℕ)) (name : List ℕ) (asked : AskToKeep words name) (q : Request) → AskFor words (whole q) → asked.request ≡ q
 request_is words name asked q is =
     one_request asked.request q (Some name) is.name (ap (λ (o : Order). o.task)
-    (one_order words (first_order asked) (record { task = Catalogue q is.name; round = is.round; pause = is.pause }) asked.run is.run))
+    (one_order words (first_order asked) (record { task = Begin (whole q) is.name; round = is.round; pause = is.pause }) asked.run is.run))
 
 module _ (words : List (List ℕ)) (name : List ℕ) (from to : Kept) (olds news : List MemorySink) (d : Drive) (asked : AskToKeep words name) (empty : from.held name ≡ None)
     (drives : Drives words name from to olds news d) where
   -- ## What was written
 
   writes : (calls : List ProgramCall) (bytes : List ℕ) → EndAs calls d.status → AreRuns words name from to olds news calls → IsJoined (map call_of calls) bytes
-      → IsFront asked.request bytes × (d.status ≡ status.Done → IsText asked.request beginning 0 bytes)
+      → IsFront (whole asked.request) bytes × (d.status ≡ status.Done → IsText asked.request beginning 0 bytes)
   writes [] bytes ends runs joined = absurd ends
   writes (p ∷ calls) bytes ends runs joined =
       let chain = are_chain words name from to olds news p calls asked empty runs in
       let meet = all_meet (p ∷ calls) (all_calls words name from to olds news (p ∷ calls) runs) in (
-        chain_writes asked.request (Some name) (map call_of (p ∷ calls)) bytes chain.0 meet chain.1 joined,
+        chain_writes (whole asked.request) (Some name) (map call_of (p ∷ calls)) bytes chain.0 meet chain.1 joined,
         λ done.
-            (chain_ends asked.request (Some name) (map call_of (p ∷ calls)) bytes Done chain.0 meet chain.1
+            (chain_ends (whole asked.request) (Some name) (map call_of (p ∷ calls)) bytes Done chain.0 meet chain.1
             (chain_ends_as (p ∷ calls) status.Done (subst (EndAs (p ∷ calls)) done ends)) joined).end,
       )
 
   pub front_of : IsItsFront words d.joined.items
-  front_of r is = subst (λ (x : Request). IsFront x d.joined.items) (request_is words name asked r is) (writes drives.calls d.joined.items drives.last drives.runs drives.joined).0
+  front_of r is = subst (λ (x : Request). IsFront (whole x) d.joined.items) (request_is words name asked r is) (writes drives.calls d.joined.items drives.last drives.runs drives.joined).0
 
   pub whole_of : d.status ≡ status.Done → IsItsText words d.joined.items
   whole_of done r is =

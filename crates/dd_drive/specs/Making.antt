@@ -1,5 +1,5 @@
 -- What one run of a chain does, and what it gives to the whole.
-use Rattle.std.specs.Prelude.{◌≡◌, ◌⊎◌, ℕ, ◌+◌, List, [], Option, Some, MatchOption, set, take}
+use Rattle.std.specs.Prelude.{◌≡◌, ◌⊎◌, ℕ, ◌+◌, List, [], Option, None, Some, MatchOption, set, take}
 use Rattle.std.specs.List.{HoldsAt}
 use Rattle.dd_ports.specs.declared.memory_sink.MemorySink.{MemorySink}
 use Rattle.dd_check.specs.declared.checkpoint.Checkpoint.{Checkpoint}
@@ -22,9 +22,9 @@ pub record RunsInto (words : List (List ℕ)) (from to : Kept) (olds news : List
 -- without a number cannot begin.
 abbrev pub IsPartOf : Option ℕ → Option (List ℕ) → List ℕ → List ℕ → Type 0
 IsPartOf number held output part =
-    ((c : Checkpoint) × Holds held c × (number ≡ Some c.run) × (part ≡ take c.bytes output))
-    ⊎ (((c : Checkpoint) → Holds held c → number ≡ Some c.run → ⊥) × (part ≡ []))
+    ((c : Checkpoint) × Holds None held c × (number ≡ Some c.run) × (part ≡ take c.bytes output))
+    ⊎ (((c : Checkpoint) → Holds None held c → number ≡ Some c.run → ⊥) × (part ≡ []))
 
 -- the number of the run that goes on from what is held, and none where that is no checkpoint text
 abbrev pub IsNextNumber : Option (List ℕ) → Option ℕ → Type 0
-IsNextNumber held next = MatchOption next ((c : Checkpoint) → Holds held c → ⊥) (λ n. (c : Checkpoint) × Holds held c × (n ≡ c.run + 1))
+IsNextNumber held next = MatchOption next ((c : Checkpoint) → Holds None held c → ⊥) (λ n. (c : Checkpoint) × Holds None held c × (n ≡ c.run + 1))

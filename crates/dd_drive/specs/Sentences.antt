@@ -5,6 +5,7 @@ use Rattle.dd_model.specs.Symbol.{Symbol}
 use Rattle.dd_model.specs.Text.{IsText, beginning}
 use Rattle.dd_model.specs.Wanted.{IsCatalogue}
 use Rattle.dd_model.specs.declared.requests.Request.{Request}
+use Rattle.dd_jobs.specs.Portions.{whole}
 use Rattle.dd_ports.specs.Causes.{Rose}
 use Rattle.dd_ports.specs.Sinks.{memory_sink_held}
 use Rattle.dd_ports.specs.declared.memory_sink.MemorySink.{MemorySink}
@@ -18,11 +19,11 @@ use Rattle.dd_drive.specs.Runs.{Kept}
 
 -- the bytes are the text of the catalogue that the words ask for
 abbrev pub IsItsText : List (List ℕ) → List ℕ → Type 0
-IsItsText words bytes = (q : Request) → AskFor words q → IsText q beginning 0 bytes
+IsItsText words bytes = (q : Request) → AskFor words (whole q) → IsText q beginning 0 bytes
 
 -- each text of this catalogue begins with the bytes
 abbrev pub IsItsFront : List (List ℕ) → List ℕ → Type 0
-IsItsFront words bytes = (q : Request) → AskFor words q → IsFront q bytes
+IsItsFront words bytes = (q : Request) → AskFor words (whole q) → IsFront (whole q) bytes
 
 -- the sink of the run with this number, counted from 1, has failed
 abbrev pub HasRisen : List MemorySink → List MemorySink → ℕ → Type 0
@@ -35,7 +36,7 @@ HasPaused words from olds news =
 
 -- the catalogue has more lines than may be numbered
 abbrev pub HasTooMany : List (List ℕ) → Type 0
-HasTooMany words = (q : Request) (members : List Symbol) → AskFor words q → IsCatalogue q members → most_lines < length members
+HasTooMany words = (q : Request) (members : List Symbol) → AskFor words (whole q) → IsCatalogue q members → most_lines < length members
 
 -- the text of a checkpoint is held, and a number in it is out of the range in which it is read again
 pub record HoldsOutOfRange (held : Option (List ℕ)) : Type 0 where

@@ -1,7 +1,8 @@
 -- Words that keep a checkpoint under a name, and words that go on from it.
 use Rattle.std.specs.Prelude.{ℕ, List, [], ◌∷◌, Option, Some, codes}
 use Rattle.dd_model.specs.declared.requests.Request.{Request}
-use Rattle.dd_check.specs.Calls.{Catalogue}
+use Rattle.dd_jobs.specs.Portions.{whole}
+use Rattle.dd_check.specs.Calls.{Begin}
 use Rattle.dd_tasks.specs.Words.{AskForRun}
 
 -- the words of a catalogue that keeps its checkpoint under the name
@@ -9,7 +10,7 @@ pub record AskToKeep (words : List (List ℕ)) (name : List ℕ) : Type 0 where
   pub request : Request
   pub round : ℕ
   pub pause : Option ℕ
-  pub run : AskForRun words (record { task = Catalogue request (Some name); round = round; pause = pause })
+  pub run : AskForRun words (record { task = Begin (whole request) (Some name); round = round; pause = pause })
 
 -- the words that go on from the name, without settings
 abbrev pub resume_words : List ℕ → List (List ℕ)

@@ -1,4 +1,4 @@
-ghost use Rattle.std.specs.Prelude.{◌≡◌, ◌↔◌, ℕ, List, ◌++◌, Some, IfOk, IsTrue, MatchOption, take};
+ghost use Rattle.std.specs.Prelude.{◌≡◌, ◌↔◌, ℕ, List, ◌++◌, None, Some, IfOk, IsTrue, MatchOption, take};
 ghost use Rattle.dd_check.specs.declared.checkpoint.Checkpoint.{Checkpoint};
 ghost use Rattle.dd_check.specs.ChainStarts.{Holds};
 ghost use Rattle.dd_drive.specs.Making.{IsPartOf, IsNextNumber};
@@ -20,7 +20,7 @@ fn first_bytes(text: &[u8], count: u128) -> &[u8]
 /// The checkpoint of a text, where it is a checkpoint text.
 fn check_of(alloc: Global, text: &[u8]) -> Result<Option<Checkpoint>, Memory>
     ensures { IfOk result (λ check. MatchOption check
-        ((c : Checkpoint) → Holds (Some text.now) c → ⊥) (Holds (Some text.now))) }
+        ((c : Checkpoint) → Holds None (Some text.now) c → ⊥) (Holds None (Some text.now))) }
 {
     match read_checkpoint(alloc, text) {
         Ok(check) => Ok(Some(check)),

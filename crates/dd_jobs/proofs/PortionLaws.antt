@@ -18,7 +18,8 @@ use Rattle.dd_model.proofs.Without.{without_unique}
 use Rattle.dd_jobs.specs.declared.shards.Shard.{Shard}
 use Rattle.dd_jobs.specs.Opening.{IsOpening, IsOpeningJob}
 use Rattle.dd_jobs.specs.Shards.{IsShardJob, IsShardOpening}
-use Rattle.dd_jobs.specs.Portions.{Portion, IsJobIn, IsPortionJob, IsPortionOpening, IsMemberIn, IsPortionMember, ArePortionMembers, IsTextIn, IsPortionText}
+use Rattle.dd_jobs.specs.declared.portions.Portion.{Portion}
+use Rattle.dd_jobs.specs.Portions.{IsJobIn, IsPortionJob, IsPortionOpening, IsMemberIn, IsPortionMember, ArePortionMembers, IsTextIn, IsPortionText}
 use Rattle.dd_jobs.proofs.Listings.{one_ascending}
 use Rattle.dd_jobs.proofs.OpeningLaws.{opening_covers, opening_jobs_apart, opening_jobs_search}
 

@@ -9,7 +9,7 @@ use Rattle.dd_model.specs.declared.requests.Request.{Request}
 use Rattle.dd_model.specs.declared.jobs.Job.{Job}
 use Rattle.dd_model.specs.declared.jobs.Position.{Position}
 use Rattle.dd_jobs.specs.declared.shards.Shard.{Shard}
-pub use Rattle.dd_jobs.specs.declared.portions.Portion.{Portion}
+use Rattle.dd_jobs.specs.declared.portions.Portion.{Portion}
 use Rattle.dd_jobs.specs.Opening.{IsOpeningJob}
 use Rattle.dd_jobs.specs.Shards.{IsShardJob, IsShardMember, IsShardText}
 

@@ -1,9 +1,9 @@
 -- What a run leaves under its name.
 use Rattle.std.specs.Prelude.{◌≡◌, ◌≢◌, ◌⊎◌, ℕ, List, [], Option, Result, IsOk, IfOk, Bool, true, length}
-use Rattle.dd_model.specs.declared.requests.Request.{Request}
 use Rattle.dd_model.specs.declared.jobs.Position.{Position}
 use Rattle.dd_model.specs.declared.jobs.Position.TheVariants.{At, End}
-use Rattle.dd_jobs.specs.Opening.{IsOpeningJob}
+use Rattle.dd_jobs.specs.declared.portions.Portion.{Portion}
+use Rattle.dd_jobs.specs.Portions.{IsPortionJob}
 use Rattle.dd_check.specs.declared.checkpoint.Checkpoint.{Checkpoint}
 use Rattle.dd_check.specs.Clauses.{HasWork}
 use Rattle.dd_check.specs.ChainPuts.{IsPut, IsNextMember}
@@ -39,18 +39,18 @@ pub record PutsAtPause (s : Start) (pause : Option ℕ) (after : Option (List �
   pub put : IsPut after output s check
   pub pause_is : IsPause s.lines pause check.lines
   pub all : check.bytes ≡ length output
-  pub next : IsNextMember s.request check.at
+  pub next : IsNextMember s.portion check.at
 
--- where a checkpoint between two rounds stands: at a job of the opening, or at the end
-abbrev pub IsRoundStop : Request → Position → Type 0
-IsRoundStop q End = Unit {0}
-IsRoundStop q (At job) = IsOpeningJob q job
+-- where a checkpoint between two rounds stands: at a job of the portion, or at the end
+abbrev pub IsRoundStop : Portion → Position → Type 0
+IsRoundStop p End = Unit {0}
+IsRoundStop p (At job) = IsPortionJob p job
 
 -- it was put between two rounds, and so at no member
 pub record PutsBetween (s : Start) (after : Option (List ℕ)) (output : List ℕ) : Type 0 where
   pub check : Checkpoint
   pub put : IsPut after output s check
-  pub stop : IsRoundStop s.request check.at
+  pub stop : IsRoundStop s.portion check.at
 
 -- What an end of the run's own leaves. Nothing is put after the last line that there may be.
 abbrev pub FinishesName : Start → Option ℕ → Option (List ℕ) → Option (List ℕ) → List ℕ → Finish → Type 0

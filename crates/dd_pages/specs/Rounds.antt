@@ -3,7 +3,6 @@ use Rattle.std.specs.Prelude.{◌≡◌, ◌⊎◌, ℕ, ◌≤◌, List, [], �
 use Rattle.std.specs.List.{AllByRecursion}
 use Rattle.dd_model.specs.Lists.{IsWithout}
 use Rattle.dd_model.specs.Position.{IsWhollyBefore}
-use Rattle.dd_model.specs.declared.requests.Request.{Request}
 use Rattle.dd_model.specs.declared.jobs.Job.{Job}
 use Rattle.dd_model.specs.declared.jobs.Position.{Position}
 use Rattle.dd_front.specs.declared.entry.Entry.{Entry}
@@ -11,20 +10,21 @@ use Rattle.dd_front.specs.declared.entry.State.TheVariants.{Open}
 use Rattle.dd_front.specs.Absorbed.{MayAbsorb, Absorbs}
 use Rattle.dd_front.specs.Joining.{IsDone}
 use Rattle.dd_front.specs.Machine.{Machine, IsOpened}
-use Rattle.dd_jobs.specs.Opening.{IsOpening}
+use Rattle.dd_jobs.specs.declared.portions.Portion.{Portion}
+use Rattle.dd_jobs.specs.Portions.{IsPortionOpening}
 use Rattle.dd_check.specs.ChainStarts.{Start}
 
--- the jobs of the opening of a request that are not wholly before a position
-pub record AreJobsFrom (q : Request) (at : Position) (jobs : List Job) : Type 0 where
+-- the jobs of a portion that are not wholly before a position
+pub record AreJobsFrom (p : Portion) (at : Position) (jobs : List Job) : Type 0 where
   pub opening : List Job
-  pub is_opening : IsOpening q opening
+  pub is_opening : IsPortionOpening p opening
   pub left : IsWithout (IsWhollyBefore at) opening jobs
 
 -- a machine of these jobs
 pub record IsBegun (s : Start) (f : Machine) : Type 0 where
   pub jobs : List Job
-  pub from : AreJobsFrom s.request s.at jobs
-  pub opened : IsOpened s.request jobs s.at s.lines f
+  pub from : AreJobsFrom s.portion s.at jobs
+  pub opened : IsOpened s.portion.request jobs s.at s.lines f
 
 -- each entry is open
 abbrev pub AreOpen : List Entry → Type 0

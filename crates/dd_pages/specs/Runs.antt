@@ -16,7 +16,7 @@ most_lines = 1000000000000000000
 
 -- where a run begins
 abbrev pub start_of : Run → Start
-start_of run = record { number = run.number; request = run.request; at = run.at; lines = run.lines }
+start_of run = record { number = run.number; portion = run.portion; at = run.at; lines = run.lines }
 
 -- the pause comes after this line, which may be written
 pub record IsPause (before : ℕ) (pause : Option ℕ) (last : ℕ) : Type 0 where
@@ -36,15 +36,15 @@ IsLimit before pause limit = MatchBool limit.pauses (IsPause before pause limit.
 -- the lines of all members that are not before the start, of which no number is too large, and not more than are to be written before a pause
 pub record WritesRest (s : Start) (pause : Option ℕ) (output : List ℕ) : Type 0 where
   pub count : ℕ
-  pub written : AreLinesBetween s.request s.at End s.lines count output
+  pub written : AreLinesBetween s.portion s.at End s.lines count output
   pub within : count ≤ most_lines
   pub few : (lines : ℕ) → pause ≡ Some lines → count ≤ s.lines + lines
 
 -- the lines up to this number, after which there is one more member
 pub record WritesUpTo (s : Start) (last : ℕ) (output : List ℕ) : Type 0 where
   pub at : Position
-  pub written : AreLinesBetween s.request s.at at s.lines last output
-  pub next : IsNextMember s.request at
+  pub written : AreLinesBetween s.portion s.at at s.lines last output
+  pub next : IsNextMember s.portion at
 
 -- the lines before the pause, and there are more
 pub record WritesUpToPause (s : Start) (pause : Option ℕ) (output : List ℕ) : Type 0 where

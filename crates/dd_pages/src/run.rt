@@ -2,7 +2,8 @@ ghost use Rattle.std.specs.Prelude.{◌≡◌, ◌≤◌, IfOk};
 
 use crate::limit::{Limit, MOST_LINES};
 use crate::pace::Pace;
-use dd_model::{Job, Memory, Position, Prefix, Request};
+use dd_jobs::Portion;
+use dd_model::{Job, Memory, Position, Prefix};
 use std::alloc::Global;
 
 /// A run of a chain: where it begins, how it is worked at, and when it is to pause.
@@ -11,7 +12,7 @@ pub struct Run {
     /// The number of the run in its chain, counted from 1.
     pub number: u32,
     /// What is asked for.
-    pub request: Request,
+    pub portion: Portion,
     /// The members before it are left out.
     pub at: Position,
     /// How many lines the chain has written before.
@@ -29,11 +30,11 @@ impl Run {
     /// The first run of a chain.
     pub fn first(
         alloc: Global,
-        request: Request,
+        portion: Portion,
         pace: Pace,
         pause: Option<u32>,
     ) -> Result<Run, Memory>
-        ensures start { IfOk result (λ run. start_of run ≡ first_start request) }
+        ensures start { IfOk result (λ run. start_of run ≡ first_start portion) }
         ensures pace { IfOk result (λ run. run.pace ≡ pace) }
         ensures pause { IfOk result (λ run. run.pause ≡ pause) }
     {
@@ -43,7 +44,7 @@ impl Run {
         });
         Ok(Run {
             number: 1,
-            request,
+            portion,
             at: beginning,
             lines: 0,
             pace,

@@ -1,4 +1,5 @@
-ghost use Rattle.std.specs.Prelude.{◌≡◌, IfOk, true};
+ghost use Rattle.std.specs.Prelude.{◌≡◌, IfOk, OnOk, true};
+ghost use Rattle.dd_check.specs.Writing.{AddsSaved};
 ghost use Rattle.dd_ports.specs.Causes.{HasCause, StaysSure};
 ghost use Rattle.dd_ports.specs.Texts.{SameOthers};
 ghost use Rattle.dd_pages.specs.declared.fault.RunFault.TheVariants.{Store as StoreFailed, Sink as SinkFailed};
@@ -8,8 +9,9 @@ ghost use Rattle.dd_pages.specs.Saves.{IsCheckAt, Saves, SavesFirst};
 use crate::fault::RunFault;
 use crate::pages::Page;
 use crate::run::Run;
-use dd_check::{Checkpoint, write_checkpoint};
+use dd_check::{Checkpoint, write_checkpoint, write_shard};
 use dd_front::Front;
+use dd_jobs::Shard;
 use dd_model::Memory;
 use dd_ports::{Store, StoreFault};
 use std::alloc::Global;
@@ -22,14 +24,24 @@ fn check_text(alloc: Global, run: &Run, front: &Front, page: &Page) -> Result<Ve
     let bytes = page.bytes;
     let check = Checkpoint {
         run: number,
-        request: run.request,
+        request: run.portion.request,
         lines: u128::from(page.count),
         bytes,
         at: front.position()?,
     };
     let mut text = Vec::new(alloc);
-    write_checkpoint(&mut text, &check)?;
+    write_saved(&mut text, run.portion.shard, &check)?;
     Ok(text)
+}
+
+/// Appends the text of a checkpoint, after the line of the shard if there is one.
+fn write_saved(out: &mut Vec<u8>, shard: Option<Shard>, check: &Checkpoint) -> Result<(), Memory>
+    ensures { OnOk result (AddsSaved shard check.now out.old.items out.new.items) }
+{
+    match shard {
+        Some(shard) => write_shard(out, shard, check),
+        None => write_checkpoint(out, check),
+    }
 }
 
 /// Puts the checkpoint of a run that stands where its front does, with the lines of its page, all of which were written.

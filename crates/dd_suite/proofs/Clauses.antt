@@ -2,14 +2,14 @@
 use Rattle.std.proofs.Common.{◌≡◌, ◌⊎◌, ◌≤◌, ℕ, List, [], true, Result, Ok, Err, IsErrOf, length, inl, inr, refl, sym, ap, ◌∙◌, subst}
 use Rattle.std.specs.Prelude.{OnOk}
 use Rattle.dd_model.specs.Symbol.{Symbol}
-use Rattle.dd_model.specs.Wanted.{IsCatalogue}
-use Rattle.dd_model.specs.declared.requests.Request.{Request}
+use Rattle.dd_jobs.specs.declared.portions.Portion.{Portion}
+use Rattle.dd_jobs.specs.Portions.{ArePortionMembers}
 use Rattle.dd_ports.specs.Causes.{Rose}
 use Rattle.dd_ports.specs.Grows.{GrowsByPrefix}
 use Rattle.dd_ports.specs.declared.sink.SinkFault.{SinkFault as WriteFault}
 use Rattle.dd_ports.specs.declared.sink.SinkFault.TheVariants.{Failed, Memory as NoRoom}
-use Rattle.dd_check.specs.declared.checkpoint.Checkpoint.{Checkpoint}
-use Rattle.dd_check.specs.Calls.{Catalogue, Resume}
+use Rattle.dd_check.specs.declared.kinds.Kind.{Kind}
+use Rattle.dd_check.specs.Calls.{Begin, Resume}
 use Rattle.dd_check.specs.ChainStarts.{Start}
 use Rattle.dd_pages.specs.Runs.{most_lines, WritesRest}
 use Rattle.dd_tasks.specs.declared.ending.Ending.{Ending}
@@ -17,7 +17,7 @@ use Rattle.dd_tasks.specs.declared.ending.Ending.TheVariants as ending
 use Rattle.dd_tasks.specs.declared.status.Status.{Status}
 use Rattle.dd_tasks.specs.declared.status.Status.TheVariants.{Done, Usage, Refused, Paused, StoreFault, SinkFault, Memory, TooManyLines}
 use Rattle.dd_tasks.specs.Arguments.{AreRefused, IsFileAccepted, IsCheckAccepted, KeepUnder, SameButKept}
-use Rattle.dd_tasks.specs.Beginnings.{HoldsCheck}
+use Rattle.dd_tasks.specs.Beginnings.{HoldsSomeCheck}
 use Rattle.dd_tasks.specs.Cuts.{Pauses, CutsShort, IsEndOfOwn}
 use Rattle.dd_tasks.specs.Endings.{status_of}
 use Rattle.dd_tasks.specs.Messages.{IsItsCause}
@@ -79,12 +79,12 @@ module _ (words : List (List ℕ)) (end : Ending) (before : Before) (after : Aft
   call_as outcome state e order asked = subst (λ s. IsCallOf order s before after) (sym e) (call outcome order asked)
 
   -- words that go on from no checkpoint text write nothing, and leave every name as it was
-  pub not_resumed : IsOutcome words end before after → (name : List ℕ) → AskToResume words name → ((c : Checkpoint) → HoldsCheck before.tells (before.held name) c → ⊥)
+  pub not_resumed : IsOutcome words end before after → (kind : Kind) (name : List ℕ) → AskToResume words kind name → (HoldsSomeCheck kind before.tells (before.held name) → ⊥)
       → WritesNothing before after × KeepsNames before after
-  not_resumed outcome name asked none = go (call outcome (record { task = Resume name; round = asked.round; pause = asked.pause }) asked.run)
+  not_resumed outcome kind name asked none = go (call outcome (record { task = Resume kind name; round = asked.round; pause = asked.pause }) asked.run)
     where
-      go : IsCallOf (record { task = Resume name; round = asked.round; pause = asked.pause }) (status_of end) before after → WritesNothing before after × KeepsNames before after
-      go (inl ran) = absurd (none ran.begins.0 ran.begins.1)
+      go : IsCallOf (record { task = Resume kind name; round = asked.round; pause = asked.pause }) (status_of end) before after → WritesNothing before after × KeepsNames before after
+      go (inl ran) = absurd (none ran.begins.held_is)
       go (inr stops) = (stops.nothing, stops.same)
 
   pub usage : IsOutcome words end before after → status_of end ≡ Usage → AreTaken words → ⊥
@@ -200,10 +200,10 @@ module _ (words : List (List ℕ)) (end : Ending) (before : Before) (after : Aft
   cut_short (of_run order asked (inl ends)) h = ran_cuts words order before after asked (status_of end) ends.ran h
   cut_short (of_run order asked (inr stops)) h = let f : IsStopped TooManyLines = subst IsStopped h stops.not_run.stopped in absurd f
 
-  pub not_cut : IsOutcome words end before after → status_of end ≡ Done → (q : Request) (members : List Symbol) → AskFor words q → IsCatalogue q members → length members ≤ most_lines
-  not_cut outcome h q members asked is = go (call outcome (record { task = Catalogue q asked.name; round = asked.round; pause = asked.pause }) asked.run)
+  pub not_cut : IsOutcome words end before after → status_of end ≡ Done → (q : Portion) (members : List Symbol) → AskFor words q → ArePortionMembers q members → length members ≤ most_lines
+  not_cut outcome h q members asked is = go (call outcome (record { task = Begin q asked.name; round = asked.round; pause = asked.pause }) asked.run)
     where
-      go : IsCallOf (record { task = Catalogue q asked.name; round = asked.round; pause = asked.pause }) (status_of end) before after → length members ≤ most_lines
+      go : IsCallOf (record { task = Begin q asked.name; round = asked.round; pause = asked.pause }) (status_of end) before after → length members ≤ most_lines
       go (inl ran) =
           let out = output_of asked.name ran.start asked.round asked.pause before after ran.result ran.runs in
           let rest = rest_written ran.start asked.pause before.written after.written ran.result out.0 (whole_result ran.result (sym h ∙ ran.status_is)) out.1 in

@@ -6,5 +6,6 @@ pub mod RunOutcomes
 pub mod ExerciseOutcomes
 pub mod Clauses
 pub mod CheckValues
+pub mod ShardFetches
 pub mod RunCalls
 pub mod ProgramCalls

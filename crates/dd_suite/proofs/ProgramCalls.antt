@@ -4,9 +4,9 @@ use Rattle.std.proofs.lemmas.List.{append_cancel_left}
 use Rattle.std.specs.Io.KnownBytes.{Appends}
 use Rattle.std.specs.List.{AllByRecursion}
 use Rattle.dd_model.specs.Lists.{Begins}
-use Rattle.dd_model.specs.Text.{IsText}
-use Rattle.dd_model.specs.declared.requests.Request.{Request}
-use Rattle.dd_check.specs.Calls.{Task, Catalogue, Resume, Call, Done, Paused}
+use Rattle.dd_jobs.specs.declared.portions.Portion.{Portion}
+use Rattle.dd_jobs.specs.Portions.{IsPortionText}
+use Rattle.dd_check.specs.Calls.{Task, Begin, Resume, Call, Done, Paused}
 use Rattle.dd_check.specs.Clauses.{MeetsClauses, HasWorked, HasWork}
 use Rattle.dd_check.specs.ChainStarts.{Start, first_start, Starts}
 use Rattle.dd_check.specs.ChainPuts.{Puts}
@@ -17,7 +17,7 @@ use Rattle.dd_pages.specs.declared.finish.Finish.TheVariants as finish
 use Rattle.dd_pages.specs.Outputs.{IsOutput}
 use Rattle.dd_pages.specs.Runs.{Finishes, WritesRest, WritesUpToPause}
 use Rattle.dd_pages.specs.Names.{LeavesName, PutsCheck, PutsAtEnd, PutsAtPause, FinishesName}
-use Rattle.dd_words.proofs.Validity.{lone_pause}
+use Rattle.dd_tasks.proofs.Requests.{lone_run}
 use Rattle.dd_tasks.specs.declared.status.Status.{Status}
 use Rattle.dd_tasks.specs.declared.status.Status.TheVariants as status
 use Rattle.dd_tasks.specs.Beginnings.{BeginsAt}
@@ -65,8 +65,8 @@ module _ (task : Task) (before after : Option (List ℕ)) (s : Start) (round : �
   rest : chain_ending state ≡ Done → WritesRest s pause output
   rest e = subst (λ x. IfOk x (Finishes s pause output)) (whole e) is.finishes
 
-  front : (t : Start) (text : List ℕ) → Starts task before t → IsText t.request t.at t.lines text → Begins output text
-  front t text other of = is.front text (subst (λ (u : Start). IsText u.request u.at u.lines text) (sym (same_start t other)) of)
+  front : (t : Start) (text : List ℕ) → Starts task before t → IsPortionText t.portion t.at t.lines text → Begins output text
+  front t text other of = is.front text (subst (λ (u : Start). IsPortionText u.portion u.at u.lines text) (sym (same_start t other)) of)
 
   -- the call of the chain
   own : Call
@@ -104,17 +104,17 @@ module _ (task : Task) (before after : Option (List ℕ)) (s : Start) (round : �
 
 -- ## Runs without a name, and calls that never began to run
 
-no_name : (q r : Request) (name : List ℕ) → Catalogue q None ≡ Catalogue r (Some name) → ⊥
+no_name : (q r : Portion) (name : List ℕ) → Begin q None ≡ Begin r (Some name) → ⊥
 no_name q r name e = cc
 
-lone_meets : (q : Request) (pause : Option ℕ) (s : Start) (state : Status) (r : Result Finish RunFault) (old new : Option (List ℕ)) (output : List ℕ) → pause ≡ None → state ≡ run_status r
-    → Starts (Catalogue q None) None s → IsOutput s pause old new r output
-    → MeetsClauses (record { task = Catalogue q None; pause = pause; before = None; after = None; output = output; ending = chain_ending state })
+lone_meets : (q : Portion) (pause : Option ℕ) (s : Start) (state : Status) (r : Result Finish RunFault) (old new : Option (List ℕ)) (output : List ℕ) → pause ≡ None → state ≡ run_status r
+    → Starts (Begin q None) None s → IsOutput s pause old new r output
+    → MeetsClauses (record { task = Begin q None; pause = pause; before = None; after = None; output = output; ending = chain_ending state })
 lone_meets q pause s state r old new output none told starts is = record {
-  prefix = front (Catalogue q None) None None s 0 pause state r old new output told starts is;
-  done = λ e. let w = rest (Catalogue q None) None None s 0 pause state r old new output told starts is e in record { start = s; starts = starts; count = w.count; written = w.written; few = w.few };
+  prefix = front (Begin q None) None None s 0 pause state r old new output told starts is;
+  done = λ e. let w = rest (Begin q None) None None s 0 pause state r old new output told starts is e in record { start = s; starts = starts; count = w.count; written = w.written; few = w.few };
   paused = λ e.
-      let w : WritesUpToPause s pause output = subst (λ x. IfOk x (Finishes s pause output)) (paused (Catalogue q None) None None s 0 pause state r old new output told starts is e) is.finishes in
+      let w : WritesUpToPause s pause output = subst (λ x. IfOk x (Finishes s pause output)) (paused (Begin q None) None None s 0 pause state r old new output told starts is e) is.finishes in
       let asked = sym none ∙ w.pause_is.asked in
       absurd (cc);
   held = inl refl;
@@ -150,8 +150,13 @@ same_output (Some old) (Some new) xs ys some h i = append_cancel_left old xs ys 
 
 -- where a call begins, told by what the name holds
 pub begun : (task : Task) (before : Before) (s : Start) → before.tells ≡ true → BeginsAt task before.tells before.held s → Starts task (held_under (name_of task) before.held) s
-begun (Catalogue q name) before s told begins = begins
-begun (Resume name) before s told begins = (begins.0, record { text = begins.1.bytes; held_is = begins.1.fetched told; accepted = begins.1.accepted }, begins.2)
+begun (Begin q name) before s told begins = begins
+begun (Resume kind name) before s told begins =
+    let h = begins.held_is in
+    record {
+      held = record { shard = h.shard; kind_is = h.kind_is; check = h.check; holds = record { text = h.holds.bytes; held_is = h.holds.fetched told; accepted = h.holds.accepted } };
+      start_is = begins.start_is;
+    }
 
 same_held : (name : Option (List ℕ)) (before after : List ℕ → Option (List ℕ)) → ((other : List ℕ) → after other ≡ before other) → held_under name after ≡ held_under name before
 same_held None before after same = refl
@@ -165,20 +170,20 @@ module _ (words : List (List ℕ)) (round : ℕ) (pause : Option ℕ) (state : S
       stopped_meets task pause (held_under (name_of task) before.held) (held_under (name_of task) after.held) state output stops.stopped
       (same_output before.written after.written output [] known wrote stops.nothing)
       (same_held (name_of task) before.held after.held (stops.same told))
-  task_meets (Catalogue q None) asked (inl ran) =
+  task_meets (Begin q None) asked (inl ran) =
       let same = same_output before.written after.written ran.runs.output output known ran.runs.is_output.appended wrote in
-      lone_meets q pause ran.start state ran.result before.written after.written output (lone_pause words q asked.workers round pause asked.command) ran.status_is ran.begins
+      lone_meets q pause ran.start state ran.result before.written after.written output (lone_run words q asked.workers round pause asked.command) ran.status_is ran.begins
       (subst (IsOutput ran.start pause before.written after.written ran.result) same ran.runs.is_output)
-  task_meets (Catalogue q (Some name)) asked (inl ran) =
+  task_meets (Begin q (Some name)) asked (inl ran) =
       let run = ran.runs.run in
       let same = same_output before.written after.written run.output output known run.is_output.appended wrote in
-      kept_meets (Catalogue q (Some name)) (before.held name) (after.held name) ran.start round pause state ran.result before.written after.written output ran.status_is ran.begins
+      kept_meets (Begin q (Some name)) (before.held name) (after.held name) ran.start round pause state ran.result before.written after.written output ran.status_is ran.begins
       (subst (IsOutput ran.start pause before.written after.written ran.result) same run.is_output)
       (subst (LeavesName ran.start round pause (before.held name) (after.held name) ran.result) same (run.left told))
-  task_meets (Resume name) asked (inl ran) =
+  task_meets (Resume kind name) asked (inl ran) =
       let run = ran.runs.run in
       let same = same_output before.written after.written run.output output known run.is_output.appended wrote in
-      kept_meets (Resume name) (before.held name) (after.held name) ran.start round pause state ran.result before.written after.written output ran.status_is (begun (Resume name) before ran.start told ran.begins)
+      kept_meets (Resume kind name) (before.held name) (after.held name) ran.start round pause state ran.result before.written after.written output ran.status_is (begun (Resume kind name) before ran.start told ran.begins)
       (subst (IsOutput ran.start pause before.written after.written ran.result) same run.is_output)
       (subst (LeavesName ran.start round pause (before.held name) (after.held name) ran.result) same (run.left told))
 

@@ -2,13 +2,15 @@
 use Rattle.std.proofs.Common.{◌≡◌, ◌≤◌, ℕ, List, [], Bool, true, Option, Some, None, Result, Ok, Err, inl, inr, ⊎_elim, refl, sym, ap, ◌∙◌, subst, arith}
 use Rattle.std.proofs.KnownBytes.{Appends-nil}
 use Rattle.std.proofs.lemmas.Bool.{cases_eq}
-use Rattle.dd_model.specs.declared.requests.Request.{Request}
+use Rattle.dd_jobs.specs.declared.shards.Shard.{Shard}
+use Rattle.dd_jobs.specs.declared.portions.Portion.{Portion}
 use Rattle.dd_ports.specs.Causes.{Rose}
 use Rattle.dd_ports.specs.Texts.{SameTexts, SameOthers}
 use Rattle.dd_ports.specs.declared.sink.SinkFault.{SinkFault as WriteFault}
 use Rattle.dd_ports.specs.declared.sink.SinkFault.TheVariants as sink
 use Rattle.dd_check.specs.declared.checkpoint.Checkpoint.{Checkpoint}
-use Rattle.dd_check.specs.Calls.{Catalogue, Resume}
+use Rattle.dd_check.specs.declared.kinds.Kind.{Kind}
+use Rattle.dd_check.specs.Calls.{kind_of, Begin, Resume}
 use Rattle.dd_check.specs.ChainStarts.{Start, first_start, next_start}
 use Rattle.dd_pages.specs.declared.fault.RunFault.{RunFault}
 use Rattle.dd_pages.specs.declared.fault.RunFault.TheVariants as fault
@@ -50,15 +52,16 @@ same_run run s name pace pause ending before after start same_pace same_pause en
     (subst (λ (p : Pace). EndsRunFrom (start_of run) name p.round pause ending before after) same_pace
     (subst (λ (p : Option ℕ). EndsRunFrom (start_of run) name run.pace.round p ending before after) same_pause ends))
 
-pub kept_outcome : (q : Request) (name : List ℕ) (round : ℕ) (pause : Option ℕ) (ending : Ending) (before : Before) (after : After) → EndsRunFrom (first_start q) name round pause ending before after
-    → IsRunOutcome (record { task = Catalogue q (Some name); round = round; pause = pause }) ending before after
+pub kept_outcome : (q : Portion) (name : List ℕ) (round : ℕ) (pause : Option ℕ) (ending : Ending) (before : Before) (after : After) → EndsRunFrom (first_start q) name round pause ending before after
+    → IsRunOutcome (record { task = Begin q (Some name); round = round; pause = pause }) ending before after
 kept_outcome q name round pause ending before after ends =
     inl (record { ran = record { start = first_start q; begins = refl; result = ends.result; status_is = ends.status_is; runs = ends.run }; cause = ends.cause })
 
-pub resumed_outcome : (c : Checkpoint) (name : List ℕ) (round : ℕ) (pause : Option ℕ) (ending : Ending) (before : Before) (after : After) → HoldsCheck before.tells (before.held name) c
-    → EndsRunFrom (next_start c) name round pause ending before after → IsRunOutcome (record { task = Resume name; round = round; pause = pause }) ending before after
-resumed_outcome c name round pause ending before after holds ends =
-    inl (record { ran = record { start = next_start c; begins = (c, holds, refl); result = ends.result; status_is = ends.status_is; runs = ends.run }; cause = ends.cause })
+pub resumed_outcome : (shard : Option Shard) (c : Checkpoint) (name : List ℕ) (round : ℕ) (pause : Option ℕ) (ending : Ending) (before : Before) (after : After)
+    → HoldsCheck shard before.tells (before.held name) c → EndsRunFrom (next_start shard c) name round pause ending before after
+    → IsRunOutcome (record { task = Resume (kind_of shard) name; round = round; pause = pause }) ending before after
+resumed_outcome shard c name round pause ending before after holds ends =
+    inl (record { ran = record { start = next_start shard c; begins = record { held_is = record { shard = shard; kind_is = refl; check = c; holds = holds }; start_is = refl }; result = ends.result; status_is = ends.status_is; runs = ends.run }; cause = ends.cause })
 
 -- what rose since a later time rose since an earlier one
 pub rose_earlier : (a b c : ℕ) → a ≤ b → Rose b c → Rose a c
@@ -109,25 +112,25 @@ module _ (s : Start) (name : List ℕ) (round : ℕ) (pause : Option ℕ) (befor
 
 -- ## Calls that never began to run
 
-pub stopped_outcome : (ending : Ending) (name : List ℕ) (round : ℕ) (pause : Option ℕ) (before : Before) (after : After)
-    → IsHeldStop ending before.tells (before.held name) before.store_faults after.store_faults → WritesNothing before after → KeepsNames before after
-    → IsRunOutcome (record { task = Resume name; round = round; pause = pause }) ending before after
-stopped_outcome Done name round pause before after c nothing same = absurd c
-stopped_outcome Usage name round pause before after c nothing same = absurd c
-stopped_outcome (Refused fault) name round pause before after c nothing same = absurd c
-stopped_outcome (RefusedSymbol refusal) name round pause before after c nothing same = absurd c
-stopped_outcome (RefusedCheck fault) name round pause before after c nothing same = inr (record { not_run = record { stopped = tt; nothing = nothing; same = same }; cause = c })
-stopped_outcome (RefusedMerge refusal) name round pause before after c nothing same = absurd c
-stopped_outcome (Paused lines) name round pause before after c nothing same = absurd c
-stopped_outcome StoreFault name round pause before after c nothing same = inr (record { not_run = record { stopped = tt; nothing = nothing; same = same }; cause = c })
-stopped_outcome SinkFault name round pause before after c nothing same = absurd c
-stopped_outcome Memory name round pause before after c nothing same = inr (record { not_run = record { stopped = tt; nothing = nothing; same = same }; cause = c })
-stopped_outcome TooManyLines name round pause before after c nothing same = absurd c
+pub stopped_outcome : (kind : Kind) (ending : Ending) (name : List ℕ) (round : ℕ) (pause : Option ℕ) (before : Before) (after : After)
+    → IsHeldStop kind ending before.tells (before.held name) before.store_faults after.store_faults → WritesNothing before after → KeepsNames before after
+    → IsRunOutcome (record { task = Resume kind name; round = round; pause = pause }) ending before after
+stopped_outcome kind Done name round pause before after c nothing same = absurd c
+stopped_outcome kind Usage name round pause before after c nothing same = absurd c
+stopped_outcome kind (Refused fault) name round pause before after c nothing same = absurd c
+stopped_outcome kind (RefusedSymbol refusal) name round pause before after c nothing same = absurd c
+stopped_outcome kind (RefusedCheck fault) name round pause before after c nothing same = inr (record { not_run = record { stopped = tt; nothing = nothing; same = same }; cause = c })
+stopped_outcome kind (RefusedMerge refusal) name round pause before after c nothing same = absurd c
+stopped_outcome kind (Paused lines) name round pause before after c nothing same = absurd c
+stopped_outcome kind StoreFault name round pause before after c nothing same = inr (record { not_run = record { stopped = tt; nothing = nothing; same = same }; cause = c })
+stopped_outcome kind SinkFault name round pause before after c nothing same = absurd c
+stopped_outcome kind Memory name round pause before after c nothing same = inr (record { not_run = record { stopped = tt; nothing = nothing; same = same }; cause = c })
+stopped_outcome kind TooManyLines name round pause before after c nothing same = absurd c
 
 -- ## Runs without a name
 
 -- what is said of a write that failed is said of the run
-pub lone_end : (q : Request) (old new : Option (List ℕ)) (r : Result Finish WriteFault) (output : List ℕ) → IsOutput (first_start q) None old new r output
+pub lone_end : (q : Portion) (old new : Option (List ℕ)) (r : Result Finish WriteFault) (output : List ℕ) → IsOutput (first_start q) None old new r output
     → IsOutput (first_start q) None old new (run_result r) output
 lone_end q old new (Ok finish) output is = record { appended = is.appended; front = is.front; finishes = is.finishes }
 lone_end q old new (Err why) output is = record { appended = is.appended; front = is.front; finishes = tt }
@@ -147,7 +150,7 @@ lone_sink ending r e f = go r (sink_end (run_result r) 0 (sym e ∙ f))
     go (Err sink.Memory) h = absurd (cc)
 
 -- want of memory before the run
-pub lone_none : (q : Request) (old : Option (List ℕ)) (before : ℕ) → IsLoneEnding Memory q old old before before
+pub lone_none : (q : Portion) (old : Option (List ℕ)) (before : ℕ) → IsLoneEnding Memory q old old before before
 lone_none q old before = record {
   output = [];
   result = Err sink.Memory;
@@ -157,7 +160,7 @@ lone_none q old before = record {
 }
 
 -- a run from the beginning that does not pause
-pub lone_ends : (ending : Ending) (q : Request) (run : Run) (old new : Option (List ℕ)) (before now : ℕ) (r : Result Finish WriteFault) (output : List ℕ) → ending ≡ run_ending (run_result r) 0
+pub lone_ends : (ending : Ending) (q : Portion) (run : Run) (old new : Option (List ℕ)) (before now : ℕ) (r : Result Finish WriteFault) (output : List ℕ) → ending ≡ run_ending (run_result r) 0
     → start_of run ≡ first_start q → run.pause ≡ None → IsOutput (start_of run) run.pause old new r output → (r ≡ Err sink.Failed → Rose before now) → IsLoneEnding ending q old new before now
 lone_ends ending q run old new before now r output e start pause is rose = record {
   output = output;
@@ -170,8 +173,8 @@ lone_ends ending q run old new before now r output e start pause is rose = recor
 not_asked : (l : ℕ) → IsPause 0 None l → 0 ≡ l
 not_asked l is = let e = is.asked in absurd (cc)
 
-pub lone_outcome : (q : Request) (round : ℕ) (ending : Ending) (before : Before) (after : After) → IsLoneEnding ending q before.written after.written before.sink_faults after.sink_faults
-    → KeepsNames before after → IsRunOutcome (record { task = Catalogue q None; round = round; pause = None }) ending before after
+pub lone_outcome : (q : Portion) (round : ℕ) (ending : Ending) (before : Before) (after : After) → IsLoneEnding ending q before.written after.written before.sink_faults after.sink_faults
+    → KeepsNames before after → IsRunOutcome (record { task = Begin q None; round = round; pause = None }) ending before after
 lone_outcome q round ending before after is same =
     let r = run_result is.result in
     let own = lone_end q before.written after.written is.result is.output is.is_output in

@@ -1,14 +1,14 @@
 ghost use Rattle.std.specs.Prelude.{◌≡◌, ◌≤◌, ℕ, Some, true};
 ghost use Rattle.dd_model.specs.Request.{IsValid};
 ghost use Rattle.dd_model.specs.Position.{IsPosition};
-ghost use Rattle.dd_check.specs.Calls.{Catalogue};
+ghost use Rattle.dd_check.specs.Calls.{Begin};
 ghost use Rattle.dd_check.specs.ChainStarts.{first_start};
 ghost use Rattle.dd_pages.specs.Runs.{start_of, IsPause};
 ghost use Rattle.dd_tasks.specs.Outcomes.{IsRunOutcome, EndsRunFrom};
 
 use dd_branch::Search;
 use dd_catalogue::write_run;
-use dd_model::Request;
+use dd_jobs::Portion;
 use dd_pages::{Pace, Run};
 use dd_ports::{Gate, Sink, Store};
 use dd_tasks::Ending;
@@ -16,11 +16,11 @@ use std::alloc::Global;
 use std::sync::Wait;
 use std::thread::Threads;
 
-/// Writes the catalogue of a request by a run that keeps its checkpoint under a name.
+/// Writes a catalogue or a shard by a run that keeps its checkpoint under a name.
 pub fn write_kept<R: Threads + Wait + Sync, S: Store, G: Gate + Sync, O: Sink>(
     rt: &R,
     alloc: Global,
-    request: &Request,
+    portion: &Portion,
     name: &str,
     pace: Pace,
     pause: Option<u32>,
@@ -28,12 +28,12 @@ pub fn write_kept<R: Threads + Wait + Sync, S: Store, G: Gate + Sync, O: Sink>(
     store: &mut S,
     out: &mut O,
 ) -> Ending
-    requires valid { IsValid request.now }
+    requires valid { IsValid portion.now.request }
     requires workers { (1 ≤ pace.workers) × (pace.workers ≤ 64) }
     requires round { 1 ≤ pace.round }
     ensures outcome { IsRunOutcome
         (record {
-          task = Catalogue request.now (Some name.now);
+          task = Begin portion.now (Some name.now);
           round = pace.round;
           pause = pause;
         })
@@ -59,7 +59,7 @@ pub fn write_kept<R: Threads + Wait + Sync, S: Store, G: Gate + Sync, O: Sink>(
     ensures sink_sure { O.sure out.old ≡ true
         → (O.faults out.new ≡ O.faults out.old) × (result ≡ Ending.SinkFault → ⊥) }
 {
-    let Ok(run) = Run::first(alloc, *request, pace, pause) else {
+    let Ok(run) = Run::first(alloc, *portion, pace, pause) else {
         return Ending::Memory;
     };
     keep_run(rt, alloc, &run, name, gate, store, out)
@@ -75,10 +75,10 @@ pub fn keep_run<R: Threads + Wait + Sync, S: Store, G: Gate + Sync, O: Sink>(
     store: &mut S,
     out: &mut O,
 ) -> Ending
-    requires valid { IsValid run.now.request }
+    requires valid { IsValid run.now.portion.request }
     requires position { IsPosition run.now.at }
     requires lines { run.now.lines ≤ 1000000000000000000 }
-    requires first { run.now.number ≡ 1 → start_of run.now ≡ first_start run.now.request }
+    requires first { run.now.number ≡ 1 → start_of run.now ≡ first_start run.now.portion }
     requires workers { (1 ≤ run.now.pace.workers) × (run.now.pace.workers ≤ 64) }
     requires round { 1 ≤ run.now.pace.round }
     ensures run { EndsRunFrom
@@ -105,7 +105,7 @@ pub fn keep_run<R: Threads + Wait + Sync, S: Store, G: Gate + Sync, O: Sink>(
     ensures sink_sure { O.sure out.old ≡ true
         → (O.faults out.new ≡ O.faults out.old) × (result ≡ Ending.SinkFault → ⊥) }
 {
-    let mut search = Search::new(&run.request);
+    let mut search = Search::new(&run.portion.request);
     let ended = write_run(rt, alloc, &mut search, gate, run, name, store, out);
     Ending::of_run(ended, last_before_pause(run))
 }

@@ -1,7 +1,8 @@
 ghost use Rattle.std.specs.Prelude.{ℕ, List, Option, map};
 ghost use Rattle.std.specs.List.{AllByRecursion};
-ghost use Rattle.dd_model.specs.declared.requests.Request.{Request};
-ghost use Rattle.dd_model.specs.Text.{IsText, beginning};
+ghost use Rattle.dd_model.specs.Text.{beginning};
+ghost use Rattle.dd_jobs.specs.declared.portions.Portion.{Portion};
+ghost use Rattle.dd_jobs.specs.Portions.{IsPortionText};
 ghost use Rattle.dd_check.specs.Calls.{Done, Paused};
 ghost use Rattle.dd_check.specs.Chains.{IsChain, HasBegun, EndsAs, IsJoined, held_after};
 ghost use Rattle.dd_check.specs.Clauses.{MeetsClauses};
@@ -13,22 +14,22 @@ pub fn a_call_of_the_program_meets_the_clauses()
     ensures { (p : ProgramCall) → IsProgramCall p → MeetsClauses (call_of p) }
 {}
 
-/// Where a chain of calls of the program has begun and its last call came to its end, they have written the whole catalogue
-/// together, whatever stopped the calls before.
-pub fn a_finished_chain_of_calls_writes_the_catalogue()
-    ensures { (q : Request) (name : Option (List ℕ)) (calls : List ProgramCall)
+/// Where a chain of calls of the program has begun and its last call came to its end, they have written the whole text of
+/// their portion together, whatever stopped the calls before: of the catalogue, or of the shard.
+pub fn a_finished_chain_of_calls_writes_its_text()
+    ensures { (p : Portion) (name : Option (List ℕ)) (calls : List ProgramCall)
         → (bytes : List ℕ) → AllByRecursion IsProgramCall calls
-        → IsChain q name (map call_of calls) → HasBegun (map call_of calls)
+        → IsChain p name (map call_of calls) → HasBegun (map call_of calls)
         → EndsAs (map call_of calls) Done → IsJoined (map call_of calls) bytes
-        → IsText q beginning 0 bytes }
+        → IsPortionText p beginning 0 bytes }
 {}
 
 /// Where a chain of calls of the program has begun and its last call paused, they have written the first lines, as many as the
 /// checkpoint says.
 pub fn a_paused_chain_of_calls_writes_the_first_lines()
-    ensures { (q : Request) (name : Option (List ℕ)) (calls : List ProgramCall)
+    ensures { (p : Portion) (name : Option (List ℕ)) (calls : List ProgramCall)
         → (bytes : List ℕ) → AllByRecursion IsProgramCall calls
-        → IsChain q name (map call_of calls) → HasBegun (map call_of calls)
+        → IsChain p name (map call_of calls) → HasBegun (map call_of calls)
         → EndsAs (map call_of calls) Paused → IsJoined (map call_of calls) bytes
-        → IsCutAt q (held_after (map call_of calls)) bytes }
+        → IsCutAt p (held_after (map call_of calls)) bytes }
 {}

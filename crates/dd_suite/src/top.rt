@@ -5,12 +5,12 @@ ghost use Rattle.dd_ports.specs.Causes.{Rose};
 ghost use Rattle.dd_ports.specs.Grows.{GrowsByPrefix};
 ghost use Rattle.dd_ports.specs.Texts.{SameTexts};
 ghost use Rattle.dd_model.specs.Symbol.{Symbol};
-ghost use Rattle.dd_model.specs.Wanted.{IsCatalogue};
-ghost use Rattle.dd_model.specs.declared.requests.Request.{Request};
-ghost use Rattle.dd_check.specs.declared.checkpoint.Checkpoint.{Checkpoint};
+ghost use Rattle.dd_jobs.specs.declared.portions.Portion.{Portion};
+ghost use Rattle.dd_jobs.specs.Portions.{ArePortionMembers};
+ghost use Rattle.dd_check.specs.declared.kinds.Kind.{Kind};
 ghost use Rattle.dd_pages.specs.Runs.{most_lines};
 ghost use Rattle.dd_tasks.specs.Words.{Order, AskForRun, AskFor, AskToResume, NameFile, AreTaken};
-ghost use Rattle.dd_tasks.specs.Beginnings.{HoldsCheck};
+ghost use Rattle.dd_tasks.specs.Beginnings.{HoldsSomeCheck};
 ghost use Rattle.dd_tasks.specs.Runs.{IsCallOf};
 ghost use Rattle.dd_tasks.specs.Output.{IsFileOutput, IsKnownOutput, AppendsOutput};
 ghost use Rattle.dd_tasks.specs.Arguments.{AreRefused, AreHeld, IsFileAccepted, IsCheckAccepted};
@@ -70,8 +70,9 @@ pub fn run<R: Threads + Wait + Sync, S: Store, O: Sink, E: Sink, G: Gate + Sync>
           written = O.held out.new;
           sink_faults = O.faults out.new;
         }) }
-    ensures not_resumed { (name : List ℕ) → AskToResume (map rc_str_bytes words.now) name
-        → ((c : Checkpoint) → HoldsCheck (S.tells store.old) (S.held store.old name) c → ⊥)
+    ensures not_resumed { (kind : Kind) (name : List ℕ)
+        → AskToResume (map rc_str_bytes words.now) kind name
+        → (HoldsSomeCheck kind (S.tells store.old) (S.held store.old name) → ⊥)
         → Appends (O.held out.old) (O.held out.new) []
         × (S.tells store.old ≡ true → SameTexts (S.held store.old) (S.held store.new)) }
 
@@ -115,8 +116,8 @@ pub fn run<R: Threads + Wait + Sync, S: Store, O: Sink, E: Sink, G: Gate + Sync>
     ensures cut_short { result ≡ Status.TooManyLines
         → CutsShort (map rc_str_bytes words.now) (S.tells store.old) (S.held store.old)
         (O.held out.old) (O.held out.new) }
-    ensures not_cut { result ≡ Status.Done → (q : Request) (members : List Symbol)
-        → AskFor (map rc_str_bytes words.now) q → IsCatalogue q members
+    ensures not_cut { result ≡ Status.Done → (p : Portion) (members : List Symbol)
+        → AskFor (map rc_str_bytes words.now) p → ArePortionMembers p members
         → length members ≤ most_lines }
 
     // Taken words end as Done, as paused or as cut short where the file, the checkpoint or the files of a merge are accepted and no
@@ -189,16 +190,16 @@ fn perform<R: Threads + Wait + Sync, S: Store, O: Sink, G: Gate + Sync>(
         Err(Memory) => return Ending::Memory,
     };
     match task {
-        Task::Catalogue(request, pace) => write_lone(rt, alloc, &request, pace, gate, out),
+        Task::Alone(portion, pace) => write_lone(rt, alloc, &portion, pace, gate, out),
         Task::Kept {
-            request,
+            portion,
             name,
             pace,
             pause,
         } => write_kept(
             rt,
             alloc,
-            &request,
+            &portion,
             name.as_str(),
             pace,
             pause,
@@ -206,9 +207,22 @@ fn perform<R: Threads + Wait + Sync, S: Store, O: Sink, G: Gate + Sync>(
             store,
             out,
         ),
-        Task::Resume { name, pace, pause } => {
-            resume(rt, alloc, name.as_str(), pace, pause, gate, store, out)
-        }
+        Task::Resume {
+            kind,
+            name,
+            pace,
+            pause,
+        } => resume(
+            rt,
+            alloc,
+            kind,
+            name.as_str(),
+            pace,
+            pause,
+            gate,
+            store,
+            out,
+        ),
         Task::OnFile(command, name) => write_file(alloc, command, name.as_str(), store, out),
         Task::Merge(names) => write_merge(alloc, names.as_slice(), store, out),
         Task::Exercise { start, count } => write_exercise(alloc, start, count, out),

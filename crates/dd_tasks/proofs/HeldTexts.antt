@@ -4,10 +4,11 @@ use Rattle.dd_ports.specs.Grows.{GrowsByPrefix}
 use Rattle.dd_commands.specs.declared.commands.FileCommand.{FileCommand}
 use Rattle.dd_commands.specs.Files.{IsFileText}
 use Rattle.dd_commands.proofs.FileTexts.{file_text_unique}
-use Rattle.dd_check.specs.declared.checkpoint.Checkpoint.{Checkpoint}
-use Rattle.dd_check.specs.Accepted.{IsCheckpointText}
-use Rattle.dd_check.proofs.Exclusion.{one_checkpoint}
-use Rattle.dd_tasks.specs.Beginnings.{HoldsCheck}
+use Rattle.dd_check.specs.ShardChecks.{IsAcceptedText}
+use Rattle.dd_check.specs.declared.kinds.Kind.{Kind}
+use Rattle.dd_check.specs.ChainStarts.{Start, next_start}
+use Rattle.dd_check.proofs.ChainParts.{one_accepted}
+use Rattle.dd_tasks.specs.Beginnings.{BeginsNext}
 use Rattle.dd_tasks.specs.Held.{IsTextOfHeld}
 
 pub some_injective : (a b : List ℕ) → Some a ≡ Some b → a ≡ b
@@ -25,7 +26,11 @@ pub prefix_of_each_file : (command : FileCommand) (tells : Bool) (held old new :
 prefix_of_each_file command tells held old new mine text told is grown other =
     subst (GrowsByPrefix old new) (held_text_unique command tells held mine text told is other) grown
 
-pub one_check : (tells : Bool) (held : Option (List ℕ)) (c d : Checkpoint) → tells ≡ true → HoldsCheck tells held c → HoldsCheck tells held d → c ≡ d
-one_check tells held c d told x y =
-    let bytes : y.bytes ≡ x.bytes = some_injective y.bytes x.bytes (sym (y.fetched told) ∙ x.fetched told) in
-    one_checkpoint x.bytes c d x.accepted (subst (λ b. IsCheckpointText b d) bytes y.accepted)
+-- a run that goes on from what a name holds begins at one place
+pub one_next : (kind : Kind) (tells : Bool) (held : Option (List ℕ)) (s t : Start) → tells ≡ true → BeginsNext kind tells held s → BeginsNext kind tells held t → s ≡ t
+one_next kind tells held s t told x y =
+    let a = x.held_is in
+    let b = y.held_is in
+    let bytes : b.holds.bytes ≡ a.holds.bytes = some_injective b.holds.bytes a.holds.bytes (sym (b.holds.fetched told) ∙ a.holds.fetched told) in
+    let one = one_accepted a.holds.bytes a.shard b.shard a.check b.check (a.kind_is ∙ sym b.kind_is) a.holds.accepted (subst (λ z. IsAcceptedText b.shard z b.check) bytes b.holds.accepted) in
+    x.start_is ∙ (λ i. next_start (one.0 i) (one.1 i)) ∙ sym y.start_is

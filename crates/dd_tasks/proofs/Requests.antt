@@ -5,19 +5,24 @@ use Rattle.dd_model.specs.Request.{IsValid}
 use Rattle.dd_words.specs.Grammar.{IsCommand, IsExercise, OnTwo}
 use Rattle.dd_words.specs.Values.{Text}
 use Rattle.dd_words.proofs.ReadCommands.{one_command}
-use Rattle.dd_words.proofs.Validity.{valid, IsPace, pace as pace_of, resume_pace, lone_pause}
+use Rattle.dd_words.proofs.Validity.{IsPace, IsAskedWell, catalogue_well, shard_well, resume_pace, resume_shard_pace}
 use Rattle.dd_words.specs.declared.commands.Command.{Command}
-use Rattle.dd_words.specs.declared.commands.Command.TheVariants.{Catalogue, Resume, File, Apply, Merge, Exercise, Draw as Drawing}
+use Rattle.dd_words.specs.declared.commands.Command.TheVariants.{Catalogue, Resume, Shard as ShardOf, ResumeShard, File, Apply, Merge, Exercise, Draw as Drawing}
 use Rattle.dd_words.specs.declared.commands.FileKind.{FileKind}
 use Rattle.dd_words.specs.declared.commands.FileKind.TheVariants as kind
-use Rattle.dd_check.specs.Calls.{Task as ChainTask, Catalogue as First, Resume as Next}
+use Rattle.dd_jobs.specs.declared.shards.Shard.{Shard}
+use Rattle.dd_jobs.specs.declared.portions.Portion.{Portion}
+use Rattle.dd_jobs.specs.Portions.{whole}
+use Rattle.dd_check.specs.declared.kinds.Kind.{Kind}
+use Rattle.dd_check.specs.declared.kinds.Kind.TheVariants.{Catalogues, Shards}
+use Rattle.dd_check.specs.Calls.{Task as ChainTask, Begin, Resume as Next}
 use Rattle.dd_commands.specs.declared.commands.FileCommand.{FileCommand}
 use Rattle.dd_commands.specs.declared.commands.FileCommand.TheVariants.{Symbols, Info, Sheets, Draw}
 use Rattle.dd_commands.specs.declared.commands.SymbolCommand.TheVariants.{Lines, Canon, Minimal, Dual, Oriented, Torus, Derived, Applied}
 use Rattle.dd_pages.specs.declared.pace.Pace.{Pace}
 use Rattle.dd_tasks.specs.declared.task.Task.{Task}
 use Rattle.dd_tasks.specs.declared.task.Task.TheVariants as task
-use Rattle.dd_tasks.specs.Words.{Order, run_command, AskForRun, file_command, IsOnFile, AskToExercise, AreTaken}
+use Rattle.dd_tasks.specs.Words.{Order, begin_command, resume_command, run_command, AskForRun, file_command, IsOnFile, AskToExercise, AreTaken}
 use Rattle.dd_tasks.specs.Merges.{AskToMerge}
 use Rattle.dd_tasks.specs.Commands.{AskForTask}
 
@@ -59,15 +64,29 @@ same_asked p q e =
     (ap (λ (r : FileCommand × List ℕ). r.0) same, ap (λ (r : FileCommand × List ℕ). r.1) same)
 
 -- the run that a command asks for, and nothing for other commands
-order_of : Command → Option Order
-order_of (Catalogue q workers round pause name) = Some (record { task = First q name; round = round; pause = pause })
-order_of (Resume name workers round pause) = Some (record { task = Next name; round = round; pause = pause })
+pub order_of : Command → Option Order
+order_of (Catalogue q workers round pause name) = Some (record { task = Begin (whole q) name; round = round; pause = pause })
+order_of (ShardOf shard q workers round pause name) = Some (record { task = Begin (record { request = q; shard = Some shard }) name; round = round; pause = pause })
+order_of (Resume name workers round pause) = Some (record { task = Next Catalogues name; round = round; pause = pause })
+order_of (ResumeShard name workers round pause) = Some (record { task = Next Shards name; round = round; pause = pause })
 order_of other = None
 
-order_told : (task : ChainTask) (workers round : ℕ) (pause : Option ℕ) → order_of (run_command task workers round pause) ≡ Some (record { task = task; round = round; pause = pause })
+begun_order : (shard : Option Shard) (q : Request) (name : Option (List ℕ)) (workers round : ℕ) (pause : Option ℕ)
+    → order_of (begin_command shard q name workers round pause) ≡ Some (record { task = Begin (record { request = q; shard = shard }) name; round = round; pause = pause })
 unfolding order_of
-order_told (First q name) workers round pause = refl
-order_told (Next name) workers round pause = refl
+begun_order None q name workers round pause = refl
+begun_order (Some shard) q name workers round pause = refl
+
+resumed_order : (kind : Kind) (name : List ℕ) (workers round : ℕ) (pause : Option ℕ)
+    → order_of (resume_command kind name workers round pause) ≡ Some (record { task = Next kind name; round = round; pause = pause })
+unfolding order_of
+resumed_order Catalogues name workers round pause = refl
+resumed_order Shards name workers round pause = refl
+
+-- the command of a run asks for the run
+pub order_told : (task : ChainTask) (workers round : ℕ) (pause : Option ℕ) → order_of (run_command task workers round pause) ≡ Some (record { task = task; round = round; pause = pause })
+order_told (Begin p name) workers round pause = begun_order p.shard p.request name workers round pause
+order_told (Next kind name) workers round pause = resumed_order kind name workers round pause
 
 no_order : (k : FileCommand) (name : List ℕ) → order_of (file_command k name) ≡ None
 unfolding order_of
@@ -173,24 +192,43 @@ pub record AsksForRun (words : List (List ℕ)) (order : Order) (pace : Pace) : 
   pub order_asked : AskForRun words order
   pub in_range : IsPace pace.workers pace.round
 
-pub lone_asked : (words : List (List ℕ)) (q : Request) (pace : Pace) → AskForTask words (task.Catalogue q pace)
-    → IsValid q × AsksForRun words (record { task = First q None; round = pace.round; pause = None }) pace
-lone_asked words q pace is =
-    let said : IsCommand words (Catalogue q pace.workers pace.round is.task_is.0 None) = subst (IsCommand words) is.task_is.1 is.asked in
-    let own = subst (λ (p : Option ℕ). IsCommand words (Catalogue q pace.workers pace.round p None)) (lone_pause words q pace.workers pace.round is.task_is.0 said) said in
-    (valid words q pace.workers pace.round None None own, record { order_asked = record { workers = pace.workers; command = own }; in_range = pace_of words q pace.workers pace.round None None own })
+-- the command that begins a portion asks for a valid request, at a pace in range
+pub record IsBegunWell (words : List (List ℕ)) (p : Portion) (name : Option (List ℕ)) (pace : Pace) (pause : Option ℕ) : Type 0 where
+  pub valid : IsValid p.request
+  pub asked : AsksForRun words (record { task = Begin p name; round = pace.round; pause = pause }) pace
 
-pub kept_asked : (words : List (List ℕ)) (q : Request) (name : List ℕ) (pace : Pace) (pause : Option ℕ) → AskForTask words (task.Kept q name pace pause)
-    → IsValid q × AsksForRun words (record { task = First q (Some name); round = pace.round; pause = pause }) pace
-kept_asked words q name pace pause is =
-    let own : IsCommand words (Catalogue q pace.workers pace.round pause (Some name)) = subst (IsCommand words) is.task_is is.asked in
-    (valid words q pace.workers pace.round pause (Some name) own, record { order_asked = record { workers = pace.workers; command = own }; in_range = pace_of words q pace.workers pace.round pause (Some name) own })
+begun_command : (words : List (List ℕ)) (shard : Option Shard) (q : Request) (name : Option (List ℕ)) (workers round : ℕ) (pause : Option ℕ)
+    → IsCommand words (begin_command shard q name workers round pause) → IsAskedWell q workers round pause name
+begun_command words None q name workers round pause is = catalogue_well words q workers round pause name is
+begun_command words (Some shard) q name workers round pause is = shard_well words shard q workers round pause name is
 
-pub resume_asked : (words : List (List ℕ)) (name : List ℕ) (pace : Pace) (pause : Option ℕ) → AskForTask words (task.Resume name pace pause)
-    → AsksForRun words (record { task = Next name; round = pace.round; pause = pause }) pace
-resume_asked words name pace pause is =
-    let own : IsCommand words (Resume name pace.workers pace.round pause) = subst (IsCommand words) is.task_is is.asked in
-    record { order_asked = record { workers = pace.workers; command = own }; in_range = resume_pace words name pace.workers pace.round pause own }
+begun_well : (words : List (List ℕ)) (p : Portion) (name : Option (List ℕ)) (pace : Pace) (pause : Option ℕ)
+    → IsCommand words (begin_command p.shard p.request name pace.workers pace.round pause) → IsBegunWell words p name pace pause
+begun_well words p name pace pause is =
+    let well = begun_command words p.shard p.request name pace.workers pace.round pause is in
+    record { valid = well.valid; asked = record { order_asked = record { workers = pace.workers; command = is }; in_range = well.pace } }
+
+-- without a name there is no pause
+pub lone_run : (words : List (List ℕ)) (p : Portion) (workers round : ℕ) (pause : Option ℕ) → IsCommand words (run_command (Begin p None) workers round pause) → pause ≡ None
+lone_run words p workers round pause is = (begun_command words p.shard p.request None workers round pause is).lone refl
+
+pub lone_asked : (words : List (List ℕ)) (p : Portion) (pace : Pace) → AskForTask words (task.Alone p pace) → IsBegunWell words p None pace None
+lone_asked words p pace is =
+    let own : IsCommand words (begin_command p.shard p.request None pace.workers pace.round is.task_is.0) = subst (IsCommand words) is.task_is.1 is.asked in
+    subst (IsBegunWell words p None pace) (lone_run words p pace.workers pace.round is.task_is.0 own) (begun_well words p None pace is.task_is.0 own)
+
+pub kept_asked : (words : List (List ℕ)) (p : Portion) (name : List ℕ) (pace : Pace) (pause : Option ℕ) → AskForTask words (task.Kept p name pace pause) → IsBegunWell words p (Some name) pace pause
+kept_asked words p name pace pause is = begun_well words p (Some name) pace pause (subst (IsCommand words) is.task_is is.asked)
+
+resumed_pace : (words : List (List ℕ)) (kind : Kind) (name : List ℕ) (workers round : ℕ) (pause : Option ℕ) → IsCommand words (resume_command kind name workers round pause) → IsPace workers round
+resumed_pace words Catalogues name workers round pause is = resume_pace words name workers round pause is
+resumed_pace words Shards name workers round pause is = resume_shard_pace words name workers round pause is
+
+pub resume_asked : (words : List (List ℕ)) (kind : Kind) (name : List ℕ) (pace : Pace) (pause : Option ℕ) → AskForTask words (task.Resume kind name pace pause)
+    → AsksForRun words (record { task = Next kind name; round = pace.round; pause = pause }) pace
+resume_asked words kind name pace pause is =
+    let own : IsCommand words (resume_command kind name pace.workers pace.round pause) = subst (IsCommand words) is.task_is is.asked in
+    record { order_asked = record { workers = pace.workers; command = own }; in_range = resumed_pace words kind name pace.workers pace.round pause own }
 
 pub exercise_asked : (words : List (List ℕ)) (start count : ℕ) → AskForTask words (task.Exercise start count) → AskToExercise words start count
 exercise_asked words start count is = subst (IsCommand words) is.task_is is.asked

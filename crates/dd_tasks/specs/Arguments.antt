@@ -2,9 +2,9 @@
 use Rattle.std.specs.Prelude.{◌≡◌, ◌⊎◌, ℕ, List, Option, Some, Bool, true, IsSome}
 use Rattle.dd_model.specs.Symbol.{Symbol}
 use Rattle.dd_model.specs.Reading.{Reads}
-use Rattle.dd_check.specs.declared.checkpoint.Checkpoint.{Checkpoint}
-use Rattle.dd_check.specs.declared.faults.CheckFault.{CheckFault}
-use Rattle.dd_check.specs.ChainStarts.{Holds}
+use Rattle.dd_check.specs.declared.shard_faults.ShardFault.{ShardFault}
+use Rattle.dd_check.specs.declared.kinds.Kind.{Kind}
+use Rattle.dd_check.specs.ChainStarts.{HoldsKind}
 use Rattle.dd_text.specs.declared.faults.FileFault.{FileFault}
 use Rattle.dd_commands.specs.declared.commands.FileCommand.{FileCommand}
 use Rattle.dd_commands.specs.declared.refusals.SymbolRefusal.{SymbolRefusal}
@@ -35,13 +35,13 @@ pub record NameRefused (words : List (List ℕ)) (tells : Bool) (held : List ℕ
 abbrev pub AreRefused : List (List ℕ) → Bool → (List ℕ → Option (List ℕ)) → Type 0
 AreRefused words tells held =
     ((fault : FileFault) × NameFaulty words tells held fault)
-    ⊎ (((r : SymbolRefusal) × NameRefused words tells held r) ⊎ (((fault : CheckFault) × NameNoCheck words tells held fault)
+    ⊎ (((r : SymbolRefusal) × NameRefused words tells held r) ⊎ (((fault : ShardFault) × NameNoCheck words tells held fault)
     ⊎ ((r : MergeRefusal) × NameUnmerged words tells held r)))
 
 -- the store holds the file that the words name, if they name one, the name that they go on from, and the files that they merge
 pub record AreHeld (words : List (List ℕ)) (tells : Bool) (held : List ℕ → Option (List ℕ)) : Type 0 where
   pub file : (command : FileCommand) (name : List ℕ) → IsOnFile words command name → IsSome (held name)
-  pub check : (name : List ℕ) → AskToResume words name → IsSome (held name)
+  pub check : (kind : Kind) (name : List ℕ) → AskToResume words kind name → IsSome (held name)
   pub merged : AreMergedHeld words tells held
 
 -- the symbols of a file that a name holds, of each of which a command makes something
@@ -56,9 +56,9 @@ pub record SpellsSymbols (command : FileCommand) (held : Option (List ℕ)) : Ty
 abbrev pub IsFileAccepted : List (List ℕ) → Bool → (List ℕ → Option (List ℕ)) → Type 0
 IsFileAccepted words tells held = (command : FileCommand) (name : List ℕ) → IsOnFile words command name → (tells ≡ true) × SpellsSymbols command (held name)
 
--- the name that the words go on from, if they do, holds a checkpoint text
+-- the name that the words go on from, if they do, holds a checkpoint text of their kind
 abbrev pub IsCheckAccepted : List (List ℕ) → Bool → (List ℕ → Option (List ℕ)) → Type 0
-IsCheckAccepted words tells held = (name : List ℕ) → AskToResume words name → (tells ≡ true) × (c : Checkpoint) × Holds (held name) c
+IsCheckAccepted words tells held = (kind : Kind) (name : List ℕ) → AskToResume words kind name → (tells ≡ true) × HoldsKind kind (held name)
 
 -- the words keep a checkpoint under the name
 pub record KeepUnder (words : List (List ℕ)) (name : List ℕ) : Type 0 where

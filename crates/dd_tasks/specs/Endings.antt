@@ -4,8 +4,8 @@ use Rattle.dd_pages.specs.declared.fault.RunFault.{RunFault}
 use Rattle.dd_pages.specs.declared.fault.RunFault.TheVariants as fault
 use Rattle.dd_pages.specs.declared.finish.Finish.{Finish}
 use Rattle.dd_pages.specs.declared.finish.Finish.TheVariants as finish
-use Rattle.dd_check.specs.declared.faults.CheckFault.{CheckFault}
-use Rattle.dd_check.specs.Messages.{check_fault_text}
+use Rattle.dd_check.specs.declared.shard_faults.ShardFault.{ShardFault}
+use Rattle.dd_check.specs.ShardFaults.{shard_fault_text}
 use Rattle.dd_commands.specs.declared.command_fault.CommandFault.{CommandFault}
 use Rattle.dd_commands.specs.declared.command_fault.CommandFault.TheVariants.{File, Symbol, Memory as NoRoom}
 use Rattle.dd_text.specs.declared.faults.FileFault.{FileFault}
@@ -42,8 +42,8 @@ abbrev pub refusal_line : SymbolRefusal → List ℕ
 refusal_line refusal = codes "dressline: " ++ (symbol_refusal_text refusal ++ codes "\n")
 
 -- the line that tells of a text that is no checkpoint text
-abbrev pub check_line : CheckFault → List ℕ
-check_line fault = codes "dressline: checkpoint: " ++ (check_fault_text fault ++ codes "\n")
+abbrev pub check_line : ShardFault → List ℕ
+check_line fault = codes "dressline: checkpoint: " ++ (shard_fault_text fault ++ codes "\n")
 
 -- the line that tells why files are not merged
 abbrev pub merge_line : MergeRefusal → List ℕ

@@ -1,6 +1,6 @@
--- What a catalogue without a checkpoint has written.
+-- What a catalogue or a shard without a checkpoint has written.
 use Rattle.std.specs.Prelude.{◌≡◌, ℕ, List, None, Option, Result, Ok, Err}
-use Rattle.dd_model.specs.declared.requests.Request.{Request}
+use Rattle.dd_jobs.specs.declared.portions.Portion.{Portion}
 use Rattle.dd_ports.specs.declared.sink.SinkFault.{SinkFault}
 use Rattle.dd_ports.specs.declared.sink.SinkFault.TheVariants as sink
 use Rattle.dd_ports.specs.Causes.{Rose}
@@ -23,9 +23,9 @@ run_result (Ok finish) = Ok finish
 run_result (Err fault) = Err (run_fault fault)
 
 -- a front of the text from the beginning was written, without a pause, and a write failed only where it was counted
-pub record IsLoneEnding (ending : Ending) (q : Request) (old new : Option (List ℕ)) (before now : ℕ) : Type 0 where
+pub record IsLoneEnding (ending : Ending) (p : Portion) (old new : Option (List ℕ)) (before now : ℕ) : Type 0 where
   pub output : List ℕ
   pub result : Result Finish SinkFault
   pub ending_is : ending ≡ run_ending (run_result result) 0
-  pub is_output : IsOutput (first_start q) None old new result output
+  pub is_output : IsOutput (first_start p) None old new result output
   pub cause : ending ≡ Sank → Rose before now

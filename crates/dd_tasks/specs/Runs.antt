@@ -1,7 +1,7 @@
 -- What a call of the program does that words of a run ask for.
 use Rattle.std.specs.Prelude.{◌≡◌, ◌⊎◌, ℕ, List, Option, None, Some, Result, Ok, Err, true}
 use Rattle.dd_ports.specs.Texts.{SameOthers}
-use Rattle.dd_check.specs.Calls.{Task, Catalogue, Resume}
+use Rattle.dd_check.specs.Calls.{Task, Begin, Resume}
 use Rattle.dd_check.specs.ChainStarts.{Start}
 use Rattle.dd_pages.specs.declared.fault.RunFault.{RunFault}
 use Rattle.dd_pages.specs.declared.fault.RunFault.TheVariants as fault
@@ -17,8 +17,8 @@ use Rattle.dd_tasks.specs.Words.{Order}
 
 -- the name under which a run keeps its checkpoint
 abbrev pub name_of : Task → Option (List ℕ)
-name_of (Catalogue q name) = name
-name_of (Resume name) = Some name
+name_of (Begin p name) = name
+name_of (Resume kind name) = Some name
 
 -- the status that tells of the end of a run
 abbrev pub run_status : Result Finish RunFault → Status

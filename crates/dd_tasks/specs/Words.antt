@@ -1,11 +1,15 @@
 -- Which words the program takes, and what they ask for.
-use Rattle.std.specs.Prelude.{ℕ, List, Option}
+use Rattle.std.specs.Prelude.{ℕ, List, Option, None, Some}
 use Rattle.dd_model.specs.declared.requests.Request.{Request}
 use Rattle.dd_words.specs.Grammar.{IsCommand}
 use Rattle.dd_words.specs.declared.commands.Command.{Command}
 use Rattle.dd_words.specs.declared.commands.Command.TheVariants as command
 use Rattle.dd_words.specs.declared.commands.FileKind.TheVariants as kind
-use Rattle.dd_check.specs.Calls.{Task, Catalogue, Resume}
+use Rattle.dd_jobs.specs.declared.shards.Shard.{Shard}
+use Rattle.dd_jobs.specs.declared.portions.Portion.{Portion}
+use Rattle.dd_check.specs.declared.kinds.Kind.{Kind}
+use Rattle.dd_check.specs.declared.kinds.Kind.TheVariants.{Catalogues, Shards}
+use Rattle.dd_check.specs.Calls.{Task, Begin, Resume}
 use Rattle.dd_commands.specs.declared.commands.FileCommand.{FileCommand}
 use Rattle.dd_commands.specs.declared.commands.FileCommand.TheVariants.{Symbols, Info, Sheets, Draw}
 use Rattle.dd_commands.specs.declared.commands.SymbolCommand.{SymbolCommand}
@@ -17,28 +21,38 @@ pub record Order : Type 0 where
   pub round : ℕ
   pub pause : Option ℕ
 
+-- the command that begins a catalogue, or the shard if there is one
+abbrev pub begin_command : Option Shard → Request → Option (List ℕ) → ℕ → ℕ → Option ℕ → Command
+begin_command None q name workers round pause = command.Catalogue q workers round pause name
+begin_command (Some shard) q name workers round pause = command.Shard shard q workers round pause name
+
+-- the command that goes on from a text of this kind
+abbrev pub resume_command : Kind → List ℕ → ℕ → ℕ → Option ℕ → Command
+resume_command Catalogues name workers round pause = command.Resume name workers round pause
+resume_command Shards name workers round pause = command.ResumeShard name workers round pause
+
 -- the command with this task
 abbrev pub run_command : Task → ℕ → ℕ → Option ℕ → Command
-run_command (Catalogue q name) workers round pause = command.Catalogue q workers round pause name
-run_command (Resume name) workers round pause = command.Resume name workers round pause
+run_command (Begin p name) workers round pause = begin_command p.shard p.request name workers round pause
+run_command (Resume kind name) workers round pause = resume_command kind name workers round pause
 
 -- the words of a run, with any number of workers
 pub record AskForRun (words : List (List ℕ)) (order : Order) : Type 0 where
   pub workers : ℕ
   pub command : IsCommand words (run_command order.task workers order.round order.pause)
 
--- the words of a catalogue, with a name for its checkpoint or without one
-pub record AskFor (words : List (List ℕ)) (q : Request) : Type 0 where
+-- the words of a catalogue or of a shard, with a name for its checkpoint or without one
+pub record AskFor (words : List (List ℕ)) (p : Portion) : Type 0 where
   pub name : Option (List ℕ)
   pub round : ℕ
   pub pause : Option ℕ
-  pub run : AskForRun words (record { task = Catalogue q name; round = round; pause = pause })
+  pub run : AskForRun words (record { task = Begin p name; round = round; pause = pause })
 
 -- the words that go on from the checkpoint of a name
-pub record AskToResume (words : List (List ℕ)) (name : List ℕ) : Type 0 where
+pub record AskToResume (words : List (List ℕ)) (kind : Kind) (name : List ℕ) : Type 0 where
   pub round : ℕ
   pub pause : Option ℕ
-  pub run : AskForRun words (record { task = Resume name; round = round; pause = pause })
+  pub run : AskForRun words (record { task = Resume kind name; round = round; pause = pause })
 
 -- the command that makes something of each symbol of the file of a name
 abbrev pub symbol_command : SymbolCommand → List ℕ → Command

@@ -1,7 +1,7 @@
 ghost use Rattle.std.specs.Prelude.{◌≡◌};
 
 use crate::status::Status;
-use dd_check::CheckFault;
+use dd_check::ShardFault;
 use dd_commands::{CommandFault, MergeRefusal, SymbolRefusal};
 use dd_pages::{Finish, RunFault};
 use dd_text::FileFault;
@@ -17,8 +17,8 @@ pub enum Ending {
     Refused(FileFault),
     /// Nothing is made of a symbol of the file.
     RefusedSymbol(SymbolRefusal),
-    /// What is to be gone on from is no checkpoint text.
-    RefusedCheck(CheckFault),
+    /// The text to resume from is no checkpoint text of its kind.
+    RefusedCheck(ShardFault),
     /// The files are not merged.
     RefusedMerge(MergeRefusal),
     /// As many lines were written as were to be written before a pause, and there are more. It tells the number of the last one.

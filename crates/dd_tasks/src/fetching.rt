@@ -33,7 +33,7 @@ pub fn fetch_all<S: Store>(
 }
 
 /// Returns all that a name holds, or only the first `most` bytes of it if there are more.
-pub(crate) fn fetch_front<S: Store>(
+pub fn fetch_front<S: Store>(
     alloc: Global,
     name: &str,
     most: usize,

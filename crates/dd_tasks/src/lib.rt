@@ -12,7 +12,7 @@ mod telling;
 mod words;
 
 pub use ending::Ending;
-pub use fetching::fetch_all;
+pub use fetching::{fetch_all, fetch_front};
 pub use file::{write_file, write_text};
 pub use merging::write_merge;
 pub use status::Status;

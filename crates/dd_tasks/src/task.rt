@@ -1,22 +1,25 @@
+use dd_check::Kind;
 use dd_commands::FileCommand;
-use dd_model::Request;
+use dd_jobs::Portion;
 use dd_pages::Pace;
 use dd_words::{Name, Names};
 
 /// What the program does.
 #[derive(Drop)]
 pub enum Task {
-    /// The catalogue of a request, and how it is worked at.
-    Catalogue(Request, Pace),
-    /// The same by a run that keeps its checkpoint under a name, and after how many lines it is to pause.
+    /// A catalogue or a shard, and how it is worked at.
+    Alone(Portion, Pace),
+    /// A catalogue or a shard by a run that keeps its checkpoint under a name, and after how many
+    /// lines it is to pause.
     Kept {
-        request: Request,
+        portion: Portion,
         name: Name,
         pace: Pace,
         pause: Option<u32>,
     },
-    /// Going on from the checkpoint of a name, in the same way.
+    /// Going on from the checkpoint of a name, of a catalogue or of a shard, in the same way.
     Resume {
+        kind: Kind,
         name: Name,
         pace: Pace,
         pause: Option<u32>,

@@ -8,7 +8,7 @@ ghost use Rattle.dd_tasks.specs.Endings.{check_line, merge_line, pause_line};
 ghost use Rattle.dd_tasks.specs.Messages.{IsShort};
 
 use crate::ending::Ending;
-use dd_check::CheckFault;
+use dd_check::ShardFault;
 use dd_commands::{MergeRefusal, SymbolRefusal};
 use dd_ports::{Sink, SinkFault, write_all_of};
 use dd_text::FileFault;
@@ -74,7 +74,7 @@ fn tell_refusal<E: Sink>(
 }
 
 /// Writes the line of a text that is no checkpoint text.
-fn tell_check<E: Sink>(alloc: Global, fault: CheckFault, err: &mut E) -> Result<(), SinkFault>
+fn tell_check<E: Sink>(alloc: Global, fault: ShardFault, err: &mut E) -> Result<(), SinkFault>
     ensures whole { OnOk result (Appends (E.held err.old) (E.held err.new) (check_line fault)) }
     ensures prefix { GrowsByPrefix (E.held err.old) (E.held err.new) (check_line fault) }
     ensures cause { HasCause Failed (E.faults err.old) (E.faults err.new) result }

@@ -2,11 +2,14 @@ ghost use Rattle.std.specs.Prelude.{◌≡◌, ℕ, List, map, IfOk, MatchOption
 ghost use Rattle.std.specs.Rc.{rc_str_bytes};
 ghost use Rattle.dd_words.specs.declared.commands.Command.TheVariants as commands;
 ghost use Rattle.dd_tasks.specs.Words.{AreTaken, file_command};
-ghost use Rattle.dd_tasks.specs.Commands.{IsTaskOf, AskForTask};
+ghost use Rattle.dd_words.specs.declared.commands.Command.{Command};
+ghost use Rattle.dd_tasks.specs.Commands.{IsBegunBy, IsTaskOf, AskForTask};
 
 use crate::task::Task;
+use dd_check::Kind;
 use dd_commands::{FileCommand, SymbolCommand};
-use dd_model::{Memory, Request};
+use dd_jobs::Portion;
+use dd_model::Memory;
 use dd_pages::Pace;
 use dd_words::{Command, FileKind, Name, WordsFault, read_words};
 use std::alloc::Global;
@@ -35,13 +38,40 @@ fn task_of(command: Command) -> Task
             round,
             pause,
             checkpoint,
-        } => catalogue_of(request, Pace { workers, round }, pause, checkpoint),
+        } => {
+            let portion = Portion::whole(request);
+            task_for(portion, Pace { workers, round }, pause, checkpoint)
+        }
+        Command::Shard {
+            shard,
+            request,
+            workers,
+            round,
+            pause,
+            checkpoint,
+        } => {
+            let shard = Some(shard);
+            let portion = Portion { request, shard };
+            task_for(portion, Pace { workers, round }, pause, checkpoint)
+        }
         Command::Resume {
             name,
             workers,
             round,
             pause,
         } => Task::Resume {
+            kind: Kind::Catalogues,
+            name,
+            pace: Pace { workers, round },
+            pause,
+        },
+        Command::ResumeShard {
+            name,
+            workers,
+            round,
+            pause,
+        } => Task::Resume {
+            kind: Kind::Shards,
             name,
             pace: Pace { workers, round },
             pause,
@@ -56,18 +86,18 @@ fn task_of(command: Command) -> Task
     }
 }
 
-/// The task of a catalogue, which keeps a checkpoint where it has a name for it.
-fn catalogue_of(request: Request, pace: Pace, pause: Option<u32>, name: Option<Name>) -> Task
-    ensures { IsTaskOf (commands.Catalogue request pace.workers pace.round pause name) result }
+/// The task of a catalogue or a shard, which keeps a checkpoint where it has a name for it.
+fn task_for(portion: Portion, pace: Pace, pause: Option<u32>, name: Option<Name>) -> Task
+    ensures { (c : Command) → IsBegunBy portion name pace pause c → IsTaskOf c result }
 {
     match name {
         Some(name) => Task::Kept {
-            request,
+            portion,
             name,
             pace,
             pause,
         },
-        None => Task::Catalogue(request, pace),
+        None => Task::Alone(portion, pace),
     }
 }
 

@@ -200,6 +200,8 @@ none_new (g ∷ gs) = (refl, none_new gs)
 first_there : (v : Verb) → IsPlace (rules_for v) 1
 first_there verb.Catalogue = record { by_index = refl; by_id = refl }
 first_there verb.Resume = record { by_index = refl; by_id = refl }
+first_there verb.Shard = record { by_index = refl; by_id = refl }
+first_there verb.ResumeShard = record { by_index = refl; by_id = refl }
 first_there verb.Draw = record { by_index = refl; by_id = refl }
 first_there verb.Exercise = record { by_index = refl; by_id = refl }
 first_there verb.Apply = record { by_index = refl; by_id = refl }
@@ -208,6 +210,12 @@ first_there (verb.File kind) = record { by_index = refl; by_id = refl }
 
 second_there : IsPlace (rules_for verb.Exercise) 2
 second_there = record { by_index = refl; by_id = refl }
+
+shard_second : IsPlace (rules_for verb.Shard) 2
+shard_second = record { by_index = refl; by_id = refl }
+
+shard_third : IsPlace (rules_for verb.Shard) 3
+shard_third = record { by_index = refl; by_id = refl }
 
 applied_there : IsPlace (rules_for verb.Apply) 2
 applied_there = record { by_index = refl; by_id = refl }
@@ -250,6 +258,14 @@ said_places (command.Catalogue q workers round pause checkpoint) (n ∷ m ∷ ns
 said_places (command.Resume name workers round pause) (n ∷ []) gs h = (first_there verb.Resume, refl, tt)
 said_places (command.Resume name workers round pause) [] gs h = tt
 said_places (command.Resume name workers round pause) (n ∷ m ∷ ns) gs h = elim h [ ]
+said_places (command.Shard shard q workers round pause checkpoint) (i ∷ m ∷ n ∷ []) gs h = (first_there verb.Shard, refl, (shard_second, refl, (shard_third, refl, tt)))
+said_places (command.Shard shard q workers round pause checkpoint) [] gs h = tt
+said_places (command.Shard shard q workers round pause checkpoint) (i ∷ []) gs h = elim h [ ]
+said_places (command.Shard shard q workers round pause checkpoint) (i ∷ m ∷ []) gs h = elim h [ ]
+said_places (command.Shard shard q workers round pause checkpoint) (i ∷ m ∷ n ∷ o ∷ ns) gs h = elim h [ ]
+said_places (command.ResumeShard name workers round pause) (n ∷ []) gs h = (first_there verb.ResumeShard, refl, tt)
+said_places (command.ResumeShard name workers round pause) [] gs h = tt
+said_places (command.ResumeShard name workers round pause) (n ∷ m ∷ ns) gs h = elim h [ ]
 said_places (command.Draw file frame) (n ∷ []) gs h = (first_there verb.Draw, refl, tt)
 said_places (command.Draw file frame) [] gs h = tt
 said_places (command.Draw file frame) (n ∷ m ∷ ns) gs h = elim h [ ]

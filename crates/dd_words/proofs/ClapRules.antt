@@ -31,6 +31,8 @@ rules_for v = (built (app_for v)).top.rules
 pub built_for : (v : Verb) → built (app_for v) ≡ record { top = shape_with (rules_for v); subs = [] }
 built_for verb.Catalogue = refl
 built_for verb.Resume = refl
+built_for verb.Shard = refl
+built_for verb.ResumeShard = refl
 built_for verb.Draw = refl
 built_for verb.Exercise = refl
 built_for verb.Apply = refl
@@ -41,6 +43,8 @@ pub simple_for : (v : Verb) → is_simple_and_free (app_for v) ≡ true
 unfolding clap_on_literals
 simple_for verb.Catalogue = refl
 simple_for verb.Resume = refl
+simple_for verb.Shard = refl
+simple_for verb.ResumeShard = refl
 simple_for verb.Draw = refl
 simple_for verb.Exercise = refl
 simple_for verb.Apply = refl
@@ -51,6 +55,8 @@ pub plain_for : (v : Verb) → is_simple (app_for v) ≡ true
 unfolding clap_on_literals
 plain_for verb.Catalogue = refl
 plain_for verb.Resume = refl
+plain_for verb.Shard = refl
+plain_for verb.ResumeShard = refl
 plain_for verb.Draw = refl
 plain_for verb.Exercise = refl
 plain_for verb.Apply = refl
@@ -384,6 +390,80 @@ merge_reader = record {
   checks = λ rows. refl;
 }
 
+-- ## Shards
+
+of_catalogue_valued : (s : Setting) → IsValuedOf verb.Shard s → IsValuedOf verb.Catalogue s
+of_catalogue_valued s h = record { owned = h.owned; valued = h.valued }
+
+of_catalogue_flag : (s : Setting) → IsFlagOf verb.Shard s → IsFlagOf verb.Catalogue s
+of_catalogue_flag s h = record { owned = h.owned; flag = h.flag }
+
+shard_valued_id : (s : Setting) → IsValuedOf verb.Shard s → arg_by_id (rules_for verb.Shard) (word_of s) ≡ Some (valued (word_of s))
+shard_valued_id Tiles h = refl
+shard_valued_id Vertices h = refl
+shard_valued_id LeastFace h = refl
+shard_valued_id LeastDegree h = refl
+shard_valued_id Faces h = refl
+shard_valued_id Degrees h = refl
+shard_valued_id Minimal h = let bad = h.valued in absurd (cc)
+shard_valued_id Workers h = refl
+shard_valued_id Round h = refl
+shard_valued_id Pause h = refl
+shard_valued_id Checkpoint h = refl
+shard_valued_id Cell h = let bad = h.owned in absurd (cc)
+
+-- a shard has three arguments, and the settings of a catalogue
+abbrev shard_settings : List Setting
+shard_settings = Tiles ∷ Vertices ∷ LeastFace ∷ LeastDegree ∷ Faces ∷ Degrees ∷ Minimal ∷ Workers ∷ Round ∷ Pause ∷ Checkpoint ∷ []
+
+shard_past : (k : ℕ) → arg_by_index (rules_for verb.Shard) (suc (suc (suc (suc k)))) ≡ None
+shard_past k =
+    let n = suc (suc (suc (suc k))) in
+    not_at (placed (name_of First) 1) (placed (name_of Second) 2 ∷ placed (name_of Third) 3 ∷ rules_of shard_settings) n 1 refl (past 1 n (omega arith))
+    (not_at (placed (name_of Second) 2) (placed (name_of Third) 3 ∷ rules_of shard_settings) n 2 refl (past 2 n (omega arith))
+    (not_at (placed (name_of Third) 3) (rules_of shard_settings) n 3 refl (past 3 n (omega arith)) refl))
+
+shard_places : (k : ℕ) → (arg_by_index (rules_for verb.Shard) k ≡ None) ⊎ IsPlace (rules_for verb.Shard) k
+shard_places zero = inl refl
+shard_places (suc zero) = inr (record { by_index = refl; by_id = refl })
+shard_places (suc (suc zero)) = inr (record { by_index = refl; by_id = refl })
+shard_places (suc (suc (suc zero))) = inr (record { by_index = refl; by_id = refl })
+shard_places (suc (suc (suc (suc k)))) = inl (shard_past k)
+
+shard_few : (k : ℕ) → IsPlace (rules_for verb.Shard) k → k ≤ 8
+shard_few zero p = omega arith
+shard_few (suc zero) p = omega arith
+shard_few (suc (suc zero)) p = omega arith
+shard_few (suc (suc (suc zero))) p = omega arith
+shard_few (suc (suc (suc (suc k)))) p = absurd (none_is_some _ (sym (shard_past k) ∙ p.by_index))
+
+shard_reader : IsReader verb.Shard (rules_for verb.Shard)
+shard_reader = record {
+  valued_long = λ s h. catalogue_valued_long s (of_catalogue_valued s h);
+  valued_id = shard_valued_id;
+  flagged_long = λ s h. catalogue_flagged_long s (of_catalogue_flag s h);
+  known = λ name. named_in verb.Shard name shard_settings (refl, (refl, (refl, (refl, (refl, (refl, (refl, (refl, (refl, (refl, (refl, tt)))))))))));
+  no_short = λ x. refl;
+  places = shard_places;
+  few = shard_few;
+  quiet = (inl refl, (inl refl, (inl refl, (inl refl, (inl refl, (inl refl, (inl refl, (inl refl, (inl refl, (inr refl, (inl refl, (inl refl, (inl refl, (inl refl, tt))))))))))))));
+  checks = λ rows. refl;
+}
+
+-- a shard that is resumed has the rules of a catalogue that is resumed
+resume_shard_reader : IsReader verb.ResumeShard (rules_for verb.ResumeShard)
+resume_shard_reader = record {
+  valued_long = λ s h. resume_valued_long s (record { owned = h.owned; valued = h.valued });
+  valued_id = λ s h. resume_valued_id s (record { owned = h.owned; valued = h.valued });
+  flagged_long = λ s h. resume_flagged_long s (record { owned = h.owned; flag = h.flag });
+  known = λ name. named_in verb.ResumeShard name (Workers ∷ Round ∷ Pause ∷ []) (refl, (refl, (refl, tt)));
+  no_short = λ x. refl;
+  places = resume_places;
+  few = resume_few;
+  quiet = (inl refl, (inl refl, (inl refl, (inl refl, tt))));
+  checks = λ rows. refl;
+}
+
 file_past : (kind : FileKind) (k : ℕ) → arg_by_index (rules_for (verb.File kind)) (suc (suc k)) ≡ None
 file_past kind k = not_at (placed (name_of First) 1) (rules_of ([])) (suc (suc k)) 1 refl (past_one k) refl
 
@@ -413,6 +493,8 @@ file_reader kind = record {
 pub reader_for : (v : Verb) → IsReader v (rules_for v)
 reader_for verb.Catalogue = catalogue_reader
 reader_for verb.Resume = resume_reader
+reader_for verb.Shard = shard_reader
+reader_for verb.ResumeShard = resume_shard_reader
 reader_for verb.Draw = draw_reader
 reader_for verb.Exercise = exercise_reader
 reader_for verb.Apply = apply_reader

@@ -32,9 +32,18 @@ is_one_of_two First = true
 is_one_of_two Second = true
 is_one_of_two _ = false
 
--- an exercise and a word of operations have two arguments, a merge has up to eight, and the others have one
+-- three arguments
+abbrev pub is_one_of_three : Place → Bool
+is_one_of_three First = true
+is_one_of_three Second = true
+is_one_of_three Third = true
+is_one_of_three _ = false
+
+-- An exercise and a word of operations have two arguments, a shard has three, a merge has up to eight, and the others
+-- have one.
 abbrev pub has_place : Verb → Place → Bool
 has_place verb.Exercise place = is_one_of_two place
 has_place verb.Apply place = is_one_of_two place
+has_place verb.Shard place = is_one_of_three place
 has_place verb.Merge place = true
 has_place _ place = is_first place

@@ -1,4 +1,5 @@
 use crate::names::{Name, Names};
+use dd_jobs::Shard;
 use dd_model::{Frame, Request};
 use dd_opword::OpWord;
 use dd_template::Operation;
@@ -49,6 +50,32 @@ pub enum Command {
         /// The number of workers, 1 to 64.
         workers: u32,
         /// The number of symbols in a round, 1 to 4096.
+        round: u32,
+        /// The number of lines before the next pause.
+        pause: Option<u32>,
+    },
+    /// A shard of a catalogue.
+    Shard {
+        /// The shard.
+        shard: Shard,
+        /// Which symbols are asked for.
+        request: Request,
+        /// The number of workers, 1 to 64.
+        workers: u32,
+        /// The number of jobs in a round, 1 to 4096.
+        round: u32,
+        /// The number of lines before a pause.
+        pause: Option<u32>,
+        /// The name under which the checkpoint is kept.
+        checkpoint: Option<Name>,
+    },
+    /// A shard that is resumed from its checkpoint.
+    ResumeShard {
+        /// The name of the checkpoint.
+        name: Name,
+        /// The number of workers, 1 to 64.
+        workers: u32,
+        /// The number of jobs in a round, 1 to 4096.
         round: u32,
         /// The number of lines before the next pause.
         pause: Option<u32>,

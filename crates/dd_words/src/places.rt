@@ -47,6 +47,7 @@ impl Place {
     {
         match verb {
             Verb::Exercise | Verb::Apply => matches!(self, Place::First | Place::Second),
+            Verb::Shard => matches!(self, Place::First | Place::Second | Place::Third),
             Verb::Merge => true,
             _ => matches!(self, Place::First),
         }

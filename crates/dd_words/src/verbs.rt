@@ -11,6 +11,10 @@ pub enum Verb {
     Catalogue,
     /// `resume`.
     Resume,
+    /// `shard`.
+    Shard,
+    /// `resume-shard`.
+    ResumeShard,
     /// `draw`.
     Draw,
     /// `exercise`.
@@ -32,6 +36,8 @@ impl Verb {
         match word {
             "catalogue" => Some(Verb::Catalogue),
             "resume" => Some(Verb::Resume),
+            "shard" => Some(Verb::Shard),
+            "resume-shard" => Some(Verb::ResumeShard),
             "draw" => Some(Verb::Draw),
             "exercise" => Some(Verb::Exercise),
             "apply" => Some(Verb::Apply),

@@ -1,16 +1,16 @@
 use Rattle.std.proofs.Common.{◌≡◌, ◌++◌, ap, sym, subst, ◌∙◌, refl, ℕ, List, rules}
 use Rattle.dd_check.specs.declared.checkpoint.Checkpoint.{Checkpoint}
-use Rattle.dd_check.specs.Checks.{IsCheckText}
+use Rattle.dd_check.specs.ShardChecks.{IsSavedText}
 use Rattle.dd_pages.proofs.saving.check_text.Goals as goal
 
 pub returns : goal.returns
 returns c =
-    let check : Checkpoint = record { run = c.args.run.now.number; request = c.args.run.now.request; lines = c.from.result; bytes = c.args.page.now.bytes; at = c.in_ok-position.field-0 } in
-    let adds = c.in_ok-write_checkpoint.ensures.check in
-    let text : c.write_checkpoint.new.out.items ≡ adds.check = adds.text ∙ ap (λ (xs : List ℕ). xs ++ adds.check) c.new-text.ensures.items in
+    let check : Checkpoint = record { run = c.args.run.now.number; request = c.args.run.now.portion.request; lines = c.from.result; bytes = c.args.page.now.bytes; at = c.in_ok-position.field-0 } in
+    let adds = c.in_ok-write_saved.ensures in
+    let text : c.write_saved.new.out.items ≡ adds.check = adds.text ∙ ap (λ (xs : List ℕ). xs ++ adds.check) c.new-text.ensures.items in
     record {
       check = check;
-      is_text = subst (IsCheckText check) (sym text) adds.is_check;
+      is_text = subst (IsSavedText c.args.run.now.portion.shard check) (sym text) adds.is_check;
       fit = record { run = search rules; lines = search rules; bytes = search rules };
       run = refl;
       request = refl;

@@ -2,8 +2,8 @@ use Rattle.std.proofs.Common.{ℕ, ◌≤◌, List, None, Some, map, length, ref
 use Rattle.std.specs.List.{AllByRecursion}
 use Rattle.std.specs.Prelude.{IsSome}
 use Rattle.std.specs.Rc.{rc_str_bytes}
-use Rattle.dd_check.specs.Calls.{Catalogue as First, Resume as Next}
-use Rattle.dd_tasks.specs.declared.task.Task.TheVariants.{Catalogue, Kept, Resume, OnFile, Merge, Exercise}
+use Rattle.dd_check.specs.Calls.{Begin, Resume as Next}
+use Rattle.dd_tasks.specs.declared.task.Task.TheVariants.{Alone, Kept, Resume, OnFile, Merge, Exercise}
 use Rattle.dd_tasks.specs.Outcomes.{IsRunOutcome}
 use Rattle.dd_tasks.specs.Outside.{Before, After}
 use Rattle.dd_tasks.specs.Stops.{EndsOnFile, on_file, of_merge, of_exercise, of_run}
@@ -17,49 +17,49 @@ use Rattle.dd_suite.proofs.top.perform.Goals as goal
 pub write_lone-requires-clause-valid : goal.write_lone-requires-clause-valid
 write_lone-requires-clause-valid g c κs within =
     let words = map rc_str_bytes c.args.words.now in
-    (lone_asked words c.in-Catalogue.request c.in-Catalogue.pace (asked_of words c.in-Ok-Some.field-0 c.in-Ok-Some.task (Catalogue c.in-Catalogue.request c.in-Catalogue.pace) c.in-Ok-Some.ensures c.in-Ok-Some.field-0-is c.in-Catalogue.is)).0
+    (lone_asked words c.in-Alone.portion c.in-Alone.pace (asked_of words c.in-Ok-Some.field-0 c.in-Ok-Some.task (Alone c.in-Alone.portion c.in-Alone.pace) c.in-Ok-Some.ensures c.in-Ok-Some.field-0-is c.in-Alone.is)).valid
 
 pub write_lone-requires-clause-workers : goal.write_lone-requires-clause-workers
 write_lone-requires-clause-workers g c κs within =
     let words = map rc_str_bytes c.args.words.now in
-    (lone_asked words c.in-Catalogue.request c.in-Catalogue.pace (asked_of words c.in-Ok-Some.field-0 c.in-Ok-Some.task (Catalogue c.in-Catalogue.request c.in-Catalogue.pace) c.in-Ok-Some.ensures c.in-Ok-Some.field-0-is c.in-Catalogue.is)).1.in_range.workers_are
+    (lone_asked words c.in-Alone.portion c.in-Alone.pace (asked_of words c.in-Ok-Some.field-0 c.in-Ok-Some.task (Alone c.in-Alone.portion c.in-Alone.pace) c.in-Ok-Some.ensures c.in-Ok-Some.field-0-is c.in-Alone.is)).asked.in_range.workers_are
 
 pub write_lone-requires-clause-round : goal.write_lone-requires-clause-round
 write_lone-requires-clause-round g c κs within =
     let words = map rc_str_bytes c.args.words.now in
-    (lone_asked words c.in-Catalogue.request c.in-Catalogue.pace (asked_of words c.in-Ok-Some.field-0 c.in-Ok-Some.task (Catalogue c.in-Catalogue.request c.in-Catalogue.pace) c.in-Ok-Some.ensures c.in-Ok-Some.field-0-is c.in-Catalogue.is)).1.in_range.round_is.0
+    (lone_asked words c.in-Alone.portion c.in-Alone.pace (asked_of words c.in-Ok-Some.field-0 c.in-Ok-Some.task (Alone c.in-Alone.portion c.in-Alone.pace) c.in-Ok-Some.ensures c.in-Ok-Some.field-0-is c.in-Alone.is)).asked.in_range.round_is.0
 
 pub write_kept-requires-clause-valid : goal.write_kept-requires-clause-valid
 write_kept-requires-clause-valid g c κs within =
     let words = map rc_str_bytes c.args.words.now in
-    (kept_asked words c.in-Kept.request c.in-Kept.name c.in-Kept.pace c.in-Kept.pause (asked_of words c.in-Ok-Some.field-0 c.in-Ok-Some.task (Kept c.in-Kept.request c.in-Kept.name c.in-Kept.pace c.in-Kept.pause) c.in-Ok-Some.ensures c.in-Ok-Some.field-0-is c.in-Kept.is)).0
+    (kept_asked words c.in-Kept.portion c.in-Kept.name c.in-Kept.pace c.in-Kept.pause (asked_of words c.in-Ok-Some.field-0 c.in-Ok-Some.task (Kept c.in-Kept.portion c.in-Kept.name c.in-Kept.pace c.in-Kept.pause) c.in-Ok-Some.ensures c.in-Ok-Some.field-0-is c.in-Kept.is)).valid
 
 pub write_kept-requires-clause-workers : goal.write_kept-requires-clause-workers
 write_kept-requires-clause-workers g c κs within =
     let words = map rc_str_bytes c.args.words.now in
-    (kept_asked words c.in-Kept.request c.in-Kept.name c.in-Kept.pace c.in-Kept.pause (asked_of words c.in-Ok-Some.field-0 c.in-Ok-Some.task (Kept c.in-Kept.request c.in-Kept.name c.in-Kept.pace c.in-Kept.pause) c.in-Ok-Some.ensures c.in-Ok-Some.field-0-is c.in-Kept.is)).1.in_range.workers_are
+    (kept_asked words c.in-Kept.portion c.in-Kept.name c.in-Kept.pace c.in-Kept.pause (asked_of words c.in-Ok-Some.field-0 c.in-Ok-Some.task (Kept c.in-Kept.portion c.in-Kept.name c.in-Kept.pace c.in-Kept.pause) c.in-Ok-Some.ensures c.in-Ok-Some.field-0-is c.in-Kept.is)).asked.in_range.workers_are
 
 pub write_kept-requires-clause-round : goal.write_kept-requires-clause-round
 write_kept-requires-clause-round g c κs within =
     let words = map rc_str_bytes c.args.words.now in
-    (kept_asked words c.in-Kept.request c.in-Kept.name c.in-Kept.pace c.in-Kept.pause (asked_of words c.in-Ok-Some.field-0 c.in-Ok-Some.task (Kept c.in-Kept.request c.in-Kept.name c.in-Kept.pace c.in-Kept.pause) c.in-Ok-Some.ensures c.in-Ok-Some.field-0-is c.in-Kept.is)).1.in_range.round_is.0
+    (kept_asked words c.in-Kept.portion c.in-Kept.name c.in-Kept.pace c.in-Kept.pause (asked_of words c.in-Ok-Some.field-0 c.in-Ok-Some.task (Kept c.in-Kept.portion c.in-Kept.name c.in-Kept.pace c.in-Kept.pause) c.in-Ok-Some.ensures c.in-Ok-Some.field-0-is c.in-Kept.is)).asked.in_range.round_is.0
 
 pub resume-requires-clause-workers : goal.resume-requires-clause-workers
 resume-requires-clause-workers g c κs within =
     let words = map rc_str_bytes c.args.words.now in
-    (resume_asked words c.in-Resume.name c.in-Resume.pace c.in-Resume.pause (asked_of words c.in-Ok-Some.field-0 c.in-Ok-Some.task (Resume c.in-Resume.name c.in-Resume.pace c.in-Resume.pause) c.in-Ok-Some.ensures c.in-Ok-Some.field-0-is c.in-Resume.is)).in_range.workers_are
+    (resume_asked words c.in-Resume.kind c.in-Resume.name c.in-Resume.pace c.in-Resume.pause (asked_of words c.in-Ok-Some.field-0 c.in-Ok-Some.task (Resume c.in-Resume.kind c.in-Resume.name c.in-Resume.pace c.in-Resume.pause) c.in-Ok-Some.ensures c.in-Ok-Some.field-0-is c.in-Resume.is)).in_range.workers_are
 
 pub resume-requires-clause-round : goal.resume-requires-clause-round
 resume-requires-clause-round g c κs within =
     let words = map rc_str_bytes c.args.words.now in
-    (resume_asked words c.in-Resume.name c.in-Resume.pace c.in-Resume.pause (asked_of words c.in-Ok-Some.field-0 c.in-Ok-Some.task (Resume c.in-Resume.name c.in-Resume.pace c.in-Resume.pause) c.in-Ok-Some.ensures c.in-Ok-Some.field-0-is c.in-Resume.is)).in_range.round_is.0
+    (resume_asked words c.in-Resume.kind c.in-Resume.name c.in-Resume.pace c.in-Resume.pause (asked_of words c.in-Ok-Some.field-0 c.in-Ok-Some.task (Resume c.in-Resume.kind c.in-Resume.name c.in-Resume.pace c.in-Resume.pause) c.in-Ok-Some.ensures c.in-Ok-Some.field-0-is c.in-Resume.is)).in_range.round_is.0
 
-pub returns-in-Catalogue-clause-outcome : goal.returns-in-Catalogue-clause-outcome
-returns-in-Catalogue-clause-outcome g c =
+pub returns-in-Alone-clause-outcome : goal.returns-in-Alone-clause-outcome
+returns-in-Alone-clause-outcome g c =
     let words = map rc_str_bytes c.args.words.now in
-    let q = c.in-Catalogue.request in
-    let pace = c.in-Catalogue.pace in
-    let asked = lone_asked words q pace (asked_of words c.in-Ok-Some.field-0 c.in-Ok-Some.task (Catalogue q pace) c.in-Ok-Some.ensures c.in-Ok-Some.field-0-is c.in-Catalogue.is) in
+    let q = c.in-Alone.portion in
+    let pace = c.in-Alone.pace in
+    let asked = lone_asked words q pace (asked_of words c.in-Ok-Some.field-0 c.in-Ok-Some.task (Alone q pace) c.in-Ok-Some.ensures c.in-Ok-Some.field-0-is c.in-Alone.is) in
     let before : Before = record {
       tells = g.S.Store.tells c.args.store.now;
       held = g.S.Store.held c.args.store.now;
@@ -73,13 +73,13 @@ returns-in-Catalogue-clause-outcome g c =
       written = g.O.Sink.held c.write_lone.new.out;
       sink_faults = g.O.Sink.faults c.write_lone.new.out;
     } in
-    of_run (record { task = First q None; round = pace.round; pause = None }) asked.1.order_asked
+    of_run (record { task = Begin q None; round = pace.round; pause = None }) asked.asked.order_asked
     (lone_outcome q pace.round c.write_lone.result before after c.write_lone.ensures.ending (λ told other. refl))
 
 pub returns-in-Kept-clause-outcome : goal.returns-in-Kept-clause-outcome
 returns-in-Kept-clause-outcome g c =
     let words = map rc_str_bytes c.args.words.now in
-    let q = c.in-Kept.request in
+    let q = c.in-Kept.portion in
     let name = c.in-Kept.name in
     let pace = c.in-Kept.pace in
     let pause = c.in-Kept.pause in
@@ -97,16 +97,17 @@ returns-in-Kept-clause-outcome g c =
       written = g.O.Sink.held c.write_kept.new.out;
       sink_faults = g.O.Sink.faults c.write_kept.new.out;
     } in
-    of_run (record { task = First q (Some name); round = pace.round; pause = pause }) asked.1.order_asked
-    (subst (λ (n : List ℕ). IsRunOutcome (record { task = First q (Some n); round = pace.round; pause = pause }) c.write_kept.result before after) c.as_str.ensures c.write_kept.ensures.outcome)
+    of_run (record { task = Begin q (Some name); round = pace.round; pause = pause }) asked.asked.order_asked
+    (subst (λ (n : List ℕ). IsRunOutcome (record { task = Begin q (Some n); round = pace.round; pause = pause }) c.write_kept.result before after) c.as_str.ensures c.write_kept.ensures.outcome)
 
 pub returns-in-Resume-clause-outcome : goal.returns-in-Resume-clause-outcome
 returns-in-Resume-clause-outcome g c =
     let words = map rc_str_bytes c.args.words.now in
+    let kind = c.in-Resume.kind in
     let name = c.in-Resume.name in
     let pace = c.in-Resume.pace in
     let pause = c.in-Resume.pause in
-    let asked = resume_asked words name pace pause (asked_of words c.in-Ok-Some.field-0 c.in-Ok-Some.task (Resume name pace pause) c.in-Ok-Some.ensures c.in-Ok-Some.field-0-is c.in-Resume.is) in
+    let asked = resume_asked words kind name pace pause (asked_of words c.in-Ok-Some.field-0 c.in-Ok-Some.task (Resume kind name pace pause) c.in-Ok-Some.ensures c.in-Ok-Some.field-0-is c.in-Resume.is) in
     let before : Before = record {
       tells = g.S.Store.tells c.args.store.now;
       held = g.S.Store.held c.args.store.now;
@@ -120,8 +121,20 @@ returns-in-Resume-clause-outcome g c =
       written = g.O.Sink.held c.resume.new.out;
       sink_faults = g.O.Sink.faults c.resume.new.out;
     } in
-    of_run (record { task = Next name; round = pace.round; pause = pause }) asked.order_asked
-    (subst (λ (n : List ℕ). IsRunOutcome (record { task = Next n; round = pace.round; pause = pause }) c.resume.result before after) c.as_str-in-Resume.ensures c.resume.ensures.outcome)
+    of_run (record { task = Next kind name; round = pace.round; pause = pause }) asked.order_asked
+    (subst (λ (n : List ℕ). IsRunOutcome (record { task = Next kind n; round = pace.round; pause = pause }) c.resume.result before after) c.as_str-in-Resume.ensures c.resume.ensures.outcome)
+
+pub returns-in-Resume-clause-store_sure : goal.returns-in-Resume-clause-store_sure
+returns-in-Resume-clause-store_sure g c sure held =
+    let words = map rc_str_bytes c.args.words.now in
+    let kind = c.in-Resume.kind in
+    let name = c.in-Resume.name in
+    let pace = c.in-Resume.pace in
+    let pause = c.in-Resume.pause in
+    let asked = resume_asked words kind name pace pause (asked_of words c.in-Ok-Some.field-0 c.in-Ok-Some.task (Resume kind name pace pause) c.in-Ok-Some.ensures c.in-Ok-Some.field-0-is c.in-Resume.is) in
+    c.resume.ensures.store_sure sure
+    (subst (λ n. IsSome (g.S.Store.held c.args.store.now n)) (sym c.as_str-in-Resume.ensures)
+    (held.check kind name (record { round = pace.round; pause = pause; run = asked.order_asked })))
 
 pub returns-in-OnFile-clause-outcome : goal.returns-in-OnFile-clause-outcome
 returns-in-OnFile-clause-outcome g c =
