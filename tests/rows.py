@@ -41,6 +41,10 @@ CATALOGUES = (
     ("catalogue 2 --faces 4 --degrees 4", (1, 5, 6, 7, 10, 12, 14, 16)),
     ("catalogue 2 --faces 6,3", (0, 2, 3, 4, 8, 11, 13, 15, 17)),
     ("catalogue 2 --degrees=3-4,6-216 --faces 3-5 --minimal", (0, 1, 9)),
+    ("shard 1 2 2", (0, 1, 2, 6, 9, 10, 11, 13, 14)),
+    ("shard 2 2 2 --workers 3", (3, 4, 5, 7, 8, 12, 15, 16, 17)),
+    ("shard 1 1 2", range(18)),
+    ("shard 3 3 1", ()),
 )
 
 # Words that give the same bytes. With 14 chambers some jobs have so many members that their lines are made in parts.
@@ -112,10 +116,24 @@ NOT_TAKEN = (
     "apply t f g",
     "apply t f --cell square",
     "apply t -f",
+    "resume-shard",
+    "resume-shard c --tiles 1",
+    "shard 1 2",
+    "shard 0 2 2",
+    "shard 3 2 2",
+    "shard 1 9 2",
+    "shard 1 2 2 --pause 1",
+    "merge",
+    "merge -f",
+    "merge f --minimal",
+    "merge f f f f f f f f f",
 )
 
 FIRST_ROUND = "dressline checkpoint 2\nrun 1\nrequest 2 0 0 all\nfaces 3-216\ndegrees 3-216\nlines 3\nbytes 54\nat 2 1 1 2 2 2 1\n"
 OLD_FIRST_ROUND = "dressline checkpoint 1\nrun 1\nrequest 2 0 0 3 3 all\nlines 3\nbytes 54\nat 2 1 1 2 2 2 1\n"
+
+# A checkpoint of the second of two shards.
+SHARD = "dressline shard 2 2\n" + FIRST_ROUND.replace("lines 3", "lines 1").replace("bytes 54", "bytes 24").replace("2 2 2 1", "2 2 2 1 3 6 4 4")
 
 # A command, a file that is refused, and the line that tells why. To go on from a name that holds no checkpoint text is one.
 REFUSED = (
@@ -125,6 +143,14 @@ REFUSED = (
     ("resume", OLD_FIRST_ROUND.replace("request 2", "request 37"), "checkpoint: range line 3"),
     ("resume", OLD_FIRST_ROUND.replace("2 2 2 1", "1 2 2 2"), "checkpoint: position"),
     ("resume", "d" * 4097, "checkpoint: too long"),
+    ("resume", SHARD, "checkpoint: version"),
+    ("resume-shard", FIRST_ROUND, "checkpoint: shard"),
+    ("resume-shard", SHARD.replace("shard 2 2", "shard 3 2"), "checkpoint: shard"),
+    ("resume-shard", SHARD.replace("shard 2 2", "shard 2 02"), "checkpoint: shard"),
+    ("resume-shard", SHARD.replace("shard 2 2", "shard 1 2"), "checkpoint: other shard"),
+    ("resume-shard", SHARD.replace("lines 1", "lines 01"), "checkpoint: shape line 6"),
+    ("resume-shard", "dressline shard 2 2\n" + "d" * 9000, "checkpoint: too long"),
+    ("resume-shard", "d" * 9000, "checkpoint: shard"),
     *(("lines", "<1.1:1:1,1,1:3,6>"[:length], f"file: symbol 1 at {length}: unexpected end") for length in range(1, 17)),
     ("lines", "<1.1;1", "file: symbol 1 at 4: stray"),
     ("lines", "<1.1:1234567890:", "file: symbol 1 at 5: number too long"),
@@ -240,6 +266,35 @@ FILES = (
         "1 chambers 2 tiles 1 vertices 1 edges 1 curvature 0 orientation oriented group 442 minimal no\n"
         "total 442 1\n",
     ),
+)
+
+# Files, and the places of the symbols that a merge writes of them.
+EVEN = (0, 1, 2, 6, 9, 10, 11, 13, 14)
+ODD = (3, 4, 5, 7, 8, 12, 15, 16, 17)
+MERGES = (
+    ((EVEN, ODD), ALL),
+    ((ODD, EVEN), ALL),
+    ((ALL,), ALL),
+    (((),), ()),
+    (((), (2, 4), ()), (2, 4)),
+    (((7,), (6,), (5,), (4,), (3,), (2,), (1,), (0,)), tuple(range(8))),
+    (((0, 9, 17), (3, 4), (1, 10)), (0, 1, 3, 4, 9, 10, 17)),
+)
+
+# Files that are not merged, and why.
+STRAY = "<1.1;1"
+NOT_MERGED = (
+    (((0, 1, 2), (0, 1, 2)), "file 2: symbol 1 doubled"),
+    (((0, 0),), "file 1: symbol 2 not ascending"),
+    (((1, 0),), "file 1: symbol 2 not ascending"),
+    (((0, 1, 4), (2, 8), (5, 8, 1)), "file 3: symbol 3 not ascending"),
+    (((0, 1, 4), (2, 8), (5, 8)), "file 3: symbol 2 doubled"),
+    (((3, 7), (0, 7), (3, 5)), "file 2: symbol 2 doubled"),
+    (((0, 1), (0, 1), (4, 2)), "file 3: symbol 2 not ascending"),
+    (((8, 3), (4, 2)), "file 1: symbol 2 not ascending"),
+    (((2, 1), STRAY), "file 2: symbol 1 at 4: stray"),
+    ((STRAY, (0, 1), "#<"), "file 1: symbol 1 at 4: stray"),
+    (((0,), "<1:1,1,1:3,3><2"), "file 2: symbol 2 at 15: unexpected end"),
 )
 
 # What exercises write, and how one begins that is made twice.

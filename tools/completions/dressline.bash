@@ -4,7 +4,7 @@ _dressline() {
     local files="lines canon info minimal dual oriented torus sheets ambo truncate chamfer"
     COMPREPLY=()
     if [ "$COMP_CWORD" = 1 ]; then
-        COMPREPLY=($(compgen -W "catalogue resume draw apply exercise $files" -- "$word"))
+        COMPREPLY=($(compgen -W "catalogue resume shard resume-shard draw apply merge exercise $files" -- "$word"))
         return
     fi
     case $before in
@@ -14,15 +14,15 @@ _dressline() {
     --*) return ;;
     esac
     case $command in
-    catalogue) options="--tiles --vertices --faces --degrees --least-face --least-degree --minimal
+    catalogue | shard) options="--tiles --vertices --faces --degrees --least-face --least-degree --minimal
         --workers --round --checkpoint --pause" ;;
-    resume) options="--workers --round --pause" ;;
+    resume | resume-shard) options="--workers --round --pause" ;;
     draw) options="--cell" ;;
     esac
     case $word in
     -*) COMPREPLY=($(compgen -W "$options" -- "$word")) ;;
     *) case $command in
-        catalogue | exercise) ;;
+        catalogue | shard | exercise) ;;
         apply) [ "$COMP_CWORD" = 2 ] || COMPREPLY=($(compgen -f -- "$word")) ;;
         *) COMPREPLY=($(compgen -f -- "$word")) ;;
         esac ;;

@@ -1,7 +1,6 @@
 -- A text has one outcome.
 use Rattle.std.proofs.Common.{get_or, ◌≡◌, ◌⊎◌, ◌≤◌, ◌<◌, ℕ, List, length, sym, ap, ◌∙◌, subst, inl, inr, arith}
 use Rattle.std.specs.Prelude.{codes}
-use Rattle.dd_model.specs.Allowed.{IsFrom}
 use Rattle.dd_model.specs.declared.allowed.Allowed.{Allowed}
 use Rattle.dd_model.proofs.AllowedSets.{same_sets, same_from_sets}
 use Rattle.dd_check.specs.declared.checkpoint.Checkpoint.{Checkpoint}

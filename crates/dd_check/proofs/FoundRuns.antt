@@ -11,7 +11,8 @@ use Rattle.dd_check.specs.Accepted.{IsCheckpointText}
 use Rattle.dd_check.specs.ShardChecks.{IsAcceptedText}
 use Rattle.dd_jobs.proofs.ShardLaws.{same_shard}
 use Rattle.dd_check.specs.Texts.{Text}
-use Rattle.dd_check.specs.Calls.{Kind, kind_of, Begin, Resume, Call}
+use Rattle.dd_check.specs.declared.kinds.Kind.{Kind}
+use Rattle.dd_check.specs.Calls.{kind_of, Begin, Resume, Call}
 use Rattle.dd_check.specs.ChainStarts.{Holds, HoldsKind, Start, first_start, next_start, StartsAt}
 use Rattle.dd_check.specs.ChainPuts.{Puts}
 use Rattle.dd_check.specs.Clauses.{MeetsClauses}

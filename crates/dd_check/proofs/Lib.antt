@@ -3,6 +3,8 @@ pub mod Fronts
 pub mod ChainStops
 pub mod ReadingBack
 pub mod ShardTexts
+pub mod ShardReads
+pub mod KindFaults
 pub mod ChainParts
 mod ChainSteps
 pub mod Chained

@@ -4,13 +4,11 @@ use Rattle.dd_model.specs.declared.requests.Request.{Request}
 use Rattle.dd_jobs.specs.declared.shards.Shard.{Shard}
 use Rattle.dd_jobs.specs.declared.portions.Portion.{Portion}
 use Rattle.dd_jobs.specs.Portions.{whole}
+use Rattle.dd_check.specs.declared.kinds.Kind.{Kind}
+use Rattle.dd_check.specs.declared.kinds.Kind.TheVariants.{Catalogues, Shards}
 use Rattle.dd_check.specs.Texts.{Text}
 
--- Which texts a call goes on from: those of catalogues, or those of shards.
-pub data Kind : Type 0 where
-  Catalogues : Kind
-  Shards : Kind
-
+-- which texts the runs of a catalogue go on from, and those of the shard if there is one
 abbrev pub kind_of : Option Shard → Kind
 kind_of None = Catalogues
 kind_of (Some shard) = Shards

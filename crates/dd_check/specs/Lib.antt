@@ -21,3 +21,4 @@ pub mod Accepted
 pub mod ShardChecks
 pub mod Refusals
 pub mod Messages
+pub mod ShardFaults

@@ -6,6 +6,7 @@ mod chain_laws;
 mod checkpoint;
 mod faults;
 mod items;
+mod kinds;
 mod limits;
 mod line_reading;
 mod lines;
@@ -19,6 +20,8 @@ mod reading;
 mod rows;
 mod runs;
 mod sets;
+mod shard_faults;
+mod shard_reading;
 mod stops;
 mod text_laws;
 mod writing;
@@ -30,7 +33,10 @@ pub use chain_laws::{
 };
 pub use checkpoint::Checkpoint;
 pub use faults::CheckFault;
+pub use kinds::Kind;
 pub use reading::read_checkpoint;
+pub use shard_faults::ShardFault;
+pub use shard_reading::read_shard;
 pub use text_laws::{
     a_checkpoint_has_one_text, a_checkpoint_text_tells_one_checkpoint,
     a_faulty_text_tells_no_checkpoint, a_text_has_one_fault, what_was_written_reads_back,

@@ -8,3 +8,6 @@ pub mod InfoLemmas
 pub mod SheetLinesOnce
 pub mod FileTexts
 pub mod CanonTexts
+pub mod MergedTexts
+pub mod LineLengths
+pub mod ShardTexts

@@ -10,3 +10,5 @@ pub mod Files
 pub mod Faults
 pub mod Stops
 pub mod Messages
+pub mod Merges
+pub mod ShardFiles

@@ -4,6 +4,9 @@ use Rattle.dd_commands.specs.Facts.{fraction_text}
 use Rattle.dd_commands.specs.declared.refusals.SymbolFault.{SymbolFault}
 use Rattle.dd_commands.specs.declared.refusals.SymbolFault.TheVariants.{TooManyChambers, BranchingTooLarge, NotFlat, TooManyVertices, TooWide}
 use Rattle.dd_commands.specs.declared.refusals.SymbolRefusal.{SymbolRefusal}
+use Rattle.dd_text.specs.Messages.{fault_text}
+use Rattle.dd_commands.specs.declared.merge_refusal.MergeRefusal.{MergeRefusal}
+use Rattle.dd_commands.specs.declared.merge_refusal.MergeRefusal.TheVariants.{File, NotAscending, Doubled}
 
 -- why nothing is made of a symbol
 abbrev pub symbol_fault_text : SymbolFault → List ℕ
@@ -17,3 +20,11 @@ symbol_fault_text (TooWide step row column) =
 -- the symbol of a file of which nothing is made
 abbrev pub symbol_refusal_text : SymbolRefusal → List ℕ
 symbol_refusal_text r = codes "symbol " ++ (decimal r.symbol ++ (codes ": " ++ symbol_fault_text r.why))
+
+-- why files are not merged
+abbrev pub merge_refusal_text : MergeRefusal → List ℕ
+merge_refusal_text (File n fault) = codes "file " ++ (decimal n ++ (codes ": " ++ fault_text fault))
+merge_refusal_text (NotAscending n symbol) =
+    codes "file " ++ (decimal n ++ (codes ": symbol " ++ (decimal symbol ++ codes " not ascending")))
+merge_refusal_text (Doubled n symbol) =
+    codes "file " ++ (decimal n ++ (codes ": symbol " ++ (decimal symbol ++ codes " doubled")))

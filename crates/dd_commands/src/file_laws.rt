@@ -10,6 +10,8 @@ ghost use Rattle.dd_commands.specs.declared.commands.SymbolCommand.TheVariants.{
 ghost use Rattle.dd_commands.specs.declared.refusals.SymbolRefusal.{SymbolRefusal};
 ghost use Rattle.dd_commands.specs.Files.{IsFileText, IsRefused};
 ghost use Rattle.dd_commands.specs.InTurn.{AreIsomorphicInTurn};
+ghost use Rattle.dd_commands.specs.Merges.{IsMergedText, IsMergeRefusal};
+ghost use Rattle.dd_commands.specs.declared.merge_refusal.MergeRefusal.{MergeRefusal};
 
 /// A file has at most one text for a command.
 pub fn written_once()
@@ -21,6 +23,18 @@ pub fn written_once()
 pub fn a_refused_file_has_no_text()
     ensures { (command : FileCommand) (bytes text : List ℕ) (r : SymbolRefusal)
         → IsRefused command bytes r → IsFileText command bytes text → ⊥ }
+{}
+
+/// Files have at most one merged text.
+pub fn merged_once()
+    ensures { (files : List (List ℕ)) (x y : List ℕ) → IsMergedText files x → IsMergedText files y
+        → x ≡ y }
+{}
+
+/// Files that are refused by a merge have no merged text.
+pub fn refused_files_have_no_merged_text()
+    ensures { (files : List (List ℕ)) (text : List ℕ) (r : MergeRefusal) → IsMergeRefusal files r
+        → IsMergedText files text → ⊥ }
 {}
 
 /// Canon writes the same of two files exactly where they spell lists of one length with isomorphic

@@ -11,7 +11,10 @@ use Rattle.dd_ports.specs.Sinks.{memory_sink_held}
 use Rattle.dd_ports.specs.declared.memory_sink.MemorySink.{MemorySink}
 use Rattle.dd_check.specs.Between.{AreLinesBetween}
 use Rattle.dd_jobs.specs.Portions.{whole}
-use Rattle.dd_check.specs.Calls.{Catalogues, Begin, Resume}
+use Rattle.dd_check.specs.declared.kinds.Kind.{Kind}
+use Rattle.dd_check.specs.declared.kinds.Kind.TheVariants.{Catalogues}
+use Rattle.dd_check.specs.ShardFaults.{HasKindFault}
+use Rattle.dd_check.specs.Calls.{Begin, Resume}
 use Rattle.dd_check.specs.ChainStarts.{Start, StartsAt}
 use Rattle.dd_check.proofs.LinesUpTo.{joined_between}
 use Rattle.dd_check.proofs.Lone.{none_asked}
@@ -24,7 +27,7 @@ use Rattle.dd_tasks.specs.Runs.{IsStopped, IsCallOf}
 use Rattle.dd_tasks.specs.Words.{Order, AskForRun}
 use Rattle.dd_tasks.specs.declared.status.Status.TheVariants as status
 use Rattle.dd_suite.proofs.ProgramCalls.{begun}
-use Rattle.dd_tasks.proofs.Requests.{one_order, not_both}
+use Rattle.dd_tasks.proofs.Requests.{run_or_merge, one_order, not_both}
 use Rattle.dd_suite.proofs.RunCalls.{rose_earlier}
 use Rattle.dd_suite.proofs.RunEndings.{not_usage, not_refused}
 use Rattle.dd_drive.specs.Words.{AskToKeep, resume_words}
@@ -73,11 +76,11 @@ module _ (words : List (List ℕ)) (from to : Kept) (old new : MemorySink) (p : 
 
 -- ## Calls that go on from the name
 
-one_name : (a b : List ℕ) → Resume Catalogues a ≡ Resume Catalogues b → a ≡ b
-one_name a b e = cc
+same_task : (kind : Kind) (a b : List ℕ) → Resume kind a ≡ Resume Catalogues b → (kind ≡ Catalogues) × (a ≡ b)
+same_task kind a b e = (cc, cc)
 
-other_task : (q : Request) (n : Option (List ℕ)) (name : List ℕ) → Begin (whole q) n ≡ Resume Catalogues name → ⊥
-other_task q n name e = cc
+other_task : (q : Request) (n : Option (List ℕ)) (kind : Kind) (name : List ℕ) → Begin (whole q) n ≡ Resume kind name → ⊥
+other_task q n kind name e = cc
 
 module _ (name : List ℕ) (asked : AskForRun (resume_words name) (resume_order name)) (from to : Kept) (old new : MemorySink) (p : ProgramCall) (is : IsRun (resume_words name) from to old new p) where
   pub resume_not_paused : p.status ≡ status.Paused → ⊥
@@ -94,14 +97,14 @@ module _ (name : List ℕ) (asked : AskForRun (resume_words name) (resume_order 
       go : AreRefused p.words p.before.tells p.before.held → HoldsOutOfRange (from.held name)
       go (inl (fault, file)) = absurd (not_both p.words p.order file.command file.name is.is_call.asked file.asked)
       go (inr (inl (refusal, file))) = absurd (not_both p.words p.order file.command file.name is.is_call.asked file.asked)
-      go (inr (inr (fault, check))) =
-          let named : check.name ≡ name =
-          one_name check.name name (ap (λ (o : Order). o.task)
-          (one_order (resume_words name) (record { task = Resume Catalogues check.name; round = check.asked.round; pause = check.asked.pause }) (resume_order name)
-          (subst (λ ws. AskForRun ws (record { task = Resume Catalogues check.name; round = check.asked.round; pause = check.asked.pause })) is.words_are check.asked.run) asked)) in
+      go (inr (inr (inl (fault, check)))) =
+          let same = same_task check.kind check.name name (ap (λ (o : Order). o.task)
+          (one_order (resume_words name) (record { task = Resume check.kind check.name; round = check.asked.round; pause = check.asked.pause }) (resume_order name)
+          (subst (λ ws. AskForRun ws (record { task = Resume check.kind check.name; round = check.asked.round; pause = check.asked.pause })) is.words_are check.asked.run) asked)) in
           let held_is : from.held name ≡ Some check.holds.bytes =
-          sym (ap (λ b. b.held name) is.before) ∙ ap p.before.held (sym named) ∙ check.holds.fetched is.is_call.tells in
-          out_of_range q (from.held name) check.holds.bytes fault valid held held_is check.holds.faulty
+          sym (ap (λ b. b.held name) is.before) ∙ ap p.before.held (sym same.1) ∙ check.holds.fetched is.is_call.tells in
+          out_of_range q (from.held name) check.holds.bytes fault valid held held_is (subst (λ kind. HasKindFault kind check.holds.bytes fault) same.0 check.holds.faulty)
+      go (inr (inr (inr (refusal, files)))) = absurd (run_or_merge p.words p.order files.names is.is_call.asked files.asked)
 
 -- ## The first call
 
@@ -112,10 +115,11 @@ first_refused words name asked from to old new p is e = go (is.cause.refused e)
     go : AreRefused p.words p.before.tells p.before.held → ⊥
     go (inl (fault, file)) = not_both p.words p.order file.command file.name is.is_call.asked file.asked
     go (inr (inl (refusal, file))) = not_both p.words p.order file.command file.name is.is_call.asked file.asked
-    go (inr (inr (fault, check))) =
-        other_task asked.request (Some name) check.name (ap (λ (o : Order). o.task)
-        (one_order words (first_order asked) (record { task = Resume Catalogues check.name; round = check.asked.round; pause = check.asked.pause }) asked.run
-        (subst (λ ws. AskForRun ws (record { task = Resume Catalogues check.name; round = check.asked.round; pause = check.asked.pause })) is.words_are check.asked.run)))
+    go (inr (inr (inr (refusal, files)))) = run_or_merge p.words p.order files.names is.is_call.asked files.asked
+    go (inr (inr (inl (fault, check)))) =
+        other_task asked.request (Some name) check.kind check.name (ap (λ (o : Order). o.task)
+        (one_order words (first_order asked) (record { task = Resume check.kind check.name; round = check.asked.round; pause = check.asked.pause }) asked.run
+        (subst (λ ws. AskForRun ws (record { task = Resume check.kind check.name; round = check.asked.round; pause = check.asked.pause })) is.words_are check.asked.run)))
 
 -- ## Lines that are too many
 

@@ -6,7 +6,8 @@ use Rattle.dd_model.specs.Text.{beginning}
 use Rattle.dd_model.specs.declared.requests.Request.{Request}
 use Rattle.dd_ports.specs.declared.memory_sink.MemorySink.{MemorySink}
 use Rattle.dd_jobs.specs.Portions.{whole}
-use Rattle.dd_check.specs.Calls.{Catalogues, kind_of, Task, Begin, Resume}
+use Rattle.dd_check.specs.declared.kinds.Kind.TheVariants.{Catalogues}
+use Rattle.dd_check.specs.Calls.{kind_of, Task, Begin, Resume}
 use Rattle.dd_check.specs.Chains.{kind_of_task, IsPart, IsJoined}
 use Rattle.dd_check.specs.ChainStarts.{Holds, Start, next_start, Starts, StartsAt}
 use Rattle.dd_check.proofs.ChainParts.{starts_once, start_kind, catalogue_next, no_shard}

@@ -19,15 +19,17 @@ use Rattle.dd_model.proofs.Positions.{before_or_not, below_over, below_symbol}
 use Rattle.dd_model.proofs.Texts.{nothing_before}
 use Rattle.dd_model.proofs.AscendingFronts.{begins_with}
 use Rattle.dd_check.specs.declared.checkpoint.Checkpoint.{Checkpoint}
-use Rattle.dd_check.specs.declared.faults.CheckFault.{CheckFault}
+use Rattle.dd_check.specs.declared.shard_faults.ShardFault.{ShardFault}
 use Rattle.dd_check.specs.Accepted.{IsCheckpointText}
 use Rattle.dd_check.specs.Checks.{IsCheckText}
-use Rattle.dd_check.specs.Refusals.{HasFault}
+use Rattle.dd_check.specs.ShardFaults.{HasKindFault}
+use Rattle.dd_check.proofs.KindFaults.{no_kind_fault}
 use Rattle.dd_check.proofs.Exclusion.{one_checkpoint, no_fault}
 use Rattle.dd_check.proofs.ShortTexts.{written_reads_back}
 use Rattle.dd_check.specs.Between.{IsMemberBetween, AreLinesBetween}
 use Rattle.dd_jobs.specs.Portions.{whole}
-use Rattle.dd_check.specs.Calls.{Catalogues, Begin, Resume, Call}
+use Rattle.dd_check.specs.declared.kinds.Kind.TheVariants.{Catalogues}
+use Rattle.dd_check.specs.Calls.{Begin, Resume, Call}
 use Rattle.dd_check.specs.ShardChecks.{IsSavedText}
 use Rattle.dd_check.specs.Clauses.{MeetsClauses}
 use Rattle.dd_check.specs.ChainPuts.{DoCountsFit, IsStop, IsNextMember}
@@ -114,7 +116,7 @@ held_after_call q call meets upto held =
     meets.held
 
 -- where what is held has a fault as a checkpoint, a number is out of range
-pub out_of_range : (q : Request) (held : Option (List ℕ)) (bytes : List ℕ) (fault : CheckFault) → IsValid q → IsHeld q held → held ≡ Some bytes → HasFault bytes fault → HoldsOutOfRange held
+pub out_of_range : (q : Request) (held : Option (List ℕ)) (bytes : List ℕ) (fault : ShardFault) → IsValid q → IsHeld q held → held ≡ Some bytes → HasKindFault Catalogues bytes fault → HoldsOutOfRange held
 out_of_range q held bytes fault valid (inl none) is faulty = absurd (none_some bytes (sym none ∙ is))
 out_of_range q held bytes fault valid (inr p) is faulty =
     let w = written q held valid p in
@@ -124,8 +126,8 @@ out_of_range q held bytes fault valid (inr p) is faulty =
       held_is = p.held_is;
       is_text = p.is_text;
       out = λ counts.
-          no_fault p.text p.check fault (written_reads_back p.check p.text w.check counts w.valid w.range w.place)
-          (subst (λ t. HasFault t fault) (some_injective bytes p.text (sym is ∙ p.held_is)) faulty);
+          no_kind_fault None p.text p.check fault (written_reads_back p.check p.text w.check counts w.valid w.range w.place)
+          (subst (λ t. HasKindFault Catalogues t fault) (some_injective bytes p.text (sym is ∙ p.held_is)) faulty);
     }
 
 -- ## Where lines are left

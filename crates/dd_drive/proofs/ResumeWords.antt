@@ -7,7 +7,8 @@ use Rattle.dd_words.specs.Layout.{IsPlain, argument, nothing}
 use Rattle.dd_words.specs.Values.{IsName}
 use Rattle.dd_words.specs.declared.commands.Command.TheVariants as command
 use Rattle.dd_jobs.specs.Portions.{whole}
-use Rattle.dd_check.specs.Calls.{Catalogues, Begin, Resume}
+use Rattle.dd_check.specs.declared.kinds.Kind.TheVariants.{Catalogues}
+use Rattle.dd_check.specs.Calls.{Begin, Resume}
 use Rattle.dd_tasks.specs.Words.{Order, AskForRun}
 use Rattle.dd_drive.specs.Words.{AskToKeep, resume_words}
 

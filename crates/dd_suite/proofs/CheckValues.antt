@@ -1,5 +1,5 @@
 -- The values of checkpoint texts are such that a run may go on from them.
-use Rattle.std.proofs.Common.{◌≤◌, ◌*◌, ℕ, List, length, inl, inr, arith}
+use Rattle.std.proofs.Common.{◌≤◌, ◌*◌, ℕ, List, length, Option, None, Some, inl, inr, arith}
 use Rattle.dd_model.specs.Request.{IsValid}
 use Rattle.dd_model.specs.Position.{IsPosition}
 use Rattle.dd_model.specs.declared.requests.Request.{Request}
@@ -9,6 +9,8 @@ use Rattle.dd_model.specs.declared.jobs.Position.TheVariants.{At, End}
 use Rattle.dd_jobs.specs.Opening.{IsOpeningJob}
 use Rattle.dd_check.specs.declared.checkpoint.Checkpoint.{Checkpoint}
 use Rattle.dd_check.specs.Accepted.{IsCheckpointText}
+use Rattle.dd_jobs.specs.declared.shards.Shard.{Shard}
+use Rattle.dd_check.specs.ShardChecks.{IsAcceptedText}
 use Rattle.dd_check.specs.Checks.{AreCountsInRange}
 use Rattle.dd_check.specs.Places.{IsPlace, IsOldPlace}
 
@@ -35,3 +37,8 @@ old_position q (At job) is = opening_position q job is
 pub check_position : (text : List ℕ) (c : Checkpoint) → IsCheckpointText text c → IsPosition c.at
 check_position text c (inl is) = place_position c.request c.at is.place
 check_position text c (inr is) = old_position c.request c.at is.place
+
+-- the text of a catalogue's checkpoint, and what comes after the line of a shard
+pub saved_check : (shard : Option Shard) (text : List ℕ) (c : Checkpoint) → IsAcceptedText shard text c → (check : List ℕ) × IsCheckpointText check c
+saved_check None text c is = (text, is)
+saved_check (Some shard) text c is = (is.check, is.accepted)

@@ -4,7 +4,7 @@ use Rattle.dd_ports.specs.Causes.{Rose}
 use Rattle.dd_ports.specs.Grows.{GrowsByPrefix}
 use Rattle.dd_exercise.specs.Exercise.{IsExerciseText}
 use Rattle.dd_tasks.specs.declared.ending.Ending.{Ending}
-use Rattle.dd_tasks.specs.declared.ending.Ending.TheVariants.{Done, Usage, Refused, RefusedSymbol, RefusedCheck, Paused, StoreFault, SinkFault, Memory, TooManyLines}
+use Rattle.dd_tasks.specs.declared.ending.Ending.TheVariants.{Done, Usage, Refused, RefusedSymbol, RefusedCheck, RefusedMerge, Paused, StoreFault, SinkFault, Memory, TooManyLines}
 use Rattle.dd_tasks.specs.declared.status.Status.{Status}
 use Rattle.dd_tasks.specs.declared.status.Status.TheVariants as status
 use Rattle.dd_tasks.specs.Cuts.{IsEndOfOwn}
@@ -14,7 +14,7 @@ use Rattle.dd_tasks.specs.Outside.{Before, After}
 use Rattle.dd_tasks.specs.Output.{AppendsOutput, IsKnownOutput}
 use Rattle.dd_tasks.specs.Stops.{IsWriteEnding, EndsExercise}
 use Rattle.dd_tasks.specs.Words.{AskToExercise}
-use Rattle.dd_tasks.proofs.Requests.{one_exercise, run_or_exercise, file_or_exercise}
+use Rattle.dd_tasks.proofs.Requests.{one_exercise, run_or_exercise, file_or_exercise, merge_or_exercise}
 
 module _ (words : List (List ℕ)) (start count : ℕ) (before : Before) (after : After) (asked : AskToExercise words start count) where
   pub exercise_known : (ending : Ending) → EndsExercise start count ending before after → (bytes : List ℕ) → IsKnownOutput words before.tells before.held bytes
@@ -22,15 +22,16 @@ module _ (words : List (List ℕ)) (start count : ℕ) (before : Before) (after 
   exercise_known ending ends bytes (inl is) = absurd (run_or_exercise words _ start count is.asked.run asked)
   exercise_known ending ends bytes (inr (inl (told, is))) = absurd (run_or_exercise words _ start count is.asked.run asked)
   exercise_known ending ends bytes (inr (inr (inl (told, file)))) = absurd (file_or_exercise words file.command file.name start count file.asked asked)
-  exercise_known ending ends bytes (inr (inr (inr (inl is)))) =
+  exercise_known ending ends bytes (inr (inr (inr (inl (told, is))))) = absurd (merge_or_exercise words is.names start count is.asked asked)
+  exercise_known ending ends bytes (inr (inr (inr (inr (inl is))))) =
       let same = one_exercise words is.start is.count start count is.asked asked in
       ends.prefix bytes (subst (λ n. IsExerciseText n count bytes) same.0 (subst (λ n. IsExerciseText is.start n bytes) same.1 is.text))
-  exercise_known ending ends bytes (inr (inr (inr (inr none)))) = absurd (none.0 (_, asked))
+  exercise_known ending ends bytes (inr (inr (inr (inr (inr none))))) = absurd (none.0 (_, asked))
 
   pub exercise_whole : (ending : Ending) → EndsExercise start count ending before after → ending ≡ Done → AppendsOutput words before.tells before.held before.written after.written
   exercise_whole ending ends e =
       let own = ends.whole e in
-      record { bytes = own.text; output = inr (inr (inr (inl (record { start = start; count = count; asked = asked; text = own.is_text })))); appended = own.appended }
+      record { bytes = own.text; output = inr (inr (inr (inr (inl (record { start = start; count = count; asked = asked; text = own.is_text }))))); appended = own.appended }
 
 pub exercise_complete : (ending : Ending) (old new : ℕ) → IsWriteEnding ending old new → (¬ Rose old new) → IsEndOfOwn (status_of ending) ⊎ (status_of ending ≡ status.Memory)
 exercise_complete Done old new c sank = inl (inl refl)
@@ -38,6 +39,7 @@ exercise_complete Usage old new c sank = absurd c
 exercise_complete (Refused fault) old new c sank = absurd c
 exercise_complete (RefusedSymbol refusal) old new c sank = absurd c
 exercise_complete (RefusedCheck fault) old new c sank = absurd c
+exercise_complete (RefusedMerge refusal) old new c sank = absurd c
 exercise_complete (Paused lines) old new c sank = absurd c
 exercise_complete StoreFault old new c sank = absurd c
 exercise_complete SinkFault old new c sank = absurd (sank c)
@@ -50,6 +52,7 @@ exercise_told Usage words before old new c = tt
 exercise_told (Refused fault) words before old new c = absurd c
 exercise_told (RefusedSymbol refusal) words before old new c = absurd c
 exercise_told (RefusedCheck fault) words before old new c = absurd c
+exercise_told (RefusedMerge refusal) words before old new c = absurd c
 exercise_told (Paused lines) words before old new c = absurd c
 exercise_told StoreFault words before old new c = tt
 exercise_told SinkFault words before old new c = tt
@@ -74,6 +77,7 @@ never Usage old new c is = c
 never (Refused fault) old new c is = c
 never (RefusedSymbol refusal) old new c is = c
 never (RefusedCheck fault) old new c is = c
+never (RefusedMerge refusal) old new c is = c
 never (Paused lines) old new c is = c
 never StoreFault old new c is = c
 never SinkFault old new c is = is

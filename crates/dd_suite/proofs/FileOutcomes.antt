@@ -7,7 +7,7 @@ use Rattle.dd_ports.specs.Grows.{GrowsByPrefix}
 use Rattle.dd_commands.specs.declared.commands.FileCommand.{FileCommand}
 use Rattle.dd_commands.specs.Files.{IsRefusalOf}
 use Rattle.dd_tasks.specs.declared.ending.Ending.{Ending}
-use Rattle.dd_tasks.specs.declared.ending.Ending.TheVariants.{Done, Usage, Refused, RefusedSymbol, RefusedCheck, Paused, StoreFault, SinkFault, Memory, TooManyLines}
+use Rattle.dd_tasks.specs.declared.ending.Ending.TheVariants.{Done, Usage, Refused, RefusedSymbol, RefusedCheck, RefusedMerge, Paused, StoreFault, SinkFault, Memory, TooManyLines}
 use Rattle.dd_tasks.specs.declared.status.Status.TheVariants as status
 use Rattle.dd_tasks.specs.Outside.{Before, After, WritesNothing}
 use Rattle.dd_tasks.specs.Words.{file_command, IsOnFile}
@@ -19,7 +19,7 @@ use Rattle.dd_tasks.specs.Cuts.{IsEndOfOwn}
 use Rattle.dd_tasks.specs.Endings.{status_of}
 use Rattle.dd_tasks.specs.Messages.{IsItsCause}
 use Rattle.dd_tasks.proofs.HeldTexts.{some_injective}
-use Rattle.dd_tasks.proofs.Requests.{not_both, same_command, file_or_exercise}
+use Rattle.dd_tasks.proofs.Requests.{not_both, same_command, file_or_merge, file_or_exercise}
 
 module _ (words : List (List ℕ)) (command : FileCommand) (name : List ℕ) (before : Before) (after : After) (asked : IsOnFile words command name) where
   pub file_known : (ending : Ending) → EndsOnFile command name ending before after → (bytes : List ℕ) → IsKnownOutput words before.tells before.held bytes
@@ -30,8 +30,9 @@ module _ (words : List (List ℕ)) (command : FileCommand) (name : List ℕ) (be
       let same = same_command words file.command command file.name name file.asked asked in
       ends.prefix told bytes
       (subst (λ k. IsTextOfHeld k before.tells (before.held name) bytes) same.0 (subst (λ n. IsTextOfHeld file.command before.tells (before.held n) bytes) same.1 file.text))
-  file_known ending ends bytes (inr (inr (inr (inl is)))) = absurd (file_or_exercise words command name is.start is.count asked is.asked)
-  file_known ending ends bytes (inr (inr (inr (inr none)))) = absurd (none.0 (file_command command name, asked))
+  file_known ending ends bytes (inr (inr (inr (inl (told, is))))) = absurd (file_or_merge words command name is.names asked is.asked)
+  file_known ending ends bytes (inr (inr (inr (inr (inl is))))) = absurd (file_or_exercise words command name is.start is.count asked is.asked)
+  file_known ending ends bytes (inr (inr (inr (inr (inr none))))) = absurd (none.0 (file_command command name, asked))
 
   pub file_whole : (ending : Ending) → EndsOnFile command name ending before after → ending ≡ Done → AppendsOutput words before.tells before.held before.written after.written
   file_whole ending ends e =
@@ -49,6 +50,7 @@ module _ (words : List (List ℕ)) (command : FileCommand) (name : List ℕ) (be
   file_nothing (Refused fault) ends none = ends.cause.1
   file_nothing (RefusedSymbol refusal) ends none = ends.cause.1
   file_nothing (RefusedCheck fault) ends none = absurd ends.cause
+  file_nothing (RefusedMerge refusal) ends none = absurd ends.cause
   file_nothing (Paused lines) ends none = absurd ends.cause
   file_nothing StoreFault ends none = ends.cause.1
   file_nothing SinkFault ends none = part_nothing none ends.cause.1
@@ -61,6 +63,7 @@ module _ (words : List (List ℕ)) (command : FileCommand) (name : List ℕ) (be
   file_refused (Refused fault) ends e = inl (fault, record { command = command; name = name; asked = asked; holds = ends.cause.0 })
   file_refused (RefusedSymbol refusal) ends e = inr (inl (refusal, record { command = command; name = name; asked = asked; holds = ends.cause.0 }))
   file_refused (RefusedCheck fault) ends e = absurd ends.cause
+  file_refused (RefusedMerge refusal) ends e = absurd ends.cause
   file_refused (Paused lines) ends e = absurd (cc)
   file_refused StoreFault ends e = absurd (cc)
   file_refused SinkFault ends e = absurd (cc)
@@ -74,6 +77,7 @@ module _ (words : List (List ℕ)) (command : FileCommand) (name : List ℕ) (be
   file_quiet (Refused fault) ends (inl e) = ends.cause.1
   file_quiet (RefusedSymbol refusal) ends (inl e) = ends.cause.1
   file_quiet (RefusedCheck fault) ends (inl e) = absurd ends.cause
+  file_quiet (RefusedMerge refusal) ends (inl e) = absurd ends.cause
   file_quiet (Paused lines) ends (inl e) = absurd (cc)
   file_quiet StoreFault ends (inl e) = absurd (cc)
   file_quiet SinkFault ends (inl e) = absurd (cc)
@@ -84,6 +88,7 @@ module _ (words : List (List ℕ)) (command : FileCommand) (name : List ℕ) (be
   file_quiet (Refused fault) ends (inr e) = absurd (cc)
   file_quiet (RefusedSymbol refusal) ends (inr e) = absurd (cc)
   file_quiet (RefusedCheck fault) ends (inr e) = absurd (cc)
+  file_quiet (RefusedMerge refusal) ends (inr e) = absurd (cc)
   file_quiet (Paused lines) ends (inr e) = absurd (cc)
   file_quiet StoreFault ends (inr e) = ends.cause.1
   file_quiet SinkFault ends (inr e) = absurd (cc)
@@ -107,6 +112,7 @@ module _ (words : List (List ℕ)) (command : FileCommand) (name : List ℕ) (be
       reads_once ok.1.bytes none.refused.symbols ok.1.symbols (subst (λ b. Reads b none.refused.symbols) same none.refused.reads) ok.1.reads in
       absurd (ok.1.accepted refusal (subst (λ ss. IsRefusalOf command ss refusal) symbols none.refused.first))
   file_complete (RefusedCheck fault) ends accepted kept sank = absurd ends.cause
+  file_complete (RefusedMerge refusal) ends accepted kept sank = absurd ends.cause
   file_complete (Paused lines) ends accepted kept sank = absurd ends.cause
   file_complete StoreFault ends accepted kept sank = absurd (kept ends.cause.0)
   file_complete SinkFault ends accepted kept sank = absurd (sank ends.cause.0)
@@ -119,6 +125,7 @@ module _ (words : List (List ℕ)) (command : FileCommand) (name : List ℕ) (be
   file_told (Refused fault) ends = record { command = command; name = name; asked = asked; holds = ends.cause.0 }
   file_told (RefusedSymbol refusal) ends = record { command = command; name = name; asked = asked; holds = ends.cause.0 }
   file_told (RefusedCheck fault) ends = absurd ends.cause
+  file_told (RefusedMerge refusal) ends = absurd ends.cause
   file_told (Paused lines) ends = absurd ends.cause
   file_told StoreFault ends = tt
   file_told SinkFault ends = tt
@@ -144,6 +151,7 @@ file_ends command name Usage before after c (inl e) = cc
 file_ends command name (Refused fault) before after c (inl e) = cc
 file_ends command name (RefusedSymbol refusal) before after c (inl e) = cc
 file_ends command name (RefusedCheck fault) before after c (inl e) = cc
+file_ends command name (RefusedMerge refusal) before after c (inl e) = cc
 file_ends command name (Paused lines) before after c (inl e) = c
 file_ends command name StoreFault before after c (inl e) = cc
 file_ends command name SinkFault before after c (inl e) = cc
@@ -154,6 +162,7 @@ file_ends command name Usage before after c (inr e) = cc
 file_ends command name (Refused fault) before after c (inr e) = cc
 file_ends command name (RefusedSymbol refusal) before after c (inr e) = cc
 file_ends command name (RefusedCheck fault) before after c (inr e) = cc
+file_ends command name (RefusedMerge refusal) before after c (inr e) = cc
 file_ends command name (Paused lines) before after c (inr e) = cc
 file_ends command name StoreFault before after c (inr e) = cc
 file_ends command name SinkFault before after c (inr e) = cc

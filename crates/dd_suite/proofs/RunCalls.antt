@@ -9,7 +9,8 @@ use Rattle.dd_ports.specs.Texts.{SameTexts, SameOthers}
 use Rattle.dd_ports.specs.declared.sink.SinkFault.{SinkFault as WriteFault}
 use Rattle.dd_ports.specs.declared.sink.SinkFault.TheVariants as sink
 use Rattle.dd_check.specs.declared.checkpoint.Checkpoint.{Checkpoint}
-use Rattle.dd_check.specs.Calls.{Catalogues, kind_of, Begin, Resume}
+use Rattle.dd_check.specs.declared.kinds.Kind.{Kind}
+use Rattle.dd_check.specs.Calls.{kind_of, Begin, Resume}
 use Rattle.dd_check.specs.ChainStarts.{Start, first_start, next_start}
 use Rattle.dd_pages.specs.declared.fault.RunFault.{RunFault}
 use Rattle.dd_pages.specs.declared.fault.RunFault.TheVariants as fault
@@ -20,7 +21,7 @@ use Rattle.dd_pages.specs.Outputs.{IsOutput}
 use Rattle.dd_pages.specs.Runs.{start_of, IsPause}
 use Rattle.dd_pages.specs.Names.{HasRun, LeavesName}
 use Rattle.dd_tasks.specs.declared.ending.Ending.{Ending}
-use Rattle.dd_tasks.specs.declared.ending.Ending.TheVariants.{Done, Usage, Refused, RefusedSymbol, RefusedCheck, Paused, StoreFault, SinkFault, Memory, TooManyLines}
+use Rattle.dd_tasks.specs.declared.ending.Ending.TheVariants.{Done, Usage, Refused, RefusedSymbol, RefusedCheck, RefusedMerge, Paused, StoreFault, SinkFault, Memory, TooManyLines}
 use Rattle.dd_tasks.specs.Beginnings.{HoldsCheck}
 use Rattle.dd_tasks.specs.Endings.{run_ending}
 use Rattle.dd_tasks.specs.Lone.{run_result, IsLoneEnding}
@@ -84,6 +85,7 @@ module _ (s : Start) (name : List ℕ) (round : ℕ) (pause : Option ℕ) (befor
   earlier_cause (Refused fault) c = c
   earlier_cause (RefusedSymbol refusal) c = c
   earlier_cause (RefusedCheck fault) c = c
+  earlier_cause (RefusedMerge refusal) c = c
   earlier_cause (Paused lines) c = c
   earlier_cause StoreFault c = rose_earlier before.store_faults faults after.store_faults later c
   earlier_cause SinkFault c = c
@@ -110,19 +112,20 @@ module _ (s : Start) (name : List ℕ) (round : ℕ) (pause : Option ℕ) (befor
 
 -- ## Calls that never began to run
 
-pub stopped_outcome : (ending : Ending) (name : List ℕ) (round : ℕ) (pause : Option ℕ) (before : Before) (after : After)
-    → IsHeldStop ending before.tells (before.held name) before.store_faults after.store_faults → WritesNothing before after → KeepsNames before after
-    → IsRunOutcome (record { task = Resume Catalogues name; round = round; pause = pause }) ending before after
-stopped_outcome Done name round pause before after c nothing same = absurd c
-stopped_outcome Usage name round pause before after c nothing same = absurd c
-stopped_outcome (Refused fault) name round pause before after c nothing same = absurd c
-stopped_outcome (RefusedSymbol refusal) name round pause before after c nothing same = absurd c
-stopped_outcome (RefusedCheck fault) name round pause before after c nothing same = inr (record { not_run = record { stopped = tt; nothing = nothing; same = same }; cause = c })
-stopped_outcome (Paused lines) name round pause before after c nothing same = absurd c
-stopped_outcome StoreFault name round pause before after c nothing same = inr (record { not_run = record { stopped = tt; nothing = nothing; same = same }; cause = c })
-stopped_outcome SinkFault name round pause before after c nothing same = absurd c
-stopped_outcome Memory name round pause before after c nothing same = inr (record { not_run = record { stopped = tt; nothing = nothing; same = same }; cause = c })
-stopped_outcome TooManyLines name round pause before after c nothing same = absurd c
+pub stopped_outcome : (kind : Kind) (ending : Ending) (name : List ℕ) (round : ℕ) (pause : Option ℕ) (before : Before) (after : After)
+    → IsHeldStop kind ending before.tells (before.held name) before.store_faults after.store_faults → WritesNothing before after → KeepsNames before after
+    → IsRunOutcome (record { task = Resume kind name; round = round; pause = pause }) ending before after
+stopped_outcome kind Done name round pause before after c nothing same = absurd c
+stopped_outcome kind Usage name round pause before after c nothing same = absurd c
+stopped_outcome kind (Refused fault) name round pause before after c nothing same = absurd c
+stopped_outcome kind (RefusedSymbol refusal) name round pause before after c nothing same = absurd c
+stopped_outcome kind (RefusedCheck fault) name round pause before after c nothing same = inr (record { not_run = record { stopped = tt; nothing = nothing; same = same }; cause = c })
+stopped_outcome kind (RefusedMerge refusal) name round pause before after c nothing same = absurd c
+stopped_outcome kind (Paused lines) name round pause before after c nothing same = absurd c
+stopped_outcome kind StoreFault name round pause before after c nothing same = inr (record { not_run = record { stopped = tt; nothing = nothing; same = same }; cause = c })
+stopped_outcome kind SinkFault name round pause before after c nothing same = absurd c
+stopped_outcome kind Memory name round pause before after c nothing same = inr (record { not_run = record { stopped = tt; nothing = nothing; same = same }; cause = c })
+stopped_outcome kind TooManyLines name round pause before after c nothing same = absurd c
 
 -- ## Runs without a name
 

@@ -9,7 +9,7 @@ use Rattle.dd_pages.specs.declared.finish.Finish.TheVariants as finish
 use Rattle.dd_pages.specs.Runs.{IsPause, Finishes}
 use Rattle.dd_tasks.specs.declared.status.Status.TheVariants as status
 use Rattle.dd_tasks.specs.declared.ending.Ending.{Ending}
-use Rattle.dd_tasks.specs.declared.ending.Ending.TheVariants.{Done, Usage, Refused, RefusedSymbol, RefusedCheck, Paused, StoreFault, SinkFault, Memory, TooManyLines}
+use Rattle.dd_tasks.specs.declared.ending.Ending.TheVariants.{Done, Usage, Refused, RefusedSymbol, RefusedCheck, RefusedMerge, Paused, StoreFault, SinkFault, Memory, TooManyLines}
 use Rattle.dd_tasks.specs.Endings.{status_of, run_ending}
 use Rattle.dd_tasks.specs.Outcomes.{IsRunEnding}
 use Rattle.dd_tasks.specs.Outside.{Before, After}
@@ -23,6 +23,7 @@ done_ending Usage e = absurd (cc)
 done_ending (Refused fault) e = absurd (cc)
 done_ending (RefusedSymbol refusal) e = absurd (cc)
 done_ending (RefusedCheck fault) e = absurd (cc)
+done_ending (RefusedMerge refusal) e = absurd (cc)
 done_ending (Paused lines) e = absurd (cc)
 done_ending StoreFault e = absurd (cc)
 done_ending SinkFault e = absurd (cc)
@@ -35,6 +36,7 @@ usage_ending Usage e = refl
 usage_ending (Refused fault) e = absurd (cc)
 usage_ending (RefusedSymbol refusal) e = absurd (cc)
 usage_ending (RefusedCheck fault) e = absurd (cc)
+usage_ending (RefusedMerge refusal) e = absurd (cc)
 usage_ending (Paused lines) e = absurd (cc)
 usage_ending StoreFault e = absurd (cc)
 usage_ending SinkFault e = absurd (cc)
@@ -47,6 +49,7 @@ store_ending Usage e = absurd (cc)
 store_ending (Refused fault) e = absurd (cc)
 store_ending (RefusedSymbol refusal) e = absurd (cc)
 store_ending (RefusedCheck fault) e = absurd (cc)
+store_ending (RefusedMerge refusal) e = absurd (cc)
 store_ending (Paused lines) e = absurd (cc)
 store_ending StoreFault e = refl
 store_ending SinkFault e = absurd (cc)
@@ -59,6 +62,7 @@ sink_ending Usage e = absurd (cc)
 sink_ending (Refused fault) e = absurd (cc)
 sink_ending (RefusedSymbol refusal) e = absurd (cc)
 sink_ending (RefusedCheck fault) e = absurd (cc)
+sink_ending (RefusedMerge refusal) e = absurd (cc)
 sink_ending (Paused lines) e = absurd (cc)
 sink_ending StoreFault e = absurd (cc)
 sink_ending SinkFault e = refl

@@ -2,25 +2,29 @@
 use Rattle.std.proofs.Common.{◌≡◌, ◌⊎◌, ℕ, List, true, Option, Some, None, Result, Err, IfOk, inl, inr, refl, sym, ap, ◌∙◌, subst}
 use Rattle.dd_ports.specs.Causes.{Rose}
 use Rattle.dd_ports.specs.Grows.{GrowsByPrefix}
-use Rattle.dd_check.specs.declared.faults.CheckFault.{CheckFault}
+use Rattle.dd_check.specs.declared.shard_faults.ShardFault.{ShardFault}
+use Rattle.dd_check.specs.ShardFaults.{HasKindFault}
+use Rattle.dd_check.proofs.KindFaults.{no_kind_fault}
 use Rattle.dd_jobs.specs.declared.shards.Shard.{Shard}
 use Rattle.dd_check.specs.declared.checkpoint.Checkpoint.{Checkpoint}
 use Rattle.dd_check.specs.Accepted.{IsCheckpointText}
 use Rattle.dd_check.specs.ShardChecks.{IsAcceptedText}
 use Rattle.dd_check.proofs.Exclusion.{no_fault as never_both}
 use Rattle.dd_jobs.specs.Portions.{IsPortionText}
-use Rattle.dd_check.specs.Calls.{Kind, Catalogues, Shards, kind_of, Task, Begin, Resume}
+use Rattle.dd_check.specs.declared.kinds.Kind.{Kind}
+use Rattle.dd_check.specs.declared.kinds.Kind.TheVariants.{Catalogues, Shards}
+use Rattle.dd_check.specs.Calls.{kind_of, Task, Begin, Resume}
 use Rattle.dd_check.specs.ChainStarts.{Start}
 use Rattle.dd_pages.specs.declared.fault.RunFault.{RunFault}
 use Rattle.dd_pages.specs.declared.fault.RunFault.TheVariants as fault
 use Rattle.dd_pages.specs.declared.finish.Finish.{Finish}
 use Rattle.dd_pages.specs.Runs.{Finishes}
 use Rattle.dd_tasks.specs.declared.ending.Ending.{Ending}
-use Rattle.dd_tasks.specs.declared.ending.Ending.TheVariants.{Done, Usage, Refused, RefusedSymbol, RefusedCheck, Paused, StoreFault, SinkFault, Memory, TooManyLines}
+use Rattle.dd_tasks.specs.declared.ending.Ending.TheVariants.{Done, Usage, Refused, RefusedSymbol, RefusedCheck, RefusedMerge, Paused, StoreFault, SinkFault, Memory, TooManyLines}
 use Rattle.dd_tasks.specs.declared.status.Status.{Status}
 use Rattle.dd_tasks.specs.declared.status.Status.TheVariants as status
 use Rattle.dd_tasks.specs.Arguments.{AreRefused, IsCheckAccepted, KeepUnder, SameButKept}
-use Rattle.dd_tasks.specs.Beginnings.{HoldsNoCheck, BeginsAt, IsCheckRefused}
+use Rattle.dd_tasks.specs.Beginnings.{NameNoCheck, BeginsAt, IsCheckRefused}
 use Rattle.dd_tasks.specs.Cuts.{Pauses, CutsShort, IsEndOfOwn}
 use Rattle.dd_tasks.specs.Endings.{status_of}
 use Rattle.dd_tasks.specs.Messages.{IsItsCause}
@@ -28,9 +32,9 @@ use Rattle.dd_tasks.specs.Outcomes.{EndsRun, StopsRun, IsRunEnding, IsStopEnding
 use Rattle.dd_tasks.specs.Output.{AppendsOutput, IsKnownOutput}
 use Rattle.dd_tasks.specs.Outside.{Before, After}
 use Rattle.dd_tasks.specs.Runs.{Runs, HasRunAs, name_of}
-use Rattle.dd_tasks.specs.Words.{Order, AskForRun}
+use Rattle.dd_tasks.specs.Words.{Order, run_command, AskForRun}
 use Rattle.dd_tasks.proofs.HeldTexts.{some_injective, one_next}
-use Rattle.dd_tasks.proofs.Requests.{one_order, order_told, not_both, run_or_exercise}
+use Rattle.dd_tasks.proofs.Requests.{one_order, not_both, run_or_merge, run_or_exercise}
 use Rattle.dd_suite.proofs.RunEndings.{whole_result, paused_result, cut_result, store_result, not_refused}
 use Rattle.dd_suite.proofs.RunOutputs.{output_of, front_prefix, whole_of_task, rest_written}
 
@@ -50,8 +54,9 @@ module _ (words : List (List ℕ)) (order : Order) (before : Before) (after : Af
       let same : is.start ≡ ran.start = one_next is.kind before.tells (before.held is.name) is.start ran.start told is.begins at in
       front_prefix ran.start order.pause before.written after.written ran.result out.0 bytes out.1 (subst (λ (s : Start). IsPortionText s.portion s.at s.lines bytes) same is.text)
   ran_known state ran bytes (inr (inr (inl (told, file)))) = absurd (not_both words order file.command file.name asked file.asked)
-  ran_known state ran bytes (inr (inr (inr (inl is)))) = absurd (run_or_exercise words order is.start is.count asked is.asked)
-  ran_known state ran bytes (inr (inr (inr (inr none)))) = let x = order_told words order asked in absurd (none.0 (x.command, x.asked))
+  ran_known state ran bytes (inr (inr (inr (inl (told, is))))) = absurd (run_or_merge words order is.names asked is.asked)
+  ran_known state ran bytes (inr (inr (inr (inr (inl is))))) = absurd (run_or_exercise words order is.start is.count asked is.asked)
+  ran_known state ran bytes (inr (inr (inr (inr (inr none))))) = absurd (none.0 (run_command order.task asked.workers order.round order.pause, asked.command))
 
   pub ran_whole : (state : Status) → HasRunAs order state before after → state ≡ status.Done → AppendsOutput words before.tells before.held before.written after.written
   ran_whole state ran e =
@@ -106,11 +111,10 @@ module _ (words : List (List ℕ)) (order : Order) (before : Before) (after : Af
 
   -- ## Calls that never began to run
 
-  check_refused : (task : Task) (round : ℕ) (pause : Option ℕ) (fault : CheckFault) → AskForRun words (record { task = task; round = round; pause = pause }) → IsCheckRefused task before.tells before.held fault
-      → (name : List ℕ) × AskForRun words (record { task = Resume Catalogues name; round = round; pause = pause }) × HoldsNoCheck before.tells (before.held name) fault
+  check_refused : (task : Task) (round : ℕ) (pause : Option ℕ) (fault : ShardFault) → AskForRun words (record { task = task; round = round; pause = pause }) → IsCheckRefused task before.tells before.held fault
+      → NameNoCheck words before.tells before.held fault
   check_refused (Begin q name) round pause fault is c = absurd c
-  check_refused (Resume Catalogues name) round pause fault is c = (name, is, c)
-  check_refused (Resume Shards name) round pause fault is c = absurd c
+  check_refused (Resume kind name) round pause fault is c = record { kind = kind; name = name; asked = record { round = round; pause = pause; run = is }; holds = c }
 
   pub stop_refused : (ending : Ending) → StopsRun order ending before after → status_of ending ≡ status.Refused → AreRefused words before.tells before.held
   stop_refused Done stops e = absurd (cc)
@@ -118,20 +122,13 @@ module _ (words : List (List ℕ)) (order : Order) (before : Before) (after : Af
   stop_refused (Refused fault) stops e = absurd stops.cause
   stop_refused (RefusedSymbol refusal) stops e = absurd stops.cause
   stop_refused (RefusedCheck fault) stops e =
-      let is = check_refused order.task order.round order.pause fault asked stops.cause in
-      inr (inr (fault, record { name = is.0; asked = record { round = order.round; pause = order.pause; run = is.1 }; holds = is.2 }))
+      inr (inr (inl (fault, check_refused order.task order.round order.pause fault asked stops.cause)))
+  stop_refused (RefusedMerge refusal) stops e = absurd stops.cause
   stop_refused (Paused lines) stops e = absurd (cc)
   stop_refused StoreFault stops e = absurd (cc)
   stop_refused SinkFault stops e = absurd (cc)
   stop_refused Memory stops e = absurd (cc)
   stop_refused TooManyLines stops e = absurd (cc)
-
-  other_kind : Shards ≡ Catalogues → ⊥
-  other_kind e = cc
-
-  of_catalogue : (shard : Option Shard) (text : List ℕ) (c : Checkpoint) → kind_of shard ≡ Catalogues → IsAcceptedText shard text c → IsCheckpointText text c
-  of_catalogue None text c kind is = is
-  of_catalogue (Some shard) text c kind is = absurd (other_kind kind)
 
   pub stop_complete : (ending : Ending) → StopsRun order ending before after → IsCheckAccepted words before.tells before.held → (¬ Rose before.store_faults after.store_faults) → status_of ending ≡ status.Memory
   stop_complete Done stops accepted kept = absurd stops.cause
@@ -140,9 +137,12 @@ module _ (words : List (List ℕ)) (order : Order) (before : Before) (after : Af
   stop_complete (RefusedSymbol refusal) stops accepted kept = absurd stops.cause
   stop_complete (RefusedCheck fault) stops accepted kept =
       let is = check_refused order.task order.round order.pause fault asked stops.cause in
-      let ok = accepted Catalogues is.0 (record { round = order.round; pause = order.pause; run = is.1 }) in
-      let same : ok.1.holds.text ≡ is.2.bytes = some_injective ok.1.holds.text is.2.bytes (sym ok.1.holds.held_is ∙ is.2.fetched ok.0) in
-      absurd (never_both is.2.bytes ok.1.check fault (of_catalogue ok.1.shard is.2.bytes ok.1.check ok.1.kind_is (subst (λ b. IsAcceptedText ok.1.shard b ok.1.check) same ok.1.holds.accepted)) is.2.faulty)
+      let ok = accepted is.kind is.name is.asked in
+      let held = ok.1 in
+      let same : held.holds.text ≡ is.holds.bytes = some_injective held.holds.text is.holds.bytes (sym held.holds.held_is ∙ is.holds.fetched ok.0) in
+      absurd (no_kind_fault held.shard is.holds.bytes held.check fault (subst (λ b. IsAcceptedText held.shard b held.check) same held.holds.accepted)
+      (subst (λ kind. HasKindFault kind is.holds.bytes fault) (sym held.kind_is) is.holds.faulty))
+  stop_complete (RefusedMerge refusal) stops accepted kept = absurd stops.cause
   stop_complete (Paused lines) stops accepted kept = absurd stops.cause
   stop_complete StoreFault stops accepted kept = absurd (kept stops.cause)
   stop_complete SinkFault stops accepted kept = absurd stops.cause
@@ -155,8 +155,8 @@ module _ (words : List (List ℕ)) (order : Order) (before : Before) (after : Af
   stop_told (Refused fault) stops = absurd stops.cause
   stop_told (RefusedSymbol refusal) stops = absurd stops.cause
   stop_told (RefusedCheck fault) stops =
-      let is = check_refused order.task order.round order.pause fault asked stops.cause in
-      record { name = is.0; asked = record { round = order.round; pause = order.pause; run = is.1 }; holds = is.2 }
+      check_refused order.task order.round order.pause fault asked stops.cause
+  stop_told (RefusedMerge refusal) stops = absurd stops.cause
   stop_told (Paused lines) stops = absurd stops.cause
   stop_told StoreFault stops = tt
   stop_told SinkFault stops = tt
@@ -169,6 +169,7 @@ module _ (words : List (List ℕ)) (order : Order) (before : Before) (after : Af
   ran_told (Refused fault) ends = absurd ends.cause
   ran_told (RefusedSymbol refusal) ends = absurd ends.cause
   ran_told (RefusedCheck fault) ends = absurd ends.cause
+  ran_told (RefusedMerge refusal) ends = absurd ends.cause
   ran_told (Paused lines) ends = record { order = order; asked = asked; start = ends.ran.start; begins = ends.ran.begins; pause_is = ends.cause }
   ran_told StoreFault ends = tt
   ran_told SinkFault ends = tt
@@ -182,6 +183,7 @@ ran_complete Usage s pause before after c kept sank = absurd c
 ran_complete (Refused fault) s pause before after c kept sank = absurd c
 ran_complete (RefusedSymbol refusal) s pause before after c kept sank = absurd c
 ran_complete (RefusedCheck fault) s pause before after c kept sank = absurd c
+ran_complete (RefusedMerge refusal) s pause before after c kept sank = absurd c
 ran_complete (Paused lines) s pause before after c kept sank = inl (inr (inl refl))
 ran_complete StoreFault s pause before after c kept sank = absurd (kept c)
 ran_complete SinkFault s pause before after c kept sank = absurd (sank c)

@@ -1,30 +1,68 @@
-ghost use Rattle.std.specs.Prelude.{◌≡◌, ◌≤◌, IfOk, IfErr, IsSome, None, true};
-ghost use Rattle.dd_check.specs.Calls.{Catalogues, Resume};
+ghost use Rattle.std.specs.Prelude.{◌≡◌, ◌≤◌, IfOk, IfErr, IsSome, true};
+ghost use Rattle.dd_check.specs.declared.kinds.Kind.TheVariants.{Catalogues, Shards};
+ghost use Rattle.dd_check.specs.Calls.{kind_of, Resume};
 ghost use Rattle.dd_ports.specs.Texts.{SameTexts};
-ghost use Rattle.dd_check.specs.Accepted.{IsCheckpointText};
+ghost use Rattle.dd_check.specs.ShardChecks.{IsAcceptedText};
 ghost use Rattle.dd_check.specs.ChainStarts.{next_start};
 ghost use Rattle.dd_pages.specs.Runs.{start_of};
 ghost use Rattle.dd_tasks.specs.Beginnings.{HoldsCheck};
 ghost use Rattle.dd_tasks.specs.Outcomes.{IsRunOutcome, IsReadStop, IsHeldStop};
 
 use crate::kept::keep_run;
-use dd_check::{CheckFault, Checkpoint, read_checkpoint};
+use dd_check::{CheckFault, Checkpoint, Kind, ShardFault, read_checkpoint, read_shard};
 use dd_jobs::{Portion, Shard};
 use dd_pages::{Pace, Run};
 use dd_ports::{Gate, Sink, Store, StoreFault};
-use dd_tasks::{Ending, fetch_all};
+use dd_tasks::{Ending, fetch_all, fetch_front};
 use std::alloc::Global;
 use std::sync::Wait;
 use std::thread::Threads;
 
-/// The most bytes of a checkpoint text.
+/// The most bytes of a checkpoint text of a catalogue.
 const MOST_BYTES: usize = 4096;
 
-/// The checkpoint whose text a name holds.
-fn fetch_check<S: Store>(alloc: Global, name: &str, store: &mut S) -> Result<Checkpoint, Ending>
-    ensures check { IfOk result (HoldsCheck None (S.tells store.old) (S.held store.old name.now)) }
+/// How many bytes of a text of a shard are read: more than such a text can have.
+const MOST_SHARD_BYTES: usize = 8192;
+
+/// What a text tells from which a run resumes.
+#[derive(Drop)]
+struct Saved {
+    shard: Option<Shard>,
+    check: Checkpoint,
+}
+
+/// The checkpoint whose text of a kind a name holds, and its shard.
+fn fetch_check<S: Store>(
+    alloc: Global,
+    kind: Kind,
+    name: &str,
+    store: &mut S,
+) -> Result<Saved, Ending>
+    ensures check { IfOk result (λ saved. (kind_of saved.shard ≡ kind)
+        × HoldsCheck saved.shard (S.tells store.old) (S.held store.old name.now) saved.check) }
     ensures why { IfErr result (λ ending.
-        IsHeldStop ending (S.tells store.old) (S.held store.old name.now)
+        IsHeldStop kind ending (S.tells store.old) (S.held store.old name.now)
+        (S.faults store.old) (S.faults store.new)) }
+    ensures same { S.tells store.old ≡ true
+        → (S.tells store.new ≡ true) × SameTexts (S.held store.old) (S.held store.new) }
+    ensures count { S.faults store.old ≤ S.faults store.new }
+    ensures sure { S.sure store.old ≡ true → S.sure store.new ≡ true }
+    ensures passes { S.sure store.old ≡ true → IsSome (S.held store.old name.now)
+        → (S.faults store.new ≡ S.faults store.old)
+        × IfErr result (λ ending. ending ≡ Ending.StoreFault → ⊥) }
+{
+    match kind {
+        Kind::Catalogues => fetch_catalogue(alloc, name, store),
+        Kind::Shards => fetch_shard(alloc, name, store),
+    }
+}
+
+/// The checkpoint of a catalogue whose text a name holds.
+fn fetch_catalogue<S: Store>(alloc: Global, name: &str, store: &mut S) -> Result<Saved, Ending>
+    ensures check { IfOk result (λ saved. (kind_of saved.shard ≡ Catalogues)
+        × HoldsCheck saved.shard (S.tells store.old) (S.held store.old name.now) saved.check) }
+    ensures why { IfErr result (λ ending.
+        IsHeldStop Catalogues ending (S.tells store.old) (S.held store.old name.now)
         (S.faults store.old) (S.faults store.new)) }
     ensures same { S.tells store.old ≡ true
         → (S.tells store.new ≡ true) × SameTexts (S.held store.old) (S.held store.new) }
@@ -36,29 +74,71 @@ fn fetch_check<S: Store>(alloc: Global, name: &str, store: &mut S) -> Result<Che
 {
     let bytes = match fetch_all(alloc, name, MOST_BYTES, store) {
         Ok(Some(bytes)) => bytes,
-        Ok(None) => return Err(Ending::RefusedCheck(CheckFault::Long)),
+        Ok(None) => return Err(Ending::RefusedCheck(ShardFault::Check(CheckFault::Long))),
         Err(StoreFault::Failed) => return Err(Ending::StoreFault),
         Err(StoreFault::Memory) => return Err(Ending::Memory),
     };
-    check_of(alloc, &bytes)
+    catalogue_of(alloc, &bytes)
 }
 
-/// The checkpoint of a text.
-fn check_of(alloc: Global, bytes: &[u8]) -> Result<Checkpoint, Ending>
-    ensures check { IfOk result (IsCheckpointText bytes.now) }
-    ensures why { IfErr result (IsReadStop bytes.now) }
+/// The checkpoint of a text of a catalogue.
+fn catalogue_of(alloc: Global, bytes: &[u8]) -> Result<Saved, Ending>
+    ensures check { IfOk result (λ saved. (kind_of saved.shard ≡ Catalogues)
+        × IsAcceptedText saved.shard bytes.now saved.check) }
+    ensures why { IfErr result (IsReadStop Catalogues bytes.now) }
 {
     match read_checkpoint(alloc, bytes) {
-        Ok(check) => Ok(check),
+        Ok(check) => Ok(Saved { shard: None, check }),
         Err(CheckFault::Memory) => Err(Ending::Memory),
+        Err(fault) => Err(Ending::RefusedCheck(ShardFault::Check(fault))),
+    }
+}
+
+/// The checkpoint of a shard whose text a name holds, and the shard.
+fn fetch_shard<S: Store>(alloc: Global, name: &str, store: &mut S) -> Result<Saved, Ending>
+    ensures check { IfOk result (λ saved. (kind_of saved.shard ≡ Shards)
+        × HoldsCheck saved.shard (S.tells store.old) (S.held store.old name.now) saved.check) }
+    ensures why { IfErr result (λ ending.
+        IsHeldStop Shards ending (S.tells store.old) (S.held store.old name.now)
+        (S.faults store.old) (S.faults store.new)) }
+    ensures same { S.tells store.old ≡ true
+        → (S.tells store.new ≡ true) × SameTexts (S.held store.old) (S.held store.new) }
+    ensures count { S.faults store.old ≤ S.faults store.new }
+    ensures sure { S.sure store.old ≡ true → S.sure store.new ≡ true }
+    ensures passes { S.sure store.old ≡ true → IsSome (S.held store.old name.now)
+        → (S.faults store.new ≡ S.faults store.old)
+        × IfErr result (λ ending. ending ≡ Ending.StoreFault → ⊥) }
+{
+    let bytes = match fetch_front(alloc, name, MOST_SHARD_BYTES, store) {
+        Ok(bytes) => bytes,
+        Err(StoreFault::Failed) => return Err(Ending::StoreFault),
+        Err(StoreFault::Memory) => return Err(Ending::Memory),
+    };
+    shard_of(alloc, &bytes)
+}
+
+/// The checkpoint of a text of a shard, and the shard.
+fn shard_of(alloc: Global, bytes: &[u8]) -> Result<Saved, Ending>
+    ensures check { IfOk result (λ saved. (kind_of saved.shard ≡ Shards)
+        × IsAcceptedText saved.shard bytes.now saved.check) }
+    ensures why { IfErr result (IsReadStop Shards bytes.now) }
+{
+    match read_shard(alloc, bytes) {
+        Ok((shard, check)) => Ok(Saved {
+            shard: Some(shard),
+            check,
+        }),
+        Err(ShardFault::Memory) => Err(Ending::Memory),
         Err(fault) => Err(Ending::RefusedCheck(fault)),
     }
 }
 
-/// Goes on from the checkpoint of a name, by a run with the next number.
+/// Goes on from the checkpoint of a name, of a catalogue or of a shard, by a run with the next
+/// number.
 pub fn resume<R: Threads + Wait + Sync, S: Store, G: Gate + Sync, O: Sink>(
     rt: &R,
     alloc: Global,
+    kind: Kind,
     name: &str,
     pace: Pace,
     pause: Option<u32>,
@@ -69,7 +149,7 @@ pub fn resume<R: Threads + Wait + Sync, S: Store, G: Gate + Sync, O: Sink>(
     requires workers { (1 ≤ pace.workers) × (pace.workers ≤ 64) }
     requires round { 1 ≤ pace.round }
     ensures outcome { IsRunOutcome
-        (record { task = Resume Catalogues name.now; round = pace.round; pause = pause })
+        (record { task = Resume kind name.now; round = pace.round; pause = pause })
         result
         (record {
           tells = S.tells store.old;
@@ -92,11 +172,11 @@ pub fn resume<R: Threads + Wait + Sync, S: Store, G: Gate + Sync, O: Sink>(
     ensures sink_sure { O.sure out.old ≡ true
         → (O.faults out.new ≡ O.faults out.old) × (result ≡ Ending.SinkFault → ⊥) }
 {
-    let check = match fetch_check(alloc, name, store) {
-        Ok(check) => check,
+    let saved = match fetch_check(alloc, kind, name, store) {
+        Ok(saved) => saved,
         Err(ending) => return ending,
     };
-    let run = next_run(check, None, pace, pause);
+    let run = next_run(saved.check, saved.shard, pace, pause);
     keep_run(rt, alloc, &run, name, gate, store, out)
 }
 

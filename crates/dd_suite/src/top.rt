@@ -7,7 +7,7 @@ ghost use Rattle.dd_ports.specs.Texts.{SameTexts};
 ghost use Rattle.dd_model.specs.Symbol.{Symbol};
 ghost use Rattle.dd_jobs.specs.declared.portions.Portion.{Portion};
 ghost use Rattle.dd_jobs.specs.Portions.{ArePortionMembers};
-ghost use Rattle.dd_check.specs.Calls.{Kind};
+ghost use Rattle.dd_check.specs.declared.kinds.Kind.{Kind};
 ghost use Rattle.dd_pages.specs.Runs.{most_lines};
 ghost use Rattle.dd_tasks.specs.Words.{Order, AskForRun, AskFor, AskToResume, NameFile, AreTaken};
 ghost use Rattle.dd_tasks.specs.Beginnings.{HoldsSomeCheck};
@@ -15,6 +15,8 @@ ghost use Rattle.dd_tasks.specs.Runs.{IsCallOf};
 ghost use Rattle.dd_tasks.specs.Output.{IsFileOutput, IsKnownOutput, AppendsOutput};
 ghost use Rattle.dd_tasks.specs.Arguments.{AreRefused, AreHeld, IsFileAccepted, IsCheckAccepted};
 ghost use Rattle.dd_tasks.specs.Arguments.{KeepUnder, SameButKept};
+ghost use Rattle.dd_tasks.specs.Merges.{AskToMerge, IsMergeOfHeld};
+ghost use Rattle.dd_tasks.specs.MergeEndings.{IsMergeAccepted};
 ghost use Rattle.dd_tasks.specs.Cuts.{Pauses, CutsShort, IsEndOfOwn};
 ghost use Rattle.dd_tasks.specs.Messages.{TellsOf};
 ghost use Rattle.dd_tasks.specs.Stops.{IsOutcome};
@@ -25,7 +27,7 @@ use crate::lone::write_lone;
 use crate::resume::resume;
 use dd_model::Memory;
 use dd_ports::{Gate, Sink, Store};
-use dd_tasks::{Ending, Status, Task, read_task, tell, write_file};
+use dd_tasks::{Ending, Status, Task, read_task, tell, write_file, write_merge};
 use std::alloc::Global;
 use std::rc::RcStr;
 use std::sync::Wait;
@@ -89,6 +91,9 @@ pub fn run<R: Threads + Wait + Sync, S: Store, O: Sink, E: Sink, G: Gate + Sync>
         → ((text : List ℕ) → IsFileOutput
         (map rc_str_bytes words.now) (S.tells store.old) (S.held store.old) text → ⊥)
         → Appends (O.held out.old) (O.held out.new) [] }
+    ensures not_merged { (names : List (List ℕ)) → AskToMerge (map rc_str_bytes words.now) names
+        → ((text : List ℕ) → IsMergeOfHeld names (S.tells store.old) (S.held store.old) text → ⊥)
+        → Appends (O.held out.old) (O.held out.new) [] }
 
     ensures store { S.tells store.old ≡ true → (S.tells store.new ≡ true)
         × SameButKept (map rc_str_bytes words.now) (S.held store.old) (S.held store.new) }
@@ -98,7 +103,7 @@ pub fn run<R: Threads + Wait + Sync, S: Store, O: Sink, E: Sink, G: Gate + Sync>
         → Rose (S.faults store.old) (S.faults store.new) }
     ensures sink_fault { result ≡ Status.SinkFault → Rose (O.faults out.old) (O.faults out.new) }
     ensures store_sure { S.sure store.old ≡ true
-        → AreHeld (map rc_str_bytes words.now) (S.held store.old)
+        → AreHeld (map rc_str_bytes words.now) (S.tells store.old) (S.held store.old)
         → (S.faults store.new ≡ S.faults store.old) × (result ≡ Status.StoreFault → ⊥) }
     ensures sink_sure { O.sure out.old ≡ true
         → (O.faults out.new ≡ O.faults out.old) × (result ≡ Status.SinkFault → ⊥) }
@@ -115,11 +120,12 @@ pub fn run<R: Threads + Wait + Sync, S: Store, O: Sink, E: Sink, G: Gate + Sync>
         → AskFor (map rc_str_bytes words.now) p → ArePortionMembers p members
         → length members ≤ most_lines }
 
-    // Taken words end as Done, as paused or as cut short where the file is accepted or the checkpoint, nothing is refused and no
+    // Taken words end as Done, as paused or as cut short where the file, the checkpoint or the files of a merge are accepted and no
     // count rose, unless memory is wanting.
     ensures complete { AreTaken (map rc_str_bytes words.now)
         → IsFileAccepted (map rc_str_bytes words.now) (S.tells store.old) (S.held store.old)
         → IsCheckAccepted (map rc_str_bytes words.now) (S.tells store.old) (S.held store.old)
+        → IsMergeAccepted (map rc_str_bytes words.now) (S.tells store.old) (S.held store.old)
         → (¬ Rose (S.faults store.old) (S.faults store.new))
         → (¬ Rose (O.faults out.old) (O.faults out.new))
         → IsEndOfOwn result ⊎ (result ≡ Status.Memory) }
@@ -173,7 +179,7 @@ fn perform<R: Threads + Wait + Sync, S: Store, O: Sink, G: Gate + Sync>(
     ensures store_count { S.faults store.old ≤ S.faults store.new }
     ensures sink_count { O.faults out.old ≤ O.faults out.new }
     ensures store_sure { S.sure store.old ≡ true
-        → AreHeld (map rc_str_bytes words.now) (S.held store.old)
+        → AreHeld (map rc_str_bytes words.now) (S.tells store.old) (S.held store.old)
         → (S.faults store.new ≡ S.faults store.old) × (result ≡ Ending.StoreFault → ⊥) }
     ensures sink_sure { O.sure out.old ≡ true
         → (O.faults out.new ≡ O.faults out.old) × (result ≡ Ending.SinkFault → ⊥) }
@@ -201,10 +207,24 @@ fn perform<R: Threads + Wait + Sync, S: Store, O: Sink, G: Gate + Sync>(
             store,
             out,
         ),
-        Task::Resume { name, pace, pause } => {
-            resume(rt, alloc, name.as_str(), pace, pause, gate, store, out)
-        }
+        Task::Resume {
+            kind,
+            name,
+            pace,
+            pause,
+        } => resume(
+            rt,
+            alloc,
+            kind,
+            name.as_str(),
+            pace,
+            pause,
+            gate,
+            store,
+            out,
+        ),
         Task::OnFile(command, name) => write_file(alloc, command, name.as_str(), store, out),
+        Task::Merge(names) => write_merge(alloc, names.as_slice(), store, out),
         Task::Exercise { start, count } => write_exercise(alloc, start, count, out),
     }
 }

@@ -5,7 +5,7 @@ use Rattle.dd_commands.specs.declared.commands.FileCommand.{FileCommand}
 use Rattle.dd_commands.specs.Files.{IsFileText}
 use Rattle.dd_commands.proofs.FileTexts.{file_text_unique}
 use Rattle.dd_check.specs.ShardChecks.{IsAcceptedText}
-use Rattle.dd_check.specs.Calls.{Kind}
+use Rattle.dd_check.specs.declared.kinds.Kind.{Kind}
 use Rattle.dd_check.specs.ChainStarts.{Start, next_start}
 use Rattle.dd_check.proofs.ChainParts.{one_accepted}
 use Rattle.dd_tasks.specs.Beginnings.{BeginsNext}

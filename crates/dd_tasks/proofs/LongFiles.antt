@@ -1,6 +1,8 @@
 -- A name that holds more bytes than are fetched.
 use Rattle.std.proofs.Common.{◌≡◌, ℕ, List, [], ◌∷◌, ◌++◌, ◌+◌, ◌<◌, length, Bool, true, false, Option, Some, refl, arith, length-append}
 use Rattle.dd_check.specs.declared.faults.CheckFault.TheVariants as check
+use Rattle.dd_check.specs.declared.kinds.Kind.TheVariants.{Catalogues}
+use Rattle.dd_check.specs.declared.shard_faults.ShardFault.TheVariants.{Check}
 use Rattle.dd_text.specs.declared.faults.FileFault.{FileFault}
 use Rattle.dd_text.specs.declared.faults.Why.TheVariants.{Long}
 use Rattle.dd_commands.specs.Files.{IsFaulty}
@@ -41,5 +43,5 @@ pub long_file : (tells : Bool) (held : Option (List ℕ)) → HoldsMore tells he
 unfolding too_long
 long_file tells held more = record { bytes = more.bytes; fetched = more.fetched; faulty = long_faulty more.bytes more.more }
 
-pub long_check : (tells : Bool) (held : Option (List ℕ)) → HoldsMore tells held 4096 → HoldsNoCheck tells held check.Long
+pub long_check : (tells : Bool) (held : Option (List ℕ)) → HoldsMore tells held 4096 → HoldsNoCheck Catalogues tells held (Check check.Long)
 long_check tells held more = record { bytes = more.bytes; fetched = more.fetched; faulty = more.more }

@@ -2,15 +2,17 @@
 use Rattle.std.specs.Prelude.{◌≡◌, ◌⊎◌, ℕ, List, Option, Some, Bool, true, IsSome}
 use Rattle.dd_model.specs.Symbol.{Symbol}
 use Rattle.dd_model.specs.Reading.{Reads}
-use Rattle.dd_check.specs.declared.faults.CheckFault.{CheckFault}
-use Rattle.dd_check.specs.Calls.{Kind}
+use Rattle.dd_check.specs.declared.shard_faults.ShardFault.{ShardFault}
+use Rattle.dd_check.specs.declared.kinds.Kind.{Kind}
 use Rattle.dd_check.specs.ChainStarts.{HoldsKind}
 use Rattle.dd_text.specs.declared.faults.FileFault.{FileFault}
 use Rattle.dd_commands.specs.declared.commands.FileCommand.{FileCommand}
 use Rattle.dd_commands.specs.declared.refusals.SymbolRefusal.{SymbolRefusal}
+use Rattle.dd_commands.specs.declared.merge_refusal.MergeRefusal.{MergeRefusal}
 use Rattle.dd_commands.specs.Files.{IsRefusalOf}
 use Rattle.dd_tasks.specs.Beginnings.{NameNoCheck}
 use Rattle.dd_tasks.specs.Held.{HoldsFaulty, HoldsRefused}
+use Rattle.dd_tasks.specs.MergeEndings.{NameUnmerged, AreMergedHeld}
 use Rattle.dd_tasks.specs.Runs.{name_of}
 use Rattle.dd_tasks.specs.Words.{Order, AskForRun, AskToResume, IsOnFile}
 
@@ -28,16 +30,19 @@ pub record NameRefused (words : List (List ℕ)) (tells : Bool) (held : List ℕ
   pub asked : IsOnFile words command name
   pub holds : HoldsRefused command tells (held name) r
 
--- the words name a file with a fault, or with a symbol of which their command makes nothing, or a text that is no checkpoint text
+-- the words name a file with a fault, or with a symbol of which their command makes nothing, or a text that is no checkpoint text,
+-- or files that are not merged
 abbrev pub AreRefused : List (List ℕ) → Bool → (List ℕ → Option (List ℕ)) → Type 0
 AreRefused words tells held =
     ((fault : FileFault) × NameFaulty words tells held fault)
-    ⊎ (((r : SymbolRefusal) × NameRefused words tells held r) ⊎ ((fault : CheckFault) × NameNoCheck words tells held fault))
+    ⊎ (((r : SymbolRefusal) × NameRefused words tells held r) ⊎ (((fault : ShardFault) × NameNoCheck words tells held fault)
+    ⊎ ((r : MergeRefusal) × NameUnmerged words tells held r)))
 
--- the store holds the file that the words name, if they name one, and the name that they go on from
-pub record AreHeld (words : List (List ℕ)) (held : List ℕ → Option (List ℕ)) : Type 0 where
+-- the store holds the file that the words name, if they name one, the name that they go on from, and the files that they merge
+pub record AreHeld (words : List (List ℕ)) (tells : Bool) (held : List ℕ → Option (List ℕ)) : Type 0 where
   pub file : (command : FileCommand) (name : List ℕ) → IsOnFile words command name → IsSome (held name)
   pub check : (kind : Kind) (name : List ℕ) → AskToResume words kind name → IsSome (held name)
+  pub merged : AreMergedHeld words tells held
 
 -- the symbols of a file that a name holds, of each of which a command makes something
 pub record SpellsSymbols (command : FileCommand) (held : Option (List ℕ)) : Type 0 where

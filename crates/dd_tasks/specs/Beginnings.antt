@@ -2,10 +2,11 @@
 use Rattle.std.specs.Prelude.{◌≡◌, ℕ, List, Option, Bool}
 use Rattle.dd_jobs.specs.declared.shards.Shard.{Shard}
 use Rattle.dd_check.specs.declared.checkpoint.Checkpoint.{Checkpoint}
-use Rattle.dd_check.specs.declared.faults.CheckFault.{CheckFault}
+use Rattle.dd_check.specs.declared.shard_faults.ShardFault.{ShardFault}
 use Rattle.dd_check.specs.ShardChecks.{IsAcceptedText}
-use Rattle.dd_check.specs.Refusals.{HasFault}
-use Rattle.dd_check.specs.Calls.{Kind, Catalogues, Shards, kind_of, Task, Begin, Resume}
+use Rattle.dd_check.specs.ShardFaults.{HasKindFault}
+use Rattle.dd_check.specs.declared.kinds.Kind.{Kind}
+use Rattle.dd_check.specs.Calls.{kind_of, Task, Begin, Resume}
 use Rattle.dd_check.specs.ChainStarts.{Start, first_start, next_start}
 use Rattle.dd_tasks.specs.Held.{AreFetched}
 use Rattle.dd_tasks.specs.Words.{AskToResume}
@@ -23,11 +24,11 @@ pub record HoldsSomeCheck (kind : Kind) (tells : Bool) (held : Option (List ℕ)
   pub check : Checkpoint
   pub holds : HoldsCheck shard tells held check
 
--- a name holds a text with this fault, which is no checkpoint text
-pub record HoldsNoCheck (tells : Bool) (held : Option (List ℕ)) (fault : CheckFault) : Type 0 where
+-- a name holds a text with this fault, which is no checkpoint text of the kind
+pub record HoldsNoCheck (kind : Kind) (tells : Bool) (held : Option (List ℕ)) (fault : ShardFault) : Type 0 where
   pub bytes : List ℕ
   pub fetched : AreFetched tells held bytes
-  pub faulty : HasFault bytes fault
+  pub faulty : HasKindFault kind bytes fault
 
 -- the run after the one of a checkpoint text that a name holds
 pub record BeginsNext (kind : Kind) (tells : Bool) (held : Option (List ℕ)) (start : Start) : Type 0 where
@@ -39,18 +40,14 @@ abbrev pub BeginsAt : Task → Bool → (List ℕ → Option (List ℕ)) → Sta
 BeginsAt (Begin p name) tells held start = start ≡ first_start p
 BeginsAt (Resume kind name) tells held start = BeginsNext kind tells (held name) start
 
--- a name holds a text with this fault, which is no checkpoint text of the kind
-abbrev pub HoldsRefusedCheck : Kind → Bool → Option (List ℕ) → CheckFault → Type 0
-HoldsRefusedCheck Catalogues tells held fault = HoldsNoCheck tells held fault
-HoldsRefusedCheck Shards tells held fault = ⊥
-
 -- the task goes on from a name that holds a text with this fault
-abbrev pub IsCheckRefused : Task → Bool → (List ℕ → Option (List ℕ)) → CheckFault → Type 0
+abbrev pub IsCheckRefused : Task → Bool → (List ℕ → Option (List ℕ)) → ShardFault → Type 0
 IsCheckRefused (Begin p name) tells held fault = ⊥
-IsCheckRefused (Resume kind name) tells held fault = HoldsRefusedCheck kind tells (held name) fault
+IsCheckRefused (Resume kind name) tells held fault = HoldsNoCheck kind tells (held name) fault
 
 -- the words go on from such a name
-pub record NameNoCheck (words : List (List ℕ)) (tells : Bool) (held : List ℕ → Option (List ℕ)) (fault : CheckFault) : Type 0 where
+pub record NameNoCheck (words : List (List ℕ)) (tells : Bool) (held : List ℕ → Option (List ℕ)) (fault : ShardFault) : Type 0 where
+  pub kind : Kind
   pub name : List ℕ
-  pub asked : AskToResume words Catalogues name
-  pub holds : HoldsNoCheck tells (held name) fault
+  pub asked : AskToResume words kind name
+  pub holds : HoldsNoCheck kind tells (held name) fault

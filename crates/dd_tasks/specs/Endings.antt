@@ -4,18 +4,19 @@ use Rattle.dd_pages.specs.declared.fault.RunFault.{RunFault}
 use Rattle.dd_pages.specs.declared.fault.RunFault.TheVariants as fault
 use Rattle.dd_pages.specs.declared.finish.Finish.{Finish}
 use Rattle.dd_pages.specs.declared.finish.Finish.TheVariants as finish
-use Rattle.dd_check.specs.declared.faults.CheckFault.{CheckFault}
-use Rattle.dd_check.specs.Messages.{check_fault_text}
+use Rattle.dd_check.specs.declared.shard_faults.ShardFault.{ShardFault}
+use Rattle.dd_check.specs.ShardFaults.{shard_fault_text}
 use Rattle.dd_commands.specs.declared.command_fault.CommandFault.{CommandFault}
 use Rattle.dd_commands.specs.declared.command_fault.CommandFault.TheVariants.{File, Symbol, Memory as NoRoom}
 use Rattle.dd_text.specs.declared.faults.FileFault.{FileFault}
 use Rattle.dd_text.specs.Messages.{fault_text}
 use Rattle.dd_commands.specs.declared.refusals.SymbolRefusal.{SymbolRefusal}
-use Rattle.dd_commands.specs.Messages.{symbol_refusal_text}
+use Rattle.dd_commands.specs.Messages.{symbol_refusal_text, merge_refusal_text}
+use Rattle.dd_commands.specs.declared.merge_refusal.MergeRefusal.{MergeRefusal}
 use Rattle.dd_tasks.specs.declared.status.Status.{Status}
 use Rattle.dd_tasks.specs.declared.status.Status.TheVariants as status
 use Rattle.dd_tasks.specs.declared.ending.Ending.{Ending}
-use Rattle.dd_tasks.specs.declared.ending.Ending.TheVariants.{Done, Usage, Refused, RefusedSymbol, RefusedCheck}
+use Rattle.dd_tasks.specs.declared.ending.Ending.TheVariants.{Done, Usage, Refused, RefusedSymbol, RefusedCheck, RefusedMerge}
 use Rattle.dd_tasks.specs.declared.ending.Ending.TheVariants.{Paused, StoreFault, SinkFault, Memory, TooManyLines}
 
 -- the status without its cause
@@ -25,6 +26,7 @@ status_of Usage = status.Usage
 status_of (Refused fault) = status.Refused
 status_of (RefusedSymbol refusal) = status.Refused
 status_of (RefusedCheck fault) = status.Refused
+status_of (RefusedMerge refusal) = status.Refused
 status_of (Paused lines) = status.Paused
 status_of StoreFault = status.StoreFault
 status_of SinkFault = status.SinkFault
@@ -40,8 +42,12 @@ abbrev pub refusal_line : SymbolRefusal → List ℕ
 refusal_line refusal = codes "dressline: " ++ (symbol_refusal_text refusal ++ codes "\n")
 
 -- the line that tells of a text that is no checkpoint text
-abbrev pub check_line : CheckFault → List ℕ
-check_line fault = codes "dressline: checkpoint: " ++ (check_fault_text fault ++ codes "\n")
+abbrev pub check_line : ShardFault → List ℕ
+check_line fault = codes "dressline: checkpoint: " ++ (shard_fault_text fault ++ codes "\n")
+
+-- the line that tells why files are not merged
+abbrev pub merge_line : MergeRefusal → List ℕ
+merge_line refusal = codes "dressline: " ++ (merge_refusal_text refusal ++ codes "\n")
 
 -- the line that tells after how many lines of its chain a run paused
 abbrev pub pause_line : ℕ → List ℕ
@@ -54,6 +60,7 @@ message_of Usage = codes "dressline: words not taken\n"
 message_of (Refused fault) = fault_line fault
 message_of (RefusedSymbol refusal) = refusal_line refusal
 message_of (RefusedCheck fault) = check_line fault
+message_of (RefusedMerge refusal) = merge_line refusal
 message_of (Paused lines) = pause_line lines
 message_of StoreFault = codes "dressline: store failed\n"
 message_of SinkFault = codes "dressline: sink failed\n"

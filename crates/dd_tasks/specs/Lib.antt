@@ -13,3 +13,5 @@ pub mod Output
 pub mod Arguments
 pub mod Cuts
 pub mod Messages
+pub mod Merges
+pub mod MergeEndings

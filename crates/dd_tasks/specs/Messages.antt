@@ -5,18 +5,21 @@ use Rattle.dd_ports.specs.Causes.{Rose}
 use Rattle.dd_ports.specs.Grows.{GrowsByPrefix}
 use Rattle.dd_tasks.specs.declared.status.Status.{Status}
 use Rattle.dd_tasks.specs.declared.ending.Ending.{Ending}
-use Rattle.dd_tasks.specs.declared.ending.Ending.TheVariants.{Refused, RefusedSymbol, RefusedCheck, Paused}
+use Rattle.dd_tasks.specs.declared.ending.Ending.TheVariants.{Refused, RefusedSymbol, RefusedCheck, RefusedMerge, Paused}
 use Rattle.dd_tasks.specs.Arguments.{NameFaulty, NameRefused}
 use Rattle.dd_tasks.specs.Beginnings.{NameNoCheck}
 use Rattle.dd_tasks.specs.Cuts.{PauseAfter}
 use Rattle.dd_tasks.specs.Endings.{status_of, message_of}
+use Rattle.dd_tasks.specs.MergeEndings.{NameUnmerged}
 
 -- The fault of a refused file is the first fault of the file that the words name, a refused symbol is the first of which their
--- command makes nothing, the fault of a checkpoint is that of the text that they go on from, and a run paused where they ask for it.
+-- command makes nothing, the fault of a checkpoint is that of the text that they go on from, the reason why files are not merged is
+-- that of the files that they merge, and a run paused where they ask for it.
 abbrev pub IsItsCause : Ending → List (List ℕ) → Bool → (List ℕ → Option (List ℕ)) → Type 0
 IsItsCause (Refused fault) words tells held = NameFaulty words tells held fault
 IsItsCause (RefusedSymbol refusal) words tells held = NameRefused words tells held refusal
 IsItsCause (RefusedCheck fault) words tells held = NameNoCheck words tells held fault
+IsItsCause (RefusedMerge refusal) words tells held = NameUnmerged words tells held refusal
 IsItsCause (Paused lines) words tells held = PauseAfter words tells held lines
 IsItsCause ending words tells held = Unit {0}
 
@@ -31,6 +34,7 @@ abbrev pub IsMade : Ending → Type 0
 IsMade (Refused fault) = Unit {0}
 IsMade (RefusedSymbol refusal) = Unit {0}
 IsMade (RefusedCheck fault) = Unit {0}
+IsMade (RefusedMerge refusal) = Unit {0}
 IsMade ending = ⊥
 
 -- a write ran out of memory and counted it, or there may have been no memory to make the line

@@ -1,7 +1,8 @@
 -- Why a run ended, and why a call with its words never began to run.
 use Rattle.std.specs.Prelude.{◌≡◌, ◌⊎◌, ℕ, List, Option, Result, Bool}
 use Rattle.dd_ports.specs.Causes.{Rose}
-use Rattle.dd_check.specs.Refusals.{HasFault}
+use Rattle.dd_check.specs.declared.kinds.Kind.{Kind}
+use Rattle.dd_check.specs.ShardFaults.{HasKindFault}
 use Rattle.dd_check.specs.Calls.{Task}
 use Rattle.dd_check.specs.ChainStarts.{Start}
 use Rattle.dd_pages.specs.Runs.{IsPause}
@@ -32,18 +33,18 @@ IsStopEnding StoreFault task before after = Rose before.store_faults after.store
 IsStopEnding Memory task before after = Unit {0}
 IsStopEnding ending task before after = ⊥
 
--- the bytes have this fault, or memory is wanting
-abbrev pub IsReadStop : List ℕ → Ending → Type 0
-IsReadStop bytes (RefusedCheck fault) = HasFault bytes fault
-IsReadStop bytes Memory = Unit {0}
-IsReadStop bytes ending = ⊥
+-- the bytes have this fault, as a text of the kind, or memory is wanting
+abbrev pub IsReadStop : Kind → List ℕ → Ending → Type 0
+IsReadStop kind bytes (RefusedCheck fault) = HasKindFault kind bytes fault
+IsReadStop kind bytes Memory = Unit {0}
+IsReadStop kind bytes ending = ⊥
 
--- a name holds bytes with this fault, or a fetch failed and was counted, or memory is wanting
-abbrev pub IsHeldStop : Ending → Bool → Option (List ℕ) → ℕ → ℕ → Type 0
-IsHeldStop (RefusedCheck fault) tells held before now = HoldsNoCheck tells held fault
-IsHeldStop StoreFault tells held before now = Rose before now
-IsHeldStop Memory tells held before now = Unit {0}
-IsHeldStop ending tells held before now = ⊥
+-- a name holds bytes with this fault, as a text of the kind, or a fetch failed and was counted, or memory is wanting
+abbrev pub IsHeldStop : Kind → Ending → Bool → Option (List ℕ) → ℕ → ℕ → Type 0
+IsHeldStop kind (RefusedCheck fault) tells held before now = HoldsNoCheck kind tells held fault
+IsHeldStop kind StoreFault tells held before now = Rose before now
+IsHeldStop kind Memory tells held before now = Unit {0}
+IsHeldStop kind ending tells held before now = ⊥
 
 pub record EndsRun (order : Order) (ending : Ending) (before : Before) (after : After) : Type 0 where
   pub ran : HasRunAs order (status_of ending) before after

@@ -6,13 +6,14 @@ use Rattle.dd_model.specs.declared.jobs.Position.TheVariants.{End}
 use Rattle.dd_jobs.specs.declared.portions.Portion.{Portion}
 use Rattle.dd_jobs.specs.Portions.{IsPortionText}
 use Rattle.dd_check.specs.Between.{AreLinesBetween}
-use Rattle.dd_check.specs.Calls.{Kind}
+use Rattle.dd_check.specs.declared.kinds.Kind.{Kind}
 use Rattle.dd_check.specs.ChainStarts.{Start}
 use Rattle.dd_commands.specs.declared.commands.FileCommand.{FileCommand}
 use Rattle.dd_pages.specs.Runs.{most_lines}
 use Rattle.dd_exercise.specs.Exercise.{IsExerciseText}
 use Rattle.dd_tasks.specs.Beginnings.{BeginsNext}
 use Rattle.dd_tasks.specs.Held.{IsTextOfHeld}
+use Rattle.dd_tasks.specs.MergeEndings.{IsMergeOutput}
 use Rattle.dd_tasks.specs.Words.{AreTaken, AskFor, AskToResume, IsOnFile, AskToExercise}
 
 -- the text of the catalogue or of the shard that the words ask for, from its beginning
@@ -59,14 +60,16 @@ pub record IsExerciseOutput (words : List (List ℕ)) (bytes : List ℕ) : Type 
 abbrev pub IsOutput : List (List ℕ) → Bool → (List ℕ → Option (List ℕ)) → List ℕ → Type 0
 IsOutput words tells held bytes =
     IsBegunText words bytes
-    ⊎ (AreResumedLines words tells held bytes ⊎ (IsFileOutput words tells held bytes ⊎ (IsExerciseOutput words bytes ⊎ ((¬ AreTaken words) × (bytes ≡ [])))))
+    ⊎ (AreResumedLines words tells held bytes ⊎ (IsFileOutput words tells held bytes
+    ⊎ (IsMergeOutput words tells held bytes ⊎ (IsExerciseOutput words bytes ⊎ ((¬ AreTaken words) × (bytes ≡ []))))))
 
 -- the text of which words write a prefix, where what a name holds is known since the store tells it
 abbrev pub IsKnownOutput : List (List ℕ) → Bool → (List ℕ → Option (List ℕ)) → List ℕ → Type 0
 IsKnownOutput words tells held bytes =
     IsBegunText words bytes
     ⊎ (((tells ≡ true) × IsResumedText words tells held bytes)
-    ⊎ (((tells ≡ true) × IsFileOutput words tells held bytes) ⊎ (IsExerciseOutput words bytes ⊎ ((¬ AreTaken words) × (bytes ≡ [])))))
+    ⊎ (((tells ≡ true) × IsFileOutput words tells held bytes)
+    ⊎ (((tells ≡ true) × IsMergeOutput words tells held bytes) ⊎ (IsExerciseOutput words bytes ⊎ ((¬ AreTaken words) × (bytes ≡ []))))))
 
 -- known bytes grew by the whole output of the words
 pub record AppendsOutput (words : List (List ℕ)) (tells : Bool) (held : List ℕ → Option (List ℕ)) (old new : Option (List ℕ)) : Type 0 where

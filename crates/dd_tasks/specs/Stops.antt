@@ -12,6 +12,8 @@ use Rattle.dd_tasks.specs.Outcomes.{IsRunOutcome}
 use Rattle.dd_tasks.specs.Outside.{Before, After, WritesNothing, KeepsNames}
 use Rattle.dd_tasks.specs.Words.{Order, AreTaken, AskForRun, IsOnFile, AskToExercise}
 use Rattle.dd_tasks.specs.Held.{HoldsFaulty, HoldsRefused, IsTextOfHeld, AppendsFileText, AppendsPart}
+use Rattle.dd_tasks.specs.Merges.{AskToMerge}
+use Rattle.dd_tasks.specs.MergeEndings.{EndsMerge}
 
 -- a fetch failed and was counted, or the name holds what no file may be, or memory is wanting
 abbrev pub IsFetchStop : Ending → Bool → Option (List ℕ) → ℕ → ℕ → Type 0
@@ -74,5 +76,6 @@ pub data IsOutcome (words : List (List ℕ)) (ending : Ending) (before : Before)
   untaken : ending ≡ Usage → (¬ AreTaken words) → LeavesAll before after → IsOutcome words ending before after
   unread : ending ≡ Memory → LeavesAll before after → IsOutcome words ending before after
   on_file : (command : FileCommand) (name : List ℕ) → IsOnFile words command name → EndsOnFile command name ending before after → IsOutcome words ending before after
+  of_merge : (names : List (List ℕ)) → AskToMerge words names → EndsMerge names ending before after → IsOutcome words ending before after
   of_exercise : (start count : ℕ) → AskToExercise words start count → EndsExercise start count ending before after → IsOutcome words ending before after
   of_run : (order : Order) → AskForRun words order → IsRunOutcome order ending before after → IsOutcome words ending before after

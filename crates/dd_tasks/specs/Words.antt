@@ -7,7 +7,9 @@ use Rattle.dd_words.specs.declared.commands.Command.TheVariants as command
 use Rattle.dd_words.specs.declared.commands.FileKind.TheVariants as kind
 use Rattle.dd_jobs.specs.declared.shards.Shard.{Shard}
 use Rattle.dd_jobs.specs.declared.portions.Portion.{Portion}
-use Rattle.dd_check.specs.Calls.{Kind, Catalogues, Shards, Task, Begin, Resume}
+use Rattle.dd_check.specs.declared.kinds.Kind.{Kind}
+use Rattle.dd_check.specs.declared.kinds.Kind.TheVariants.{Catalogues, Shards}
+use Rattle.dd_check.specs.Calls.{Task, Begin, Resume}
 use Rattle.dd_commands.specs.declared.commands.FileCommand.{FileCommand}
 use Rattle.dd_commands.specs.declared.commands.FileCommand.TheVariants.{Symbols, Info, Sheets, Draw}
 use Rattle.dd_commands.specs.declared.commands.SymbolCommand.{SymbolCommand}
@@ -19,30 +21,25 @@ pub record Order : Type 0 where
   pub round : ℕ
   pub pause : Option ℕ
 
--- the command that begins a catalogue; none begins a shard
-abbrev pub begin_command : Option Shard → Request → Option (List ℕ) → ℕ → ℕ → Option ℕ → Option Command
-begin_command None q name workers round pause = Some (command.Catalogue q workers round pause name)
-begin_command (Some shard) q name workers round pause = None
+-- the command that begins a catalogue, or the shard if there is one
+abbrev pub begin_command : Option Shard → Request → Option (List ℕ) → ℕ → ℕ → Option ℕ → Command
+begin_command None q name workers round pause = command.Catalogue q workers round pause name
+begin_command (Some shard) q name workers round pause = command.Shard shard q workers round pause name
 
--- the command that goes on from a catalogue's checkpoint; none goes on from a shard's
-abbrev pub resume_command : Kind → List ℕ → ℕ → ℕ → Option ℕ → Option Command
-resume_command Catalogues name workers round pause = Some (command.Resume name workers round pause)
-resume_command Shards name workers round pause = None
+-- the command that goes on from a text of this kind
+abbrev pub resume_command : Kind → List ℕ → ℕ → ℕ → Option ℕ → Command
+resume_command Catalogues name workers round pause = command.Resume name workers round pause
+resume_command Shards name workers round pause = command.ResumeShard name workers round pause
 
 -- the command with this task
-abbrev pub run_command : Task → ℕ → ℕ → Option ℕ → Option Command
+abbrev pub run_command : Task → ℕ → ℕ → Option ℕ → Command
 run_command (Begin p name) workers round pause = begin_command p.shard p.request name workers round pause
 run_command (Resume kind name) workers round pause = resume_command kind name workers round pause
-
--- the words are those of the command, if there is one
-abbrev pub AreOf : List (List ℕ) → Option Command → Type 0
-AreOf words None = ⊥
-AreOf words (Some c) = IsCommand words c
 
 -- the words of a run, with any number of workers
 pub record AskForRun (words : List (List ℕ)) (order : Order) : Type 0 where
   pub workers : ℕ
-  pub command : AreOf words (run_command order.task workers order.round order.pause)
+  pub command : IsCommand words (run_command order.task workers order.round order.pause)
 
 -- the words of a catalogue or of a shard, with a name for its checkpoint or without one
 pub record AskFor (words : List (List ℕ)) (p : Portion) : Type 0 where

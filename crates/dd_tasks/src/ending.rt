@@ -1,8 +1,8 @@
 ghost use Rattle.std.specs.Prelude.{◌≡◌};
 
 use crate::status::Status;
-use dd_check::CheckFault;
-use dd_commands::{CommandFault, SymbolRefusal};
+use dd_check::ShardFault;
+use dd_commands::{CommandFault, MergeRefusal, SymbolRefusal};
 use dd_pages::{Finish, RunFault};
 use dd_text::FileFault;
 
@@ -17,8 +17,10 @@ pub enum Ending {
     Refused(FileFault),
     /// Nothing is made of a symbol of the file.
     RefusedSymbol(SymbolRefusal),
-    /// What is to be gone on from is no checkpoint text.
-    RefusedCheck(CheckFault),
+    /// The text to resume from is no checkpoint text of its kind.
+    RefusedCheck(ShardFault),
+    /// The files are not merged.
+    RefusedMerge(MergeRefusal),
     /// As many lines were written as were to be written before a pause, and there are more. It tells the number of the last one.
     Paused(u64),
     /// A call of the store failed.
@@ -66,9 +68,10 @@ impl Ending {
         match self {
             Ending::Done => Status::Done,
             Ending::Usage => Status::Usage,
-            Ending::Refused(_) | Ending::RefusedSymbol(_) | Ending::RefusedCheck(_) => {
-                Status::Refused
-            }
+            Ending::Refused(_)
+            | Ending::RefusedSymbol(_)
+            | Ending::RefusedCheck(_)
+            | Ending::RefusedMerge(_) => Status::Refused,
             Ending::Paused(_) => Status::Paused,
             Ending::StoreFault => Status::StoreFault,
             Ending::SinkFault => Status::SinkFault,

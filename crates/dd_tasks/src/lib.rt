@@ -5,14 +5,16 @@
 mod ending;
 mod fetching;
 mod file;
+mod merging;
 mod status;
 mod task;
 mod telling;
 mod words;
 
 pub use ending::Ending;
-pub use fetching::fetch_all;
+pub use fetching::{fetch_all, fetch_front};
 pub use file::{write_file, write_text};
+pub use merging::write_merge;
 pub use status::Status;
 pub use task::Task;
 pub use telling::tell;

@@ -1,7 +1,8 @@
+use dd_check::Kind;
 use dd_commands::FileCommand;
 use dd_jobs::Portion;
 use dd_pages::Pace;
-use dd_words::Name;
+use dd_words::{Name, Names};
 
 /// What the program does.
 #[derive(Drop)]
@@ -16,14 +17,17 @@ pub enum Task {
         pace: Pace,
         pause: Option<u32>,
     },
-    /// Going on from the checkpoint of a name, in the same way.
+    /// Going on from the checkpoint of a name, of a catalogue or of a shard, in the same way.
     Resume {
+        kind: Kind,
         name: Name,
         pace: Pace,
         pause: Option<u32>,
     },
     /// A command on the file of a name.
     OnFile(FileCommand, Name),
+    /// The symbols of the files of some names, in one list.
+    Merge(Names),
     /// So many items of an exercise from a number on.
     Exercise {
         start: u32,

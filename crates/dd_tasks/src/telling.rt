@@ -4,12 +4,12 @@ ghost use Rattle.dd_ports.specs.declared.sink.SinkFault.TheVariants.{Failed, Mem
 ghost use Rattle.dd_ports.specs.Causes.{HasCause, StaysSure};
 ghost use Rattle.dd_ports.specs.Grows.{GrowsByPrefix};
 ghost use Rattle.dd_tasks.specs.Endings.{message_of, fault_line, refusal_line};
-ghost use Rattle.dd_tasks.specs.Endings.{check_line, pause_line};
+ghost use Rattle.dd_tasks.specs.Endings.{check_line, merge_line, pause_line};
 ghost use Rattle.dd_tasks.specs.Messages.{IsShort};
 
 use crate::ending::Ending;
-use dd_check::CheckFault;
-use dd_commands::SymbolRefusal;
+use dd_check::ShardFault;
+use dd_commands::{MergeRefusal, SymbolRefusal};
 use dd_ports::{Sink, SinkFault, write_all_of};
 use dd_text::FileFault;
 use itoa::Buffer;
@@ -33,6 +33,7 @@ pub fn tell<E: Sink>(alloc: Global, ending: Ending, err: &mut E) -> Result<(), S
         Ending::Refused(fault) => tell_fault(alloc, fault, err),
         Ending::RefusedSymbol(refusal) => tell_refusal(alloc, refusal, err),
         Ending::RefusedCheck(fault) => tell_check(alloc, fault, err),
+        Ending::RefusedMerge(refusal) => tell_merge(alloc, refusal, err),
         Ending::Paused(lines) => tell_pause(lines, err),
         Ending::StoreFault => write_all_of(err, b"dressline: store failed\n"),
         Ending::SinkFault => write_all_of(err, b"dressline: sink failed\n"),
@@ -73,7 +74,7 @@ fn tell_refusal<E: Sink>(
 }
 
 /// Writes the line of a text that is no checkpoint text.
-fn tell_check<E: Sink>(alloc: Global, fault: CheckFault, err: &mut E) -> Result<(), SinkFault>
+fn tell_check<E: Sink>(alloc: Global, fault: ShardFault, err: &mut E) -> Result<(), SinkFault>
     ensures whole { OnOk result (Appends (E.held err.old) (E.held err.new) (check_line fault)) }
     ensures prefix { GrowsByPrefix (E.held err.old) (E.held err.new) (check_line fault) }
     ensures cause { HasCause Failed (E.faults err.old) (E.faults err.new) result }
@@ -82,6 +83,19 @@ fn tell_check<E: Sink>(alloc: Global, fault: CheckFault, err: &mut E) -> Result<
         → StaysSure Failed (E.faults err.old) (E.faults err.new) (E.sure err.new) result }
 {
     let line = format!(in alloc; "dressline: checkpoint: {fault}\n")?;
+    write_all_of(err, line.as_bytes())
+}
+
+/// Writes the line of files that are not merged.
+fn tell_merge<E: Sink>(alloc: Global, refusal: MergeRefusal, err: &mut E) -> Result<(), SinkFault>
+    ensures whole { OnOk result (Appends (E.held err.old) (E.held err.new) (merge_line refusal)) }
+    ensures prefix { GrowsByPrefix (E.held err.old) (E.held err.new) (merge_line refusal) }
+    ensures cause { HasCause Failed (E.faults err.old) (E.faults err.new) result }
+    ensures shortages { E.shortages err.old ≤ E.shortages err.new }
+    ensures sure { E.sure err.old ≡ true
+        → StaysSure Failed (E.faults err.old) (E.faults err.new) (E.sure err.new) result }
+{
+    let line = format!(in alloc; "dressline: {refusal}\n")?;
     write_all_of(err, line.as_bytes())
 }
 

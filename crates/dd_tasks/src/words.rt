@@ -6,6 +6,7 @@ ghost use Rattle.dd_words.specs.declared.commands.Command.{Command};
 ghost use Rattle.dd_tasks.specs.Commands.{IsBegunBy, IsTaskOf, AskForTask};
 
 use crate::task::Task;
+use dd_check::Kind;
 use dd_commands::{FileCommand, SymbolCommand};
 use dd_jobs::Portion;
 use dd_model::Memory;
@@ -41,12 +42,36 @@ fn task_of(command: Command) -> Task
             let portion = Portion::whole(request);
             task_for(portion, Pace { workers, round }, pause, checkpoint)
         }
+        Command::Shard {
+            shard,
+            request,
+            workers,
+            round,
+            pause,
+            checkpoint,
+        } => {
+            let shard = Some(shard);
+            let portion = Portion { request, shard };
+            task_for(portion, Pace { workers, round }, pause, checkpoint)
+        }
         Command::Resume {
             name,
             workers,
             round,
             pause,
         } => Task::Resume {
+            kind: Kind::Catalogues,
+            name,
+            pace: Pace { workers, round },
+            pause,
+        },
+        Command::ResumeShard {
+            name,
+            workers,
+            round,
+            pause,
+        } => Task::Resume {
+            kind: Kind::Shards,
             name,
             pace: Pace { workers, round },
             pause,
@@ -56,6 +81,7 @@ fn task_of(command: Command) -> Task
             Task::OnFile(FileCommand::Symbols(SymbolCommand::Applied(word)), file)
         }
         Command::Draw { file, frame } => Task::OnFile(FileCommand::Draw(frame), file),
+        Command::Merge { files } => Task::Merge(files),
         Command::Exercise { start, count } => Task::Exercise { start, count },
     }
 }

@@ -1,15 +1,19 @@
 use crate::running::sink_failing_at;
-use dd_check::CheckFault;
+use dd_check::{CheckFault, ShardFault};
 use dd_ports::{SinkFault, SureSink};
 use dd_tasks::{Ending, tell};
 
 /// An ending, and its line on the error stream.
-const LINES: [(Ending, &str); 8] = [
+const LINES: [(Ending, &str); 9] = [
     (Ending::Done, ""),
     (Ending::Usage, "dressline: words not taken\n"),
     (
-        Ending::RefusedCheck(CheckFault::Shape { line: 6 }),
+        Ending::RefusedCheck(ShardFault::Check(CheckFault::Shape { line: 6 })),
         "dressline: checkpoint: shape line 6\n",
+    ),
+    (
+        Ending::RefusedCheck(ShardFault::Other),
+        "dressline: checkpoint: other shard\n",
     ),
     (Ending::Paused(17), "dressline: paused at 17 lines\n"),
     (Ending::StoreFault, "dressline: store failed\n"),

@@ -1,5 +1,5 @@
 -- Clap takes the words of each command, and its matches ask for the commands that the words ask for.
-use Rattle.std.proofs.Common.{◌≡◌, ◌≢◌, ◌∙◌, ◌||◌, ◌++◌, ℕ, suc, Bool, true, false, List, [], ◌∷◌, None, refl, sym, ap, ap₂, subst, bytes_eq, arith}
+use Rattle.std.proofs.Common.{◌≡◌, ◌≢◌, ◌∙◌, ◌||◌, ◌++◌, ◌+◌, ◌≤◌, ℕ, zero, suc, length, Bool, true, false, List, [], ◌∷◌, None, refl, sym, ap, ap₂, subst, bytes_eq, arith}
 use Rattle.std.specs.List.{AllByRecursion}
 use Rattle.std.proofs.lemmas.Slice.Eq.{bytes_eq-Decides}
 use Rattle.clap.specs.Lexer.{long_of, short_of}
@@ -21,11 +21,12 @@ use Rattle.dd_words.specs.Apps.{app_for, all_settings}
 use Rattle.dd_words.specs.Matching.{AreMatched, AreRead, arguments_read}
 use Rattle.dd_words.proofs.ReadCommands.{parts}
 use Rattle.dd_words.proofs.ClapSteps.{IsFree, free_word, dash_dash}
-use Rattle.dd_words.proofs.ClapWalks.{IsPlace, place_of, place_after, row_placed, row_valued, row_flagged, Placed, Walks}
+use Rattle.dd_words.proofs.PlaceNames.{place_of, places_apart, no_place_is}
+use Rattle.dd_words.proofs.ClapWalks.{IsPlace, place_after, row_placed, row_valued, row_flagged, Placed, Walks}
 use Rattle.dd_words.proofs.ClapRules.{rules_for, reader_for}
 use Rattle.dd_words.proofs.ClapWhole.{found_layout, layout_end, no_fault_at_end, matches_are, rows_with}
-use Rattle.dd_words.proofs.ClapRows.{placed_joins, valued_joins, flagged_joins, rows_are, list_of, same_word, no_place_is, is_no_place, placed_row, valued_row, flagged_row}
-use Rattle.dd_words.proofs.ClapReads.{picked, has_pushed, settings_read, arguments_are}
+use Rattle.dd_words.proofs.ClapRows.{placed_joins, valued_joins, flagged_joins, rows_are, list_of, same_word, is_no_place, placed_row, valued_row, flagged_row}
+use Rattle.dd_words.proofs.ClapReads.{next_place, picked, has_pushed, settings_read, arguments_are}
 use Rattle.dd_words.proofs.GivenValues.{picked_from, picked_to, said, all_single}
 use Rattle.dd_words.proofs.PlainWords.{value_plain, argument_plain}
 use Rattle.dd_words.proofs.FormLemmas.{no_dash}
@@ -199,16 +200,56 @@ none_new (g ∷ gs) = (refl, none_new gs)
 first_there : (v : Verb) → IsPlace (rules_for v) 1
 first_there verb.Catalogue = record { by_index = refl; by_id = refl }
 first_there verb.Resume = record { by_index = refl; by_id = refl }
+first_there verb.Shard = record { by_index = refl; by_id = refl }
+first_there verb.ResumeShard = record { by_index = refl; by_id = refl }
 first_there verb.Draw = record { by_index = refl; by_id = refl }
 first_there verb.Exercise = record { by_index = refl; by_id = refl }
 first_there verb.Apply = record { by_index = refl; by_id = refl }
+first_there verb.Merge = record { by_index = refl; by_id = refl }
 first_there (verb.File kind) = record { by_index = refl; by_id = refl }
 
 second_there : IsPlace (rules_for verb.Exercise) 2
 second_there = record { by_index = refl; by_id = refl }
 
+shard_second : IsPlace (rules_for verb.Shard) 2
+shard_second = record { by_index = refl; by_id = refl }
+
+shard_third : IsPlace (rules_for verb.Shard) 3
+shard_third = record { by_index = refl; by_id = refl }
+
 applied_there : IsPlace (rules_for verb.Apply) 2
 applied_there = record { by_index = refl; by_id = refl }
+
+-- up to eight files find their places
+merge_there : (k : ℕ) → 1 ≤ k → k ≤ 8 → IsPlace (rules_for verb.Merge) k
+merge_there zero low high = absurd (omega arith)
+merge_there (suc zero) low high = record { by_index = refl; by_id = refl }
+merge_there (suc (suc zero)) low high = record { by_index = refl; by_id = refl }
+merge_there (suc (suc (suc zero))) low high = record { by_index = refl; by_id = refl }
+merge_there (suc (suc (suc (suc zero)))) low high = record { by_index = refl; by_id = refl }
+merge_there (suc (suc (suc (suc (suc zero))))) low high = record { by_index = refl; by_id = refl }
+merge_there (suc (suc (suc (suc (suc (suc zero)))))) low high = record { by_index = refl; by_id = refl }
+merge_there (suc (suc (suc (suc (suc (suc (suc zero))))))) low high = record { by_index = refl; by_id = refl }
+merge_there (suc (suc (suc (suc (suc (suc (suc (suc zero)))))))) low high = record { by_index = refl; by_id = refl }
+merge_there (suc (suc (suc (suc (suc (suc (suc (suc (suc k))))))))) low high = absurd (omega arith)
+
+-- no place from one on is taken
+abbrev AreFree : List Row → ℕ → Type 0
+AreFree rows k = (j : ℕ) → k ≤ j → j ≤ 8 → has_row (place_of j) rows ≡ false
+
+free_after : (rows : List Row) (k : ℕ) (w : Text) → 1 ≤ k → k ≤ 8 → AreFree rows k → AreFree (row_placed rows k w) (suc k)
+free_after rows k w low high free j from to =
+    ap (has_row (place_of j)) (placed_joins k w rows (free k (omega arith) high)) ∙ has_pushed (place_of j) rows (placed_row k w)
+    ∙ ap₂ (λ a b. a || b) (free j (omega arith) to) (places_apart k j low (omega arith) to)
+
+merge_places : (ws : List Text) (rows : List Row) (k : ℕ) → 1 ≤ k → length ws + k ≤ 9 → AreFree rows k → Placed (rules_for verb.Merge) rows k ws
+merge_places [] rows k low few free = tt
+merge_places (w ∷ ws) rows k low few free = (
+  merge_there k low (omega arith),
+  free k (omega arith) (omega arith),
+  subst (λ n. Placed (rules_for verb.Merge) (row_placed rows k w) n ws) (sym (next_place k (omega arith)))
+      (merge_places ws (row_placed rows k w) (suc k) (omega arith) (omega arith) (free_after rows k w low (omega arith) free)),
+)
 
 said_places : (d : Command) (xs : List Text) (gs : List Given) → IsSaid d xs gs → Placed (rules_for (verb_of d)) [] 1 xs
 said_places (command.Catalogue q workers round pause checkpoint) (n ∷ []) gs h = (first_there verb.Catalogue, refl, tt)
@@ -217,6 +258,14 @@ said_places (command.Catalogue q workers round pause checkpoint) (n ∷ m ∷ ns
 said_places (command.Resume name workers round pause) (n ∷ []) gs h = (first_there verb.Resume, refl, tt)
 said_places (command.Resume name workers round pause) [] gs h = tt
 said_places (command.Resume name workers round pause) (n ∷ m ∷ ns) gs h = elim h [ ]
+said_places (command.Shard shard q workers round pause checkpoint) (i ∷ m ∷ n ∷ []) gs h = (first_there verb.Shard, refl, (shard_second, refl, (shard_third, refl, tt)))
+said_places (command.Shard shard q workers round pause checkpoint) [] gs h = tt
+said_places (command.Shard shard q workers round pause checkpoint) (i ∷ []) gs h = elim h [ ]
+said_places (command.Shard shard q workers round pause checkpoint) (i ∷ m ∷ []) gs h = elim h [ ]
+said_places (command.Shard shard q workers round pause checkpoint) (i ∷ m ∷ n ∷ o ∷ ns) gs h = elim h [ ]
+said_places (command.ResumeShard name workers round pause) (n ∷ []) gs h = (first_there verb.ResumeShard, refl, tt)
+said_places (command.ResumeShard name workers round pause) [] gs h = tt
+said_places (command.ResumeShard name workers round pause) (n ∷ m ∷ ns) gs h = elim h [ ]
 said_places (command.Draw file frame) (n ∷ []) gs h = (first_there verb.Draw, refl, tt)
 said_places (command.Draw file frame) [] gs h = tt
 said_places (command.Draw file frame) (n ∷ m ∷ ns) gs h = elim h [ ]
@@ -228,6 +277,7 @@ said_places (command.Apply word file) (n ∷ m ∷ []) gs h = (first_there verb.
 said_places (command.Apply word file) [] gs h = tt
 said_places (command.Apply word file) (n ∷ []) gs h = elim h [ ]
 said_places (command.Apply word file) (n ∷ m ∷ o ∷ ns) gs h = elim h [ ]
+said_places (command.Merge files) xs gs h = merge_places xs [] 1 (omega arith) (let few = h.few in omega arith) (λ j from to. refl)
 said_places (command.File kind file) (n ∷ []) gs h = (first_there (verb.File kind), refl, tt)
 said_places (command.File kind file) [] gs h = tt
 said_places (command.File kind file) (n ∷ m ∷ ns) gs h = elim h [ ]

@@ -17,7 +17,8 @@ use Rattle.dd_words.specs.Layout.{Layout, nothing, ended, argument, flag, spaced
 use Rattle.dd_words.specs.SettingNames.{word_of, dashed, assigned, has_setting, has_value}
 use Rattle.dd_words.proofs.LongWords.{long_word_is, short_some, spelled}
 use Rattle.dd_words.proofs.ClapSteps.{shape_with, valued, flagged, placed, holding, standing, dash_dash, IsFree, free_word, free_bytes, fault_short, fault_long}
-use Rattle.dd_words.proofs.ClapWalks.{IsPlace, IsReader, place_of, place_after, row_placed, row_valued, row_flagged, Placed, Walks, end_of, free_moves, free_asks, late_moves, late_asks, dashes_move, long_moves, place_asked, value_moves}
+use Rattle.dd_words.proofs.PlaceNames.{place_of}
+use Rattle.dd_words.proofs.ClapWalks.{IsPlace, IsReader, place_after, row_placed, row_valued, row_flagged, Placed, Walks, end_of, free_moves, free_asks, late_moves, late_asks, dashes_move, long_moves, place_asked, value_moves}
 use Rattle.dd_words.proofs.SettingWords.{not_dashes_alone, not_dashes_tied, long_alone, long_tied}
 
 pub both : (a b : Kinds) → or_else a b ≡ [] → (a ≡ []) × (b ≡ [])

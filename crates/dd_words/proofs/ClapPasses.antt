@@ -11,7 +11,8 @@ use Rattle.dd_words.specs.Layout.{Layout, nothing, ended, argument, flag, spaced
 use Rattle.dd_words.specs.SettingNames.{word_of, dashed, assigned}
 use Rattle.dd_words.proofs.SettingWords.{not_dashes_alone, not_dashes_tied, long_alone, long_tied}
 use Rattle.dd_words.proofs.ClapSteps.{valued, flagged, holding, standing, IsFree}
-use Rattle.dd_words.proofs.ClapWalks.{IsReader, place_of, place_after, row_placed, row_valued, row_flagged, Placed, Walks, rows_placed, rows_from, Ends, Sound, ends_here, ends_after, sound_valued, sound_placed, use_valued, use_flagged, free_moves, free_asks, late_moves, late_asks, dashes_move, dashes_ask, long_moves, long_asks, place_asked, value_moves, value_asks}
+use Rattle.dd_words.proofs.PlaceNames.{place_of}
+use Rattle.dd_words.proofs.ClapWalks.{IsReader, place_after, row_placed, row_valued, row_flagged, Placed, Walks, rows_placed, rows_from, Ends, Sound, ends_here, ends_after, sound_valued, sound_placed, use_valued, use_flagged, free_moves, free_asks, late_moves, late_asks, dashes_move, dashes_ask, long_moves, long_asks, place_asked, value_moves, value_asks}
 
 module _ (v : Verb) (c : List Rule) (r : IsReader v c) where
   sound_after_valued : (held rows : List Row) (pending : Option (Text × List Text)) (s : Setting) (x : Text) → Sound c held pending rows

@@ -1,5 +1,5 @@
 -- What is read of the matches is what the layout has.
-use Rattle.std.proofs.Common.{◌≡◌, ◌∙◌, ◌||◌, ◌⊎◌, ◌++◌, ◌+◌, ◌≤◌, ℕ, suc, zero, Bool, true, false, cond, codes, List, [], ◌∷◌, Option, Some, None, length, refl, sym, ap, ap₂, subst, inl, inr, bytes_eq, arith}
+use Rattle.std.proofs.Common.{◌≡◌, ◌∙◌, ◌||◌, ◌⊎◌, ◌++◌, ◌+◌, ◌≤◌, ℕ, suc, zero, Bool, true, false, cond, codes, List, [], ◌∷◌, Option, Some, None, length, refl, sym, ap, subst, inl, inr, bytes_eq, arith}
 use Rattle.std.specs.Prelude.{if◌then◌else◌, fold, slice_get, option_and_then}
 use Rattle.std.specs.List.{AllByRecursion}
 use Rattle.std.proofs.lemmas.Slice.Eq.{bytes_eq-Decides}
@@ -13,10 +13,10 @@ use Rattle.dd_words.specs.Values.{Text}
 use Rattle.dd_words.specs.Layout.{Layout, nothing, ended, argument, flag, spaced, tied, arguments_of, settings_of}
 use Rattle.dd_words.specs.Given.{Given}
 use Rattle.dd_words.specs.SettingNames.{word_of, has_value}
-use Rattle.dd_words.specs.Apps.{first_place, second_place}
 use Rattle.dd_words.specs.Matching.{IsValueRead, given_by, AreRead, listed, arguments_read}
 use Rattle.dd_words.proofs.ClapSteps.{flagged}
-use Rattle.dd_words.proofs.ClapWalks.{IsQuiet, IsReader, place_of, place_after, row_placed, row_valued, row_flagged, Placed, Walks}
+use Rattle.dd_words.proofs.PlaceNames.{place_of, places_apart}
+use Rattle.dd_words.proofs.ClapWalks.{IsQuiet, IsReader, place_after, row_placed, row_valued, row_flagged, Placed, Walks}
 use Rattle.dd_words.proofs.ClapRows.{at_missing, list_of, list_placed, placed_row, valued_row, flagged_row, same_word, value_in, flag_text, first_is, one_is, is_no_place, first_of_cons, one_of_cons, first_passes, apart, same_word_sym}
 
 -- ---- the rows with defaults
@@ -146,38 +146,51 @@ empty_flag v c (tied s y l) rows k t f w x e =
 placed_here : (id : Text) (k : ℕ) (w : Text) (rows : List Row) → place_of k ≡ id → first_of id (placed_row k w ∷ rows) ≡ Some w
 placed_here id k w rows e = first_of_cons id (placed_row k w) rows ∙ ap (λ b. cond b (Some w) (first_of id rows)) ((bytes_eq-Decides (place_of k) id).1 e)
 
-head_at : (id : Text) → ((s : Setting) → bytes_eq (word_of s) id ≡ false) → (l : Layout) (k : ℕ) → place_of k ≡ id → first_of id (list_of k l) ≡ slice_get (arguments_of l) 0
-head_at id apart nothing k e = refl
-head_at id apart (ended []) k e = refl
-head_at id apart (ended (w ∷ ws)) k e = placed_here id k w (list_placed (place_after k) ws) e
-head_at id apart (argument w l) k e = placed_here id k w (list_of (place_after k) l) e
-head_at id apart (flag s l) k e = first_passes id (flagged_row s) (list_of k l) _ (apart s) (head_at id apart l k e)
-head_at id apart (spaced s x l) k e = first_passes id (valued_row s x) (list_of k l) _ (apart s) (head_at id apart l k e)
-head_at id apart (tied s x l) k e = first_passes id (valued_row s x) (list_of k l) _ (apart s) (head_at id apart l k e)
-
-second_at : (l : Layout) → first_of second_place (list_of 1 l) ≡ slice_get (arguments_of l) 1
-second_at nothing = refl
-second_at (ended []) = refl
-second_at (ended (w ∷ [])) = refl
-second_at (ended (w ∷ x ∷ ws)) = refl
-second_at (argument w l) = first_passes second_place (placed_row 1 w) (list_of (place_after 1) l) _ refl (head_at second_place (is_no_place 2) l (place_after 1) refl)
-second_at (flag s l) = first_passes second_place (flagged_row s) (list_of 1 l) _ (is_no_place 2 s) (second_at l)
-second_at (spaced s x l) = first_passes second_place (valued_row s x) (list_of 1 l) _ (is_no_place 2 s) (second_at l)
-second_at (tied s x l) = first_passes second_place (valued_row s x) (list_of 1 l) _ (is_no_place 2 s) (second_at l)
-
-listed_all : (xs : List Text) → length xs + 1 ≤ 3 → listed (slice_get xs 0) ++ listed (slice_get xs 1) ≡ xs
-listed_all [] h = refl
-listed_all (x ∷ []) h = refl
-listed_all (x ∷ y ∷ []) h = refl
-listed_all (x ∷ y ∷ z ∷ xs) h = absurd (omega arith)
-
-next_place : (k : ℕ) → k ≤ 2 → place_after k ≡ k + 1
+-- after an argument the next one has the next place
+pub next_place : (k : ℕ) → k ≤ 8 → place_after k ≡ suc k
 next_place zero h = refl
 next_place (suc zero) h = refl
 next_place (suc (suc zero)) h = refl
-next_place (suc (suc (suc k))) h = absurd (omega arith)
+next_place (suc (suc (suc zero))) h = refl
+next_place (suc (suc (suc (suc zero)))) h = refl
+next_place (suc (suc (suc (suc (suc zero))))) h = refl
+next_place (suc (suc (suc (suc (suc (suc zero)))))) h = refl
+next_place (suc (suc (suc (suc (suc (suc (suc zero))))))) h = refl
+next_place (suc (suc (suc (suc (suc (suc (suc (suc zero)))))))) h = refl
+next_place (suc (suc (suc (suc (suc (suc (suc (suc (suc k))))))))) h = absurd (omega arith)
 
-few_placed : (v : Verb) (c : List Rule) → IsReader v c → (ws : List Text) (rows : List Row) (k : ℕ) → k ≤ 3 → Placed c rows k ws → length ws + k ≤ 3
+-- the argument at a place of the words after two dashes, and of a layout
+placed_at : (ws : List Text) (k i n : ℕ) → 1 ≤ k → n ≡ k + i → n ≤ 8 → first_of (place_of n) (list_placed k ws) ≡ slice_get ws i
+placed_at [] k i n low e few = refl
+placed_at (w ∷ ws) k zero n low e few = placed_here (place_of n) k w (list_placed (place_after k) ws) (ap place_of (omega arith))
+placed_at (w ∷ ws) k (suc i) n low e few =
+    first_passes (place_of n) (placed_row k w) (list_placed (place_after k) ws) _ (places_apart k n low (omega arith) few)
+    (ap (λ j. first_of (place_of n) (list_placed j ws)) (next_place k (omega arith)) ∙ placed_at ws (suc k) i n (omega arith) (omega arith) few)
+
+argument_at : (l : Layout) (k i n : ℕ) → 1 ≤ k → n ≡ k + i → n ≤ 8 → first_of (place_of n) (list_of k l) ≡ slice_get (arguments_of l) i
+argument_at nothing k i n low e few = refl
+argument_at (ended ws) k i n low e few = placed_at ws k i n low e few
+argument_at (argument w l) k zero n low e few = placed_here (place_of n) k w (list_of (place_after k) l) (ap place_of (omega arith))
+argument_at (argument w l) k (suc i) n low e few =
+    first_passes (place_of n) (placed_row k w) (list_of (place_after k) l) _ (places_apart k n low (omega arith) few)
+    (ap (λ j. first_of (place_of n) (list_of j l)) (next_place k (omega arith)) ∙ argument_at l (suc k) i n (omega arith) (omega arith) few)
+argument_at (flag s l) k i n low e few = first_passes (place_of n) (flagged_row s) (list_of k l) _ (is_no_place n s) (argument_at l k i n low e few)
+argument_at (spaced s x l) k i n low e few = first_passes (place_of n) (valued_row s x) (list_of k l) _ (is_no_place n s) (argument_at l k i n low e few)
+argument_at (tied s x l) k i n low e few = first_passes (place_of n) (valued_row s x) (list_of k l) _ (is_no_place n s) (argument_at l k i n low e few)
+
+listed_all : (xs : List Text) → length xs + 1 ≤ 9 → listed (slice_get xs 0) ++ (listed (slice_get xs 1) ++ (listed (slice_get xs 2) ++ (listed (slice_get xs 3) ++ (listed (slice_get xs 4) ++ (listed (slice_get xs 5) ++ (listed (slice_get xs 6) ++ (listed (slice_get xs 7) ++ []))))))) ≡ xs
+listed_all [] h = refl
+listed_all (x0 ∷ []) h = refl
+listed_all (x0 ∷ x1 ∷ []) h = refl
+listed_all (x0 ∷ x1 ∷ x2 ∷ []) h = refl
+listed_all (x0 ∷ x1 ∷ x2 ∷ x3 ∷ []) h = refl
+listed_all (x0 ∷ x1 ∷ x2 ∷ x3 ∷ x4 ∷ []) h = refl
+listed_all (x0 ∷ x1 ∷ x2 ∷ x3 ∷ x4 ∷ x5 ∷ []) h = refl
+listed_all (x0 ∷ x1 ∷ x2 ∷ x3 ∷ x4 ∷ x5 ∷ x6 ∷ []) h = refl
+listed_all (x0 ∷ x1 ∷ x2 ∷ x3 ∷ x4 ∷ x5 ∷ x6 ∷ x7 ∷ []) h = refl
+listed_all (x0 ∷ x1 ∷ x2 ∷ x3 ∷ x4 ∷ x5 ∷ x6 ∷ x7 ∷ x8 ∷ xs) h = absurd (omega arith)
+
+few_placed : (v : Verb) (c : List Rule) → IsReader v c → (ws : List Text) (rows : List Row) (k : ℕ) → k ≤ 9 → Placed c rows k ws → length ws + k ≤ 9
 few_placed v c r [] rows k h p = omega arith
 few_placed v c r (w ∷ ws) rows k h p =
     let low = r.few k p.0 in
@@ -185,7 +198,7 @@ few_placed v c r (w ∷ ws) rows k h p =
     let more = few_placed v c r ws (row_placed rows k w) (place_after k) (omega arith) p.2 in
     omega arith
 
-few_arguments : (v : Verb) (c : List Rule) → IsReader v c → (l : Layout) (rows : List Row) (k : ℕ) → k ≤ 3 → Walks v c rows k l → length (arguments_of l) + k ≤ 3
+few_arguments : (v : Verb) (c : List Rule) → IsReader v c → (l : Layout) (rows : List Row) (k : ℕ) → k ≤ 9 → Walks v c rows k l → length (arguments_of l) + k ≤ 9
 few_arguments v c r nothing rows k h p = omega arith
 few_arguments v c r (ended ws) rows k h p = few_placed v c r ws rows k h p
 few_arguments v c r (argument w l) rows k h p =
@@ -245,7 +258,18 @@ module _ (v : Verb) (c : List Rule) (r : IsReader v c) (l : Layout) (w : Walks v
   settings_read (s ∷ ss) given h =
       h.given_are ∙ ap (λ o. given_by s o ++ h.others) (value_read s h.value h.is_read) ∙ ap (λ gs. given_by s (value_in (settings_of l) s) ++ gs) (settings_read ss h.others h.more)
 
+  place_is : (i n : ℕ) → n ≡ 1 + i → n ≤ 8 → bytes_eq (codes "minimal") (place_of n) ≡ false → first_of (place_of n) last ≡ slice_get (arguments_of l) i
+  place_is i n e few apart = place_read n apart ∙ argument_at l 1 i n (omega arith) e few
+
   pub arguments_are : arguments_read last ≡ arguments_of l
   arguments_are =
-      ap₂ (λ a b. listed a ++ listed b) (place_read 1 refl ∙ head_at first_place (is_no_place 1) l 1 refl) (place_read 2 refl ∙ second_at l)
+      let e0 = place_is 0 1 (omega arith) (omega arith) refl in
+      let e1 = place_is 1 2 (omega arith) (omega arith) refl in
+      let e2 = place_is 2 3 (omega arith) (omega arith) refl in
+      let e3 = place_is 3 4 (omega arith) (omega arith) refl in
+      let e4 = place_is 4 5 (omega arith) (omega arith) refl in
+      let e5 = place_is 5 6 (omega arith) (omega arith) refl in
+      let e6 = place_is 6 7 (omega arith) (omega arith) refl in
+      let e7 = place_is 7 8 (omega arith) (omega arith) refl in
+      (λ i. listed (e0 i) ++ (listed (e1 i) ++ (listed (e2 i) ++ (listed (e3 i) ++ (listed (e4 i) ++ (listed (e5 i) ++ (listed (e6 i) ++ (listed (e7 i) ++ []))))))))
       ∙ listed_all (arguments_of l) (few_arguments v c r l [] 1 (omega arith) w)

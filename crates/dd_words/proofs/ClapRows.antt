@@ -1,5 +1,5 @@
 -- The rows of a layout, and what is read of them.
-use Rattle.std.proofs.Common.{◌≡◌, ◌∙◌, ◌||◌, ◌++◌, ℕ, suc, zero, Bool, true, false, cond, codes, List, [], ◌∷◌, Option, Some, None, option_map, refl, sym, ap, bytes_eq, append_assoc}
+use Rattle.std.proofs.Common.{◌≡◌, ◌∙◌, ◌||◌, ◌++◌, ℕ, Bool, true, false, cond, codes, List, [], ◌∷◌, Option, Some, None, option_map, refl, sym, ap, bytes_eq, append_assoc}
 use Rattle.std.specs.Prelude.{if◌then◌else◌, find, slice_get, option_and_then}
 use Rattle.std.proofs.lemmas.List.{append-nil}
 use Rattle.std.proofs.lemmas.Slice.Eq.{bytes_eq-Decides}
@@ -7,16 +7,15 @@ use Rattle.clap.specs.Words.{Rule, Row}
 use Rattle.clap.specs.Walk.{has_row, at_row, without, more_values, first_of, one_of, row_text, reading_by}
 use Rattle.clap.specs.declared.parser.matches.ValueSource.TheVariants.{CommandLine}
 use Rattle.dd_words.specs.declared.settings.Setting.{Setting}
-use Rattle.dd_words.specs.declared.settings.Setting.TheVariants.{Tiles, Vertices, LeastFace, LeastDegree, Faces, Degrees, Minimal, Workers, Round, Pause, Checkpoint, Cell}
 use Rattle.dd_words.specs.declared.verbs.Verb.{Verb}
 use Rattle.dd_words.specs.Values.{Text}
 use Rattle.dd_words.specs.Layout.{Layout, nothing, ended, argument, flag, spaced, tied, settings_of}
 use Rattle.dd_words.specs.Given.{Given}
 use Rattle.dd_words.specs.SettingNames.{word_of, has_value}
-use Rattle.dd_words.specs.Apps.{first_place, second_place}
 use Rattle.dd_words.proofs.Told.{same_setting}
 use Rattle.dd_words.proofs.ClapSteps.{valued, flagged, placed}
-use Rattle.dd_words.proofs.ClapWalks.{place_of, place_after, row_placed, row_valued, row_flagged, Placed, Walks, rows_placed, rows_from}
+use Rattle.dd_words.proofs.PlaceNames.{place_of, no_place_is}
+use Rattle.dd_words.proofs.ClapWalks.{place_after, row_placed, row_valued, row_flagged, Placed, Walks, rows_placed, rows_from}
 
 -- ---- an id that no row has
 
@@ -92,39 +91,6 @@ rows_are v c (tied s x l) rows k p =
 
 abbrev pub same_word : Setting → Setting → Bool
 same_word s t = bytes_eq (word_of s) (word_of t)
-
-not_first : (s : Setting) → bytes_eq first_place (word_of s) ≡ false
-not_first Tiles = refl
-not_first Vertices = refl
-not_first LeastFace = refl
-not_first LeastDegree = refl
-not_first Faces = refl
-not_first Degrees = refl
-not_first Minimal = refl
-not_first Workers = refl
-not_first Round = refl
-not_first Pause = refl
-not_first Checkpoint = refl
-not_first Cell = refl
-
-not_second : (s : Setting) → bytes_eq second_place (word_of s) ≡ false
-not_second Tiles = refl
-not_second Vertices = refl
-not_second LeastFace = refl
-not_second LeastDegree = refl
-not_second Faces = refl
-not_second Degrees = refl
-not_second Minimal = refl
-not_second Workers = refl
-not_second Round = refl
-not_second Pause = refl
-not_second Checkpoint = refl
-not_second Cell = refl
-
-pub no_place_is : (k : ℕ) (s : Setting) → bytes_eq (place_of k) (word_of s) ≡ false
-no_place_is zero s = not_second s
-no_place_is (suc zero) s = not_first s
-no_place_is (suc (suc k)) s = not_second s
 
 -- two texts that are not equal
 apart_sym : (xs ys : Text) → bytes_eq xs ys ≡ false → bytes_eq ys xs ≡ false

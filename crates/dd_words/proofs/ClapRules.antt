@@ -1,5 +1,5 @@
 -- The rules that clap has of each verb.
-use Rattle.std.proofs.Common.{◌≡◌, ◌∙◌, ◌⊎◌, ◌||◌, ◌≤◌, ℕ, suc, zero, Bool, true, false, cond, List, [], ◌∷◌, map, Some, None, refl, sym, ap, arith, inl, inr, bytes_eq}
+use Rattle.std.proofs.Common.{◌≡◌, ◌∙◌, ◌⊎◌, ◌||◌, ◌<◌, ◌≤◌, ℕ, suc, zero, Bool, true, false, cond, List, [], ◌∷◌, map, Some, None, refl, sym, ap, arith, inl, inr, bytes_eq}
 use Rattle.std.specs.Prelude.{◌==◌}
 use Rattle.std.specs.Option.{option_map_or}
 use Rattle.std.proofs.lemmas.Bool.Decides.{nat_tests}
@@ -18,7 +18,9 @@ use Rattle.dd_words.specs.declared.verbs.Verb.TheVariants as verb
 use Rattle.dd_words.specs.Values.{Text}
 use Rattle.dd_words.specs.Layout.{IsFlagOf, IsValuedOf}
 use Rattle.dd_words.specs.SettingNames.{word_of, has_setting}
-use Rattle.dd_words.specs.Apps.{app_for, setting_rule, first_place, second_place}
+use Rattle.dd_words.specs.declared.places.Place.TheVariants.{First, Second, Third, Fourth, Fifth, Sixth, Seventh, Eighth}
+use Rattle.dd_words.specs.Places.{name_of}
+use Rattle.dd_words.specs.Apps.{app_for, setting_rule}
 use Rattle.dd_words.proofs.ClapSteps.{shape_with, valued, flagged, placed}
 use Rattle.dd_words.proofs.ClapWalks.{IsPlace, IsReader}
 
@@ -29,27 +31,36 @@ rules_for v = (built (app_for v)).top.rules
 pub built_for : (v : Verb) → built (app_for v) ≡ record { top = shape_with (rules_for v); subs = [] }
 built_for verb.Catalogue = refl
 built_for verb.Resume = refl
+built_for verb.Shard = refl
+built_for verb.ResumeShard = refl
 built_for verb.Draw = refl
 built_for verb.Exercise = refl
 built_for verb.Apply = refl
+built_for verb.Merge = refl
 built_for (verb.File kind) = refl
 
 pub simple_for : (v : Verb) → is_simple_and_free (app_for v) ≡ true
 unfolding clap_on_literals
 simple_for verb.Catalogue = refl
 simple_for verb.Resume = refl
+simple_for verb.Shard = refl
+simple_for verb.ResumeShard = refl
 simple_for verb.Draw = refl
 simple_for verb.Exercise = refl
 simple_for verb.Apply = refl
+simple_for verb.Merge = refl
 simple_for (verb.File kind) = refl
 
 pub plain_for : (v : Verb) → is_simple (app_for v) ≡ true
 unfolding clap_on_literals
 plain_for verb.Catalogue = refl
 plain_for verb.Resume = refl
+plain_for verb.Shard = refl
+plain_for verb.ResumeShard = refl
 plain_for verb.Draw = refl
 plain_for verb.Exercise = refl
 plain_for verb.Apply = refl
+plain_for verb.Merge = refl
 plain_for (verb.File kind) = refl
 
 -- no rule stands at a place that is none of its own
@@ -126,14 +137,14 @@ catalogue_flagged_long Checkpoint h = let bad = h.flag in absurd (cc)
 catalogue_flagged_long Cell h = let bad = h.owned in absurd (cc)
 
 catalogue_past : (k : ℕ) → arg_by_index (rules_for verb.Catalogue) (suc (suc k)) ≡ None
-catalogue_past k = not_at (placed first_place 1) (rules_of (Tiles ∷ Vertices ∷ LeastFace ∷ LeastDegree ∷ Faces ∷ Degrees ∷ Minimal ∷ Workers ∷ Round ∷ Pause ∷ Checkpoint ∷ [])) (suc (suc k)) 1 refl (past_one k) refl
+catalogue_past k = not_at (placed (name_of First) 1) (rules_of (Tiles ∷ Vertices ∷ LeastFace ∷ LeastDegree ∷ Faces ∷ Degrees ∷ Minimal ∷ Workers ∷ Round ∷ Pause ∷ Checkpoint ∷ [])) (suc (suc k)) 1 refl (past_one k) refl
 
 catalogue_places : (k : ℕ) → (arg_by_index (rules_for verb.Catalogue) k ≡ None) ⊎ IsPlace (rules_for verb.Catalogue) k
 catalogue_places zero = inl refl
 catalogue_places (suc zero) = inr (record { by_index = refl; by_id = refl })
 catalogue_places (suc (suc k)) = inl (catalogue_past k)
 
-catalogue_few : (k : ℕ) → IsPlace (rules_for verb.Catalogue) k → k ≤ 2
+catalogue_few : (k : ℕ) → IsPlace (rules_for verb.Catalogue) k → k ≤ 8
 catalogue_few zero p = omega arith
 catalogue_few (suc zero) p = omega arith
 catalogue_few (suc (suc k)) p = absurd (none_is_some _ (sym (catalogue_past k) ∙ p.by_index))
@@ -194,14 +205,14 @@ resume_flagged_long Checkpoint h = let bad = h.owned in absurd (cc)
 resume_flagged_long Cell h = let bad = h.owned in absurd (cc)
 
 resume_past : (k : ℕ) → arg_by_index (rules_for verb.Resume) (suc (suc k)) ≡ None
-resume_past k = not_at (placed first_place 1) (rules_of (Workers ∷ Round ∷ Pause ∷ [])) (suc (suc k)) 1 refl (past_one k) refl
+resume_past k = not_at (placed (name_of First) 1) (rules_of (Workers ∷ Round ∷ Pause ∷ [])) (suc (suc k)) 1 refl (past_one k) refl
 
 resume_places : (k : ℕ) → (arg_by_index (rules_for verb.Resume) k ≡ None) ⊎ IsPlace (rules_for verb.Resume) k
 resume_places zero = inl refl
 resume_places (suc zero) = inr (record { by_index = refl; by_id = refl })
 resume_places (suc (suc k)) = inl (resume_past k)
 
-resume_few : (k : ℕ) → IsPlace (rules_for verb.Resume) k → k ≤ 2
+resume_few : (k : ℕ) → IsPlace (rules_for verb.Resume) k → k ≤ 8
 resume_few zero p = omega arith
 resume_few (suc zero) p = omega arith
 resume_few (suc (suc k)) p = absurd (none_is_some _ (sym (resume_past k) ∙ p.by_index))
@@ -262,14 +273,14 @@ draw_flagged_long Checkpoint h = let bad = h.owned in absurd (cc)
 draw_flagged_long Cell h = let bad = h.flag in absurd (cc)
 
 draw_past : (k : ℕ) → arg_by_index (rules_for verb.Draw) (suc (suc k)) ≡ None
-draw_past k = not_at (placed first_place 1) (rules_of (Cell ∷ [])) (suc (suc k)) 1 refl (past_one k) refl
+draw_past k = not_at (placed (name_of First) 1) (rules_of (Cell ∷ [])) (suc (suc k)) 1 refl (past_one k) refl
 
 draw_places : (k : ℕ) → (arg_by_index (rules_for verb.Draw) k ≡ None) ⊎ IsPlace (rules_for verb.Draw) k
 draw_places zero = inl refl
 draw_places (suc zero) = inr (record { by_index = refl; by_id = refl })
 draw_places (suc (suc k)) = inl (draw_past k)
 
-draw_few : (k : ℕ) → IsPlace (rules_for verb.Draw) k → k ≤ 2
+draw_few : (k : ℕ) → IsPlace (rules_for verb.Draw) k → k ≤ 8
 draw_few zero p = omega arith
 draw_few (suc zero) p = omega arith
 draw_few (suc (suc k)) p = absurd (none_is_some _ (sym (draw_past k) ∙ p.by_index))
@@ -295,7 +306,7 @@ bare_flagged : {A : Type 0} (v : Verb) (s : Setting) → has_setting v s ≡ fal
 bare_flagged v s none h = let own = h.owned in absurd (cc)
 
 exercise_past : (k : ℕ) → arg_by_index (rules_for verb.Exercise) (suc (suc (suc k))) ≡ None
-exercise_past k = not_at (placed first_place 1) (placed second_place 2 ∷ []) (suc (suc (suc k))) 1 refl (past_both k) (not_at (placed second_place 2) [] (suc (suc (suc k))) 2 refl (past_two k) refl)
+exercise_past k = not_at (placed (name_of First) 1) (placed (name_of Second) 2 ∷ []) (suc (suc (suc k))) 1 refl (past_both k) (not_at (placed (name_of Second) 2) [] (suc (suc (suc k))) 2 refl (past_two k) refl)
 
 exercise_places : (k : ℕ) → (arg_by_index (rules_for verb.Exercise) k ≡ None) ⊎ IsPlace (rules_for verb.Exercise) k
 exercise_places zero = inl refl
@@ -303,7 +314,7 @@ exercise_places (suc zero) = inr (record { by_index = refl; by_id = refl })
 exercise_places (suc (suc zero)) = inr (record { by_index = refl; by_id = refl })
 exercise_places (suc (suc (suc k))) = inl (exercise_past k)
 
-exercise_few : (k : ℕ) → IsPlace (rules_for verb.Exercise) k → k ≤ 2
+exercise_few : (k : ℕ) → IsPlace (rules_for verb.Exercise) k → k ≤ 8
 exercise_few zero p = omega arith
 exercise_few (suc zero) p = omega arith
 exercise_few (suc (suc zero)) p = omega arith
@@ -336,15 +347,132 @@ apply_reader = record {
   checks = λ rows. refl;
 }
 
+past : (j k : ℕ) → j < k → (j == k) ≡ false
+past j k less = grind (arith, nat_tests)
+
+merge_past : (k : ℕ) → arg_by_index (rules_for verb.Merge) (suc (suc (suc (suc (suc (suc (suc (suc (suc k))))))))) ≡ None
+merge_past k = not_at (placed (name_of First) 1) (placed (name_of Second) 2 ∷ placed (name_of Third) 3 ∷ placed (name_of Fourth) 4 ∷ placed (name_of Fifth) 5 ∷ placed (name_of Sixth) 6 ∷ placed (name_of Seventh) 7 ∷ placed (name_of Eighth) 8 ∷ []) (suc (suc (suc (suc (suc (suc (suc (suc (suc k))))))))) 1 refl (past 1 (suc (suc (suc (suc (suc (suc (suc (suc (suc k))))))))) (omega arith)) (not_at (placed (name_of Second) 2) (placed (name_of Third) 3 ∷ placed (name_of Fourth) 4 ∷ placed (name_of Fifth) 5 ∷ placed (name_of Sixth) 6 ∷ placed (name_of Seventh) 7 ∷ placed (name_of Eighth) 8 ∷ []) (suc (suc (suc (suc (suc (suc (suc (suc (suc k))))))))) 2 refl (past 2 (suc (suc (suc (suc (suc (suc (suc (suc (suc k))))))))) (omega arith)) (not_at (placed (name_of Third) 3) (placed (name_of Fourth) 4 ∷ placed (name_of Fifth) 5 ∷ placed (name_of Sixth) 6 ∷ placed (name_of Seventh) 7 ∷ placed (name_of Eighth) 8 ∷ []) (suc (suc (suc (suc (suc (suc (suc (suc (suc k))))))))) 3 refl (past 3 (suc (suc (suc (suc (suc (suc (suc (suc (suc k))))))))) (omega arith)) (not_at (placed (name_of Fourth) 4) (placed (name_of Fifth) 5 ∷ placed (name_of Sixth) 6 ∷ placed (name_of Seventh) 7 ∷ placed (name_of Eighth) 8 ∷ []) (suc (suc (suc (suc (suc (suc (suc (suc (suc k))))))))) 4 refl (past 4 (suc (suc (suc (suc (suc (suc (suc (suc (suc k))))))))) (omega arith)) (not_at (placed (name_of Fifth) 5) (placed (name_of Sixth) 6 ∷ placed (name_of Seventh) 7 ∷ placed (name_of Eighth) 8 ∷ []) (suc (suc (suc (suc (suc (suc (suc (suc (suc k))))))))) 5 refl (past 5 (suc (suc (suc (suc (suc (suc (suc (suc (suc k))))))))) (omega arith)) (not_at (placed (name_of Sixth) 6) (placed (name_of Seventh) 7 ∷ placed (name_of Eighth) 8 ∷ []) (suc (suc (suc (suc (suc (suc (suc (suc (suc k))))))))) 6 refl (past 6 (suc (suc (suc (suc (suc (suc (suc (suc (suc k))))))))) (omega arith)) (not_at (placed (name_of Seventh) 7) (placed (name_of Eighth) 8 ∷ []) (suc (suc (suc (suc (suc (suc (suc (suc (suc k))))))))) 7 refl (past 7 (suc (suc (suc (suc (suc (suc (suc (suc (suc k))))))))) (omega arith)) (not_at (placed (name_of Eighth) 8) ([]) (suc (suc (suc (suc (suc (suc (suc (suc (suc k))))))))) 8 refl (past 8 (suc (suc (suc (suc (suc (suc (suc (suc (suc k))))))))) (omega arith)) (refl))))))))
+
+merge_places : (k : ℕ) → (arg_by_index (rules_for verb.Merge) k ≡ None) ⊎ IsPlace (rules_for verb.Merge) k
+merge_places zero = inl refl
+merge_places (suc zero) = inr (record { by_index = refl; by_id = refl })
+merge_places (suc (suc zero)) = inr (record { by_index = refl; by_id = refl })
+merge_places (suc (suc (suc zero))) = inr (record { by_index = refl; by_id = refl })
+merge_places (suc (suc (suc (suc zero)))) = inr (record { by_index = refl; by_id = refl })
+merge_places (suc (suc (suc (suc (suc zero))))) = inr (record { by_index = refl; by_id = refl })
+merge_places (suc (suc (suc (suc (suc (suc zero)))))) = inr (record { by_index = refl; by_id = refl })
+merge_places (suc (suc (suc (suc (suc (suc (suc zero))))))) = inr (record { by_index = refl; by_id = refl })
+merge_places (suc (suc (suc (suc (suc (suc (suc (suc zero)))))))) = inr (record { by_index = refl; by_id = refl })
+merge_places (suc (suc (suc (suc (suc (suc (suc (suc (suc k))))))))) = inl (merge_past k)
+
+merge_few : (k : ℕ) → IsPlace (rules_for verb.Merge) k → k ≤ 8
+merge_few zero p = omega arith
+merge_few (suc zero) p = omega arith
+merge_few (suc (suc zero)) p = omega arith
+merge_few (suc (suc (suc zero))) p = omega arith
+merge_few (suc (suc (suc (suc zero)))) p = omega arith
+merge_few (suc (suc (suc (suc (suc zero))))) p = omega arith
+merge_few (suc (suc (suc (suc (suc (suc zero)))))) p = omega arith
+merge_few (suc (suc (suc (suc (suc (suc (suc zero))))))) p = omega arith
+merge_few (suc (suc (suc (suc (suc (suc (suc (suc zero)))))))) p = omega arith
+merge_few (suc (suc (suc (suc (suc (suc (suc (suc (suc k))))))))) p = absurd (none_is_some _ (sym (merge_past k) ∙ p.by_index))
+
+merge_reader : IsReader verb.Merge (rules_for verb.Merge)
+merge_reader = record {
+  valued_long = λ s. bare_valued verb.Merge s refl;
+  valued_id = λ s. bare_valued verb.Merge s refl;
+  flagged_long = λ s. bare_flagged verb.Merge s refl;
+  known = λ name. named_in verb.Merge name ([]) tt;
+  no_short = λ x. refl;
+  places = merge_places;
+  few = merge_few;
+  quiet = (inl refl, (inl refl, (inl refl, (inl refl, (inl refl, (inl refl, (inl refl, (inl refl, tt))))))));
+  checks = λ rows. refl;
+}
+
+-- ## Shards
+
+of_catalogue_valued : (s : Setting) → IsValuedOf verb.Shard s → IsValuedOf verb.Catalogue s
+of_catalogue_valued s h = record { owned = h.owned; valued = h.valued }
+
+of_catalogue_flag : (s : Setting) → IsFlagOf verb.Shard s → IsFlagOf verb.Catalogue s
+of_catalogue_flag s h = record { owned = h.owned; flag = h.flag }
+
+shard_valued_id : (s : Setting) → IsValuedOf verb.Shard s → arg_by_id (rules_for verb.Shard) (word_of s) ≡ Some (valued (word_of s))
+shard_valued_id Tiles h = refl
+shard_valued_id Vertices h = refl
+shard_valued_id LeastFace h = refl
+shard_valued_id LeastDegree h = refl
+shard_valued_id Faces h = refl
+shard_valued_id Degrees h = refl
+shard_valued_id Minimal h = let bad = h.valued in absurd (cc)
+shard_valued_id Workers h = refl
+shard_valued_id Round h = refl
+shard_valued_id Pause h = refl
+shard_valued_id Checkpoint h = refl
+shard_valued_id Cell h = let bad = h.owned in absurd (cc)
+
+-- a shard has three arguments, and the settings of a catalogue
+abbrev shard_settings : List Setting
+shard_settings = Tiles ∷ Vertices ∷ LeastFace ∷ LeastDegree ∷ Faces ∷ Degrees ∷ Minimal ∷ Workers ∷ Round ∷ Pause ∷ Checkpoint ∷ []
+
+shard_past : (k : ℕ) → arg_by_index (rules_for verb.Shard) (suc (suc (suc (suc k)))) ≡ None
+shard_past k =
+    let n = suc (suc (suc (suc k))) in
+    not_at (placed (name_of First) 1) (placed (name_of Second) 2 ∷ placed (name_of Third) 3 ∷ rules_of shard_settings) n 1 refl (past 1 n (omega arith))
+    (not_at (placed (name_of Second) 2) (placed (name_of Third) 3 ∷ rules_of shard_settings) n 2 refl (past 2 n (omega arith))
+    (not_at (placed (name_of Third) 3) (rules_of shard_settings) n 3 refl (past 3 n (omega arith)) refl))
+
+shard_places : (k : ℕ) → (arg_by_index (rules_for verb.Shard) k ≡ None) ⊎ IsPlace (rules_for verb.Shard) k
+shard_places zero = inl refl
+shard_places (suc zero) = inr (record { by_index = refl; by_id = refl })
+shard_places (suc (suc zero)) = inr (record { by_index = refl; by_id = refl })
+shard_places (suc (suc (suc zero))) = inr (record { by_index = refl; by_id = refl })
+shard_places (suc (suc (suc (suc k)))) = inl (shard_past k)
+
+shard_few : (k : ℕ) → IsPlace (rules_for verb.Shard) k → k ≤ 8
+shard_few zero p = omega arith
+shard_few (suc zero) p = omega arith
+shard_few (suc (suc zero)) p = omega arith
+shard_few (suc (suc (suc zero))) p = omega arith
+shard_few (suc (suc (suc (suc k)))) p = absurd (none_is_some _ (sym (shard_past k) ∙ p.by_index))
+
+shard_reader : IsReader verb.Shard (rules_for verb.Shard)
+shard_reader = record {
+  valued_long = λ s h. catalogue_valued_long s (of_catalogue_valued s h);
+  valued_id = shard_valued_id;
+  flagged_long = λ s h. catalogue_flagged_long s (of_catalogue_flag s h);
+  known = λ name. named_in verb.Shard name shard_settings (refl, (refl, (refl, (refl, (refl, (refl, (refl, (refl, (refl, (refl, (refl, tt)))))))))));
+  no_short = λ x. refl;
+  places = shard_places;
+  few = shard_few;
+  quiet = (inl refl, (inl refl, (inl refl, (inl refl, (inl refl, (inl refl, (inl refl, (inl refl, (inl refl, (inr refl, (inl refl, (inl refl, (inl refl, (inl refl, tt))))))))))))));
+  checks = λ rows. refl;
+}
+
+-- a shard that is resumed has the rules of a catalogue that is resumed
+resume_shard_reader : IsReader verb.ResumeShard (rules_for verb.ResumeShard)
+resume_shard_reader = record {
+  valued_long = λ s h. resume_valued_long s (record { owned = h.owned; valued = h.valued });
+  valued_id = λ s h. resume_valued_id s (record { owned = h.owned; valued = h.valued });
+  flagged_long = λ s h. resume_flagged_long s (record { owned = h.owned; flag = h.flag });
+  known = λ name. named_in verb.ResumeShard name (Workers ∷ Round ∷ Pause ∷ []) (refl, (refl, (refl, tt)));
+  no_short = λ x. refl;
+  places = resume_places;
+  few = resume_few;
+  quiet = (inl refl, (inl refl, (inl refl, (inl refl, tt))));
+  checks = λ rows. refl;
+}
+
 file_past : (kind : FileKind) (k : ℕ) → arg_by_index (rules_for (verb.File kind)) (suc (suc k)) ≡ None
-file_past kind k = not_at (placed first_place 1) (rules_of ([])) (suc (suc k)) 1 refl (past_one k) refl
+file_past kind k = not_at (placed (name_of First) 1) (rules_of ([])) (suc (suc k)) 1 refl (past_one k) refl
 
 file_places : (kind : FileKind) (k : ℕ) → (arg_by_index (rules_for (verb.File kind)) k ≡ None) ⊎ IsPlace (rules_for (verb.File kind)) k
 file_places kind zero = inl refl
 file_places kind (suc zero) = inr (record { by_index = refl; by_id = refl })
 file_places kind (suc (suc k)) = inl (file_past kind k)
 
-file_few : (kind : FileKind) (k : ℕ) → IsPlace (rules_for (verb.File kind)) k → k ≤ 2
+file_few : (kind : FileKind) (k : ℕ) → IsPlace (rules_for (verb.File kind)) k → k ≤ 8
 file_few kind zero p = omega arith
 file_few kind (suc zero) p = omega arith
 file_few kind (suc (suc k)) p = absurd (none_is_some _ (sym (file_past kind k) ∙ p.by_index))
@@ -365,7 +493,10 @@ file_reader kind = record {
 pub reader_for : (v : Verb) → IsReader v (rules_for v)
 reader_for verb.Catalogue = catalogue_reader
 reader_for verb.Resume = resume_reader
+reader_for verb.Shard = shard_reader
+reader_for verb.ResumeShard = resume_shard_reader
 reader_for verb.Draw = draw_reader
 reader_for verb.Exercise = exercise_reader
 reader_for verb.Apply = apply_reader
+reader_for verb.Merge = merge_reader
 reader_for (verb.File kind) = file_reader kind

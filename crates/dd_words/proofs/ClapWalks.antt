@@ -1,5 +1,5 @@
 -- Layouts, as clap walks over their words.
-use Rattle.std.proofs.Common.{◌≡◌, ◌∙◌, ◌⊎◌, ◌+◌, ◌&&◌, ◌||◌, ◌≤◌, ℕ, suc, zero, Bool, true, false, List, [], ◌∷◌, codes, Option, Some, None, refl, sym, ap, subst, bytes_eq, min}
+use Rattle.std.proofs.Common.{◌≡◌, ◌∙◌, ◌⊎◌, ◌+◌, ◌&&◌, ◌||◌, ◌≤◌, ℕ, Bool, true, false, List, [], ◌∷◌, codes, Option, Some, None, refl, sym, ap, subst, bytes_eq, min}
 use Rattle.std.specs.Prelude.{if◌then◌else◌, fold, nat_lt}
 use Rattle.std.specs.Option.{option_map_or}
 use Rattle.std.specs.List.{AllByRecursion}
@@ -15,12 +15,8 @@ use Rattle.dd_words.specs.declared.verbs.Verb.{Verb}
 use Rattle.dd_words.specs.Values.{Text}
 use Rattle.dd_words.specs.Layout.{Layout, nothing, ended, argument, flag, spaced, tied, IsFlagOf, IsValuedOf}
 use Rattle.dd_words.specs.SettingNames.{word_of, has_setting}
-use Rattle.dd_words.specs.Apps.{first_place, second_place}
+use Rattle.dd_words.proofs.PlaceNames.{place_of}
 use Rattle.dd_words.proofs.ClapSteps.{shape_with, valued, flagged, placed, holding, standing, dash_dash, moved, turned, met_dashes, fault_dashes, met_long, fault_long, long_word_is, IsFree}
-
-abbrev pub place_of : ℕ → Text
-place_of (suc zero) = first_place
-place_of _ = second_place
 
 -- the rules have an argument at this place
 pub record IsPlace (c : List Rule) (k : ℕ) : Type 0 where
@@ -39,7 +35,7 @@ pub record IsReader (v : Verb) (c : List Rule) : Type 0 where
   pub known : (name : Text) → (arg_by_long c name ≡ None) ⊎ ((s : Setting) × (has_setting v s ≡ true) × (name ≡ word_of s))
   pub no_short : (x : ℕ) → arg_by_short c x ≡ None
   pub places : (k : ℕ) → (arg_by_index c k ≡ None) ⊎ IsPlace c k
-  pub few : (k : ℕ) → IsPlace c k → k ≤ 2
+  pub few : (k : ℕ) → IsPlace c k → k ≤ 8
   pub quiet : AllByRecursion IsQuiet c
   pub checks : (rows : List Row) → check_fault (shape_with c) rows false ≡ []
 

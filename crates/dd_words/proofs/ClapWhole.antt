@@ -21,9 +21,12 @@ use Rattle.dd_words.proofs.ClapRules.{rules_for, built_for, reader_for}
 words_for : (v : Verb) (ws : List Text) → argument_words (app_for v) ws ≡ ws
 words_for verb.Catalogue ws = refl
 words_for verb.Resume ws = refl
+words_for verb.Shard ws = refl
+words_for verb.ResumeShard ws = refl
 words_for verb.Draw ws = refl
 words_for verb.Exercise ws = refl
 words_for verb.Apply ws = refl
+words_for verb.Merge ws = refl
 words_for (verb.File kind) ws = refl
 
 abbrev built_app : List Rule → App

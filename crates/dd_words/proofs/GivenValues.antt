@@ -12,7 +12,7 @@ use Rattle.dd_model.specs.declared.frame.Frame.{Frame}
 use Rattle.dd_words.specs.Values.{Text}
 use Rattle.dd_words.specs.Given.{Given, AreSingle, Has, Lacks}
 use Rattle.dd_words.specs.SettingNames.{word_of}
-use Rattle.dd_words.specs.Grammar.{IsRun, IsRequested, IsSaid}
+use Rattle.dd_words.specs.Grammar.{IsRun, IsRequested, IsCatalogue, IsSaid}
 use Rattle.dd_words.specs.GivenValues.{IsNumberGiven, IsNumberOr, IsNumberIfGiven, IsNameIfGiven, IsFlagIfGiven, IsSet, IsFramed}
 use Rattle.dd_words.specs.Apps.{all_settings}
 use Rattle.dd_words.specs.Matching.{given_by}
@@ -184,13 +184,25 @@ module _ (gs hs : List Given) (m : SameValues gs hs) where
   framed f (inl h) = inl (m.lacks Cell h.0, h.1)
   framed f (inr h) = inr (record { word = h.word; has = m.has Cell h.word h.has; is = h.is })
 
-  pub said : (c : Command) (xs : List Text) → IsSaid c xs gs → IsSaid c xs hs
-  said (command.Catalogue q workers round pause checkpoint) (n ∷ []) h = record {
+  catalogue : (n : Text) (q : Request) (workers round : ℕ) (pause : Option ℕ) (checkpoint : Option Text) → IsCatalogue n gs q workers round pause checkpoint
+      → IsCatalogue n hs q workers round pause checkpoint
+  catalogue n q workers round pause checkpoint h = record {
     request = requested n q h.request;
     run = run workers round pause h.run;
     checkpoint_is = name_if Checkpoint checkpoint h.checkpoint_is;
     resumable = h.resumable;
   }
+
+  pub said : (c : Command) (xs : List Text) → IsSaid c xs gs → IsSaid c xs hs
+  said (command.Catalogue q workers round pause checkpoint) (n ∷ []) h = catalogue n q workers round pause checkpoint h
+  said (command.Shard shard q workers round pause checkpoint) (i ∷ m ∷ n ∷ []) h = record { shard_is = h.shard_is; catalogue = catalogue n q workers round pause checkpoint h.catalogue }
+  said (command.Shard shard q workers round pause checkpoint) [] h = elim h [ ]
+  said (command.Shard shard q workers round pause checkpoint) (i ∷ []) h = elim h [ ]
+  said (command.Shard shard q workers round pause checkpoint) (i ∷ m ∷ []) h = elim h [ ]
+  said (command.Shard shard q workers round pause checkpoint) (i ∷ m ∷ n ∷ x ∷ xs) h = elim h [ ]
+  said (command.ResumeShard name workers round pause) (word ∷ []) h = record { same = h.same; is_name = h.is_name; run = run workers round pause h.run }
+  said (command.ResumeShard name workers round pause) [] h = elim h [ ]
+  said (command.ResumeShard name workers round pause) (word ∷ x ∷ xs) h = elim h [ ]
   said (command.Resume name workers round pause) (word ∷ []) h = record { same = h.same; is_name = h.is_name; run = run workers round pause h.run }
   said (command.Draw file frame) (word ∷ []) h = record { same = h.same; is_name = h.is_name; frame_is = framed frame h.frame_is }
   said (command.Catalogue q workers round pause checkpoint) [] h = elim h [ ]
@@ -201,4 +213,5 @@ module _ (gs hs : List Given) (m : SameValues gs hs) where
   said (command.Draw file frame) (word ∷ x ∷ xs) h = elim h [ ]
   said (command.Exercise start count) xs h = h
   said (command.Apply word file) xs h = h
+  said (command.Merge files) xs h = h
   said (command.File kind file) xs h = h

@@ -1,6 +1,7 @@
 pub mod Forms
 pub mod Parting
 pub mod Told
+pub mod PlaceNames
 pub mod FormLemmas
 pub mod FrontWords
 pub mod Numbers

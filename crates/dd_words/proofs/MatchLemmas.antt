@@ -14,8 +14,10 @@ use Rattle.dd_words.specs.declared.verbs.Verb.{Verb}
 use Rattle.dd_words.specs.Values.{Text}
 use Rattle.dd_words.specs.Given.{Given}
 use Rattle.dd_words.specs.SettingNames.{word_of, has_value}
-use Rattle.dd_words.specs.Apps.{first_place, second_place, app_for, all_settings, with_places, with_settings}
-use Rattle.dd_words.specs.Matching.{IsValueRead, given_by, AreRead, AreMatched, listed, arguments_read}
+use Rattle.dd_words.specs.declared.places.Place.{Place}
+use Rattle.dd_words.specs.Places.{name_of, all_places}
+use Rattle.dd_words.specs.Apps.{app_for, all_settings, bare_app, with_places, with_settings}
+use Rattle.dd_words.specs.Matching.{IsValueRead, given_by, AreRead, AreMatched, listed, arguments_at, arguments_read}
 use Rattle.dd_words.proofs.ClapRules.{simple_for, plain_for}
 
 -- ---- one setting
@@ -70,12 +72,11 @@ read_more rows (t ∷ ss) s gs x h r = record {
 
 -- ---- the arguments
 
-pub both_read : (f : Found) (xs ys : List Text) (first second : Option Text) → xs ≡ listed first → ys ≡ xs ++ listed second → first ≡ first_value f first_place → second ≡ first_value f second_place
-    → ys ≡ arguments_read (rows_of f)
-both_read f xs ys first second e g a b =
-    g ∙ ap (λ z. z ++ listed second) e
-    ∙ ap (λ o. listed o ++ listed second) (a ∙ first_value-rows f first_place)
-    ∙ ap (λ o. listed (first_of first_place (rows_of f)) ++ listed o) (b ∙ first_value-rows f second_place)
+pub arguments_more : (rows : List Row) (ps : List Place) (p : Place) → arguments_at rows (ps ++ p ∷ []) ≡ arguments_at rows ps ++ listed (first_of (name_of p) rows)
+arguments_more rows [] p = append-nil (listed (first_of (name_of p) rows))
+arguments_more rows (q ∷ ps) p =
+    ap (λ z. listed (first_of (name_of q) rows) ++ z) (arguments_more rows ps p)
+    ∙ sym (append_assoc (listed (first_of (name_of q) rows)) (arguments_at rows ps) (listed (first_of (name_of p) rows)))
 
 -- ---- all words
 
@@ -108,8 +109,18 @@ read_step rows ss i d gs now x low h r e =
     let taken : take (i + 1) ss ≡ take i ss ++ s ∷ [] = ap (λ k. take k ss) next ∙ take-suc ss i d low in
     subst (λ z. AreRead rows z now) (sym taken) (subst (AreRead rows (take i ss ++ s ∷ [])) (sym e) (read_more rows (take i ss) s gs x h r))
 
-pub all_told : (v : Verb) (a : App) (ss : List Setting) → a ≡ with_places v → ss ≡ all_settings → with_settings v a ss ≡ app_for v
-all_told v a ss e f = ap₂ (with_settings v) e f
+-- one argument more
+pub argument_step : (f : Found) (ps : List Place) (i : ℕ) (d : Place) (xs now : List Text) (name : Text) (x : Option Text) → i < length ps → xs ≡ arguments_at (rows_of f) (take i ps)
+    → now ≡ xs ++ listed x → x ≡ first_value f name → name ≡ name_of (get_or ps i d) → now ≡ arguments_at (rows_of f) (take (i + 1) ps)
+argument_step f ps i d xs now name x low h e is named =
+    let p = get_or ps i d in
+    let next : i + 1 ≡ suc i = omega arith in
+    let taken : take (i + 1) ps ≡ take i ps ++ p ∷ [] = ap (λ k. take k ps) next ∙ take-suc ps i d low in
+    let value : x ≡ first_of (name_of p) (rows_of f) = is ∙ first_value-rows f name ∙ ap (λ z. first_of z (rows_of f)) named in
+    e ∙ ap₂ (λ a b. a ++ listed b) h value ∙ sym (ap (arguments_at (rows_of f)) taken ∙ arguments_more (rows_of f) (take i ps) p)
+
+pub all_told : (v : Verb) (a b : App) (ps : List Place) (ss : List Setting) → a ≡ bare_app → b ≡ with_places v a ps → ps ≡ all_places → ss ≡ all_settings → with_settings v b ss ≡ app_for v
+all_told v a b ps ss d e f g = ap₂ (with_settings v) (e ∙ ap₂ (with_places v) d f) g
 
 pub told_as : (r : Result Command AllocError) (s t : App) → s ≡ t → IfOk r (λ m. app_of m ≡ s) → IfOk r (λ m. app_of m ≡ t)
 told_as (Ok m) s t e h = h ∙ e

@@ -1,8 +1,10 @@
 -- What a verb, its arguments and settings ask for.
-use Rattle.std.proofs.Common.{◌≡◌, ◌≤◌, ◌<◌, ℕ, List, [], ◌∷◌, length, get_or, Option, Some, None, Bool, true, not, Bor, rules, refl, sym, ◌∙◌, subst, arith}
+use Rattle.std.proofs.Common.{◌≡◌, ◌≤◌, ◌<◌, ℕ, zero, suc, List, [], ◌∷◌, length, get_or, Option, Some, None, Bool, true, not, Bor, rules, refl, sym, ap, ◌∙◌, subst, arith}
 use Rattle.std.specs.Prelude.{IsSome, is_some}
 use Rattle.dd_model.specs.declared.requests.Request.{Request}
 use Rattle.dd_model.proofs.Lists.{cons_head, cons_tail}
+use Rattle.dd_jobs.specs.declared.shards.Shard.{Shard}
+use Rattle.dd_jobs.proofs.ShardLaws.{same_shard}
 use Rattle.dd_opword.specs.declared.words.OpWord.{OpWord}
 use Rattle.dd_opword.proofs.SpelledWords.{one_op_word}
 use Rattle.dd_words.specs.declared.commands.Command.{Command}
@@ -12,11 +14,12 @@ use Rattle.dd_words.specs.declared.commands.FileKind.{FileKind}
 use Rattle.dd_words.specs.declared.settings.Setting.TheVariants.{Pause, Checkpoint}
 use Rattle.dd_words.specs.declared.verbs.Verb.{Verb}
 use Rattle.dd_words.specs.declared.verbs.Verb.TheVariants as verb
-use Rattle.dd_words.specs.Values.{Text}
+use Rattle.std.specs.List.{AllByRecursion}
+use Rattle.dd_words.specs.Values.{Text, IsName}
 use Rattle.dd_words.specs.Layout.{IsLaid}
 use Rattle.dd_words.specs.Given.{Given, AreSingle}
 use Rattle.dd_words.specs.Laying.{texts}
-use Rattle.dd_words.specs.Grammar.{IsCatalogue, IsResumed, IsDrawn, IsRequested, IsSaid, IsCommand}
+use Rattle.dd_words.specs.Grammar.{IsCatalogue, IsSharded, IsResumed, IsDrawn, AreMerged, IsRequested, IsSaid, IsCommand}
 use Rattle.dd_words.specs.GivenValues.{IsNumberIfGiven, IsNameIfGiven}
 use Rattle.dd_words.specs.FirstWords.{first_word, verb_of}
 use Rattle.dd_words.specs.Reading.{IsReadAs}
@@ -33,6 +36,21 @@ one_text (x ∷ y ∷ xs) d low high = absurd (omega arith)
 pub record IsOneText (xs : List (Bor Text)) : Type 0 where
   pub text : Text
   pub is : texts xs ≡ text ∷ []
+
+-- lists of three texts
+pub two_and_third : (xs : List (Bor Text)) (d e : Bor Text) → 3 ≤ length xs → length xs < 4 → (third : Text) × (texts xs ≡ (get_or xs 0 d).now ∷ (get_or xs 1 e).now ∷ third ∷ [])
+two_and_third (x ∷ y ∷ z ∷ []) d e low high = (z.now, refl)
+two_and_third [] d e low high = absurd (omega arith)
+two_and_third (x ∷ []) d e low high = absurd (omega arith)
+two_and_third (x ∷ y ∷ []) d e low high = absurd (omega arith)
+two_and_third (x ∷ y ∷ z ∷ v ∷ xs) d e low high = absurd (omega arith)
+
+pub two_before_third : (xs : List (Bor Text)) (f : Bor Text) → 3 ≤ length xs → length xs < 4 → (first : Text) × (second : Text) × (texts xs ≡ first ∷ second ∷ (get_or xs 2 f).now ∷ [])
+two_before_third (x ∷ y ∷ z ∷ []) f low high = (x.now, y.now, refl)
+two_before_third [] f low high = absurd (omega arith)
+two_before_third (x ∷ []) f low high = absurd (omega arith)
+two_before_third (x ∷ y ∷ []) f low high = absurd (omega arith)
+two_before_third (x ∷ y ∷ z ∷ v ∷ xs) f low high = absurd (omega arith)
 
 pub some_one_text : (xs : List (Bor Text)) → 1 ≤ length xs → length xs < 2 → IsOneText xs
 some_one_text [] low high = absurd (omega arith)
@@ -53,11 +71,35 @@ no_resume xs ss w e none (command.Resume name workers round pause) h =
     none name workers round pause (subst (λ ys. IsSaid (command.Resume name workers round pause) ys ss) e h.said)
 no_resume xs ss w e none other h = let same = h.verb_is in absurd (cc)
 
+pub no_shard : (xs : List Text) (ss : List Given) (i m n : Text) → xs ≡ i ∷ m ∷ n ∷ []
+    → ((shard : Shard) (q : Request) (workers round : ℕ) (pause : Option ℕ) (checkpoint : Option Text) → IsSharded i m n ss shard q workers round pause checkpoint → ⊥)
+    → (c : Command) → IsReadAs verb.Shard xs ss c → ⊥
+no_shard xs ss i m n e none (command.Shard shard q workers round pause checkpoint) h =
+    none shard q workers round pause checkpoint (subst (λ ys. IsSaid (command.Shard shard q workers round pause checkpoint) ys ss) e h.said)
+no_shard xs ss i m n e none other h = let same = h.verb_is in absurd (cc)
+
+pub no_resumed_shard : (xs : List Text) (ss : List Given) (w : Text) → xs ≡ w ∷ []
+    → ((name : Text) (workers round : ℕ) (pause : Option ℕ) → IsResumed w ss name workers round pause → ⊥)
+    → (c : Command) → IsReadAs verb.ResumeShard xs ss c → ⊥
+no_resumed_shard xs ss w e none (command.ResumeShard name workers round pause) h =
+    none name workers round pause (subst (λ ys. IsSaid (command.ResumeShard name workers round pause) ys ss) e h.said)
+no_resumed_shard xs ss w e none other h = let same = h.verb_is in absurd (cc)
+
 pub no_drawing : (xs : List Text) (ss : List Given) (w : Text) → xs ≡ w ∷ []
     → ((file : Text) (frame : Option Frame) → IsDrawn w ss file frame → ⊥)
     → (c : Command) → IsReadAs verb.Draw xs ss c → ⊥
 no_drawing xs ss w e none (command.Draw file frame) h = none file frame (subst (λ ys. IsSaid (command.Draw file frame) ys ss) e h.said)
 no_drawing xs ss w e none other h = let same = h.verb_is in absurd (cc)
+
+-- a word at a place of a list of names
+pub name_at : (ws : List (Bor Text)) (k : ℕ) (d : Bor Text) → k < length ws → AllByRecursion IsName (texts ws) → IsName (get_or ws k d).now
+name_at [] k d low all = absurd (omega arith)
+name_at (w ∷ ws) zero d low all = all.0
+name_at (w ∷ ws) (suc k) d low all = name_at ws k d (omega arith) all.1
+
+pub no_merge : (xs : List Text) (ss : List Given) → ((files : List Text) → AreMerged xs files → ⊥) → (c : Command) → IsReadAs verb.Merge xs ss c → ⊥
+no_merge xs ss none (command.Merge files) h = none files h.said
+no_merge xs ss none other h = let same = h.verb_is in absurd (cc)
 
 pub some_told : {A : Type 0} (o : Option A) → is_some o ≡ true → IsSome o
 some_told None e = absurd (cc)
@@ -107,28 +149,75 @@ one_request w ss p q single a b = λ i. record {
   minimal = one_flag ss _ p.minimal q.minimal a.minimal b.minimal i;
 }
 
+-- what a catalogue and a shard have in common
+pub record AreSame (p q : Request) (w r u s : ℕ) (o m : Option ℕ) (k j : Option Text) : Type 0 where
+  pub request : p ≡ q
+  pub workers : w ≡ u
+  pub round : r ≡ s
+  pub pause : o ≡ m
+  pub checkpoint : k ≡ j
+
+one_asked : (x : Text) (ss : List Given) (p q : Request) (w r u s : ℕ) (o m : Option ℕ) (k j : Option Text) → AreSingle ss → IsCatalogue x ss p w r o k → IsCatalogue x ss q u s m j
+    → AreSame p q w r u s o m k j
+one_asked x ss p q w r u s o m k j single a b = record {
+  request = one_request x ss p q single a.request b.request;
+  workers = one_number ss _ 1 64 1 w u single a.run.workers_are b.run.workers_are;
+  round = one_number ss _ 1 4096 64 r s single a.run.round_is b.run.round_is;
+  pause = one_given ss _ 1 1000000000 o m single a.run.pause_is b.run.pause_is;
+  checkpoint = one_name ss _ k j single a.checkpoint_is b.checkpoint_is;
+}
+
 one_catalogue : (xs : List Text) (ss : List Given) (p q : Request) (w r u s : ℕ) (o m : Option ℕ) (k j : Option Text) → AreSingle ss
     → IsSaid (command.Catalogue p w r o k) xs ss → IsSaid (command.Catalogue q u s m j) xs ss → command.Catalogue p w r o k ≡ command.Catalogue q u s m j
 one_catalogue (x ∷ []) ss p q w r u s o m k j single a b =
-    let request = one_request x ss p q single a.request b.request in
-    let workers = one_number ss _ 1 64 1 w u single a.run.workers_are b.run.workers_are in
-    let round = one_number ss _ 1 4096 64 r s single a.run.round_is b.run.round_is in
-    let pause = one_given ss _ 1 1000000000 o m single a.run.pause_is b.run.pause_is in
-    let checkpoint = one_name ss _ k j single a.checkpoint_is b.checkpoint_is in
-    λ i. command.Catalogue (request i) (workers i) (round i) (pause i) (checkpoint i)
+    let e = one_asked x ss p q w r u s o m k j single a b in
+    λ i. command.Catalogue (e.request i) (e.workers i) (e.round i) (e.pause i) (e.checkpoint i)
 one_catalogue [] ss p q w r u s o m k j single a b = absurd a
 one_catalogue (x ∷ y ∷ xs) ss p q w r u s o m k j single a b = absurd a
+
+one_shard : (xs : List Text) (ss : List Given) (f g : Shard) (p q : Request) (w r u s : ℕ) (o m : Option ℕ) (k j : Option Text) → AreSingle ss
+    → IsSaid (command.Shard f p w r o k) xs ss → IsSaid (command.Shard g q u s m j) xs ss → command.Shard f p w r o k ≡ command.Shard g q u s m j
+one_shard (x ∷ y ∷ z ∷ []) ss f g p q w r u s o m k j single a b =
+    let index = one_number_in 1 8 x f.index g.index a.shard_is.index b.shard_is.index in
+    let count = one_number_in 1 8 y f.count g.count a.shard_is.count b.shard_is.count in
+    let shard = same_shard f g index count in
+    let e = one_asked z ss p q w r u s o m k j single a.catalogue b.catalogue in
+    λ i. command.Shard (shard i) (e.request i) (e.workers i) (e.round i) (e.pause i) (e.checkpoint i)
+one_shard [] ss f g p q w r u s o m k j single a b = absurd a
+one_shard (x ∷ []) ss f g p q w r u s o m k j single a b = absurd a
+one_shard (x ∷ y ∷ []) ss f g p q w r u s o m k j single a b = absurd a
+one_shard (x ∷ y ∷ z ∷ v ∷ xs) ss f g p q w r u s o m k j single a b = absurd a
+
+-- what a catalogue and a shard that are resumed have in common
+pub record AreResumedSame (n k : Text) (w r u s : ℕ) (o m : Option ℕ) : Type 0 where
+  pub name : n ≡ k
+  pub workers : w ≡ u
+  pub round : r ≡ s
+  pub pause : o ≡ m
+
+one_resumed : (x : Text) (ss : List Given) (n k : Text) (w r u s : ℕ) (o m : Option ℕ) → AreSingle ss → IsResumed x ss n w r o → IsResumed x ss k u s m → AreResumedSame n k w r u s o m
+one_resumed x ss n k w r u s o m single a b = record {
+  name = sym a.same ∙ b.same;
+  workers = one_number ss _ 1 64 1 w u single a.run.workers_are b.run.workers_are;
+  round = one_number ss _ 1 4096 64 r s single a.run.round_is b.run.round_is;
+  pause = one_given ss _ 1 1000000000 o m single a.run.pause_is b.run.pause_is;
+}
 
 one_resume : (xs : List Text) (ss : List Given) (n k : Text) (w r u s : ℕ) (o m : Option ℕ) → AreSingle ss
     → IsSaid (command.Resume n w r o) xs ss → IsSaid (command.Resume k u s m) xs ss → command.Resume n w r o ≡ command.Resume k u s m
 one_resume (x ∷ []) ss n k w r u s o m single a b =
-    let name = sym a.same ∙ b.same in
-    let workers = one_number ss _ 1 64 1 w u single a.run.workers_are b.run.workers_are in
-    let round = one_number ss _ 1 4096 64 r s single a.run.round_is b.run.round_is in
-    let pause = one_given ss _ 1 1000000000 o m single a.run.pause_is b.run.pause_is in
-    λ i. command.Resume (name i) (workers i) (round i) (pause i)
+    let e = one_resumed x ss n k w r u s o m single a b in
+    λ i. command.Resume (e.name i) (e.workers i) (e.round i) (e.pause i)
 one_resume [] ss n k w r u s o m single a b = absurd a
 one_resume (x ∷ y ∷ xs) ss n k w r u s o m single a b = absurd a
+
+one_resumed_shard : (xs : List Text) (ss : List Given) (n k : Text) (w r u s : ℕ) (o m : Option ℕ) → AreSingle ss
+    → IsSaid (command.ResumeShard n w r o) xs ss → IsSaid (command.ResumeShard k u s m) xs ss → command.ResumeShard n w r o ≡ command.ResumeShard k u s m
+one_resumed_shard (x ∷ []) ss n k w r u s o m single a b =
+    let e = one_resumed x ss n k w r u s o m single a b in
+    λ i. command.ResumeShard (e.name i) (e.workers i) (e.round i) (e.pause i)
+one_resumed_shard [] ss n k w r u s o m single a b = absurd a
+one_resumed_shard (x ∷ y ∷ xs) ss n k w r u s o m single a b = absurd a
 
 one_drawing : (xs : List Text) (ss : List Given) (f k : Text) (g j : Option Frame) → AreSingle ss
     → IsSaid (command.Draw f g) xs ss → IsSaid (command.Draw k j) xs ss → command.Draw f g ≡ command.Draw k j
@@ -159,6 +248,9 @@ one_application [] ss w v f k a b = absurd a
 one_application (x ∷ []) ss w v f k a b = absurd a
 one_application (x ∷ y ∷ z ∷ xs) ss w v f k a b = absurd a
 
+one_merge : (xs : List Text) (ss : List Given) (f k : List Text) → IsSaid (command.Merge f) xs ss → IsSaid (command.Merge k) xs ss → command.Merge f ≡ command.Merge k
+one_merge xs ss f k a b = ap command.Merge (sym a.same ∙ b.same)
+
 one_file : (xs : List Text) (ss : List Given) (g j : FileKind) (f k : Text) → g ≡ j → IsSaid (command.File g f) xs ss → IsSaid (command.File j k) xs ss
     → command.File g f ≡ command.File j k
 one_file (x ∷ []) ss g j f k kind a b =
@@ -173,9 +265,12 @@ same_kind g j e = cc
 one_said : (xs : List Text) (ss : List Given) (c d : Command) → AreSingle ss → verb_of c ≡ verb_of d → IsSaid c xs ss → IsSaid d xs ss → c ≡ d
 one_said xs ss (command.Catalogue p w r o k) (command.Catalogue q u s m j) single e a b = one_catalogue xs ss p q w r u s o m k j single a b
 one_said xs ss (command.Resume n w r o) (command.Resume k u s m) single e a b = one_resume xs ss n k w r u s o m single a b
+one_said xs ss (command.Shard f p w r o k) (command.Shard g q u s m j) single e a b = one_shard xs ss f g p q w r u s o m k j single a b
+one_said xs ss (command.ResumeShard n w r o) (command.ResumeShard k u s m) single e a b = one_resumed_shard xs ss n k w r u s o m single a b
 one_said xs ss (command.Draw f g) (command.Draw k j) single e a b = one_drawing xs ss f k g j single a b
 one_said xs ss (command.Exercise s n) (command.Exercise t m) single e a b = one_exercise xs ss s n t m a b
 one_said xs ss (command.Apply w f) (command.Apply v k) single e a b = one_application xs ss w v f k a b
+one_said xs ss (command.Merge f) (command.Merge k) single e a b = one_merge xs ss f k a b
 one_said xs ss (command.File g f) (command.File j k) single e a b = one_file xs ss g j f k (same_kind g j e) a b
 one_said xs ss c d single e a b = absurd (cc)
 

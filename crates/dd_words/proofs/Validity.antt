@@ -1,15 +1,16 @@
 -- The request of taken words is valid.
-use Rattle.std.proofs.Common.{◌≡◌, ◌≤◌, ℕ, inl, inr, Option, Some, None, List, [], ◌∷◌, refl, arith}
+use Rattle.std.proofs.Common.{◌≡◌, ◌≤◌, ℕ, inl, inr, Option, Some, None, List, [], ◌∷◌, refl, subst, arith}
 use Rattle.std.specs.List.{AllByRecursion, onto_first}
 use Rattle.std.specs.Prelude.{◌==◌, Bool, true, false, cond}
 use Rattle.dd_model.specs.Request.{IsValid, HasNumber}
 use Rattle.dd_model.specs.declared.allowed.Allowed.{Allowed}
 use Rattle.dd_model.specs.declared.requests.Request.{Request}
 use Rattle.dd_words.specs.declared.settings.Setting.{Setting}
-use Rattle.dd_words.specs.declared.commands.Command.TheVariants.{Catalogue, Resume}
+use Rattle.dd_jobs.specs.declared.shards.Shard.{Shard}
+use Rattle.dd_words.specs.declared.commands.Command.TheVariants.{Catalogue, Resume, Shard as ShardOf, ResumeShard}
 use Rattle.dd_words.specs.Values.{Text, AsksForNumbers, IsCovered, items_of}
 use Rattle.dd_words.specs.Given.{Given}
-use Rattle.dd_words.specs.Grammar.{IsSaid, IsCommand}
+use Rattle.dd_words.specs.Grammar.{IsRun, IsCatalogue, IsResumed, OnOne, IsSaid, IsCommand}
 use Rattle.dd_words.specs.GivenValues.{IsNumberOr, IsSet}
 use Rattle.dd_words.proofs.OneValue.{least_range}
 
@@ -47,58 +48,78 @@ at_most : (ss : List Given) (s : Setting) (n : ℕ) → IsNumberOr ss s 1 36 0 n
 at_most ss s n (inl h) = let e = h.1 in omega arith
 at_most ss s n (inr h) = h.number.to
 
-valid_request : (xs : List Text) (ss : List Given) (q : Request) (workers round : ℕ) (pause : Option ℕ) (checkpoint : Option Text)
-    → IsSaid (Catalogue q workers round pause checkpoint) xs ss → IsValid q
-valid_request (x ∷ []) ss q workers round pause checkpoint h = record {
+asked_valid : (n : Text) (ss : List Given) (q : Request) (workers round : ℕ) (pause : Option ℕ) (checkpoint : Option Text) → IsCatalogue n ss q workers round pause checkpoint → IsValid q
+asked_valid n ss q workers round pause checkpoint h = record {
   chambers = (h.request.chambers.from, h.request.chambers.to);
   tiles = at_most ss _ q.tiles h.request.tiles;
   vertices = at_most ss _ q.vertices h.request.vertices;
   faces = has_number ss _ _ q.faces h.request.faces;
   degrees = has_number ss _ _ q.degrees h.request.degrees;
 }
-valid_request [] ss q workers round pause checkpoint h = absurd h
-valid_request (x ∷ y ∷ xs) ss q workers round pause checkpoint h = absurd h
-
-pub valid : (words : List Text) (q : Request) (workers round : ℕ) (pause : Option ℕ) (checkpoint : Option Text)
-    → IsCommand words (Catalogue q workers round pause checkpoint) → IsValid q
-valid words q workers round pause checkpoint h = valid_request h.arguments h.settings q workers round pause checkpoint h.said
 
 -- how many workers there are, and jobs in a round
 pub record IsPace (workers round : ℕ) : Type 0 where
   pub workers_are : (1 ≤ workers) × (workers ≤ 64)
   pub round_is : (1 ≤ round) × (round ≤ 4096)
 
-pace_said : (xs : List Text) (ss : List Given) (q : Request) (workers round : ℕ) (pause : Option ℕ) (checkpoint : Option Text)
-    → IsSaid (Catalogue q workers round pause checkpoint) xs ss → IsPace workers round
-pace_said (x ∷ []) ss q workers round pause checkpoint h = record {
-  workers_are = in_range ss _ 1 64 1 workers (omega arith) (omega arith) h.run.workers_are;
-  round_is = in_range ss _ 1 4096 64 round (omega arith) (omega arith) h.run.round_is;
+run_pace : (ss : List Given) (workers round : ℕ) (pause : Option ℕ) → IsRun ss workers round pause → IsPace workers round
+run_pace ss workers round pause h = record {
+  workers_are = in_range ss _ 1 64 1 workers (omega arith) (omega arith) h.workers_are;
+  round_is = in_range ss _ 1 4096 64 round (omega arith) (omega arith) h.round_is;
 }
-pace_said [] ss q workers round pause checkpoint h = absurd h
-pace_said (x ∷ y ∷ xs) ss q workers round pause checkpoint h = absurd h
 
-pub pace : (words : List Text) (q : Request) (workers round : ℕ) (pause : Option ℕ) (checkpoint : Option Text)
-    → IsCommand words (Catalogue q workers round pause checkpoint) → IsPace workers round
-pace words q workers round pause checkpoint h = pace_said h.arguments h.settings q workers round pause checkpoint h.said
+asked_pause : (n : Text) (ss : List Given) (q : Request) (workers round : ℕ) (pause : Option ℕ) → IsCatalogue n ss q workers round pause None → pause ≡ None
+asked_pause n ss q workers round None h = refl
+asked_pause n ss q workers round (Some lines) h = let e = h.resumable refl in absurd (cc)
 
-resume_said : (xs : List Text) (ss : List Given) (name : Text) (workers round : ℕ) (pause : Option ℕ) → IsSaid (Resume name workers round pause) xs ss → IsPace workers round
-resume_said (x ∷ []) ss name workers round pause h = record {
-  workers_are = in_range ss _ 1 64 1 workers (omega arith) (omega arith) h.run.workers_are;
-  round_is = in_range ss _ 1 4096 64 round (omega arith) (omega arith) h.run.round_is;
+-- what the words of a catalogue or of a shard say of their request
+pub record IsAskedWell (q : Request) (workers round : ℕ) (pause : Option ℕ) (checkpoint : Option Text) : Type 0 where
+  pub valid : IsValid q
+  pub pace : IsPace workers round
+  pub lone : checkpoint ≡ None → pause ≡ None
+
+asked_well : (n : Text) (ss : List Given) (q : Request) (workers round : ℕ) (pause : Option ℕ) (checkpoint : Option Text) → IsCatalogue n ss q workers round pause checkpoint
+    → IsAskedWell q workers round pause checkpoint
+asked_well n ss q workers round pause checkpoint h = record {
+  valid = asked_valid n ss q workers round pause checkpoint h;
+  pace = run_pace ss workers round pause h.run;
+  lone = λ none. asked_pause n ss q workers round pause (subst (λ k. IsCatalogue n ss q workers round pause k) none h);
 }
-resume_said [] ss name workers round pause h = absurd h
-resume_said (x ∷ y ∷ xs) ss name workers round pause h = absurd h
 
--- the same of a catalogue that is taken up again
+catalogue_said : (xs : List Text) (ss : List Given) (q : Request) (workers round : ℕ) (pause : Option ℕ) (checkpoint : Option Text)
+    → IsSaid (Catalogue q workers round pause checkpoint) xs ss → IsAskedWell q workers round pause checkpoint
+catalogue_said (x ∷ []) ss q workers round pause checkpoint h = asked_well x ss q workers round pause checkpoint h
+catalogue_said [] ss q workers round pause checkpoint h = absurd h
+catalogue_said (x ∷ y ∷ xs) ss q workers round pause checkpoint h = absurd h
+
+shard_said : (xs : List Text) (ss : List Given) (shard : Shard) (q : Request) (workers round : ℕ) (pause : Option ℕ) (checkpoint : Option Text)
+    → IsSaid (ShardOf shard q workers round pause checkpoint) xs ss → IsAskedWell q workers round pause checkpoint
+shard_said (x ∷ y ∷ z ∷ []) ss shard q workers round pause checkpoint h = asked_well z ss q workers round pause checkpoint h.catalogue
+shard_said [] ss shard q workers round pause checkpoint h = absurd h
+shard_said (x ∷ []) ss shard q workers round pause checkpoint h = absurd h
+shard_said (x ∷ y ∷ []) ss shard q workers round pause checkpoint h = absurd h
+shard_said (x ∷ y ∷ z ∷ v ∷ xs) ss shard q workers round pause checkpoint h = absurd h
+
+pub catalogue_well : (words : List Text) (q : Request) (workers round : ℕ) (pause : Option ℕ) (checkpoint : Option Text)
+    → IsCommand words (Catalogue q workers round pause checkpoint) → IsAskedWell q workers round pause checkpoint
+catalogue_well words q workers round pause checkpoint h = catalogue_said h.arguments h.settings q workers round pause checkpoint h.said
+
+pub shard_well : (words : List Text) (shard : Shard) (q : Request) (workers round : ℕ) (pause : Option ℕ) (checkpoint : Option Text)
+    → IsCommand words (ShardOf shard q workers round pause checkpoint) → IsAskedWell q workers round pause checkpoint
+shard_well words shard q workers round pause checkpoint h = shard_said h.arguments h.settings shard q workers round pause checkpoint h.said
+
+pub valid : (words : List Text) (q : Request) (workers round : ℕ) (pause : Option ℕ) (checkpoint : Option Text)
+    → IsCommand words (Catalogue q workers round pause checkpoint) → IsValid q
+valid words q workers round pause checkpoint h = (catalogue_well words q workers round pause checkpoint h).valid
+
+resumed_said : (xs : List Text) (ss : List Given) (name : Text) (workers round : ℕ) (pause : Option ℕ) → OnOne xs (λ word. IsResumed word ss name workers round pause) → IsPace workers round
+resumed_said (x ∷ []) ss name workers round pause h = run_pace ss workers round pause h.run
+resumed_said [] ss name workers round pause h = absurd h
+resumed_said (x ∷ y ∷ xs) ss name workers round pause h = absurd h
+
+-- the pace of a catalogue, and of a shard, that is resumed
 pub resume_pace : (words : List Text) (name : Text) (workers round : ℕ) (pause : Option ℕ) → IsCommand words (Resume name workers round pause) → IsPace workers round
-resume_pace words name workers round pause h = resume_said h.arguments h.settings name workers round pause h.said
+resume_pace words name workers round pause h = resumed_said h.arguments h.settings name workers round pause h.said
 
-no_pause : (xs : List Text) (ss : List Given) (q : Request) (workers round : ℕ) (pause : Option ℕ) → IsSaid (Catalogue q workers round pause None) xs ss → pause ≡ None
-no_pause (x ∷ []) ss q workers round None h = refl
-no_pause (x ∷ []) ss q workers round (Some lines) h = let e = h.resumable refl in absurd (cc)
-no_pause [] ss q workers round pause h = absurd h
-no_pause (x ∷ y ∷ xs) ss q workers round pause h = absurd h
-
--- a catalogue without a name for its checkpoint does not pause
-pub lone_pause : (words : List Text) (q : Request) (workers round : ℕ) (pause : Option ℕ) → IsCommand words (Catalogue q workers round pause None) → pause ≡ None
-lone_pause words q workers round pause h = no_pause h.arguments h.settings q workers round pause h.said
+pub resume_shard_pace : (words : List Text) (name : Text) (workers round : ℕ) (pause : Option ℕ) → IsCommand words (ResumeShard name workers round pause) → IsPace workers round
+resume_shard_pace words name workers round pause h = resumed_said h.arguments h.settings name workers round pause h.said

@@ -6,21 +6,15 @@ use Rattle.clap.specs.declared.builder.action.ArgAction.TheVariants.{Set, SetTru
 use Rattle.dd_words.specs.declared.settings.Setting.{Setting}
 use Rattle.dd_words.specs.declared.settings.Setting.TheVariants.{Tiles, Vertices, LeastFace, LeastDegree, Faces, Degrees, Minimal, Workers, Round, Pause, Checkpoint, Cell}
 use Rattle.dd_words.specs.declared.verbs.Verb.{Verb}
-use Rattle.dd_words.specs.declared.verbs.Verb.TheVariants as verb
+use Rattle.dd_words.specs.declared.places.Place.{Place}
 use Rattle.dd_words.specs.Values.{Text}
 use Rattle.dd_words.specs.SettingNames.{word_of, has_value, has_setting}
+use Rattle.dd_words.specs.Places.{name_of, all_places, has_place}
 
 -- all settings, in the order in which they are told
 abbrev pub all_settings : List Setting
 all_settings =
     Tiles ∷ Vertices ∷ LeastFace ∷ LeastDegree ∷ Faces ∷ Degrees ∷ Minimal ∷ Workers ∷ Round ∷ Pause ∷ Checkpoint ∷ Cell ∷ []
-
--- the names by which clap keeps the arguments
-abbrev pub first_place : Text
-first_place = codes "first"
-
-abbrev pub second_place : Text
-second_place = codes "second"
 
 -- an argument
 abbrev pub place_rule : Text → Rule
@@ -45,11 +39,11 @@ abbrev pub bare_app : App
 bare_app = let new = new_app (codes "dressline") in
     record new { top = record new.top { no_binary_name = true; disable_help_flag = true; disable_version_flag = true } }
 
--- an exercise and a word of operations have two arguments, and the others one
-abbrev pub with_places : Verb → App
-with_places verb.Exercise = with_rule (with_rule bare_app (place_rule first_place)) (place_rule second_place)
-with_places verb.Apply = with_rule (with_rule bare_app (place_rule first_place)) (place_rule second_place)
-with_places _ = with_rule bare_app (place_rule first_place)
+-- the arguments of the verb join the app
+abbrev pub with_places : Verb → App → List Place → App
+with_places verb app [] = app
+with_places verb app (place ∷ places) =
+    with_places verb (cond (has_place verb place) (with_rule app (place_rule (name_of place))) app) places
 
 abbrev pub app_for : Verb → App
-app_for verb = with_settings verb (with_places verb) all_settings
+app_for verb = with_settings verb (with_places verb bare_app all_places) all_settings

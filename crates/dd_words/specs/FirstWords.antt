@@ -32,16 +32,22 @@ word_of_kind kind.Sheets = codes "sheets"
 abbrev pub first_word : Verb → Text
 first_word verb.Catalogue = codes "catalogue"
 first_word verb.Resume = codes "resume"
+first_word verb.Shard = codes "shard"
+first_word verb.ResumeShard = codes "resume-shard"
 first_word verb.Draw = codes "draw"
 first_word verb.Exercise = codes "exercise"
 first_word verb.Apply = codes "apply"
+first_word verb.Merge = codes "merge"
 first_word (verb.File kind) = word_of_kind kind
 
 -- what a command does, without its values
 abbrev pub verb_of : Command → Verb
 verb_of (command.Catalogue request workers round pause checkpoint) = verb.Catalogue
 verb_of (command.Resume name workers round pause) = verb.Resume
+verb_of (command.Shard shard request workers round pause checkpoint) = verb.Shard
+verb_of (command.ResumeShard name workers round pause) = verb.ResumeShard
 verb_of (command.Draw file frame) = verb.Draw
 verb_of (command.Exercise start count) = verb.Exercise
 verb_of (command.Apply word file) = verb.Apply
+verb_of (command.Merge files) = verb.Merge
 verb_of (command.File kind file) = verb.File kind

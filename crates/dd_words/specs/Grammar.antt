@@ -1,6 +1,8 @@
 -- Which words ask for which command.
-use Rattle.std.specs.Prelude.{◌≡◌, ℕ, List, [], ◌∷◌, Option, IsSome}
+use Rattle.std.specs.Prelude.{◌≡◌, ℕ, ◌≤◌, List, [], ◌∷◌, length, Option, IsSome}
+use Rattle.std.specs.List.{AllByRecursion}
 use Rattle.dd_model.specs.declared.requests.Request.{Request}
+use Rattle.dd_jobs.specs.declared.shards.Shard.{Shard}
 use Rattle.dd_words.specs.declared.settings.Setting.TheVariants.{Tiles, Vertices, LeastFace, LeastDegree, Faces, Degrees, Minimal, Workers, Round, Pause, Checkpoint}
 use Rattle.dd_model.specs.declared.frame.Frame.{Frame}
 use Rattle.dd_opword.specs.Words.{IsSpelled}
@@ -41,6 +43,21 @@ pub record IsResumed (word : Text) (settings : List Given) (name : Text) (worker
   pub is_name : IsName name
   pub run : IsRun settings workers round pause
 
+-- no catalogue has the argument and the settings
+abbrev pub HasNoCatalogue : Text → List Given → Type 0
+HasNoCatalogue n settings =
+    (q : Request) (workers round : ℕ) (pause : Option ℕ) (checkpoint : Option Text) → IsCatalogue n settings q workers round pause checkpoint → ⊥
+
+-- two words that are the numbers of a shard
+pub record IsShardOf (first second : Text) (shard : Shard) : Type 0 where
+  pub index : IsNumberIn 1 8 first shard.index
+  pub count : IsNumberIn 1 8 second shard.count
+
+-- the arguments and the settings of a shard of a catalogue
+pub record IsSharded (first second n : Text) (settings : List Given) (shard : Shard) (q : Request) (workers round : ℕ) (pause : Option ℕ) (checkpoint : Option Text) : Type 0 where
+  pub shard_is : IsShardOf first second shard
+  pub catalogue : IsCatalogue n settings q workers round pause checkpoint
+
 -- the argument and the settings of a drawing
 pub record IsDrawn (word : Text) (settings : List Given) (file : Text) (frame : Option Frame) : Type 0 where
   pub same : word ≡ file
@@ -58,6 +75,13 @@ pub record IsApplied (first second : Text) (word : OpWord) (file : Text) : Type 
   pub same : second ≡ file
   pub is_name : IsName file
 
+-- the arguments of a merge, one to eight files
+pub record AreMerged (arguments files : List Text) : Type 0 where
+  pub same : arguments ≡ files
+  pub some : 1 ≤ length arguments
+  pub few : length arguments ≤ 8
+  pub are_names : AllByRecursion IsName arguments
+
 -- the argument of a command on a file
 pub record IsOnFile (word file : Text) : Type 0 where
   pub same : word ≡ file
@@ -73,14 +97,23 @@ abbrev pub OnTwo : List Text → (Text → Text → Type 0) → Type 0
 OnTwo (first ∷ second ∷ []) P = P first second
 OnTwo _ P = ⊥
 
+-- a claim on the three arguments
+abbrev pub OnThree : List Text → (Text → Text → Text → Type 0) → Type 0
+OnThree (first ∷ second ∷ third ∷ []) P = P first second third
+OnThree _ P = ⊥
+
 -- the arguments and the settings say what the command has
 abbrev pub IsSaid : Command → List Text → List Given → Type 0
 IsSaid (command.Catalogue q workers round pause checkpoint) arguments settings =
     OnOne arguments (λ n. IsCatalogue n settings q workers round pause checkpoint)
 IsSaid (command.Resume name workers round pause) arguments settings = OnOne arguments (λ word. IsResumed word settings name workers round pause)
+IsSaid (command.Shard shard q workers round pause checkpoint) arguments settings =
+    OnThree arguments (λ first second n. IsSharded first second n settings shard q workers round pause checkpoint)
+IsSaid (command.ResumeShard name workers round pause) arguments settings = OnOne arguments (λ word. IsResumed word settings name workers round pause)
 IsSaid (command.Draw file frame) arguments settings = OnOne arguments (λ word. IsDrawn word settings file frame)
 IsSaid (command.Exercise start count) arguments settings = OnTwo arguments (λ first second. IsExercise first second start count)
 IsSaid (command.Apply word file) arguments settings = OnTwo arguments (λ first second. IsApplied first second word file)
+IsSaid (command.Merge files) arguments settings = AreMerged arguments files
 IsSaid (command.File kind file) arguments settings = OnOne arguments (λ word. IsOnFile word file)
 
 -- the words ask for the command

@@ -1,5 +1,6 @@
 pub mod Values
 pub mod SettingNames
+pub mod Places
 pub mod Given
 pub mod Layout
 pub mod FirstWords

@@ -2,11 +2,13 @@
 use Rattle.std.specs.Prelude.{◌≡◌, List, [], ◌∷◌, ◌++◌, Option, Some, None, true, false, codes}
 use Rattle.clap.specs.Words.{Row, first_of, one_of, matches_of, fault_of}
 use Rattle.dd_words.specs.declared.settings.Setting.{Setting}
+use Rattle.dd_words.specs.declared.places.Place.{Place}
 use Rattle.dd_words.specs.declared.verbs.Verb.{Verb}
 use Rattle.dd_words.specs.Values.{Text}
 use Rattle.dd_words.specs.Given.{Given}
 use Rattle.dd_words.specs.SettingNames.{word_of, has_value}
-use Rattle.dd_words.specs.Apps.{app_for, all_settings, first_place, second_place}
+use Rattle.dd_words.specs.Apps.{app_for, all_settings}
+use Rattle.dd_words.specs.Places.{name_of, all_places}
 
 -- the value of a setting; that of a flag is empty
 pub record IsValueRead (rows : List Row) (setting : Setting) (value : Option Text) : Type 0 where
@@ -38,8 +40,13 @@ abbrev pub listed : Option Text → List Text
 listed None = []
 listed (Some word) = word ∷ []
 
+-- the arguments at places
+abbrev pub arguments_at : List Row → List Place → List Text
+arguments_at rows [] = []
+arguments_at rows (place ∷ places) = listed (first_of (name_of place) rows) ++ arguments_at rows places
+
 abbrev pub arguments_read : List Row → List Text
-arguments_read rows = listed (first_of first_place rows) ++ listed (first_of second_place rows)
+arguments_read rows = arguments_at rows all_places
 
 -- clap takes the words, and these are the arguments and the settings of its matches
 pub record AreMatched (verb : Verb) (words arguments : List Text) (settings : List Given) : Type 0 where

@@ -47,6 +47,8 @@ is_of_drawing _ = false
 abbrev pub has_setting : Verb → Setting → Bool
 has_setting verb.Catalogue setting = is_of_catalogue setting
 has_setting verb.Resume setting = is_of_run setting
+has_setting verb.Shard setting = is_of_catalogue setting
+has_setting verb.ResumeShard setting = is_of_run setting
 has_setting verb.Draw setting = is_of_drawing setting
 has_setting _ setting = false
 

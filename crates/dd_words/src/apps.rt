@@ -1,18 +1,26 @@
 ghost use Rattle.std.specs.Prelude.{◌≡◌, false, cond, IfOk};
 ghost use Rattle.clap.specs.Words.{app_of, rule_of, with_rule};
 ghost use Rattle.dd_words.specs.SettingNames.{has_setting};
-ghost use Rattle.dd_words.specs.Apps.{all_settings, first_place, second_place, place_rule, setting_rule, bare_app, with_places, with_settings, app_for};
+ghost use Rattle.dd_words.specs.Places.{name_of, has_place};
+ghost use Rattle.dd_words.specs.Apps.{place_rule, setting_rule, bare_app, with_places, with_settings, app_for};
 
+use crate::places::Place;
 use crate::settings::Setting;
 use crate::verbs::Verb;
 use clap::{Arg, ArgAction, Command as App};
 use std::alloc::{AllocError, Global};
 
-/// The name by which clap keeps the first argument.
-pub const FIRST: &str = "first";
-
-/// The name by which clap keeps the second argument.
-pub const SECOND: &str = "second";
+/// All places of arguments, in their order.
+pub static PLACES: [Place; 8] = [
+    Place::First,
+    Place::Second,
+    Place::Third,
+    Place::Fourth,
+    Place::Fifth,
+    Place::Sixth,
+    Place::Seventh,
+    Place::Eighth,
+];
 
 /// All settings.
 pub static SETTINGS: [Setting; 12] = [
@@ -34,18 +42,42 @@ pub static SETTINGS: [Setting; 12] = [
 pub fn app_for<'a>(alloc: Global, verb: Verb) -> Result<App<'a>, AllocError>
     ensures { IfOk result (λ app. app_of app ≡ app_for verb) }
 {
-    let app = with_places(alloc, verb)?;
+    let app = with_places(bare_app(alloc), alloc, verb, PLACES.as_slice())?;
     with_settings(app, alloc, verb, SETTINGS.as_slice())
 }
 
-/// The arguments of a verb: an exercise and a word of operations have two, and the others have one.
-fn with_places<'a>(alloc: Global, verb: Verb) -> Result<App<'a>, AllocError>
-    ensures { IfOk result (λ app. app_of app ≡ with_places verb) }
+/// The arguments of a verb, out of these places, join the app.
+fn with_places<'a>(
+    app: App<'a>,
+    alloc: Global,
+    verb: Verb,
+    places: &[Place],
+) -> Result<App<'a>, AllocError>
+    ensures { IfOk result (λ more.
+        app_of more ≡ with_places verb (app_of app.entry) places.now) }
 {
-    let app = bare_app(alloc).arg(place(alloc, FIRST))?;
-    match verb {
-        Verb::Exercise | Verb::Apply => app.arg(place(alloc, SECOND)),
-        _ => Ok(app),
+    let mut more = app;
+    for place in places {
+        more = with_place(more, alloc, verb, *place)?;
+    }
+    Ok(more)
+}
+
+/// An argument joins the app if the verb has it.
+fn with_place<'a>(
+    app: App<'a>,
+    alloc: Global,
+    verb: Verb,
+    place: Place,
+) -> Result<App<'a>, AllocError>
+    ensures { IfOk result (λ more.
+        app_of more ≡ cond (has_place verb place)
+        (with_rule (app_of app.entry) (place_rule (name_of place))) (app_of app.entry)) }
+{
+    if place.is_of(verb) {
+        app.arg(argument(alloc, place))
+    } else {
+        Ok(app)
     }
 }
 
@@ -60,10 +92,11 @@ fn bare_app<'a>(alloc: Global) -> App<'a>
 }
 
 /// An argument that is a text.
-fn place<'a>(alloc: Global, name: &'a str) -> Arg<'a>
-    ensures rule { rule_of result ≡ place_rule name.now }
+fn argument<'a>(alloc: Global, place: Place) -> Arg<'a>
+    ensures rule { rule_of result ≡ place_rule (name_of place) }
     ensures local { result.global ≡ false }
 {
+    let name: &'a str = place.name();
     Arg::new(alloc, name).action(ArgAction::Set)
 }
 

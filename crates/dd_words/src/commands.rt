@@ -1,4 +1,5 @@
-use crate::names::Name;
+use crate::names::{Name, Names};
+use dd_jobs::Shard;
 use dd_model::{Frame, Request};
 use dd_opword::OpWord;
 use dd_template::Operation;
@@ -53,6 +54,32 @@ pub enum Command {
         /// The number of lines before the next pause.
         pause: Option<u32>,
     },
+    /// A shard of a catalogue.
+    Shard {
+        /// The shard.
+        shard: Shard,
+        /// Which symbols are asked for.
+        request: Request,
+        /// The number of workers, 1 to 64.
+        workers: u32,
+        /// The number of jobs in a round, 1 to 4096.
+        round: u32,
+        /// The number of lines before a pause.
+        pause: Option<u32>,
+        /// The name under which the checkpoint is kept.
+        checkpoint: Option<Name>,
+    },
+    /// A shard that is resumed from its checkpoint.
+    ResumeShard {
+        /// The name of the checkpoint.
+        name: Name,
+        /// The number of workers, 1 to 64.
+        workers: u32,
+        /// The number of jobs in a round, 1 to 4096.
+        round: u32,
+        /// The number of lines before the next pause.
+        pause: Option<u32>,
+    },
     /// A drawing of the symbol of a file.
     Draw {
         /// The file.
@@ -73,6 +100,11 @@ pub enum Command {
         word: OpWord,
         /// The file.
         file: Name,
+    },
+    /// One list of the symbols of files that ascend.
+    Merge {
+        /// The files, 1 to 8.
+        files: Names,
     },
     /// A command on the symbols of a file.
     File {

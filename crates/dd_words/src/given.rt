@@ -1,13 +1,15 @@
 //! The values of settings and arguments.
 ghost use Rattle.std.specs.Prelude.{◌≡◌, ◌≤◌, ℕ, Option, Bool, List, map, IfSome, IfNone, IfOk};
 ghost use Rattle.dd_model.specs.declared.allowed.Allowed.{Allowed};
+ghost use Rattle.std.specs.List.{AllByRecursion};
 ghost use Rattle.dd_words.specs.Given.{AreSingle};
+ghost use Rattle.dd_words.specs.Laying.{texts};
 ghost use Rattle.dd_words.specs.Settings.{given_of};
 ghost use Rattle.dd_words.specs.Values.{IsName};
 ghost use Rattle.dd_words.specs.GivenValues.{IsNumberOr, IsNumberIfGiven, IsNameIfGiven, IsFlagIfGiven, IsSet, IsFramed};
 
 use crate::fault::WordsFault;
-use crate::names::Name;
+use crate::names::{Name, Names};
 use crate::sets::read_set;
 use crate::settings::{Given, Setting, value_of};
 use crate::values::{is_name, read_number_in};
@@ -122,6 +124,20 @@ pub fn read_name(alloc: Global, word: &str) -> Result<Name, WordsFault>
     }
     let name = Name::new(alloc, word)?;
     Ok(name)
+}
+
+/// The names of files.
+pub fn read_names(alloc: Global, words: &[&str]) -> Result<Names, WordsFault>
+    ensures same { IfOk result (λ names. texts words.now ≡ names) }
+    ensures names { IfOk result (AllByRecursion IsName) }
+    ensures not_taken { result ≡ Err WordsFault.NotTaken
+        → AllByRecursion IsName (texts words.now) → ⊥ }
+{
+    let mut names = Vec::new(alloc);
+    for word in words {
+        names.push(read_name(alloc, word)?)?;
+    }
+    Ok(Names::new(names))
 }
 
 /// A name where it is given.

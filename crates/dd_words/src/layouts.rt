@@ -4,10 +4,11 @@ ghost use Rattle.clap.specs.Words.{fault_of, found_of, rows_of};
 ghost use Rattle.dd_words.specs.Apps.{app_for};
 ghost use Rattle.dd_words.specs.Laying.{texts, arguments_in, settings_in};
 ghost use Rattle.dd_words.specs.Settings.{given_of};
-ghost use Rattle.dd_words.specs.Matching.{IsValueRead, AreRead, AreMatched, arguments_read, listed, given_by};
+ghost use Rattle.dd_words.specs.Matching.{IsValueRead, AreRead, AreMatched, arguments_at, listed, given_by};
 
-use crate::apps::{FIRST, SECOND, SETTINGS, app_for};
+use crate::apps::{PLACES, SETTINGS, app_for};
 use crate::fault::WordsFault;
+use crate::places::Place;
 use crate::settings::{Given, Setting};
 use crate::verbs::Verb;
 use clap::ArgMatches;
@@ -34,7 +35,7 @@ pub fn lay_out<'a>(alloc: Global, verb: Verb, words: &'a [RcStr]) -> Result<Laid
         Ok(matches) => matches,
         Err(error) => return Err(WordsFault::of(&error)),
     };
-    let arguments = read_arguments(alloc, &matches)?;
+    let arguments = read_arguments(alloc, &matches, PLACES.as_slice())?;
     let settings = read_settings(alloc, &matches, SETTINGS.as_slice())?;
     Ok(Laid {
         arguments,
@@ -42,14 +43,19 @@ pub fn lay_out<'a>(alloc: Global, verb: Verb, words: &'a [RcStr]) -> Result<Laid
     })
 }
 
-/// The arguments that clap found.
-fn read_arguments<'a>(alloc: Global, matches: &ArgMatches<'a>) -> Result<Vec<&'a str>, AllocError>
+/// The arguments that clap found at these places.
+fn read_arguments<'a>(
+    alloc: Global,
+    matches: &ArgMatches<'a>,
+    places: &[Place],
+) -> Result<Vec<&'a str>, AllocError>
     ensures { IfOk result (λ arguments.
-        texts arguments.items ≡ arguments_read (rows_of (found_of matches.now))) }
+        texts arguments.items ≡ arguments_at (rows_of (found_of matches.now)) places.now) }
 {
     let mut arguments = Vec::new(alloc);
-    add_argument(&mut arguments, matches.get_str(FIRST))?;
-    add_argument(&mut arguments, matches.get_str(SECOND))?;
+    for place in places {
+        add_argument(&mut arguments, matches.get_str(place.name()))?;
+    }
     Ok(arguments)
 }
 

@@ -1,20 +1,24 @@
-ghost use Rattle.std.specs.Prelude.{◌≡◌, ◌∷◌, map, IfOk};
+ghost use Rattle.std.specs.Prelude.{◌≡◌, ◌∷◌, map, IfOk, IfSome, IfNone};
+ghost use Rattle.dd_jobs.specs.declared.shards.Shard.{Shard as Numbers};
 ghost use Rattle.std.specs.Rc.{rc_str_bytes};
 ghost use Rattle.dd_words.specs.declared.commands.Command.{Command};
 ghost use Rattle.dd_words.specs.Given.{AreSingle};
 ghost use Rattle.dd_words.specs.Laying.{texts};
 ghost use Rattle.dd_words.specs.Settings.{given_of};
-ghost use Rattle.dd_words.specs.Grammar.{IsCommand};
+ghost use Rattle.dd_words.specs.Grammar.{IsCatalogue, HasNoCatalogue, IsShardOf, IsCommand};
 ghost use Rattle.dd_words.specs.Reading.{IsReadAs};
 
 use crate::commands::{Command, FileKind};
 use crate::fault::WordsFault;
-use crate::given::{frame_of, name_if_given, read_name};
+use crate::given::{frame_of, name_if_given, read_name, read_names};
 use crate::layouts::lay_out;
-use crate::requests::{read_request, read_run};
+use crate::names::Name;
+use crate::requests::{Run, read_request, read_run};
 use crate::settings::{Given, Setting};
 use crate::values::read_number_in;
 use crate::verbs::Verb;
+use dd_jobs::Shard;
+use dd_model::Request;
 use dd_opword::OpWord;
 use std::alloc::Global;
 use std::rc::RcStr;
@@ -24,6 +28,12 @@ const LAST_START: u32 = 2_147_483_647;
 
 /// The most items of an exercise.
 const MOST_ITEMS: u32 = 10_000;
+
+/// The most shards.
+const MOST_SHARDS: u32 = 8;
+
+/// The most files of a merge.
+const MOST_FILES: usize = 8;
 
 /// The command that the words after the program's name ask for.
 pub fn read_words(alloc: Global, words: &[RcStr]) -> Result<Command, WordsFault>
@@ -69,9 +79,12 @@ fn read_command(
     match verb {
         Verb::Catalogue => read_catalogue(alloc, arguments, settings),
         Verb::Resume => read_resume(alloc, arguments, settings),
+        Verb::Shard => read_shard(alloc, arguments, settings),
+        Verb::ResumeShard => read_resumed_shard(alloc, arguments, settings),
         Verb::Draw => read_drawing(alloc, arguments, settings),
         Verb::Exercise => read_exercise(arguments, settings),
         Verb::Apply => read_application(alloc, arguments, settings),
+        Verb::Merge => read_merge(alloc, arguments, settings),
         Verb::File(kind) => read_file(alloc, kind, arguments, settings),
     }
 }
@@ -91,6 +104,72 @@ fn read_catalogue(
     let [chambers] = arguments else {
         return Err(WordsFault::NotTaken);
     };
+    let asked = read_asked(alloc, chambers, settings)?;
+    Ok(Command::Catalogue {
+        request: asked.request,
+        workers: asked.run.workers,
+        round: asked.run.round,
+        pause: asked.run.pause,
+        checkpoint: asked.checkpoint,
+    })
+}
+
+/// A shard of a catalogue with these arguments and settings.
+fn read_shard(
+    alloc: Global,
+    arguments: &[&str],
+    settings: &[Given<'_>],
+) -> Result<Command, WordsFault>
+    requires { AreSingle (map given_of settings.now) }
+    ensures command { IfOk result
+        (IsReadAs Verb.Shard (texts arguments.now) (map given_of settings.now)) }
+    ensures not_taken { result ≡ Err WordsFault.NotTaken → (c : Command)
+        → IsReadAs Verb.Shard (texts arguments.now) (map given_of settings.now) c → ⊥ }
+{
+    let [index, count, chambers] = arguments else {
+        return Err(WordsFault::NotTaken);
+    };
+    let Some(shard) = shard_of(index, count) else {
+        return Err(WordsFault::NotTaken);
+    };
+    let asked = read_asked(alloc, chambers, settings)?;
+    Ok(Command::Shard {
+        shard,
+        request: asked.request,
+        workers: asked.run.workers,
+        round: asked.run.round,
+        pause: asked.run.pause,
+        checkpoint: asked.checkpoint,
+    })
+}
+
+/// The shard of two words, and None if they are not the numbers of one.
+fn shard_of(index: &str, count: &str) -> Option<Shard>
+    ensures some { IfSome result (IsShardOf index.now count.now) }
+    ensures none { IfNone result
+        ((shard : Numbers) → IsShardOf index.now count.now shard → ⊥) }
+{
+    let index = read_number_in(index, 1, MOST_SHARDS)?;
+    let count = read_number_in(count, 1, MOST_SHARDS)?;
+    Shard::new(index, count)
+}
+
+/// What the words of a catalogue and of a shard ask for.
+#[derive(Drop)]
+struct Asked {
+    request: Request,
+    run: Run,
+    checkpoint: Option<Name>,
+}
+
+/// What a word and settings ask for that a catalogue and a shard have in common.
+fn read_asked(alloc: Global, chambers: &str, settings: &[Given<'_>]) -> Result<Asked, WordsFault>
+    requires { AreSingle (map given_of settings.now) }
+    ensures asked { IfOk result (λ asked. IsCatalogue chambers.now (map given_of settings.now)
+        asked.request asked.run.workers asked.run.round asked.run.pause asked.checkpoint) }
+    ensures not_taken { result ≡ Err WordsFault.NotTaken
+        → HasNoCatalogue chambers.now (map given_of settings.now) }
+{
     let Some(request) = read_request(chambers, settings) else {
         return Err(WordsFault::NotTaken);
     };
@@ -101,11 +180,9 @@ fn read_catalogue(
     if run.pause.is_some() && checkpoint.is_none() {
         return Err(WordsFault::NotTaken);
     }
-    Ok(Command::Catalogue {
+    Ok(Asked {
         request,
-        workers: run.workers,
-        round: run.round,
-        pause: run.pause,
+        run,
         checkpoint,
     })
 }
@@ -129,6 +206,32 @@ fn read_resume(
         return Err(WordsFault::NotTaken);
     };
     Ok(Command::Resume {
+        name: read_name(alloc, name)?,
+        workers: run.workers,
+        round: run.round,
+        pause: run.pause,
+    })
+}
+
+/// A shard that is resumed, with these arguments and settings.
+fn read_resumed_shard(
+    alloc: Global,
+    arguments: &[&str],
+    settings: &[Given<'_>],
+) -> Result<Command, WordsFault>
+    requires { AreSingle (map given_of settings.now) }
+    ensures command { IfOk result
+        (IsReadAs Verb.ResumeShard (texts arguments.now) (map given_of settings.now)) }
+    ensures not_taken { result ≡ Err WordsFault.NotTaken → (c : Command)
+        → IsReadAs Verb.ResumeShard (texts arguments.now) (map given_of settings.now) c → ⊥ }
+{
+    let [name] = arguments else {
+        return Err(WordsFault::NotTaken);
+    };
+    let Some(run) = read_run(settings) else {
+        return Err(WordsFault::NotTaken);
+    };
+    Ok(Command::ResumeShard {
         name: read_name(alloc, name)?,
         workers: run.workers,
         round: run.round,
@@ -198,6 +301,25 @@ fn read_application(
     };
     let file = read_name(alloc, file)?;
     Ok(Command::Apply { word, file })
+}
+
+/// A merge of the files of these arguments.
+fn read_merge(
+    alloc: Global,
+    arguments: &[&str],
+    settings: &[Given<'_>],
+) -> Result<Command, WordsFault>
+    requires { AreSingle (map given_of settings.now) }
+    ensures command { IfOk result
+        (IsReadAs Verb.Merge (texts arguments.now) (map given_of settings.now)) }
+    ensures not_taken { result ≡ Err WordsFault.NotTaken → (c : Command)
+        → IsReadAs Verb.Merge (texts arguments.now) (map given_of settings.now) c → ⊥ }
+{
+    if arguments.is_empty() || arguments.len() > MOST_FILES {
+        return Err(WordsFault::NotTaken);
+    }
+    let files = read_names(alloc, arguments)?;
+    Ok(Command::Merge { files })
 }
 
 /// A command on the file of these arguments.

@@ -79,8 +79,10 @@ impl Setting {
         ensures { result ≡ has_setting verb self }
     {
         match verb {
-            Verb::Catalogue => !matches!(self, Setting::Cell),
-            Verb::Resume => matches!(self, Setting::Workers | Setting::Round | Setting::Pause),
+            Verb::Catalogue | Verb::Shard => !matches!(self, Setting::Cell),
+            Verb::Resume | Verb::ResumeShard => {
+                matches!(self, Setting::Workers | Setting::Round | Setting::Pause)
+            }
             Verb::Draw => matches!(self, Setting::Cell),
             _ => false,
         }

@@ -11,12 +11,18 @@ pub enum Verb {
     Catalogue,
     /// `resume`.
     Resume,
+    /// `shard`.
+    Shard,
+    /// `resume-shard`.
+    ResumeShard,
     /// `draw`.
     Draw,
     /// `exercise`.
     Exercise,
     /// `apply`.
     Apply,
+    /// `merge`.
+    Merge,
     /// A command on the symbols of a file.
     File(FileKind),
 }
@@ -30,9 +36,12 @@ impl Verb {
         match word {
             "catalogue" => Some(Verb::Catalogue),
             "resume" => Some(Verb::Resume),
+            "shard" => Some(Verb::Shard),
+            "resume-shard" => Some(Verb::ResumeShard),
             "draw" => Some(Verb::Draw),
             "exercise" => Some(Verb::Exercise),
             "apply" => Some(Verb::Apply),
+            "merge" => Some(Verb::Merge),
             "canon" => Some(Verb::File(FileKind::Canon)),
             "lines" => Some(Verb::File(FileKind::Lines)),
             "info" => Some(Verb::File(FileKind::Info)),

@@ -1,41 +1,53 @@
-use Rattle.std.proofs.Common.{◌≤◌, None, sym, ap, subst, arith}
+use Rattle.std.proofs.Common.{◌≤◌, sym, ap, subst, arith}
 use Rattle.dd_model.specs.Request.{IsValid}
 use Rattle.dd_model.specs.Position.{IsPosition}
 use Rattle.dd_check.specs.ChainStarts.{Start, next_start}
 use Rattle.dd_pages.specs.declared.pace.Pace.{Pace}
 use Rattle.dd_pages.specs.Runs.{start_of}
+use Rattle.dd_check.specs.Calls.{Resume}
+use Rattle.dd_tasks.specs.Outcomes.{IsRunOutcome}
 use Rattle.dd_tasks.specs.Outside.{Before, After}
-use Rattle.dd_suite.proofs.CheckValues.{check_valid, check_counts, check_position}
+use Rattle.dd_suite.proofs.CheckValues.{check_valid, check_counts, check_position, saved_check}
 use Rattle.dd_suite.proofs.RunCalls.{resumed_outcome, same_run, ends_earlier}
 use Rattle.dd_suite.proofs.resume.resume.Goals as goal
 
 pub next_run-run-requires-clause-run : goal.next_run-run-requires-clause-run
-next_run-run-requires-clause-run g c = let holds = c.in-Ok.ensures.check in (check_counts holds.bytes c.in-Ok.check holds.accepted).run
+next_run-run-requires-clause-run g c =
+    let holds = c.in-Ok.ensures.check.1 in
+    let saved = saved_check c.in-Ok.saved.shard holds.bytes c.in-Ok.saved.check holds.accepted in
+    (check_counts saved.0 c.in-Ok.saved.check saved.1).run
 
 pub next_run-run-requires-clause-lines : goal.next_run-run-requires-clause-lines
-next_run-run-requires-clause-lines g c = let holds = c.in-Ok.ensures.check in (check_counts holds.bytes c.in-Ok.check holds.accepted).lines.1
+next_run-run-requires-clause-lines g c =
+    let holds = c.in-Ok.ensures.check.1 in
+    let saved = saved_check c.in-Ok.saved.shard holds.bytes c.in-Ok.saved.check holds.accepted in
+    (check_counts saved.0 c.in-Ok.saved.check saved.1).lines.1
 
 pub keep_run-requires-clause-valid : goal.keep_run-requires-clause-valid
 keep_run-requires-clause-valid g c κs within =
-    let holds = c.in-Ok.ensures.check in
-    subst IsValid (sym (ap (λ (s : Start). s.portion.request) c.next_run-run.ensures.start)) (check_valid holds.bytes c.in-Ok.check holds.accepted)
+    let holds = c.in-Ok.ensures.check.1 in
+    let saved = saved_check c.in-Ok.saved.shard holds.bytes c.in-Ok.saved.check holds.accepted in
+    subst IsValid (sym (ap (λ (s : Start). s.portion.request) c.next_run-run.ensures.start)) (check_valid saved.0 c.in-Ok.saved.check saved.1)
 
 pub keep_run-requires-clause-position : goal.keep_run-requires-clause-position
 keep_run-requires-clause-position g c κs within =
-    let holds = c.in-Ok.ensures.check in
-    subst IsPosition (sym (ap (λ (s : Start). s.at) c.next_run-run.ensures.start)) (check_position holds.bytes c.in-Ok.check holds.accepted)
+    let holds = c.in-Ok.ensures.check.1 in
+    let saved = saved_check c.in-Ok.saved.shard holds.bytes c.in-Ok.saved.check holds.accepted in
+    subst IsPosition (sym (ap (λ (s : Start). s.at) c.next_run-run.ensures.start)) (check_position saved.0 c.in-Ok.saved.check saved.1)
 
 pub keep_run-requires-clause-lines : goal.keep_run-requires-clause-lines
 keep_run-requires-clause-lines g c κs within =
-    let holds = c.in-Ok.ensures.check in
-    let few = (check_counts holds.bytes c.in-Ok.check holds.accepted).lines.1 in
+    let holds = c.in-Ok.ensures.check.1 in
+    let saved = saved_check c.in-Ok.saved.shard holds.bytes c.in-Ok.saved.check holds.accepted in
+    let few = (check_counts saved.0 c.in-Ok.saved.check saved.1).lines.1 in
     let same = ap (λ (s : Start). s.lines) c.next_run-run.ensures.start in
     omega (arith, few, same)
 
 pub keep_run-requires-clause-first : goal.keep_run-requires-clause-first
 keep_run-requires-clause-first g c κs within one =
-    let holds = c.in-Ok.ensures.check in
-    let some = (check_counts holds.bytes c.in-Ok.check holds.accepted).run.0 in
+    let holds = c.in-Ok.ensures.check.1 in
+    let saved = saved_check c.in-Ok.saved.shard holds.bytes c.in-Ok.saved.check holds.accepted in
+    let some = (check_counts saved.0 c.in-Ok.saved.check saved.1).run.0 in
     let same = ap (λ (s : Start). s.number) c.next_run-run.ensures.start in
     absurd (omega (arith, some, same, one))
 
@@ -60,9 +72,11 @@ returns-clause-outcome g c =
       written = g.O.Sink.held c.keep_run.new.out;
       sink_faults = g.O.Sink.faults c.keep_run.new.out;
     } in
-    let check = c.in-Ok.check in
+    let saved = c.in-Ok.saved in
+    let holds = c.in-Ok.ensures.check in
     let run = c.next_run-run.result in
     let ends = ends_earlier (start_of run) c.args.name.now run.pace.round run.pause before after (g.S.Store.tells c.fetch_check.new.store) (g.S.Store.held c.fetch_check.new.store) (g.S.Store.faults c.fetch_check.new.store)
     c.fetch_check.ensures.same c.fetch_check.ensures.count c.keep_run.result c.keep_run.ensures.run in
-    resumed_outcome None check c.args.name.now c.args.pace.round c.args.pause c.keep_run.result before after c.in-Ok.ensures.check
-    (same_run run (next_start None check) c.args.name.now c.args.pace c.args.pause c.keep_run.result before after c.next_run-run.ensures.start c.next_run-run.ensures.pace c.next_run-run.ensures.pause ends)
+    subst (λ kind. IsRunOutcome (record { task = Resume kind c.args.name.now; round = c.args.pace.round; pause = c.args.pause }) c.keep_run.result before after) holds.0
+    (resumed_outcome saved.shard saved.check c.args.name.now c.args.pace.round c.args.pause c.keep_run.result before after holds.1
+    (same_run run (next_start saved.shard saved.check) c.args.name.now c.args.pace c.args.pause c.keep_run.result before after c.next_run-run.ensures.start c.next_run-run.ensures.pace c.next_run-run.ensures.pause ends))

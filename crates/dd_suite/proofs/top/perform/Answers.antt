@@ -1,12 +1,16 @@
-use Rattle.std.proofs.Common.{ℕ, List, None, Some, IsSome, map, refl, sym, subst}
+use Rattle.std.proofs.Common.{ℕ, ◌≤◌, List, None, Some, map, length, refl, sym, subst}
+use Rattle.std.specs.List.{AllByRecursion}
+use Rattle.std.specs.Prelude.{IsSome}
 use Rattle.std.specs.Rc.{rc_str_bytes}
-use Rattle.dd_check.specs.Calls.{Catalogues, Begin, Resume as Next}
-use Rattle.dd_tasks.specs.declared.task.Task.TheVariants.{Alone, Kept, Resume, OnFile, Exercise}
+use Rattle.dd_check.specs.Calls.{Begin, Resume as Next}
+use Rattle.dd_tasks.specs.declared.task.Task.TheVariants.{Alone, Kept, Resume, OnFile, Merge, Exercise}
 use Rattle.dd_tasks.specs.Outcomes.{IsRunOutcome}
 use Rattle.dd_tasks.specs.Outside.{Before, After}
-use Rattle.dd_tasks.specs.Stops.{EndsOnFile, on_file, of_exercise, of_run}
+use Rattle.dd_tasks.specs.Stops.{EndsOnFile, on_file, of_merge, of_exercise, of_run}
+use Rattle.dd_tasks.specs.Merges.{AskToMerge}
+use Rattle.dd_tasks.specs.MergeEndings.{EndsMerge}
 use Rattle.dd_tasks.specs.Words.{IsOnFile, AskToExercise}
-use Rattle.dd_tasks.proofs.Requests.{asked_of, file_asked, lone_asked, kept_asked, resume_asked, exercise_asked, exercise_range}
+use Rattle.dd_tasks.proofs.Requests.{asked_of, file_asked, lone_asked, kept_asked, resume_asked, merge_asked, few_files, exercise_asked, exercise_range}
 use Rattle.dd_suite.proofs.RunCalls.{lone_outcome}
 use Rattle.dd_suite.proofs.top.perform.Goals as goal
 
@@ -43,12 +47,12 @@ write_kept-requires-clause-round g c κs within =
 pub resume-requires-clause-workers : goal.resume-requires-clause-workers
 resume-requires-clause-workers g c κs within =
     let words = map rc_str_bytes c.args.words.now in
-    (resume_asked words c.in-Resume.name c.in-Resume.pace c.in-Resume.pause (asked_of words c.in-Ok-Some.field-0 c.in-Ok-Some.task (Resume c.in-Resume.name c.in-Resume.pace c.in-Resume.pause) c.in-Ok-Some.ensures c.in-Ok-Some.field-0-is c.in-Resume.is)).in_range.workers_are
+    (resume_asked words c.in-Resume.kind c.in-Resume.name c.in-Resume.pace c.in-Resume.pause (asked_of words c.in-Ok-Some.field-0 c.in-Ok-Some.task (Resume c.in-Resume.kind c.in-Resume.name c.in-Resume.pace c.in-Resume.pause) c.in-Ok-Some.ensures c.in-Ok-Some.field-0-is c.in-Resume.is)).in_range.workers_are
 
 pub resume-requires-clause-round : goal.resume-requires-clause-round
 resume-requires-clause-round g c κs within =
     let words = map rc_str_bytes c.args.words.now in
-    (resume_asked words c.in-Resume.name c.in-Resume.pace c.in-Resume.pause (asked_of words c.in-Ok-Some.field-0 c.in-Ok-Some.task (Resume c.in-Resume.name c.in-Resume.pace c.in-Resume.pause) c.in-Ok-Some.ensures c.in-Ok-Some.field-0-is c.in-Resume.is)).in_range.round_is.0
+    (resume_asked words c.in-Resume.kind c.in-Resume.name c.in-Resume.pace c.in-Resume.pause (asked_of words c.in-Ok-Some.field-0 c.in-Ok-Some.task (Resume c.in-Resume.kind c.in-Resume.name c.in-Resume.pace c.in-Resume.pause) c.in-Ok-Some.ensures c.in-Ok-Some.field-0-is c.in-Resume.is)).in_range.round_is.0
 
 pub returns-in-Alone-clause-outcome : goal.returns-in-Alone-clause-outcome
 returns-in-Alone-clause-outcome g c =
@@ -99,10 +103,11 @@ returns-in-Kept-clause-outcome g c =
 pub returns-in-Resume-clause-outcome : goal.returns-in-Resume-clause-outcome
 returns-in-Resume-clause-outcome g c =
     let words = map rc_str_bytes c.args.words.now in
+    let kind = c.in-Resume.kind in
     let name = c.in-Resume.name in
     let pace = c.in-Resume.pace in
     let pause = c.in-Resume.pause in
-    let asked = resume_asked words name pace pause (asked_of words c.in-Ok-Some.field-0 c.in-Ok-Some.task (Resume name pace pause) c.in-Ok-Some.ensures c.in-Ok-Some.field-0-is c.in-Resume.is) in
+    let asked = resume_asked words kind name pace pause (asked_of words c.in-Ok-Some.field-0 c.in-Ok-Some.task (Resume kind name pace pause) c.in-Ok-Some.ensures c.in-Ok-Some.field-0-is c.in-Resume.is) in
     let before : Before = record {
       tells = g.S.Store.tells c.args.store.now;
       held = g.S.Store.held c.args.store.now;
@@ -116,19 +121,20 @@ returns-in-Resume-clause-outcome g c =
       written = g.O.Sink.held c.resume.new.out;
       sink_faults = g.O.Sink.faults c.resume.new.out;
     } in
-    of_run (record { task = Next Catalogues name; round = pace.round; pause = pause }) asked.order_asked
-    (subst (λ (n : List ℕ). IsRunOutcome (record { task = Next Catalogues n; round = pace.round; pause = pause }) c.resume.result before after) c.as_str-in-Resume.ensures c.resume.ensures.outcome)
+    of_run (record { task = Next kind name; round = pace.round; pause = pause }) asked.order_asked
+    (subst (λ (n : List ℕ). IsRunOutcome (record { task = Next kind n; round = pace.round; pause = pause }) c.resume.result before after) c.as_str-in-Resume.ensures c.resume.ensures.outcome)
 
 pub returns-in-Resume-clause-store_sure : goal.returns-in-Resume-clause-store_sure
 returns-in-Resume-clause-store_sure g c sure held =
     let words = map rc_str_bytes c.args.words.now in
+    let kind = c.in-Resume.kind in
     let name = c.in-Resume.name in
     let pace = c.in-Resume.pace in
     let pause = c.in-Resume.pause in
-    let asked = resume_asked words name pace pause (asked_of words c.in-Ok-Some.field-0 c.in-Ok-Some.task (Resume name pace pause) c.in-Ok-Some.ensures c.in-Ok-Some.field-0-is c.in-Resume.is) in
+    let asked = resume_asked words kind name pace pause (asked_of words c.in-Ok-Some.field-0 c.in-Ok-Some.task (Resume kind name pace pause) c.in-Ok-Some.ensures c.in-Ok-Some.field-0-is c.in-Resume.is) in
     c.resume.ensures.store_sure sure
     (subst (λ n. IsSome (g.S.Store.held c.args.store.now n)) (sym c.as_str-in-Resume.ensures)
-    (held.check Catalogues name (record { round = pace.round; pause = pause; run = asked.order_asked })))
+    (held.check kind name (record { round = pace.round; pause = pause; run = asked.order_asked })))
 
 pub returns-in-OnFile-clause-outcome : goal.returns-in-OnFile-clause-outcome
 returns-in-OnFile-clause-outcome g c =
@@ -152,6 +158,45 @@ returns-in-OnFile-clause-outcome g c =
     on_file command name asked
     (subst (λ (n : List ℕ). EndsOnFile command n c.write_file.result before after) c.as_str-in-OnFile.ensures
     (record { cause = c.write_file.ensures.cause; prefix = c.write_file.ensures.prefix; whole = c.write_file.ensures.whole; same = λ told. (c.write_file.ensures.same told).1 }))
+
+pub write_merge-requires : goal.write_merge-requires
+write_merge-requires g c =
+    let words = map rc_str_bytes c.args.words.now in
+    let names = c.in-Merge.names in
+    record {
+      few = subst (λ ns. length ns ≤ 8) (sym c.as_slice.ensures)
+          (few_files words names (merge_asked words names (asked_of words c.in-Ok-Some.field-0 c.in-Ok-Some.task (Merge names) c.in-Ok-Some.ensures c.in-Ok-Some.field-0-is c.in-Merge.is)));
+    }
+
+pub returns-in-Merge-clause-store_sure : goal.returns-in-Merge-clause-store_sure
+returns-in-Merge-clause-store_sure g c sure all =
+    let words = map rc_str_bytes c.args.words.now in
+    let names = c.in-Merge.names in
+    let held = g.S.Store.held c.args.store.now in
+    let merged = all.merged names (merge_asked words names (asked_of words c.in-Ok-Some.field-0 c.in-Ok-Some.task (Merge names) c.in-Ok-Some.ensures c.in-Ok-Some.field-0-is c.in-Merge.is)) in
+    c.write_merge.ensures.store_sure sure merged.0 (subst (AllByRecursion (λ name. IsSome (held name))) (sym c.as_slice.ensures) merged.1)
+
+pub returns-in-Merge-clause-outcome : goal.returns-in-Merge-clause-outcome
+returns-in-Merge-clause-outcome g c =
+    let words = map rc_str_bytes c.args.words.now in
+    let names = c.in-Merge.names in
+    let asked : AskToMerge words names = merge_asked words names (asked_of words c.in-Ok-Some.field-0 c.in-Ok-Some.task (Merge names) c.in-Ok-Some.ensures c.in-Ok-Some.field-0-is c.in-Merge.is) in
+    let before : Before = record {
+      tells = g.S.Store.tells c.args.store.now;
+      held = g.S.Store.held c.args.store.now;
+      store_faults = g.S.Store.faults c.args.store.now;
+      written = g.O.Sink.held c.args.out.now;
+      sink_faults = g.O.Sink.faults c.args.out.now;
+    } in
+    let after : After = record {
+      held = g.S.Store.held c.write_merge.new.store;
+      store_faults = g.S.Store.faults c.write_merge.new.store;
+      written = g.O.Sink.held c.write_merge.new.out;
+      sink_faults = g.O.Sink.faults c.write_merge.new.out;
+    } in
+    of_merge names asked
+    (subst (λ ns. EndsMerge ns c.write_merge.result before after) c.as_slice.ensures
+    (record { cause = c.write_merge.ensures.cause; prefix = c.write_merge.ensures.prefix; whole = c.write_merge.ensures.whole; same = λ told. (c.write_merge.ensures.same told).1 }))
 
 pub write_exercise-requires-clause-start : goal.write_exercise-requires-clause-start
 write_exercise-requires-clause-start g c =

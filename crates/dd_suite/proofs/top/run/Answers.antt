@@ -2,7 +2,7 @@ use Rattle.std.proofs.Common.{◌≡◌, ◌⊎◌, map, sym, ◌∙◌, subst}
 use Rattle.std.specs.Rc.{rc_str_bytes}
 use Rattle.dd_tasks.specs.declared.status.Status.TheVariants.{Usage, Memory}
 use Rattle.dd_tasks.specs.Cuts.{IsEndOfOwn}
-use Rattle.dd_suite.proofs.Clauses.{known, whole, call_as, not_resumed, usage, not_taken, refused, quiet_as, nothing, store, store_fault, sink_fault, paused, cut_short, not_cut, complete, told, told_or_short}
+use Rattle.dd_suite.proofs.Clauses.{known, whole, call_as, not_resumed, usage, not_taken, refused, quiet_as, nothing, not_merged, store, store_fault, sink_fault, paused, cut_short, not_cut, complete, told, told_or_short}
 use Rattle.dd_suite.proofs.top.run.Goals as goal
 
 pub returns-clause-prefix : goal.returns-clause-prefix
@@ -32,6 +32,9 @@ returns-clause-quiet g c = quiet_as (map rc_str_bytes c.args.words.now) c.perfor
 pub returns-clause-nothing : goal.returns-clause-nothing
 returns-clause-nothing g c = nothing (map rc_str_bytes c.args.words.now) c.perform-ending.result _ _ c.perform-ending.ensures.outcome
 
+pub returns-clause-not_merged : goal.returns-clause-not_merged
+returns-clause-not_merged g c = not_merged (map rc_str_bytes c.args.words.now) c.perform-ending.result _ _ c.perform-ending.ensures.outcome
+
 pub returns-clause-store : goal.returns-clause-store
 returns-clause-store g c told = (c.perform-ending.ensures.tells told, store (map rc_str_bytes c.args.words.now) c.perform-ending.result _ _ c.perform-ending.ensures.outcome told)
 
@@ -51,7 +54,7 @@ pub returns-clause-not_cut : goal.returns-clause-not_cut
 returns-clause-not_cut g c h = not_cut (map rc_str_bytes c.args.words.now) c.perform-ending.result _ _ c.perform-ending.ensures.outcome (sym c.status.ensures ∙ h)
 
 pub returns-clause-complete : goal.returns-clause-complete
-returns-clause-complete g c taken file check kept sank = subst (λ s. IsEndOfOwn s ⊎ (s ≡ Memory)) (sym c.status.ensures) (complete (map rc_str_bytes c.args.words.now) c.perform-ending.result _ _ c.perform-ending.ensures.outcome taken file check kept sank)
+returns-clause-complete g c taken file check merged kept sank = subst (λ s. IsEndOfOwn s ⊎ (s ≡ Memory)) (sym c.status.ensures) (complete (map rc_str_bytes c.args.words.now) c.perform-ending.result _ _ c.perform-ending.ensures.outcome taken file check merged kept sank)
 
 pub returns-clause-err : goal.returns-clause-err
 returns-clause-err g c = record {

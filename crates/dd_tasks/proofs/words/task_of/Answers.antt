@@ -1,4 +1,4 @@
-use Rattle.std.proofs.Common.{◌≡◌, Some, sym, ap, ◌∙◌}
+use Rattle.std.proofs.Common.{◌≡◌, sym, ap, ◌∙◌}
 use Rattle.dd_jobs.specs.declared.portions.Portion.{Portion}
 use Rattle.dd_tasks.specs.Words.{begin_command}
 use Rattle.dd_tasks.proofs.words.task_of.Goals as goal
@@ -6,5 +6,8 @@ use Rattle.dd_tasks.proofs.words.task_of.Goals as goal
 pub returns-in-Catalogue : goal.returns-in-Catalogue
 returns-in-Catalogue c =
     c.task_for.ensures c.args.command
-    (ap (λ (p : Portion). begin_command p.shard p.request c.in-Catalogue.checkpoint c.in-Catalogue.workers c.in-Catalogue.round c.in-Catalogue.pause) c.whole-portion.ensures
-    ∙ ap (λ z. Some z) (sym c.in-Catalogue.is))
+    (c.in-Catalogue.is
+    ∙ sym (ap (λ (p : Portion). begin_command p.shard p.request c.in-Catalogue.checkpoint c.in-Catalogue.workers c.in-Catalogue.round c.in-Catalogue.pause) c.whole-portion.ensures))
+
+pub returns-in-Shard : goal.returns-in-Shard
+returns-in-Shard c = c.task_for-in-Shard.ensures c.args.command c.in-Shard.is

@@ -1,25 +1,11 @@
-use Rattle.std.proofs.Common.{map, sym, ◌∙◌}
+use Rattle.std.proofs.Common.{Err, map, ap}
 use Rattle.dd_words.specs.Laying.{texts}
 use Rattle.dd_words.specs.Settings.{given_of}
-use Rattle.dd_words.proofs.ReadCommands.{one_text, some_one_text, no_catalogue, no_checkpoint, some_told, none_told}
+use Rattle.dd_words.proofs.Faults.{same_fault}
+use Rattle.dd_words.proofs.ReadCommands.{one_text, no_catalogue}
 use Rattle.dd_words.proofs.reading.read_catalogue.Goals as goal
 
-pub returns-in_default-read_request-clause-not_taken : goal.returns-in_default-read_request-clause-not_taken
-returns-in_default-read_request-clause-not_taken c _ =
+pub returns-in_err-asked-clause-not_taken : goal.returns-in_err-asked-clause-not_taken
+returns-in_err-asked-clause-not_taken c failed =
     no_catalogue (texts c.args.arguments.now) (map given_of c.args.settings.now) _ (one_text c.args.arguments.now _ c.in-len1.len_at_least c.in-len1.len_below)
-    (λ q workers round pause checkpoint h. c.in_default-read_request.ensures.none q h.request)
-
-pub returns-in_default-read_run-clause-not_taken : goal.returns-in_default-read_run-clause-not_taken
-returns-in_default-read_run-clause-not_taken c _ =
-    let one = some_one_text c.args.arguments.now c.in-len1.len_at_least c.in-len1.len_below in
-    no_catalogue (texts c.args.arguments.now) (map given_of c.args.settings.now) one.text one.is
-    (λ q workers round pause checkpoint h. c.in_default-read_run.ensures.none workers round pause h.run)
-
-pub returns-then-is_none-clause-not_taken : goal.returns-then-is_none-clause-not_taken
-returns-then-is_none-clause-not_taken c _ =
-    let one = some_one_text c.args.arguments.now c.in-len1.len_at_least c.in-len1.len_below in
-    no_catalogue (texts c.args.arguments.now) (map given_of c.args.settings.now) one.text one.is
-    (no_checkpoint (map given_of c.args.settings.now) one.text c.in-Some-read_run.run'.pause c.in_ok-checkpoint.checkpoint c.requires
-    c.in-Some-read_run.ensures.some.pause_is c.in_ok-checkpoint.ensures.given
-    (some_told c.in-Some-read_run.run'.pause (sym c.is_some.ensures ∙ c.if-is_some.true))
-    (none_told c.in_ok-checkpoint.checkpoint c.is_none.result c.is_none.ensures c.if-is_none.true))
+    (c.in_err-asked.ensures.not_taken (ap Err (same_fault c.from_residual.result c.in_err-asked.field-0.0 c.from_residual.ensures.1 failed)))

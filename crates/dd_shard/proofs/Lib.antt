@@ -1,0 +1,6 @@
+pub mod AscendingLists
+mod TaggedMembers
+mod KeptPairs
+mod SortedMembers
+mod LeastDoubles
+pub mod ShardsMerged

@@ -1,0 +1,4 @@
+pub mod Merging
+pub mod Members
+pub mod Doubles
+pub mod ShardLists
