@@ -9,3 +9,5 @@ pub mod SheetLinesOnce
 pub mod FileTexts
 pub mod CanonTexts
 pub mod MergedTexts
+pub mod LineLengths
+pub mod ShardTexts

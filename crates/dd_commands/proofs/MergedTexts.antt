@@ -54,7 +54,7 @@ read_unique (f ∷ files) (x ∷ xs) [] a b = absurd b
 read_unique (f ∷ files) (x ∷ xs) (y ∷ ys) a b = ap (λ l. l ∷ xs) (reads_once f x y a.0 b.0) ∙ ap (λ ls. y ∷ ls) (read_unique files xs ys a.1 b.1)
 
 -- a file that is read has no fault
-read_at : (files : List (List ℕ)) (lists : List (List Symbol)) (k : ℕ) (file : List ℕ) → AreRead files lists → k < length files → get_or files k file ≡ file → (list : List Symbol) × Reads file list
+pub read_at : (files : List (List ℕ)) (lists : List (List Symbol)) (k : ℕ) (file : List ℕ) → AreRead files lists → k < length files → get_or files k file ≡ file → (list : List Symbol) × Reads file list
 read_at [] lists k file all low is = absurd (omega arith)
 read_at (f ∷ files) [] k file all low is = absurd all
 read_at (f ∷ files) (l ∷ lists) zero file all low is = (l, subst (λ b. Reads b l) is all.0)

@@ -11,3 +11,4 @@ pub mod Faults
 pub mod Stops
 pub mod Messages
 pub mod Merges
+pub mod ShardFiles

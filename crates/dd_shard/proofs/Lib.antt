@@ -3,4 +3,4 @@ mod TaggedMembers
 mod KeptPairs
 mod SortedMembers
 mod LeastDoubles
-mod ShardsMerged
+pub mod ShardsMerged
