@@ -22,8 +22,8 @@ pub fn shares_stay_while_a_table_is_filled()
 ///
 /// - No more cells are whole than the limit.
 /// - If as many cells are whole as the limit, each chamber is in one of them.
-/// - The sum of 1/m is at most what whole cells add, 1 for each further chain and 2 for each further
-///   cycle.
+/// - The sum of 1/m is at most what whole cells add, 1 for each further chain and 2 for each
+///   further cycle.
 pub fn whole_cells_count()
     ensures { (q : Request) (partial : Symbol) (p : Pair) (c : Census) (limit : ℕ)
         → (p ≡ Tile) ⊎ (p ≡ Vertex)

@@ -10,8 +10,8 @@ use std::alloc::Global;
 use std::marker::Brand;
 use std::sync::ledger::{Blank, Ledger};
 
-/// Returns the least form of a symbol of n chambers, in at most 5 n n comparisons of code numbers. A
-/// symbol whose traversals tie only along automorphisms takes some n log n of them.
+/// Returns the least form of a symbol of n chambers, in at most 5 n n comparisons of code numbers.
+/// A symbol whose traversals tie only along automorphisms takes some n log n of them.
 pub fn least<L: Ledger>(
     alloc: Global,
     s: &Connected,
@@ -62,8 +62,8 @@ fn least_along<L: Ledger>(
     Ok(best.form)
 }
 
-/// Returns the least form of a symbol with a known automorphism, given as the image of each chamber.
-/// Fewer traversals tie than in `least_form`.
+/// Returns the least form of a symbol with a known automorphism, given as the image of each
+/// chamber. Fewer traversals tie than in `least_form`.
 pub fn least_form_with(
     alloc: Global,
     s: &Connected,

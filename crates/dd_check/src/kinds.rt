@@ -1,8 +1,8 @@
 /// Which texts a run resumes from.
 #[derive(Clone, Copy, Debug, PartialEq, Eq)]
 pub enum Kind {
-    /// Those of catalogues.
+    /// Texts of catalogues.
     Catalogues,
-    /// Those of shards.
+    /// Texts of shards.
     Shards,
 }

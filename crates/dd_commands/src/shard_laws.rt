@@ -11,8 +11,8 @@ ghost use Rattle.dd_commands.specs.Merges.{AreRead, IsMergedText, IsMergeRefusal
 ghost use Rattle.dd_commands.specs.ShardFiles.{AreTextsOfShards};
 ghost use Rattle.dd_commands.specs.declared.merge_refusal.MergeRefusal.{MergeRefusal};
 
-/// Shows that the texts of all shards, in any order, merge to the text of the catalogue, if they are
-/// files: no merge of them is refused.
+/// Shows that the texts of all shards, in any order, merge to the text of the catalogue, if they
+/// are files: no merge of them is refused.
 pub fn texts_of_shards_merge_to_the_catalogue()
     ensures refused { (q : Request) (count : ℕ) (shards : List Shard) (files : List (List ℕ))
         (lists : List (List Symbol)) → IsValid q → AreAllShards count shards

@@ -21,9 +21,10 @@ use std::rc::RcStr;
 use std::sync::Wait;
 use std::thread::Threads;
 
-/// Makes the run of the words into the first sink, and then a run into one sink after the other that goes on from the
-/// name, until one has come to its end, the sinks are used, or the name holds nothing. Answers how the last run ended, how many
-/// there were, and what they wrote together: of each but the last so many bytes as its checkpoint tells.
+/// Makes the run of the words into the first sink, and then a run into one sink after the other
+/// that resumes from the name. It ends if a run has come to its end, if the sinks are used, or if
+/// the name holds nothing. Returns how the last run ended, how many runs there were, and what they
+/// wrote together. A run that is not the last counts as many bytes as its checkpoint says.
 pub fn drive<R: Threads + Wait + Sync, G: Gate + Sync>(
     rt: &R,
     alloc: Global,

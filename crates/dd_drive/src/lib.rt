@@ -1,4 +1,5 @@
-//! Chains of runs over a store in memory, each run into a sink of its own, and what they write together.
+//! Chains of runs over a store in memory, each run into a sink of its own, and what they write
+//! together.
 #![tactic(auto)]
 
 mod driven;

@@ -7,7 +7,7 @@ use dd_check::{CheckFault, Checkpoint, read_checkpoint};
 use dd_model::Memory;
 use std::alloc::Global;
 
-/// The first bytes of a text, so many as there are.
+/// Returns the first `count` bytes of a text, or all if it has fewer.
 fn first_bytes(text: &[u8], count: u128) -> &[u8]
     ensures { result.now ≡ take count text.now }
 {
@@ -31,7 +31,7 @@ fn check_of(alloc: Global, text: &[u8]) -> Result<Option<Checkpoint>, Memory>
     }
 }
 
-/// Whether this is the number.
+/// Returns whether this is the number.
 fn is_number(number: Option<u64>, run: u64) -> bool
     ensures { IsTrue result ↔ (number ≡ Some run) }
 {
@@ -41,9 +41,9 @@ fn is_number(number: Option<u64>, run: u64) -> bool
     }
 }
 
-/// Appends what a run gives that is not the last: of its output so many bytes as its checkpoint tells, where the text under the
-/// name is one with the run's number, and else nothing. Answers the number of the run that goes on from the text, where it
-/// is a checkpoint text.
+/// Appends what a run gives that is not the last. This is as many bytes of its output as its
+/// checkpoint says, if the text under the name has the run's number, and nothing otherwise. Returns
+/// the number of the run that resumes from the text, if it is a checkpoint text.
 pub fn add_part(
     alloc: Global,
     text: &[u8],

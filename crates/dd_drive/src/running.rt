@@ -33,7 +33,8 @@ pub fn run_into<R: Threads + Wait + Sync, G: Gate + Sync>(
     run(rt, alloc, words, store, &mut sinks[k], &mut err, gate)
 }
 
-/// The text under the name, where a chain goes on after a run with this status, if another sink is left.
+/// The text under the name, where a chain goes on after a run with this status, if another sink is
+/// left.
 pub fn text_to_go_on<'a>(
     status: Status,
     more: bool,

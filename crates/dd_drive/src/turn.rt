@@ -5,6 +5,6 @@ use dd_tasks::Status;
 pub enum Turn {
     /// Nothing: the last run ended so.
     Last(Status),
-    /// A run that goes on from the name, and its number, where it can begin.
+    /// A run that resumes from the name, and its number, if it can begin.
     Next(Option<u64>),
 }

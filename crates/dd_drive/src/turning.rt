@@ -16,8 +16,9 @@ use std::rc::RcStr;
 use std::sync::Wait;
 use std::thread::Threads;
 
-/// Makes the run into the sink with this number, appends what it gives to what the chain has written, and answers what comes
-/// after it. The run has been made even where memory is wanting afterwards.
+/// Makes the run into the sink with this number, appends what it gives to what the chain has
+/// written, and returns what comes after it. The run has been made even if memory runs out
+/// afterwards.
 pub fn make_turn<R: Threads + Wait + Sync, G: Gate + Sync>(
     rt: &R,
     alloc: Global,

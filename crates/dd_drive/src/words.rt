@@ -6,7 +6,7 @@ use dd_model::Memory;
 use std::alloc::Global;
 use std::rc::RcStr;
 
-/// The words that go on from the name.
+/// Returns the words that resume from the name.
 pub fn words_to_go_on(alloc: Global, name: &str) -> Result<[RcStr; 2], Memory>
     ensures { IfOk result (λ words. map rc_str_bytes words ≡ resume_words name.now) }
 {

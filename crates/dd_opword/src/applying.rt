@@ -131,8 +131,8 @@ fn apply_after_two<
 }
 
 /// Returns what the first of two letters makes of what the second makes of what an inner table of L
-/// parts makes of a symbol. The inner table is that of a letter. L2 is twice L, L3 is three times L,
-/// and so on.
+/// parts makes of a symbol. The inner table is that of a letter. L2 is twice L, L3 is three times
+/// L, and so on.
 fn apply_both_after<
     const L: usize,
     const L2: usize,

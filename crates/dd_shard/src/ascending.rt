@@ -7,7 +7,8 @@ ghost use Rattle.dd_shard.specs.Members.{IsShort, IsFirstFall, lists_of};
 use crate::merge_fault::MergeFault;
 use dd_symbol::{Connected, cmp_code};
 
-/// Checks that each list ascends. An error names the first symbol that is not after the one before it.
+/// Checks that each list ascends. An error names the first symbol that is not after the one before
+/// it.
 pub(crate) fn check_ascending(lists: &[Vec<Connected>]) -> Result<(), MergeFault>
     requires few { length lists.now < 2 ^ 32 }
     requires short { AllByRecursion IsShort (lists_of lists.now) }

@@ -40,8 +40,8 @@ fn add_list(members: &mut Vec<Member>, file: u32, list: Vec<Connected>) -> Resul
     Ok(())
 }
 
-/// Sorts members by their codes. Members with one code stay in their order. The sort takes ascending
-/// stretches as they are and merges them.
+/// Sorts members by their codes. Members with one code stay in their order. The sort takes
+/// ascending stretches as they are and merges them.
 pub(crate) fn sort(members: &mut Vec<Member>) -> Result<(), Memory>
     ensures permutation { IsPermutation members.old.items members.new.items }
     ensures sorted { OnOk result (IsSortedBy by_code members.new.items) }

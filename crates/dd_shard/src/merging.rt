@@ -12,8 +12,8 @@ use std::alloc::Global;
 
 /// Returns the ascending list of all symbols of ascending lists that have no symbol in common.
 ///
-/// An error names the first symbol that is not after the one before it in its list. If there is none,
-/// it names the first symbol that equals one of an earlier list. Lists count before symbols.
+/// An error names the first symbol that is not after the one before it in its list. If there is
+/// none, it names the first symbol that equals one of an earlier list. Lists count before symbols.
 pub fn merge(alloc: Global, lists: Vec<Vec<Connected>>) -> Result<Vec<Connected>, MergeFault>
     requires few { length lists.items < 2 ^ 32 }
     requires short { AllByRecursion IsShort (lists_of lists.items) }

@@ -8,7 +8,7 @@ use dd_ports::Sink;
 use dd_tasks::{Ending, write_text};
 use std::alloc::Global;
 
-/// Writes the text of an exercise of so many items from a number on.
+/// Writes the text of an exercise of `count` items from a number on.
 pub fn write_exercise<O: Sink>(alloc: Global, start: u32, count: u32, out: &mut O) -> Ending
     requires start { start ≤ 2147483647 }
     requires count { count ≤ 10000 }

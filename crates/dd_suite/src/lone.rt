@@ -39,7 +39,7 @@ pub fn write_lone<R: Threads + Wait + Sync, G: Gate + Sync, O: Sink>(
     Ending::of_run(as_run(ended), 0)
 }
 
-/// The same with the fault of a run.
+/// Returns the same with the fault of a run.
 fn as_run(ended: Result<Finish, SinkFault>) -> Result<Finish, RunFault>
     ensures { result ≡ run_result ended }
 {

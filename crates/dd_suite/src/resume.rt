@@ -24,7 +24,7 @@ const MOST_BYTES: usize = 4096;
 /// How many bytes of a text of a shard are read: more than such a text can have.
 const MOST_SHARD_BYTES: usize = 8192;
 
-/// What a text tells from which a run resumes.
+/// What a text says from which a run resumes.
 #[derive(Drop)]
 struct Saved {
     shard: Option<Shard>,
@@ -133,7 +133,7 @@ fn shard_of(alloc: Global, bytes: &[u8]) -> Result<Saved, Ending>
     }
 }
 
-/// Goes on from the checkpoint of a name, of a catalogue or of a shard, by a run with the next
+/// Resumes from the checkpoint of a name, of a catalogue or of a shard, by a run with the next
 /// number.
 pub fn resume<R: Threads + Wait + Sync, S: Store, G: Gate + Sync, O: Sink>(
     rt: &R,

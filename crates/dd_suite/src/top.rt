@@ -33,8 +33,8 @@ use std::rc::RcStr;
 use std::sync::Wait;
 use std::thread::Threads;
 
-/// All that the program does: takes the words after its name, writes on `out`, and tells of the
-/// status on `err`. A fault of `err` changes no status.
+/// All that the program does. It takes the words after its name, writes on `out`, and writes a line
+/// about the status on `err`. A fault of `err` changes no status.
 pub fn run<R: Threads + Wait + Sync, S: Store, O: Sink, E: Sink, G: Gate + Sync>(
     rt: &R,
     alloc: Global,

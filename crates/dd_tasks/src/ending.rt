@@ -6,7 +6,7 @@ use dd_commands::{CommandFault, MergeRefusal, SymbolRefusal};
 use dd_pages::{Finish, RunFault};
 use dd_text::FileFault;
 
-/// How a command ended, with all that its line on the error stream tells.
+/// How a command ended, with all that its line on the error stream says.
 #[derive(Clone, Copy, Debug, PartialEq, Eq)]
 pub enum Ending {
     /// The whole output was written.
@@ -21,13 +21,14 @@ pub enum Ending {
     RefusedCheck(ShardFault),
     /// The files are not merged.
     RefusedMerge(MergeRefusal),
-    /// As many lines were written as were to be written before a pause, and there are more. It tells the number of the last one.
+    /// The lines before a pause were written, and there are more. It has the number of the last
+    /// one.
     Paused(u64),
     /// A call of the store failed.
     StoreFault,
     /// A write on the output failed.
     SinkFault,
-    /// Want of memory.
+    /// Out of memory.
     Memory,
     /// The catalogue has a line of a number that is too large.
     TooManyLines,

@@ -8,7 +8,7 @@ ghost use Rattle.dd_tasks.specs.Merges.{IsFetchedFront};
 use dd_ports::{Fetched, Store, StoreFault};
 use std::alloc::Global;
 
-/// All that a name holds, and None where it is more than so many bytes.
+/// Returns all that a name holds, or None if that is more than `most` bytes.
 pub fn fetch_all<S: Store>(
     alloc: Global,
     name: &str,

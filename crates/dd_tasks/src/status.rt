@@ -7,7 +7,7 @@ pub enum Status {
     Done,
     /// The words are not taken.
     Usage,
-    /// The file is refused, or a symbol of it, or what is to be gone on from is no checkpoint text.
+    /// The file is refused, or a symbol of it, or what is to be resumed is no checkpoint text.
     Refused,
     /// As many lines were written as were to be written before a pause, and there are more.
     Paused,
@@ -15,7 +15,7 @@ pub enum Status {
     StoreFault,
     /// A write on the output failed.
     SinkFault,
-    /// Want of memory.
+    /// Out of memory.
     Memory,
     /// The output has a line of a number that is too large.
     TooManyLines,

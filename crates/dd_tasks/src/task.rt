@@ -17,7 +17,7 @@ pub enum Task {
         pace: Pace,
         pause: Option<u32>,
     },
-    /// Going on from the checkpoint of a name, of a catalogue or of a shard, in the same way.
+    /// Resuming from the checkpoint of a name, of a catalogue or of a shard, in the same way.
     Resume {
         kind: Kind,
         name: Name,
@@ -28,7 +28,7 @@ pub enum Task {
     OnFile(FileCommand, Name),
     /// The symbols of the files of some names, in one list.
     Merge(Names),
-    /// So many items of an exercise from a number on.
+    /// An exercise of `count` items from a number on.
     Exercise {
         start: u32,
         count: u32,

@@ -15,8 +15,8 @@ use dd_text::FileFault;
 use itoa::Buffer;
 use std::alloc::Global;
 
-/// Writes the line of an ending. After `Err` a prefix of it was written: a write failed or ran out of memory and
-/// counted it, or there was no memory to make the line of a refusal.
+/// Writes the line of an ending. After `Err` a prefix of it was written: a write failed or ran out
+/// of memory and counted it, or there was no memory to make the line of a refusal.
 pub fn tell<E: Sink>(alloc: Global, ending: Ending, err: &mut E) -> Result<(), SinkFault>
     ensures whole { OnOk result (Appends (E.held err.old) (E.held err.new) (message_of ending)) }
     ensures prefix { GrowsByPrefix (E.held err.old) (E.held err.new) (message_of ending) }
@@ -99,7 +99,7 @@ fn tell_merge<E: Sink>(alloc: Global, refusal: MergeRefusal, err: &mut E) -> Res
     write_all_of(err, line.as_bytes())
 }
 
-/// Writes the line of a run that paused after so many lines of its chain. Nothing is allocated.
+/// Writes the line of a run that paused after `lines` lines of its chain. Nothing is allocated.
 fn tell_pause<E: Sink>(lines: u64, err: &mut E) -> Result<(), SinkFault>
     ensures whole { OnOk result (Appends (E.held err.old) (E.held err.new) (pause_line lines)) }
     ensures prefix { GrowsByPrefix (E.held err.old) (E.held err.new) (pause_line lines) }
