@@ -1,4 +1,4 @@
-//! Shards of a catalogue, and how the texts of shards are joined.
+//! Shards of a catalogue: their jobs, the texts of their checkpoints, and how their texts are joined.
 #![tactic(auto)]
 
 mod ascending;
@@ -9,6 +9,8 @@ mod members;
 mod merge_fault;
 mod merging;
 
+pub use dd_check::{ShardFault, read_shard, write_shard};
+pub use dd_jobs::shard_opening;
 pub use laws::shards_merge_to_the_catalogue;
 pub use merge_fault::MergeFault;
 pub use merging::merge;
