@@ -9,3 +9,4 @@ pub mod CheckValues
 pub mod ShardFetches
 pub mod RunCalls
 pub mod ProgramCalls
+mod ShardRuns
