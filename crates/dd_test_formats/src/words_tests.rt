@@ -73,6 +73,39 @@ fn put_command(alloc: Global, out: &mut String, command: &Command) -> Result<(),
             let text = format!(in alloc; "resume {name} {workers} {round} {pause:?}")?;
             put(out, text)
         }
+        Command::Shard {
+            shard,
+            request,
+            workers,
+            round,
+            pause,
+            checkpoint,
+        } => {
+            let (index, count) = (shard.index(), shard.count());
+            put(out, format!(in alloc; "shard {index} {count}")?)?;
+            put_request(alloc, out, request)?;
+            let checkpoint = name_or_none(checkpoint);
+            let text = format!(in alloc; " {workers} {round} {pause:?} {checkpoint}")?;
+            put(out, text)
+        }
+        Command::ResumeShard {
+            name,
+            workers,
+            round,
+            pause,
+        } => {
+            let name = name.as_str();
+            let text = format!(in alloc; "resume-shard {name} {workers} {round} {pause:?}")?;
+            put(out, text)
+        }
+        Command::Merge { files } => {
+            out.push_str("merge")?;
+            for file in files.as_slice() {
+                let file = file.as_str();
+                put(out, format!(in alloc; " {file}")?)?;
+            }
+            Ok(())
+        }
         Command::Draw { file, frame } => {
             let file = file.as_str();
             put(out, format!(in alloc; "draw {file} {frame:?}")?)
@@ -171,7 +204,7 @@ fn catalogues_are_read(rt: HostRuntime) {
 
 #[test]
 fn other_commands_are_read(rt: HostRuntime) {
-    let rows: [(&[&str], &str); 9] = [
+    let rows: [(&[&str], &str); 12] = [
         (&["canon", "f"], "Canon f"),
         (&["dual", "--", "f"], "Dual f"),
         (&["exercise", "1", "00"], "exercise 1 0"),
@@ -184,6 +217,15 @@ fn other_commands_are_read(rt: HostRuntime) {
         (&["draw", "f"], "draw f Some(Square)"),
         (&["draw", "f", "--cell", "own"], "draw f None"),
         (&["resume", "c", "--pause", "17"], "resume c 1 64 Some(17)"),
+        (
+            &["resume-shard", "c", "--workers", "2"],
+            "resume-shard c 2 64 None",
+        ),
+        (
+            &["shard", "2", "3", "2", "--checkpoint", "c"],
+            "shard 2 3 2 0 0 faces 3 4 5 6 7 216 degrees 3 4 5 6 7 216 false 1 64 None c",
+        ),
+        (&["merge", "g", "f"], "merge g f"),
     ];
     check_rows(&rt, rt.alloc(), rows.as_slice());
 }
