@@ -1,5 +1,5 @@
-"""What a person sees on a terminal after a call that failed, and the commands of the man page."""
-import os, pty, re, subprocess
+"""What a person sees on a terminal after a call that failed, the commands of the man page, and what is installed."""
+import os, pty, re, shutil, subprocess
 
 # words of a call, a file `f`, its status, and what standard error has after the program's line if it is a terminal
 HELP = (
@@ -12,6 +12,13 @@ HELP = (
     ("lines f", "# squares\n<1.1:1:1,1,1:4,x>\n", 1, "f, line 2, column 16"),
     ("lines g", "", 4, "g: there is no such file"),
     ("catalogue 1 --checkpoint nowhere/c", "", 4, "nowhere/c: there is no folder nowhere"),
+)
+INSTALLED = (
+    "bin/dressline",
+    "share/man/man1/dressline.1",
+    "share/bash-completion/completions/dressline",
+    "share/zsh/site-functions/_dressline",
+    "share/fish/vendor_completions.d/dressline.fish",
 )
 MAN_PAGE = ("93\n", "", "", "", "<1.1:3:1 2 3,1 3,2 3:4 8,3>\n")
 
@@ -59,3 +66,27 @@ def man_page(checks):
     with open(f"{checks.room}/some.ds", encoding="utf-8") as it:
         checks.same("the resumed catalogue of the man page", it.read(), checks.written("catalogue 16"))
     os.remove(f"{checks.room}/dressline")
+
+
+def said(*words):
+    """Calls a command. Returns its status and what it wrote."""
+    ran = subprocess.run(words, capture_output=True, encoding="utf-8", check=False)
+    return ran.returncode, ran.stdout, ran.stderr
+
+
+def installed(checks):
+    """`tools/install`: the program runs, the man page has no warning, and bash completes a word. The script installs
+    the program of the source tree, so it is not called if another one is named."""
+    if "DRESSLINE" in os.environ:
+        return
+    files = [f"{checks.room}/prefix/{it}" for it in INSTALLED]
+    found = said(f"{checks.top}/tools/install", f"{checks.room}/prefix")
+    checks.same("tools/install", found[:2], (0, "".join(f"{it}\n" for it in files)))
+    checks.same("the installed program", said(files[0], "catalogue", "1"), (0, checks.written("catalogue 1"), ""))
+    if shutil.which("man"):
+        _, _, warnings = said("man", "--warnings", "--local-file", files[1])
+        checks.same("warnings on the man page", warnings, "")
+    if shutil.which("bash"):
+        call = "COMP_WORDS=(dressline catalogue --ti) COMP_CWORD=2; _dressline dressline --ti catalogue"
+        words = said("bash", "-c", f'. "$0"; {call}; echo "${{COMPREPLY[@]}}"', files[2])
+        checks.same("a word that bash completes", words, (0, "--tiles\n", ""))

@@ -6,8 +6,8 @@
 set -eu
 here=$(dirname "$0") out=$1 shards=$2
 shift 2
-if command -v parallel >/dev/null; then
-    seq "$shards" | parallel --will-cite --jobs "$shards" "$here/part" "$out" {} "$shards" "$@"
+if parallel --version 2>/dev/null | grep -q '^GNU parallel'; then
+    seq "$shards" | parallel --will-cite --quote --jobs "$shards" "$here/part" "$out" {} "$shards" "$@"
 else
     seq "$shards" | xargs -P "$shards" -I '{}' "$here/part" "$out" '{}' "$shards" "$@"
 fi

@@ -1,7 +1,7 @@
 #!/bin/sh
 # Writes a catalogue by 8 shards, each a task of a Slurm job array. Submit it at the top of the checkout:
 #
-#     job=$(sbatch --parsable examples/shards/slurm.sh catalogue.ds 24 --minimal)
+#     job=$(sbatch --parsable examples/shards/slurm.sh catalogue.ds 20 --minimal)
 #     sbatch --dependency=afterok:$job --wrap 'examples/shards/join catalogue.ds 8'
 #
 # A task that Slurm stops and puts back into the queue resumes its shard.
