@@ -9,7 +9,7 @@ use std::alloc::Global;
 use std::thread;
 use std::thread::Threads;
 
-/// The most parts that are sorted at a time.
+/// The most parts, each of which has a thread.
 const PARTS: usize = 4;
 
 /// How many members a part has at least, so that its thread is worth its start.
@@ -17,15 +17,14 @@ const FEWEST: usize = 2048;
 
 /// Sorts members by their codes. Members with one code stay in their order.
 ///
-/// A sort takes ascending stretches as they are and merges them. Threads first merge those of
-/// quarters and then those of halves, so that the sort of the whole merges two.
+/// A sort takes ascending stretches as they are and merges them. Threads first merge those of four
+/// parts, so that the sort of the whole has only four to merge.
 pub(crate) fn sort<R: Threads + Sync>(rt: &R, members: &mut Vec<Member>) -> Result<(), Memory>
     ensures reordered { IsReordered members.old.items members.new.items }
     ensures sorted { OnOk result (IsSortedBy by_code members.new.items) }
 {
     let size = members.len().div_ceil(PARTS).max(FEWEST);
     sort_parts(rt, size, members);
-    sort_parts(rt, size.saturating_mul(2), members);
     sort_whole(members)
 }
 
