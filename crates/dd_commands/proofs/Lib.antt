@@ -9,5 +9,6 @@ pub mod SheetLinesOnce
 pub mod FileTexts
 pub mod CanonTexts
 pub mod MergedTexts
+mod LinesInParts
 pub mod LineLengths
 pub mod ShardTexts

@@ -2,7 +2,7 @@
 use Rattle.std.proofs.Common.{◌≡◌, ℕ, zero, suc, ◌+◌, ◌<◌, List, [], ◌∷◌, ◌++◌, length, length-append, take, get_or, take-suc, Result, Ok, Err, refl, sym, ap, ◌∙◌, subst, inl, arith}
 use Rattle.std.specs.Prelude.{IfErr}
 use Rattle.std.specs.Result.{IsErrAnd}
-use Rattle.std.proofs.lemmas.List.{append-nil, get_or-map, length-map, map-append}
+use Rattle.std.proofs.lemmas.List.{append-nil, get_or_default, get_or-map, length-map, map-append, take_all}
 use Rattle.std.specs.Global.{Global}
 use Rattle.std.specs.declared.vec.Vec.{Vec}
 use Rattle.std.specs.List.{AllByRecursion, Contains}
@@ -19,10 +19,14 @@ use Rattle.dd_text.specs.declared.faults.FileFault.{FileFault}
 use Rattle.dd_commands.specs.declared.merge_refusal.MergeRefusal.{MergeRefusal}
 use Rattle.dd_commands.specs.declared.merge_refusal.MergeRefusal.TheVariants.{File, NotAscending, Doubled}
 use Rattle.dd_commands.specs.Files.{IsFaulty}
-use Rattle.dd_commands.specs.Merges.{bytes_of, AreRead, IsMergedText, IsUnread, IsMergeRefusal, IsFileRefusal, IsReadRefusal, IsListRefusal}
+use Rattle.dd_commands.specs.Merges.{bytes_of, AreRead, AreReadEach, IsReadingOf, IsMergedText, IsUnread, IsMergeRefusal, IsFileRefusal, IsReadRefusal, IsListRefusal}
 use Rattle.dd_commands.specs.Stops.{IsStop}
 use Rattle.dd_commands.specs.declared.stop.Stop.{Stop}
 use Rattle.dd_commands.specs.declared.stop.Stop.TheVariants.{Refused, Memory}
+
+-- what reading a file gives
+abbrev pub Reading : Type 0
+Reading = Result (Vec Symbol Global) (Stop MergeRefusal)
 
 -- ## Lists that are read
 
@@ -134,17 +138,69 @@ file_at vs k v d low is = get_or-map (λ (file : Vec ℕ Global). file.items) vs
 pub files_length : (vs : List (Vec ℕ Global)) → length (bytes_of vs) ≡ length vs
 files_length vs = length-map vs (λ (file : Vec ℕ Global). file.items)
 
--- one file more
-pub read_one_more : (fs : List (Vec ℕ Global)) (ls now : List (Vec Symbol Global)) (k : ℕ) (f : Vec ℕ Global) (l : Vec Symbol Global) → AreRead (take k (bytes_of fs)) (lists_of ls) → k < length fs
-    → f ≡ get_or fs k f → Reads f.items l.items → now ≡ ls ++ l ∷ [] → AreRead (take (k + 1) (bytes_of fs)) (lists_of now)
-read_one_more fs ls now k f l all low is one e =
-    let next : k + 1 ≡ suc k = omega arith in
-    let len = files_length fs in
-    let inside : k < length (bytes_of fs) = omega (arith, len, low) in
-    let taken : take (k + 1) (bytes_of fs) ≡ take k (bytes_of fs) ++ f.items ∷ [] =
-    ap (λ j. take j (bytes_of fs)) next ∙ take-suc (bytes_of fs) k [] inside ∙ ap (λ x. take k (bytes_of fs) ++ x ∷ []) (file_at fs k f [] low is) in
-    let listed : lists_of now ≡ lists_of ls ++ l.items ∷ [] = ap lists_of e ∙ map-append (λ (list : Vec Symbol Global). list.items) ls (l ∷ []) in
-    subst (λ ys. AreRead ys (lists_of now)) (sym taken) (subst (AreRead (take k (bytes_of fs) ++ f.items ∷ [])) (sym listed) (read_more (take k (bytes_of fs)) (lists_of ls) f.items l.items all one))
+-- ## Files that are read one after the other
+
+-- The first files spell these lists, and these are the readings of the files that are left.
+pub record AreReadSoFar (files : List (List ℕ)) (left : List Reading) (lists : List (List Symbol)) : Type 0 where
+  pub done : ℕ
+  pub count : done + length left ≡ length files
+  pub read : AreRead (take done files) lists
+  pub rest : (k : ℕ) (f : List ℕ) (d : Reading) → k < length left → IsReadingOf (done + k + 1) (get_or files (done + k) f) (get_or left k d)
+
+pub none_read : (files : List (List ℕ)) (results : List Reading) (lists : List (List Symbol)) → AreReadEach files results → lists ≡ [] → AreReadSoFar files results lists
+none_read files results lists each none =
+    record {
+      done = 0;
+      count = omega (arith, each.count);
+      read = subst (λ ls. AreRead [] ls) (sym none) tt;
+      rest = λ k f d low.
+          let zero_less : k ≡ 0 + k = omega arith in
+          subst (λ j. IsReadingOf (j + 1) (get_or files j f) (get_or results k d)) zero_less (each.each k f d (let size = each.count in omega (arith, low, size)));
+    }
+
+-- the next file is read
+pub one_read : (files : List (List ℕ)) (list : Vec Symbol Global) (left later : List Reading) (lists now : List (Vec Symbol Global)) → left ≡ Ok list ∷ later → now ≡ lists ++ list ∷ []
+    → AreReadSoFar files left (lists_of lists) → AreReadSoFar files later (lists_of now)
+one_read files list left later lists now next more so =
+    let size = ap length next in
+    let k = so.done in
+    let low : k < length files = omega (arith, so.count, size) in
+    let place : k + 1 ≡ suc k = omega arith in
+    let same : get_or left 0 (Ok list) ≡ Ok list = ap (λ rs. get_or rs 0 (Ok list)) next in
+    let first : IsReadingOf (k + 0 + 1) (get_or files (k + 0) []) (get_or left 0 (Ok list)) = so.rest 0 [] (Ok list) (omega (arith, size)) in
+    let one : Reads (get_or files (k + 0) []) list.items = (subst (IsReadingOf (k + 0 + 1) (get_or files (k + 0) [])) same first).read in
+    let here : Reads (get_or files k []) list.items = subst (λ j. Reads (get_or files j []) list.items) (omega arith) one in
+    let taken : take (k + 1) files ≡ take k files ++ get_or files k [] ∷ [] = ap (λ j. take j files) place ∙ take-suc files k [] low in
+    let listed : lists_of now ≡ lists_of lists ++ list.items ∷ [] = ap lists_of more ∙ map-append (λ (l : Vec Symbol Global). l.items) lists (list ∷ []) in
+    record {
+      done = k + 1;
+      count = omega (arith, so.count, size);
+      read = subst (λ fs. AreRead fs (lists_of now)) (sym taken) (subst (AreRead (take k files ++ get_or files k [] ∷ [])) (sym listed) (read_more (take k files) (lists_of lists) (get_or files k []) list.items so.read here));
+      rest = λ j f d inside.
+          let at = so.rest (suc j) f d (omega (arith, size, inside)) in
+          let there : get_or left (suc j) d ≡ get_or later j d = ap (λ rs. get_or rs (suc j) d) next in
+          let later_place : k + suc j ≡ k + 1 + j = omega arith in
+          subst (λ r. IsReadingOf (k + 1 + j + 1) (get_or files (k + 1 + j) f) r) there (subst (λ p. IsReadingOf (p + 1) (get_or files p f) (get_or left (suc j) d)) later_place at);
+    }
+
+-- the next file is not read
+pub one_unread : (files : List (List ℕ)) (stop : Stop MergeRefusal) (left later : List Reading) (lists : List (List Symbol)) → left ≡ Err stop ∷ later → AreReadSoFar files left lists
+    → IsStop (IsReadRefusal files) stop
+one_unread files stop left later lists next so =
+    let size = ap length next in
+    let k = so.done in
+    let low : k < length files = omega (arith, so.count, size) in
+    let same : get_or left 0 (Err stop) ≡ Err stop = ap (λ rs. get_or rs 0 (Err stop)) next in
+    let first : IsReadingOf (k + 0 + 1) (get_or files (k + 0) []) (get_or left 0 (Err stop)) = so.rest 0 [] (Err stop) (omega (arith, size)) in
+    let one : IsStop (IsFileRefusal (k + 0 + 1) (get_or files (k + 0) [])) stop = (subst (IsReadingOf (k + 0 + 1) (get_or files (k + 0) [])) same first).why in
+    let here : IsStop (IsFileRefusal (k + 1) (get_or files k [])) stop = subst (λ j. IsStop (IsFileRefusal (j + 1) (get_or files j [])) stop) (omega arith) one in
+    read_stop files lists k (k + 1) (get_or files k []) stop so.read low (get_or_default files k (get_or files k []) [] low) refl here
+
+-- every file is read
+pub all_read : (files : List (List ℕ)) (left : List Reading) (lists : List (List Symbol)) → left ≡ [] → AreReadSoFar files left lists → AreRead files lists
+all_read files left lists none so =
+    let size = ap length none in
+    subst (λ fs. AreRead fs lists) (take_all so.done files (omega (arith, so.count, size))) so.read
 
 -- an error that is handed on
 pub handed_on : {A E : Type 0} (P : E → Type 0) (r : Result A E) (e : E) → IsErrAnd r (λ x. x ≡ e) → P e → IfErr r P

@@ -4,7 +4,6 @@ use Rattle.dd_model.specs.declared.pair.Pair.TheVariants.{Vertex}
 use Rattle.dd_model.specs.Symbol.{Symbol}
 use Rattle.dd_model.specs.Flat.{Flat}
 use Rattle.dd_model.specs.Cell.{AreCells}
-use Rattle.dd_model.specs.Code.{IsLeastForm}
 use Rattle.dd_covers.specs.TorusCover.{IsTorusCover}
 use Rattle.dd_lattice.specs.NetOf.{IsNet}
 use Rattle.dd_model.specs.declared.frame.Frame.{Frame}

@@ -1,5 +1,6 @@
 -- What a merge writes of files, and why files are not merged.
-use Rattle.std.specs.Prelude.{◌≡◌, ℕ, List, [], ◌∷◌, map, take}
+use Rattle.std.specs.Prelude.{◌≡◌, ℕ, ◌+◌, ◌<◌, List, [], ◌∷◌, length, map, take, slice_index_or, IfOk, IfErr}
+use Rattle.std.specs.declared.result.Result.{Result}
 use Rattle.std.specs.Global.{Global}
 use Rattle.std.specs.declared.vec.Vec.{Vec}
 use Rattle.dd_model.specs.Symbol.{Symbol}
@@ -11,7 +12,9 @@ use Rattle.dd_shard.specs.declared.merge_fault.MergeFault.TheVariants as fault
 use Rattle.dd_text.specs.declared.faults.FileFault.{FileFault}
 use Rattle.dd_commands.specs.declared.merge_refusal.MergeRefusal.{MergeRefusal}
 use Rattle.dd_commands.specs.declared.merge_refusal.MergeRefusal.TheVariants.{File, NotAscending, Doubled}
+use Rattle.dd_commands.specs.declared.stop.Stop.{Stop}
 use Rattle.dd_commands.specs.Files.{IsFaulty}
+use Rattle.dd_commands.specs.Stops.{IsStop}
 
 -- the bytes of files
 abbrev pub bytes_of : List (Vec ℕ Global) → List (List ℕ)
@@ -57,6 +60,17 @@ IsMergeRefusal files (Doubled n symbol) = IsUnmerged files (fault.Doubled n symb
 abbrev pub IsFileRefusal : ℕ → List ℕ → MergeRefusal → Type 0
 IsFileRefusal number file (File n fault) = (n ≡ number) × IsFaulty file fault
 IsFileRefusal number file other = ⊥
+
+-- what reading a file with a number gives: its symbols, or its fault
+pub record IsReadingOf (number : ℕ) (file : List ℕ) (result : Result (Vec Symbol Global) (Stop MergeRefusal)) : Type 0 where
+  pub read : IfOk result (λ symbols. Reads file symbols.items)
+  pub why : IfErr result (IsStop (IsFileRefusal number file))
+
+-- what reading each file gives
+pub record AreReadEach (files : List (List ℕ)) (results : List (Result (Vec Symbol Global) (Stop MergeRefusal))) : Type 0 where
+  pub count : length results ≡ length files
+  pub each : (k : ℕ) (f : List ℕ) (d : Result (Vec Symbol Global) (Stop MergeRefusal)) → k < length files
+      → IsReadingOf (k + 1) (slice_index_or files k f) (slice_index_or results k d)
 
 -- the fault of the first file that is not read
 abbrev pub IsReadRefusal : List (List ℕ) → MergeRefusal → Type 0

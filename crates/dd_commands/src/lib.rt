@@ -10,6 +10,7 @@ mod file_text;
 mod info;
 mod merge_refusal;
 mod merged;
+mod merged_lines;
 mod refusals;
 mod shard_laws;
 mod sheet_lines;

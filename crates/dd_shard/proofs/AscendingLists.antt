@@ -15,12 +15,9 @@ use Rattle.dd_model.proofs.Codes.{code_cmp_total}
 use Rattle.dd_shard.specs.Merging.{IsNth, IsOutOfOrder, IsNoLater, IsFirst}
 use Rattle.dd_shard.specs.Members.{IsFirstFall, lists_of}
 
-pub below_trans : (s t u : Symbol) → IsBelow s t → IsBelow t u → IsBelow s u
-below_trans s t u a b = code_cmp_total.trans s t u a b
-
 all_below : (s t : Symbol) (ss : List Symbol) → IsBelow s t → AllByRecursion (IsBelow t) ss → AllByRecursion (IsBelow s) ss
 all_below s t [] below all = tt
-all_below s t (u ∷ ss) below all = (below_trans s t u below all.0, all_below s t ss below all.1)
+all_below s t (u ∷ ss) below all = (code_cmp_total.trans s t u below all.0, all_below s t ss below all.1)
 
 pub ascending_more : (s t : Symbol) (ss : List Symbol) → IsBelow s t → IsAscending (t ∷ ss) → IsAscending (s ∷ t ∷ ss)
 ascending_more s t ss below rest = ((below, all_below s t ss below rest.0), rest)

@@ -4,3 +4,4 @@ mod KeptPairs
 mod SortedMembers
 mod LeastDoubles
 pub mod ShardsMerged
+mod Reordering

@@ -2,6 +2,7 @@
 use Rattle.std.specs.Prelude.{◌≡◌, ℕ, ◌+◌, ◌<◌, ◌^◌, List, [], ◌∷◌, ◌++◌, Bool, length, map, take}
 use Rattle.std.specs.Global.{Global}
 use Rattle.std.specs.declared.vec.Vec.{Vec}
+use Rattle.std.specs.List.Sorted.{IsPermutation, IsStableBy}
 use Rattle.std.specs.Ordering.{is_lt}
 use Rattle.dd_model.specs.Symbol.{Symbol}
 use Rattle.dd_model.specs.Code.{code_cmp, IsBelow}
@@ -30,6 +31,11 @@ tagged file (list ∷ lists) = numbered file 1 list ++ tagged (file + 1) lists
 -- the order of codes
 abbrev pub by_code : Member → Member → Bool
 by_code a b = is_lt (code_cmp a.symbol b.symbol)
+
+-- members in another order, in which those with one code stay in theirs
+pub record IsReordered (old new : List Member) : Type 0 where
+  pub permutation : IsPermutation old new
+  pub stable : IsStableBy by_code old new
 
 -- the first symbol that is not after the one before it, by its number
 pub record IsFirstFall (list : List Symbol) (n : ℕ) : Type 0 where

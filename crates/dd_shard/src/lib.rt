@@ -8,6 +8,7 @@ mod member;
 mod members;
 mod merge_fault;
 mod merging;
+mod sorting;
 
 pub use dd_check::{ShardFault, read_shard, write_shard};
 pub use dd_jobs::shard_opening;

@@ -1,11 +1,10 @@
 ghost use Rattle.std.specs.Prelude.{◌≡◌, ◌++◌, ◌+◌, ◌<◌, ◌^◌, length, map, OnOk, IfOk};
 ghost use Rattle.std.specs.List.{AllByRecursion};
-ghost use Rattle.std.specs.List.Sorted.{IsPermutation, IsSortedBy, IsStableBy};
-ghost use Rattle.dd_shard.specs.Members.{IsShort, lists_of, numbered, tagged, by_code};
+ghost use Rattle.dd_shard.specs.Members.{IsShort, lists_of, numbered, tagged};
 
 use crate::member::Member;
 use dd_model::Memory;
-use dd_symbol::{Connected, cmp_code};
+use dd_symbol::Connected;
 use std::alloc::Global;
 
 /// Returns the symbols of all lists, one list after the other, each with its place.
@@ -37,17 +36,6 @@ fn add_list(members: &mut Vec<Member>, file: u32, list: Vec<Connected>) -> Resul
             number,
         })?;
     }
-    Ok(())
-}
-
-/// Sorts members by their codes. Members with one code stay in their order. The sort takes
-/// ascending stretches as they are and merges them.
-pub(crate) fn sort(members: &mut Vec<Member>) -> Result<(), Memory>
-    ensures permutation { IsPermutation members.old.items members.new.items }
-    ensures sorted { OnOk result (IsSortedBy by_code members.new.items) }
-    ensures stable { IsStableBy by_code members.old.items members.new.items }
-{
-    members.sort_by(|a, b| cmp_code(a.symbol.symbol(), b.symbol.symbol()))?;
     Ok(())
 }
 

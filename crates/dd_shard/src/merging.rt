@@ -5,16 +5,22 @@ ghost use Rattle.dd_shard.specs.Members.{IsShort, lists_of};
 
 use crate::ascending::check_ascending;
 use crate::doubles::least_double;
-use crate::members::{members_of, sort, symbols_of};
+use crate::members::{members_of, symbols_of};
 use crate::merge_fault::MergeFault;
+use crate::sorting::sort;
 use dd_symbol::Connected;
 use std::alloc::Global;
+use std::thread::Threads;
 
 /// Returns the ascending list of all symbols of ascending lists that have no symbol in common.
 ///
 /// An error names the first symbol that is not after the one before it in its list. If there is
 /// none, it names the first symbol that equals one of an earlier list. Lists count before symbols.
-pub fn merge(alloc: Global, lists: Vec<Vec<Connected>>) -> Result<Vec<Connected>, MergeFault>
+pub fn merge<R: Threads + Sync>(
+    rt: &R,
+    alloc: Global,
+    lists: Vec<Vec<Connected>>,
+) -> Result<Vec<Connected>, MergeFault>
     requires few { length lists.items < 2 ^ 32 }
     requires short { AllByRecursion IsShort (lists_of lists.items) }
     ensures mergeable { IfOk result (λ _. AreMergeable (lists_of lists.items)) }
@@ -23,7 +29,7 @@ pub fn merge(alloc: Global, lists: Vec<Vec<Connected>>) -> Result<Vec<Connected>
 {
     check_ascending(&lists)?;
     let mut members = members_of(alloc, lists)?;
-    sort(&mut members)?;
+    sort(rt, &mut members)?;
     match least_double(&members) {
         Some(place) => Err(MergeFault::Doubled {
             file: place.file,

@@ -224,7 +224,7 @@ fn perform<R: Threads + Wait + Sync, S: Store, O: Sink, G: Gate + Sync>(
             out,
         ),
         Task::OnFile(command, name) => write_file(alloc, command, name.as_str(), store, out),
-        Task::Merge(names) => write_merge(alloc, names.as_slice(), store, out),
+        Task::Merge(names) => write_merge(rt, alloc, names.as_slice(), store, out),
         Task::Exercise { start, count } => write_exercise(alloc, start, count, out),
     }
 }

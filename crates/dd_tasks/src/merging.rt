@@ -14,6 +14,7 @@ use dd_commands::{Stop, merge_files};
 use dd_ports::{Sink, Store, StoreFault};
 use dd_words::Name;
 use std::alloc::Global;
+use std::thread::Threads;
 
 /// One byte more than a file may have.
 const MOST_BYTES: usize = 16777217;
@@ -43,7 +44,8 @@ fn fetch_files<S: Store>(
 
 /// Writes the lines of all symbols of the files that names hold, in one list. All files are fetched
 /// before the first is read.
-pub fn write_merge<S: Store, O: Sink>(
+pub fn write_merge<R: Threads + Sync, S: Store, O: Sink>(
+    rt: &R,
     alloc: Global,
     names: &[Name],
     store: &mut S,
@@ -84,7 +86,7 @@ pub fn write_merge<S: Store, O: Sink>(
         Err(StoreFault::Failed) => return Ending::StoreFault,
         Err(StoreFault::Memory) => return Ending::Memory,
     };
-    match merge_files(alloc, &files) {
+    match merge_files(rt, alloc, &files) {
         Ok(text) => write_text(&text, out),
         Err(Stop::Refused(refusal)) => Ending::RefusedMerge(refusal),
         Err(Stop::Memory) => Ending::Memory,

@@ -159,14 +159,12 @@ returns-in-OnFile-clause-outcome g c =
     (subst (λ (n : List ℕ). EndsOnFile command n c.write_file.result before after) c.as_str-in-OnFile.ensures
     (record { cause = c.write_file.ensures.cause; prefix = c.write_file.ensures.prefix; whole = c.write_file.ensures.whole; same = λ told. (c.write_file.ensures.same told).1 }))
 
-pub write_merge-requires : goal.write_merge-requires
-write_merge-requires g c =
+pub write_merge-requires-clause-few : goal.write_merge-requires-clause-few
+write_merge-requires-clause-few g c κs within =
     let words = map rc_str_bytes c.args.words.now in
     let names = c.in-Merge.names in
-    record {
-      few = subst (λ ns. length ns ≤ 8) (sym c.as_slice.ensures)
-          (few_files words names (merge_asked words names (asked_of words c.in-Ok-Some.field-0 c.in-Ok-Some.task (Merge names) c.in-Ok-Some.ensures c.in-Ok-Some.field-0-is c.in-Merge.is)));
-    }
+    subst (λ ns. length ns ≤ 8) (sym c.as_slice.ensures)
+    (few_files words names (merge_asked words names (asked_of words c.in-Ok-Some.field-0 c.in-Ok-Some.task (Merge names) c.in-Ok-Some.ensures c.in-Ok-Some.field-0-is c.in-Merge.is)))
 
 pub returns-in-Merge-clause-store_sure : goal.returns-in-Merge-clause-store_sure
 returns-in-Merge-clause-store_sure g c sure all =

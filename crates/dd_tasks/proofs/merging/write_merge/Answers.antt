@@ -9,8 +9,8 @@ use Rattle.dd_tasks.proofs.FetchedFronts.{fronts_length, merge_of_fronts, unmerg
 use Rattle.dd_tasks.proofs.MergedOfHeld.{prefix_of_each_merge, merge_cause}
 use Rattle.dd_tasks.proofs.merging.write_merge.Goals as goal
 
-pub merge_files-requires : goal.merge_files-requires
-merge_files-requires g c =
+pub merge_files-requires-clause-few : goal.merge_files-requires-clause-few
+merge_files-requires-clause-few g c κs within =
     let tells = g.S.Store.tells c.args.store.now in
     let held = g.S.Store.held c.args.store.now in
     let files = fronts_length tells held 16777217 c.args.names.now (bytes_of c.in-Ok.files.items) c.in-Ok.ensures.fronts in
