@@ -2,21 +2,19 @@
 //! at the ends of the paths of the table.
 #![tactic(auto)]
 
+mod census;
 mod class;
 mod class_shares;
-mod counts;
 mod degrees;
 mod end;
 mod end_laws;
 mod kept_laws;
-mod limits;
 mod link;
 mod parity;
 mod path_shares;
 mod share_laws;
 mod side;
 mod sides;
-mod whole_cell;
 
 pub use degrees::{SHARE_UNIT, least_degree, share_of, share_of_cell};
 pub use end_laws::{
@@ -32,4 +30,3 @@ pub use share_laws::{
     fixed_flags_halve_a_cell, flat_symbols_have_large_shares, odd_tables_have_fixed_chambers,
 };
 pub use sides::Sides;
-pub use whole_cell::WholeCell;
