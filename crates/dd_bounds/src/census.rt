@@ -58,74 +58,64 @@ impl Census {
 
     /// Counts a fixed flag.
     #[inline(always)]
-    pub(crate) fn with_flag(self) -> Census
-        requires { IsSmall self }
-        ensures flag { HasFlag self result }
-        ensures small { IsSmall result }
+    fn add_flag(&mut self)
+        requires { IsSmall self.old }
+        ensures flag { HasFlag self.old self.new }
+        ensures small { IsSmall self.new }
     {
         if self.fixed >= FLAGS {
-            return self;
+            return;
         }
-        Census {
-            fixed: self.fixed + 1,
-            ..self
-        }
+        self.fixed += 1;
     }
 
     /// Counts a whole cell with the chambers of a path of a class, which add at most `most`.
     #[inline(always)]
-    pub(crate) fn with_cell(self, class: Class, most: u64) -> Census
-        requires small { IsSmall self }
+    pub(crate) fn add_cell(&mut self, class: Class, most: u64)
+        requires small { IsSmall self.old }
         requires most { most ≤ 64 * share_unit }
-        ensures cell { HasCell self class.number most result }
-        ensures small { IsSmall result }
+        ensures cell { HasCell self.old class.number most self.new }
+        ensures small { IsSmall self.new }
     {
         if self.cells >= CELLS {
-            return self;
+            return;
         }
-        Census {
-            cells: self.cells + 1,
-            chains: if class.is_capped() {
-                self.chains + 1
-            } else {
-                self.chains
-            },
-            chambers: self.chambers + u32::from(class.chambers()),
-            fixed: self.fixed,
-            most: self.most + most,
-        }
-    }
-
-    /// The census after an involution has fixed the end of a path, which closes the path if its
-    /// other end is fixed.
-    #[inline(always)]
-    pub(crate) fn with_fixed_end(self, class: Class, most: u64) -> Census
-        requires small { IsSmall self }
-        requires most { most ≤ 64 * share_unit }
-        ensures fixed { HasFixedEnd self class.number most result }
-        ensures small { IsSmall result }
-    {
-        let census = self.with_flag();
+        self.cells += 1;
+        self.chambers += u32::from(class.chambers());
+        self.most += most;
         if class.is_capped() {
-            return census.with_cell(class, most);
+            self.chains += 1;
         }
-        census
     }
 
-    /// The census after an involution has joined the ends of two paths, which closes them if both
-    /// other ends are fixed.
+    /// Counts what an involution has fixed at the end of a path: a flag, and the path as a whole
+    /// cell if its other end is fixed.
     #[inline(always)]
-    pub(crate) fn with_joined(self, one: Class, other: Class, most: u64) -> Census
-        requires small { IsSmall self }
+    pub(crate) fn add_fixed_end(&mut self, class: Class, most: u64)
+        requires small { IsSmall self.old }
+        requires most { most ≤ 64 * share_unit }
+        ensures fixed { HasFixedEnd self.old class.number most self.new }
+        ensures small { IsSmall self.new }
+    {
+        self.add_flag();
+        if class.is_capped() {
+            self.add_cell(class, most);
+        }
+    }
+
+    /// Counts two paths whose ends an involution has joined as a whole cell, if both other ends are
+    /// fixed.
+    #[inline(always)]
+    pub(crate) fn add_joined(&mut self, one: Class, other: Class, most: u64)
+        requires small { IsSmall self.old }
         requires most { most ≤ 64 * share_unit }
         requires few { one.number % 64 + other.number % 64 < 64 }
-        ensures joined { HasJoined self one.number other.number most result }
-        ensures small { IsSmall result }
+        ensures joined { HasJoined self.old one.number other.number most self.new }
+        ensures small { IsSmall self.new }
     {
         if one.is_capped() && other.is_capped() {
-            return self.with_cell(one.joined(other), most);
+            self.add_cell(one.joined(other), most);
         }
-        self
     }
 
     /// Returns whether there are more cells than a limit allows: more are whole, or as many are and

@@ -113,23 +113,26 @@ impl Side {
             → IsJoin (Passes partial test) shares.now.pair x y → IsSide shares.now partial self.now
             → IsCensusOf shares.now partial test result }
     {
+        let mut census = self.census;
         let end = self.end(x);
         let one = end.class;
         if one.chambers() == 0 {
-            return self.census;
+            return census;
         }
         if x == y {
-            return self.census.with_fixed_end(one, shares.capped(one));
+            census.add_fixed_end(one, shares.capped(one));
+            return census;
         }
         if end.other == y {
-            return self.census.with_cell(one, shares.closed(one));
+            census.add_cell(one, shares.closed(one));
+            return census;
         }
         let other = self.end(y).class;
         if other.chambers() == 0 {
-            return self.census;
+            return census;
         }
-        self.census
-            .with_joined(one, other, shares.joined(one, other))
+        census.add_joined(one, other, shares.joined(one, other));
+        census
     }
 
     /// Fixes the end of a path, which closes it where the other one is fixed. False where no wanted
@@ -153,7 +156,7 @@ impl Side {
         self.total = self.total_after(shares.weight(class), fixed);
         self.ends[usize::from(x)] = End::none();
         self.ends[usize::from(end.other)] = end.beyond(x, class.capped());
-        self.census = self.census.with_fixed_end(class, fixed);
+        self.census.add_fixed_end(class, fixed);
         fixed != 0
     }
 
@@ -186,7 +189,7 @@ impl Side {
         self.ends[usize::from(y)] = End::none();
         self.ends[usize::from(one.other)] = one.beyond(other.other, class);
         self.ends[usize::from(other.other)] = other.beyond(one.other, class);
-        self.census = self.census.with_joined(one.class, other.class, together);
+        self.census.add_joined(one.class, other.class, together);
         together != 0
     }
 
@@ -213,7 +216,7 @@ impl Side {
         self.total = self.total_after(shares.weight(class), whole);
         self.ends[usize::from(x)] = End::none();
         self.ends[usize::from(mate)] = End::none();
-        self.census = self.census.with_cell(class, whole);
+        self.census.add_cell(class, whole);
         whole != 0
     }
 

@@ -31,13 +31,13 @@ returns-clause-side c P join kept =
     let had = c.weight.ensures.told in
     let all = c.closed-whole.ensures.told.all in
     let rest = closed_rest t c.requires.pair P (λ _. true) xs c.args.self.now.total kept.ends kept.others long c.args.x c.end.result c.requires.first
-    c.args.self.now.census c.with_cell-self.result v c.closed-whole.result end few c.args.mate c.from.result c.from-2.result c.none.result c.none-2.result
+    c.args.self.now.census c.add_cell.new.self v c.closed-whole.result end few c.args.mate c.from.result c.from-2.result c.none.result c.none-2.result
     (sym other) c.requires.apart c.from.ensures (c.from-2.ensures ∙ other) c.none.ensures c.none-2.ensures
-    join c.closed-whole.ensures.told.right all c.with_cell-self.ensures.cell in
+    join c.closed-whole.ensures.told.right all c.add_cell.ensures.cell in
     record {
       sized = kept.sized;
       others = rest.others;
-      few = c.with_cell-self.ensures.small;
+      few = c.add_cell.ensures.small;
       counted = λ s wanted full. rest.counted s wanted (record { completes = full; passed = refl }) (kept.counted s wanted full);
       ends = closed_kept t c.requires.pair P (λ _. true) xs c.args.self.now.total c.total_after-self.result kept.ends long c.args.x c.end.result c.requires.first end few
           c.args.mate v c.from.result c.from-2.result c.none.result c.none-2.result

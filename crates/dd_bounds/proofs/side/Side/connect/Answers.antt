@@ -36,8 +36,8 @@ joined-together-requires c =
     let few = few_chambers t has.partial c.args.self.now has.kept two has.small in
     record { few = omega (arith, few) }
 
-pub with_joined-self-requires-clause-few : goal.with_joined-self-requires-clause-few
-with_joined-self-requires-clause-few c =
+pub add_joined-requires-clause-few : goal.add_joined-requires-clause-few
+add_joined-requires-clause-few c =
     let has = c.requires.some in
     let t = c.args.shares.now in
     let r = c.requires in
@@ -89,16 +89,16 @@ returns-clause-side c P join kept =
     let first = c.weight.ensures.told in
     let second = c.weight-2.ensures.told in
     let rest = connected_rest t r.pair P (λ _. true) xs c.args.self.now.total kept.ends kept.others long c.args.x one r.first
-    c.args.self.now.census c.with_joined-self.result v c.joined-together.result c.args.y other two kept.sized r.second few
+    c.args.self.now.census c.add_joined.new.self v c.joined-together.result c.args.y other two kept.sized r.second few
     c.from.result c.from-2.result c.from-3.result c.from-4.result c.none.result c.none-2.result c.beyond.result c.beyond-2.result
     c.from.ensures c.from-2.ensures c.from-3.ensures c.from-4.ensures c.none.ensures c.none-2.ensures
     (record { fixed = c.beyond.ensures.fixed; other = c.beyond.ensures.other; class = λ low. c.beyond.ensures.class low ∙ class })
     (record { fixed = c.beyond-2.ensures.fixed; other = c.beyond-2.ensures.other; class = λ low. c.beyond-2.ensures.class low ∙ class })
-    join c.joined-together.ensures.told.right all c.with_joined-self.ensures.joined in
+    join c.joined-together.ensures.told.right all c.add_joined.ensures.joined in
     record {
       sized = kept.sized;
       others = rest.others;
-      few = c.with_joined-self.ensures.small;
+      few = c.add_joined.ensures.small;
       counted = λ s wanted full. rest.counted s wanted (record { completes = full; passed = refl }) (kept.counted s wanted full);
       ends = connected_kept t r.pair P (λ _. true) xs c.args.self.now.total c.total_after-self.result kept.ends long c.args.x one r.first c.args.y other two kept.sized r.second few v
           c.from.result c.from-2.result c.from-3.result c.from-4.result c.none.result c.none-2.result c.beyond.result c.beyond-2.result
