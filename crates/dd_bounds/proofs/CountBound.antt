@@ -34,22 +34,26 @@ record IsWithout (x : ℕ) (xs rest : List ℕ) : Type 0 where
 without : (x : ℕ) (xs : List ℕ) → Contains xs x → (rest : List ℕ) × IsWithout x xs rest
 without x [] here = let no = here.1 in absurd (omega arith)
 without x (y ∷ ys) here = ⊎_elim
-    (λ (same : y ≡ x).
-    (ys, record {
-      sums = λ f. sum_by-cons f y ys ∙ ap (λ z. f z + sum_by f ys) same;
-      long = refl;
-      others = λ z listed away. ⊎_elim (λ e. absurd (away (sym e ∙ same))) (λ later. later) (Contains-cases y z ys listed);
-      listed = λ z later. Contains-later y z ys later;
-    }))
+    (λ (same : y ≡ x). (
+      ys,
+      record {
+        sums = λ f. sum_by-cons f y ys ∙ ap (λ z. f z + sum_by f ys) same;
+        long = refl;
+        others = λ z listed away. ⊎_elim (λ e. absurd (away (sym e ∙ same))) (λ later. later) (Contains-cases y z ys listed);
+        listed = λ z later. Contains-later y z ys later;
+      },
+    ))
     (λ later.
     let deep = without x ys later in
-    let w = deep.1 in
-    (y ∷ deep.0, record {
-      sums = λ f. let a = sum_by-cons f y ys in let b = sum_by-cons f y deep.0 in let e = w.sums f in omega (arith, a, b, e);
-      long = ap suc w.long;
-      others = λ z listed away. ⊎_elim (λ e. subst (Contains (y ∷ deep.0)) e (Contains-head y deep.0)) (λ below. Contains-later y z deep.0 (w.others z below away)) (Contains-cases y z ys listed);
-      listed = λ z there. ⊎_elim (λ e. subst (Contains (y ∷ ys)) e (Contains-head y ys)) (λ below. Contains-later y z ys (w.listed z below)) (Contains-cases y z deep.0 there);
-    }))
+    let w = deep.1 in (
+      y ∷ deep.0,
+      record {
+        sums = λ f. let a = sum_by-cons f y ys in let b = sum_by-cons f y deep.0 in let e = w.sums f in omega (arith, a, b, e);
+        long = ap suc w.long;
+        others = λ z listed away. ⊎_elim (λ e. subst (Contains (y ∷ deep.0)) e (Contains-head y deep.0)) (λ below. Contains-later y z deep.0 (w.others z below away)) (Contains-cases y z ys listed);
+        listed = λ z there. ⊎_elim (λ e. subst (Contains (y ∷ ys)) e (Contains-head y ys)) (λ below. Contains-later y z ys (w.listed z below)) (Contains-cases y z deep.0 there);
+      },
+    ))
     (Contains-cases y x ys here)
 
 at_most_each : (f : ℕ → ℕ) (most : ℕ) (ds : List ℕ) → ((x : ℕ) → Contains ds x → f x ≤ most) → sum_by f ds ≤ length ds * most

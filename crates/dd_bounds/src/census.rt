@@ -13,6 +13,7 @@ use dd_model::{Pair, Request};
 
 /// How many whole cells and how many fixed flags a census has at most. A table has no more.
 const CELLS: u32 = 36;
+
 const FLAGS: u32 = 72;
 
 /// Returns the most cells of a pair that are asked for; 0 sets no limit.

@@ -304,11 +304,7 @@ impl Descent {
     /// Adds the members under a prefix. Returns false if it is sure that there are none. It stays a
     /// call of its own, so that the search has the processor's registers to itself.
     #[inline(never)]
-    pub(crate) fn add_under(
-        &mut self,
-        prefix: &[u8],
-        list: &mut SymbolList,
-    ) -> Result<bool, Memory>
+    pub(crate) fn add_under(&mut self, prefix: &[u8], list: &mut SymbolList) -> Result<bool, Memory>
         requires back { GoesBack self.old }
         requires short { length prefix.now ≤ 3 * size_of self.old.stem }
         ensures back { OnOk result (GoesBack self.new) }

@@ -91,9 +91,8 @@ impl Search {
             → HasNothingUnder (IsMember self.now) job.now.size job.now.prefix }
     {
         match &self.dead {
-            Some(dead) =>
-                dead.size == job.size
-                    && job.prefix.as_slice().starts_with(dead.prefix.as_slice()),
+            Some(dead) => dead.size == job.size
+                && job.prefix.as_slice().starts_with(dead.prefix.as_slice()),
             None => false,
         }
     }
