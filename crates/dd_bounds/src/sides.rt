@@ -134,6 +134,40 @@ impl Sides {
         }
     }
 
+    /// Returns whether the limits of the request make it sure that no wanted symbol completes a table
+    /// with an image, where the totals are then so much. It stays a call of its own, so that requests
+    /// without limits pay nothing for it.
+    #[inline(never)]
+    fn limits_rule_out_link(
+        &self,
+        classes: &PathShares,
+        table: &Rows,
+        link: &Link,
+        tiles: u64,
+        vertices: u64,
+    ) -> bool
+        requires ready { IsReady table.now }
+        requires kept { AreSides classes.now (partial_of table.now) self.now }
+        requires tiles { tiles ≤ 36 * share_unit }
+        requires vertices { vertices ≤ 36 * share_unit }
+        ensures { IsTrue result → (test : Tiling → Bool)
+            → IsImage (Passes (partial_of table.now) test) link.now
+            → IsSumOf classes.now.tiles (partial_of table.now) test tiles
+            → IsSumOf classes.now.vertices (partial_of table.now) test vertices
+            → (s : Tiling) → Wanted classes.now.request s
+            → ¬ Passes (partial_of table.now) test s }
+    {
+        let (cells, corners) = self.censuses_with(classes, link);
+        exceed(
+            &classes.request,
+            table.size(),
+            &cells,
+            tiles,
+            &corners,
+            vertices,
+        )
+    }
+
     /// Returns whether it is sure that no wanted symbol completes the table that has a number at a
     /// place of its code: the shares are then too small.
     #[inline(always)]
@@ -160,15 +194,7 @@ impl Sides {
         if !sets_limits(&classes.request) {
             return false;
         }
-        let (cells, corners) = self.censuses_with(classes, &link);
-        exceed(
-            &classes.request,
-            table.size(),
-            &cells,
-            tiles,
-            &corners,
-            vertices,
-        )
+        self.limits_rule_out_link(classes, table, &link, tiles, vertices)
     }
 
     /// Returns those of some numbers, as bits, that the shares do not rule out at a place of the
