@@ -134,30 +134,34 @@ impl Sides {
         }
     }
 
-    /// Returns whether the limits of the request make it sure that no wanted symbol completes a table
-    /// with an image, where the totals are then so much. It stays a call of its own, so that requests
-    /// without limits pay nothing for it.
-    #[inline(never)]
-    fn limits_rule_out_link(
+    /// Returns whether it is sure that no wanted symbol completes the table that has a number at a
+    /// place of its code. The limits of the request are looked at only if `with_limits` is true.
+    #[inline(always)]
+    fn is_ruled_out(
         &self,
         classes: &PathShares,
         table: &Rows,
-        link: &Link,
-        tiles: u64,
-        vertices: u64,
+        place: u8,
+        number: u8,
+        with_limits: bool,
     ) -> bool
         requires ready { IsReady table.now }
+        requires place { place < 3 * (partial_of table.now).size }
+        requires number { number ≤ 36 }
         requires kept { AreSides classes.now (partial_of table.now) self.now }
-        requires tiles { tiles ≤ 36 * share_unit }
-        requires vertices { vertices ≤ 36 * share_unit }
-        ensures { IsTrue result → (test : Tiling → Bool)
-            → IsImage (Passes (partial_of table.now) test) link.now
-            → IsSumOf classes.now.tiles (partial_of table.now) test tiles
-            → IsSumOf classes.now.vertices (partial_of table.now) test vertices
-            → (s : Tiling) → Wanted classes.now.request s
-            → ¬ Passes (partial_of table.now) test s }
+        ensures { IsTrue result → (s : Tiling)
+            → IsSought classes.now.request (partial_of table.now) s
+            → ¬ HasNumberAt place number s }
     {
-        let (cells, corners) = self.censuses_with(classes, link);
+        let link = Link::told(place, number);
+        let (tiles, vertices) = self.totals_with(classes, &link);
+        if is_too_small(tiles, vertices, table.size()) {
+            return true;
+        }
+        if !with_limits {
+            return false;
+        }
+        let (cells, corners) = self.censuses_with(classes, &link);
         exceed(
             &classes.request,
             table.size(),
@@ -170,7 +174,6 @@ impl Sides {
 
     /// Returns whether it is sure that no wanted symbol completes the table that has a number at a
     /// place of its code: the shares are then too small.
-    #[inline(always)]
     pub fn rules_out_number(
         &self,
         classes: &PathShares,
@@ -186,22 +189,21 @@ impl Sides {
             → IsSought classes.now.request (partial_of table.now) s
             → ¬ HasNumberAt place number s }
     {
-        let link = Link::told(place, number);
-        let (tiles, vertices) = self.totals_with(classes, &link);
-        if is_too_small(tiles, vertices, table.size()) {
-            return true;
-        }
-        if !sets_limits(&classes.request) {
-            return false;
-        }
-        self.limits_rule_out_link(classes, table, &link, tiles, vertices)
+        self.is_ruled_out(classes, table, place, number, sets_limits(&classes.request))
     }
 
-    /// Returns those of some numbers, as bits, that the shares do not rule out at a place of the
-    /// code. It takes all numbers at once, since most of what it computes for one, such as the path
-    /// that ends at the chamber, is the same for the others.
+    /// Returns those of some numbers, as bits, that are not ruled out at a place of the code. It takes
+    /// all numbers at once, since most of what it computes for one, such as the path that ends at the
+    /// chamber, is the same for the others.
     #[inline(always)]
-    pub fn sieve(&self, classes: &PathShares, table: &Rows, place: u8, numbers: u64) -> u64
+    fn sieve_by(
+        &self,
+        classes: &PathShares,
+        table: &Rows,
+        place: u8,
+        numbers: u64,
+        with_limits: bool,
+    ) -> u64
         requires ready { IsReady table.now }
         requires place { place < 3 * (partial_of table.now).size }
         requires numbers { (m : ℕ) → bit_at numbers m ≡ 1 → m ≤ 36 }
@@ -215,11 +217,43 @@ impl Sides {
         while left != 0 {
             let number = left.trailing_zeros() as u8;
             left &= left - 1;
-            if !self.rules_out_number(classes, table, place, number) {
+            if !self.is_ruled_out(classes, table, place, number, with_limits) {
                 kept |= 1 << number;
             }
         }
         kept
+    }
+
+    /// Returns those of some numbers, as bits, that neither shares nor limits rule out at a place of
+    /// the code. It stays a call of its own, so that requests without limits pay nothing for it.
+    #[inline(never)]
+    fn sieve_with_limits(&self, classes: &PathShares, table: &Rows, place: u8, numbers: u64) -> u64
+        requires ready { IsReady table.now }
+        requires place { place < 3 * (partial_of table.now).size }
+        requires numbers { (m : ℕ) → bit_at numbers m ≡ 1 → m ≤ 36 }
+        requires kept { AreSides classes.now (partial_of table.now) self.now }
+        ensures { (m : ℕ) → bit_at numbers m ≡ 1 → bit_at result m ≡ 0 → (s : Tiling)
+            → IsSought classes.now.request (partial_of table.now) s
+            → ¬ HasNumberAt place m s }
+    {
+        self.sieve_by(classes, table, place, numbers, true)
+    }
+
+    /// Returns those of some numbers, as bits, that are not ruled out at a place of the code.
+    #[inline(always)]
+    pub fn sieve(&self, classes: &PathShares, table: &Rows, place: u8, numbers: u64) -> u64
+        requires ready { IsReady table.now }
+        requires place { place < 3 * (partial_of table.now).size }
+        requires numbers { (m : ℕ) → bit_at numbers m ≡ 1 → m ≤ 36 }
+        requires kept { AreSides classes.now (partial_of table.now) self.now }
+        ensures { (m : ℕ) → bit_at numbers m ≡ 1 → bit_at result m ≡ 0 → (s : Tiling)
+            → IsSought classes.now.request (partial_of table.now) s
+            → ¬ HasNumberAt place m s }
+    {
+        if sets_limits(&classes.request) {
+            return self.sieve_with_limits(classes, table, place, numbers);
+        }
+        self.sieve_by(classes, table, place, numbers, false)
     }
 
     /// Joins the paths that what was put into the table after a mark joins. True where a cell is

@@ -3,7 +3,7 @@ use Rattle.std.specs.Int.{bit_at}
 use Rattle.dd_model.specs.Symbol.{Symbol}
 use Rattle.dd_partial_table.specs.Rows.{partial_of, HasNumberAt}
 use Rattle.dd_bounds.specs.Shares.{IsSought}
-use Rattle.dd_bounds.proofs.sides.Sides.sieve.Given as goal
+use Rattle.dd_bounds.proofs.sides.Sides.sieve_by.Given as goal
 
 abbrev pub invariant-loop-left : goal.invariant-loop-left
 invariant-loop-left l = record {
