@@ -10,9 +10,8 @@ use Rattle.dd_model.specs.Symbol.{Symbol, IsSymbol, IsChamber, item, degree}
 use Rattle.dd_model.specs.Code.{count_from, chambers}
 use Rattle.dd_model.specs.Flat.{all_degrees}
 use Rattle.dd_model.specs.Wanted.{Wanted}
-use Rattle.dd_model.proofs.AllDegrees.{all_degrees_positive}
-use Rattle.dd_bounds.specs.Shares.{IsSought, IsAllowed, AreShares, degrees_of, IsTotal}
-use Rattle.dd_bounds.proofs.FlatBound.{part, add_parts, flat_bound}
+use Rattle.dd_bounds.specs.Shares.{IsAllowed, degrees_of}
+use Rattle.dd_bounds.proofs.FlatBound.{part, add_parts}
 
 -- a quotient, rounded up
 pub rounded : (L den m : ℕ) → 1 ≤ den → den ≤ m → L + 1 ≤ (L / den + 1) * m
@@ -64,21 +63,6 @@ bounds_of_shares s is p L shares which room each =
     let e : j + 1 - 1 ≡ j = omega arith in
     let share = each (j + 1) (omega arith) (omega (arith, low, len)) in
     subst (λ m. L ≤ get_or shares j 0 * m) (sym (degree_at s p j which)) (subst (λ i. L ≤ get_or shares i 0 * degree s p (j + 1)) e share))
-
--- the shares add up to a total
-pub total_of_shares : (q : Request) (P : Symbol) (p : Pair) (L : ℕ) (shares : List ℕ) → (p ≡ Tile) ⊎ (p ≡ Vertex) → AreShares q P p L shares → IsTotal q P p L (sum shares)
-total_of_shares q P p L shares which are s sought =
-    let size = sought.completes.size in
-    let room = are.room in
-    bounds_of_shares s sought.wanted.symbol p L shares which (omega (arith, size, room)) (λ d low high. are.each d low (omega (arith, high, size)) s sought)
-
--- Where twice the totals are less than L for each chamber, no wanted symbol completes the table.
-pub too_small : (q : Request) (P : Symbol) (L A B : ℕ) → IsTotal q P Tile L A → IsTotal q P Vertex L B → 2 * (A + B) < P.size * L
-    → (s : Symbol) → IsSought q P s → ⊥
-too_small q P L A B tiles vertices small s sought =
-    let bound : s.size * L ≤ 2 * (A + B) = flat_bound s sought.wanted.flat (all_degrees_positive s sought.wanted.symbol) L A B (tiles s sought) (vertices s sought) in
-    let same : P.size * L ≡ s.size * L = ap (λ n. n * L) (sym sought.completes.size) in
-    absurd (omega (arith, bound, small, same))
 
 -- ## Totals of cells
 
