@@ -6,13 +6,12 @@ use Rattle.std.specs.List.{sum, sum_by}
 use Rattle.dd_model.specs.declared.pair.Pair.{Pair}
 use Rattle.dd_model.specs.declared.pair.Pair.TheVariants.{Tile, Vertex, Edge}
 use Rattle.dd_model.specs.declared.requests.Request.{Request}
-use Rattle.dd_model.specs.Symbol.{Symbol, IsSymbol, IsChamber, degree}
+use Rattle.dd_model.specs.Symbol.{Symbol, IsSymbol, IsChamber, item, degree}
 use Rattle.dd_model.specs.Code.{count_from, chambers}
 use Rattle.dd_model.specs.Flat.{all_degrees}
 use Rattle.dd_model.specs.Wanted.{Wanted}
-use Rattle.dd_model.proofs.AllDegrees.{all_degrees_positive}
-use Rattle.dd_bounds.specs.Shares.{IsSought, IsAllowed, AreShares, degrees_of, IsTotal}
-use Rattle.dd_bounds.proofs.FlatBound.{part, add_parts, flat_bound}
+use Rattle.dd_bounds.specs.Shares.{IsAllowed, degrees_of}
+use Rattle.dd_bounds.proofs.FlatBound.{part, add_parts}
 
 -- a quotient, rounded up
 pub rounded : (L den m : ℕ) → 1 ≤ den → den ≤ m → L + 1 ≤ (L / den + 1) * m
@@ -54,25 +53,16 @@ length-degrees s is Tile = is.table.m01_length
 length-degrees s is Vertex = is.table.m12_length
 length-degrees s is Edge = is.table.m01_length
 
--- the shares add up to a total
-pub total_of_shares : (q : Request) (P : Symbol) (p : Pair) (L : ℕ) (shares : List ℕ) → (p ≡ Tile) ⊎ (p ≡ Vertex) → AreShares q P p L shares → IsTotal q P p L (sum shares)
-total_of_shares q P p L shares which are s sought =
-    let size = sought.completes.size in
-    let len = length-degrees s sought.wanted.symbol p in
-    let room = are.room in
-    sum_of_parts (all_degrees s) L (degrees_of s p) shares (omega (arith, size, len, room))
+-- the shares of the chambers of a symbol bound what its degrees add
+pub bounds_of_shares : (s : Symbol) → IsSymbol s → (p : Pair) (L : ℕ) (shares : List ℕ) → (p ≡ Tile) ⊎ (p ≡ Vertex) → s.size ≤ length shares
+    → ((d : ℕ) → 1 ≤ d → d ≤ s.size → L ≤ item shares d * degree s p d) → sum_by (λ m. all_degrees s / m) (degrees_of s p) * L ≤ all_degrees s * sum shares
+bounds_of_shares s is p L shares which room each =
+    let len = length-degrees s is p in
+    sum_of_parts (all_degrees s) L (degrees_of s p) shares (omega (arith, len, room))
     (λ j low.
     let e : j + 1 - 1 ≡ j = omega arith in
-    let share = are.each (j + 1) (omega arith) (omega (arith, low, size, len)) s sought in
+    let share = each (j + 1) (omega arith) (omega (arith, low, len)) in
     subst (λ m. L ≤ get_or shares j 0 * m) (sym (degree_at s p j which)) (subst (λ i. L ≤ get_or shares i 0 * degree s p (j + 1)) e share))
-
--- Where twice the totals are less than L for each chamber, no wanted symbol completes the table.
-pub too_small : (q : Request) (P : Symbol) (L A B : ℕ) → IsTotal q P Tile L A → IsTotal q P Vertex L B → 2 * (A + B) < P.size * L
-    → (s : Symbol) → IsSought q P s → ⊥
-too_small q P L A B tiles vertices small s sought =
-    let bound : s.size * L ≤ 2 * (A + B) = flat_bound s sought.wanted.flat (all_degrees_positive s sought.wanted.symbol) L A B (tiles s sought) (vertices s sought) in
-    let same : P.size * L ≡ s.size * L = ap (λ n. n * L) (sym sought.completes.size) in
-    absurd (omega (arith, bound, small, same))
 
 -- ## Totals of cells
 

@@ -1,5 +1,5 @@
 -- The classes of paths that were joined or capped.
-use Rattle.std.proofs.Common.{◌≡◌, ◌≢◌, ℕ, ◌+◌, ◌-◌, ◌*◌, ◌/◌, ◌%◌, ◌<◌, ◌≤◌, ◌⊎◌, Bool, true, false, IsTrue, List, get_or, length, length-set, set, refl, sym, ap, ◌∙◌, subst, inl, inr, ⊎_elim, arith}
+use Rattle.std.proofs.Common.{◌≡◌, ◌≢◌, ℕ, ◌+◌, ◌-◌, ◌*◌, ◌/◌, ◌%◌, ◌<◌, ◌≤◌, ◌⊎◌, List, get_or, length, length-set, set, refl, sym, ap, ◌∙◌, subst, inl, inr, ⊎_elim, arith}
 use Rattle.std.proofs.lemmas.Bool.{cases_lt, cases_eq, le-leb, lt-leb, eq-eqb, ne_eqb}
 use Rattle.std.proofs.Math.Nat.{div-zero, mul-div_cancel_left, mul-le-mul}
 use Rattle.std.proofs.lemmas.List.{get_or-set_same, get_or-set_other}
@@ -8,7 +8,7 @@ use Rattle.dd_model.specs.declared.pair.Pair.{Pair}
 use Rattle.dd_model.specs.declared.requests.Request.{Request}
 use Rattle.dd_bounds.specs.Units.{share_unit}
 use Rattle.dd_bounds.specs.Changes.{IsShareFrom}
-use Rattle.dd_bounds.specs.Classes.{joined_class, turns_of, share_in, IsClassShare, IsClassWeight, AreClassWeights, IsWeightOf, IsWholeShare, IsClosedShare, IsCappedShare, IsJoinedShare}
+use Rattle.dd_bounds.specs.Classes.{joined_class, turns_of, share_in, IsClassShare, IsClassWeight, AreClassWeights, IsWholeShare, IsClosedShare, IsCappedShare, IsJoinedShare}
 use Rattle.dd_bounds.specs.declared.class_shares.ClassShares.{ClassShares}
 
 -- ## Tests of a class
@@ -177,9 +177,3 @@ weight_small q p n c k w few is =
     let most : c % 64 * (w / (c % 64)) ≤ k * share_unit = mul-le-mul few is.told.small in
     let all = is.whole in
     omega (arith, most, all)
-
--- what a whole cell has together, by its kind
-pub weight_of_cell : (P : ℕ → Type 0) (b : Bool) (turns count w : ℕ) → (IsTrue b → IsWeightOf P turns w) → ((IsTrue b → ⊥) → IsWeightOf P (2 * turns) w)
-    → (IsTrue b → count ≡ turns) → ((IsTrue b → ⊥) → count ≡ 2 * turns) → IsWeightOf P count w
-weight_of_cell P true turns count w chain cycle one two = subst (λ n. IsWeightOf P n w) (sym (one refl)) (chain refl)
-weight_of_cell P false turns count w chain cycle one two = let no : IsTrue false → ⊥ = λ yes. (cc) in subst (λ n. IsWeightOf P n w) (sym (two no)) (cycle no)

@@ -1,5 +1,5 @@
 -- A label that no flag leaves is a whole cell.
-use Rattle.std.proofs.Common.{◌≡◌, ℕ, ◌+◌, ◌*◌, ◌/◌, ◌%◌, ◌<◌, ◌≤◌, ◌⊎◌, [], ◌∷◌, length, refl, sym, ap, ◌∙◌, subst, inl, inr, ⊎_elim, arith}
+use Rattle.std.proofs.Common.{◌≡◌, ℕ, ◌+◌, ◌*◌, ◌/◌, ◌%◌, ◌<◌, ◌≤◌, ◌⊎◌, List, [], ◌∷◌, length, refl, sym, ap, ◌∙◌, subst, inl, inr, ⊎_elim, arith}
 use Rattle.std.proofs.lemmas.Bool.{cases_lt, eq-eqb, eqb-true}
 use Rattle.std.proofs.lemmas.List.Kept.{IsStrictlyIncreasing-filter}
 use Rattle.std.specs.Prelude.{nat_eq}
@@ -13,6 +13,7 @@ use Rattle.dd_model.specs.Code.{chambers, count_from}
 use Rattle.dd_model.specs.Wanted.{Wanted}
 use Rattle.dd_model.proofs.Branching.{branching_exists}
 use Rattle.dd_model.proofs.CellWalks.{has_period}
+use Rattle.dd_model.proofs.CellLists.{increasing_unique}
 use Rattle.dd_model.proofs.CountFrom.{increasing-count_from}
 use Rattle.dd_model.proofs.Transport.{in_cell_within}
 use Rattle.dd_model.proofs.Turns.{IsLeastTurns-from_period, least_turns_unique}
@@ -74,6 +75,13 @@ module _ (s : Symbol) (inv : AreInvolutions s) (p : Pair) (label : ℕ → ℕ) 
 
   counted : length (filter (λ e. nat_eq (label e) (label d)) (chambers s)) ≡ count_label label (label d) (count_from 1 s.size)
   counted = ap length (filtered label (label d) (count_from 1 s.size)) ∙ length-labelled label (label d) (count_from 1 s.size)
+
+  -- so many chambers have the label of d
+  pub closed_size : (listed : List ℕ) → AreMembers s p d listed → length listed ≡ count_label label (label d) (count_from 1 s.size)
+  closed_size listed are =
+      ap length (increasing_unique listed (filter (λ e. nat_eq (label e) (label d)) (chambers s)) are.ascending members.ascending
+      (λ e here. (members.each e).1 ((are.each e).0 here)) (λ e here. (are.each e).1 ((members.each e).0 here)))
+      ∙ counted
 
   chain_chambers : (r : ℕ) → IsPeriod s p d r → IsChain s p d → count_label label (label d) (count_from 1 s.size) ≡ r
   chain_chambers r period chain = sym counted ∙ chain_size s inv p d r (filter (λ e. nat_eq (label e) (label d)) (chambers s)) closed.chamber period chain members

@@ -1,16 +1,18 @@
 -- A path of which the ends meet is a whole cell.
-use Rattle.std.proofs.Common.{◌≡◌, ℕ, ◌*◌, ◌/◌, ◌%◌, ◌≤◌, ◌⊎◌, ◌↔◌, IsTrue, sym, ap, ◌∙◌, ⊎_elim, arith}
+use Rattle.std.proofs.Common.{◌≡◌, ℕ, ◌*◌, ◌/◌, ◌%◌, ◌≤◌, ◌⊎◌, ◌↔◌, IsTrue, List, length, sym, ap, ◌∙◌, ⊎_elim, arith}
 use Rattle.dd_model.specs.declared.pair.Pair.{Pair}
 use Rattle.dd_model.specs.declared.pair.Pair.TheVariants.{Tile, Vertex}
 use Rattle.dd_model.specs.declared.requests.Request.{Request}
 use Rattle.dd_model.specs.Symbol.{Symbol, IsChamber, degree}
+use Rattle.dd_model.specs.Cell.{InCell, IsChain}
 use Rattle.dd_model.specs.Code.{count_from}
+use Rattle.dd_cells.specs.Cells.{AreMembers}
 use Rattle.dd_bounds.specs.Units.{share_unit}
 use Rattle.dd_bounds.specs.Classes.{IsClosedShare}
 use Rattle.dd_bounds.specs.Ends.{IsInside, AreTables, IsFound, IsWithin, ArePathEnds, led}
 use Rattle.dd_bounds.specs.Labels.{count_label}
 use Rattle.dd_bounds.specs.PathEnd.{PathEnd}
-use Rattle.dd_bounds.proofs.ClosedLabels.{IsClosedLabel, share_of_closed, no_chain}
+use Rattle.dd_bounds.proofs.ClosedLabels.{IsClosedLabel, closed_size, label_in_cell, share_of_closed, no_chain}
 use Rattle.dd_bounds.proofs.EndLemmas.{inside_whole}
 use Rattle.dd_bounds.proofs.WithinLemmas.{within_first, within_second}
 
@@ -60,6 +62,21 @@ module _ (q : Request) (C : Symbol → Type 0) (n : ℕ) (p : Pair) (full : AreT
         flags = λ z h same. (within z (inside_table s c (z / 2) h) same).same s c ∙ same;
       }
 
+  -- the cell has the chambers of the path, and no others
+  pub met_size : (s : Symbol) → C s → (members : List ℕ) → AreMembers s p (x / 2) members → length members ≡ (ends x).chambers
+  met_size s c members of_cell =
+      closed_size s (full s c).0.involutions p are.label (x / 2) (closed_label s c) members of_cell
+      ∙ ap (λ m. count_label are.label (are.label (x / 2)) (count_from 1 m)) (full s c).1 ∙ sym (are.each x meet.is_end).count
+
+  pub met_label : (s : Symbol) → C s → (e : ℕ) → InCell s p (x / 2) e → are.label e ≡ are.label (x / 2)
+  met_label s c e there = label_in_cell s (full s c).0.involutions p are.label (x / 2) (closed_label s c) e there
+
+  -- it is no chain where no involution is told to fix a chamber of it
+  pub met_no_chain : (IsTrue (ends x).is_capped → ⊥) → (s : Symbol) → C s → IsChain s p (x / 2) → ⊥
+  met_no_chain loose s c =
+      no_chain s (full s c).0.involutions p are.label (x / 2) (closed_label s c)
+      (λ z h same. (within z (inside_table s c (z / 2) h) same).moved loose s c)
+
   -- a share that is right for the cell
   pub closed_path_share : (c v : ℕ) → (p ≡ Tile) ⊎ (p ≡ Vertex) → IsClosedShare q p c v → c % 64 ≡ (ends x).chambers → c % 64 ≤ 36 → IsTrue (ends x).is_capped ↔ (64 ≤ c)
       → (s : Symbol) → IsFound q C s → share_unit ≤ v * degree s p (x / 2)
@@ -70,5 +87,4 @@ module _ (q : Request) (C : Symbol → Type 0) (n : ℕ) (p : Pair) (full : AreT
       (chambers ∙ own.count ∙ ap (λ m. count_label are.label (are.label (x / 2)) (count_from 1 m)) (sym (full s sought.1).1))
       few
       (λ high. own.capped (kind.1 high) s sought.1)
-      (λ low. no_chain s (full s sought.1).0.involutions p are.label (x / 2) label
-      (λ z h same. (within z (inside_table s sought.1 (z / 2) h) same).moved (λ yes. let high = kind.0 yes in absurd (omega (arith, low, high))) s sought.1))
+      (λ low. met_no_chain (λ yes. let high = kind.0 yes in absurd (omega (arith, low, high))) s sought.1)

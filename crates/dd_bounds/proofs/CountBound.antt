@@ -1,10 +1,10 @@
 -- What the chambers of at most so many cells can add to the curvature: the count bound.
-use Rattle.std.proofs.Common.{◌≡◌, ℕ, zero, suc, ◌+◌, ◌-◌, ◌*◌, ◌/◌, ◌%◌, ◌<◌, ◌≤◌, ◌⊎◌, List, [], ◌∷◌, length, get_or, refl, sym, ap, ◌∙◌, inl, inr, ⊎_elim, arith}
+use Rattle.std.proofs.Common.{◌≡◌, ℕ, zero, suc, ◌+◌, ◌-◌, ◌*◌, ◌/◌, ◌%◌, ◌≤◌, ◌⊎◌, List, [], ◌∷◌, length, get_or, refl, sym, ap, ◌∙◌, subst, inl, inr, ⊎_elim, arith}
 use Rattle.std.proofs.lemmas.Bool.{cases_eq, ne_eqb}
 use Rattle.std.proofs.lemmas.List.Elements.{Contains-get_or}
 use Rattle.std.proofs.lemmas.List.Sums.{sum_by-cons}
 use Rattle.std.proofs.Math.Nat.{mul-le-mul_right}
-use Rattle.std.specs.List.{Contains, sum_by}
+use Rattle.std.specs.List.{AllByRecursion, Contains, sum_by}
 use Rattle.std.specs.List.Sorted.{IsStrictlyIncreasing}
 use Rattle.dd_model.specs.declared.pair.Pair.{Pair}
 use Rattle.dd_model.specs.Symbol.{Symbol, IsSymbol, IsChamber, first, second, op, degree}
@@ -24,50 +24,87 @@ use Rattle.dd_bounds.proofs.Rotation.{cell_bound, chain_bound}
 
 -- ## Sums over two lists
 
+-- the other terms of a list
+record IsWithout (x : ℕ) (xs rest : List ℕ) : Type 0 where
+  pub sums : (f : ℕ → ℕ) → sum_by f xs ≡ f x + sum_by f rest
+  pub long : length xs ≡ suc (length rest)
+  pub others : (y : ℕ) → Contains xs y → (y ≡ x → ⊥) → Contains rest y
+  pub listed : (y : ℕ) → Contains rest y → Contains xs y
+
+without : (x : ℕ) (xs : List ℕ) → Contains xs x → (rest : List ℕ) × IsWithout x xs rest
+without x [] here = let no = here.1 in absurd (omega arith)
+without x (y ∷ ys) here = ⊎_elim
+    (λ (same : y ≡ x). (
+      ys,
+      record {
+        sums = λ f. sum_by-cons f y ys ∙ ap (λ z. f z + sum_by f ys) same;
+        long = refl;
+        others = λ z listed away. ⊎_elim (λ e. absurd (away (sym e ∙ same))) (λ later. later) (Contains-cases y z ys listed);
+        listed = λ z later. Contains-later y z ys later;
+      },
+    ))
+    (λ later.
+    let deep = without x ys later in
+    let w = deep.1 in (
+      y ∷ deep.0,
+      record {
+        sums = λ f. let a = sum_by-cons f y ys in let b = sum_by-cons f y deep.0 in let e = w.sums f in omega (arith, a, b, e);
+        long = ap suc w.long;
+        others = λ z listed away. ⊎_elim (λ e. subst (Contains (y ∷ deep.0)) e (Contains-head y deep.0)) (λ below. Contains-later y z deep.0 (w.others z below away)) (Contains-cases y z ys listed);
+        listed = λ z there. ⊎_elim (λ e. subst (Contains (y ∷ ys)) e (Contains-head y ys)) (λ below. Contains-later y z ys (w.listed z below)) (Contains-cases y z deep.0 there);
+      },
+    ))
+    (Contains-cases y x ys here)
+
+at_most_each : (f : ℕ → ℕ) (most : ℕ) (ds : List ℕ) → ((x : ℕ) → Contains ds x → f x ≤ most) → sum_by f ds ≤ length ds * most
+at_most_each f most [] below = omega arith
+at_most_each f most (x ∷ xs) below =
+    let e = sum_by-cons f x xs in
+    let own = below x (Contains-head x xs) in
+    let rest = at_most_each f most xs (λ y later. below y (Contains-later x y xs later)) in
+    let more : suc (length xs) * most ≡ most + length xs * most = omega arith in
+    omega (arith, e, own, rest, more)
+
+-- what holds of all holds of each
+pub all_listed : (P : ℕ → Type 0) (xs : List ℕ) (x : ℕ) → AllByRecursion P xs → Contains xs x → P x
+all_listed P [] x all here = let no = here.1 in absurd (omega arith)
+all_listed P (y ∷ ys) x all here = ⊎_elim (λ same. subst P same all.0) (λ later. all_listed P ys x all.1 later) (Contains-cases y x ys here)
+
+-- one of different numbers is none of the others
+other_than : (g y : ℕ) (gs : List ℕ) → AreDistinct (g ∷ gs) → Contains gs y → y ≡ g → ⊥
+other_than g y gs apart listed same = all_listed (λ z. g ≡ z → ⊥) gs y apart.0 listed (sym same)
+
 -- what of ds is not in gs weighs at most most for each
-pub sum_beyond : (f : ℕ → ℕ) (most : ℕ) (ds gs : List ℕ) → IsStrictlyIncreasing ds → IsStrictlyIncreasing gs
+pub sum_beyond : (f : ℕ → ℕ) (most : ℕ) (ds gs : List ℕ) → AreDistinct gs
     → ((x : ℕ) → Contains ds x → f x ≤ most) → ((x : ℕ) → Contains gs x → Contains ds x)
     → (length gs ≤ length ds) × (sum_by f ds ≤ sum_by f gs + (length ds - length gs) * most)
-sum_beyond f most [] [] up rise below within = (omega arith, omega arith)
-sum_beyond f most [] (g ∷ gs) up rise below within = let no = (within g (Contains-head g gs)).1 in absurd (omega arith)
-sum_beyond f most (x ∷ xs) [] up rise below within =
-    let rest = sum_beyond f most xs [] (increasing-tail x xs up) rise (λ y later. below y (Contains-later x y xs later)) (λ y none. let no = none.1 in absurd (omega arith)) in
-    let e = sum_by-cons f x xs in
-    let own = below x (Contains-head x xs) in
-    let none : length xs - 0 ≡ length xs = omega arith in
-    let all : suc (length xs) - 0 ≡ suc (length xs) = omega arith in
-    let left : suc (length xs) * most ≡ length xs * most + most = omega arith in
-    let low : sum_by f xs ≤ 0 + (length xs - 0) * most = rest.1 in
-    (omega arith, omega (arith, e, own, left, low, ap (λ n. n * most) none, ap (λ n. n * most) all))
-sum_beyond f most (x ∷ xs) (g ∷ gs) up rise below within =
-    ⊎_elim
-    (λ same.
-    let rest = sum_beyond f most xs gs (increasing-tail x xs up) (increasing-tail g gs rise) (λ y later. below y (Contains-later x y xs later))
-    (λ y later.
-    let above = increasing-head g y gs rise later in
-    ⊎_elim (λ here. absurd (omega (arith, above, here, same))) (λ deep. deep) (Contains-cases x y xs (within y (Contains-later g y gs later)))) in
-    let e = sum_by-cons f x xs in
-    let e' = sum_by-cons f g gs in
-    let own = ap f same in
+sum_beyond f most ds [] apart below within =
+    let bound = at_most_each f most ds below in
+    let all : (length ds - 0) * most ≡ length ds * most = ap (λ n. n * most) (omega arith) in
+    (omega arith, omega (arith, bound, all))
+sum_beyond f most ds (g ∷ gs) apart below within =
+    let out = without g ds (within g (Contains-head g gs)) in
+    let w = out.1 in
+    let rest = sum_beyond f most out.0 gs apart.1 (λ y listed. below y (w.listed y listed))
+    (λ y later. w.others y (within y (Contains-later g y gs later)) (other_than g y gs apart later)) in
     let few = rest.0 in
     let low = rest.1 in
-    let left : length (x ∷ xs) - length (g ∷ gs) ≡ length xs - length gs = omega arith in
-    (omega (arith, few), omega (arith, e, e', own, low, ap (λ n. n * most) left)))
-    (λ other.
-    let first : Contains xs g = ⊎_elim (λ here. absurd (other here)) (λ deep. deep) (Contains-cases x g xs (within g (Contains-head g gs))) in
-    let above = increasing-head x g xs up first in
-    let rest = sum_beyond f most xs (g ∷ gs) (increasing-tail x xs up) rise (λ y later. below y (Contains-later x y xs later))
-    (λ y there.
-    let beyond : x < y = ⊎_elim (λ here. omega (arith, above, here)) (λ later. let more = increasing-head g y gs rise later in omega (arith, above, more)) (Contains-cases g y gs there) in
-    ⊎_elim (λ here. absurd (omega (arith, here, beyond))) (λ deep. deep) (Contains-cases x y xs (within y there))) in
-    let e = sum_by-cons f x xs in
-    let own = below x (Contains-head x xs) in
-    let few = rest.0 in
-    let low = rest.1 in
-    let left : length (x ∷ xs) - length (g ∷ gs) ≡ suc (length xs - length (g ∷ gs)) = omega (arith, few) in
-    let more : suc (length xs - length (g ∷ gs)) * most ≡ (length xs - length (g ∷ gs)) * most + most = omega arith in
-    (omega (arith, few), omega (arith, e, own, low, ap (λ n. n * most) left, more)))
-    (cases_eq x g)
+    let a = w.sums f in
+    let e = sum_by-cons f g gs in
+    let long = w.long in
+    let left : length ds - length (g ∷ gs) ≡ length out.0 - length gs = omega (arith, long) in
+    (omega (arith, few, long), omega (arith, a, e, low, ap (λ n. n * most) left))
+
+-- different numbers of a list add up to no more than all of it
+pub part_of_distinct : (f : ℕ → ℕ) (ds gs : List ℕ) → AreDistinct gs → ((x : ℕ) → Contains gs x → Contains ds x) → sum_by f gs ≤ sum_by f ds
+part_of_distinct f ds [] apart within = omega arith
+part_of_distinct f ds (g ∷ gs) apart within =
+    let out = without g ds (within g (Contains-head g gs)) in
+    let w = out.1 in
+    let rest = part_of_distinct f out.0 gs apart.1 (λ y later. w.others y (within y (Contains-later g y gs later)) (other_than g y gs apart later)) in
+    let a = w.sums f in
+    let e = sum_by-cons f g gs in
+    omega (arith, a, e, rest)
 
 -- ## The chambers of one cell
 
@@ -199,14 +236,14 @@ even_sum f (x ∷ xs) each =
 
 -- Of a sum over all chambers, the cells of gs have what they have, and each other cell at most most.
 pub sum_beyond_cells : (s : Symbol) → IsSymbol s → (p : Pair) (root : ℕ → ℕ) → AreRoots s p root → (ds gs : List ℕ) → AreCells s p ds
-    → IsStrictlyIncreasing gs → ((g : ℕ) → Contains gs g → IsLeastOfCell s p g) → (w : ℕ → ℕ) (most : ℕ)
+    → AreDistinct gs → ((g : ℕ) → Contains gs g → IsLeastOfCell s p g) → (w : ℕ → ℕ) (most : ℕ)
     → ((j : ℕ) (members : List ℕ) → IsChamber s j → AreMembers s p j members → sum_by w members ≤ most)
     → (length gs ≤ length ds) × (sum_by w (chambers s) ≤ sum_by (λ g. sum_by w (members_at s root g)) gs + (length ds - length gs) * most)
 sum_beyond_cells s is p root roots ds gs cells rise least w most each =
     let inv = is.table.involutions in
     let f : ℕ → ℕ = λ j. sum_by w (members_at s root j) in
     let parts = sum_over_cells s p root w ds roots cells in
-    let beyond = sum_beyond f most ds gs cells.ascending rise
+    let beyond = sum_beyond f most ds gs rise
     (λ j listed. let own = (cells.members j).0 listed in each j (members_at s root j) own.0 (members_at_are s inv p root roots j own))
     (λ g listed. (cells.members g).1 (least g listed)) in
     let bound = beyond.1 in
@@ -227,7 +264,7 @@ even_flags s is p root roots ds cells =
 pub count_bound_plain : (s : Symbol) → IsSymbol s → (p : Pair) (ds : List ℕ) → AreCells s p ds → (D : ℕ) → sum_by (λ d. D / degree s p d) (chambers s) ≤ length ds * (2 * D)
 count_bound_plain s is p ds cells D =
     let roots = has_roots s is.table.involutions p in
-    let all = sum_beyond_cells s is p roots.root roots.are ds [] cells (λ i low. absurd (omega arith)) (λ g none. let no = none.1 in absurd (omega arith))
+    let all = sum_beyond_cells s is p roots.root roots.are ds [] cells tt (λ g none. let no = none.1 in absurd (omega arith))
     (λ d. D / degree s p d) (2 * D) (λ j members h are. cell_weight s is p D j members h are) in
     let bound : sum_by (λ d. D / degree s p d) (chambers s) ≤ 0 + (length ds - 0) * (2 * D) = all.1 in
     let none : length ds - 0 ≡ length ds = omega arith in

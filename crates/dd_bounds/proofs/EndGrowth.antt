@@ -17,7 +17,13 @@ side_of_longer : (old new : Rows) (t : ClassShares) (side : Side) → new.size �
 side_of_longer old new t side same undone kept =
     let more : (s : Symbol) → Passes (partial_of new) (λ _. true) s → Passes (partial_of old) (λ _. true) s =
     λ s is. record { completes = completes_shorter old new undone s is.completes; passed = is.passed } in
-    record { sized = kept.sized ∙ sym same; ends = ends_of_fewer t.request (partial_of old) (partial_of new) (λ _. true) (λ _. true) t.pair (ends_of t side) side.total same more kept.ends }
+    record {
+      sized = kept.sized ∙ sym same;
+      ends = ends_of_fewer t.request (partial_of old) (partial_of new) (λ _. true) (λ _. true) t.pair (ends_of t side) side.total same more kept.ends;
+      others = kept.others;
+      few = kept.few;
+      counted = λ s wanted full. kept.counted s wanted (completes_shorter old new undone s full);
+    }
 
 -- The shares of a table are shares of each table that it is filled to.
 pub kept_of_longer : (old new : Rows) (shares : Shares) → new.size ≡ old.size → unwound new (depth_of old) ≡ old → AreKept (partial_of old) shares → AreKept (partial_of new) shares

@@ -9,7 +9,7 @@ use Rattle.dd_model.specs.declared.pair.Pair.{Pair}
 use Rattle.dd_model.specs.declared.pair.Pair.TheVariants.{Tile, Vertex}
 use Rattle.dd_model.specs.declared.requests.Request.{Request}
 use Rattle.dd_model.specs.Symbol.{Symbol, degree}
-use Rattle.dd_model.specs.Code.{chambers, count_from}
+use Rattle.dd_model.specs.Code.{count_from}
 use Rattle.dd_model.specs.Cell.{InCell}
 use Rattle.dd_model.specs.Partial.{Completes}
 use Rattle.dd_model.proofs.CellWalks.{in_cell-refl}
@@ -17,10 +17,10 @@ use Rattle.dd_model.proofs.CountFrom.{length-count_from, item-map-count_from}
 use Rattle.dd_bounds.specs.Ends.{IsInside, AreTables, IsFound, ArePathEnds}
 use Rattle.dd_bounds.specs.Changes.{IsShareFrom, IsFixedEnd, IsAlone}
 use Rattle.dd_bounds.specs.Labels.{count_label}
-use Rattle.dd_bounds.specs.Shares.{AreShares, IsTotal}
+use Rattle.dd_bounds.specs.Shares.{BoundsReciprocals, IsTotal}
 use Rattle.dd_bounds.specs.Units.{share_unit}
 use Rattle.dd_bounds.specs.PathEnd.{PathEnd}
-use Rattle.dd_bounds.proofs.Bounds.{total_of_shares, wanted_allowed}
+use Rattle.dd_bounds.proofs.Bounds.{bounds_of_shares, wanted_allowed}
 use Rattle.dd_bounds.proofs.EndLemmas.{inside_whole, chain_of_fixed, label_degree_of_chain}
 
 -- The ends of some tables are ends of fewer.
@@ -48,17 +48,22 @@ fewer_tables q C D n p ends total more are = record {
 
 -- ## Totals
 
+-- the total bounds what the degrees of each of the tables add
+pub bounds_of_ends : (q : Request) (C : Symbol → Type 0) (n : ℕ) (p : Pair) (ends : ℕ → PathEnd) (total : ℕ) → (p ≡ Tile) ⊎ (p ≡ Vertex) → ArePathEnds q C n p ends total
+    → (s : Symbol) → s.size ≡ n → IsFound q C s → BoundsReciprocals s p total
+bounds_of_ends q C n p ends total which are s size found =
+    let share = λ (d : ℕ). are.shared (are.label d) in
+    let list = map share (count_from 1 n) in
+    let long : length list ≡ n = length-map (count_from 1 n) share ∙ length-count_from 1 n in
+    subst (BoundsReciprocals s p) (sum-map share (count_from 1 n) ∙ sym are.adds)
+    (bounds_of_shares s found.0.symbol p share_unit list which (omega (arith, long, size))
+    (λ d low high.
+    let within : d ≤ n = omega (arith, high, size) in
+    subst (λ a. share_unit ≤ a * degree s p d) (sym (item-map-count_from share n d low within)) (are.shares d (low, within) s found)))
+
 -- the total is one
 pub total_of_ends : (q : Request) (P : Symbol) (p : Pair) (ends : ℕ → PathEnd) (total : ℕ) → (p ≡ Tile) ⊎ (p ≡ Vertex) → ArePathEnds q (Completes P) P.size p ends total → IsTotal q P p share_unit total
-total_of_ends q P p ends total which are =
-    let share = λ (d : ℕ). are.shared (are.label d) in
-    let list = map share (chambers P) in
-    let long : length list ≡ P.size = length-map (chambers P) share ∙ length-count_from 1 P.size in
-    let shares : AreShares q P p share_unit list = record {
-      room = omega (arith, long);
-      each = λ d low high s sought. subst (λ a. share_unit ≤ a * degree s p d) (sym (item-map-count_from share P.size d low high)) (are.shares d (low, high) s (sought.wanted, sought.completes));
-    } in
-    subst (IsTotal q P p share_unit) (sum-map share (chambers P) ∙ sym are.adds) (total_of_shares q P p share_unit list which shares)
+total_of_ends q P p ends total which are s sought = bounds_of_ends q (Completes P) P.size p ends total which are s sought.completes.size (sought.wanted, sought.completes)
 
 -- ## A chamber that is fixed
 

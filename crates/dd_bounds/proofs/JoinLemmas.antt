@@ -1,5 +1,5 @@
 -- Two paths that are joined.
-use Rattle.std.proofs.Common.{◌≡◌, ℕ, ◌+◌, ◌*◌, ◌/◌, ◌%◌, ◌<◌, ◌≤◌, ◌⊎◌, Bool, IsTrue, refl, sym, ap, ◌∙◌, subst, inl, inr, ⊎_elim, arith}
+use Rattle.std.proofs.Common.{◌≡◌, ℕ, ◌+◌, ◌*◌, ◌/◌, ◌%◌, ◌<◌, ◌≤◌, ◌⊎◌, Bool, IsTrue, List, length, refl, sym, ap, ◌∙◌, subst, inl, inr, ⊎_elim, arith}
 use Rattle.std.proofs.lemmas.Bool.{cases_eq, cases_lt}
 use Rattle.dd_model.specs.declared.pair.Pair.{Pair}
 use Rattle.dd_model.specs.declared.requests.Request.{Request}
@@ -7,6 +7,7 @@ use Rattle.dd_model.specs.Symbol.{Symbol, IsChamber, first, degree}
 use Rattle.dd_model.specs.Code.{count_from}
 use Rattle.dd_model.specs.Cell.{InCell, IsChain}
 use Rattle.dd_model.proofs.CellWalks.{in_cell-refl, in_cell-trans, in_cell-sym, in_cell-letter}
+use Rattle.dd_cells.specs.Cells.{AreMembers}
 use Rattle.dd_bounds.specs.Ends.{IsInside, AreTables, IsFound, IsWithin, IsOpenAt, IsPathEnd, ArePathEnds, letter_of, led}
 use Rattle.dd_bounds.specs.Changes.{HasTurns, IsJoined, AreJoined}
 use Rattle.dd_bounds.specs.Labels.{count_label, relabel, reshare}
@@ -18,7 +19,7 @@ use Rattle.dd_bounds.specs.PathEnd.{PathEnd}
 use Rattle.dd_bounds.proofs.Bounds.{wanted_allowed}
 use Rattle.dd_bounds.proofs.OddSizes.{odd_fixes}
 use Rattle.dd_model.proofs.Branching.{degree-along_cell}
-use Rattle.dd_bounds.proofs.ClosedLabels.{IsClosedLabel, share_of_closed}
+use Rattle.dd_bounds.proofs.ClosedLabels.{IsClosedLabel, closed_size, label_in_cell, share_of_closed}
 use Rattle.dd_bounds.proofs.WithinLemmas.{letter_in_pair, within_first, within_second}
 use Rattle.dd_bounds.proofs.EndLemmas.{inside_whole, chain-along, label_degree, label_degree_of_chain}
 use Rattle.dd_bounds.proofs.LabelLemmas.{label_along, relabel_same, relabel_other, reshare_same, reshare_other, count_joined, count_stays, sum_joined, whole_label}
@@ -131,6 +132,27 @@ module _ (q : Request) (C : Symbol → Type 0) (n : ℕ) (p : Pair) (full : AreT
 
       inside_table : (s : Symbol) → C s → (e : ℕ) → IsChamber s e → IsInside n e
       inside_table s c e h = (h.0, let high = h.1 in let size = (full s c).1 in omega (arith, high, size))
+
+  -- the cell has the chambers of both paths, and no others
+  pub both_size : IsTrue (old x).is_capped → IsTrue (old y).is_capped → (s : Symbol) → C s → (members : List ℕ) → AreMembers s p (x / 2) members
+      → length members ≡ (old x).chambers + (old y).chambers
+  unfolding a b after
+  both_size one other s c members of_cell =
+      closed_size s (full s c).0.involutions p after (x / 2) (closed_both one other s c) members of_cell
+      ∙ ap (λ l. count_label after l (count_from 1 s.size)) (relabel_other are.label a b (x / 2) apart)
+      ∙ ap (λ m. count_label after a (count_from 1 m)) (full s c).1 ∙ sym count
+
+  pub both_labels : IsTrue (old x).is_capped → IsTrue (old y).is_capped → (s : Symbol) → C s → (e : ℕ) → InCell s p (x / 2) e
+      → (are.label e ≡ are.label (x / 2)) ⊎ (are.label e ≡ are.label (y / 2))
+  unfolding a b after
+  both_labels one other s c e there =
+      let same = label_in_cell s (full s c).0.involutions p after (x / 2) (closed_both one other s c) e there ∙ relabel_other are.label a b (x / 2) apart in
+      ⊎_elim (λ is_b. inr is_b) (λ not_b. inl (sym (relabel_other are.label a b e not_b) ∙ same)) (cases_eq (are.label e) b)
+
+  -- the two paths have different labels
+  pub other_labels : are.label (x / 2) ≡ are.label (y / 2) → ⊥
+  unfolding a b
+  other_labels = apart
 
   -- a share that is right for that cell
   pub closed_both_share : (c v : ℕ) → (p ≡ Tile) ⊎ (p ≡ Vertex) → IsTrue (old x).is_capped → IsTrue (old y).is_capped → IsClosedShare q p c v

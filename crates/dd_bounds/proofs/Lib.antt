@@ -6,7 +6,10 @@ pub mod JoinLemmas
 pub mod ClosingLemmas
 pub mod EndTotals
 pub mod PassingTables
-pub mod CensusLemmas
+pub mod CountedLemmas
+pub mod CountedPaths
+pub mod CountedEnds
+pub mod CountedSides
 pub mod RoomLemmas
 pub mod ClassLemmas
 pub mod PutLemmas
@@ -22,8 +25,6 @@ pub mod Rotation
 pub mod OddSizes
 pub mod FlatBound
 pub mod CountBound
-pub mod TurnLemmas
 pub mod Bounds
 pub mod ShareGrowth
-pub mod ClosedLemmas
 pub mod WholeShares

@@ -27,7 +27,7 @@ use Rattle.dd_bounds.proofs.LabelLemmas.{part_of_sum, parts_of_sum, sum_bound}
 abbrev pub AreRight : Request → Symbol → (Symbol → Bool) → Pair → ℕ → ℕ → Type 0
 AreRight q P test p x v = (s : Symbol) → Wanted q s → Passes P test s → share_unit ≤ v * degree s p (x / 2)
 
-passing_tables : (P : Symbol) (test : Symbol → Bool) → AreTables (Passes P test) P.size
+pub passing_tables : (P : Symbol) (test : Symbol → Bool) → AreTables (Passes P test) P.size
 passing_tables P test s is = (is.completes.table, is.completes.size)
 
 -- ## Shares that are right after a change

@@ -9,7 +9,7 @@ use Rattle.dd_model.specs.declared.pair.Pair.{Pair}
 use Rattle.dd_model.specs.declared.requests.Request.{Request}
 use Rattle.dd_model.proofs.CountFrom.{length-count_from}
 use Rattle.dd_bounds.specs.Units.{share_unit}
-use Rattle.dd_bounds.specs.Changes.{IsShareFrom, HasTurns, IsJoined, IsRenewed, IsLink, IsFixedEnd}
+use Rattle.dd_bounds.specs.Changes.{IsShareFrom, HasTurns, IsJoined, IsRenewed, IsLink, IsFixedEnd, AreFixed, AreJoined}
 use Rattle.dd_bounds.specs.Classes.{joined_class, turns_of, IsClosedShare, IsCappedShare, IsJoinedShare}
 use Rattle.dd_bounds.specs.Passing.{Passes, AreEndsOf}
 use Rattle.dd_bounds.specs.PathEnd.{PathEnd, weight}
@@ -91,8 +91,8 @@ module _ (t : ClassShares) (which : (t.pair ≡ Tile) ⊎ (t.pair ≡ Vertex)) (
     unfolding c
     from low = let some = end.some in subst (IsShareFrom t.request t.pair (turns_of t.size c)) (sym (share.goes_on low)) ((t.are_told.each c (omega arith)).told.with_ends (omega arith) (omega (arith, some)))
 
-    fixed : IsFixedEnd (Passes P test) t.pair old x
-    fixed = record { is_end = end_live t old end; fixed = join.leads }
+    pub end_fixed : IsFixedEnd (Passes P test) t.pair old x
+    end_fixed = record { is_end = end_live t old end; fixed = join.leads }
 
     pub right_capped : a % 64 ≤ 36 → AreRight t.request P test t.pair x v
     unfolding c
@@ -101,7 +101,7 @@ module _ (t : ClassShares) (which : (t.pair ≡ Tile) ⊎ (t.pair ≡ Vertex)) (
         ⊎_elim
         (λ low.
         let turns : turns_of t.size c ≡ c % 64 = turns_capped t.size c (omega arith) in
-        fixed_right t.request P test t.pair old total are x (turns_of t.size c) v fixed (omega (arith, turns, own)) (from low))
+        fixed_right t.request P test t.pair old total are x (turns_of t.size c) v end_fixed (omega (arith, turns, own)) (from low))
         (λ high.
         met_right t.request P test t.pair old total are x x a v which
         (record { is_end = end_live t old end; side = λ _ _. refl; leads = join.leads; which = inl (refl, (end_capped t old end).1 high) })
@@ -111,19 +111,23 @@ module _ (t : ClassShares) (which : (t.pair ≡ Tile) ⊎ (t.pair ≡ Vertex)) (
     pub small_capped : v ≤ share_unit
     small_capped = ⊎_elim (λ low. (from low).small) (λ high. (share.closed high).small) (cases_lt a 64)
 
-    pub ends_capped : a % 64 ≤ 36 → (n e : PathEnd) → n.chambers ≡ 0 → (64 ≤ a → e.chambers ≡ 0) → (a < 64 → e ≡ path_end t x (64 + a % 64))
-        → more + class_weight t a ≡ total + a % 64 * v → AreEndsOf t.request P test t.pair (put (put old x n) m e) more
+    -- what stands at the ends then
+    pub are_fixed : (n e : PathEnd) → n.chambers ≡ 0 → (64 ≤ a → e.chambers ≡ 0) → (a < 64 → e ≡ path_end t x (64 + a % 64)) → AreFixed old (put (put old x n) m e) x v
     unfolding c
-    ends_capped few n e none gone is sum =
+    are_fixed n e none gone is =
         let same : c % 64 ≡ a % 64 = omega arith in
         let own = end_chambers t old end in
-        let all : (old x).chambers * v ≡ a % 64 * v = ap (λ k. k * v) own in
-        let was = end_weight t old end in
-        path_capped t.request P test t.pair old (put (put old x n) m e) total more are x v fixed (right_capped few) small_capped
-        (fixed_put old x m v n e (end_other t old end) none (⊎_elim
+        fixed_put old x m v n e (end_other t old end) none (⊎_elim
         (λ low. inr (subst (IsRenewed old x v) (sym (is low)) (record { chambers = same ∙ sym own; share = sym (share.goes_on low); other = refl; capped = le-leb 64 c (omega arith) })))
         (λ high. inl (gone high))
-        (cases_lt a 64)))
+        (cases_lt a 64))
+
+    pub ends_capped : a % 64 ≤ 36 → (n e : PathEnd) → n.chambers ≡ 0 → (64 ≤ a → e.chambers ≡ 0) → (a < 64 → e ≡ path_end t x (64 + a % 64))
+        → more + class_weight t a ≡ total + a % 64 * v → AreEndsOf t.request P test t.pair (put (put old x n) m e) more
+    ends_capped few n e none gone is sum =
+        let all : (old x).chambers * v ≡ a % 64 * v = ap (λ k. k * v) (end_chambers t old end) in
+        let was = end_weight t old end in
+        path_capped t.request P test t.pair old (put (put old x n) m e) total more are x v end_fixed (right_capped few) small_capped (are_fixed n e none gone is)
         (omega (arith, sum, was, all))
 
   -- ## The ends of a path meet
@@ -149,14 +153,14 @@ module _ (t : ClassShares) (which : (t.pair ≡ Tile) ⊎ (t.pair ≡ Vertex)) (
 
   module _ {x m a y l b : ℕ} (two : AreTwoEnds t old x m a y l b) (sized : t.size ≡ P.size) (few : a % 64 + b % 64 ≤ 36) (join : IsJoin (Passes P test) t.pair x y) (v : ℕ)
       (share : IsJoinedShare t.request t.pair t.weights a b v) where
-    both : IsClassOfBoth a b (joined_class a b)
-    both = class_of_both a b two.one.low two.other.low (omega (arith, few))
+    pub joined_both : IsClassOfBoth a b (joined_class a b)
+    joined_both = class_of_both a b two.one.low two.other.low (omega (arith, few))
 
-    together : joined_class a b % 64 ≡ (old x).chambers + (old y).chambers
-    together = both.chambers ∙ ap (λ k. k + b % 64) (sym (end_chambers t old two.one)) ∙ ap (λ k. (old x).chambers + k) (sym (end_chambers t old two.other))
+    pub joined_together : joined_class a b % 64 ≡ (old x).chambers + (old y).chambers
+    joined_together = joined_both.chambers ∙ ap (λ k. k + b % 64) (sym (end_chambers t old two.one)) ∙ ap (λ k. (old x).chambers + k) (sym (end_chambers t old two.other))
 
-    link : IsLink (Passes P test) t.pair old x y
-    link = record {
+    pub ends_link : IsLink (Passes P test) t.pair old x y
+    ends_link = record {
       first_end = end_live t old two.one;
       second_end = end_live t old two.other;
       apart = two.apart;
@@ -167,14 +171,14 @@ module _ (t : ClassShares) (which : (t.pair ≡ Tile) ⊎ (t.pair ≡ Vertex)) (
 
     capped : IsTrue (leb 64 (joined_class a b)) ↔ (IsTrue (old x).is_capped ⊎ IsTrue (old y).is_capped)
     capped = (
-      λ is. ⊎_elim (λ high. inl ((end_capped t old two.one).1 high)) (λ high. inr ((end_capped t old two.other).1 high)) (both.capped (leb-true 64 (joined_class a b) is)),
-      λ either. le-leb 64 (joined_class a b) (both.stays (⊎_elim (λ is. inl ((end_capped t old two.one).0 is)) (λ is. inr ((end_capped t old two.other).0 is)) either)),
+      λ is. ⊎_elim (λ high. inl ((end_capped t old two.one).1 high)) (λ high. inr ((end_capped t old two.other).1 high)) (joined_both.capped (leb-true 64 (joined_class a b) is)),
+      λ either. le-leb 64 (joined_class a b) (joined_both.stays (⊎_elim (λ is. inl ((end_capped t old two.one).0 is)) (λ is. inr ((end_capped t old two.other).0 is)) either)),
     )
 
     turns : HasTurns P.size old x y (turns_of t.size (joined_class a b))
     turns =
         let c = joined_class a b in
-        let all = together in
+        let all = joined_together in
         ⊎_elim
         (λ below. ⊎_elim
         (λ half. inl (omega (arith, half, below, all)))
@@ -189,18 +193,18 @@ module _ (t : ClassShares) (which : (t.pair ≡ Tile) ⊎ (t.pair ≡ Vertex)) (
 
     from_joined : (a < 64) ⊎ (b < 64) → IsShareFrom t.request t.pair (turns_of t.size (joined_class a b)) v
     from_joined low =
-        let enough = both.chambers in
+        let enough = joined_both.chambers in
         let some = two.one.some in
-        subst (IsShareFrom t.request t.pair (turns_of t.size (joined_class a b))) (sym (share.goes_on low)) ((t.are_told.each (joined_class a b) (let small = both.small in omega (arith, small))).told.with_ends both.small (omega (arith, enough, some)))
+        subst (IsShareFrom t.request t.pair (turns_of t.size (joined_class a b))) (sym (share.goes_on low)) ((t.are_told.each (joined_class a b) (let small = joined_both.small in omega (arith, small))).told.with_ends joined_both.small (omega (arith, enough, some)))
 
     pub right_connected : AreRight t.request P test t.pair x v
     right_connected =
-        let enough = both.chambers in
+        let enough = joined_both.chambers in
         ⊎_elim
         (λ high.
-        linked_closed t.request P test t.pair old total are x y (joined_class a b) v which link ((end_capped t old two.one).1 high.0) ((end_capped t old two.other).1 high.1)
-        (share.closed high.0 high.1) together (omega (arith, enough, few)) (both.stays (inl high.0)))
-        (λ low. linked_right t.request P test t.pair old total are x y (turns_of t.size (joined_class a b)) v link turns (from_joined low))
+        linked_closed t.request P test t.pair old total are x y (joined_class a b) v which ends_link ((end_capped t old two.one).1 high.0) ((end_capped t old two.other).1 high.1)
+        (share.closed high.0 high.1) joined_together (omega (arith, enough, few)) (joined_both.stays (inl high.0)))
+        (λ low. linked_right t.request P test t.pair old total are x y (turns_of t.size (joined_class a b)) v ends_link turns (from_joined low))
         (either_open a b)
 
     pub small_connected : v ≤ share_unit
@@ -212,20 +216,26 @@ module _ (t : ClassShares) (which : (t.pair ≡ Tile) ⊎ (t.pair ≡ Vertex)) (
     joined_end k mate e low gone is kind = ⊎_elim
         (λ below. inr (
           λ no. let high = kind.0 no in absurd (omega (arith, below, high)),
-          subst (IsJoined old x y v mate) (sym (is below)) (record { chambers = together; share = sym (share.goes_on (low below)); other = refl; capped = capped }),
+          subst (IsJoined old x y v mate) (sym (is below)) (record { chambers = joined_together; share = sym (share.goes_on (low below)); other = refl; capped = capped }),
         ))
         (λ high. inl (gone high))
         (cases_lt k 64)
+
+    -- what stands at the ends then
+    pub are_joined : (n i e d : PathEnd) → n.chambers ≡ 0 → i.chambers ≡ 0 → (64 ≤ a → e.chambers ≡ 0) → (a < 64 → e ≡ path_end t l (joined_class a b))
+        → (64 ≤ b → d.chambers ≡ 0) → (b < 64 → d ≡ path_end t m (joined_class a b)) → AreJoined old (connected old x y m l n i e d) x y v
+    are_joined n i e d none nor gone is lost other =
+        joined_put old x y m l v n i e d (end_other t old two.one) (end_other t old two.other) none nor
+        (joined_end a l e (λ low. inl low) gone is {z = x} (end_capped t old two.one))
+        (joined_end b m d (λ low. inr low) lost other {z = y} (end_capped t old two.other))
 
     pub ends_connected : (n i e d : PathEnd) → n.chambers ≡ 0 → i.chambers ≡ 0 → (64 ≤ a → e.chambers ≡ 0) → (a < 64 → e ≡ path_end t l (joined_class a b))
         → (64 ≤ b → d.chambers ≡ 0) → (b < 64 → d ≡ path_end t m (joined_class a b))
         → more + (class_weight t a + class_weight t b) ≡ total + (a % 64 + b % 64) * v → AreEndsOf t.request P test t.pair (connected old x y m l n i e d) more
     ends_connected n i e d none nor gone is lost other sum =
-        let all : ((old x).chambers + (old y).chambers) * v ≡ (a % 64 + b % 64) * v = ap (λ k. k * v) (sym together ∙ both.chambers) in
+        let all : ((old x).chambers + (old y).chambers) * v ≡ (a % 64 + b % 64) * v = ap (λ k. k * v) (sym joined_together ∙ joined_both.chambers) in
         let was = end_weight t old two.one in
         let had = end_weight t old two.other in
-        paths_linked t.request P test t.pair old (connected old x y m l n i e d) total more are x y v link right_connected small_connected
-        (joined_put old x y m l v n i e d (end_other t old two.one) (end_other t old two.other) none nor
-        (joined_end a l e (λ low. inl low) gone is {z = x} (end_capped t old two.one))
-        (joined_end b m d (λ low. inr low) lost other {z = y} (end_capped t old two.other)))
+        paths_linked t.request P test t.pair old (connected old x y m l n i e d) total more are x y v ends_link right_connected small_connected
+        (are_joined n i e d none nor gone is lost other)
         (omega (arith, sum, was, had, all))

@@ -40,6 +40,10 @@ alone_of_own t k ends x own =
     the_other : (z m : ℕ) → z / 2 ≡ x / 2 → m / 2 ≡ x / 2 → (z ≡ x → ⊥) → (m ≡ x → ⊥) → z ≡ m
     the_other z m same beside away apart = omega (arith, same, beside, away, apart)
 
+-- no flag is the other flag of its chamber
+pub others_of_own : (t : ClassShares) (k : ℕ) (ends : ℕ → PathEnd) (x : ℕ) → IsOwn t k ends x → (ends x).other ≡ x → ⊥
+others_of_own t k ends x own same = own.apart (sym (ap (λ (e : PathEnd). e.other) own.is) ∙ same)
+
 -- the flags of one more chamber
 pub own_more : (t : ClassShares) (xs : List End) (k i j : ℕ) (e d : End) → length xs ≡ 74 → k < 36 → i ≡ 2 * (k + 1) → j ≡ 2 * (k + 1) + 1
     → e.other ≡ j → e.class.number ≡ 1 → d.other ≡ i → d.class.number ≡ 1 → AreOwn t k (view t xs) → AreOwn t (k + 1) (view t (set (set xs i e) j d))

@@ -4,18 +4,25 @@ use Rattle.std.proofs.lemmas.Bool.{cases_eq, cases_lt, ne_eqb, lt-ltb, le-ltb}
 use Rattle.std.specs.Prelude.{nat_eq, not}
 use Rattle.std.proofs.Math.Nat.{mul-le-mul, mul-le-mul_right}
 use Rattle.dd_model.specs.Symbol.{Symbol}
+use Rattle.dd_model.specs.Wanted.{Wanted}
 use Rattle.dd_model.specs.declared.pair.Pair.TheVariants.{Tile, Vertex}
 use Rattle.dd_model.specs.declared.pair.Pair.{Pair}
 use Rattle.dd_model.specs.declared.requests.Request.{Request}
-use Rattle.dd_bounds.specs.Shares.{IsSought, IsShare}
+use Rattle.dd_bounds.specs.Shares.{BoundsReciprocals, IsSought, IsShare}
 use Rattle.dd_bounds.specs.Units.{share_unit}
 use Rattle.dd_bounds.proofs.WholeShares.{none_sought}
+use Rattle.dd_bounds.specs.Census.{HasCell, HasFixedEnd, HasJoined}
+use Rattle.dd_bounds.specs.Counted.{IsAtEnd, IsLoose}
 use Rattle.dd_bounds.specs.Classes.{joined_class, IsClosedShare, IsCappedShare, IsJoinedShare}
 use Rattle.dd_bounds.specs.Passing.{Passes, AreEndsOf}
 use Rattle.dd_bounds.specs.PathEnd.{PathEnd, weight}
-use Rattle.dd_bounds.specs.Sides.{IsSide, IsSumOf, IsJoin, path_end, class_weight, ends_of}
+use Rattle.dd_bounds.specs.Sides.{IsCensusOf, IsSide, IsSumOf, IsJoin, path_end, class_weight, ends_of}
+use Rattle.dd_bounds.specs.declared.census.Census.{Census}
 use Rattle.dd_bounds.specs.declared.class_shares.ClassShares.{ClassShares}
 use Rattle.dd_bounds.specs.declared.side.Side.{Side}
+use Rattle.dd_bounds.proofs.CountedLemmas.{counted_stays}
+use Rattle.dd_bounds.proofs.CountedSides.{capped_census, closed_census, joined_census}
+use Rattle.dd_bounds.proofs.EndTotals.{bounds_of_ends}
 use Rattle.dd_bounds.proofs.PassingTables.{ends_of_fewer, one_within, two_within, all_within}
 use Rattle.dd_bounds.proofs.PutLemmas.{put, connected}
 use Rattle.dd_bounds.proofs.SideLemmas.{one_path_within, chambers_within, IsAnEnd, AreTwoEnds, end_live, end_chambers, end_other, end_weight, ends_capped, ends_closed, ends_connected}
@@ -46,6 +53,11 @@ join_of_none P p x y = record { side = λ s c. absurd (no c.passed); leads = λ 
     no : IsTrue false → ⊥
     no h = cc
 
+-- a sum of shares bounds what the degrees of each wanted completion that passes the test add
+pub bounds_of_sum : (t : ClassShares) (P : Symbol) (test : Symbol → Bool) (total : ℕ) → (t.pair ≡ Tile) ⊎ (t.pair ≡ Vertex) → IsSumOf t P test total
+    → (s : Symbol) → Wanted t.request s → Passes P test s → BoundsReciprocals s t.pair total
+bounds_of_sum t P test total which sum s wanted is = bounds_of_ends t.request (Passes P test) P.size t.pair sum.ends total which sum.are s is.completes.size (wanted, is)
+
 module _ (t : ClassShares) (P : Symbol) (side : Side) (kept : IsSide t P side) where
   -- what holds in all completions holds in those that pass a test
   pub passing : (test : Symbol → Bool) → AreEndsOf t.request P test t.pair (ends_of t side) side.total
@@ -53,6 +65,12 @@ module _ (t : ClassShares) (P : Symbol) (side : Side) (kept : IsSide t P side) w
 
   pub sum_as_kept : (test : Symbol → Bool) → IsSumOf t P test side.total
   sum_as_kept test = record { ends = ends_of t side; are = passing test }
+
+  -- what is counted holds in those that pass a test
+  pub census_as_kept : (test : Symbol → Bool) → IsCensusOf t P test side.census
+  census_as_kept test s wanted is =
+      counted_stays s t.pair (IsAtEnd (ends_of t side)) (λ _. ⊥) (IsLoose (ends_of t side)) (λ _. ⊥) side.census (kept.counted s wanted is.completes)
+      (λ e none. absurd none) (λ z none. absurd none)
 
   pub total_small : P.size ≤ 36 → side.total ≤ 36 * share_unit
   total_small small = sum_small t P (λ _. true) side.total small (sum_as_kept (λ _. true))
@@ -81,6 +99,22 @@ module _ (t : ClassShares) (P : Symbol) (side : Side) (kept : IsSide t P side) w
             (λ _. refl) (λ low. absurd (omega (arith, low, high))) sum;
       })
       (cases_lt a 64)
+
+  pub census_capped : (t.pair ≡ Tile) ⊎ (t.pair ≡ Vertex) → {x m a : ℕ} → IsAnEnd t (ends_of t side) x m a → a % 64 ≤ 36 → (v own : ℕ) → IsCappedShare t.request t.pair t.weights a v → own ≡ a % 64 * v
+      → (test : Symbol → Bool) → IsJoin (Passes P test) t.pair x x → (after : Census) → HasFixedEnd side.census a own after → IsCensusOf t P test after
+  census_capped which end few v own share all test join after more s wanted is =
+      capped_census t which P test (ends_of t side) side.total (passing test) end join few v own share all s wanted is side.census (kept.counted s wanted is.completes) after more
+
+  pub census_closed : (t.pair ≡ Tile) ⊎ (t.pair ≡ Vertex) → {x m a : ℕ} → IsAnEnd t (ends_of t side) x m a → a % 64 ≤ 36 → (y : ℕ) → m ≡ y → (y ≡ x → ⊥) → (v own : ℕ)
+      → IsClosedShare t.request t.pair a v → own ≡ a % 64 * v → (test : Symbol → Bool) → IsJoin (Passes P test) t.pair x y → (after : Census) → HasCell side.census a own after → IsCensusOf t P test after
+  census_closed which end few y other apart v own share all test join after more s wanted is =
+      closed_census t which P test (ends_of t side) side.total (passing test) end few y join other apart v own share all s wanted is side.census (kept.counted s wanted is.completes) after more
+
+  pub census_connected : (t.pair ≡ Tile) ⊎ (t.pair ≡ Vertex) → {x m a y l b : ℕ} → AreTwoEnds t (ends_of t side) x m a y l b → a % 64 + b % 64 ≤ 36 → (v own : ℕ)
+      → IsJoinedShare t.request t.pair t.weights a b v → own ≡ (a % 64 + b % 64) * v → (test : Symbol → Bool) → IsJoin (Passes P test) t.pair x y
+      → (after : Census) → HasJoined side.census a b own after → IsCensusOf t P test after
+  census_connected which two few v own share all test join after more s wanted is =
+      joined_census t which P test (ends_of t side) side.total (passing test) two kept.sized few join v own share all s wanted is side.census (kept.counted s wanted is.completes) after more
 
   pub sum_closed : (t.pair ≡ Tile) ⊎ (t.pair ≡ Vertex) → {x m a : ℕ} → IsAnEnd t (ends_of t side) x m a → a % 64 ≤ 36 → (y : ℕ) → m ≡ y → (y ≡ x → ⊥) → (v : ℕ)
       → IsClosedShare t.request t.pair a v → (test : Symbol → Bool) (more : ℕ) → IsJoin (Passes P test) t.pair x y → more + class_weight t a ≡ side.total + a % 64 * v → IsSumOf t P test more

@@ -43,17 +43,15 @@ view_two t xs i j e d long low also =
     let same = length-set xs i e in
     view_set t (set xs i e) j d (omega (arith, long, same, also)) ∙ ap (λ f. put f j (end_of t (Some d))) (view_set t xs i e (omega (arith, long, low)))
 
-module _ (t : ClassShares) (q : Request) (P : Symbol) (test : Symbol → Bool) (p : Pair) (xs : List End) (more : ℕ) (long : length xs ≡ 74) where
-  pub kept_two : (x m i j : ℕ) (n d : End) → x < 74 → m < 74 → i ≡ x → j ≡ m
-      → AreEndsOf q P test p (put (put (view t xs) x (end_of t (Some n))) m (end_of t (Some d))) more → AreEndsOf q P test p (view t (set (set xs i n) j d)) more
-  kept_two x m i j n d low also first second are =
-      let here : view t (set (set xs i n) j d) ≡ view t (set (set xs x n) m d) = ap (λ k. view t (set (set xs k n) j d)) first ∙ ap (λ k. view t (set (set xs x n) k d)) second in
-      subst (λ f. AreEndsOf q P test p f more) (sym (here ∙ view_two t xs x m n d long low also)) are
+module _ (t : ClassShares) (xs : List End) (long : length xs ≡ 74) where
+  pub two_written : (x m i j : ℕ) (n d : End) → x < 74 → m < 74 → i ≡ x → j ≡ m
+      → view t (set (set xs i n) j d) ≡ put (put (view t xs) x (end_of t (Some n))) m (end_of t (Some d))
+  two_written x m i j n d low also first second =
+      ap (λ k. view t (set (set xs k n) j d)) first ∙ ap (λ k. view t (set (set xs x n) k d)) second ∙ view_two t xs x m n d long low also
 
-  pub kept_four : (x y m l a b i j : ℕ) (n o e d : End) → x < 74 → y < 74 → m < 74 → l < 74 → a ≡ x → b ≡ y → i ≡ m → j ≡ l
-      → AreEndsOf q P test p (connected (view t xs) x y m l (end_of t (Some n)) (end_of t (Some o)) (end_of t (Some e)) (end_of t (Some d))) more
-      → AreEndsOf q P test p (view t (set (set (set (set xs a n) b o) i e) j d)) more
-  kept_four x y m l a b i j n o e d x_low y_low m_low l_low first second third fourth are =
+  pub four_written : (x y m l a b i j : ℕ) (n o e d : End) → x < 74 → y < 74 → m < 74 → l < 74 → a ≡ x → b ≡ y → i ≡ m → j ≡ l
+      → view t (set (set (set (set xs a n) b o) i e) j d) ≡ connected (view t xs) x y m l (end_of t (Some n)) (end_of t (Some o)) (end_of t (Some e)) (end_of t (Some d))
+  four_written x y m l a b i j n o e d x_low y_low m_low l_low first second third fourth =
       let here : view t (set (set (set (set xs a n) b o) i e) j d) ≡ view t (set (set (set (set xs x n) y o) m e) l d) =
       ap (λ k. view t (set (set (set (set xs k n) b o) i e) j d)) first ∙ ap (λ k. view t (set (set (set (set xs x n) k o) i e) j d)) second
       ∙ ap (λ k. view t (set (set (set (set xs x n) y o) k e) j d)) third ∙ ap (λ k. view t (set (set (set (set xs x n) y o) m e) k d)) fourth in
@@ -61,4 +59,16 @@ module _ (t : ClassShares) (q : Request) (P : Symbol) (test : Symbol → Bool) (
       let again = length-set (set xs x n) y o in
       let two = view_two t (set (set xs x n) y o) m l e d (again ∙ same ∙ long) m_low l_low in
       let under = ap (λ f. put (put f m (end_of t (Some e))) l (end_of t (Some d))) (view_two t xs x y n o long x_low y_low) in
-      subst (λ f. AreEndsOf q P test p f more) (sym (here ∙ two ∙ under)) are
+      here ∙ two ∙ under
+
+module _ (t : ClassShares) (q : Request) (P : Symbol) (test : Symbol → Bool) (p : Pair) (xs : List End) (more : ℕ) (long : length xs ≡ 74) where
+  pub kept_two : (x m i j : ℕ) (n d : End) → x < 74 → m < 74 → i ≡ x → j ≡ m
+      → AreEndsOf q P test p (put (put (view t xs) x (end_of t (Some n))) m (end_of t (Some d))) more → AreEndsOf q P test p (view t (set (set xs i n) j d)) more
+  kept_two x m i j n d low also first second are =
+      subst (λ f. AreEndsOf q P test p f more) (sym (two_written t xs long x m i j n d low also first second)) are
+
+  pub kept_four : (x y m l a b i j : ℕ) (n o e d : End) → x < 74 → y < 74 → m < 74 → l < 74 → a ≡ x → b ≡ y → i ≡ m → j ≡ l
+      → AreEndsOf q P test p (connected (view t xs) x y m l (end_of t (Some n)) (end_of t (Some o)) (end_of t (Some e)) (end_of t (Some d))) more
+      → AreEndsOf q P test p (view t (set (set (set (set xs a n) b o) i e) j d)) more
+  kept_four x y m l a b i j n o e d x_low y_low m_low l_low first second third fourth are =
+      subst (λ f. AreEndsOf q P test p f more) (sym (four_written t xs long x y m l a b i j n o e d x_low y_low m_low l_low first second third fourth)) are

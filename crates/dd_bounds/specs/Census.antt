@@ -1,27 +1,64 @@
--- What a table tells of the cells of a pair.
-use Rattle.std.specs.Prelude.{◌≡◌, ℕ, ◌+◌, ◌-◌, ◌*◌, ◌/◌, ◌≤◌}
-use Rattle.std.specs.List.{sum_by}
+-- What is counted of the cells of a pair.
+use Rattle.std.specs.Prelude.{◌≡◌, ◌⊎◌, ℕ, ◌+◌, ◌-◌, ◌*◌, ◌/◌, ◌%◌, ◌<◌, ◌≤◌}
 use Rattle.dd_model.specs.declared.pair.Pair.{Pair}
-use Rattle.dd_model.specs.declared.requests.Request.{Request}
 use Rattle.dd_model.specs.Symbol.{Symbol}
-use Rattle.dd_model.specs.Code.{count_from}
-use Rattle.dd_bounds.specs.Closed.{fixed_flags, AreWhole}
-use Rattle.dd_bounds.specs.Shares.{IsSought, BoundsReciprocals}
-use Rattle.dd_bounds.specs.declared.limits.Census.{Census}
+use Rattle.dd_bounds.specs.Classes.{joined_class}
+use Rattle.dd_bounds.specs.Shares.{BoundsReciprocals}
+use Rattle.dd_bounds.specs.declared.census.Census.{Census}
 use Rattle.dd_bounds.specs.Units.{share_unit}
 
--- whole cells with least chambers to k, and at most as many fixed flags as the chambers to k have
-pub record IsCensus (q : Request) (partial : Symbol) (p : Pair) (k : ℕ) (c : Census) : Type 0 where
-  pub whole : AreWhole q partial p share_unit k c.cells c.chains c.chambers c.most
-  pub fixed : (s : Symbol) → IsSought q partial s → c.fixed ≤ sum_by (fixed_flags s p) (count_from 1 k)
+-- nothing was counted
+pub record IsNone (c : Census) : Type 0 where
+  pub cells : c.cells ≡ 0
+  pub chains : c.chains ≡ 0
+  pub chambers : c.chambers ≡ 0
+  pub most : c.most ≡ 0
+  pub fixed : c.fixed ≡ 0
 
--- the numbers of a census of k chambers are not too large
-pub record IsSmall (k : ℕ) (c : Census) : Type 0 where
-  pub cells : c.cells ≤ k
-  pub chains : c.chains ≤ k
-  pub chambers : c.chambers ≤ 72 * k
-  pub most : c.most ≤ k * (72 * share_unit)
-  pub fixed : c.fixed ≤ 2 * k
+-- a fixed flag more
+pub record IsFlagMore (c d : Census) : Type 0 where
+  pub cells : d.cells ≡ c.cells
+  pub chains : d.chains ≡ c.chains
+  pub chambers : d.chambers ≡ c.chambers
+  pub most : d.most ≡ c.most
+  pub fixed : d.fixed ≡ c.fixed + 1
+
+-- one more cell, with the chambers of a path of a class, that adds at most so much
+pub record IsCellMore (c : Census) (class own : ℕ) (d : Census) : Type 0 where
+  pub cells : d.cells ≡ c.cells + 1
+  pub chain : 64 ≤ class → d.chains ≡ c.chains + 1
+  pub cycle : class < 64 → d.chains ≡ c.chains
+  pub chambers : d.chambers ≡ c.chambers + class % 64
+  pub most : d.most ≡ c.most + own
+  pub fixed : d.fixed ≡ c.fixed
+
+-- what was counted before, or a fixed flag more
+abbrev pub HasFlag : Census → Census → Type 0
+HasFlag c d = (d ≡ c) ⊎ IsFlagMore c d
+
+-- what was counted before, or one cell more
+abbrev pub HasCell : Census → ℕ → ℕ → Census → Type 0
+HasCell c class own d = (d ≡ c) ⊎ IsCellMore c class own d
+
+-- an end of a path of a class is a fixed flag more, and the path one cell more if its other end is fixed
+pub record HasFixedEnd (c : Census) (class own : ℕ) (d : Census) : Type 0 where
+  pub flagged : Census
+  pub flag : HasFlag c flagged
+  pub goes_on : class < 64 → d ≡ flagged
+  pub closed : 64 ≤ class → HasCell flagged class own d
+
+-- two paths are one cell more if both other ends are fixed
+pub record HasJoined (c : Census) (one other own : ℕ) (d : Census) : Type 0 where
+  pub goes_on : (one < 64) ⊎ (other < 64) → d ≡ c
+  pub closed : 64 ≤ one → 64 ≤ other → HasCell c (joined_class one other) own d
+
+-- the numbers of a census are not too large
+pub record IsSmall (c : Census) : Type 0 where
+  pub cells : c.cells ≤ 36
+  pub chains : c.chains ≤ c.cells
+  pub chambers : c.chambers ≤ 64 * c.cells
+  pub most : c.most ≤ c.cells * (64 * share_unit)
+  pub fixed : c.fixed ≤ 72
 
 -- The whole cells are among the cells, of which there are no more than a limit. Twice the number of chains is that of the
 -- fixed flags. A whole cell adds what it adds, a further chain at most 1, and a further cycle at most 2.

@@ -28,7 +28,7 @@ pub record AreSidesOfSome (classes : PathShares) (sides : Sides) : Type 0 where
 
 -- the sides where there are none
 abbrev pub no_side : Side
-no_side = record { ends = []; total = 0; counts = record { cells = 0; chambers = 0; most = 0; fixed_ends = 0; fixed = 0; closed = 0 } }
+no_side = record { ends = []; total = 0; census = record { cells = 0; chains = 0; chambers = 0; fixed = 0; most = 0 } }
 
 abbrev pub no_sides : Sides
 no_sides = record { tiles = no_side; vertices = no_side }

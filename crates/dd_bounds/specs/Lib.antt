@@ -7,7 +7,7 @@ pub mod Classes
 pub mod Sides
 pub mod Kept
 pub mod Census
+pub mod Counted
 pub mod Units
 pub mod Shares
 pub mod Closed
-pub mod Turning

@@ -1,10 +1,10 @@
 -- Shares: what a degree can add to the curvature, at most, in a wanted symbol that completes a partial table.
-use Rattle.std.specs.Prelude.{◌≡◌, ℕ, ◌*◌, ◌/◌, ◌≤◌, List, length}
+use Rattle.std.specs.Prelude.{◌≡◌, ℕ, ◌*◌, ◌/◌, ◌≤◌, List}
 use Rattle.std.specs.List.{sum_by}
 use Rattle.dd_model.specs.declared.pair.Pair.{Pair}
 use Rattle.dd_model.specs.declared.pair.Pair.TheVariants.{Tile, Vertex, Edge}
 use Rattle.dd_model.specs.declared.requests.Request.{Request}
-use Rattle.dd_model.specs.Symbol.{Symbol, item, degree}
+use Rattle.dd_model.specs.Symbol.{Symbol, degree}
 use Rattle.dd_model.specs.Allowed.{IsIn}
 use Rattle.dd_model.specs.Flat.{all_degrees}
 use Rattle.dd_model.specs.Partial.{Completes}
@@ -25,11 +25,6 @@ IsAllowed q Edge m = m ≡ 2
 -- the share of a chamber: it is never less than L divided by the degree
 abbrev pub IsShare : Request → Symbol → Pair → ℕ → ℕ → ℕ → Type 0
 IsShare q partial p L d share = (s : Symbol) → IsSought q partial s → L ≤ share * degree s p d
-
--- a share for each chamber
-pub record AreShares (q : Request) (partial : Symbol) (p : Pair) (L : ℕ) (shares : List ℕ) : Type 0 where
-  pub room : partial.size ≤ length shares
-  pub each : (d : ℕ) → 1 ≤ d → d ≤ partial.size → IsShare q partial p L d (item shares d)
 
 -- the degrees of a pair, chamber by chamber
 abbrev pub degrees_of : Symbol → Pair → List ℕ

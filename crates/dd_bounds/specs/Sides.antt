@@ -4,10 +4,15 @@ use Rattle.std.specs.declared.option.Option.{Option}
 use Rattle.std.specs.declared.option.Option.TheVariants.{None, Some}
 use Rattle.dd_model.specs.declared.pair.Pair.{Pair}
 use Rattle.dd_model.specs.Symbol.{Symbol}
+use Rattle.dd_model.specs.Partial.{Completes}
+use Rattle.dd_model.specs.Wanted.{Wanted}
 use Rattle.dd_bounds.specs.Classes.{share_in}
+use Rattle.dd_bounds.specs.Census.{IsSmall}
+use Rattle.dd_bounds.specs.Counted.{AreCounted, HasCounted, HaveOthers}
 use Rattle.dd_bounds.specs.Ends.{led}
-use Rattle.dd_bounds.specs.Passing.{AreEndsOf}
+use Rattle.dd_bounds.specs.Passing.{AreEndsOf, Passes}
 use Rattle.dd_bounds.specs.PathEnd.{PathEnd}
+use Rattle.dd_bounds.specs.declared.census.Census.{Census}
 use Rattle.dd_bounds.specs.declared.class_shares.ClassShares.{ClassShares}
 use Rattle.dd_bounds.specs.declared.end.End.{End}
 use Rattle.dd_bounds.specs.declared.side.Side.{Side}
@@ -29,10 +34,13 @@ end_of t (Some e) = path_end t e.other e.class.number
 abbrev pub ends_of : ClassShares → Side → ℕ → PathEnd
 ends_of t side x = end_of t (slice_get side.ends x)
 
--- the ends of the paths of a pair in all completions of a partial table, whose size is that of the shares, and the sum of all
+-- the ends of the paths of a pair in all completions of a partial table, whose size is that of the shares, the sum of all, and a census of the wanted ones
 pub record IsSide (t : ClassShares) (partial : Symbol) (side : Side) : Type 0 where
   pub sized : t.size ≡ partial.size
   pub ends : AreEndsOf t.request partial (λ _. true) t.pair (ends_of t side) side.total
+  pub others : HaveOthers (ends_of t side)
+  pub few : IsSmall side.census
+  pub counted : (s : Symbol) → Wanted t.request s → Completes partial s → AreCounted s t.pair (ends_of t side) side.census
 
 -- the same in all completions of some table that is not too large
 pub record IsSideOfSome (t : ClassShares) (side : Side) : Type 0 where
@@ -44,6 +52,10 @@ pub record IsSideOfSome (t : ClassShares) (side : Side) : Type 0 where
 pub record IsSumOf (t : ClassShares) (partial : Symbol) (test : Symbol → Bool) (total : ℕ) : Type 0 where
   pub ends : ℕ → PathEnd
   pub are : AreEndsOf t.request partial test t.pair ends total
+
+-- what a census tells of the wanted completions that pass a test
+abbrev pub IsCensusOf : ClassShares → Symbol → (Symbol → Bool) → Census → Type 0
+IsCensusOf t partial test census = (s : Symbol) → Wanted t.request s → Passes partial test s → HasCounted s t.pair census
 
 -- In all of some tables a flag leads to the chamber of another one, which is of the same involution.
 pub record IsJoin (C : Symbol → Type 0) (p : Pair) (x y : ℕ) : Type 0 where

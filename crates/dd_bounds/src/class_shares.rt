@@ -7,7 +7,6 @@ ghost use Rattle.dd_bounds.specs.Classes.{IsClosedShare, IsCappedShare, IsJoined
 
 use crate::class::Class;
 use crate::degrees::{least_degree, share_of, share_of_cell};
-use crate::whole_cell::WholeCell;
 use dd_model::{Pair, Request};
 
 /// The sums of shares of the chambers of paths, for one pair and one size of tables, by class of
@@ -109,25 +108,6 @@ impl ClassShares {
         ensures small { result ≤ 64 * share_unit }
     {
         self.weights[class.place()]
-    }
-
-    /// What the chambers of a whole cell have together.
-    pub(crate) fn whole(&self, cell: &WholeCell) -> u64
-        requires some { 1 ≤ cell.now.turns }
-        requires few { cell.now.turns ≤ 36 }
-        ensures chain { IsTrue cell.now.is_chain
-            → IsWeightOf (IsWholeShare self.now.request self.now.pair cell.now.turns)
-            cell.now.turns result }
-        ensures cycle { (IsTrue cell.now.is_chain → ⊥)
-            → IsWeightOf (IsWholeShare self.now.request self.now.pair cell.now.turns)
-            (2 * cell.now.turns) result }
-        ensures small { result ≤ 72 * share_unit }
-    {
-        let half = self.weights[128 + usize::from(cell.turns)];
-        if cell.is_chain {
-            return half;
-        }
-        2 * half
     }
 
     /// What the chambers of a path without ends have together: it is a whole cell.

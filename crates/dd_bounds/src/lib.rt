@@ -1,22 +1,26 @@
 //! What cuts the search: bounds on the degrees of every symbol that completes a partial table, kept
 //! at the ends of the paths of the table.
+//!
+//! Where a request limits the number of tiles or of vertices, a `Census` counts the cells that are
+//! whole and the flags that an involution is known to fix. It changes with the paths: a path that
+//! loses its last end is one cell more. So nothing is walked, and the census that a further image
+//! would make is known before the image is put in. The proof names one chamber of each cell that was
+//! counted. No end of a path is in such a cell (`AreCounted`), so the next cell is another one.
 #![tactic(auto)]
 
+mod census;
 mod class;
 mod class_shares;
-mod counts;
 mod degrees;
 mod end;
 mod end_laws;
 mod kept_laws;
-mod limits;
 mod link;
 mod parity;
 mod path_shares;
 mod share_laws;
 mod side;
 mod sides;
-mod whole_cell;
 
 pub use degrees::{SHARE_UNIT, least_degree, share_of, share_of_cell};
 pub use end_laws::{
@@ -32,4 +36,3 @@ pub use share_laws::{
     fixed_flags_halve_a_cell, flat_symbols_have_large_shares, odd_tables_have_fixed_chambers,
 };
 pub use sides::Sides;
-pub use whole_cell::WholeCell;

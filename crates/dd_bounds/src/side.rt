@@ -6,11 +6,13 @@ ghost use Rattle.dd_bounds.specs.Shares.{IsSought};
 ghost use Rattle.dd_bounds.specs.Units.{share_unit};
 ghost use Rattle.dd_bounds.specs.Classes.{joined_class};
 ghost use Rattle.dd_bounds.specs.Passing.{Passes};
-ghost use Rattle.dd_bounds.specs.Sides.{IsSide, IsSideOfSome, IsSumOf, IsJoin, class_weight, ends_of};
+ghost use Rattle.dd_bounds.specs.Sides.{IsSide, IsSideOfSome, IsSumOf, IsCensusOf, IsJoin, ends_of};
+ghost use Rattle.dd_bounds.specs.Sides.{class_weight};
+ghost use Rattle.dd_bounds.specs.Census.{IsSmall};
 
+use crate::census::Census;
 use crate::class::Class;
 use crate::class_shares::ClassShares;
-use crate::counts::Counts;
 use crate::end::End;
 
 /// The paths of a pair in a table that a search fills, kept at their ends, and the sum of the
@@ -20,7 +22,7 @@ use crate::end::End;
 pub(crate) struct Side {
     ends: [End; 74],
     pub(crate) total: u64,
-    pub(crate) counts: Counts,
+    pub(crate) census: Census,
 }
 
 impl Side {
@@ -44,7 +46,7 @@ impl Side {
         Side {
             ends,
             total,
-            counts: Counts::none(),
+            census: Census::none(),
         }
     }
 
@@ -99,6 +101,40 @@ impl Side {
         self.total_after(had + shares.weight(other), shares.joined(one, other))
     }
 
+    /// The census where two flags are joined.
+    #[inline(always)]
+    pub(crate) fn census_with(&self, shares: &ClassShares, x: u8, y: u8) -> Census
+        requires pair { (shares.now.pair ≡ Tile) ⊎ (shares.now.pair ≡ Vertex) }
+        requires first { x < 74 }
+        requires second { y < 74 }
+        requires some { IsSideOfSome shares.now self.now }
+        ensures few { IsSmall result }
+        ensures census { (partial : Tiling) (test : Tiling → Bool)
+            → IsJoin (Passes partial test) shares.now.pair x y → IsSide shares.now partial self.now
+            → IsCensusOf shares.now partial test result }
+    {
+        let mut census = self.census;
+        let end = self.end(x);
+        let one = end.class;
+        if one.chambers() == 0 {
+            return census;
+        }
+        if x == y {
+            census.add_fixed_end(one, shares.capped(one));
+            return census;
+        }
+        if end.other == y {
+            census.add_cell(one, shares.closed(one));
+            return census;
+        }
+        let other = self.end(y).class;
+        if other.chambers() == 0 {
+            return census;
+        }
+        census.add_joined(one, other, shares.joined(one, other));
+        census
+    }
+
     /// Fixes the end of a path, which closes it where the other one is fixed. False where no wanted
     /// symbol completes the table, since the request allows the closed path no degree.
     #[inline(always)]
@@ -120,7 +156,7 @@ impl Side {
         self.total = self.total_after(shares.weight(class), fixed);
         self.ends[usize::from(x)] = End::none();
         self.ends[usize::from(end.other)] = end.beyond(x, class.capped());
-        self.counts.cap(class, x / 2, fixed);
+        self.census.add_fixed_end(class, fixed);
         fixed != 0
     }
 
@@ -153,7 +189,7 @@ impl Side {
         self.ends[usize::from(y)] = End::none();
         self.ends[usize::from(one.other)] = one.beyond(other.other, class);
         self.ends[usize::from(other.other)] = other.beyond(one.other, class);
-        self.counts.connect(one.class, other.class, x / 2, together);
+        self.census.add_joined(one.class, other.class, together);
         together != 0
     }
 
@@ -180,7 +216,7 @@ impl Side {
         self.total = self.total_after(shares.weight(class), whole);
         self.ends[usize::from(x)] = End::none();
         self.ends[usize::from(mate)] = End::none();
-        self.counts.close(class.chambers(), x / 2, whole);
+        self.census.add_cell(class, whole);
         whole != 0
     }
 

@@ -3,17 +3,22 @@ ghost use Rattle.std.specs.Int.{bit_at};
 ghost use Rattle.dd_model.specs.Partial.{Completes};
 ghost use Rattle.dd_model.specs.Symbol.{Symbol as Tiling};
 ghost use Rattle.dd_partial_table.specs.Rows.{partial_of, IsReady, HasNumberAt};
-ghost use Rattle.dd_bounds.specs.Shares.{IsSought};
+ghost use Rattle.dd_model.specs.Wanted.{Wanted};
+ghost use Rattle.dd_model.specs.declared.pair.Pair.TheVariants.{Tile, Vertex};
+ghost use Rattle.dd_bounds.specs.Census.{IsSmall};
+ghost use Rattle.dd_bounds.specs.Counted.{HasCounted};
+ghost use Rattle.dd_bounds.specs.Shares.{BoundsReciprocals, IsSought};
 ghost use Rattle.dd_bounds.specs.Units.{share_unit};
 ghost use Rattle.dd_bounds.specs.Kept.{AreSides, AreSidesOfSome, IsImage};
 ghost use Rattle.dd_bounds.specs.Passing.{Passes};
-ghost use Rattle.dd_bounds.specs.Sides.{IsSumOf};
+ghost use Rattle.dd_bounds.specs.Sides.{IsCensusOf, IsSumOf};
 
+use crate::census::Census;
 use crate::degrees::SHARE_UNIT;
 use crate::link::Link;
 use crate::path_shares::PathShares;
 use crate::side::Side;
-use dd_model::{Index, Request};
+use dd_model::{Index, Pair, Request};
 use dd_partial_table::Rows;
 
 /// The paths of both pairs of a table that a search fills, with two shares for each chamber, one
@@ -72,6 +77,39 @@ impl Sides {
         }
     }
 
+    /// The censuses where an image becomes known.
+    #[inline(always)]
+    fn censuses_with(&self, classes: &PathShares, link: &Link) -> (Census, Census)
+        requires some { AreSidesOfSome classes.now self.now }
+        ensures tiles { (partial : Tiling) (test : Tiling → Bool)
+            → AreSides classes.now partial self.now → IsImage (Passes partial test) link.now
+            → IsCensusOf classes.now.tiles partial test result.0 }
+        ensures vertices { (partial : Tiling) (test : Tiling → Bool)
+            → AreSides classes.now partial self.now → IsImage (Passes partial test) link.now
+            → IsCensusOf classes.now.vertices partial test result.1 }
+        ensures few_tiles { IsSmall result.0 }
+        ensures few_vertices { IsSmall result.1 }
+    {
+        let first = link.flags(0);
+        let second = link.flags(1);
+        let tiles = &self.tiles;
+        let vertices = &self.vertices;
+        match link.index {
+            Index::Zero => (
+                tiles.census_with(&classes.tiles, first.0, first.1),
+                vertices.census,
+            ),
+            Index::One => (
+                tiles.census_with(&classes.tiles, second.0, second.1),
+                vertices.census_with(&classes.vertices, first.0, first.1),
+            ),
+            Index::Two => (
+                tiles.census,
+                vertices.census_with(&classes.vertices, second.0, second.1),
+            ),
+        }
+    }
+
     /// Joins the paths between which an image leads. False where it is sure that no wanted symbol
     /// completes a table with that image.
     pub(crate) fn join(&mut self, classes: &PathShares, link: &Link) -> bool
@@ -97,8 +135,45 @@ impl Sides {
     }
 
     /// Returns whether it is sure that no wanted symbol completes the table that has a number at a
-    /// place of its code: the shares are then too small.
+    /// place of its code. The limits of the request are looked at only if `with_limits` is true.
     #[inline(always)]
+    fn is_ruled_out(
+        &self,
+        classes: &PathShares,
+        table: &Rows,
+        place: u8,
+        number: u8,
+        with_limits: bool,
+    ) -> bool
+        requires ready { IsReady table.now }
+        requires place { place < 3 * (partial_of table.now).size }
+        requires number { number ≤ 36 }
+        requires kept { AreSides classes.now (partial_of table.now) self.now }
+        ensures { IsTrue result → (s : Tiling)
+            → IsSought classes.now.request (partial_of table.now) s
+            → ¬ HasNumberAt place number s }
+    {
+        let link = Link::told(place, number);
+        let (tiles, vertices) = self.totals_with(classes, &link);
+        if is_too_small(tiles, vertices, table.size()) {
+            return true;
+        }
+        if !with_limits {
+            return false;
+        }
+        let (cells, corners) = self.censuses_with(classes, &link);
+        exceed(
+            &classes.request,
+            table.size(),
+            &cells,
+            tiles,
+            &corners,
+            vertices,
+        )
+    }
+
+    /// Returns whether it is sure that no wanted symbol completes the table that has a number at a
+    /// place of its code: the shares are then too small.
     pub fn rules_out_number(
         &self,
         classes: &PathShares,
@@ -114,16 +189,21 @@ impl Sides {
             → IsSought classes.now.request (partial_of table.now) s
             → ¬ HasNumberAt place number s }
     {
-        let link = Link::told(place, number);
-        let (tiles, vertices) = self.totals_with(classes, &link);
-        is_too_small(tiles, vertices, table.size())
+        self.is_ruled_out(classes, table, place, number, sets_limits(&classes.request))
     }
 
-    /// Returns those of some numbers, as bits, that the shares do not rule out at a place of the
-    /// code. It takes all numbers at once, since most of what it computes for one, such as the path
-    /// that ends at the chamber, is the same for the others.
+    /// Returns those of some numbers, as bits, that are not ruled out at a place of the code. It takes
+    /// all numbers at once, since most of what it computes for one, such as the path that ends at the
+    /// chamber, is the same for the others.
     #[inline(always)]
-    pub fn sieve(&self, classes: &PathShares, table: &Rows, place: u8, numbers: u64) -> u64
+    fn sieve_by(
+        &self,
+        classes: &PathShares,
+        table: &Rows,
+        place: u8,
+        numbers: u64,
+        with_limits: bool,
+    ) -> u64
         requires ready { IsReady table.now }
         requires place { place < 3 * (partial_of table.now).size }
         requires numbers { (m : ℕ) → bit_at numbers m ≡ 1 → m ≤ 36 }
@@ -137,11 +217,43 @@ impl Sides {
         while left != 0 {
             let number = left.trailing_zeros() as u8;
             left &= left - 1;
-            if !self.rules_out_number(classes, table, place, number) {
+            if !self.is_ruled_out(classes, table, place, number, with_limits) {
                 kept |= 1 << number;
             }
         }
         kept
+    }
+
+    /// Returns those of some numbers, as bits, that neither shares nor limits rule out at a place of
+    /// the code. It stays a call of its own, so that requests without limits pay nothing for it.
+    #[inline(never)]
+    fn sieve_with_limits(&self, classes: &PathShares, table: &Rows, place: u8, numbers: u64) -> u64
+        requires ready { IsReady table.now }
+        requires place { place < 3 * (partial_of table.now).size }
+        requires numbers { (m : ℕ) → bit_at numbers m ≡ 1 → m ≤ 36 }
+        requires kept { AreSides classes.now (partial_of table.now) self.now }
+        ensures { (m : ℕ) → bit_at numbers m ≡ 1 → bit_at result m ≡ 0 → (s : Tiling)
+            → IsSought classes.now.request (partial_of table.now) s
+            → ¬ HasNumberAt place m s }
+    {
+        self.sieve_by(classes, table, place, numbers, true)
+    }
+
+    /// Returns those of some numbers, as bits, that are not ruled out at a place of the code.
+    #[inline(always)]
+    pub fn sieve(&self, classes: &PathShares, table: &Rows, place: u8, numbers: u64) -> u64
+        requires ready { IsReady table.now }
+        requires place { place < 3 * (partial_of table.now).size }
+        requires numbers { (m : ℕ) → bit_at numbers m ≡ 1 → m ≤ 36 }
+        requires kept { AreSides classes.now (partial_of table.now) self.now }
+        ensures { (m : ℕ) → bit_at numbers m ≡ 1 → bit_at result m ≡ 0 → (s : Tiling)
+            → IsSought classes.now.request (partial_of table.now) s
+            → ¬ HasNumberAt place m s }
+    {
+        if sets_limits(&classes.request) {
+            return self.sieve_with_limits(classes, table, place, numbers);
+        }
+        self.sieve_by(classes, table, place, numbers, false)
     }
 
     /// Joins the paths that what was put into the table after a mark joins. True where a cell is
@@ -187,52 +299,52 @@ impl Sides {
         if self.are_too_small(classes, table) {
             return true;
         }
-        let request = &classes.request;
-        if request.tiles == 0 && request.vertices == 0 {
+        if !sets_limits(&classes.request) {
             return false;
         }
-        self.limits_rule_out(classes, table)
-    }
-
-    /// Returns whether the limits of the request and the cells of the table make it sure that no
-    /// wanted symbol completes the table. It takes a census only if the counts show that the census
-    /// may rule the table out.
-    fn limits_rule_out(&self, classes: &PathShares, table: &Rows) -> bool
-        requires ready { IsReady table.now }
-        requires kept { AreSides classes.now (partial_of table.now) self.now }
-        ensures { IsTrue result → (s : Tiling)
-            → ¬ IsSought classes.now.request (partial_of table.now) s }
-    {
-        if !self.may_exceed(&classes.request, table.size()) {
-            return false;
-        }
-        let Some(tiles) = self.tiles.limited(&classes.tiles, table) else {
-            return true;
-        };
-        let Some(vertices) = self.vertices.limited(&classes.vertices, table) else {
-            return true;
-        };
-        is_too_small(tiles, vertices, table.size())
-    }
-
-    /// Returns whether the counts show more cells than the limits of the request allow, or cells
-    /// that make the totals too small.
-    fn may_exceed(&self, request: &Request, size: u8) -> bool
-        requires tiles { self.now.tiles.total ≤ 36 * share_unit }
-        requires vertices { self.now.vertices.total ≤ 36 * share_unit }
-    {
-        let Some(tiles) = self.tiles.counts.bound(request.tiles, size) else {
-            return true;
-        };
-        let Some(vertices) = self.vertices.counts.bound(request.vertices, size) else {
-            return true;
-        };
-        is_too_small(
-            tiles.min(self.tiles.total),
-            vertices.min(self.vertices.total),
-            size,
+        exceed(
+            &classes.request,
+            table.size(),
+            &self.tiles.census,
+            self.tiles.total,
+            &self.vertices.census,
+            self.vertices.total,
         )
     }
+}
+
+/// Returns whether a request limits the number of tiles or of vertices.
+fn sets_limits(request: &Request) -> bool {
+    request.tiles != 0 || request.vertices != 0
+}
+
+/// Returns whether the limits of a request, the censuses and the totals of both pairs make it sure
+/// that no table is that of a wanted symbol: there are more cells than the limits allow, or the
+/// totals are too small.
+#[inline(always)]
+fn exceed(
+    request: &Request,
+    size: u8,
+    tiles: &Census,
+    tile_total: u64,
+    vertices: &Census,
+    vertex_total: u64,
+) -> bool
+    requires few_tiles { IsSmall tiles.now }
+    requires few_vertices { IsSmall vertices.now }
+    requires tile_total { tile_total ≤ 36 * share_unit }
+    requires vertex_total { vertex_total ≤ 36 * share_unit }
+    ensures { IsTrue result → (s : Tiling) → s.size ≡ size → Wanted request.now s
+        → HasCounted s Tile tiles.now → HasCounted s Vertex vertices.now
+        → BoundsReciprocals s Tile tile_total → ¬ BoundsReciprocals s Vertex vertex_total }
+{
+    let Some(tiles) = tiles.limited(request, Pair::Tile, size, tile_total) else {
+        return true;
+    };
+    let Some(vertices) = vertices.limited(request, Pair::Vertex, size, vertex_total) else {
+        return true;
+    };
+    is_too_small(tiles, vertices, size)
 }
 
 /// Returns whether two totals are less than those of a flat symbol of a size.

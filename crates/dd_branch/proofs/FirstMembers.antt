@@ -1,11 +1,11 @@
 -- The first members of a catalogue.
-use Rattle.std.proofs.Common.{◌≡◌, ◌⊎◌, ℕ, zero, suc, ◌+◌, ◌<◌, List, [], ◌∷◌, ◌++◌, length, get_or, take, refl, sym, ap, ◌∙◌, subst, inl, inr, ⊎_elim, arith}
+use Rattle.std.proofs.Common.{◌≡◌, ◌⊎◌, ℕ, zero, suc, ◌+◌, ◌<◌, List, [], ◌∷◌, ◌++◌, length, get_or, take, refl, sym, subst, inl, inr, ⊎_elim, arith}
 use Rattle.std.proofs.lemmas.List.{take_more}
-use Rattle.std.proofs.lemmas.List.Elements.{Contains-append_right, Contains-append_left, Contains-append_cases, Contains-push}
-use Rattle.std.specs.List.{AllByRecursion, Contains}
+use Rattle.std.proofs.lemmas.List.Elements.{Contains-append_right, Contains-append_left, Contains-append_cases}
+use Rattle.std.specs.List.{Contains}
 use Rattle.dd_model.specs.Symbol.{Symbol}
 use Rattle.dd_model.specs.Code.{IsBelow}
-use Rattle.dd_model.specs.Wanted.{IsAscending, IsCatalogue}
+use Rattle.dd_model.specs.Wanted.{IsCatalogue}
 use Rattle.dd_model.specs.Jobs.{AreAscendingJobs, AreApart, IsMemberUnder, AreMembersUnder}
 use Rattle.dd_model.specs.declared.requests.Request.{Request}
 use Rattle.dd_model.specs.declared.jobs.Job.{Job}

@@ -4,6 +4,9 @@ use Rattle.std.specs.Global.{Global}
 use Rattle.std.specs.declared.option.Option.{Option}
 use Rattle.std.specs.declared.option.Option.TheVariants.{None, Some}
 use Rattle.dd_model.specs.declared.requests.Request.{Request}
+use Rattle.dd_model.specs.declared.jobs.Job.{Job}
+use Rattle.dd_model.specs.Wanted.{IsMember}
+use Rattle.dd_jobs.specs.Under.{HasNothingUnder}
 use Rattle.dd_bounds.specs.declared.path_shares.PathShares.{PathShares}
 use Rattle.dd_branch.specs.Descent.{Descending, GoesBack}
 
@@ -16,3 +19,8 @@ IsKept q (Some kept) = GoesBack kept.value × (kept.value.request ≡ q)
 pub record HasKept (q : Request) (classes : PathShares) (kept : Option (Box Descending Global)) : Type 0 where
   pub same_request : classes.request ≡ q
   pub goes_back : IsKept q kept
+
+-- No member is under the prefix that was kept, if there is one.
+abbrev pub IsDead : Request → Option Job → Type 0
+IsDead q None = Unit {0}
+IsDead q (Some dead) = HasNothingUnder (IsMember q) dead.size dead.prefix

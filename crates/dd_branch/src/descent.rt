@@ -1,4 +1,4 @@
-ghost use Rattle.std.specs.Prelude.{◌≡◌, ℕ, ◌*◌, ◌+◌, ◌≤◌, ◌<◌, [], ◌∷◌, ◌++◌, IsTrue, IsFalse, IfOk, OnOk, length};
+ghost use Rattle.std.specs.Prelude.{◌≡◌, ℕ, ◌*◌, ◌+◌, ◌≤◌, ◌<◌, [], ◌∷◌, ◌++◌, IsTrue, IsFalse, IfOk, OnOk, length, take};
 ghost use Rattle.std.specs.Bool.{OnTrue, OnFalse};
 ghost use Rattle.dd_model.specs.Request.{IsValid};
 ghost use Rattle.dd_model.specs.Wanted.{IsMember};
@@ -11,7 +11,7 @@ use crate::levels::Levels;
 use dd_bounds::{PathShares, Sides, parity_rules_out};
 use dd_degrees::{add_tied, with_places};
 use dd_jobs::{can_follow, child};
-use dd_model::{Job, Memory, Request};
+use dd_model::{Job, Memory, Prefix, Request};
 use dd_partial_table::{CollectingSearch, PrefixSearch, Starts, Stem, find, involutions, ties};
 use dd_symbol_list::SymbolList;
 use std::alloc::Global;
@@ -277,7 +277,8 @@ impl Descent {
     }
 
     /// Goes to a prefix from the one where it stands: back to where both begin with the same
-    /// numbers, and on number by number, unless it is sure that no member is under the prefix.
+    /// numbers, and on number by number, unless it is sure that no member is under the prefix. It
+    /// then stands before the number after which that is sure.
     pub fn reach(&mut self, prefix: &[u8]) -> bool
         requires back { GoesBack self.old }
         requires short { length prefix.now ≤ 3 * size_of self.old.stem }
@@ -287,6 +288,9 @@ impl Descent {
         ensures prefix { OnTrue result (prefix_of self.new.stem ≡ prefix.now) }
         ensures dead { OnFalse result
             (HasNothingUnder (IsMember self.old.request) (size_of self.old.stem) prefix.now) }
+        ensures front { OnFalse result
+            (HasNothingUnder (IsMember self.old.request) (size_of self.old.stem)
+            (take (length (prefix_of self.new.stem) + 1) prefix.now)) }
     {
         self.go_back(prefix);
         for place in self.stem.prefix().len()..prefix.len() {
@@ -297,22 +301,41 @@ impl Descent {
         true
     }
 
-    /// Adds the members under a prefix. It stays a call of its own, so that the search has the
-    /// processor's registers to itself.
+    /// Adds the members under a prefix. Returns false if it is sure that there are none. It stays a
+    /// call of its own, so that the search has the processor's registers to itself.
     #[inline(never)]
-    pub(crate) fn add_under(&mut self, prefix: &[u8], list: &mut SymbolList) -> Result<(), Memory>
+    pub(crate) fn add_under(&mut self, prefix: &[u8], list: &mut SymbolList) -> Result<bool, Memory>
         requires back { GoesBack self.old }
         requires short { length prefix.now ≤ 3 * size_of self.old.stem }
         ensures back { OnOk result (GoesBack self.new) }
         ensures request { OnOk result (self.new.request ≡ self.old.request) }
+        ensures size { OnOk result (size_of self.new.stem ≡ size_of self.old.stem) }
         ensures list { OnOk result (Appends
             (AreUnder (IsMember self.old.request) (size_of self.old.stem) prefix.now)
             list.old list.new) }
+        ensures front { IfOk result (λ some. OnFalse some
+            (HasNothingUnder (IsMember self.old.request) (size_of self.old.stem)
+            (take (length (prefix_of self.new.stem) + 1) prefix.now))) }
     {
         if !self.reach(prefix) {
-            return Ok(());
+            return Ok(false);
         }
-        find(self, list)
+        find(self, list)?;
+        Ok(true)
+    }
+
+    /// Returns the first numbers of a job, up to the one before which it stands.
+    pub(crate) fn dead_part(&self, job: &Job) -> Result<Job, Memory>
+        ensures size { IfOk result (λ dead. dead.size ≡ job.now.size) }
+        ensures prefix { IfOk result (λ dead.
+            dead.prefix ≡ take (length (prefix_of self.now.stem) + 1) job.now.prefix) }
+    {
+        let numbers = job.prefix.as_slice();
+        let count = numbers.len().min(self.stem.prefix().len() + 1);
+        Ok(Job {
+            size: job.size,
+            prefix: Prefix::from_slice(self.alloc, &numbers[..count])?,
+        })
     }
 
     /// The jobs with one number more than a job under which a member may be. It looks one number

@@ -1,9 +1,9 @@
 ghost use Rattle.std.specs.Bool.{OnFalse};
-ghost use Rattle.std.specs.Prelude.{◌≡◌, ◌*◌, ◌≤◌, ◌<◌, [], IfOk, OnOk, length};
+ghost use Rattle.std.specs.Prelude.{◌≡◌, ◌*◌, ◌≤◌, ◌<◌, [], IfOk, IsTrue, OnOk, length};
 ghost use Rattle.dd_model.specs.Request.{IsValid};
 ghost use Rattle.dd_model.specs.Jobs.{IsJobOf, AreExtensions, AreMembersUnder};
 ghost use Rattle.dd_model.specs.Wanted.{IsMember};
-ghost use Rattle.dd_jobs.specs.Under.{AreUnder, Appends};
+ghost use Rattle.dd_jobs.specs.Under.{AreUnder, Appends, HasNothingUnder};
 ghost use Rattle.dd_partial_table.specs.Stem.{size_of};
 ghost use Rattle.dd_branch.specs.Descent.{GoesBack};
 
@@ -15,26 +15,29 @@ use dd_model::{Job, Memory, Request};
 use dd_symbol_list::SymbolList;
 use std::alloc::Global;
 use std::marker::Model;
+use std::mem;
 
 /// The search for the members of the catalogue of a request, job by job, with the shares that the
 /// request allows, from which those for tables of a size are made. What it has put in for one job
-/// it keeps for the next of the same size, whose prefix mostly begins with the same numbers.
+/// it keeps for the next of the same size, whose prefix mostly begins with the same numbers. It also
+/// keeps the last prefix under which it found that no member is.
 #[derive(Drop)]
 pub struct Search {
     request: Request,
     classes: PathShares,
     kept: Option<Box<Descent>>,
+    dead: Option<Job>,
 }
 
 impl Model for Search {
     ghost use Rattle.dd_model.specs.declared.requests.Request.{Request as Asked};
-    ghost use Rattle.dd_branch.specs.Search.{HasKept};
+    ghost use Rattle.dd_branch.specs.Search.{HasKept, IsDead};
 
     ghost Value = { Asked };
 
     ghost view = { λ a. a.request };
 
-    ghost invariant = { λ a. HasKept a.request a.classes a.kept };
+    ghost invariant = { λ a. HasKept a.request a.classes a.kept × IsDead a.request a.dead };
 }
 
 impl Search {
@@ -46,6 +49,7 @@ impl Search {
             request: *request,
             classes: PathShares::of(request, 0),
             kept: None,
+            dead: None,
         }
     }
 
@@ -80,6 +84,27 @@ impl Search {
         self.begin(alloc, size)
     }
 
+    /// Returns whether it is known that no member is under a job: its prefix begins with the last one
+    /// that was found so.
+    fn is_dead(&self, job: &Job) -> bool
+        ensures { IsTrue result
+            → HasNothingUnder (IsMember self.now) job.now.size job.now.prefix }
+    {
+        match &self.dead {
+            Some(dead) => dead.size == job.size
+                && job.prefix.as_slice().starts_with(dead.prefix.as_slice()),
+            None => false,
+        }
+    }
+
+    /// Keeps a prefix under which no member is.
+    fn remember(&mut self, dead: Job)
+        requires { HasNothingUnder (IsMember self.old) dead.size dead.prefix }
+        ensures { self.new ≡ self.old }
+    {
+        let _ = mem::replace(&mut self.dead, Some(dead));
+    }
+
     /// Adds the members under a job.
     fn add_members(&mut self, alloc: Global, job: &Job, list: &mut SymbolList) -> Result<(), Memory>
         requires valid { IsValid self.old }
@@ -89,8 +114,13 @@ impl Search {
             (AreUnder (IsMember self.old) job.now.size job.now.prefix)
             list.old list.new) }
     {
+        if self.is_dead(job) {
+            return Ok(());
+        }
         let mut descent = self.take(alloc, job.size as u8)?;
-        descent.add_under(job.prefix.as_slice(), list)?;
+        if !descent.add_under(job.prefix.as_slice(), list)? {
+            self.remember(descent.dead_part(job)?);
+        }
         self.kept = Some(descent);
         Ok(())
     }
@@ -123,6 +153,7 @@ impl Finder for Search {
             request: self.request,
             classes: self.classes,
             kept: None,
+            dead: None,
         }
     }
 

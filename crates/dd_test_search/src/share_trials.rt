@@ -157,10 +157,21 @@ fn is_empty_with_a_chain(size: u8) -> bool
     put(&mut rows, &classes, &mut sides, 0, 1) && sides.rules_out(&classes, &rows)
 }
 
+/// Returns whether that is known before s0 is put in.
+fn is_refused_with_a_chain(size: u8) -> bool
+    requires { (1 ≤ size) × (size ≤ 36) }
+{
+    let rows = Rows::empty(size);
+    let classes = PathShares::of(&asked(1, 3), size);
+    Sides::start(&classes).rules_out_number(&classes, &rows, 0, 1)
+}
+
 #[test]
 fn a_tile_with_a_fixed_chamber_has_at_most_six(rt: HostRuntime) -> Result<(), Fail> {
     assert!(rt; !is_empty_with_a_chain(6));
     assert!(rt; is_empty_with_a_chain(7));
+    assert!(rt; !is_refused_with_a_chain(6));
+    assert!(rt; is_refused_with_a_chain(7));
     Ok(())
 }
 

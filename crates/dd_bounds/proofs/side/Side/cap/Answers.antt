@@ -1,5 +1,5 @@
 use Rattle.std.proofs.Common.{rules, ◌≡◌, ◌/◌, ◌%◌, ◌≤◌, length, true, refl, sym, ◌∙◌, subst, arith}
-use Rattle.dd_bounds.proofs.KeptLemmas.{live_end, capped_kept}
+use Rattle.dd_bounds.proofs.KeptLemmas.{live_end, capped_kept, capped_rest}
 use Rattle.dd_bounds.proofs.SideLemmas.{right_capped}
 use Rattle.dd_bounds.proofs.SumLemmas.{total_small, weight_within, few_in_path, none_with_weight}
 use Rattle.dd_bounds.proofs.WriteLemmas.{view}
@@ -27,8 +27,15 @@ returns-clause-side c P join kept =
     let sum = c.total_after-self.ensures in
     let had = c.weight.ensures.told in
     let all = c.capped-fixed.ensures.told.all in
+    let rest = capped_rest t c.requires.pair P (λ _. true) xs c.args.self.now.total kept.ends kept.others long c.args.x c.end-end.result c.requires.flag
+    c.args.self.now.census c.add_fixed_end.new.self v c.capped-fixed.result end few c.from.result c.from-2.result c.none.result c.beyond.result c.from.ensures c.from-2.ensures c.none.ensures
+    (record { fixed = c.beyond.ensures.fixed; other = c.beyond.ensures.other; class = λ low. c.beyond.ensures.class low ∙ c.capped.ensures })
+    join c.capped-fixed.ensures.told.right all c.add_fixed_end.ensures.fixed in
     record {
       sized = kept.sized;
+      others = rest.others;
+      few = c.add_fixed_end.ensures.small;
+      counted = λ s wanted full. rest.counted s wanted (record { completes = full; passed = refl }) (kept.counted s wanted full);
       ends = capped_kept t c.requires.pair P (λ _. true) xs c.args.self.now.total c.total_after-self.result kept.ends long c.args.x c.end-end.result c.requires.flag end few
           v c.from.result c.from-2.result c.none.result c.beyond.result c.from.ensures c.from-2.ensures c.none.ensures
           (record { fixed = c.beyond.ensures.fixed; other = c.beyond.ensures.other; class = λ low. c.beyond.ensures.class low ∙ c.capped.ensures })

@@ -1,7 +1,7 @@
 use Rattle.std.proofs.Common.{rules, ◌≡◌, ◌/◌, ◌%◌, ◌≤◌, length, true, refl, sym, ap, ◌∙◌, subst, arith}
 use Rattle.dd_bounds.specs.PathEnd.{PathEnd}
 use Rattle.dd_bounds.specs.Sides.{end_of}
-use Rattle.dd_bounds.proofs.KeptLemmas.{live_end, closed_kept}
+use Rattle.dd_bounds.proofs.KeptLemmas.{live_end, closed_kept, closed_rest}
 use Rattle.dd_bounds.proofs.SideLemmas.{right_closed}
 use Rattle.dd_bounds.proofs.SumLemmas.{total_small, weight_within, few_in_path, none_with_weight}
 use Rattle.dd_bounds.proofs.WriteLemmas.{view}
@@ -30,8 +30,15 @@ returns-clause-side c P join kept =
     let sum = c.total_after-self.ensures in
     let had = c.weight.ensures.told in
     let all = c.closed-whole.ensures.told.all in
+    let rest = closed_rest t c.requires.pair P (λ _. true) xs c.args.self.now.total kept.ends kept.others long c.args.x c.end.result c.requires.first
+    c.args.self.now.census c.add_cell.new.self v c.closed-whole.result end few c.args.mate c.from.result c.from-2.result c.none.result c.none-2.result
+    (sym other) c.requires.apart c.from.ensures (c.from-2.ensures ∙ other) c.none.ensures c.none-2.ensures
+    join c.closed-whole.ensures.told.right all c.add_cell.ensures.cell in
     record {
       sized = kept.sized;
+      others = rest.others;
+      few = c.add_cell.ensures.small;
+      counted = λ s wanted full. rest.counted s wanted (record { completes = full; passed = refl }) (kept.counted s wanted full);
       ends = closed_kept t c.requires.pair P (λ _. true) xs c.args.self.now.total c.total_after-self.result kept.ends long c.args.x c.end.result c.requires.first end few
           c.args.mate v c.from.result c.from-2.result c.none.result c.none-2.result
           (sym other) c.requires.apart c.from.ensures (c.from-2.ensures ∙ other) c.none.ensures c.none-2.ensures

@@ -3,7 +3,7 @@ use Rattle.dd_bounds.specs.PathEnd.{PathEnd}
 use Rattle.dd_bounds.specs.Sides.{end_of}
 use Rattle.dd_bounds.specs.declared.class_shares.ClassShares.{ClassShares}
 use Rattle.dd_bounds.specs.declared.end.End.{End}
-use Rattle.dd_bounds.proofs.KeptLemmas.{live_end, connected_kept}
+use Rattle.dd_bounds.proofs.KeptLemmas.{live_end, connected_kept, connected_rest}
 use Rattle.dd_bounds.proofs.SideLemmas.{AreTwoEnds, right_connected}
 use Rattle.dd_bounds.proofs.SumLemmas.{total_small, weights_within, few_chambers, none_with_weight}
 use Rattle.dd_bounds.proofs.WriteLemmas.{view}
@@ -35,6 +35,15 @@ joined-together-requires c =
     let two = two_live t c.args.self.now.ends c.args.x c.args.y c.end-one.result c.end-other.result c.end-one.ensures c.end-other.ensures r.first_end r.second_end r.apart r.no_other in
     let few = few_chambers t has.partial c.args.self.now has.kept two has.small in
     record { few = omega (arith, few) }
+
+pub add_joined-requires-clause-few : goal.add_joined-requires-clause-few
+add_joined-requires-clause-few c =
+    let has = c.requires.some in
+    let t = c.args.shares.now in
+    let r = c.requires in
+    let two = two_live t c.args.self.now.ends c.args.x c.args.y c.end-one.result c.end-other.result c.end-one.ensures c.end-other.ensures r.first_end r.second_end r.apart r.no_other in
+    let few = few_chambers t has.partial c.args.self.now has.kept two has.small in
+    omega (arith, few)
 
 pub overflow_add-had : goal.overflow_add-had
 overflow_add-had c =
@@ -79,8 +88,18 @@ returns-clause-side c P join kept =
     let sum = c.total_after-self.ensures in
     let first = c.weight.ensures.told in
     let second = c.weight-2.ensures.told in
+    let rest = connected_rest t r.pair P (λ _. true) xs c.args.self.now.total kept.ends kept.others long c.args.x one r.first
+    c.args.self.now.census c.add_joined.new.self v c.joined-together.result c.args.y other two kept.sized r.second few
+    c.from.result c.from-2.result c.from-3.result c.from-4.result c.none.result c.none-2.result c.beyond.result c.beyond-2.result
+    c.from.ensures c.from-2.ensures c.from-3.ensures c.from-4.ensures c.none.ensures c.none-2.ensures
+    (record { fixed = c.beyond.ensures.fixed; other = c.beyond.ensures.other; class = λ low. c.beyond.ensures.class low ∙ class })
+    (record { fixed = c.beyond-2.ensures.fixed; other = c.beyond-2.ensures.other; class = λ low. c.beyond-2.ensures.class low ∙ class })
+    join c.joined-together.ensures.told.right all c.add_joined.ensures.joined in
     record {
       sized = kept.sized;
+      others = rest.others;
+      few = c.add_joined.ensures.small;
+      counted = λ s wanted full. rest.counted s wanted (record { completes = full; passed = refl }) (kept.counted s wanted full);
       ends = connected_kept t r.pair P (λ _. true) xs c.args.self.now.total c.total_after-self.result kept.ends long c.args.x one r.first c.args.y other two kept.sized r.second few v
           c.from.result c.from-2.result c.from-3.result c.from-4.result c.none.result c.none-2.result c.beyond.result c.beyond-2.result
           c.from.ensures c.from-2.ensures c.from-3.ensures c.from-4.ensures c.none.ensures c.none-2.ensures

@@ -2,10 +2,12 @@ use Rattle.std.proofs.Common.{◌≡◌, ◌*◌, length-set, set, true, refl, s
 use Rattle.dd_bounds.specs.Changes.{IsShareFrom}
 use Rattle.dd_bounds.specs.Classes.{share_in, turns_of}
 use Rattle.dd_bounds.proofs.ClassLemmas.{turns_open}
+use Rattle.dd_bounds.specs.Counted.{IsAtEnd, IsLoose}
 use Rattle.dd_bounds.specs.Passing.{AreEndsOf}
 use Rattle.dd_bounds.specs.Sides.{class_weight}
+use Rattle.dd_bounds.proofs.CountedLemmas.{counted_none}
 use Rattle.dd_bounds.proofs.PassingTables.{chambers_alone}
-use Rattle.dd_bounds.proofs.StartLemmas.{IsOwn, alone_of_own, own_more, own_none}
+use Rattle.dd_bounds.proofs.StartLemmas.{IsOwn, alone_of_own, others_of_own, own_more, own_none}
 use Rattle.dd_bounds.proofs.WriteLemmas.{view}
 use Rattle.dd_bounds.proofs.side.Side.start.Goals as goal
 
@@ -39,6 +41,9 @@ returns c P same =
     let total : c.from-2.result * c.weight.result ≡ P.size * v = ap (λ n. n * c.weight.result) (c.from-2.ensures ∙ sym same) ∙ ap (λ w. P.size * w) (weight ∙ one) in
     record {
       sized = sym same;
+      others = λ x live. others_of_own t c.loop-k.k ends x (c.loop-k.invariant.own x live);
+      few = c.none.ensures.small;
+      counted = λ s _ _. counted_none s t.pair (IsAtEnd ends) (IsLoose ends) c.none.result c.none.ensures.none;
       ends = subst (AreEndsOf t.request P (λ _. true) t.pair ends) (sym total)
           (chambers_alone t.request P (λ _. true) t.pair ends v (subst (λ k. IsShareFrom t.request t.pair k v) turns ((t.are_told.each 1 (omega arith)).told.with_ends (omega arith) (omega arith)))
           (λ x live. alone_of_own t P.size ends x (subst (λ k. IsOwn t k ends x) all (c.loop-k.invariant.own x live))));

@@ -3,24 +3,14 @@ use Rattle.dd_bounds.specs.Passing.{Passes}
 use Rattle.dd_bounds.specs.Sides.{IsJoin, class_weight}
 use Rattle.dd_bounds.specs.declared.class_shares.ClassShares.{ClassShares}
 use Rattle.dd_bounds.specs.declared.end.End.{End}
-use Rattle.dd_bounds.proofs.KeptLemmas.{listed_end}
-use Rattle.dd_bounds.proofs.SideLemmas.{IsAnEnd, AreTwoEnds}
+use Rattle.dd_bounds.proofs.KeptLemmas.{listed_end, two_ends}
+use Rattle.dd_bounds.proofs.SideLemmas.{IsAnEnd}
 use Rattle.dd_bounds.proofs.SumLemmas.{sum_as_kept, sum_small, sum_capped, sum_closed, sum_connected, total_small, weight_within, weights_within, few_in_path, few_chambers, join_of_none}
 use Rattle.dd_bounds.proofs.WriteLemmas.{view}
 use Rattle.dd_bounds.proofs.side.Side.total_with.Goals as goal
 
 one_counted : (t : ClassShares) (xs : List End) (x : ℕ) (e : End) {n : ℕ} → slice_get xs x ≡ Some e → n ≡ e.class.number % 64 → (n ≡ 0 → ⊥) → IsAnEnd t (view t xs) x e.other e.class.number
 one_counted t xs x e listed count some = listed_end t xs x e listed (omega (arith, count, some))
-
-two_counted : (t : ClassShares) (xs : List End) (x y : ℕ) (one other : End) {n m : ℕ} → slice_get xs x ≡ Some one → slice_get xs y ≡ Some other
-    → n ≡ one.class.number % 64 → m ≡ other.class.number % 64 → (n ≡ 0 → ⊥) → (m ≡ 0 → ⊥) → (x ≡ y → ⊥) → (one.other ≡ y → ⊥)
-    → AreTwoEnds t (view t xs) x one.other one.class.number y other.other other.class.number
-two_counted t xs x y one other first second count too some any apart no_other = record {
-  one = one_counted t xs x one first count some;
-  other = one_counted t xs y other second too any;
-  apart = λ same. apart (sym same);
-  no_other = λ same. no_other (sym same);
-}
 
 -- a sum by what a class has
 summed : (t : ClassShares) (a had has v result total : ℕ) → had ≡ class_weight t a → has ≡ a % 64 * v → result + had ≡ total + has → result + class_weight t a ≡ total + a % 64 * v
@@ -108,7 +98,7 @@ pub joined-requires : goal.joined-requires
 joined-requires c =
     let has = c.requires.some in
     let t = c.args.shares.now in
-    let two = two_counted t c.args.self.now.ends c.args.x c.args.y c.end-end.result c.end.result c.end-end.ensures c.end.ensures c.chambers.ensures c.chambers-2.ensures
+    let two = two_ends t c.args.self.now.ends c.args.x c.args.y c.end-end.result c.end.result c.end-end.ensures c.end.ensures c.chambers.ensures c.chambers-2.ensures
     c.if-chambers-eq0.false c.if-chambers-eq0-2.false c.if-x-y.false c.if-end-y.false in
     let few = few_chambers t has.partial c.args.self.now has.kept two has.small in
     record { few = omega (arith, few) }
@@ -117,7 +107,7 @@ pub overflow_add-had : goal.overflow_add-had
 overflow_add-had c =
     let has = c.requires.some in
     let t = c.args.shares.now in
-    let two = two_counted t c.args.self.now.ends c.args.x c.args.y c.end-end.result c.end.result c.end-end.ensures c.end.ensures c.chambers.ensures c.chambers-2.ensures
+    let two = two_ends t c.args.self.now.ends c.args.x c.args.y c.end-end.result c.end.result c.end-end.ensures c.end.ensures c.chambers.ensures c.chambers-2.ensures
     c.if-chambers-eq0.false c.if-chambers-eq0-2.false c.if-x-y.false c.if-end-y.false in
     let within = weights_within t has.partial c.args.self.now has.kept two in
     let total = total_small t has.partial c.args.self.now has.kept has.small in
@@ -132,7 +122,7 @@ pub total_after-requires-2-clause-had : goal.total_after-requires-2-clause-had
 total_after-requires-2-clause-had c =
     let has = c.requires.some in
     let t = c.args.shares.now in
-    let two = two_counted t c.args.self.now.ends c.args.x c.args.y c.end-end.result c.end.result c.end-end.ensures c.end.ensures c.chambers.ensures c.chambers-2.ensures
+    let two = two_ends t c.args.self.now.ends c.args.x c.args.y c.end-end.result c.end.result c.end-end.ensures c.end.ensures c.chambers.ensures c.chambers-2.ensures
     c.if-chambers-eq0.false c.if-chambers-eq0-2.false c.if-x-y.false c.if-end-y.false in
     let within = weights_within t has.partial c.args.self.now has.kept two in
     let one = c.weight-had.ensures.told in
@@ -144,7 +134,7 @@ returns-clause-total c P test join kept =
     let has = c.requires.some in
     let t = c.args.shares.now in
     let side = c.args.self.now in
-    let two = two_counted t side.ends c.args.x c.args.y c.end-end.result c.end.result c.end-end.ensures c.end.ensures c.chambers.ensures c.chambers-2.ensures
+    let two = two_ends t side.ends c.args.x c.args.y c.end-end.result c.end.result c.end-end.ensures c.end.ensures c.chambers.ensures c.chambers-2.ensures
     c.if-chambers-eq0.false c.if-chambers-eq0-2.false c.if-x-y.false c.if-end-y.false in
     sum_connected t P side kept two c.requires.pair (few_chambers t has.partial side has.kept two has.small) c.joined.ensures.told.share c.joined.ensures.told.right test c.total_after-2.result join
     (summed_both t c.end-end.result.class.number c.end.result.class.number _ _ _ c.joined.ensures.told.share c.total_after-2.result side.total
@@ -155,7 +145,7 @@ returns-clause-small c =
     let has = c.requires.some in
     let t = c.args.shares.now in
     let side = c.args.self.now in
-    let two = two_counted t side.ends c.args.x c.args.y c.end-end.result c.end.result c.end-end.ensures c.end.ensures c.chambers.ensures c.chambers-2.ensures
+    let two = two_ends t side.ends c.args.x c.args.y c.end-end.result c.end.result c.end-end.ensures c.end.ensures c.chambers.ensures c.chambers-2.ensures
     c.if-chambers-eq0.false c.if-chambers-eq0-2.false c.if-x-y.false c.if-end-y.false in
     sum_small t has.partial (λ _. false) c.total_after-2.result has.small
     (sum_connected t has.partial side has.kept two c.requires.pair (few_chambers t has.partial side has.kept two has.small) c.joined.ensures.told.share c.joined.ensures.told.right (λ _. false) c.total_after-2.result

@@ -1,5 +1,7 @@
-use Rattle.std.proofs.lemmas.Result.{on_ok_weaker}
+use Rattle.dd_model.specs.Wanted.{IsMember}
 use Rattle.dd_partial_table.specs.Stem.{size_of}
+use Rattle.dd_partial_table.proofs.Prefixes.{appends_none, none_under}
+use Rattle.dd_jobs.specs.Under.{AreUnder}
 use Rattle.dd_branch.proofs.Descents.{added_members}
 use Rattle.dd_branch.proofs.GoingBack.{is_descent}
 use Rattle.dd_branch.proofs.descent.Descent.add_under.Goals as goal
@@ -7,10 +9,15 @@ use Rattle.dd_branch.proofs.descent.Descent.add_under.Goals as goal
 pub find-requires-clause-valid : goal.find-requires-clause-valid
 find-requires-clause-valid c = is_descent c.reach.new.self c.if-not-reach.ensures.back
 
+pub returns-then-not-reach-clause-list : goal.returns-then-not-reach-clause-list
+returns-then-not-reach-clause-list c =
+    let old = c.args.self.now in
+    appends_none (AreUnder (IsMember old.request) (size_of old.stem) c.args.prefix.now) c.args.list.now
+    (none_under (IsMember old.request) (size_of old.stem) c.args.prefix.now c.if-not-reach.ensures.dead)
+
 pub returns-clause-list : goal.returns-clause-list
 returns-clause-list c =
     let old = c.args.self.now in
     let told = c.if-not-reach.ensures in
-    on_ok_weaker c.find.result
-    (added_members old.request (record { size = size_of old.stem; prefix = c.args.prefix.now }) c.reach.new.self c.args.list.now c.find.new.list told.request told.size told.prefix)
-    c.find.ensures.list
+    added_members old.request (record { size = size_of old.stem; prefix = c.args.prefix.now }) c.reach.new.self c.args.list.now c.find.new.list told.request told.size told.prefix
+    c.in_ok-find.ensures.list
