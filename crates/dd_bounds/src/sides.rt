@@ -318,9 +318,8 @@ fn sets_limits(request: &Request) -> bool {
     request.tiles != 0 || request.vertices != 0
 }
 
-/// Returns whether the limits of a request, the censuses and the totals of both pairs make it sure
-/// that no table is that of a wanted symbol: there are more cells than the limits allow, or the
-/// totals are too small.
+/// Returns true only if no table is that of a wanted symbol: the censuses of both pairs have more
+/// cells than the limits of the request allow, or the totals are too small.
 #[inline(always)]
 fn exceed(
     request: &Request,

@@ -1,8 +1,8 @@
 -- Runs that keep checkpoints.
-use Rattle.std.proofs.Common.{◌≡◌, ◌≢◌, ◌⊎◌, ℕ, ◌*◌, ◌<◌, ◌≤◌, min, List, [], ◌∷◌, ◌++◌, Bool, true, false, Option, Result, Ok, Err, IsOk, IfOk, length, length-append, take, inl, inr, ⊎_elim, refl, sym, ap, ◌∙◌, subst, arith}
+use Rattle.std.proofs.Common.{◌≡◌, ◌≢◌, ◌⊎◌, ℕ, ◌*◌, ◌≤◌, min, List, [], ◌∷◌, ◌++◌, Bool, true, false, Option, Result, Ok, Err, IsOk, IfOk, length, length-append, append_assoc, take, inl, inr, ⊎_elim, refl, sym, ap, ◌∙◌, subst, arith}
 use Rattle.std.proofs.lemmas.List.{append-nil, take_all, take-append-le}
 use Rattle.std.specs.Io.KnownBytes.{Appends}
-use Rattle.std.specs.List.{Contains}
+use Rattle.std.specs.List.{AllByRecursion, Contains}
 use Rattle.std.proofs.lemmas.Bool.{cases_eq}
 use Rattle.std.specs.Prelude.{if◌then◌else◌, MatchBool}
 use Rattle.dd_model.specs.Position.{IsWhollyBefore, IsWithin}
@@ -16,75 +16,62 @@ use Rattle.dd_model.proofs.Without.{without_there, without_kept}
 use Rattle.dd_front.specs.declared.entry.Entry.{Entry}
 use Rattle.dd_front.specs.Machine.{Machine, StandsAt, jobs_of}
 use Rattle.dd_front.specs.Step.{at_symbol}
+use Rattle.dd_front.proofs.Absorbing.{all_back}
+use Rattle.dd_front.proofs.Entries.{jobs_opened}
 use Rattle.dd_front.proofs.Standing.{stands_once, stands_somewhere}
 use Rattle.dd_jobs.specs.declared.portions.Portion.{Portion}
 use Rattle.dd_jobs.specs.Portions.{IsPortionJob}
 use Rattle.dd_jobs.proofs.PortionLaws.{portion_job}
 use Rattle.dd_check.specs.declared.checkpoint.Checkpoint.{Checkpoint}
 use Rattle.dd_ports.proofs.Growth.{Appends_trans}
-use Rattle.dd_front.specs.Rounds.{open_jobs}
 use Rattle.dd_check.specs.Between.{AreLinesBetween}
 use Rattle.dd_check.specs.Clauses.{HasWork}
 use Rattle.dd_check.specs.ChainPuts.{IsPut, IsStop, IsNextMember}
 use Rattle.dd_check.specs.ChainStarts.{Start, first_start}
 use Rattle.dd_pages.specs.Pages.{IsEmpty}
-use Rattle.dd_pages.specs.Rounds.{AreJobsFrom, IsBegun, AreOpen, IsRoundDone}
-use Rattle.dd_catalogue.specs.Ways.{Way, IsUnderWay, IsFull, IsPartOut}
+use Rattle.dd_pages.specs.Rounds.{AreJobsFrom, AreOpen}
 use Rattle.dd_pages.specs.Runs.{IsLimit, IsPause, IsBeforePause, Finishes}
 use Rattle.dd_pages.specs.declared.finish.Finish.TheVariants.{Whole, Paused, CutShort}
 use Rattle.dd_pages.specs.declared.limit.Limit.{Limit}
 use Rattle.dd_pages.specs.Saves.{HoldsCheckAt, Saves, SavesFirst, IsOfRound}
-use Rattle.dd_pages.specs.Names.{KeepsName, PutsCheck, PutsAtEnd, PutsAtPause, PutsBetween, IsRoundStop, LeavesName, FinishesName, HasRun}
+use Rattle.dd_pages.specs.Names.{KeepsName, PutsCheck, PutsAtEnd, PutsAtPause, PutsBetween, IsPutStop, IsRoundStop, LeavesName, FinishesName, HasRun}
 use Rattle.dd_pages.specs.declared.fault.RunFault.{RunFault}
 use Rattle.dd_pages.specs.declared.finish.Finish.{Finish}
 use Rattle.dd_pages.specs.declared.pages.Page.{Page}
+use Rattle.dd_catalogue.specs.Works.{AreWork, IsStarted}
+use Rattle.dd_catalogue.specs.Ways.{Way, IsUnderWay, IsFull}
+use Rattle.dd_catalogue.specs.Outs.{IsPartOut}
+use Rattle.dd_catalogue.specs.Kept.{HasNotMoved, IsPutAt, HasKept, IsMid, IsHead}
+use Rattle.dd_catalogue.proofs.JobsFrom.{from_opening}
 use Rattle.dd_catalogue.proofs.Outcomes.{WentOut, went_out, held_between, lines_between, shown_earlier, finish_whole, finish_full, full_lines}
-use Rattle.dd_catalogue.proofs.JobsFrom.{from_opening, jobs_left, stands_at_job}
-use Rattle.dd_catalogue.proofs.WaySteps.{appends_nothing, none_done, way_first, way_round, way_part, full_part}
-use Rattle.dd_catalogue.proofs.RoundEntries.{waiting_all, fewer_wait}
-
--- The name holds a checkpoint of the run that tells all that was written so far. It was put between two rounds, of a run that is
--- the first of its chain or has work.
-pub record IsKeptPut (s : Start) (held : Option (List ℕ)) (base : List ℕ) (p : Position) : Type 0 where
-  pub check : Checkpoint
-  pub at_is : check.at ≡ p
-  pub put : IsPut held base s check
-  pub all : check.bytes ≡ length base
-  pub stop : IsRoundStop s.portion check.at
-  pub due : (s.number ≡ 1) ⊎ HasWork s
-
--- It does, or the run has not moved.
-abbrev pub IsKept : Start → Option (List ℕ) → Option (List ℕ) → List ℕ → Position → Type 0
-IsKept s before held base p = ((held ≡ before) × (p ≡ s.at)) ⊎ IsKeptPut s held base p
-
-abbrev pub head_way : Start → List Job → List ℕ → Option (List ℕ) → Position → Way
-head_way s jobs base now p = record { start = s; jobs = jobs; base = base; known = now; since = p; round = [] }
-
--- between two rounds: all lines are written, and the name tells of them
-pub record IsHead (s : Start) (tells : Bool) (old before held now : Option (List ℕ)) (page : Page) (f : Machine) : Type 0 where
-  pub jobs : List Job
-  pub base : List ℕ
-  pub since : Position
-  pub appended : Appends old now base
-  pub way : IsUnderWay (head_way s jobs base now since) now page f
-  pub empty : IsEmpty page
-  pub settled : page.bytes ≡ length base
-  pub ended : f.entries ≡ [] → (since ≡ s.at) ⊎ (since ≡ End)
-  pub left : AreJobsFrom s.portion since (jobs_of f.entries)
-  pub kept : tells ≡ true → IsKept s before held base since
-  pub put : tells ≡ true → s.number ≡ 1 → IsKeptPut s held base since
+use Rattle.dd_catalogue.proofs.RoundEntries.{done_early}
+use Rattle.dd_catalogue.proofs.WaySteps.{appends_nothing, way_first, way_part, full_part, begun_open}
+use Rattle.dd_catalogue.proofs.Working.{work_left, taken_part}
 
 -- a run with a job has work
-has_work : (s : Start) (jobs : List Job) → AreJobsFrom s.portion s.at jobs → 0 < length jobs → HasWork s
-has_work s [] from some = absurd (omega (arith, some))
-has_work s (job ∷ jobs) from some =
-    let there : Contains (job ∷ jobs) job = Contains-head job jobs in
-    record { job = job; opening = from_opening s.portion s.at (job ∷ jobs) job from there; left = (without_there (IsWhollyBefore s.at) from.opening (job ∷ jobs) job from.left there).1 }
+has_work : (s : Start) (jobs : List Job) (c : Job) → AreWork s.portion s.at jobs → Contains jobs c → HasWork s
+has_work s jobs c work there =
+    let of = work.extend c there in
+    record {
+      job = of.job;
+      opening = from_opening s.portion s.at work.whole of.job work.from of.listed;
+      left = (without_there (IsWhollyBefore s.at) work.from.opening work.whole of.job work.from.left of.listed).1;
+    }
 
--- between two rounds a run may stop
-may_stop : (q : Portion) (p : Position) → IsRoundStop q p → IsStop q p
-may_stop q End stop = tt
-may_stop q (At job) stop = inl stop
+pub job_work : (w : Way) (now : Option (List ℕ)) (page : Page) (f : Machine) (c : Job) → IsUnderWay w now page f → Contains (jobs_of f.entries) c → HasWork w.start
+job_work w now page f c way there = let own = way.emitted.held.go_on.extend c there in has_work w.start w.jobs own.0 way.emitted.work own.1
+
+-- a run may stop where a checkpoint is put
+round_stop : (q : Portion) (p : Position) → IsRoundStop q p → IsStop q p
+round_stop q End stop = tt
+round_stop q (At job) stop = inl stop
+
+member_stop : (q : Portion) (p : Position) → IsNextMember q p → IsStop q p
+member_stop q End next = absurd next
+member_stop q (At job) next = inr next
+
+may_stop : (s : Start) (check : Checkpoint) → IsPutStop s check → IsStop s.portion check.at
+may_stop s check stop = ⊎_elim (λ round. round_stop s.portion check.at round) (λ next. member_stop s.portion check.at next.0) stop
 
 -- ## Checkpoints that were put
 
@@ -125,202 +112,396 @@ check_put s page f held output check bytes lines stop =
       stop = stop;
     }
 
--- ## Rounds
-
-pub of_round : (w : Way) (most : ℕ) (old now : Option (List ℕ)) (output : List ℕ) (js : List Job) → WentOut w old now output → AreJobsFrom w.start.portion w.since js → w.round ≡ take most js
-    → IsOfRound w.start most w.since output
-of_round w most old now output js went left round m member later shown not =
-    ⊎_elim
-    (λ before. absurd (not before))
-    (λ under. record { jobs = js; from = left; under = record { job = under.job; listed = subst (λ ks. Contains ks under.job) round under.listed; under = under.under } })
-    (went.shown m member later shown)
+-- ## What the name is left with
 
 -- a run that wrote nothing shows no member
 pub none_shown : (s : Start) (most : ℕ) (p : Position) → IsOfRound s most p []
 none_shown s most p m member later shown not = let shorter = shown.shorter in absurd (omega (arith, shorter))
 
+-- a checkpoint that tells all of the output: each member of it is before where the checkpoint stands
+told_shown : (s : Start) (most : ℕ) (p : Position) (output : List ℕ) (n : ℕ) → AreLinesBetween s.portion s.at p s.lines n output → IsOfRound s most p output
+told_shown s most p output n lines m member later shown not = absurd (not (shown_earlier s p n output lines m member shown))
+
 -- a checkpoint that tells all of some bytes, and more went out of the same round
-puts_more : (s : Start) (most : ℕ) (held : Option (List ℕ)) (base z output : List ℕ) (p : Position) → output ≡ base ++ z → IsOfRound s most p output → IsKeptPut s held base p → PutsCheck s most held output
-puts_more s most held base z output p is rounds put =
-    record { check = put.check; put = more_put s held base z output put.check is put.all put.put; of_round = subst (λ x. IsOfRound s most x output) (sym put.at_is) rounds }
+puts_more : (s : Start) (most : ℕ) (held : Option (List ℕ)) (told z output : List ℕ) (p : Position) → output ≡ told ++ z → IsOfRound s most p output → IsPutAt s held told p → PutsCheck s most held output
+puts_more s most held told z output p is rounds put =
+    record { check = put.put.check; put = more_put s held told z output put.put.check is put.put.all put.put.put; of_round = subst (λ x. IsOfRound s most x output) (sym put.at_is) rounds }
 
 -- Where a run ends in a round, the name holds what it held when the round began.
-left_name : (s : Start) (most : ℕ) (pause : Option ℕ) (before held : Option (List ℕ)) (base z output : List ℕ) (p : Position) (result : Result Finish RunFault) → output ≡ base ++ z → IsOfRound s most p output
-    → IsKept s before held base p → (s.number ≡ 1 → IsKeptPut s held base p) → IfOk result (FinishesName s pause before held output) → LeavesName s most pause before held result output
-left_name s most pause before held base z output p result is rounds kept first finishes = record {
-  held = ⊎_elim (λ same. inl (record { same = same.0; of_round = subst (λ x. IsOfRound s most x output) same.1 rounds })) (λ put. inr (puts put)) kept;
-  first = λ one worked. puts (first one);
-  idle = λ later none. ⊎_elim (λ same. same.0) (λ put. absurd (⊎_elim later none put.due)) kept;
+left_name : (s : Start) (most : ℕ) (pause : Option ℕ) (before held : Option (List ℕ)) (told z output : List ℕ) (p : Position) (result : Result Finish RunFault) → output ≡ told ++ z → IsOfRound s most p output
+    → HasNotMoved s before held told p ⊎ IsPutAt s held told p → IfOk result (FinishesName s pause before held output) → LeavesName s most pause before held result output
+left_name s most pause before held told z output p result is rounds kept finishes = record {
+  held = ⊎_elim (λ same. inl (record { same = same.same; of_round = subst (λ x. IsOfRound s most x output) same.at_start rounds })) (λ put. inr (puts put)) kept;
+  first = λ one worked. ⊎_elim (λ same. absurd (same.later one)) puts kept;
+  idle = λ later none. ⊎_elim (λ same. same.same) (λ put. absurd (⊎_elim later none put.put.due)) kept;
   finish = finishes;
 }
   where
-    puts : IsKeptPut s held base p → PutsCheck s most held output
-    puts put = puts_more s most held base z output p is rounds put
+    puts : IsPutAt s held told p → PutsCheck s most held output
+    puts put = puts_more s most held told z output p is rounds put
+
+pub no_more : (base more : List ℕ) (n : ℕ) → n ≡ length (base ++ more) → n ≡ length base → more ≡ []
+no_more base [] n all some = refl
+no_more base (x ∷ xs) n all some = let size = length-append base (x ∷ xs) in absurd (omega (arith, all, some, size))
+
+-- what a run leaves that stopped, whatever the fault is called
+pub other_fault : (s : Start) (most : ℕ) (pause : Option ℕ) (old now : Option (List ℕ)) (tells : Bool) (before after : Option (List ℕ)) (a b : RunFault) → HasRun s most pause old now tells before after (Err a)
+    → HasRun s most pause old now tells before after (Err b)
+other_fault s most pause old now tells before after a b run = record {
+  output = run.output;
+  is_output = record { appended = run.is_output.appended; front = run.is_output.front; finishes = tt };
+  left = λ told. let left = run.left told in record { held = left.held; first = λ one worked. left.first one (⊎_elim (λ some. inl some) (λ ok. cc) worked); idle = left.idle; finish = tt };
+}
+
+-- ## In the midst of a round
+
+module _ (w : Way) (tells here : Bool) (old before held now : Option (List ℕ)) (page : Page) (f : Machine) (mid : IsMid w tells here old before held now page f) where
+  -- nothing was written since the round began
+  none_written : mid.under.lines.written ≡ []
+  none_written = no_more w.base mid.under.lines.written page.bytes mid.under.lines.bytes mid.settled
+
+  whole_base : w.base ++ mid.under.lines.written ≡ w.base
+  whole_base = ap (λ xs. w.base ++ xs) none_written ∙ append-nil w.base
+
+  pub mid_went : (later : Option (List ℕ)) (part : IsPartOut w later) → WentOut w old later (w.base ++ part.out.written)
+  mid_went later part = went_out w old later part mid.appended
+
+  -- what goes out is of the round
+  pub mid_round : (later : Option (List ℕ)) (part : IsPartOut w later) → IsOfRound w.start w.most w.since (w.base ++ part.out.written)
+  mid_round later part m member after shown not =
+      ⊎_elim
+      (λ early. absurd (not early))
+      (λ under. record { jobs = mid.work.whole; from = mid.work.from; under = record { job = under.job; listed = subst (λ ks. Contains ks under.job) mid.round_is under.listed; under = under.under } })
+      ((mid_went later part).shown m member after shown)
+
+  mid_out : WentOut w old now w.base
+  mid_out = subst (WentOut w old now) whole_base (mid_went now (way_part w now page f mid.under))
+
+  mid_lines : (p : Position) → StandsAt f.from f.entries p → AreLinesBetween w.start.portion w.start.at p w.start.lines page.count w.base
+  mid_lines p stands =
+      subst (AreLinesBetween w.start.portion w.start.at p w.start.lines page.count) whole_base
+      (lines_between w now page f mid.under.members p mid.under.emitted.work mid.under.emitted.covers mid.under.emitted.held mid.under.lines mid.empty stands)
+
+  -- the name, where nothing more was written
+  name_left : (pause : Option ℕ) (result : Result Finish RunFault) (k : HasKept w.start w.most before held w.base w.since here) → IfOk result (FinishesName w.start pause before held w.base)
+      → LeavesName w.start w.most pause before held result w.base
+  name_left pause result k finishes = left_name w.start w.most pause before held k.told k.more w.base k.at result k.parts k.rounds k.kept finishes
+
+  -- the run stopped, and nothing more was written
+  pub mid_stopped : (pause : Option ℕ) (fault : RunFault) → HasRun w.start w.most pause old now tells before held (Err fault)
+  mid_stopped pause fault = record {
+    output = w.base;
+    is_output = record { appended = mid_out.appended; front = mid_out.front; finishes = tt };
+    left = λ told. name_left pause (Err fault) (mid.kept told) tt;
+  }
+
+  -- some of the lines of the round were not written
+  pub mid_failed : here ≡ true → (later : Option (List ℕ)) (pause : Option ℕ) (fault : RunFault) → IsPartOut w later → HasRun w.start w.most pause old later tells before held (Err fault)
+  mid_failed stays later pause fault part =
+      let output = w.base ++ part.out.written in
+      let went = mid_went later part in
+      record {
+        output = output;
+        is_output = record { appended = went.appended; front = went.front; finishes = tt };
+        left = λ told.
+            let k = mid.kept told in
+            left_name w.start w.most pause before held k.told (k.more ++ part.out.written) output k.at (Err fault) (ap (λ xs. xs ++ part.out.written) k.parts ∙ append_assoc k.told k.more part.out.written)
+            (subst (λ p. IsOfRound w.start w.most p output) (sym (k.is_here stays)) (mid_round later part)) k.kept tt;
+      }
+
+  -- ## A checkpoint of where the machine stands
+
+  module _ (after : Option (List ℕ)) (check : HoldsCheckAt w.start page f after) (stop : IsPutStop w.start check.is_check.check) (due : (w.start.number ≡ 1) ⊎ HasWork w.start) where
+    put_here : IsPutAt w.start after w.base check.is_check.check.at
+    put_here = record {
+      put = record {
+        check = check.is_check.check;
+        put = check_put w.start page f after w.base check mid.settled (mid_lines check.is_check.check.at check.is_check.stands) (may_stop w.start check.is_check.check stop);
+        all = check.is_check.bytes ∙ mid.settled;
+        stop = stop;
+        due = due;
+      };
+      at_is = refl;
+    }
+
+    put_rounds : IsOfRound w.start w.most check.is_check.check.at w.base
+    put_rounds = told_shown w.start w.most check.is_check.check.at w.base page.count (mid_lines check.is_check.check.at check.is_check.stands)
+
+    pub puts_base : PutsCheck w.start w.most after w.base
+    puts_base = puts_more w.start w.most after w.base [] w.base check.is_check.check.at (sym (append-nil w.base)) put_rounds put_here
+
+    pub kept_here : StandsAt f.from f.entries w.since → HasKept w.start w.most before after w.base w.since true
+    kept_here stands = record {
+      told = w.base;
+      more = [];
+      parts = sym (append-nil w.base);
+      at = check.is_check.check.at;
+      kept = inr put_here;
+      rounds = put_rounds;
+      is_here = λ true_now. stands_once f.from check.is_check.check.at w.since f.entries check.is_check.stands stands;
+      all_told = λ true_now. refl;
+    }
+
+  -- where it was put
+  pub mid_saved : (after : Option (List ℕ)) → StandsAt f.from f.entries w.since → ((check : Checkpoint) → check.at ≡ w.since → check.lines ≡ page.count → IsPutStop w.start check) → (w.start.number ≡ 1) ⊎ HasWork w.start
+      → (tells ≡ true → HoldsCheckAt w.start page f after) → IsMid w tells true old before after now page f
+  mid_saved after stands stop due saves = record {
+    appended = mid.appended;
+    known_is = mid.known_is;
+    under = mid.under;
+    empty = mid.empty;
+    settled = mid.settled;
+    some = mid.some;
+    work = mid.work;
+    later = mid.later;
+    round_is = mid.round_is;
+    kept = λ told. let check = saves told in kept_here after check (stop_of check) due stands;
+    due = inl refl;
+  }
+    where
+      stop_of : (check : HoldsCheckAt w.start page f after) → IsPutStop w.start check.is_check.check
+      stop_of check = stop check.is_check.check (stands_once f.from check.is_check.check.at w.since f.entries check.is_check.stands stands) check.is_check.lines
+
+  -- and where it could not be put
+  pub mid_unsaved : (after : Option (List ℕ)) (pause : Option ℕ) (fault : RunFault) → StandsAt f.from f.entries w.since → ((check : Checkpoint) → check.at ≡ w.since → check.lines ≡ page.count → IsPutStop w.start check)
+      → (w.start.number ≡ 1) ⊎ HasWork w.start → (tells ≡ true → Saves {T = Unit} w.start page f held after (Err fault)) → HasRun w.start w.most pause old now tells before after (Err fault)
+  mid_unsaved after pause fault stands stop due saves = record {
+    output = w.base;
+    is_output = record { appended = mid_out.appended; front = mid_out.front; finishes = tt };
+    left = λ told.
+        ⊎_elim
+        (λ same. subst (λ x. LeavesName w.start w.most pause before x (Err fault) w.base) (sym same) (name_left pause (Err fault) (mid.kept told) tt))
+        (λ check.
+        let at = stands_once f.from check.is_check.check.at w.since f.entries check.is_check.stands stands in
+        let puts = puts_base after check (stop check.is_check.check at check.is_check.lines) due in
+        record { held = inr puts; first = λ one worked. puts; idle = λ later none. absurd (⊎_elim later none due); finish = tt })
+        (saves told);
+  }
+
+  -- ## Ends of the run's own
+
+  no_work : jobs_of f.entries ≡ [] → w.ahead ≡ jobs_of f.entries → w.since ≡ w.start.at → HasWork w.start → ⊥
+  no_work none ahead same work =
+      let there = (mid.work.from.is_opening.members work.job).1 work.opening in
+      let kept = without_kept (IsWhollyBefore w.since) mid.work.from.opening mid.work.whole work.job mid.work.from.left there (subst (λ at. ¬ IsWhollyBefore at work.job) (sym same) work.left) in
+      let part = mid.work.each work.job kept in
+      Contains-none part.part (subst (λ js. Contains js part.part) (ahead ∙ none) part.listed)
+
+  pub mid_whole : here ≡ true → (pause : Option ℕ) (limit : Limit) → IsLimit w.start.lines pause limit → page.count ≤ limit.last → f.entries ≡ [] → w.ahead ≡ jobs_of f.entries → (w.since ≡ w.start.at) ⊎ (w.since ≡ End)
+      → HasRun w.start w.most pause old now tells before held (Ok Whole)
+  mid_whole stays pause limit is low none ahead ended = record {
+    output = w.base;
+    is_output = record { appended = mid_out.appended; front = mid_out.front; finishes = finish_whole w.start pause limit page.count w.base is (mid_lines End (subst (λ es. StandsAt f.from es End) (sym none) refl)) low };
+    left = λ told. let k = mid.kept told in name_left pause (Ok Whole) k (works k);
+  }
+    where
+      at_end : (k : HasKept w.start w.most before held w.base w.since here) → HasWork w.start → w.since ≡ End → IsPutAt w.start held k.told k.at → PutsAtEnd w.start held w.base
+      at_end k work end put =
+          let whole : w.base ≡ k.told = k.parts ∙ ap (λ xs. k.told ++ xs) (k.all_told stays) ∙ append-nil k.told in
+          record {
+            check = put.put.check;
+            put = more_put w.start held k.told k.more w.base put.put.check k.parts put.put.all put.put.put;
+            all = put.put.all ∙ ap length (sym whole);
+            at_end = put.at_is ∙ k.is_here stays ∙ end;
+          }
+
+      works : (k : HasKept w.start w.most before held w.base w.since here) → HasWork w.start → PutsAtEnd w.start held w.base
+      works k work =
+          ⊎_elim
+          (λ same. absurd (no_work (ap jobs_of none) ahead same work))
+          (λ end. ⊎_elim (λ same. absurd (no_work (ap jobs_of none) ahead (sym (k.is_here stays) ∙ same.at_start) work)) (λ put. at_end k work end put) k.kept)
+          ended
+
+  -- it came to the last line
+  module _ (due : HasWork w.start) (later : Option (List ℕ)) (new : Page) (h : Machine) (limit : Limit) (full : IsFull w later new limit.last h) (empty : IsEmpty new) (pause : Option ℕ) (is : IsLimit w.start.lines pause limit)
+      (rounds : (told : tells ≡ true) → IsOfRound w.start w.most (mid.kept told).at (w.base ++ full.lines.written))
+    where
+      abbrev full_output : List ℕ
+      full_output = w.base ++ full.lines.written
+
+      put_full : (after : Option (List ℕ)) (check : HoldsCheckAt w.start new h after) → IsPut after full_output w.start check.is_check.check × PutsCheck w.start w.most after full_output
+      put_full after check =
+          let at = check.is_check.check.at in
+          let lines = lines_between w later new h full.members at full.work full.covers full.held full.lines empty check.is_check.stands in
+          let put = check_put w.start new h after full_output check full.lines.bytes lines (stop_at at (stands_once h.from (at_symbol full.next) at h.entries full.stands check.is_check.stands)) in
+          (put, record { check = check.is_check.check; put = put; of_round = told_shown w.start w.most at full_output new.count lines })
+        where
+          stop_at : (p : Position) → at_symbol full.next ≡ p → IsStop w.start.portion p
+          stop_at p same = subst (IsStop w.start.portion) same (inr (record { next = full.next; member = full.member; job_is = refl }))
+
+      pub mid_full : (after : Option (List ℕ)) (result : Result Finish RunFault) → IfOk result (λ finish. finish ≡ (if limit.pauses then Paused else CutShort))
+          → (tells ≡ true → MatchBool limit.pauses (Saves w.start new h held after result) (after ≡ held)) → HasRun w.start w.most pause old later tells before after result
+      mid_full after result finish saves =
+          let went = mid_went later (full_part w later new limit.last h full) in
+          record {
+            output = full_output;
+            is_output = record { appended = went.appended; front = went.front; finishes = finishes result finish };
+            left = λ told. leaves limit.pauses is result finish (saves told) (mid.kept told) (rounds told);
+          }
+        where
+          finishes : (r : Result Finish RunFault) → IfOk r (λ finish. finish ≡ (if limit.pauses then Paused else CutShort)) → IfOk r (Finishes w.start pause full_output)
+          finishes (Ok end) same = subst (Finishes w.start pause full_output) (sym same) (finish_full w.start pause limit full_output is (full_lines w later new limit.last h full empty))
+          finishes (Err fault) same = tt
+
+          same_name : (r : Result Finish RunFault) → IfOk r (FinishesName w.start pause before held full_output) → after ≡ held → (k : HasKept w.start w.most before held w.base w.since here) → IsOfRound w.start w.most k.at full_output
+              → LeavesName w.start w.most pause before after r full_output
+          same_name r does same k of_round =
+              subst (λ x. LeavesName w.start w.most pause before x r full_output) (sym same)
+              (left_name w.start w.most pause before held k.told (k.more ++ full.lines.written) full_output k.at r (ap (λ xs. xs ++ full.lines.written) k.parts ∙ append_assoc k.told k.more full.lines.written) of_round k.kept does)
+
+          between : (k : HasKept w.start w.most before held w.base w.since here) → (held ≡ before) ⊎ PutsBetween w.start held full_output
+          between k =
+              ⊎_elim
+              (λ same. inl same.same)
+              (λ put. inr (record {
+                check = put.put.check;
+                put = more_put w.start held k.told (k.more ++ full.lines.written) full_output put.put.check (ap (λ xs. xs ++ full.lines.written) k.parts ∙ append_assoc k.told k.more full.lines.written) put.put.all put.put.put;
+                stop = put.put.stop;
+              }))
+              k.kept
+
+          paused : IsPause w.start.lines pause limit.last → (check : HoldsCheckAt w.start new h after) → PutsAtPause w.start pause after full_output
+          paused p check = record {
+            check = check.is_check.check;
+            put = (put_full after check).0;
+            pause_is = subst (IsPause w.start.lines pause) (sym (check.is_check.lines ∙ full.count)) p;
+            all = check.is_check.bytes ∙ full.lines.bytes;
+            next = subst (IsNextMember w.start.portion) (stands_once h.from (at_symbol full.next) check.is_check.check.at h.entries full.stands check.is_check.stands) (record { next = full.next; member = full.member; job_is = refl });
+          }
+
+          leaves : (b : Bool) → MatchBool b (IsPause w.start.lines pause limit.last) (IsBeforePause w.start.lines pause limit.last) → (r : Result Finish RunFault) → IfOk r (λ finish. finish ≡ (if b then Paused else CutShort))
+              → MatchBool b (Saves w.start new h held after r) (after ≡ held) → (k : HasKept w.start w.most before held w.base w.since here) → IsOfRound w.start w.most k.at full_output
+              → LeavesName w.start w.most pause before after r full_output
+          leaves true p (Ok end) same check k of_round =
+              let puts = (put_full after check).1 in
+              record { held = inr puts; first = λ one worked. puts; idle = λ later none. absurd (none due); finish = subst (FinishesName w.start pause before after full_output) (sym same) (paused p check) }
+          leaves true p (Err fault) same saves k of_round =
+              ⊎_elim
+              (λ is. same_name (Err fault) tt is k of_round)
+              (λ check. let puts = (put_full after check).1 in record { held = inr puts; first = λ one worked. puts; idle = λ later none. absurd (none due); finish = tt })
+              saves
+          leaves false p (Ok end) same is k of_round = same_name (Ok end) (subst (FinishesName w.start pause before held full_output) (sym same) (between k)) is k of_round
+          leaves false p (Err fault) same is k of_round = same_name (Err fault) tt is k of_round
+
+-- ## Where a machine stands
+
+-- what was under way goes on from all that is written
+module _ (w : Way) (now : Option (List ℕ)) (page : Page) (h : Machine) (way : IsUnderWay w now page h) (empty : IsEmpty page) (p : Position) (stands : StandsAt h.from h.entries p) (work : AreWork w.start.portion w.since w.ahead)
+    (later : AllByRecursion (λ j. ¬ IsWhollyBefore h.from j) (jobs_of h.entries))
+  where
+    pub work_here : AreWork w.start.portion p (jobs_of h.entries)
+    work_here = work_left w.start.portion w.since p h.from way.emitted.gone h.entries (subst (AreWork w.start.portion w.since) way.emitted.jobs_are work) stands later
+
+    abbrev pub way_here : Way
+    way_here = record { start = w.start; jobs = w.jobs; base = w.base ++ way.lines.written; known = now; from = h.from; since = p; ahead = jobs_of h.entries; most = w.most; round = take w.most work_here.whole }
+
+    under_here : IsUnderWay way_here now page h
+    under_here =
+        let base = w.base ++ way.lines.written in
+        let been = way.emitted in
+        let between = held_between w.start.portion w.start.at p w.jobs h way.members been.work been.covers been.held stands in
+        record {
+          members = way.members;
+          emitted = record {
+            work = been.work;
+            covers = been.covers;
+            opened = been.opened;
+            stays = refl;
+            all = work_here.all;
+            gone = [];
+            jobs_are = refl;
+            entries_are = been.entries_are;
+            few = been.few;
+            held = been.held;
+            recent = λ s there. inl ((between.members s).0 there).earlier;
+            of_round = λ e there done. taken_part w.start.portion p (jobs_of h.entries) w.most e.job work_here (done_early w.most h.entries e been.few there done);
+          };
+          lines = record {
+            written = [];
+            appended = appends_nothing now;
+            made = way.lines.made;
+            parts = way.lines.parts;
+            lines = subst (λ xs. AreLines w.start.lines way.lines.made (xs ++ page.buffer.items)) (sym (append-nil base)) way.lines.lines;
+            count = way.lines.count;
+            bytes = way.lines.bytes ∙ ap length (sym (append-nil base));
+          };
+        }
+
+    pub mid_here : (tells : Bool) (old before held : Option (List ℕ)) → Appends old w.known w.base → 1 ≤ w.most → HasWork w.start
+        → (tells ≡ true → HasKept w.start w.most before held (w.base ++ way.lines.written) p false) → IsMid way_here tells false old before held now page h
+    mid_here tells old before held appended some due kept = record {
+      appended = Appends_trans old w.known now w.base way.lines.written (w.base ++ way.lines.written) appended way.lines.appended refl;
+      known_is = refl;
+      under = under_here;
+      empty = empty;
+      settled = way.lines.bytes;
+      some = some;
+      work = work_here;
+      later = later;
+      round_is = refl;
+      kept = kept;
+      due = inr due;
+    }
+
+-- a run whose store is not said to tell
+pub untold : (w : Way) (tells here : Bool) (old before held now : Option (List ℕ)) (page : Page) (f : Machine) → IsMid w tells here old before held now page f → (other : Option (List ℕ)) → IsMid w false here old before other now page f
+untold w tells here old before held now page f mid other = record {
+  appended = mid.appended;
+  known_is = mid.known_is;
+  under = mid.under;
+  empty = mid.empty;
+  settled = mid.settled;
+  some = mid.some;
+  work = mid.work;
+  later = mid.later;
+  round_is = mid.round_is;
+  kept = λ never. cc;
+  due = mid.due;
+}
+
+-- what was kept, with more of the round written since
+pub kept_more : (s : Start) (most : ℕ) (before held : Option (List ℕ)) (base more : List ℕ) (since p : Position) (here : Bool) (k : HasKept s most before held base since here) → IsOfRound s most k.at (base ++ more)
+    → HasKept s most before held (base ++ more) p false
+kept_more s most before held base more since p here k rounds = record {
+  told = k.told;
+  more = k.more ++ more;
+  parts = ap (λ xs. xs ++ more) k.parts ∙ append_assoc k.told k.more more;
+  at = k.at;
+  kept = k.kept;
+  rounds = rounds;
+  is_here = λ never. cc;
+  all_told = λ never. cc;
+}
 
 -- ## Heads
 
--- between two rounds a run goes on from all that it has written
-pub rebased : (w : Way) (now : Option (List ℕ)) (page : Page) (f : Machine) (p : Position) (way : IsUnderWay w now page f) → IsEmpty page → AreOpen f.entries → StandsAt f.from f.entries p
-    → IsUnderWay (head_way w.start w.jobs (w.base ++ way.lines.written) now p) now page f
-rebased w now page f p way empty opens stands =
-    let base = w.base ++ way.lines.written in
-    let between = held_between w.start.portion w.start.at p w.jobs f way.members way.emitted.from way.emitted.held stands in
-    record {
-      members = way.members;
-      emitted = record {
-        from = way.emitted.from;
-        opened = way.emitted.opened;
-        stays = way.emitted.stays;
-        gone = way.emitted.gone;
-        jobs_are = way.emitted.jobs_are;
-        entries_are = way.emitted.entries_are;
-        held = way.emitted.held;
-        recent = λ s there. inl ((between.members s).0 there).earlier;
-        of_round = none_done (head_way w.start w.jobs base now p) f.entries opens;
-      };
-      lines = record {
-        written = [];
-        appended = appends_nothing now;
-        made = way.lines.made;
-        parts = way.lines.parts;
-        lines = subst (λ xs. AreLines w.start.lines way.lines.made (xs ++ page.buffer.items)) (sym (append-nil base)) way.lines.lines;
-        count = way.lines.count;
-        bytes = way.lines.bytes ∙ ap length (sym (append-nil base));
-      };
-    }
+-- what is left where nothing was written
+pub none_more : (w : Way) (now : Option (List ℕ)) (page : Page) (f : Machine) (way : IsUnderWay w now page f) → page.bytes ≡ length w.base → w.base ≡ w.base ++ way.lines.written
+none_more w now page f way settled = sym (ap (λ xs. w.base ++ xs) (no_more w.base way.lines.written page.bytes way.lines.bytes settled) ∙ append-nil w.base)
 
--- a run that has not moved
-pub head_begun : (s : Start) (tells : Bool) (old before held : Option (List ℕ)) (page : Page) (f : Machine) → IsBegun s f → IsEmpty page → page.count ≡ s.lines → page.bytes ≡ 0 → (¬ (s.number ≡ 1))
-    → (tells ≡ true → held ≡ before) → IsHead s tells old before held old page f
-head_begun s tells old before held page f begun empty count bytes later same =
-    let way = way_first s old page f s.at begun empty count bytes in
-    record {
-      jobs = begun.jobs;
-      base = [];
-      since = s.at;
-      appended = appends_nothing old;
-      way = way;
-      empty = empty;
-      settled = bytes;
-      ended = λ none. inl refl;
-      left = subst (AreJobsFrom s.portion s.at) way.emitted.jobs_are begun.from;
-      kept = λ told. inl (same told, refl);
-      put = λ told one. absurd (later one);
-    }
+-- a round has ended: all its entries have left
+module _ (w : Way) (now : Option (List ℕ)) (page : Page) (h : Machine) (way : IsUnderWay w now page h) (empty : IsEmpty page) (work : AreWork w.start.portion w.since w.ahead)
+    (later : AllByRecursion (λ j. ¬ IsWhollyBefore w.from j) w.ahead) (opens : AreOpen h.entries)
+  where
+    pub later_left : AllByRecursion (λ j. ¬ IsWhollyBefore h.from j) (jobs_of h.entries)
+    later_left =
+        all_back (λ j. ¬ IsWhollyBefore h.from j) way.emitted.gone (jobs_of h.entries)
+        (subst (AllByRecursion (λ j. ¬ IsWhollyBefore h.from j)) way.emitted.jobs_are (subst (λ from. AllByRecursion (λ j. ¬ IsWhollyBefore from j) w.ahead) (sym way.emitted.stays) later))
 
--- the first job of all is a job of each opening
-module _ (s : Start) (first : s ≡ first_start s.portion) (f : Machine) (begun : IsBegun s f) where
-  at_beginning : s.at ≡ beginning
-  at_beginning = ap (λ (t : Start). t.at) first
-
-  begun_stop : (p : Position) (es : List Entry) → jobs_of es ≡ begun.jobs → StandsAt s.at es p → IsRoundStop s.portion p
-  begun_stop p [] listed stands = subst (IsRoundStop s.portion) (sym stands) tt
-  begun_stop p (e ∷ es) listed stands =
-      ⊎_elim
-      (λ begun_it. subst (IsRoundStop s.portion) (sym (begun_it.1 ∙ at_beginning)) (within_first (subst (λ at. IsWhollyBefore at e.job ⊎ IsWithin e.job at) at_beginning begun_it.0)))
-      (λ other. subst (IsRoundStop s.portion) (sym other.1) opening)
-      stands
-    where
-      there : Contains begun.jobs e.job
-      there = subst (λ js. Contains js e.job) listed (Contains-head e.job (jobs_of es))
-
-      opening : IsPortionJob s.portion e.job
-      opening = from_opening s.portion s.at begun.jobs e.job begun.from there
-
-      first_is : (job : Job) → job.size ≡ 1 → job.prefix ≡ 1 ∷ 1 ∷ 1 ∷ [] → job ≡ first_job
-      first_is job size prefix = λ i. record { size = size i; prefix = prefix i }
-
-      within_first : IsWhollyBefore beginning e.job ⊎ IsWithin e.job beginning → IsPortionJob s.portion first_job
-      within_first (inl wholly) =
-          absurd ((without_there (IsWhollyBefore s.at) begun.from.opening begun.jobs e.job begun.from.left there).1 (subst (λ at. IsWhollyBefore at e.job) (sym at_beginning) wholly))
-      within_first (inr within) =
-          let size = within.0 in
-          let numbers = (portion_job s.portion e.job opening).numbers in
-          let three : length e.job.prefix ≡ 3 = numbers ∙ ap (λ n. min (3 * n) 9) size in
-          subst (IsPortionJob s.portion) (first_is e.job size (sym (same_when_whole e.job.prefix (1 ∷ 1 ∷ 1 ∷ []) within.1 three))) opening
-
-  -- what the first checkpoint of a chain tells
-  pub first_put : (page : Page) (held known : Option (List ℕ)) (check : HoldsCheckAt s page f held) → IsEmpty page → page.count ≡ s.lines → page.bytes ≡ 0
-      → IsKeptPut s held [] check.is_check.check.at
-  first_put page held known check empty count bytes =
-      let p = check.is_check.check.at in
-      let way = way_first s known page f s.at begun empty count bytes in
-      let stands = check.is_check.stands in
-      let lines = lines_between (head_way s begun.jobs [] known s.at) known page f [] p begun.from way.emitted.held way.lines empty stands in
-      let stop = begun_stop p f.entries (sym way.emitted.jobs_are) (subst (λ from. StandsAt from f.entries p) way.emitted.stays stands) in
-      record {
-        check = check.is_check.check;
-        at_is = refl;
-        put = check_put s page f held [] check bytes lines (may_stop s.portion p stop);
-        all = check.is_check.bytes ∙ bytes;
-        stop = stop;
-        due = inl (ap (λ (t : Start). t.number) first);
-      }
-
-  -- a chain that has put its first checkpoint
-  pub head_put : (tells : Bool) (old before held : Option (List ℕ)) (page : Page) (p : Position) → StandsAt f.from f.entries p → (tells ≡ true → IsKeptPut s held [] p) → IsEmpty page
-      → page.count ≡ s.lines → page.bytes ≡ 0 → IsHead s tells old before held old page f
-  head_put tells old before held page p stands put empty count bytes =
-      let way = way_first s old page f p begun empty count bytes in
-      record {
-        jobs = begun.jobs;
-        base = [];
-        since = p;
-        appended = appends_nothing old;
-        way = way;
-        empty = empty;
-        settled = bytes;
-        ended = λ none. inr (subst (λ es. StandsAt f.from es p) none stands);
-        left = jobs_left s.portion s.at p begun.jobs [] f.entries begun.from way.emitted.jobs_are (subst (λ from. StandsAt from f.entries p) way.emitted.stays stands);
-        kept = λ told. inr (put told);
-        put = λ told one. put told;
-      }
-
--- ## After a round
-
-gone_some : (jobs gone js : List Job) → jobs ≡ gone ++ js → length js < length jobs → (d : Job) × (ds : List Job) × (gone ≡ d ∷ ds)
-gone_some jobs [] js parts fewer = let size = ap length parts in absurd (omega (arith, size, fewer))
-gone_some jobs (d ∷ ds) js parts fewer = (d, ds, refl)
-
-module _ (w : Way) (old now : Option (List ℕ)) (page : Page) (g : Machine) (way : IsUnderWay w now page g) (empty : IsEmpty page) (fewer : length (jobs_of g.entries) < length w.jobs) (appended : Appends old w.known w.base) where
-  -- where the run stands, it may stop
-  next_stop : (p : Position) → StandsAt g.from g.entries p → IsRoundStop w.start.portion p
-  next_stop p stands =
-      let some = gone_some w.jobs way.emitted.gone (jobs_of g.entries) way.emitted.jobs_are fewer in
-      ⊎_elim
-      (λ end. subst (IsRoundStop w.start.portion) (sym end) tt)
-      (λ job. subst (IsRoundStop w.start.portion) (sym job.2) job.1)
-      (stands_at_job w.start.portion w.start.at p w.jobs some.1 some.0 g.entries way.emitted.from (way.emitted.jobs_are ∙ ap (λ gone. gone ++ jobs_of g.entries) some.2) (subst (λ from. StandsAt from g.entries p) way.emitted.stays stands))
-
-  pub next_put : (held : Option (List ℕ)) (check : HoldsCheckAt w.start page g held) → IsKeptPut w.start held (w.base ++ way.lines.written) check.is_check.check.at
-  next_put held check =
-      let p = check.is_check.check.at in
-      let stands = check.is_check.stands in
-      record {
-        check = check.is_check.check;
-        at_is = refl;
-        put = check_put w.start page g held (w.base ++ way.lines.written) check way.lines.bytes (lines_between w now page g way.members p way.emitted.from way.emitted.held way.lines empty stands)
-            (may_stop w.start.portion p (next_stop p stands));
-        all = check.is_check.bytes ∙ way.lines.bytes;
-        stop = next_stop p stands;
-        due = inr (has_work w.start w.jobs way.emitted.from (omega (arith, fewer)));
-      }
-
-  pub head_next : (tells : Bool) (before held : Option (List ℕ)) (p : Position) → StandsAt g.from g.entries p → (tells ≡ true → IsKeptPut w.start held (w.base ++ way.lines.written) p) → AreOpen g.entries
-      → IsHead w.start tells old before held now page g
-  head_next tells before held p stands put opens = record {
-    jobs = w.jobs;
-    base = w.base ++ way.lines.written;
-    since = p;
-    appended = Appends_trans old w.known now w.base way.lines.written (w.base ++ way.lines.written) appended way.lines.appended refl;
-    way = rebased w now page g p way empty opens stands;
-    empty = empty;
-    settled = way.lines.bytes;
-    ended = λ none. inr (subst (λ es. StandsAt g.from es p) none stands);
-    left = jobs_left w.start.portion w.start.at p w.jobs way.emitted.gone g.entries way.emitted.from way.emitted.jobs_are (subst (λ from. StandsAt from g.entries p) way.emitted.stays stands);
-    kept = λ told. inr (put told);
-    put = λ told one. put told;
-  }
+    pub head_after : (tells : Bool) (old before held : Option (List ℕ)) → Appends old w.known w.base → 1 ≤ w.most → HasWork w.start
+        → ((p : Position) → tells ≡ true → HasKept w.start w.most before held (w.base ++ way.lines.written) p false) → IsHead w.start w.most tells false old before held now page h
+    head_after tells old before held appended some due kept =
+        let at = stands_somewhere h.from h.entries in
+        record {
+          way = way_here w now page h way empty at.0 at.1 work later_left;
+          start_is = refl;
+          most_is = refl;
+          mid = mid_here w now page h way empty at.0 at.1 work later_left tells old before held appended some due (kept at.0);
+          ahead_is = refl;
+          opens = opens;
+          stands = λ away. at.1;
+          ended = λ none. inr (subst (λ es. StandsAt h.from es at.0) none at.1);
+        }
 
 -- ## Before the first round
 
@@ -328,11 +509,6 @@ module _ (w : Way) (old now : Option (List ℕ)) (page : Page) (g : Machine) (wa
 not_worked : (output : List ℕ) (fault : RunFault) (r : Result Finish RunFault) → output ≡ [] → r ≡ Err fault → (output ≢ []) ⊎ IsOk r → ⊥
 not_worked output fault (Ok end) none stopped worked = cc
 not_worked output fault (Err e) none stopped worked = ⊎_elim (λ some. some none) (λ ok. cc) worked
-
--- a checkpoint that tells all of the output: each member of it is before where the checkpoint stands
-puts_here : (s : Start) (most : ℕ) (held : Option (List ℕ)) (output : List ℕ) (n : ℕ) (check : Checkpoint) → IsPut held output s check → AreLinesBetween s.portion s.at check.at s.lines n output
-    → PutsCheck s most held output
-puts_here s most held output n check put lines = record { check = check; put = put; of_round = λ m member later shown not. absurd (not (shown_earlier s check.at n output lines m member shown)) }
 
 -- a run that did nothing
 pub nothing_done : (s : Start) (most : ℕ) (pause : Option ℕ) (old before : Option (List ℕ)) (tells : Bool) (fault : RunFault) → HasRun s most pause old old tells before before (Err fault)
@@ -342,15 +518,98 @@ nothing_done s most pause old before tells fault = record {
   left = λ told. record { held = inl (record { same = refl; of_round = none_shown s most s.at }); first = λ one worked. absurd (not_worked [] fault (Err fault) refl refl worked); idle = λ later none. refl; finish = tt };
 }
 
-module _ (s : Start) (f : Machine) (begun : IsBegun s f) (page : Page) (empty : IsEmpty page) (count : page.count ≡ s.lines) (bytes : page.bytes ≡ 0) (first : s.number ≡ 1 → s ≡ first_start s.portion) where
-  -- the first checkpoint could not be put
-  pub first_failed : (most : ℕ) (pause : Option ℕ) (old before after : Option (List ℕ)) (tells : Bool) (fault : RunFault) → (tells ≡ true → SavesFirst s page f before after (Err fault))
+module _ (s : Start) (most : ℕ) (some : 1 ≤ most) (old before held : Option (List ℕ)) (page : Page) (f : Machine) (begun : IsStarted s f) (empty : IsEmpty page) (count : page.count ≡ s.lines) (bytes : page.bytes ≡ 0) where
+  listed : jobs_of f.entries ≡ begun.jobs
+  listed = ap jobs_of begun.opened.entries ∙ jobs_opened 1 begun.jobs
+
+  abbrev first_way : Position → List Job → Way
+  first_way p round = record { start = s; jobs = begun.jobs; base = []; known = old; from = s.at; since = p; ahead = begun.jobs; most = most; round = round }
+
+  -- a run that has not moved, seen from a position where its work begins
+  abbrev first_mid : (tells : Bool) (p : Position) (work : AreWork s.portion p begun.jobs) → (tells ≡ true → HasKept s most before held [] p true) → IsMid (first_way p (take most work.whole)) tells true old before held old page f
+  first_mid tells p work kept = record {
+    appended = appends_nothing old;
+    known_is = refl;
+    under = way_first s old page f p most (take most work.whole) begun empty count bytes;
+    empty = empty;
+    settled = bytes;
+    some = some;
+    work = work;
+    later = begun.starting.later;
+    round_is = refl;
+    kept = kept;
+    due = inl refl;
+  }
+
+  -- its work from where it stands
+  work_standing : (p : Position) → StandsAt f.from f.entries p → AreWork s.portion p begun.jobs
+  work_standing p stands =
+      subst (AreWork s.portion p) listed
+      (work_left s.portion s.at p f.from [] f.entries (subst (AreWork s.portion s.at) (sym listed) begun.starting.work) stands
+      (subst (AllByRecursion (λ j. ¬ IsWhollyBefore f.from j)) (sym listed) (subst (λ from. AllByRecursion (λ j. ¬ IsWhollyBefore from j) begun.jobs) (sym begun.opened.from) begun.starting.later)))
+
+  -- the first job of all is a job of each opening
+  module _ (first : s ≡ first_start s.portion) where
+    at_beginning : s.at ≡ beginning
+    at_beginning = ap (λ (t : Start). t.at) first
+
+    number_one : s.number ≡ 1
+    number_one = ap (λ (t : Start). t.number) first
+
+    begun_stop : (p : Position) (es : List Entry) → jobs_of es ≡ begun.jobs → StandsAt s.at es p → IsRoundStop s.portion p
+    begun_stop p [] same stands = subst (IsRoundStop s.portion) (sym stands) tt
+    begun_stop p (e ∷ es) same stands =
+        ⊎_elim
+        (λ begun_it. subst (IsRoundStop s.portion) (sym (begun_it.1 ∙ at_beginning)) (within_first (subst (λ at. IsWhollyBefore at e.job ⊎ IsWithin e.job at) at_beginning begun_it.0)))
+        (λ other. subst (IsRoundStop s.portion) (sym other.1) opening)
+        stands
+      where
+        from : AreJobsFrom s.portion s.at begun.jobs
+        from = begun.whole number_one
+
+        there : Contains begun.jobs e.job
+        there = subst (λ js. Contains js e.job) same (Contains-head e.job (jobs_of es))
+
+        opening : IsPortionJob s.portion e.job
+        opening = from_opening s.portion s.at begun.jobs e.job from there
+
+        first_is : (job : Job) → job.size ≡ 1 → job.prefix ≡ 1 ∷ 1 ∷ 1 ∷ [] → job ≡ first_job
+        first_is job size prefix = λ i. record { size = size i; prefix = prefix i }
+
+        within_first : IsWhollyBefore beginning e.job ⊎ IsWithin e.job beginning → IsPortionJob s.portion first_job
+        within_first (inl wholly) =
+            absurd ((without_there (IsWhollyBefore s.at) from.opening begun.jobs e.job from.left there).1 (subst (λ at. IsWhollyBefore at e.job) (sym at_beginning) wholly))
+        within_first (inr within) =
+            let size = within.0 in
+            let numbers = (portion_job s.portion e.job opening).numbers in
+            let three : length e.job.prefix ≡ 3 = numbers ∙ ap (λ n. min (3 * n) 9) size in
+            subst (IsPortionJob s.portion) (first_is e.job size (sym (same_when_whole e.job.prefix (1 ∷ 1 ∷ 1 ∷ []) within.1 three))) opening
+
+    first_stop : (p : Position) → StandsAt f.from f.entries p → IsRoundStop s.portion p
+    first_stop p stands = begun_stop p f.entries listed (subst (λ from. StandsAt from f.entries p) begun.opened.from stands)
+
+    -- the first checkpoint of a chain
+    module _ (after : Option (List ℕ)) (check : HoldsCheckAt s page f after) where
+      abbrev place : Position
+      place = check.is_check.check.at
+
+      standing : IsMid (first_way place (take most (work_standing place check.is_check.stands).whole)) false true old before held old page f
+      standing = first_mid false place (work_standing place check.is_check.stands) (λ never. cc)
+
+      first_kept : HasKept s most before after [] place true
+      first_kept = kept_here (first_way place (take most (work_standing place check.is_check.stands).whole)) false true old before held old page f standing after check (inl (first_stop place check.is_check.stands)) (inl number_one) check.is_check.stands
+
+      first_puts : PutsCheck s most after []
+      first_puts = puts_base (first_way place (take most (work_standing place check.is_check.stands).whole)) false true old before held old page f standing after check (inl (first_stop place check.is_check.stands)) (inl number_one)
+
+  -- it could not be put
+  pub first_failed : (s.number ≡ 1 → s ≡ first_start s.portion) → (pause : Option ℕ) (after : Option (List ℕ)) (tells : Bool) (fault : RunFault) → (tells ≡ true → SavesFirst s page f before after (Err fault))
       → HasRun s most pause old old tells before after (Err fault)
-  first_failed most pause old before after tells fault saves = record {
+  first_failed first pause after tells fault saves = record {
     output = [];
     is_output = record { appended = appends_nothing old; front = λ text is. tt; finishes = tt };
     left = λ told. record {
-      held = held (saves told);
+      held = held_after (saves told);
       first = λ one worked. absurd (not_worked [] fault (Err fault) refl refl worked);
       idle = λ later none. ⊎_elim (λ one. absurd (later one.0)) (λ other. other.1) (saves told);
       finish = tt;
@@ -360,241 +619,46 @@ module _ (s : Start) (f : Machine) (begun : IsBegun s f) (page : Page) (empty : 
       keeps : after ≡ before → KeepsName s most before after []
       keeps same = record { same = same; of_round = none_shown s most s.at }
 
-      held : SavesFirst s page f before after (Err fault) → KeepsName s most before after [] ⊎ PutsCheck s most after []
-      held =
-          ⊎_elim
-          (λ one. ⊎_elim
-          (λ same. inl (keeps same))
-          (λ check. inr (puts_more s most after [] [] [] check.is_check.check.at refl (none_shown s most check.is_check.check.at) (first_put s (first one.0) f begun page after old check empty count bytes)))
-          one.1)
-          (λ later. inl (keeps later.1))
+      held_after : SavesFirst s page f before after (Err fault) → KeepsName s most before after [] ⊎ PutsCheck s most after []
+      held_after = ⊎_elim (λ one. ⊎_elim (λ same. inl (keeps same)) (λ check. inr (first_puts (first one.0) after check)) one.1) (λ later. inl (keeps later.1))
 
-  -- the first checkpoint was put, or the run is a later one
-  pub head_first : (tells : Bool) (old before held : Option (List ℕ)) → (tells ≡ true → SavesFirst s page f before held (Ok tt)) → IsHead s tells old before held old page f
-  head_first tells old before held saves =
-      ⊎_elim
-      (λ one.
-      let where_it = stands_somewhere f.from f.entries in
-      head_put s (first one) f begun tells old before held page where_it.0 where_it.1 (λ told. put one where_it.0 where_it.1 (saves told)) empty count bytes)
-      (λ later. moved later)
-      (cases_eq s.number 1)
+  -- it was put, or the run is a later one
+  pub head_first : (s.number ≡ 1 → s ≡ first_start s.portion) → (tells : Bool) → (tells ≡ true → SavesFirst s page f before held (Ok tt)) → IsHead s most tells true old before held old page f
+  head_first first tells saves = ⊎_elim (λ one. put one) (λ later. moved later) (cases_eq s.number 1)
     where
-      put : s.number ≡ 1 → (p : Position) → StandsAt f.from f.entries p → SavesFirst s page f before held (Ok tt) → IsKeptPut s held [] p
-      put one p stands =
-          ⊎_elim
-          (λ first_one.
-          let check = first_one.1 in
-          subst (IsKeptPut s held []) (stands_once f.from check.is_check.check.at p f.entries check.is_check.stands stands) (first_put s (first one) f begun page held old check empty count bytes))
+      at_it : (p : Position) (work : AreWork s.portion p begun.jobs) → (tells ≡ true → HasKept s most before held [] p true) → (f.entries ≡ [] → (p ≡ s.at) ⊎ (p ≡ End)) → IsHead s most tells true old before held old page f
+      at_it p work kept ended = record {
+        way = first_way p (take most work.whole);
+        start_is = refl;
+        most_is = refl;
+        mid = first_mid tells p work kept;
+        ahead_is = sym listed;
+        opens = begun_open s f begun;
+        stands = λ away. cc;
+        ended = ended;
+      }
+
+      put : s.number ≡ 1 → IsHead s most tells true old before held old page f
+      put one =
+          let at = stands_somewhere f.from f.entries in
+          at_it at.0 (work_standing at.0 at.1)
+          (λ told. ⊎_elim
+          (λ first_one. subst (λ p. HasKept s most before held [] p true) (stands_once f.from first_one.1.is_check.check.at at.0 f.entries first_one.1.is_check.stands at.1) (first_kept (first one) held first_one.1))
           (λ later. absurd (later.0 one))
+          (saves told))
+          (λ none. inr (subst (λ es. StandsAt f.from es at.0) none at.1))
 
-      moved : (¬ (s.number ≡ 1)) → IsHead s tells old before held old page f
+      moved : (¬ (s.number ≡ 1)) → IsHead s most tells true old before held old page f
       moved later =
-          head_begun s tells old before held page f begun empty count bytes later (λ told. ⊎_elim (λ one. absurd (later one.0)) (λ other. other.1) (saves told))
-
--- ## Runs that end between two rounds
-
-module _ (s : Start) (tells : Bool) (old before held now : Option (List ℕ)) (page : Page) (f : Machine) (head : IsHead s tells old before held now page f) where
-  abbrev pub way_at : Way
-  way_at = head_way s head.jobs head.base now head.since
-
-  head_went : WentOut way_at old now (head.base ++ head.way.lines.written)
-  head_went = went_out way_at old now (way_part way_at now page f head.way) head.appended
-
-  head_round : (most : ℕ) → IsOfRound s most head.since (head.base ++ head.way.lines.written)
-  head_round most m member later shown not = absurd (⊎_elim (λ before. not before) (λ under. Contains-none under.job under.listed) (head_went.shown m member later shown))
-
-  pub head_stopped : (most : ℕ) (pause : Option ℕ) (fault : RunFault) → HasRun s most pause old now tells before held (Err fault)
-  head_stopped most pause fault =
-      let output = head.base ++ head.way.lines.written in
-      record {
-        output = output;
-        is_output = record { appended = head_went.appended; front = head_went.front; finishes = tt };
-        left = λ told. left_name s most pause before held head.base head.way.lines.written output head.since (Err fault) refl (head_round most) (head.kept told) (head.put told) tt;
-      }
-
-  pub head_whole : (most : ℕ) (pause : Option ℕ) (limit : Limit) → IsLimit s.lines pause limit → page.count ≤ limit.last → f.entries ≡ [] → HasRun s most pause old now tells before held (Ok Whole)
-  head_whole most pause limit is low none =
-      let output = head.base ++ head.way.lines.written in
-      let stands : StandsAt f.from f.entries End = subst (λ es. StandsAt f.from es End) (sym none) refl in
-      let lines = lines_between way_at now page f head.way.members End head.way.emitted.from head.way.emitted.held head.way.lines head.empty stands in
-      record {
-        output = output;
-        is_output = record { appended = head_went.appended; front = head_went.front; finishes = finish_whole s pause limit page.count output is lines low };
-        left = λ told. left_name s most pause before held head.base head.way.lines.written output head.since (Ok Whole) refl (head_round most) (head.kept told) (head.put told) (works (head.kept told));
-      }
-    where
-      works : IsKept s before held head.base head.since → HasWork s → PutsAtEnd s held (head.base ++ head.way.lines.written)
-      works =
-          ⊎_elim
-          (λ same work. absurd (no_work same.1 work))
-          (λ put work. ⊎_elim (λ at. absurd (no_work at work)) (λ end. ends put end) (head.ended none))
-        where
-          ends : IsKeptPut s held head.base head.since → head.since ≡ End → PutsAtEnd s held (head.base ++ head.way.lines.written)
-          ends put end = record {
-            check = put.check;
-            put = more_put s held head.base head.way.lines.written (head.base ++ head.way.lines.written) put.check refl put.all put.put;
-            all = put.all ∙ sym head.settled ∙ head.way.lines.bytes;
-            at_end = put.at_is ∙ end;
-          }
-
-          left_none : AreJobsFrom s.portion head.since []
-          left_none = subst (λ es. AreJobsFrom s.portion head.since (jobs_of es)) none head.left
-
-          no_work : head.since ≡ s.at → HasWork s → ⊥
-          no_work same work =
-              let there = (left_none.is_opening.members work.job).1 work.opening in
-              Contains-none work.job (without_kept (IsWhollyBefore head.since) left_none.opening [] work.job left_none.left there (subst (λ at. ¬ IsWhollyBefore at work.job) (sym same) work.left))
-
--- ## Rounds that were done
-
-module _ (s : Start) (tells : Bool) (old before held mid : Option (List ℕ)) (page : Page) (f : Machine) (head : IsHead s tells old before held mid page f) (most : ℕ) (g : Machine) (round : IsRoundDone most f g)
-    (opens : AreOpen f.entries)
-  where
-    abbrev pub round_way : Way
-    round_way = record { start = s; jobs = head.jobs; base = head.base; known = mid; since = head.since; round = take most (jobs_of f.entries) }
-
-    pub round_under : IsUnderWay round_way mid page g
-    round_under =
-        way_round (head_way s head.jobs head.base mid head.since) most mid page f g head.since round opens head.way
-        (λ m there. ⊎_elim (λ before. before) (λ under. absurd (Contains-none under.job under.listed)) (head.way.emitted.recent m there))
-
-    -- a round has a job
-    round_work : HasWork s
-    round_work =
-        let less = fewer_wait most f g round opens in
-        let size = ap length (waiting_all f.entries opens) in
-        let all = ap length head.way.emitted.jobs_are ∙ length-append head.way.emitted.gone (jobs_of f.entries) in
-        has_work s head.jobs head.way.emitted.from (omega (arith, less, size, all))
-
-    round_went : (now : Option (List ℕ)) (part : IsPartOut round_way now) → WentOut round_way old now (head.base ++ part.out.written)
-    round_went now part = went_out round_way old now part head.appended
-
-    round_of : (now : Option (List ℕ)) (part : IsPartOut round_way now) → IsOfRound s most head.since (head.base ++ part.out.written)
-    round_of now part = of_round round_way most old now (head.base ++ part.out.written) (jobs_of f.entries) (round_went now part) head.left refl
-
-    -- some of its lines were not written
-    pub round_failed : (now : Option (List ℕ)) (pause : Option ℕ) (fault : RunFault) → IsPartOut round_way now → HasRun s most pause old now tells before held (Err fault)
-    round_failed now pause fault part =
-        let output = head.base ++ part.out.written in
-        let went = round_went now part in
-        record {
-          output = output;
-          is_output = record { appended = went.appended; front = went.front; finishes = tt };
-          left = λ told. left_name s most pause before held head.base part.out.written output head.since (Err fault) refl (round_of now part) (head.kept told) (head.put told) tt;
-        }
-
-    -- all its lines were written
-    module _ (now : Option (List ℕ)) (new : Page) (h : Machine) (way : IsUnderWay round_way now new h) (empty : IsEmpty new) (ready : AreOpen h.entries) (waiting : open_jobs h.entries ≡ open_jobs g.entries) where
-      pub fewer_open : length (open_jobs h.entries) < length (open_jobs f.entries)
-      fewer_open = subst (λ (js : List Job). length js < length (open_jobs f.entries)) (sym waiting) (fewer_wait most f g round opens)
-
-      fewer : length (jobs_of h.entries) < length head.jobs
-      fewer =
-          let less = fewer_open in
-          let one = ap length (waiting_all h.entries ready) in
-          let two = ap length (waiting_all f.entries opens) in
-          let all = ap length head.way.emitted.jobs_are ∙ length-append head.way.emitted.gone (jobs_of f.entries) in
-          omega (arith, less, one, two, all)
-
-      check_of : (after : Option (List ℕ)) (check : HoldsCheckAt s new h after) → IsKeptPut s after (head.base ++ way.lines.written) check.is_check.check.at
-      check_of after check = next_put round_way old now new h way empty fewer head.appended after check
-
-      -- its checkpoint could not be put
-      pub save_failed : (after : Option (List ℕ)) (pause : Option ℕ) (fault : RunFault) → (tells ≡ true → Saves {T = Finish} s new h held after (Err fault)) → HasRun s most pause old now tells before after (Err fault)
-      save_failed after pause fault saves =
-          let part = way_part round_way now new h way in
-          let output = head.base ++ way.lines.written in
-          let went = round_went now part in
-          record {
-            output = output;
-            is_output = record { appended = went.appended; front = went.front; finishes = tt };
-            left = λ told.
-                ⊎_elim
-                (λ same. subst (λ x. LeavesName s most pause before x (Err fault) output) (sym same)
-                (left_name s most pause before held head.base way.lines.written output head.since (Err fault) refl (round_of now part) (head.kept told) (head.put told) tt))
-                (λ check.
-                let puts = put_all after check in
-                record { held = inr puts; first = λ one worked. puts; idle = λ later none. absurd (none round_work); finish = tt })
-                (saves told);
-          }
-        where
-          put_all : (after : Option (List ℕ)) → HoldsCheckAt s new h after → PutsCheck s most after (head.base ++ way.lines.written)
-          put_all after check =
-              let put = check_of after check in
-              let lines = lines_between round_way now new h way.members check.is_check.check.at way.emitted.from way.emitted.held way.lines empty check.is_check.stands in
-              puts_here s most after (head.base ++ way.lines.written) new.count put.check put.put (subst (λ p. AreLinesBetween s.portion s.at p s.lines new.count (head.base ++ way.lines.written)) (sym put.at_is) lines)
-
-      pub head_after : (after : Option (List ℕ)) → (tells ≡ true → HoldsCheckAt s new h after) → IsHead s tells old before after now new h
-      head_after after saves =
-          let at = stands_somewhere h.from h.entries in
-          head_next round_way old now new h way empty fewer head.appended tells before after at.0 at.1
-          (λ told.
-          let check = saves told in
-          subst (IsKeptPut s after (head.base ++ way.lines.written)) (stands_once h.from check.is_check.check.at at.0 h.entries check.is_check.stands at.1) (check_of after check))
-          ready
-
-    -- it came to the last line
-    module _ (now : Option (List ℕ)) (new : Page) (h : Machine) (limit : Limit) (full : IsFull round_way now new limit.last h) (empty : IsEmpty new) (pause : Option ℕ) (is : IsLimit s.lines pause limit) where
-      abbrev full_output : List ℕ
-      full_output = head.base ++ full.lines.written
-
-      abbrev full_part_out : IsPartOut round_way now
-      full_part_out = full_part round_way now new limit.last h full
-
-      put_full : (after : Option (List ℕ)) (check : HoldsCheckAt s new h after) → IsPut after full_output s check.is_check.check × PutsCheck s most after full_output
-      put_full after check =
-          let at = check.is_check.check.at in
-          let lines = lines_between round_way now new h full.members at full.from full.held full.lines empty check.is_check.stands in
-          let put = check_put s new h after full_output check full.lines.bytes lines (next_stop_at at (stands_once h.from (at_symbol full.next) at h.entries full.stands check.is_check.stands)) in
-          (put, puts_here s most after full_output new.count check.is_check.check put lines)
-        where
-          next_stop_at : (p : Position) → at_symbol full.next ≡ p → IsStop s.portion p
-          next_stop_at p same = subst (IsStop s.portion) same (inr (record { next = full.next; member = full.member; job_is = refl }))
-
-      pub full_ended : (after : Option (List ℕ)) (result : Result Finish RunFault) → IfOk result (λ finish. finish ≡ (if limit.pauses then Paused else CutShort))
-          → (tells ≡ true → MatchBool limit.pauses (Saves s new h held after result) (after ≡ held)) → HasRun s most pause old now tells before after result
-      full_ended after result finish saves =
-          let went = round_went now full_part_out in
-          record {
-            output = full_output;
-            is_output = record { appended = went.appended; front = went.front; finishes = finishes result finish };
-            left = λ told. leaves limit.pauses is result finish (saves told) (head.kept told) (head.put told);
-          }
-        where
-          finishes : (r : Result Finish RunFault) → IfOk r (λ finish. finish ≡ (if limit.pauses then Paused else CutShort)) → IfOk r (Finishes s pause full_output)
-          finishes (Ok end) same = subst (Finishes s pause full_output) (sym same) (finish_full s pause limit full_output is (full_lines round_way now new limit.last h full empty))
-          finishes (Err fault) same = tt
-
-          same_name : (r : Result Finish RunFault) → IfOk r (FinishesName s pause before held full_output) → after ≡ held → IsKept s before held head.base head.since → (s.number ≡ 1 → IsKeptPut s held head.base head.since)
-              → LeavesName s most pause before after r full_output
-          same_name r does same kept put =
-              subst (λ x. LeavesName s most pause before x r full_output) (sym same)
-              (left_name s most pause before held head.base full.lines.written full_output head.since r refl (round_of now full_part_out) kept put does)
-
-          between : IsKept s before held head.base head.since → (held ≡ before) ⊎ PutsBetween s held full_output
-          between =
-              ⊎_elim
-              (λ same. inl same.0)
-              (λ put. inr (record { check = put.check; put = more_put s held head.base full.lines.written full_output put.check refl put.all put.put; stop = put.stop }))
-
-          paused : IsPause s.lines pause limit.last → (check : HoldsCheckAt s new h after) → PutsAtPause s pause after full_output
-          paused p check = record {
-            check = check.is_check.check;
-            put = (put_full after check).0;
-            pause_is = subst (IsPause s.lines pause) (sym (check.is_check.lines ∙ full.count)) p;
-            all = check.is_check.bytes ∙ full.lines.bytes;
-            next = subst (IsNextMember s.portion) (stands_once h.from (at_symbol full.next) check.is_check.check.at h.entries full.stands check.is_check.stands) (record { next = full.next; member = full.member; job_is = refl });
-          }
-
-          leaves : (b : Bool) → MatchBool b (IsPause s.lines pause limit.last) (IsBeforePause s.lines pause limit.last) → (r : Result Finish RunFault) → IfOk r (λ finish. finish ≡ (if b then Paused else CutShort))
-              → MatchBool b (Saves s new h held after r) (after ≡ held) → IsKept s before held head.base head.since → (s.number ≡ 1 → IsKeptPut s held head.base head.since) → LeavesName s most pause before after r full_output
-          leaves true p (Ok end) same check kept put =
-              let puts = (put_full after check).1 in
-              record { held = inr puts; first = λ one worked. puts; idle = λ later none. absurd (none round_work); finish = subst (FinishesName s pause before after full_output) (sym same) (paused p check) }
-          leaves true p (Err fault) same saves kept put =
-              ⊎_elim
-              (λ is. same_name (Err fault) tt is kept put)
-              (λ check. let puts = (put_full after check).1 in record { held = inr puts; first = λ one worked. puts; idle = λ later none. absurd (none round_work); finish = tt })
-              saves
-          leaves false p (Ok end) same is kept put = same_name (Ok end) (subst (FinishesName s pause before held full_output) (sym same) (between kept)) is kept put
-          leaves false p (Err fault) same is kept put = same_name (Err fault) tt is kept put
+          at_it s.at begun.starting.work
+          (λ told. record {
+            told = [];
+            more = [];
+            parts = refl;
+            at = s.at;
+            kept = inl (record { same = ⊎_elim (λ one. absurd (later one.0)) (λ other. other.1) (saves told); none = refl; at_start = refl; later = later });
+            rounds = none_shown s most s.at;
+            is_here = λ stays. refl;
+            all_told = λ stays. refl;
+          })
+          (λ none. inl refl)

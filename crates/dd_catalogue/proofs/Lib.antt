@@ -1,6 +1,13 @@
 pub mod RoundEntries
 pub mod JobsFrom
+pub mod Working
+pub mod Splits
+pub mod Weights
 pub mod WaySteps
+pub mod PlainRuns
+pub mod Members
 pub mod FirstLists
 pub mod Outcomes
 pub mod KeptRuns
+pub mod NextMembers
+pub mod KeptGroups

@@ -1,5 +1,5 @@
 -- What a run has written.
-use Rattle.std.proofs.Common.{◌≡◌, ◌⊎◌, ℕ, ◌≤◌, List, [], ◌++◌, Bool, true, false, MatchBool, Option, length, length-append, take, inl, inr, ⊎_elim, refl, sym, ap, ◌∙◌, subst, arith, append_assoc}
+use Rattle.std.proofs.Common.{◌≡◌, ◌⊎◌, ℕ, ◌≤◌, List, [], ◌++◌, Bool, true, false, MatchBool, Option, length, length-append, inl, inr, ⊎_elim, refl, sym, ap, ◌∙◌, subst, arith, append_assoc}
 use Rattle.std.proofs.lemmas.List.{append-nil}
 use Rattle.std.specs.Io.KnownBytes.{Appends}
 use Rattle.std.specs.List.{Contains}
@@ -33,28 +33,29 @@ use Rattle.dd_check.specs.ChainStarts.{Start}
 use Rattle.dd_check.proofs.ChainRests.{text_is_rest}
 use Rattle.dd_pages.specs.Pages.{HasLines, IsEmpty, IsFrontOut}
 use Rattle.dd_pages.proofs.PageLemmas.{all_written}
-use Rattle.dd_pages.specs.Rounds.{AreJobsFrom, AreOpen, IsRoundDone}
-use Rattle.dd_catalogue.specs.Ways.{Way, IsUnderWay, IsFull, IsPartOut}
+use Rattle.dd_catalogue.specs.Ways.{Way, IsFull}
+use Rattle.dd_catalogue.specs.Outs.{IsPartOut}
 use Rattle.dd_pages.specs.Runs.{IsPause, IsBeforePause, IsLimit, WritesRest, WritesUpTo, Finishes}
 use Rattle.dd_pages.specs.Outputs.{IsShown}
 use Rattle.dd_pages.specs.declared.finish.Finish.TheVariants.{Paused, CutShort}
 use Rattle.dd_pages.specs.declared.limit.Limit.{Limit}
 use Rattle.dd_pages.specs.declared.pages.Page.{Page}
-use Rattle.dd_catalogue.proofs.JobsFrom.{from_covers, from_member}
-use Rattle.dd_catalogue.proofs.WaySteps.{way_round}
+use Rattle.dd_catalogue.specs.Works.{AreWork, CoverRest}
+use Rattle.dd_catalogue.proofs.Working.{work_member}
 
 -- ## What a machine has emitted
 
 -- It is the members between the start and where the machine stands.
-pub held_between : (q : Portion) (at p : Position) (jobs : List Job) (f : Machine) (out : List Symbol) → AreJobsFrom q at jobs → IsHeld q.request jobs at f out → StandsAt f.from f.entries p → AreMembersBetween q at p out
-held_between q at p jobs f out from held stands =
+pub held_between : (q : Portion) (at p : Position) (jobs : List Job) (f : Machine) (out : List Symbol) → AreWork q at jobs → CoverRest q at jobs → IsHeld q.request jobs at f out → StandsAt f.from f.entries p
+    → AreMembersBetween q at p out
+held_between q at p jobs f out work covers held stands =
     let covered = held_covered q.request jobs at f out held in
     let same : covered.stands ≡ p = stands_once f.from covered.stands p f.entries covered.stands_at stands in
     record {
       ascending = covered.ascending;
       members = λ s. (
-        (λ there. let between = (covered.emitted s).0 there in record { member = from_member q at jobs s from between.from.under; later = between.from.later; earlier = subst (λ z. IsBefore z s) same between.before }),
-        (λ is. (covered.emitted s).1 (record { from = record { under = from_covers q at jobs s from is.member is.later; later = is.later }; before = subst (λ z. IsBefore z s) (sym same) is.earlier })),
+        (λ there. let between = (covered.emitted s).0 there in record { member = work_member q at jobs s work between.from.under; later = between.from.later; earlier = subst (λ z. IsBefore z s) same between.before }),
+        (λ is. (covered.emitted s).1 (record { from = record { under = covers s is.member is.later; later = is.later }; before = subst (λ z. IsBefore z s) (sym same) is.earlier })),
       );
     }
 
@@ -83,14 +84,6 @@ text_begins k shown later more ts output rest text parts lines all =
     let split = split_lines k shown (later ++ more) text (subst (λ us. AreLines k us text) (parts ∙ append_assoc shown later more) all) in
     let same : split.0 ≡ output ++ rest = lines_unique k shown split.0 (output ++ rest) split.2 lines in
     (rest ++ split.1, split.4 ∙ ap (λ xs. xs ++ split.1) same ∙ append_assoc output rest split.1)
-
--- Each round begins where the machine stands.
-pub next_round : (w : Way) (most : ℕ) (now : Option (List ℕ)) (page : Page) (f g : Machine) → IsRoundDone most f g → AreOpen f.entries → IsUnderWay w now page f
-    → (p : Position) × IsUnderWay (record { start = w.start; jobs = w.jobs; base = w.base; known = w.known; since = p; round = take most (jobs_of f.entries) }) now page g
-next_round w most now page f g round opens way =
-    let at = stands_somewhere f.from f.entries in
-    let between = held_between w.start.portion w.start.at at.0 w.jobs f way.members way.emitted.from way.emitted.held at.1 in
-    (at.0, way_round w most now page f g at.0 round opens way (λ s there. ((between.members s).0 there).earlier))
 
 -- ## What went out
 
@@ -129,7 +122,7 @@ went_out w old now part before = record {
     p = where_it.0
 
     between : AreMembersBetween w.start.portion w.start.at p part.members
-    between = held_between w.start.portion w.start.at p w.jobs part.machine part.members part.from part.held where_it.1
+    between = held_between w.start.portion w.start.at p w.jobs part.machine part.members part.work part.covers part.held where_it.1
 
     among : (m : Symbol) → IsPortionMember w.start.portion m → (¬ IsBefore w.start.at m) → IsShown w.start (w.base ++ part.out.written) m → Contains part.members m
     among m member later is =
@@ -148,12 +141,12 @@ went_out w old now part before = record {
         (before_or_not p m)
 
 -- where nothing is collected, what was written are the lines up to where the machine stands
-pub lines_between : (w : Way) (now : Option (List ℕ)) (page : Page) (f : Machine) (members : List Symbol) (p : Position) → AreJobsFrom w.start.portion w.start.at w.jobs
+pub lines_between : (w : Way) (now : Option (List ℕ)) (page : Page) (f : Machine) (members : List Symbol) (p : Position) → AreWork w.start.portion w.start.at w.jobs → CoverRest w.start.portion w.start.at w.jobs
     → IsHeld w.start.portion.request w.jobs w.start.at f members → (has : HasLines w.start.lines w.base w.known now page members) → IsEmpty page → StandsAt f.from f.entries p
     → AreLinesBetween w.start.portion w.start.at p w.start.lines page.count (w.base ++ has.written)
-lines_between w now page f members p from held has empty stands = record {
+lines_between w now page f members p work covers held has empty stands = record {
   members = members;
-  between = held_between w.start.portion w.start.at p w.jobs f members from held stands;
+  between = held_between w.start.portion w.start.at p w.jobs f members work covers held stands;
   no_earlier = held_no_earlier w.start.portion w.start.at p w.jobs f members held stands;
   count = has.count;
   lines = all_written w.start.lines w.base w.known now page members empty has;
@@ -210,7 +203,7 @@ pub full_lines : (w : Way) (now : Option (List ℕ)) (page : Page) (last : ℕ) 
 full_lines w now page last f full empty = record {
   at = at_symbol full.next;
   written = subst (λ n. AreLinesBetween w.start.portion w.start.at (at_symbol full.next) w.start.lines n (w.base ++ full.lines.written)) full.count
-      (lines_between w now page f full.members (at_symbol full.next) full.from full.held full.lines empty full.stands);
+      (lines_between w now page f full.members (at_symbol full.next) full.work full.covers full.held full.lines empty full.stands);
   next = record { next = full.next; member = full.member; job_is = refl };
 }
 

@@ -1,6 +1,6 @@
 -- The entries of a front over a round.
-use Rattle.std.proofs.Common.{◌≡◌, ℕ, zero, suc, ◌+◌, ◌<◌, ◌≤◌, List, [], ◌∷◌, ◌++◌, length, take, drop, inl, inr, ⊎_elim, refl, sym, ap, ◌∙◌, subst, arith}
-use Rattle.std.proofs.lemmas.List.{map-append, take-append-drop, length-take, take-map}
+use Rattle.std.proofs.Common.{◌≡◌, ℕ, zero, suc, ◌+◌, ◌≤◌, List, [], ◌∷◌, ◌++◌, length, take, drop, inl, inr, ⊎_elim, refl, sym, ap, ◌∙◌, subst, arith}
+use Rattle.std.proofs.lemmas.List.{drop-map, map-append, take-append-drop, length-take, take-map}
 use Rattle.std.proofs.lemmas.List.Elements.{Contains-append_cases}
 use Rattle.std.specs.List.{AllByRecursion, Contains}
 use Rattle.dd_model.specs.Symbol.{Symbol}
@@ -56,7 +56,7 @@ done_then : (done back : List Entry) → AllByRecursion (λ e. IsDone e.state) d
 done_then [] back all opens = open_all back opens
 done_then (e ∷ es) back all opens = inl (all.0, done_then es back all.1 opens)
 
-opens_back : (k : ℕ) (es : List Entry) → AreOpen es → AreOpen (drop k es)
+pub opens_back : (k : ℕ) (es : List Entry) → AreOpen es → AreOpen (drop k es)
 opens_back k es opens = all_back (λ (e : Entry). e.state ≡ Open) (take k es) (drop k es) (subst AreOpen (sym (take-append-drop k es)) opens)
 
 pub round_entries : (most : ℕ) (f g : Machine) → IsRoundDone most f g → AreOpen f.entries → AreDoneThenOpen g.entries
@@ -74,32 +74,52 @@ round_jobs most f g round =
     ∙ ap (λ js. js ++ jobs_of (drop k f.entries)) (absorbed_jobs (take k f.entries) round.found done round.absorbs.absorbed)
     ∙ sym (map-append job (take k f.entries) (drop k f.entries)) ∙ ap jobs_of (take-append-drop k f.entries)
 
-left_below : {A : Type 0} (k : ℕ) (xs : List A) → length (drop k xs) < suc (length xs)
-left_below zero xs = omega arith
-left_below (suc k) [] = omega arith
-left_below (suc k) (x ∷ xs) = let rest = left_below k xs in omega (arith, rest)
-
-fewer_left : {A : Type 0} (k : ℕ) (xs : List A) → 1 ≤ k → k ≤ length xs → length (drop k xs) < length xs
-fewer_left zero xs some enough = absurd (omega (arith, some))
-fewer_left (suc k) [] some enough = absurd (omega (arith, enough))
-fewer_left (suc k) (x ∷ xs) some enough = left_below k xs
-
-length_jobs : (es : List Entry) → length (jobs_of es) ≡ length es
+pub length_jobs : (es : List Entry) → length (jobs_of es) ≡ length es
 length_jobs [] = refl
 length_jobs (e ∷ es) = ap suc (length_jobs es)
 
--- fewer jobs wait after a round
-pub fewer_wait : (most : ℕ) (f g : Machine) → IsRoundDone most f g → AreOpen f.entries → length (open_jobs g.entries) < length (open_jobs f.entries)
-fewer_wait most f g round opens =
+-- the jobs that wait after a round
+pub after_round : (most : ℕ) (f g : Machine) (round : IsRoundDone most f g) → AreOpen f.entries → open_jobs g.entries ≡ drop round.count (jobs_of f.entries)
+after_round most f g round opens =
     let k = round.count in
     let done = round.absorbs.done in
     let back = drop k f.entries in
-    let after : open_jobs g.entries ≡ jobs_of back =
-    ap (λ (m : Machine). open_jobs m.entries) round.absorbs.after ∙ none_waits done back (absorbed_done (take k f.entries) round.found done round.absorbs.absorbed) ∙ waiting_all back (opens_back k f.entries opens) in
-    let long = ap length after ∙ length_jobs back in
-    let all = ap length (waiting_all f.entries opens) ∙ length_jobs f.entries in
-    let fewer = fewer_left k f.entries round.some round.may.enough in
-    omega (arith, long, all, fewer)
+    ap (λ (m : Machine). open_jobs m.entries) round.absorbs.after ∙ none_waits done back (absorbed_done (take k f.entries) round.found done round.absorbs.absorbed) ∙ waiting_all back (opens_back k f.entries opens)
+    ∙ sym (drop-map (λ (e : Entry). e.job) k f.entries)
+
+-- ## How many may be done
+
+-- without the first entry, those behind so many are still open
+pub open_behind : (m : ℕ) (e : Entry) (es : List Entry) → AreOpen (drop m (e ∷ es)) → AreOpen (drop m es)
+open_behind zero e [] opens = tt
+open_behind zero e (x ∷ xs) opens = opens.1
+open_behind (suc m) e [] opens = tt
+open_behind (suc m) e (x ∷ xs) opens = open_behind m x xs opens
+
+-- where there are no more entries
+pub none_behind : (m : ℕ) (es : List Entry) → length es ≤ m → AreOpen (drop m es)
+none_behind zero [] low = tt
+none_behind zero (e ∷ es) low = absurd (omega (arith, low))
+none_behind (suc m) [] low = tt
+none_behind (suc m) (e ∷ es) low = none_behind m es (omega (arith, low))
+
+behind_done : (m : ℕ) (done back : List Entry) → length done ≤ m → AreOpen back → AreOpen (drop m (done ++ back))
+behind_done m [] back low opens = opens_back m back opens
+behind_done zero (e ∷ es) back low opens = absurd (omega (arith, low))
+behind_done (suc m) (e ∷ es) back low opens = behind_done m es back (omega (arith, low)) opens
+
+-- behind the entries of a round all are open
+pub round_behind : (most m : ℕ) (f g : Machine) → IsRoundDone most f g → AreOpen f.entries → most ≤ m → AreOpen (drop m g.entries)
+round_behind most m f g round opens low =
+    let k = round.count in
+    let done = round.absorbs.done in
+    let after : g.entries ≡ done ++ drop k f.entries = ap (λ (m : Machine). m.entries) round.absorbs.after in
+    let long = ap length (absorbed_jobs (take k f.entries) round.found done round.absorbs.absorbed) in
+    let one = length_jobs done in
+    let two = length_jobs (take k f.entries) in
+    let size = length-take k f.entries in
+    let few = round.few in
+    subst (λ es. AreOpen (drop m es)) (sym after) (behind_done m done (drop k f.entries) (omega (arith, long, one, two, size, few, low)) (opens_back k f.entries opens))
 
 -- ## What goes into a round
 
@@ -153,6 +173,21 @@ none_taken (suc most) (e ∷ es) jobs some opens is none =
     let taken = ap length (taken_jobs (suc most) (e ∷ es) jobs opens is) in
     absurd (omega (arith, taken, none))
 
+-- where those behind so many are open, one that is done is among so many
+pub done_early : (m : ℕ) (es : List Entry) (e : Entry) → AreOpen (drop m es) → Contains es e → IsDone e.state → Contains (take m (jobs_of es)) e.job
+done_early m [] e opens there done = absurd (Contains-none e there)
+done_early zero (d ∷ ds) e opens there done = absurd (never e.state (each_of (λ (x : Entry). x.state ≡ Open) (d ∷ ds) e opens there) done)
+  where
+    never : (state : State) → state ≡ Open → IsDone state → ⊥
+    never Open is none = none
+    never Out is none = none
+    never (Done list) is here = cc
+done_early (suc m) (d ∷ ds) e opens there done =
+    ⊎_elim
+    (λ first. subst (λ (x : Entry). Contains (d.job ∷ take m (jobs_of ds)) x.job) first (Contains-head d.job (take m (jobs_of ds))))
+    (λ later. Contains-later d.job e.job (take m (jobs_of ds)) (done_early m ds e opens later done))
+    (Contains-cases d e ds there)
+
 -- ## At the front
 
 -- where the first entry is not done, all are open
@@ -170,18 +205,27 @@ rest_open f are none = go f.entries refl are
 
 -- ## The jobs of a round
 
-take_within : {A : Type 0} (k most : ℕ) (xs : List A) (x : A) → k ≤ most → Contains (take k xs) x → Contains (take most xs) x
-take_within zero most xs x low there = absurd (Contains-none x (subst (λ ys. Contains ys x) (take_none xs) there))
-  where
-    take_none : {A : Type 0} (ys : List A) → take 0 ys ≡ []
-    take_none [] = refl
-    take_none (y ∷ ys) = refl
+pub take_nothing : {A : Type 0} (ys : List A) → take 0 ys ≡ []
+take_nothing [] = refl
+take_nothing (y ∷ ys) = refl
+
+pub take_within : {A : Type 0} (k most : ℕ) (xs : List A) (x : A) → k ≤ most → Contains (take k xs) x → Contains (take most xs) x
+take_within zero most xs x low there = absurd (Contains-none x (subst (λ ys. Contains ys x) (take_nothing xs) there))
 take_within (suc k) most [] x low there = absurd (Contains-none x there)
 take_within (suc k) zero (y ∷ ys) x low there = absurd (omega (arith, low))
 take_within (suc k) (suc most) (y ∷ ys) x low there =
     ⊎_elim
     (λ first. subst (λ z. Contains (y ∷ take most ys) z) first (Contains-head y (take most ys)))
     (λ later. Contains-later y x (take most ys) (take_within k most ys x (omega (arith, low)) later))
+    (Contains-cases y x (take k ys) there)
+
+pub take_inside : {A : Type 0} (k : ℕ) (xs : List A) (x : A) → Contains (take k xs) x → Contains xs x
+take_inside zero xs x there = absurd (Contains-none x (subst (λ ys. Contains ys x) (take_nothing xs) there))
+take_inside (suc k) [] x there = absurd (Contains-none x there)
+take_inside (suc k) (y ∷ ys) x there =
+    ⊎_elim
+    (λ first. subst (λ z. Contains (y ∷ ys) z) first (Contains-head y ys))
+    (λ later. Contains-later y x ys (take_inside k ys x later))
     (Contains-cases y x (take k ys) there)
 
 -- an entry that a round made done is one of its jobs

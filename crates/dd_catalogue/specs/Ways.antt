@@ -1,8 +1,8 @@
 -- A run of a catalogue under way.
-use Rattle.std.specs.Prelude.{◌≡◌, ◌⊎◌, ℕ, List, ◌++◌, Option}
-use Rattle.std.specs.List.{Contains}
+use Rattle.std.specs.Prelude.{◌≡◌, ◌⊎◌, ℕ, List, ◌++◌, Option, drop}
+use Rattle.std.specs.List.{AllByRecursion, Contains}
 use Rattle.dd_model.specs.Symbol.{Symbol}
-use Rattle.dd_model.specs.Position.{IsBefore}
+use Rattle.dd_model.specs.Position.{IsBefore, IsWhollyBefore}
 use Rattle.dd_model.specs.Joined.{IsUnderOne}
 use Rattle.dd_jobs.specs.Portions.{IsPortionMember}
 use Rattle.dd_model.specs.declared.jobs.Job.{Job}
@@ -14,9 +14,11 @@ use Rattle.dd_front.specs.Machine.{Machine, StandsAt, jobs_of}
 use Rattle.dd_front.specs.Rounds.{open_jobs}
 use Rattle.dd_front.specs.Step.{at_symbol}
 use Rattle.dd_check.specs.ChainStarts.{Start}
-use Rattle.dd_pages.specs.Pages.{HasLines, IsFrontOut}
+use Rattle.dd_pages.specs.Pages.{HasLines}
 use Rattle.dd_pages.specs.declared.pages.Page.{Page}
-use Rattle.dd_pages.specs.Rounds.{AreJobsFrom, AreDoneThenOpen}
+use Rattle.dd_pages.specs.Rounds.{AreOpen, AreDoneThenOpen}
+use Rattle.dd_board.specs.Desk.{AreJobsOf}
+use Rattle.dd_catalogue.specs.Works.{AreWork, CoverRest, IsPartOfOne}
 
 -- A run under way: where it began, and its jobs; what it had written when the round began, what the sink held then, where
 -- the run stood, and the jobs of the round.
@@ -25,25 +27,31 @@ pub record Way : Type 0 where
   pub jobs : List Job
   pub base : List ℕ
   pub known : Option (List ℕ)
+  pub from : Position
   pub since : Position
+  pub ahead : List Job
+  pub most : ℕ
   pub round : List Job
 
 -- Each member that was emitted is before the beginning of the round, or under one of its jobs.
 abbrev pub AreRecent : Way → List Symbol → Type 0
 AreRecent w ss = (s : Symbol) → Contains ss s → IsBefore w.since s ⊎ IsUnderOne w.start.portion.request w.round s
 
--- the entries that are done are those of the round
+-- the entries that are done are parts of jobs of the round
 abbrev pub AreOfRound : Way → List Entry → Type 0
-AreOfRound w es = (e : Entry) → Contains es e → IsDone e.state → Contains w.round e.job
+AreOfRound w es = (e : Entry) → Contains es e → IsDone e.state → IsPartOfOne w.round e.job
 
 -- the machine has emitted these members since the start
 pub record HasEmitted (w : Way) (f : Machine) (members : List Symbol) : Type 0 where
-  pub from : AreJobsFrom w.start.portion w.start.at w.jobs
+  pub work : AreWork w.start.portion w.start.at w.jobs
+  pub covers : CoverRest w.start.portion w.start.at w.jobs
   pub opened : f.opened ≡ w.start.lines
-  pub stays : f.from ≡ w.start.at
+  pub stays : f.from ≡ w.from
+  pub all : AreJobsOf w.start.portion.request w.ahead
   pub gone : List Job
-  pub jobs_are : w.jobs ≡ gone ++ jobs_of f.entries
+  pub jobs_are : w.ahead ≡ gone ++ jobs_of f.entries
   pub entries_are : AreDoneThenOpen f.entries
+  pub few : AreOpen (drop w.most f.entries)
   pub held : IsHeld w.start.portion.request w.jobs w.start.at f members
   pub recent : AreRecent w members
   pub of_round : AreOfRound w f.entries
@@ -66,7 +74,8 @@ pub record GoesOn (before now : Option (List ℕ)) (old new : Page) (f g : Machi
 -- the machine has emitted the members up to a last line, and stands at one more
 pub record IsFull (w : Way) (now : Option (List ℕ)) (page : Page) (last : ℕ) (g : Machine) : Type 0 where
   pub members : List Symbol
-  pub from : AreJobsFrom w.start.portion w.start.at w.jobs
+  pub work : AreWork w.start.portion w.start.at w.jobs
+  pub covers : CoverRest w.start.portion w.start.at w.jobs
   pub held : IsHeld w.start.portion.request w.jobs w.start.at g members
   pub lines : HasLines w.start.lines w.base w.known now page members
   pub recent : AreRecent w members
@@ -74,25 +83,9 @@ pub record IsFull (w : Way) (now : Option (List ℕ)) (page : Page) (last : ℕ)
   pub next : Symbol
   pub member : IsPortionMember w.start.portion next
   pub stands : StandsAt g.from g.entries (at_symbol next)
+  pub emitted : HasEmitted (record w { from = at_symbol next }) g members
+  pub later : AllByRecursion (λ j. ¬ IsWhollyBefore (at_symbol next) j) (jobs_of g.entries)
 
 -- Whatever was under way comes to its last line.
 abbrev pub FillsUp : Option (List ℕ) → Option (List ℕ) → Page → Page → ℕ → Machine → Machine → Type 0
 FillsUp before now old new last f g = (w : Way) → IsUnderWay w before old f → IsFull w now new last g
-
--- what went out since the start is a front of the lines of what a machine has emitted
-pub record IsPartOut (w : Way) (now : Option (List ℕ)) : Type 0 where
-  pub machine : Machine
-  pub members : List Symbol
-  pub from : AreJobsFrom w.start.portion w.start.at w.jobs
-  pub held : IsHeld w.start.portion.request w.jobs w.start.at machine members
-  pub recent : AreRecent w members
-  pub out : IsFrontOut w.start.lines w.base w.known now members
-
--- Whatever was under way has such a front written.
-abbrev pub WritesPart : Option (List ℕ) → Option (List ℕ) → Page → Machine → Type 0
-WritesPart before now old f = (w : Way) → IsUnderWay w before old f → IsPartOut w now
-
--- some run is under way
-pub record IsAny (now : Option (List ℕ)) (page : Page) (f : Machine) : Type 0 where
-  pub any : Way
-  pub way : IsUnderWay any now page f

@@ -5,7 +5,7 @@ ghost use Rattle.dd_ports.specs.declared.sink.SinkFault.TheVariants.{Failed};
 ghost use Rattle.dd_ports.specs.Causes.{HasCause, StaysSure};
 ghost use Rattle.dd_pages.specs.Runs.{start_of};
 ghost use Rattle.dd_pages.specs.Pages.{IsEmpty};
-ghost use Rattle.dd_pages.specs.Rounds.{IsBegun};
+ghost use Rattle.dd_catalogue.specs.Works.{IsStarted};
 ghost use Rattle.dd_pages.specs.Outputs.{IsOutput};
 
 use crate::emission::write_done;
@@ -41,7 +41,7 @@ pub fn write_catalogue<R: Threads + Wait + Sync, F: Finder + Sync, G: Gate + Syn
     ensures sure { O.sure out.old ≡ true
         → StaysSure Failed (O.faults out.old) (O.faults out.new) (O.sure out.new) result }
 {
-    let Ok(mut front) = front_of(alloc, run) else {
+    let Ok(mut front) = front_of(alloc, finder, run) else {
         return Err(SinkFault::Memory);
     };
     let mut page = Page::new(alloc, run.lines);
@@ -64,7 +64,7 @@ fn write_rounds<R: Threads + Wait + Sync, F: Finder + Sync, G: Gate + Sync, O: S
     requires lines { run.now.lines ≤ 1000000000000000000 }
     requires workers { (1 ≤ run.now.pace.workers) × (run.now.pace.workers ≤ 64) }
     requires round { 1 ≤ run.now.pace.round }
-    requires begun { IsBegun (start_of run.now) front.old }
+    requires begun { IsStarted (start_of run.now) front.old }
     requires empty { IsEmpty page.old }
     requires count { page.old.count ≡ run.now.lines }
     requires bytes { page.old.bytes ≡ 0 }

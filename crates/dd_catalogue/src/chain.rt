@@ -1,4 +1,4 @@
-ghost use Rattle.std.specs.Prelude.{◌≡◌, ◌≤◌, if◌then◌else◌, IfOk, OnOk, MatchBool, true};
+ghost use Rattle.std.specs.Prelude.{◌≡◌, ◌≤◌, ◌<◌, ℕ, Bool, List, Option, if◌then◌else◌, IfOk, OnOk, MatchBool, MatchOption, true, false};
 ghost use Rattle.std.specs.Bool.{OnTrue, OnFalse};
 ghost use Rattle.dd_model.specs.Request.{IsValid};
 ghost use Rattle.dd_model.specs.Position.{IsPosition};
@@ -6,16 +6,26 @@ ghost use Rattle.dd_ports.specs.declared.sink.SinkFault.TheVariants.{Failed};
 ghost use Rattle.dd_ports.specs.Causes.{HasCause, StaysSure};
 ghost use Rattle.dd_ports.specs.Texts.{SameOthers};
 ghost use Rattle.dd_check.specs.ChainStarts.{first_start};
+ghost use Rattle.dd_check.specs.Clauses.{HasWork};
 ghost use Rattle.dd_pages.specs.declared.fault.RunFault.TheVariants.{Store as StoreFailed, Sink as SinkFailed};
 ghost use Rattle.dd_pages.specs.Pages.{IsEmpty};
-ghost use Rattle.dd_pages.specs.Rounds.{IsBegun, AreOpen};
-ghost use Rattle.dd_catalogue.specs.Ways.{IsAny, GoesOn, FillsUp, WritesPart};
+ghost use Rattle.dd_pages.specs.Rounds.{AreOpen};
+ghost use Rattle.dd_catalogue.specs.Works.{IsStarted};
+ghost use Rattle.dd_catalogue.specs.Ways.{GoesOn, FillsUp};
+ghost use Rattle.dd_catalogue.specs.Outs.{IsAny, WritesPart};
 ghost use Rattle.dd_pages.specs.Runs.{start_of};
 ghost use Rattle.dd_pages.specs.Saves.{Saves};
 ghost use Rattle.dd_pages.specs.Names.{HasRun};
+ghost use Rattle.dd_pages.specs.Runs.{IsLimit};
+ghost use Rattle.dd_pages.specs.Rounds.{AreDoneThenOpen};
+ghost use Rattle.dd_front.specs.Rounds.{open_jobs};
+ghost use Rattle.dd_catalogue.specs.Ways.{Way};
+ghost use Rattle.dd_catalogue.specs.Kept.{IsHead, IsMid};
+ghost use Rattle.dd_catalogue.specs.Steps.{IsSomeMid, IsNextStep, Leaves, LeavesMember, StillWait, IsWithin};
 
-use crate::emission::write_done;
-use crate::rounds::{do_round, front_of};
+use crate::emission::{reach_member, write_done};
+use crate::rounds::{do_kept_round, front_of, stands_at_job};
+use crate::step::Step;
 use dd_front::{Finder, Front};
 use dd_pages::{Finish, Limit, Page, Run, RunFault, save, save_first};
 use dd_ports::{Gate, Sink, SinkFault, Store};
@@ -23,10 +33,14 @@ use std::alloc::Global;
 use std::sync::Wait;
 use std::thread::Threads;
 
+/// After how many lines a checkpoint is put, also in the middle of a round.
+const LINES_A_CHECKPOINT: u64 = 65_536;
+
 /// Writes the lines of a run, and keeps its checkpoint under the name, so that a run that was
-/// stopped can be resumed. It puts the checkpoint after every round and at a pause. The first run
-/// of a chain also puts it before the first line. Neither the workers nor what they choose changes
-/// what is written.
+/// stopped can be resumed. It puts the checkpoint after each round with lines, at a pause and at the
+/// end. A round in the middle of a job is followed by no checkpoint; it is put before the first line
+/// of the next round. The first run of a chain also puts it before the first line. Neither the
+/// workers nor what they choose changes what is written.
 pub fn write_run<R: Threads + Wait + Sync, F: Finder + Sync, G: Gate + Sync, S: Store, O: Sink>(
     rt: &R,
     alloc: Global,
@@ -57,7 +71,7 @@ pub fn write_run<R: Threads + Wait + Sync, F: Finder + Sync, G: Gate + Sync, S: 
     ensures sink_sure { O.sure out.old ≡ true → StaysSure SinkFailed
         (O.faults out.old) (O.faults out.new) (O.sure out.new) result }
 {
-    let Ok(mut front) = front_of(alloc, run) else {
+    let Ok(mut front) = front_of(alloc, finder, run) else {
         return Err(RunFault::Memory);
     };
     let mut page = Page::new(alloc, run.lines);
@@ -66,8 +80,8 @@ pub fn write_run<R: Threads + Wait + Sync, F: Finder + Sync, G: Gate + Sync, S: 
     )
 }
 
-/// Writes the lines of a run from its first round on. It puts the checkpoint after every round and
-/// at a pause. The first run of a chain also puts it before the first line.
+/// Writes the lines of a run from its first round on, and puts its checkpoints. The first run of a
+/// chain also puts one before the first line.
 fn keep_rounds<R: Threads + Wait + Sync, F: Finder + Sync, G: Gate + Sync, S: Store, O: Sink>(
     rt: &R,
     alloc: Global,
@@ -86,7 +100,7 @@ fn keep_rounds<R: Threads + Wait + Sync, F: Finder + Sync, G: Gate + Sync, S: St
     requires first { run.now.number ≡ 1 → start_of run.now ≡ first_start run.now.portion }
     requires workers { (1 ≤ run.now.pace.workers) × (run.now.pace.workers ≤ 64) }
     requires round { 1 ≤ run.now.pace.round }
-    requires begun { IsBegun (start_of run.now) front.old }
+    requires begun { IsStarted (start_of run.now) front.old }
     requires empty { IsEmpty page.old }
     requires count { page.old.count ≡ run.now.lines }
     requires bytes { page.old.bytes ≡ 0 }
@@ -105,16 +119,244 @@ fn keep_rounds<R: Threads + Wait + Sync, F: Finder + Sync, G: Gate + Sync, S: St
 {
     save_first(alloc, run, name, front, page, store)?;
     let limit = run.limit();
-    while let Ok(more) = do_round(rt, alloc, finder, gate, run.pace, front) {
+    let mut is_here = true;
+    while let Ok(more) = do_kept_round(rt, alloc, finder, gate, run.pace, front) {
         if !more {
+            if !is_here {
+                save(alloc, run, name, front, page, store)?;
+            }
             return Ok(Finish::Whole);
         }
-        if !write_round(rt, run.pace.workers, limit.last, front, page, out)? {
-            return end_full(alloc, run, name, limit, front, page, store);
+        match keep_round(
+            rt, alloc, run, name, limit, is_here, front, page, store, out,
+        )? {
+            Step::Next(here) => is_here = here,
+            Step::Ended(finish) => return Ok(finish),
         }
-        save(alloc, run, name, front, page, store)?;
     }
     Err(RunFault::Memory)
+}
+
+/// Writes the lines of a round that is done. If the name does not have the checkpoint of where the
+/// front stands, it is put before the next line. It is put after the last line of the round too, if
+/// the front then stands at a job of the portion or at the end.
+fn keep_round<R: Threads + Sync, S: Store, O: Sink>(
+    rt: &R,
+    alloc: Global,
+    run: &Run,
+    name: &str,
+    limit: Limit,
+    is_here: bool,
+    front: &mut Front,
+    page: &mut Page,
+    store: &mut S,
+    out: &mut O,
+) -> Result<Step, RunFault>
+    requires lines { run.now.lines ≤ 1000000000000000000 }
+    requires limit { IsLimit run.now.lines run.now.pause limit }
+    requires threads { 1 ≤ run.now.pace.workers }
+    requires room { page.old.count ≤ limit.last }
+    requires mid { IsSomeMid (start_of run.now) is_here (O.held out.old) page.old front.old }
+    ensures leaves { (w : Way) (tells : Bool) (before start : Option (List ℕ))
+        → w.start ≡ start_of run.now → (tells ≡ true → S.tells store.old ≡ true)
+        → IsMid w tells is_here start before (S.held store.old name.now)
+        (O.held out.old) page.old front.old → HasWork (start_of run.now)
+        → Leaves (start_of run.now) w.most run.now.pause tells start before
+        (S.held store.new name.now) (O.held out.new) page.new front.new result }
+    ensures waiting { IfOk result (λ step. StillWait step front.old front.new) }
+    ensures room { IfOk result (IsWithin page.new limit.last) }
+    ensures others { S.tells store.old ≡ true → (S.tells store.new ≡ true)
+        × SameOthers name.now (S.held store.old) (S.held store.new) }
+    ensures store_cause { HasCause StoreFailed (S.faults store.old) (S.faults store.new) result }
+    ensures sink_cause { HasCause SinkFailed (O.faults out.old) (O.faults out.new) result }
+    ensures store_sure { S.sure store.old ≡ true → StaysSure StoreFailed
+        (S.faults store.old) (S.faults store.new) (S.sure store.new) result }
+    ensures sink_sure { O.sure out.old ≡ true → StaysSure SinkFailed
+        (O.faults out.old) (O.faults out.new) (O.sure out.new) result }
+{
+    if is_here {
+        return write_kept(rt, alloc, run, name, limit, front, page, store, out);
+    }
+    match keep_member(alloc, run, name, limit, front, page, store)? {
+        Some(step) => Ok(step),
+        None => write_kept(rt, alloc, run, name, limit, front, page, store, out),
+    }
+}
+
+/// Writes the lines of a round that is done, where the name has the checkpoint of where the front
+/// stands. It puts further checkpoints among the lines, and after the last line of the round, if the
+/// front then stands at a job of the portion or at the end.
+fn write_kept<R: Threads + Sync, S: Store, O: Sink>(
+    rt: &R,
+    alloc: Global,
+    run: &Run,
+    name: &str,
+    limit: Limit,
+    front: &mut Front,
+    page: &mut Page,
+    store: &mut S,
+    out: &mut O,
+) -> Result<Step, RunFault>
+    requires lines { run.now.lines ≤ 1000000000000000000 }
+    requires limit { IsLimit run.now.lines run.now.pause limit }
+    requires threads { 1 ≤ run.now.pace.workers }
+    requires room { page.old.count ≤ limit.last }
+    requires mid { IsSomeMid (start_of run.now) true (O.held out.old) page.old front.old }
+    ensures leaves { (w : Way) (tells : Bool) (before start : Option (List ℕ))
+        → w.start ≡ start_of run.now → (tells ≡ true → S.tells store.old ≡ true)
+        → IsMid w tells true start before (S.held store.old name.now)
+        (O.held out.old) page.old front.old → HasWork (start_of run.now)
+        → Leaves (start_of run.now) w.most run.now.pause tells start before
+        (S.held store.new name.now) (O.held out.new) page.new front.new result }
+    ensures waiting { IfOk result (λ step. StillWait step front.old front.new) }
+    ensures room { IfOk result (IsWithin page.new limit.last) }
+    ensures others { S.tells store.old ≡ true → (S.tells store.new ≡ true)
+        × SameOthers name.now (S.held store.old) (S.held store.new) }
+    ensures store_cause { HasCause StoreFailed (S.faults store.old) (S.faults store.new) result }
+    ensures sink_cause { HasCause SinkFailed (O.faults out.old) (O.faults out.new) result }
+    ensures store_sure { S.sure store.old ≡ true → StaysSure StoreFailed
+        (S.faults store.old) (S.faults store.new) (S.sure store.new) result }
+    ensures sink_sure { O.sure out.old ≡ true → StaysSure SinkFailed
+        (O.faults out.old) (O.faults out.new) (O.sure out.new) result }
+{
+    loop {
+        match write_part(rt, alloc, run, name, limit, front, page, store, out)? {
+            Some(step) => return Ok(step),
+            None => {}
+        }
+    }
+}
+
+/// Writes the next lines of a round that is done, where the name has the checkpoint of where the
+/// front stands. If more lines of the round are left, it puts the checkpoint of the next member, and
+/// returns nothing.
+fn write_part<R: Threads + Sync, S: Store, O: Sink>(
+    rt: &R,
+    alloc: Global,
+    run: &Run,
+    name: &str,
+    limit: Limit,
+    front: &mut Front,
+    page: &mut Page,
+    store: &mut S,
+    out: &mut O,
+) -> Result<Option<Step>, RunFault>
+    requires lines { run.now.lines ≤ 1000000000000000000 }
+    requires limit { IsLimit run.now.lines run.now.pause limit }
+    requires threads { 1 ≤ run.now.pace.workers }
+    requires room { page.old.count ≤ limit.last }
+    requires mid { IsSomeMid (start_of run.now) true (O.held out.old) page.old front.old }
+    ensures leaves { (w : Way) (tells : Bool) (before start : Option (List ℕ))
+        → w.start ≡ start_of run.now → (tells ≡ true → S.tells store.old ≡ true)
+        → IsMid w tells true start before (S.held store.old name.now)
+        (O.held out.old) page.old front.old → HasWork (start_of run.now)
+        → LeavesMember w run.now.pause tells start before
+        (S.held store.new name.now) (O.held out.new) page.new front.new result }
+    ensures waiting { IfOk result (λ step. MatchOption step
+        (open_jobs front.new.entries ≡ open_jobs front.old.entries)
+        (λ step. StillWait step front.old front.new)) }
+    ensures room { IfOk result (λ step. MatchOption step
+        ((page.old.count < page.new.count) × (page.new.count ≤ limit.last))
+        (IsWithin page.new limit.last)) }
+    ensures others { S.tells store.old ≡ true → (S.tells store.new ≡ true)
+        × SameOthers name.now (S.held store.old) (S.held store.new) }
+    ensures store_cause { HasCause StoreFailed (S.faults store.old) (S.faults store.new) result }
+    ensures sink_cause { HasCause SinkFailed (O.faults out.old) (O.faults out.new) result }
+    ensures store_sure { S.sure store.old ≡ true → StaysSure StoreFailed
+        (S.faults store.old) (S.faults store.new) (S.sure store.new) result }
+    ensures sink_sure { O.sure out.old ≡ true → StaysSure SinkFailed
+        (O.faults out.old) (O.faults out.new) (O.sure out.new) result }
+{
+    let before = page.count;
+    let last = limit.last.min(before + LINES_A_CHECKPOINT);
+    if !write_round(rt, run.pace.workers, last, front, page, out)? {
+        if last == limit.last {
+            let finish = end_full(alloc, run, name, limit, front, page, store)?;
+            return Ok(Some(Step::Ended(finish)));
+        }
+        save(alloc, run, name, front, page, store)?;
+        return Ok(None);
+    }
+    if page.count == before {
+        return Ok(Some(Step::Next(false)));
+    }
+    let step = keep_place(alloc, run, name, front, page, store)?;
+    Ok(Some(step))
+}
+
+/// Brings the front to the next member of a round that is done, and puts the checkpoint of there.
+/// Returns what follows at once if the round has no member, or if its line may not be written.
+fn keep_member<S: Store>(
+    alloc: Global,
+    run: &Run,
+    name: &str,
+    limit: Limit,
+    front: &mut Front,
+    page: &Page,
+    store: &mut S,
+) -> Result<Option<Step>, RunFault>
+    requires limit { IsLimit run.now.lines run.now.pause limit }
+    requires lines { front.old.lines ≤ 1000000000000000000 }
+    requires room { page.now.count ≤ limit.last }
+    requires done { AreDoneThenOpen front.old.entries }
+    ensures leaves { (w : Way) (tells : Bool) (before start now : Option (List ℕ))
+        → w.start ≡ start_of run.now → (tells ≡ true → S.tells store.old ≡ true)
+        → IsMid w tells false start before (S.held store.old name.now) now page.now front.old
+        → LeavesMember w run.now.pause tells start before
+        (S.held store.new name.now) now page.now front.new result }
+    ensures waiting { OnOk result (open_jobs front.new.entries ≡ open_jobs front.old.entries) }
+    ensures others { S.tells store.old ≡ true → (S.tells store.new ≡ true)
+        × SameOthers name.now (S.held store.old) (S.held store.new) }
+    ensures cause { HasCause StoreFailed (S.faults store.old) (S.faults store.new) result }
+    ensures no_sink { result ≡ Err SinkFailed → ⊥ }
+    ensures sure { S.sure store.old ≡ true → StaysSure StoreFailed
+        (S.faults store.old) (S.faults store.new) (S.sure store.new) result }
+{
+    let Ok(more) = reach_member(front) else {
+        return Err(RunFault::Memory);
+    };
+    if !more {
+        return Ok(Some(Step::Next(false)));
+    }
+    if page.count == limit.last {
+        let finish = end_full(alloc, run, name, limit, front, page, store)?;
+        return Ok(Some(Step::Ended(finish)));
+    }
+    save(alloc, run, name, front, page, store)?;
+    Ok(None)
+}
+
+/// Puts the checkpoint of a run between two rounds, if its front stands at a job of the portion or
+/// at the end.
+fn keep_place<S: Store>(
+    alloc: Global,
+    run: &Run,
+    name: &str,
+    front: &Front,
+    page: &Page,
+    store: &mut S,
+) -> Result<Step, RunFault>
+    ensures leaves { (most : ℕ) (tells : Bool) (before start now : Option (List ℕ))
+        → (tells ≡ true → S.tells store.old ≡ true)
+        → IsHead (start_of run.now) most tells false start before
+        (S.held store.old name.now) now page.now front.now
+        → Leaves (start_of run.now) most run.now.pause tells start before
+        (S.held store.new name.now) now page.now front.now result }
+    ensures next { IfOk result IsNextStep }
+    ensures others { S.tells store.old ≡ true → (S.tells store.new ≡ true)
+        × SameOthers name.now (S.held store.old) (S.held store.new) }
+    ensures cause { HasCause StoreFailed (S.faults store.old) (S.faults store.new) result }
+    ensures no_sink { result ≡ Err SinkFailed → ⊥ }
+    ensures sure { S.sure store.old ≡ true → StaysSure StoreFailed
+        (S.faults store.old) (S.faults store.new) (S.sure store.new) result }
+{
+    let Ok(is_place) = stands_at_job(front) else {
+        return Err(RunFault::Memory);
+    };
+    if is_place {
+        save(alloc, run, name, front, page, store)?;
+    }
+    Ok(Step::Next(is_place))
 }
 
 /// Writes the lines of a round that is done. Where there is a line after the last one that may be
@@ -138,6 +380,7 @@ fn write_round<R: Threads + Sync, O: Sink>(
     ensures empty { OnOk result (IsEmpty page.new) }
     ensures full { IfOk result (λ all. OnFalse all
         (FillsUp (O.held out.old) (O.held out.new) page.old page.new last front.old front.new)) }
+    ensures still { OnOk result (open_jobs front.new.entries ≡ open_jobs front.old.entries) }
     ensures part { WritesPart (O.held out.old) (O.held out.new) page.old front.old }
     ensures cause { HasCause SinkFailed (O.faults out.old) (O.faults out.new) result }
     ensures no_store { result ≡ Err StoreFailed → ⊥ }
@@ -171,6 +414,7 @@ fn write_and_flush<R: Threads + Sync, O: Sink>(
     ensures empty { OnOk result (IsEmpty page.new) }
     ensures full { IfOk result (λ all. OnFalse all
         (FillsUp (O.held out.old) (O.held out.new) page.old page.new last front.old front.new)) }
+    ensures still { OnOk result (open_jobs front.new.entries ≡ open_jobs front.old.entries) }
     ensures part { WritesPart (O.held out.old) (O.held out.new) page.old front.old }
     ensures cause { HasCause Failed (O.faults out.old) (O.faults out.new) result }
     ensures sure { O.sure out.old ≡ true

@@ -1,17 +1,21 @@
-ghost use Rattle.std.specs.Prelude.{◌≡◌, ◌+◌, ◌≤◌, List, IfOk, OnOk, true};
+ghost use Rattle.std.specs.Prelude.{◌≡◌, ◌+◌, ◌≤◌, List, IfOk, OnOk, MatchBool, true};
 ghost use Rattle.std.specs.Bool.{OnTrue, OnFalse};
 ghost use Rattle.dd_ports.specs.declared.sink.SinkFault.TheVariants.{Failed};
 ghost use Rattle.dd_ports.specs.Causes.{HasCause, StaysSure};
 ghost use Rattle.dd_model.specs.Symbol.{Symbol};
 ghost use Rattle.dd_front.specs.declared.event.Event.TheVariants.{Part};
 ghost use Rattle.dd_front.specs.Allowed.{HasFirst, MayPart};
+ghost use Rattle.dd_front.specs.Rounds.{open_jobs};
 ghost use Rattle.dd_front.specs.Room.{HasRoom, HasRoomToEmit};
 ghost use Rattle.dd_front.specs.Step.{Emits, EmitsPart};
-ghost use Rattle.dd_pages.specs.Rounds.{AreOpen};
-ghost use Rattle.dd_catalogue.specs.Ways.{IsAny, GoesOn, FillsUp, WritesPart};
+ghost use Rattle.dd_pages.specs.Rounds.{AreOpen, AreDoneThenOpen};
+ghost use Rattle.dd_catalogue.specs.Steps.{IsAtNext, IsPastEmpty};
+ghost use Rattle.dd_catalogue.specs.Ways.{GoesOn, FillsUp};
+ghost use Rattle.dd_catalogue.specs.Outs.{IsAny, WritesPart};
 
 use crate::rounds::count_at_front;
 use dd_front::{Event, Front, Members};
+use dd_model::Memory;
 use dd_pages::Page;
 use dd_ports::{Sink, SinkFault};
 use std::thread::Threads;
@@ -26,6 +30,24 @@ fn next_list(front: &mut Front) -> Members
         unreachable!()
     };
     members
+}
+
+/// Takes the entries off the front that are done and have no member to emit, and brings the front to
+/// the next member. Returns false if there is none. It fails only if an allocation fails.
+pub fn reach_member(front: &mut Front) -> Result<bool, Memory>
+    requires lines { front.old.lines ≤ 1000000000000000000 }
+    requires done { AreDoneThenOpen front.old.entries }
+    ensures reached { IfOk result (λ more. MatchBool more
+        (IsAtNext front.old front.new) (IsPastEmpty front.old front.new)) }
+{
+    while count_at_front(front).is_some() {
+        if front.allowed(&Event::Part { count: 0 }) {
+            let _ = front.part(0)?;
+            return Ok(true);
+        }
+        let _ = next_list(front);
+    }
+    Ok(false)
 }
 
 /// Emits the entries at the front that are done, and puts their lines, made by `threads` threads,
@@ -49,6 +71,7 @@ pub fn write_done<R: Threads + Sync, O: Sink>(
     ensures room { IfOk result (λ all. OnTrue all (page.new.count ≤ last)) }
     ensures full { IfOk result (λ all. OnFalse all
         (FillsUp (O.held out.old) (O.held out.new) page.old page.new last front.old front.new)) }
+    ensures still { OnOk result (open_jobs front.new.entries ≡ open_jobs front.old.entries) }
     ensures part { WritesPart (O.held out.old) (O.held out.new) page.old front.old }
     ensures cause { HasCause Failed (O.faults out.old) (O.faults out.new) result }
     ensures sure { O.sure out.old ≡ true
@@ -81,6 +104,7 @@ fn write_last<R: Threads + Sync, O: Sink>(
     requires any { IsAny (O.held out.old) page.old front.old }
     ensures full { OnOk result (FillsUp (O.held out.old) (O.held out.new) page.old page.new
         (page.old.count + count) front.old front.new) }
+    ensures still { OnOk result (open_jobs front.new.entries ≡ open_jobs front.old.entries) }
     ensures part { WritesPart (O.held out.old) (O.held out.new) page.old front.old }
     ensures cause { HasCause Failed (O.faults out.old) (O.faults out.new) result }
     ensures sure { O.sure out.old ≡ true

@@ -5,6 +5,11 @@
 //! before it. It opens a front with the opening's jobs that are not wholly before the position.
 //! While one is open, the first `--round` of them go to `run_round`.
 //!
+//! - **Large jobs are done in parts.** A large job at the front becomes its children, and these
+//!   theirs, until the first one is small (`split_large`). A round ends before it has too much under
+//!   it (`few_ahead`). So it holds few members, whatever the request. A run whose position is within
+//!   a large job splits it before its first round, and leaves out the parts that are wholly before
+//!   the position (`parts_from`).
 //! - **Jobs that are not counted.** If several workers are to do a round, and no checkpoint limits
 //!   how far it may be ahead, jobs under which the finder sees that nothing is go along and are not
 //!   counted (`do_long_round`). They are most of the jobs.
@@ -17,8 +22,17 @@
 //!   splitting a job, and a moment longer, and then ends. It ends at once if no job is out.
 //!
 //! The front absorbs what comes back, and emits the entries at its front. Their members go to a
-//! page. Its lines are written if there are enough of them, and after each round if the run keeps a
-//! checkpoint: the checkpoint is put then, so it covers all that went out.
+//! page. Its lines are written if there are enough of them, and after each round if the run keeps
+//! checkpoints.
+//!
+//! **Checkpoints.** A checkpoint may stand at a job of the opening, at the end, or at a member, but
+//! not at a part of a job.
+//!
+//! - It is put after a round with lines, if the run then stands at a job or at the end.
+//! - Else it is put before the next line, at the member of that line. So the members of at most one
+//!   round are beyond it. A round without members puts none.
+//! - It is put after every 65,536 lines of a round, at the next member.
+//! - It is put at the end, and where the run pauses.
 //!
 //! - **With several workers** members wait on the page until it is worth the start of several
 //!   threads to make their lines and to give their memory back. If no checkpoint is kept, they wait
@@ -36,7 +50,10 @@
 mod catalogue;
 mod chain;
 mod emission;
+mod parts;
+mod resuming;
 mod rounds;
+mod step;
 
 pub use catalogue::write_catalogue;
 pub use chain::write_run;

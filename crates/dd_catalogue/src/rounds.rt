@@ -1,16 +1,20 @@
-ghost use Rattle.std.specs.Prelude.{◌≡◌, ◌≤◌, ◌<◌, ◌^◌, ℕ, List, IfOk, OnErr, MatchBool, MatchOption, length};
+ghost use Rattle.std.specs.Prelude.{◌≡◌, ◌≤◌, ◌<◌, ◌^◌, ℕ, List, [], IfOk, IsTrue, OnErr, MatchBool, MatchOption, length};
 ghost use Rattle.dd_model.specs.Request.{IsValid};
 ghost use Rattle.dd_model.specs.Symbol.{Symbol};
-ghost use Rattle.dd_model.specs.Jobs.{AreAscendingJobs, AreApart, IsJobOf};
+ghost use Rattle.dd_model.specs.Jobs.{IsJobOf};
 ghost use Rattle.std.specs.List.{AllByRecursion};
-ghost use Rattle.dd_front.specs.Machine.{jobs_of};
 ghost use Rattle.dd_front.specs.Allowed.{HasFirst};
-ghost use Rattle.dd_board.specs.Desk.{AreJobsOf};
 ghost use Rattle.dd_model.specs.Lists.{IsWithout};
 ghost use Rattle.dd_model.specs.Position.{IsPosition, IsWhollyBefore};
+ghost use Rattle.dd_front.specs.Machine.{StandsAt};
+ghost use Rattle.dd_model.specs.declared.jobs.Position.{Position as Place};
 ghost use Rattle.dd_pages.specs.Runs.{start_of};
-ghost use Rattle.dd_pages.specs.Rounds.{IsBegun, AreOpen, IsRoundDone, IsAtEnd};
+ghost use Rattle.dd_pages.specs.Rounds.{IsRoundDone, IsAtEnd};
+ghost use Rattle.dd_catalogue.specs.Works.{IsStarted, IsLongAsWhole};
+ghost use Rattle.dd_catalogue.specs.Splits.{IsReady, IsGroupDone};
 
+use crate::parts::{split_large, weight_of};
+use crate::resuming::parts_from;
 use dd_front::{Entry, Finder, Front, State};
 use dd_model::{Job, Memory, Position};
 use dd_pages::{Pace, Run};
@@ -28,6 +32,9 @@ const WORKERS_A_JOB: u32 = 8;
 /// at once, and what is written is still near.
 const JOBS_ALONE: u32 = 4;
 
+/// How many small jobs a round has at most, for each worker. Some ten thousand members are under them.
+const SMALL_JOBS: u64 = 64;
+
 /// Returns how many of the workers a round of `jobs` jobs has use for.
 fn useful_workers(workers: u32, jobs: usize) -> u32
     requires some { 1 ≤ workers }
@@ -39,7 +46,7 @@ fn useful_workers(workers: u32, jobs: usize) -> u32
 }
 
 /// The jobs that are not wholly before a position.
-fn jobs_from(mut jobs: Vec<Job>, at: &Position) -> Vec<Job>
+pub fn jobs_from(mut jobs: Vec<Job>, at: &Position) -> Vec<Job>
     ensures { IsWithout (IsWhollyBefore at.now) jobs.items result.items }
 {
     jobs.retain(|job| !job.is_wholly_before(at));
@@ -47,12 +54,15 @@ fn jobs_from(mut jobs: Vec<Job>, at: &Position) -> Vec<Job>
 }
 
 /// Returns a front with the jobs of a run.
-pub fn front_of(alloc: Global, run: &Run) -> Result<Front, Memory>
+pub fn front_of<F: Finder>(alloc: Global, finder: &mut F, run: &Run) -> Result<Front, Memory>
+    requires request { F.request finder.old ≡ run.now.portion.request }
     requires valid { IsValid run.now.portion.request }
     requires position { IsPosition run.now.at }
-    ensures { IfOk result (IsBegun (start_of run.now)) }
+    ensures request { F.request finder.new ≡ F.request finder.old }
+    ensures started { IfOk result (IsStarted (start_of run.now)) }
 {
     let jobs = jobs_from(run.portion.opening(alloc)?, &run.at);
+    let jobs = parts_from(alloc, finder, run, jobs)?;
     Front::open(
         alloc,
         run.portion.request,
@@ -62,9 +72,31 @@ pub fn front_of(alloc: Global, run: &Run) -> Result<Front, Memory>
     )
 }
 
+/// Returns how many of the first entries go into a round: at least 1, at most `most`, and as many as
+/// have together no more under them than some small jobs.
+fn few_ahead(front: &Front, most: u32) -> u32
+    requires { 1 ≤ most }
+    ensures some { 1 ≤ result }
+    ensures few { result ≤ most }
+{
+    let request = front.request();
+    let mut left = SMALL_JOBS;
+    let mut count = 0;
+    for entry in front.entries() {
+        let weight = weight_of(&request, &entry.job);
+        if count == most || weight > left {
+            break;
+        }
+        left -= weight;
+        count += 1;
+    }
+    count.max(1)
+}
+
 /// Returns the pace of a round in which as many jobs as are asked for have something under them, as
 /// far as the search sees it. Many jobs with nothing under them follow each other. A round of only
-/// these has nothing for several workers to do.
+/// these has nothing for several workers to do. Together they have no more under them than some small
+/// jobs for each worker.
 fn pace_without_empty_jobs<F: Finder>(
     alloc: Global,
     finder: &mut F,
@@ -75,30 +107,33 @@ fn pace_without_empty_jobs<F: Finder>(
     requires jobs { AllByRecursion (λ e. IsJobOf (F.request finder.old) e.job) entries.now }
     ensures request { F.request finder.new ≡ F.request finder.old }
     ensures workers { IfOk result (λ longer. longer.workers ≡ pace.workers) }
-    ensures round { IfOk result (λ longer. pace.round ≤ longer.round) }
+    ensures round { IfOk result (λ longer. 1 ≤ longer.round) }
 {
+    let request = finder.request();
     let mut left = pace.round;
-    let mut round = pace.round;
+    let mut small = SMALL_JOBS * u64::from(pace.workers);
+    let mut round = 0_u32;
     for entry in entries {
-        if left == 0 {
+        let weight = weight_of(&request, &entry.job);
+        if left == 0 || weight > small {
             break;
         }
         if finder.may_find(alloc, &entry.job)? {
             left -= 1;
-        } else {
-            round = round.saturating_add(1);
+            small -= weight;
         }
+        round = round.saturating_add(1);
     }
     Ok(Pace {
         workers: pace.workers,
-        round,
+        round: round.max(1),
     })
 }
 
 /// Does the next round of a front whose run keeps no checkpoint, and returns whether there was
-/// one. One worker does a few jobs of it at a time. If there are several workers, jobs under which
-/// nothing is are not counted. It fails only if an allocation fails, and the front is then as
-/// before.
+/// one. A large job is done in parts. One worker does a few jobs of the round at a time. If there
+/// are several workers, jobs under which nothing is are not counted. It fails only if an allocation
+/// fails.
 pub fn do_long_round<R: Threads + Wait + Sync, F: Finder + Sync, G: Gate + Sync>(
     rt: &R,
     alloc: Global,
@@ -110,25 +145,64 @@ pub fn do_long_round<R: Threads + Wait + Sync, F: Finder + Sync, G: Gate + Sync>
     requires workers { (1 ≤ pace.workers) × (pace.workers ≤ 64) }
     requires round { 1 ≤ pace.round }
     requires valid { IsValid (F.request finder.old) }
-    requires request { front.old.request ≡ F.request finder.old }
-    requires jobs { AreJobsOf (F.request finder.old) (jobs_of front.old.entries) }
-    requires ascending { AreAscendingJobs (jobs_of front.old.entries) }
-    requires apart { AreApart (jobs_of front.old.entries) }
-    requires open_entries { AreOpen front.old.entries }
+    requires ready { IsReady (F.request finder.old) front.old }
     ensures request { F.request finder.new ≡ F.request finder.old }
     ensures round { IfOk result (λ more. MatchBool more
-        ((most : ℕ) × IsRoundDone most front.old front.new) (IsAtEnd front.old front.new)) }
-    ensures same { OnErr result (front.new ≡ front.old) }
+        ((most : ℕ) × IsGroupDone (F.request finder.old) most front.old front.new)
+        (front.old.entries ≡ [])) }
 {
+    split_large(alloc, finder, front)?;
     if pace.workers == 1 {
         let few = Pace {
             workers: 1,
-            round: pace.round.min(JOBS_ALONE),
+            round: few_ahead(front, pace.round.min(JOBS_ALONE)),
         };
         return do_round(rt, alloc, finder, gate, few, front);
     }
     let longer = pace_without_empty_jobs(alloc, finder, pace, front.entries())?;
     do_round(rt, alloc, finder, gate, longer, front)
+}
+
+/// Does the next round of a front whose run keeps checkpoints, and returns whether there was one. A
+/// large job is done in parts. It fails only if an allocation fails.
+pub fn do_kept_round<R: Threads + Wait + Sync, F: Finder + Sync, G: Gate + Sync>(
+    rt: &R,
+    alloc: Global,
+    finder: &mut F,
+    gate: &G,
+    pace: Pace,
+    front: &mut Front,
+) -> Result<bool, Memory>
+    requires workers { (1 ≤ pace.workers) × (pace.workers ≤ 64) }
+    requires round { 1 ≤ pace.round }
+    requires valid { IsValid (F.request finder.old) }
+    requires ready { IsReady (F.request finder.old) front.old }
+    ensures request { F.request finder.new ≡ F.request finder.old }
+    ensures round { IfOk result (λ more. MatchBool more
+        (IsGroupDone (F.request finder.old) pace.round front.old front.new)
+        (IsAtEnd front.old front.new)) }
+{
+    split_large(alloc, finder, front)?;
+    let few = Pace {
+        workers: pace.workers,
+        round: few_ahead(front, pace.round),
+    };
+    do_round(rt, alloc, finder, gate, few, front)
+}
+
+/// Returns whether a front stands at a job with as many numbers as those of an opening, or at the
+/// end.
+pub fn stands_at_job(front: &Front) -> Result<bool, Memory>
+    ensures { IfOk result (λ yes. IsTrue yes
+        → (at : Place) × StandsAt front.now.from front.now.entries at × IsLongAsWhole at) }
+{
+    match front.position()? {
+        Position::End => Ok(true),
+        Position::At(job) => {
+            let numbers = job.prefix.as_slice().len() as u64;
+            Ok(numbers == (3 * u64::from(job.size)).min(9))
+        }
+    }
 }
 
 /// Does the next round of a front, and returns whether there was one. It fails only if an
@@ -144,11 +218,7 @@ pub fn do_round<R: Threads + Wait + Sync, F: Finder + Sync, G: Gate + Sync>(
     requires workers { (1 ≤ pace.workers) × (pace.workers ≤ 64) }
     requires round { 1 ≤ pace.round }
     requires valid { IsValid (F.request finder.old) }
-    requires request { front.old.request ≡ F.request finder.old }
-    requires jobs { AreJobsOf (F.request finder.old) (jobs_of front.old.entries) }
-    requires ascending { AreAscendingJobs (jobs_of front.old.entries) }
-    requires apart { AreApart (jobs_of front.old.entries) }
-    requires open_entries { AreOpen front.old.entries }
+    requires ready { IsReady (F.request finder.old) front.old }
     ensures request { F.request finder.new ≡ F.request finder.old }
     ensures round { IfOk result (λ more. MatchBool more (IsRoundDone pace.round front.old front.new)
         (IsAtEnd front.old front.new)) }

@@ -1,5 +1,5 @@
 -- What a run leaves under its name.
-use Rattle.std.specs.Prelude.{◌≡◌, ◌≢◌, ◌⊎◌, ℕ, List, [], Option, Result, IsOk, IfOk, Bool, true, length}
+use Rattle.std.specs.Prelude.{◌≡◌, ◌≢◌, ◌⊎◌, ◌<◌, ℕ, List, [], Option, Result, IsOk, IfOk, Bool, true, length}
 use Rattle.dd_model.specs.declared.jobs.Position.{Position}
 use Rattle.dd_model.specs.declared.jobs.Position.TheVariants.{At, End}
 use Rattle.dd_jobs.specs.declared.portions.Portion.{Portion}
@@ -12,7 +12,7 @@ use Rattle.dd_pages.specs.declared.fault.RunFault.{RunFault}
 use Rattle.dd_pages.specs.declared.finish.Finish.{Finish}
 use Rattle.dd_pages.specs.declared.finish.Finish.TheVariants.{Whole, Paused, CutShort}
 use Rattle.dd_pages.specs.Outputs.{IsOutput}
-use Rattle.dd_pages.specs.Runs.{IsPause}
+use Rattle.dd_pages.specs.Runs.{IsPause, most_lines}
 use Rattle.dd_pages.specs.Saves.{IsOfRound}
 
 -- the name holds what it held
@@ -46,11 +46,14 @@ abbrev pub IsRoundStop : Portion → Position → Type 0
 IsRoundStop p End = Unit {0}
 IsRoundStop p (At job) = IsPortionJob p job
 
--- it was put between two rounds, and so at no member
+-- It was put between two rounds, or at a member with a line. So it was not put after the last line that there may be.
+abbrev pub IsPutStop : Start → Checkpoint → Type 0
+IsPutStop s check = IsRoundStop s.portion check.at ⊎ (IsNextMember s.portion check.at × (check.lines < most_lines))
+
 pub record PutsBetween (s : Start) (after : Option (List ℕ)) (output : List ℕ) : Type 0 where
   pub check : Checkpoint
   pub put : IsPut after output s check
-  pub stop : IsRoundStop s.portion check.at
+  pub stop : IsPutStop s check
 
 -- What an end of the run's own leaves. Nothing is put after the last line that there may be.
 abbrev pub FinishesName : Start → Option ℕ → Option (List ℕ) → Option (List ℕ) → List ℕ → Finish → Type 0

@@ -9,22 +9,15 @@ use Rattle.dd_front.specs.declared.entry.Entry.{Entry}
 use Rattle.dd_front.specs.declared.entry.State.TheVariants.{Open}
 use Rattle.dd_front.specs.Absorbed.{MayAbsorb, Absorbs}
 use Rattle.dd_front.specs.Joining.{IsDone}
-use Rattle.dd_front.specs.Machine.{Machine, IsOpened}
+use Rattle.dd_front.specs.Machine.{Machine}
 use Rattle.dd_jobs.specs.declared.portions.Portion.{Portion}
 use Rattle.dd_jobs.specs.Portions.{IsPortionOpening}
-use Rattle.dd_check.specs.ChainStarts.{Start}
 
 -- the jobs of a portion that are not wholly before a position
 pub record AreJobsFrom (p : Portion) (at : Position) (jobs : List Job) : Type 0 where
   pub opening : List Job
   pub is_opening : IsPortionOpening p opening
   pub left : IsWithout (IsWhollyBefore at) opening jobs
-
--- a machine of these jobs
-pub record IsBegun (s : Start) (f : Machine) : Type 0 where
-  pub jobs : List Job
-  pub from : AreJobsFrom s.portion s.at jobs
-  pub opened : IsOpened s.portion.request jobs s.at s.lines f
 
 -- each entry is open
 abbrev pub AreOpen : List Entry → Type 0

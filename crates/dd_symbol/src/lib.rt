@@ -22,10 +22,10 @@
 //! | the caller has | call |
 //! |---|---|
 //! | involutions (the reader of files) | `build_on` |
-//! | degrees that fit if the involutions are connected and commute (tables of any numbers) | `build_fitting` |
+//! | degrees that fit if the involutions commute and are connected | `build_fitting` |
 //! | the involutions of a whole stem (`involutions` of dd_partial_table) | `from_known_bytes` |
-//! | a table (`Table::known`) and the turns that the places of its degrees give (`with_places`) | `build_known` |
-//! | degrees of a symbol with the same involutions | `with_known_degrees`, which copies the images |
+//! | a table (`Table::known`) and the turns of its places (`with_places`) | `build_known` |
+//! | degrees of a symbol with the same involutions | `with_known_degrees`, which copies images |
 //!
 //! `with_places` is of dd_degrees. It walks each cell once.
 #![tactic(auto)]

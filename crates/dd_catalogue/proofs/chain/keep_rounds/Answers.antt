@@ -1,182 +1,262 @@
-use Rattle.std.proofs.Common.{◌∙◌, refl, sym, subst, arith}
+use Rattle.std.proofs.Common.{◌≡◌, ◌<◌, true, Ok, Err, ◌∙◌, refl, sym, ap, subst, arith, List}
 use Rattle.std.proofs.lemmas.Result.{err_from_is_err_and}
 use Rattle.dd_model.specs.Request.{IsValid}
-use Rattle.dd_front.specs.Machine.{jobs_of}
-use Rattle.dd_board.specs.Desk.{AreJobsOf}
+use Rattle.dd_model.specs.declared.jobs.Position.TheVariants.{End}
+use Rattle.dd_model.specs.declared.jobs.Job.{Job}
+use Rattle.dd_front.specs.Machine.{StandsAt}
+use Rattle.dd_front.specs.Rounds.{open_jobs}
+use Rattle.dd_check.specs.ChainStarts.{Start}
+use Rattle.dd_check.specs.Clauses.{HasWork}
+use Rattle.dd_pages.specs.Names.{HasRun}
 use Rattle.dd_pages.specs.Runs.{start_of}
+use Rattle.dd_pages.specs.Saves.{HoldsCheckAt, Saves}
 use Rattle.dd_pages.specs.declared.fault.RunFault.TheVariants.{Memory}
+use Rattle.dd_catalogue.specs.Kept.{IsHead}
+use Rattle.dd_catalogue.specs.Splits.{IsGroupDone}
 use Rattle.dd_catalogue.proofs.Outcomes.{limit_above}
-use Rattle.dd_catalogue.proofs.WaySteps.{begun_open, way_jobs}
-use Rattle.dd_catalogue.proofs.KeptRuns.{first_failed, head_first, way_at, head_stopped, head_whole, round_way, round_under, round_failed, fewer_open, save_failed, head_after, full_ended}
+use Rattle.dd_catalogue.proofs.WaySteps.{way_ready}
+use Rattle.dd_catalogue.proofs.Weights.{weighed}
+use Rattle.dd_catalogue.proofs.PlainRuns.{lighter_group}
+use Rattle.dd_catalogue.proofs.KeptRuns.{first_failed, head_first, other_fault}
+use Rattle.dd_catalogue.proofs.KeptGroups.{group_mid, group_way, group_work, head_saved, head_stopped, head_unsaved, head_whole}
 use Rattle.dd_catalogue.proofs.chain.keep_rounds.Goals as goal
 
 pub returns-in_err-save_first-clause-run : goal.returns-in_err-save_first-clause-run
 returns-in_err-save_first-clause-run g c =
     let s = start_of c.args.run.now in
+    let most = c.args.run.now.pace.round in
     let tells = g.S.Store.tells c.args.store.now in
     let old = g.O.Sink.held c.args.out.now in
     let before = g.S.Store.held c.args.store.now c.args.name.now in
+    let after = g.S.Store.held c.save_first.new.store c.args.name.now in
     let p = err_from_is_err_and c.from_residual.result c.from_residual.ensures.1 in
-    rw p.1 (first_failed s c.args.front.now c.requires.begun c.args.page.now c.requires.empty c.requires.count c.requires.bytes c.requires.first
-    c.args.run.now.pace.round c.args.run.now.pause old before (g.S.Store.held c.save_first.new.store c.args.name.now) tells p.0 (λ told. c.in_err-save_first.ensures.saves told))
+    rw p.1 (first_failed s most c.requires.round old before before c.args.page.now c.args.front.now c.requires.begun c.requires.empty c.requires.count c.requires.bytes c.requires.first
+    c.args.run.now.pause after tells p.0 (λ told. c.in_err-save_first.ensures.saves told))
 
 pub loop-more-init : goal.loop-more-init
 loop-more-init g c =
     let s = start_of c.args.run.now in
+    let most = c.args.run.now.pace.round in
     let tells = g.S.Store.tells c.args.store.now in
     let old = g.O.Sink.held c.args.out.now in
     let before = g.S.Store.held c.args.store.now c.args.name.now in
-    let above = limit_above c.args.run.now.lines c.args.run.now.pause c.limit-limit.result c.limit-limit.ensures c.requires.lines in (
-      head_first s c.args.front.now c.requires.begun c.args.page.now c.requires.empty c.requires.count c.requires.bytes c.requires.first tells old before
-          (g.S.Store.held c.save_first.new.store c.args.name.now) (λ told. c.in_ok-save_first.ensures.saves told),
-      begun_open s c.args.front.now c.requires.begun,
-      omega (arith, above, c.requires.count),
-      c.save_first.ensures.cause.later,
-      λ sure. let stays = c.save_first.ensures.sure sure in (stays.sure, stays.count),
-      λ told. c.save_first.ensures.others told,
-      omega arith,
-      λ sure. (sure, refl),
-      refl,
-    )
+    let held = g.S.Store.held c.save_first.new.store c.args.name.now in
+    let above = limit_above c.args.run.now.lines c.args.run.now.pause c.limit-limit.result c.limit-limit.ensures c.requires.lines in
+    record {
+      head = head_first s most c.requires.round old before held c.args.page.now c.args.front.now c.requires.begun c.requires.empty c.requires.count c.requires.bytes c.requires.first tells (λ told. c.in_ok-save_first.ensures.saves told);
+      low = omega (arith, above, c.requires.count);
+      store_faults = c.save_first.ensures.cause.later;
+      store_sure = λ sure. let stays = c.save_first.ensures.sure sure in (stays.sure, stays.count);
+      others = λ told. c.save_first.ensures.others told;
+      sink_faults = omega arith;
+      sink_sure = λ sure. (sure, refl);
+      request = refl;
+    }
 
-pub do_round-requires-clause-request : goal.do_round-requires-clause-request
-do_round-requires-clause-request g c κs within = c.loop-more.invariant.0.way.emitted.held.request ∙ sym (c.loop-more.invariant.8 ∙ c.requires.request)
+pub do_kept_round-requires-clause-valid : goal.do_kept_round-requires-clause-valid
+do_kept_round-requires-clause-valid g c κs within = subst IsValid (sym (c.loop-more.invariant.request ∙ c.requires.request)) c.requires.valid
 
-pub do_round-requires-clause-valid : goal.do_round-requires-clause-valid
-do_round-requires-clause-valid g c κs within = subst IsValid (sym (c.loop-more.invariant.8 ∙ c.requires.request)) c.requires.valid
-
-pub do_round-requires-clause-jobs : goal.do_round-requires-clause-jobs
-do_round-requires-clause-jobs g c κs within =
-    let s = start_of c.args.run.now in
-    let tells = g.S.Store.tells c.args.store.now in
-    let old = g.O.Sink.held c.args.out.now in
-    let before = g.S.Store.held c.args.store.now c.args.name.now in
-    let held = g.S.Store.held c.loop-more.store c.args.name.now in
-    let mid = g.O.Sink.held c.loop-more.out in
-    let head = c.loop-more.invariant.0 in
-    subst (λ q. AreJobsOf q (jobs_of c.loop-more.front.entries)) (sym (c.loop-more.invariant.8 ∙ c.requires.request)) (way_jobs (way_at s tells old before held mid c.loop-more.page c.loop-more.front c.loop-more.invariant.0) mid c.loop-more.page c.loop-more.front head.way)
+pub do_kept_round-requires-clause-ready : goal.do_kept_round-requires-clause-ready
+do_kept_round-requires-clause-ready g c κs within =
+    let head = c.loop-more.invariant.head in
+    let asked = ap (λ (x : Start). x.portion.request) head.start_is ∙ sym (c.loop-more.invariant.request ∙ c.requires.request) in
+    way_ready (g.F.Finder.request c.loop-more.finder) head.way (g.O.Sink.held c.loop-more.out) c.loop-more.page c.loop-more.front asked head.mid.under head.opens
 
 pub returns-clause-run : goal.returns-clause-run
 returns-clause-run g c =
     let s = start_of c.args.run.now in
+    let most = c.args.run.now.pace.round in
     let tells = g.S.Store.tells c.args.store.now in
     let old = g.O.Sink.held c.args.out.now in
     let before = g.S.Store.held c.args.store.now c.args.name.now in
     let held = g.S.Store.held c.loop-more.store c.args.name.now in
-    let mid = g.O.Sink.held c.loop-more.out in
-    head_stopped s tells old before held mid c.loop-more.page c.loop-more.front c.loop-more.invariant.0 c.args.run.now.pace.round c.args.run.now.pause Memory
+    let now = g.O.Sink.held c.loop-more.out in
+    let page = c.loop-more.page in
+    let f = c.loop-more.front in
+    let head = c.loop-more.invariant.head in
+    head_stopped s most tells c.loop-more.is_here old before held now page f head c.args.run.now.pause Memory
 
-pub returns-then-not-more-clause-run : goal.returns-then-not-more-clause-run
-returns-then-not-more-clause-run g c =
+pub returns-else-not-is_here-clause-run : goal.returns-else-not-is_here-clause-run
+returns-else-not-is_here-clause-run g c =
     let s = start_of c.args.run.now in
+    let most = c.args.run.now.pace.round in
     let tells = g.S.Store.tells c.args.store.now in
     let old = g.O.Sink.held c.args.out.now in
     let before = g.S.Store.held c.args.store.now c.args.name.now in
     let held = g.S.Store.held c.loop-more.store c.args.name.now in
-    let mid = g.O.Sink.held c.loop-more.out in
+    let now = g.O.Sink.held c.loop-more.out in
+    let page = c.loop-more.page in
+    let f = c.loop-more.front in
+    let head = c.loop-more.invariant.head in
     let end = rw c.if-not-more.true at c.in-Ok.ensures.round in
-    head_whole s tells old before held mid c.loop-more.page c.loop-more.front c.loop-more.invariant.0 c.args.run.now.pace.round c.args.run.now.pause c.limit-limit.result c.limit-limit.ensures c.loop-more.invariant.2 end.none
-
-pub write_round-requires-clause-any : goal.write_round-requires-clause-any
-write_round-requires-clause-any g c κs within =
-    let s = start_of c.args.run.now in
-    let tells = g.S.Store.tells c.args.store.now in
-    let old = g.O.Sink.held c.args.out.now in
-    let before = g.S.Store.held c.args.store.now c.args.name.now in
-    let held = g.S.Store.held c.loop-more.store c.args.name.now in
-    let mid = g.O.Sink.held c.loop-more.out in
-    let round = rw c.if-not-more.false at c.in-Ok.ensures.round in
-    record { any = round_way s tells old before held mid c.loop-more.page c.loop-more.front c.loop-more.invariant.0 c.args.run.now.pace.round c.do_round.new.front round c.loop-more.invariant.1; way = round_under s tells old before held mid c.loop-more.page c.loop-more.front c.loop-more.invariant.0 c.args.run.now.pace.round c.do_round.new.front round c.loop-more.invariant.1 }
-
-pub returns-in_err-write_round-clause-run : goal.returns-in_err-write_round-clause-run
-returns-in_err-write_round-clause-run g c =
-    let s = start_of c.args.run.now in
-    let tells = g.S.Store.tells c.args.store.now in
-    let old = g.O.Sink.held c.args.out.now in
-    let before = g.S.Store.held c.args.store.now c.args.name.now in
-    let held = g.S.Store.held c.loop-more.store c.args.name.now in
-    let mid = g.O.Sink.held c.loop-more.out in
-    let round = rw c.if-not-more.false at c.in-Ok.ensures.round in
-    let now = g.O.Sink.held c.write_round.new.out in
-    let way = round_way s tells old before held mid c.loop-more.page c.loop-more.front c.loop-more.invariant.0 c.args.run.now.pace.round c.do_round.new.front round c.loop-more.invariant.1 in
-    let under = round_under s tells old before held mid c.loop-more.page c.loop-more.front c.loop-more.invariant.0 c.args.run.now.pace.round c.do_round.new.front round c.loop-more.invariant.1 in
-    let p = err_from_is_err_and c.from_residual-in_err-write_round.result c.from_residual-in_err-write_round.ensures.1 in
-    rw p.1 (round_failed s tells old before held mid c.loop-more.page c.loop-more.front c.loop-more.invariant.0 c.args.run.now.pace.round c.do_round.new.front round c.loop-more.invariant.1 now c.args.run.now.pause p.0 (c.write_round.ensures.part way under))
-
-pub returns-then-not-branch-clause-run : goal.returns-then-not-branch-clause-run
-returns-then-not-branch-clause-run g c =
-    let s = start_of c.args.run.now in
-    let tells = g.S.Store.tells c.args.store.now in
-    let old = g.O.Sink.held c.args.out.now in
-    let before = g.S.Store.held c.args.store.now c.args.name.now in
-    let held = g.S.Store.held c.loop-more.store c.args.name.now in
-    let mid = g.O.Sink.held c.loop-more.out in
-    let round = rw c.if-not-more.false at c.in-Ok.ensures.round in
-    let now = g.O.Sink.held c.write_round.new.out in
-    let way = round_way s tells old before held mid c.loop-more.page c.loop-more.front c.loop-more.invariant.0 c.args.run.now.pace.round c.do_round.new.front round c.loop-more.invariant.1 in
-    let under = round_under s tells old before held mid c.loop-more.page c.loop-more.front c.loop-more.invariant.0 c.args.run.now.pace.round c.do_round.new.front round c.loop-more.invariant.1 in
-    let fills = rw c.if-not-branch.true at c.in_ok-write_round.ensures.full in
-    full_ended s tells old before held mid c.loop-more.page c.loop-more.front c.loop-more.invariant.0 c.args.run.now.pace.round c.do_round.new.front round c.loop-more.invariant.1 now c.write_round.new.page c.write_round.new.front c.limit-limit.result (fills way under) c.in_ok-write_round.ensures.empty
-    c.args.run.now.pause c.limit-limit.ensures (g.S.Store.held c.end_full.new.store c.args.name.now) c.end_full.result c.end_full.ensures.finish (λ told. c.end_full.ensures.saves (c.loop-more.invariant.5 told).0)
+    head_whole s most tells c.loop-more.is_here old before held now page f head c.if-not-is_here.false c.args.run.now.pause c.limit-limit.result c.limit-limit.ensures c.loop-more.invariant.low end.none
 
 pub returns-in_err-save-clause-run : goal.returns-in_err-save-clause-run
 returns-in_err-save-clause-run g c =
     let s = start_of c.args.run.now in
+    let most = c.args.run.now.pace.round in
     let tells = g.S.Store.tells c.args.store.now in
     let old = g.O.Sink.held c.args.out.now in
     let before = g.S.Store.held c.args.store.now c.args.name.now in
     let held = g.S.Store.held c.loop-more.store c.args.name.now in
-    let mid = g.O.Sink.held c.loop-more.out in
-    let round = rw c.if-not-more.false at c.in-Ok.ensures.round in
-    let now = g.O.Sink.held c.write_round.new.out in
-    let way = round_way s tells old before held mid c.loop-more.page c.loop-more.front c.loop-more.invariant.0 c.args.run.now.pace.round c.do_round.new.front round c.loop-more.invariant.1 in
-    let under = round_under s tells old before held mid c.loop-more.page c.loop-more.front c.loop-more.invariant.0 c.args.run.now.pace.round c.do_round.new.front round c.loop-more.invariant.1 in
-    let goes = rw c.if-not-branch.false at c.in_ok-write_round.ensures.all in
-    let opens = rw c.if-not-branch.false at c.in_ok-write_round.ensures.opened in
+    let now = g.O.Sink.held c.loop-more.out in
+    let page = c.loop-more.page in
+    let f = c.loop-more.front in
+    let head = c.loop-more.invariant.head in
+    let after = g.S.Store.held c.save.new.store c.args.name.now in
+    let end = rw c.if-not-more.true at c.in-Ok.ensures.round in
+    let away = subst (λ here. IsHead s most tells here old before held now page f) c.if-not-is_here.true head in
+    let ends : StandsAt f.from f.entries End = subst (λ es. StandsAt f.from es End) (sym end.none) refl in
     let p = err_from_is_err_and c.from_residual-in_err-save.result c.from_residual-in_err-save.ensures.1 in
-    rw p.1 (save_failed s tells old before held mid c.loop-more.page c.loop-more.front c.loop-more.invariant.0 c.args.run.now.pace.round c.do_round.new.front round c.loop-more.invariant.1 now c.write_round.new.page c.write_round.new.front (goes.way way under) c.in_ok-write_round.ensures.empty opens goes.waiting
-    (g.S.Store.held c.save.new.store c.args.name.now) c.args.run.now.pause p.0 (λ told. c.in_err-save.ensures.saves (c.loop-more.invariant.5 told).0))
+    rw p.1 (head_unsaved s most tells old before held now page f away End ends tt after c.args.run.now.pause p.0 (λ told. subst (λ m. Saves {T = Unit} s page m held after (Err p.0)) end.same (c.in_err-save.ensures.saves (c.loop-more.invariant.others told).0)))
+
+pub returns-in_ok-save-clause-run : goal.returns-in_ok-save-clause-run
+returns-in_ok-save-clause-run g c =
+    let s = start_of c.args.run.now in
+    let most = c.args.run.now.pace.round in
+    let tells = g.S.Store.tells c.args.store.now in
+    let old = g.O.Sink.held c.args.out.now in
+    let before = g.S.Store.held c.args.store.now c.args.name.now in
+    let held = g.S.Store.held c.loop-more.store c.args.name.now in
+    let now = g.O.Sink.held c.loop-more.out in
+    let page = c.loop-more.page in
+    let f = c.loop-more.front in
+    let head = c.loop-more.invariant.head in
+    let after = g.S.Store.held c.save.new.store c.args.name.now in
+    let end = rw c.if-not-more.true at c.in-Ok.ensures.round in
+    let away = subst (λ here. IsHead s most tells here old before held now page f) c.if-not-is_here.true head in
+    let ends : StandsAt f.from f.entries End = subst (λ es. StandsAt f.from es End) (sym end.none) refl in
+    let saved = head_saved s most tells old before held now page f away End ends tt after (λ told. subst (λ m. HoldsCheckAt s page m after) end.same (c.in_ok-save.ensures.saves (c.loop-more.invariant.others told).0)) in
+    head_whole s most tells true old before after now page f saved refl c.args.run.now.pause c.limit-limit.result c.limit-limit.ensures c.loop-more.invariant.low end.none
+
+pub keep_round-requires-clause-mid : goal.keep_round-requires-clause-mid
+keep_round-requires-clause-mid g c κs within =
+    let s = start_of c.args.run.now in
+    let most = c.args.run.now.pace.round in
+    let tells = g.S.Store.tells c.args.store.now in
+    let old = g.O.Sink.held c.args.out.now in
+    let before = g.S.Store.held c.args.store.now c.args.name.now in
+    let held = g.S.Store.held c.loop-more.store c.args.name.now in
+    let now = g.O.Sink.held c.loop-more.out in
+    let page = c.loop-more.page in
+    let f = c.loop-more.front in
+    let head = c.loop-more.invariant.head in
+    let w = head.way in
+    let h = c.do_kept_round.new.front in
+    let round = rw c.if-not-more.false at c.in-Ok.ensures.round in
+    let asked : g.F.Finder.request c.loop-more.finder ≡ w.start.portion.request = c.loop-more.invariant.request ∙ c.requires.request ∙ ap (λ (x : Start). x.portion.request) (sym head.start_is) in
+    let group = subst (λ q. IsGroupDone q w.most f h) asked (subst (λ n. IsGroupDone (g.F.Finder.request c.loop-more.finder) n f h) (sym head.most_is) round) in
+    let mid = group_mid s most tells c.loop-more.is_here old before held now page f head h group in
+    let way = group_way s most tells c.loop-more.is_here old before held now page f head h group in
+    record { way = way; start_is = head.start_is; work = subst HasWork head.start_is (group_work s most tells c.loop-more.is_here old before held now page f head h group); tells = tells; old = old; before = before; held = held; mid = mid }
+
+pub returns-in_err-here-clause-run : goal.returns-in_err-here-clause-run
+returns-in_err-here-clause-run g c =
+    let s = start_of c.args.run.now in
+    let most = c.args.run.now.pace.round in
+    let tells = g.S.Store.tells c.args.store.now in
+    let old = g.O.Sink.held c.args.out.now in
+    let before = g.S.Store.held c.args.store.now c.args.name.now in
+    let held = g.S.Store.held c.loop-more.store c.args.name.now in
+    let now = g.O.Sink.held c.loop-more.out in
+    let page = c.loop-more.page in
+    let f = c.loop-more.front in
+    let head = c.loop-more.invariant.head in
+    let w = head.way in
+    let h = c.do_kept_round.new.front in
+    let round = rw c.if-not-more.false at c.in-Ok.ensures.round in
+    let asked : g.F.Finder.request c.loop-more.finder ≡ w.start.portion.request = c.loop-more.invariant.request ∙ c.requires.request ∙ ap (λ (x : Start). x.portion.request) (sym head.start_is) in
+    let group = subst (λ q. IsGroupDone q w.most f h) asked (subst (λ n. IsGroupDone (g.F.Finder.request c.loop-more.finder) n f h) (sym head.most_is) round) in
+    let mid = group_mid s most tells c.loop-more.is_here old before held now page f head h group in
+    let way = group_way s most tells c.loop-more.is_here old before held now page f head h group in
+    let work = subst HasWork head.start_is (group_work s most tells c.loop-more.is_here old before held now page f head h group) in
+    let leaves = c.in_err-here.ensures.leaves way tells before old head.start_is (λ told. (c.loop-more.invariant.others told).0) mid work in
+    let after = g.S.Store.held c.keep_round.new.store c.args.name.now in
+    let p = err_from_is_err_and c.from_residual-in_err-here.result c.from_residual-in_err-here.ensures.1 in
+    rw p.1 (subst (λ n. HasRun s n c.args.run.now.pause old (g.O.Sink.held c.keep_round.new.out) tells before after (Err p.0)) head.most_is
+    (other_fault s head.way.most c.args.run.now.pause old (g.O.Sink.held c.keep_round.new.out) tells before after c.in_err-here.field-0.0 p.0 leaves))
+
+pub returns-in-Ended-clause-run : goal.returns-in-Ended-clause-run
+returns-in-Ended-clause-run g c =
+    let s = start_of c.args.run.now in
+    let most = c.args.run.now.pace.round in
+    let tells = g.S.Store.tells c.args.store.now in
+    let old = g.O.Sink.held c.args.out.now in
+    let before = g.S.Store.held c.args.store.now c.args.name.now in
+    let held = g.S.Store.held c.loop-more.store c.args.name.now in
+    let now = g.O.Sink.held c.loop-more.out in
+    let page = c.loop-more.page in
+    let f = c.loop-more.front in
+    let head = c.loop-more.invariant.head in
+    let w = head.way in
+    let h = c.do_kept_round.new.front in
+    let round = rw c.if-not-more.false at c.in-Ok.ensures.round in
+    let asked : g.F.Finder.request c.loop-more.finder ≡ w.start.portion.request = c.loop-more.invariant.request ∙ c.requires.request ∙ ap (λ (x : Start). x.portion.request) (sym head.start_is) in
+    let group = subst (λ q. IsGroupDone q w.most f h) asked (subst (λ n. IsGroupDone (g.F.Finder.request c.loop-more.finder) n f h) (sym head.most_is) round) in
+    let mid = group_mid s most tells c.loop-more.is_here old before held now page f head h group in
+    let way = group_way s most tells c.loop-more.is_here old before held now page f head h group in
+    let work = subst HasWork head.start_is (group_work s most tells c.loop-more.is_here old before held now page f head h group) in
+    let leaves = c.in_ok-here.ensures.leaves way tells before old head.start_is (λ told. (c.loop-more.invariant.others told).0) mid work in
+    let after = g.S.Store.held c.keep_round.new.store c.args.name.now in
+    let ends = rw c.in-Ended.is at leaves in
+    subst (λ n. HasRun s n c.args.run.now.pause old (g.O.Sink.held c.keep_round.new.out) tells before after (Ok c.in-Ended.finish)) head.most_is ends
 
 pub loop-more-smaller : goal.loop-more-smaller
 loop-more-smaller g c =
     let s = start_of c.args.run.now in
+    let most = c.args.run.now.pace.round in
     let tells = g.S.Store.tells c.args.store.now in
     let old = g.O.Sink.held c.args.out.now in
     let before = g.S.Store.held c.args.store.now c.args.name.now in
     let held = g.S.Store.held c.loop-more.store c.args.name.now in
-    let mid = g.O.Sink.held c.loop-more.out in
+    let now = g.O.Sink.held c.loop-more.out in
+    let page = c.loop-more.page in
+    let f = c.loop-more.front in
+    let head = c.loop-more.invariant.head in
+    let w = head.way in
+    let h = c.do_kept_round.new.front in
     let round = rw c.if-not-more.false at c.in-Ok.ensures.round in
-    let now = g.O.Sink.held c.write_round.new.out in
-    let way = round_way s tells old before held mid c.loop-more.page c.loop-more.front c.loop-more.invariant.0 c.args.run.now.pace.round c.do_round.new.front round c.loop-more.invariant.1 in
-    let under = round_under s tells old before held mid c.loop-more.page c.loop-more.front c.loop-more.invariant.0 c.args.run.now.pace.round c.do_round.new.front round c.loop-more.invariant.1 in
-    let goes = rw c.if-not-branch.false at c.in_ok-write_round.ensures.all in
-    let opens = rw c.if-not-branch.false at c.in_ok-write_round.ensures.opened in
-    fewer_open s tells old before held mid c.loop-more.page c.loop-more.front c.loop-more.invariant.0 c.args.run.now.pace.round c.do_round.new.front round c.loop-more.invariant.1 now c.write_round.new.page c.write_round.new.front (goes.way way under) c.in_ok-write_round.ensures.empty opens goes.waiting
+    let asked : g.F.Finder.request c.loop-more.finder ≡ w.start.portion.request = c.loop-more.invariant.request ∙ c.requires.request ∙ ap (λ (x : Start). x.portion.request) (sym head.start_is) in
+    let group = subst (λ q. IsGroupDone q w.most f h) asked (subst (λ n. IsGroupDone (g.F.Finder.request c.loop-more.finder) n f h) (sym head.most_is) round) in
+    let mid = group_mid s most tells c.loop-more.is_here old before held now page f head h group in
+    let way = group_way s most tells c.loop-more.is_here old before held now page f head h group in
+    let ready = way_ready w.start.portion.request w now page f refl head.mid.under head.opens in
+    let valid = subst IsValid (ap (λ (x : Start). x.portion.request) (sym head.start_is)) c.requires.valid in
+    let waiting = rw c.in-Next.is at c.in_ok-here.ensures.waiting in
+    subst (λ (js : List Job). weighed js < weighed (open_jobs f.entries)) (sym waiting) (lighter_group w.start.portion.request w.most f h valid ready.jobs head.opens group)
 
 pub loop-more-preserved : goal.loop-more-preserved
 loop-more-preserved g c =
     let s = start_of c.args.run.now in
+    let most = c.args.run.now.pace.round in
     let tells = g.S.Store.tells c.args.store.now in
     let old = g.O.Sink.held c.args.out.now in
     let before = g.S.Store.held c.args.store.now c.args.name.now in
     let held = g.S.Store.held c.loop-more.store c.args.name.now in
-    let mid = g.O.Sink.held c.loop-more.out in
+    let now = g.O.Sink.held c.loop-more.out in
+    let page = c.loop-more.page in
+    let f = c.loop-more.front in
+    let head = c.loop-more.invariant.head in
+    let w = head.way in
+    let h = c.do_kept_round.new.front in
     let round = rw c.if-not-more.false at c.in-Ok.ensures.round in
-    let now = g.O.Sink.held c.write_round.new.out in
-    let way = round_way s tells old before held mid c.loop-more.page c.loop-more.front c.loop-more.invariant.0 c.args.run.now.pace.round c.do_round.new.front round c.loop-more.invariant.1 in
-    let under = round_under s tells old before held mid c.loop-more.page c.loop-more.front c.loop-more.invariant.0 c.args.run.now.pace.round c.do_round.new.front round c.loop-more.invariant.1 in
-    let goes = rw c.if-not-branch.false at c.in_ok-write_round.ensures.all in
-    let opens = rw c.if-not-branch.false at c.in_ok-write_round.ensures.opened in
-    let room = rw c.if-not-branch.false at c.in_ok-write_round.ensures.room in
-    let ih = c.loop-more.invariant in (
-      head_after s tells old before held mid c.loop-more.page c.loop-more.front c.loop-more.invariant.0 c.args.run.now.pace.round c.do_round.new.front round c.loop-more.invariant.1 now c.write_round.new.page c.write_round.new.front (goes.way way under) c.in_ok-write_round.ensures.empty opens goes.waiting
-          (g.S.Store.held c.save.new.store c.args.name.now) (λ told. c.in_ok-save.ensures.saves (ih.5 told).0),
-      opens,
-      room,
-      omega (arith, c.save.ensures.cause.later, ih.3),
-      λ s. let sure = ih.4 s in let later = c.save.ensures.sure sure.0 in (later.sure, later.count ∙ sure.1),
-      λ told. let was = ih.5 told in let others = c.save.ensures.others was.0 in (others.0, λ other not. others.1 other not ∙ was.1 other not),
-      omega (arith, c.write_round.ensures.cause.later, ih.6),
-      λ s. let sure = ih.7 s in let later = c.write_round.ensures.sure sure.0 in (later.sure, later.count ∙ sure.1),
-      c.do_round.ensures.request ∙ ih.8,
-    )
+    let asked : g.F.Finder.request c.loop-more.finder ≡ w.start.portion.request = c.loop-more.invariant.request ∙ c.requires.request ∙ ap (λ (x : Start). x.portion.request) (sym head.start_is) in
+    let group = subst (λ q. IsGroupDone q w.most f h) asked (subst (λ n. IsGroupDone (g.F.Finder.request c.loop-more.finder) n f h) (sym head.most_is) round) in
+    let mid = group_mid s most tells c.loop-more.is_here old before held now page f head h group in
+    let way = group_way s most tells c.loop-more.is_here old before held now page f head h group in
+    let work = subst HasWork head.start_is (group_work s most tells c.loop-more.is_here old before held now page f head h group) in
+    let leaves = c.in_ok-here.ensures.leaves way tells before old head.start_is (λ told. (c.loop-more.invariant.others told).0) mid work in
+    let after = g.S.Store.held c.keep_round.new.store c.args.name.now in
+    let next = rw c.in-Next.is at leaves in
+    let low = rw c.in-Next.is at c.in_ok-here.ensures.room in
+    let ih = c.loop-more.invariant in
+    record {
+      head = subst (λ n. IsHead s n tells c.in-Next.here old before after (g.O.Sink.held c.keep_round.new.out) c.keep_round.new.page c.keep_round.new.front) head.most_is next;
+      low = low;
+      store_faults = omega (arith, c.keep_round.ensures.store_cause.later, ih.store_faults);
+      store_sure = λ s. let sure = ih.store_sure s in let later = c.keep_round.ensures.store_sure sure.0 in (later.sure, later.count ∙ sure.1);
+      others = λ told. let was = ih.others told in let others = c.keep_round.ensures.others was.0 in (others.0, λ other not. others.1 other not ∙ was.1 other not);
+      sink_faults = omega (arith, c.keep_round.ensures.sink_cause.later, ih.sink_faults);
+      sink_sure = λ s. let sure = ih.sink_sure s in let later = c.keep_round.ensures.sink_sure sure.0 in (later.sure, later.count ∙ sure.1);
+      request = c.do_kept_round.ensures.request ∙ ih.request;
+    }

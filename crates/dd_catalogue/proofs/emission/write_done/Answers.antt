@@ -1,5 +1,6 @@
 use Rattle.std.proofs.Common.{◌≡◌, ◌+◌, ◌-◌, sym, ◌∙◌, subst, arith, refl}
-use Rattle.dd_catalogue.specs.Ways.{IsAny, IsFull}
+use Rattle.dd_catalogue.specs.Ways.{IsFull}
+use Rattle.dd_catalogue.specs.Outs.{IsAny}
 use Rattle.dd_catalogue.proofs.WaySteps.{emits_first, few_emitted, waiting_emitted, way_next, lines_on_way, none_on_way, way_part, way_added}
 use Rattle.dd_catalogue.proofs.FirstLists.{first_there, room_for_first, fewer_emitted}
 use Rattle.dd_catalogue.proofs.RoundEntries.{rest_open}

@@ -1,29 +1,49 @@
-use Rattle.std.proofs.Common.{ℕ, subst}
+use Rattle.std.proofs.Common.{ℕ, List, sym, subst}
+use Rattle.dd_model.specs.Position.{IsWhollyBefore}
+use Rattle.dd_model.specs.declared.jobs.Job.{Job}
 use Rattle.dd_model.specs.declared.jobs.Position.{Position}
+use Rattle.dd_model.proofs.Lists.{all_from_members}
+use Rattle.dd_model.proofs.Without.{without_there}
 use Rattle.dd_front.specs.Machine.{IsOpened}
 use Rattle.std.proofs.lemmas.Result.{IfOk-weaker}
-use Rattle.dd_pages.specs.Rounds.{IsBegun}
+use Rattle.dd_pages.specs.Rounds.{AreJobsFrom}
 use Rattle.dd_pages.specs.Runs.{start_of}
-use Rattle.dd_catalogue.proofs.JobsFrom.{from_ascending, from_apart}
+use Rattle.dd_catalogue.specs.Works.{IsStarted}
+use Rattle.dd_catalogue.proofs.JobsFrom.{from_covers}
+use Rattle.dd_catalogue.proofs.Working.{whole_work}
 use Rattle.dd_catalogue.proofs.rounds.front_of.Goals as goal
 
+pub parts_from-requires-clause-starting : goal.parts_from-requires-clause-starting
+parts_from-requires-clause-starting g c =
+    let p = c.args.run.now.portion in
+    let at = c.args.run.now.at in
+    let jobs = c.jobs_from-jobs.result.items in
+    let from : AreJobsFrom p at jobs = record { opening = c.in_ok-opening.field-0.items; is_opening = c.in_ok-opening.ensures; left = c.jobs_from-jobs.ensures } in
+    record {
+      work = whole_work p at jobs from;
+      covers = λ s member later. from_covers p at jobs s from member later;
+      later = all_from_members (λ j. ¬ IsWhollyBefore at j) jobs (λ j there. (without_there (IsWhollyBefore at) from.opening jobs j from.left there).1);
+    }
+
 pub open-requires-clause-ascending : goal.open-requires-clause-ascending
-open-requires-clause-ascending c =
-    from_ascending c.args.run.now.portion c.args.run.now.at c.jobs_from-jobs.result.items (record { opening = c.in_ok-opening.field-0.items; is_opening = c.in_ok-opening.ensures; left = c.jobs_from-jobs.ensures })
+open-requires-clause-ascending g c = c.in_ok-jobs.ensures.starting.work.ascending
 
 pub open-requires-clause-apart : goal.open-requires-clause-apart
-open-requires-clause-apart c =
-    from_apart c.args.run.now.portion c.args.run.now.at c.jobs_from-jobs.result.items (record { opening = c.in_ok-opening.field-0.items; is_opening = c.in_ok-opening.ensures; left = c.jobs_from-jobs.ensures })
+open-requires-clause-apart g c = c.in_ok-jobs.ensures.starting.work.apart
 
-pub returns : goal.returns
-returns c =
+pub returns-clause-started : goal.returns-clause-started
+returns-clause-started g c =
     let q = c.args.run.now.portion.request in
-    let jobs = c.jobs_from-jobs.result.items in
-    IfOk-weaker c.open.result (IsOpened q jobs c.in_ok-try_copy.field-0 c.from.result) (IsBegun (start_of c.args.run.now))
+    let p = c.args.run.now.portion in
+    let at = c.args.run.now.at in
+    let whole = c.jobs_from-jobs.result.items in
+    let jobs = c.in_ok-jobs.jobs.items in
+    let from : AreJobsFrom p at whole = record { opening = c.in_ok-opening.field-0.items; is_opening = c.in_ok-opening.ensures; left = c.jobs_from-jobs.ensures } in
+    IfOk-weaker c.open.result (IsOpened q jobs c.in_ok-try_copy.field-0 c.from.result) (IsStarted (start_of c.args.run.now))
     (λ front is. record {
       jobs = jobs;
-      from = record { opening = c.in_ok-opening.field-0.items; is_opening = c.in_ok-opening.ensures; left = c.jobs_from-jobs.ensures };
-      opened = subst (λ (n : ℕ). IsOpened q jobs c.args.run.now.at n front) c.from.ensures
-          (subst (λ (at : Position). IsOpened q jobs at c.from.result front) c.in_ok-try_copy.ensures is);
+      starting = c.in_ok-jobs.ensures.starting;
+      whole = λ one. subst (λ (js : List Job). AreJobsFrom p at js) (sym (c.in_ok-jobs.ensures.first one)) from;
+      opened = subst (λ (n : ℕ). IsOpened q jobs at n front) c.from.ensures (subst (λ (place : Position). IsOpened q jobs place c.from.result front) c.in_ok-try_copy.ensures is);
     })
     c.open.ensures

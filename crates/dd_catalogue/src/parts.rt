@@ -1,0 +1,135 @@
+ghost use Rattle.std.specs.Bool.{OnTrue, OnFalse};
+ghost use Rattle.std.specs.Prelude.{◌≡◌, ◌*◌, ◌<◌, IsTrue, IfOk, OnOk, MatchBool, length};
+ghost use Rattle.dd_model.specs.Request.{IsValid};
+ghost use Rattle.dd_catalogue.specs.Splits.{IsReady, IsSplit, IsRefined, IsNoLonger, IsToSplit};
+
+use dd_front::{Event, Finder, Front, JobList};
+use dd_model::{Job, Memory, Position, Request};
+use std::alloc::Global;
+
+/// A job of `n` chambers is small if its prefix has `5 n - L` numbers, where `L` depends on the least
+/// degree that is allowed: 90, 65 for degree 2, 45 for degree 1. As was counted up to 26 chambers (16
+/// with degree 1), at most some ten thousand members are under a small job. So no job of fewer than
+/// 20 chambers is large, but for degrees below 3.
+const NUMBERS_A_CHAMBER: u64 = 5;
+
+const NUMBERS_LESS: u64 = 90;
+
+const NUMBERS_LESS_FROM_2: u64 = 65;
+
+const NUMBERS_LESS_FROM_1: u64 = 45;
+
+/// If no more classes of tiles or of vertices are allowed than this, few members are under any job.
+const FEW_CLASSES: u32 = 4;
+
+/// A job with more children than this stays whole. No table has more, so none does.
+const MOST_CHILDREN: usize = 255;
+
+/// Returns how many numbers a small job of a request has.
+fn numbers_of_small(request: &Request, size: u32) -> u64 {
+    let allows = |degree| request.faces.has(degree) || request.degrees.has(degree);
+    let less = if allows(1) {
+        NUMBERS_LESS_FROM_1
+    } else if allows(2) {
+        NUMBERS_LESS_FROM_2
+    } else {
+        NUMBERS_LESS
+    };
+    (NUMBERS_A_CHAMBER * u64::from(size)).saturating_sub(less)
+}
+
+/// Returns whether a request allows only few classes of tiles or of vertices.
+fn allows_few_classes(request: &Request) -> bool {
+    let is_few = |most| most != 0 && most <= FEW_CLASSES;
+    is_few(request.tiles) || is_few(request.vertices)
+}
+
+/// Returns about how many times as many members are under a job as under a small one: twice as many
+/// for every four numbers that it has less. If only few classes are allowed, each job counts 1.
+pub fn weight_of(request: &Request, job: &Job) -> u64 {
+    if allows_few_classes(request) {
+        return 1;
+    }
+    let numbers = job.prefix.as_slice().len() as u64;
+    let missing = numbers_of_small(request, job.size).saturating_sub(numbers);
+    1 << (missing / 4).min(32)
+}
+
+/// Returns whether more members may be under a job of a request than a round is to hold. None is large
+/// if only few classes are allowed.
+pub fn is_large(request: &Request, job: &Job) -> bool
+    ensures { IsTrue result → length job.now.prefix < 3 * job.now.size }
+{
+    let numbers = job.prefix.as_slice().len() as u64;
+    !allows_few_classes(request)
+        && numbers < numbers_of_small(request, job.size)
+        && numbers < 3 * u64::from(job.size)
+}
+
+/// Returns whether a position has more numbers than a job.
+fn is_longer(at: &Position, job: &Job) -> bool
+    ensures { OnFalse result (IsNoLonger at.now job.now) }
+{
+    match at {
+        Position::End => false,
+        Position::At(at) => at.prefix.as_slice().len() > job.prefix.as_slice().len(),
+    }
+}
+
+/// Returns whether a job, the first one of a front, is to be split. A job stays whole if the front
+/// continues from within it: its first children may be wholly before there.
+fn is_to_split(front: &Front, job: &Job) -> Result<bool, Memory>
+    ensures { IfOk result (λ yes. OnTrue yes (IsToSplit front.now job.now)) }
+{
+    let at = front.position()?;
+    Ok(is_large(&front.request(), job) && !is_longer(&at, job))
+}
+
+/// Puts the children of the first job in its place, if it is large, and returns whether it did.
+fn split_first<F: Finder>(alloc: Global, finder: &mut F, front: &mut Front) -> Result<bool, Memory>
+    requires valid { IsValid (F.request finder.old) }
+    requires ready { IsReady (F.request finder.old) front.old }
+    ensures request { F.request finder.new ≡ F.request finder.old }
+    ensures split { IfOk result (λ more. MatchBool more
+        (IsSplit (F.request finder.old) front.old front.new) (front.new ≡ front.old)) }
+{
+    let Some(entry) = front.entries().first() else {
+        return Ok(false);
+    };
+    if !is_to_split(front, &entry.job)? {
+        return Ok(false);
+    }
+    let number = entry.number;
+    let children = finder.split(alloc, &entry.job)?;
+    let room = front.next_number().checked_add(children.len() as u64);
+    if children.len() > MOST_CHILDREN || room.is_none() {
+        return Ok(false);
+    }
+    front.step(Event::Take {
+        worker: 1,
+        entry: number,
+    })?;
+    let jobs = JobList::from_vec(children);
+    front.step(Event::Split {
+        worker: 1,
+        entry: number,
+        jobs,
+    })?;
+    Ok(true)
+}
+
+/// Puts parts in the place of the first job, until the first one is small.
+pub fn split_large<F: Finder>(
+    alloc: Global,
+    finder: &mut F,
+    front: &mut Front,
+) -> Result<(), Memory>
+    requires valid { IsValid (F.request finder.old) }
+    requires ready { IsReady (F.request finder.old) front.old }
+    ensures request { F.request finder.new ≡ F.request finder.old }
+    ensures refined { OnOk result (IsRefined (F.request finder.old) front.old front.new) }
+    ensures ready { OnOk result (IsReady (F.request finder.old) front.new) }
+{
+    while split_first(alloc, finder, front)? {}
+    Ok(())
+}
