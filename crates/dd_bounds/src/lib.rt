@@ -4,8 +4,8 @@
 //! Where a request limits the number of tiles or of vertices, a `Census` counts the cells that are
 //! whole and the flags that an involution is known to fix. It changes with the paths: a path that
 //! loses its last end is one cell more. So nothing is walked, and the census that a further image
-//! would make is known before the image is put in. The proof names one chamber of each cell that was
-//! counted. No end of a path is in such a cell (`AreCounted`), so the next cell is another one.
+//! would make is known before the image is put in. The proof names one chamber of each cell that
+//! was counted. No end of a path is in such a cell (`AreCounted`), so the next cell is another one.
 #![tactic(auto)]
 
 mod census;

@@ -192,9 +192,9 @@ impl Sides {
         self.is_ruled_out(classes, table, place, number, sets_limits(&classes.request))
     }
 
-    /// Returns those of some numbers, as bits, that are not ruled out at a place of the code. It takes
-    /// all numbers at once, since most of what it computes for one, such as the path that ends at the
-    /// chamber, is the same for the others.
+    /// Returns those of some numbers, as bits, that are not ruled out at a place of the code. It
+    /// takes all numbers at once, since most of what it computes for one, such as the path that
+    /// ends at the chamber, is the same for the others.
     #[inline(always)]
     fn sieve_by(
         &self,
@@ -224,8 +224,8 @@ impl Sides {
         kept
     }
 
-    /// Returns those of some numbers, as bits, that neither shares nor limits rule out at a place of
-    /// the code. It stays a call of its own, so that requests without limits pay nothing for it.
+    /// Returns those of some numbers, as bits, that neither shares nor limits rule out at a place
+    /// of the code. It stays a call of its own, so that requests without limits pay nothing for it.
     #[inline(never)]
     fn sieve_with_limits(&self, classes: &PathShares, table: &Rows, place: u8, numbers: u64) -> u64
         requires ready { IsReady table.now }

@@ -10,10 +10,10 @@
 //!    that was not met. `Stem::candidates` returns these as bits, from the bits of `Rows`. `Sides`
 //!    (dd_bounds) removes the numbers after which the shares of all chambers would be too small, or
 //!    after which there would be more cells than the request allows (`sieve`). It looks only at the
-//!    ends of the paths that a number joins, and at a census of the cells that are whole. Asking for
-//!    all numbers at once lets what is the same for each be computed once, and what is left out
-//!    leaves nothing to be taken back. A path of all chambers of a table of odd size is known to be a
-//!    chain, so its share is that of a chain.
+//!    ends of the paths that a number joins, and at a census of the cells that are whole. Asking
+//!    for all numbers at once lets what is the same for each be computed once, and what is left out
+//!    leaves nothing to be taken back. A path of all chambers of a table of odd size is known to be
+//!    a chain, so its share is that of a chain.
 //! 2. *Put one in.* Each number, from the least on, is put into the table in place, with what
 //!    commuting forces. An involution leads back, so an image and its way back are put in and taken
 //!    out at once.
@@ -28,15 +28,15 @@
 //!
 //! What is cut is proved to have no member under it. Tests that count the numbers put in show that
 //! anything is cut at all. One kind of scratch is read by no clause: the other start chambers sleep
-//! (`Starts`), each until the image is put in that its traversal lacked, and are then tried from the
-//! beginning.
+//! (`Starts`), each until the image is put in that its traversal lacked, and are then tried from
+//! the beginning.
 //!
 //! A search keeps what it has put in for one job for the next of the same size (`Search`), whose
 //! prefix mostly begins with the same numbers. It goes back to where both prefixes begin alike, and
 //! on from there (`Descent::reach`). So the prefixes of an opening are put in once and not once a
-//! job, and the room for a search is taken once a size. It also keeps the last prefix under which it
-//! found that no member is, since the next jobs mostly begin with that one, too. Each thread has a
-//! finder of its own (`fork`).
+//! job, and the room for a search is taken once a size. It also keeps the last prefix under which
+//! it found that no member is, since the next jobs mostly begin with that one, too. Each thread has
+//! a finder of its own (`fork`).
 #![tactic(auto)]
 
 mod descent;

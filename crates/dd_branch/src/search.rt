@@ -19,8 +19,8 @@ use std::mem;
 
 /// The search for the members of the catalogue of a request, job by job, with the shares that the
 /// request allows, from which those for tables of a size are made. What it has put in for one job
-/// it keeps for the next of the same size, whose prefix mostly begins with the same numbers. It also
-/// keeps the last prefix under which it found that no member is.
+/// it keeps for the next of the same size, whose prefix mostly begins with the same numbers. It
+/// also keeps the last prefix under which it found that no member is.
 #[derive(Drop)]
 pub struct Search {
     request: Request,
@@ -84,8 +84,8 @@ impl Search {
         self.begin(alloc, size)
     }
 
-    /// Returns whether it is known that no member is under a job: its prefix begins with the last one
-    /// that was found so.
+    /// Returns whether it is known that no member is under a job: its prefix begins with the last
+    /// one that was found so.
     fn is_dead(&self, job: &Job) -> bool
         ensures { IsTrue result
             → HasNothingUnder (IsMember self.now) job.now.size job.now.prefix }

@@ -37,9 +37,9 @@ use std::thread::Threads;
 const LINES_A_CHECKPOINT: u64 = 65_536;
 
 /// Writes the lines of a run, and keeps its checkpoint under the name, so that a run that was
-/// stopped can be resumed. It puts the checkpoint after each round with lines, at a pause and at the
-/// end. A round in the middle of a job is followed by no checkpoint; it is put before the first line
-/// of the next round. The first run of a chain also puts it before the first line. Neither the
+/// stopped can be resumed. It puts the checkpoint after each round with lines, at a pause and at
+/// the end. A round in the middle of a job is followed by no checkpoint; it is put before the first
+/// line of the next round. The first run of a chain also puts it before the first line. Neither the
 /// workers nor what they choose changes what is written.
 pub fn write_run<R: Threads + Wait + Sync, F: Finder + Sync, G: Gate + Sync, S: Store, O: Sink>(
     rt: &R,
@@ -184,8 +184,8 @@ fn keep_round<R: Threads + Sync, S: Store, O: Sink>(
 }
 
 /// Writes the lines of a round that is done, where the name has the checkpoint of where the front
-/// stands. It puts further checkpoints among the lines, and after the last line of the round, if the
-/// front then stands at a job of the portion or at the end.
+/// stands. It puts further checkpoints among the lines, and after the last line of the round, if
+/// the front then stands at a job of the portion or at the end.
 fn write_kept<R: Threads + Sync, S: Store, O: Sink>(
     rt: &R,
     alloc: Global,
@@ -228,8 +228,8 @@ fn write_kept<R: Threads + Sync, S: Store, O: Sink>(
 }
 
 /// Writes the next lines of a round that is done, where the name has the checkpoint of where the
-/// front stands. If more lines of the round are left, it puts the checkpoint of the next member, and
-/// returns nothing.
+/// front stands. If more lines of the round are left, it puts the checkpoint of the next member,
+/// and returns nothing.
 fn write_part<R: Threads + Sync, S: Store, O: Sink>(
     rt: &R,
     alloc: Global,

@@ -32,8 +32,8 @@ fn next_list(front: &mut Front) -> Members
     members
 }
 
-/// Takes the entries off the front that are done and have no member to emit, and brings the front to
-/// the next member. Returns false if there is none. It fails only if an allocation fails.
+/// Takes the entries off the front that are done and have no member to emit, and brings the front
+/// to the next member. Returns false if there is none. It fails only if an allocation fails.
 pub fn reach_member(front: &mut Front) -> Result<bool, Memory>
     requires lines { front.old.lines ≤ 1000000000000000000 }
     requires done { AreDoneThenOpen front.old.entries }

@@ -6,10 +6,10 @@
 //! While one is open, the first `--round` of them go to `run_round`.
 //!
 //! - **Large jobs are done in parts.** A large job at the front becomes its children, and these
-//!   theirs, until the first one is small (`split_large`). A round ends before it has too much under
-//!   it (`few_ahead`). So it holds few members, whatever the request. A run whose position is within
-//!   a large job splits it before its first round, and leaves out the parts that are wholly before
-//!   the position (`parts_from`).
+//!   theirs, until the first one is small (`split_large`). A round ends before it has too much
+//!   under it (`few_ahead`). So it holds few members, whatever the request. A run whose position is
+//!   within a large job splits it before its first round, and leaves out the parts that are wholly
+//!   before the position (`parts_from`).
 //! - **Jobs that are not counted.** If several workers are to do a round, and no checkpoint limits
 //!   how far it may be ahead, jobs under which the finder sees that nothing is go along and are not
 //!   counted (`do_long_round`). They are most of the jobs.

@@ -7,10 +7,10 @@ use dd_front::{Event, Finder, Front, JobList};
 use dd_model::{Job, Memory, Position, Request};
 use std::alloc::Global;
 
-/// A job of `n` chambers is small if its prefix has `5 n - L` numbers, where `L` depends on the least
-/// degree that is allowed: 90, 65 for degree 2, 45 for degree 1. As was counted up to 26 chambers (16
-/// with degree 1), at most some ten thousand members are under a small job. So no job of fewer than
-/// 20 chambers is large, but for degrees below 3.
+/// A job of `n` chambers is small if its prefix has `5 n - L` numbers, where `L` depends on the
+/// least degree that is allowed: 90, 65 for degree 2, 45 for degree 1. As was counted up to 26
+/// chambers (16 with degree 1), at most some ten thousand members are under a small job. So no job
+/// of fewer than 20 chambers is large, but for degrees below 3.
 const NUMBERS_A_CHAMBER: u64 = 5;
 
 const NUMBERS_LESS: u64 = 90;
@@ -55,8 +55,8 @@ pub fn weight_of(request: &Request, job: &Job) -> u64 {
     1 << (missing / 4).min(32)
 }
 
-/// Returns whether more members may be under a job of a request than a round is to hold. None is large
-/// if only few classes are allowed.
+/// Returns whether more members may be under a job of a request than a round is to hold. None is
+/// large if only few classes are allowed.
 pub fn is_large(request: &Request, job: &Job) -> bool
     ensures { IsTrue result → length job.now.prefix < 3 * job.now.size }
 {

@@ -32,7 +32,8 @@ const WORKERS_A_JOB: u32 = 8;
 /// at once, and what is written is still near.
 const JOBS_ALONE: u32 = 4;
 
-/// How many small jobs a round has at most, for each worker. Some ten thousand members are under them.
+/// How many small jobs a round has at most, for each worker. Some ten thousand members are under
+/// them.
 const SMALL_JOBS: u64 = 64;
 
 /// Returns how many of the workers a round of `jobs` jobs has use for.
@@ -72,8 +73,8 @@ pub fn front_of<F: Finder>(alloc: Global, finder: &mut F, run: &Run) -> Result<F
     )
 }
 
-/// Returns how many of the first entries go into a round: at least 1, at most `most`, and as many as
-/// have together no more under them than some small jobs.
+/// Returns how many of the first entries go into a round: at least 1, at most `most`, and as many
+/// as have together no more under them than some small jobs.
 fn few_ahead(front: &Front, most: u32) -> u32
     requires { 1 ≤ most }
     ensures some { 1 ≤ result }
@@ -95,8 +96,8 @@ fn few_ahead(front: &Front, most: u32) -> u32
 
 /// Returns the pace of a round in which as many jobs as are asked for have something under them, as
 /// far as the search sees it. Many jobs with nothing under them follow each other. A round of only
-/// these has nothing for several workers to do. Together they have no more under them than some small
-/// jobs for each worker.
+/// these has nothing for several workers to do. Together they have no more under them than some
+/// small jobs for each worker.
 fn pace_without_empty_jobs<F: Finder>(
     alloc: Global,
     finder: &mut F,

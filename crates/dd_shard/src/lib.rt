@@ -1,4 +1,5 @@
-//! Shards of a catalogue: their jobs, the texts of their checkpoints, and how their texts are joined.
+//! Shards of a catalogue: their jobs, the texts of their checkpoints, and how their texts are
+//! joined.
 #![tactic(auto)]
 
 mod ascending;

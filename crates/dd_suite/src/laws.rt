@@ -46,8 +46,8 @@ pub fn a_paused_chain_of_calls_writes_the_first_lines()
         → IsCutAt p (held_after (map call_of calls)) bytes }
 {}
 
-/// Let finished chains of calls have made the shards 1 to `count`, and let what they wrote together be
-/// files. Then a merge of these files, in any order, is not refused, and its text is that of the
+/// Let finished chains of calls have made the shards 1 to `count`, and let what they wrote together
+/// be files. Then a merge of these files, in any order, is not refused, and its text is that of the
 /// catalogue.
 pub fn finished_chains_of_all_shards_merge_to_the_catalogue()
     ensures refused { (q : Request) (count : ℕ) (shards : List Shard) (files : List (List ℕ))
