@@ -63,7 +63,7 @@ fn weight_of_class(request: &Request, pair: Pair, size: u8, class: u8) -> u64
 }
 
 impl ClassShares {
-    /// Those that a request allows in tables of a size.
+    /// Returns the weights of a pair for the degrees that a request allows in tables of a size.
     pub(crate) fn of(request: &Request, pair: Pair, size: u8) -> ClassShares
         requires { size ≤ 36 }
         ensures request { result.request ≡ request.now }

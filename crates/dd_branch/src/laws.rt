@@ -15,8 +15,9 @@ ghost use Rattle.dd_front.specs.declared.event.Event.{Event};
 ghost use Rattle.dd_front.specs.Machine.{Machine, IsOpened};
 ghost use Rattle.dd_front.specs.Step.{IsRun};
 
-/// Where each chamber of a flat symbol has two shares, no more than some number divided by its two
-/// degrees, twice the sum of all shares is at most that number for each chamber.
+/// Let each chamber of a flat symbol have two shares, one for its tile and one for its vertex. Each
+/// share is at most a fixed number divided by the degree there. Then twice the sum of all shares is
+/// at most this number times the number of chambers.
 pub fn flat_symbols_have_small_shares()
     ensures { (s : Symbol) (whole : ℕ) (tiles vertices : ℕ → ℕ) → IsSymbol s → Flat s
         → ((d : ℕ) → IsChamber s d → tiles d * degree s Tile d ≤ whole)

@@ -10,9 +10,9 @@
 //!   under it (`few_ahead`). So it holds few members, whatever the request. A run whose position is
 //!   within a large job splits it before its first round, and leaves out the parts that are wholly
 //!   before the position (`parts_from`).
-//! - **Jobs that are not counted.** If several workers are to do a round, and no checkpoint limits
-//!   how far it may be ahead, jobs under which the finder sees that nothing is go along and are not
-//!   counted (`do_long_round`). They are most of the jobs.
+//! - **Jobs that are not counted.** Several workers may do a round, and no checkpoint may limit how
+//!   far it is ahead. Then the round does not count jobs under which the finder sees that nothing is
+//!   (`do_long_round`). They are most of the jobs.
 //! - **Several workers** take the jobs of a round from a board and do them. They split jobs under
 //!   which much may be, and steal from each other. A sweep does what they leave.
 //! - **One worker** does the jobs in order, with no board, no lock and no deque (`do_alone`). It is

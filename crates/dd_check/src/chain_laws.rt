@@ -21,8 +21,8 @@ pub fn a_finished_chain_writes_its_text()
         → EndsAs calls Done → IsJoined calls bytes → IsPortionText p beginning 0 bytes }
 {}
 
-/// Where a chain has begun and its last call paused, they have written the first lines, as many as
-/// the checkpoint says.
+/// If a chain has begun and its last call paused, its calls have written the first lines together.
+/// The checkpoint says how many lines these are.
 pub fn a_paused_chain_writes_the_first_lines()
     ensures { (p : Portion) (name : Option (List ℕ)) (calls : List Call) (bytes : List ℕ)
         → IsChain p name calls → AllByRecursion MeetsClauses calls → HasBegun calls

@@ -19,15 +19,15 @@
 //! `build` tests the images first, makes the involutions, and then tests commuting, connectedness
 //! and degrees. Callers that know more test less:
 //!
-//! | the caller has | call |
-//! |---|---|
-//! | involutions (the reader of files) | `build_on` |
-//! | degrees that fit if the involutions commute and are connected | `build_fitting` |
-//! | the involutions of a whole stem (`involutions` of dd_partial_table) | `from_known_bytes` |
-//! | a table (`Table::known`) and the turns of its places (`with_places`) | `build_known` |
-//! | degrees of a symbol with the same involutions | `with_known_degrees`, which copies images |
-//!
-//! `with_places` is of dd_degrees. It walks each cell once.
+//! - A reader of files has involutions. It calls `build_on`.
+//! - A caller may know that the degrees fit if the involutions commute and are connected. It calls
+//!   `build_fitting`.
+//! - The search has the involutions of a whole stem (`involutions` of dd_partial_table). It calls
+//!   `from_known_bytes`.
+//! - A caller may have a table (`Table::known`) and the turns of its places. It calls
+//!   `build_known`. `with_places` of dd_degrees counts the turns. It walks each cell once.
+//! - A caller may have the degrees of a symbol with the same involutions. It calls
+//!   `with_known_degrees`, which copies the images.
 #![tactic(auto)]
 
 mod before;

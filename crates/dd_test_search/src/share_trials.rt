@@ -61,8 +61,8 @@ fn put(rows: &mut Rows, classes: &PathShares, sides: &mut Sides, place: u8, numb
     !sides.learn(classes, rows, mark)
 }
 
-/// What is answered before a chain of five chambers is put in, while it is open, of the number that
-/// closes it, when it is closed, and of the paths that there were before.
+/// Answers for a chain of five chambers: before it is put in, while it is open, for the number that
+/// closes it, and when it is closed. The last answers are for the paths that there were before.
 fn answers() -> [bool; 6] {
     let empty = Rows::empty(6);
     let mut rows = Rows::empty(6);
