@@ -7,11 +7,15 @@ use dd_front::{Event, Finder, Front, JobList};
 use dd_model::{Job, Memory, Position, Request};
 use std::alloc::Global;
 
-/// A job of `n` chambers is small if its prefix has `5 n - L` numbers, where `L` depends on the
-/// least degree that is allowed: 90, 65 for degree 2, 45 for degree 1. As was counted up to 26
-/// chambers (16 with degree 1), at most some ten thousand members are under a small job. So no job
-/// of fewer than 20 chambers is large, but for degrees below 3.
+/// At most some ten thousand members are under a job of `n` chambers whose prefix has `5 n - L`
+/// numbers. `L` depends on the least degree that is allowed: 90, 65 for degree 2, 45 for degree 1.
+/// This was counted up to 30 chambers, and up to 16 with degree 1.
 const NUMBERS_A_CHAMBER: u64 = 5;
+
+/// A job is small if it has these numbers. From 40 numbers on, it needs only three more for each
+/// chamber: else there would be about as many jobs of 36 chambers as members. So no job of fewer
+/// than 20 chambers is large, but for degrees below 3.
+const MANY_NUMBERS: u64 = 40;
 
 const NUMBERS_LESS: u64 = 90;
 
@@ -25,8 +29,8 @@ const FEW_CLASSES: u32 = 4;
 /// A job with more children than this stays whole. No table has more, so none does.
 const MOST_CHILDREN: usize = 255;
 
-/// Returns how many numbers a small job of a request has.
-fn numbers_of_small(request: &Request, size: u32) -> u64 {
+/// Returns how many numbers a job of a request has that has some ten thousand members at most.
+fn numbers_of_few(request: &Request, size: u32) -> u64 {
     let allows = |degree| request.faces.has(degree) || request.degrees.has(degree);
     let less = if allows(1) {
         NUMBERS_LESS_FROM_1
@@ -38,20 +42,27 @@ fn numbers_of_small(request: &Request, size: u32) -> u64 {
     (NUMBERS_A_CHAMBER * u64::from(size)).saturating_sub(less)
 }
 
+/// Returns how many numbers a small job of a request has.
+fn numbers_of_small(request: &Request, size: u32) -> u64 {
+    let numbers = numbers_of_few(request, size);
+    let further = numbers.saturating_sub(MANY_NUMBERS);
+    numbers.min(MANY_NUMBERS) + 3 * further / NUMBERS_A_CHAMBER
+}
+
 /// Returns whether a request allows only few classes of tiles or of vertices.
 fn allows_few_classes(request: &Request) -> bool {
     let is_few = |most| most != 0 && most <= FEW_CLASSES;
     is_few(request.tiles) || is_few(request.vertices)
 }
 
-/// Returns about how many times as many members are under a job as under a small one: twice as many
-/// for every four numbers that it has less. If only few classes are allowed, each job counts 1.
+/// Returns the weight of a job: about how many times ten thousand members are under it at most. It
+/// doubles for every four numbers that the job has less. If only few classes are allowed, it is 1.
 pub fn weight_of(request: &Request, job: &Job) -> u64 {
     if allows_few_classes(request) {
         return 1;
     }
     let numbers = job.prefix.as_slice().len() as u64;
-    let missing = numbers_of_small(request, job.size).saturating_sub(numbers);
+    let missing = numbers_of_few(request, job.size).saturating_sub(numbers);
     1 << (missing / 4).min(32)
 }
 

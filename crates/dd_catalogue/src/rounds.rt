@@ -32,9 +32,11 @@ const WORKERS_A_JOB: u32 = 8;
 /// at once, and what is written is still near.
 const JOBS_ALONE: u32 = 4;
 
-/// How many small jobs a round has at most, for each worker. Some ten thousand members are under
-/// them.
-const SMALL_JOBS: u64 = 64;
+/// How much the jobs of a round weigh together at most, for each worker. More workers than
+/// `HEAVY_WORKERS` get no more, so that a round holds few members.
+const ROUND_WEIGHT: u64 = 64;
+
+const HEAVY_WORKERS: u32 = 8;
 
 /// Returns how many of the workers a round of `jobs` jobs has use for.
 fn useful_workers(workers: u32, jobs: usize) -> u32
@@ -74,14 +76,14 @@ pub fn front_of<F: Finder>(alloc: Global, finder: &mut F, run: &Run) -> Result<F
 }
 
 /// Returns how many of the first entries go into a round: at least 1, at most `most`, and as many
-/// as have together no more under them than some small jobs.
+/// as weigh together no more than a round may.
 fn few_ahead(front: &Front, most: u32) -> u32
     requires { 1 ≤ most }
     ensures some { 1 ≤ result }
     ensures few { result ≤ most }
 {
     let request = front.request();
-    let mut left = SMALL_JOBS;
+    let mut left = ROUND_WEIGHT;
     let mut count = 0;
     for entry in front.entries() {
         let weight = weight_of(&request, &entry.job);
@@ -96,8 +98,7 @@ fn few_ahead(front: &Front, most: u32) -> u32
 
 /// Returns the pace of a round in which as many jobs as are asked for have something under them, as
 /// far as the search sees it. Many jobs with nothing under them follow each other. A round of only
-/// these has nothing for several workers to do. Together they have no more under them than some
-/// small jobs for each worker.
+/// these has nothing for several workers to do. Together they weigh no more than a round may.
 fn pace_without_empty_jobs<F: Finder>(
     alloc: Global,
     finder: &mut F,
@@ -112,16 +113,16 @@ fn pace_without_empty_jobs<F: Finder>(
 {
     let request = finder.request();
     let mut left = pace.round;
-    let mut small = SMALL_JOBS * u64::from(pace.workers);
+    let mut heavy = ROUND_WEIGHT * u64::from(pace.workers.min(HEAVY_WORKERS));
     let mut round = 0_u32;
     for entry in entries {
         let weight = weight_of(&request, &entry.job);
-        if left == 0 || weight > small {
+        if left == 0 || weight > heavy {
             break;
         }
         if finder.may_find(alloc, &entry.job)? {
             left -= 1;
-            small -= weight;
+            heavy -= weight;
         }
         round = round.saturating_add(1);
     }

@@ -156,6 +156,17 @@ impl EntryList {
         }
     }
 
+    /// Frees the entries that have left, if they are more than half of the list. So a list has at
+    /// most twice as many entries as were kept at once, and no entry is moved more than once.
+    fn free_gone(&mut self)
+        ensures { self.new ≡ self.old }
+    {
+        if self.gone > self.all.len() / 2 {
+            let _ = self.all.drain(..self.gone);
+            self.gone = 0;
+        }
+    }
+
     /// Puts entries in the place of one.
     fn replace(&mut self, place: usize, entries: Vec<Entry>) -> Result<(), Memory>
         requires place { place < length self.old }
@@ -185,6 +196,7 @@ impl EntryList {
         ensures numbers { HaveOwnNumbers self.old }
         ensures same { OnErr result (self.new ≡ self.old) }
     {
+        self.free_gone();
         match self.place_of(number) {
             Some(place) => self.replace(place, listed(alloc, next, jobs)?),
             None => Ok(()),

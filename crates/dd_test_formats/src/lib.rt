@@ -9,6 +9,8 @@ mod list_tests;
 #[cfg(test)]
 mod model_tests;
 #[cfg(test)]
+mod port_trials;
+#[cfg(test)]
 mod reading_tests;
 #[cfg(test)]
 mod words_tests;

@@ -1,5 +1,5 @@
-//! The whole program over stores and sinks in memory that fail, chains of runs that are driven, and
-//! the stores and sinks themselves. The crate has only tests.
+//! The whole program over stores and sinks in memory that fail, and chains of runs that are driven.
+//! The crate has only tests.
 #![tactic(auto)]
 
 #[cfg(test)]
@@ -8,8 +8,6 @@ mod catalogue_tests;
 mod chain_tests;
 #[cfg(test)]
 mod drive_trials;
-#[cfg(test)]
-mod port_trials;
 #[cfg(test)]
 mod round_tests;
 #[cfg(test)]
