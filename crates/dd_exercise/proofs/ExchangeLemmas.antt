@@ -65,7 +65,7 @@ exchanged_bijection n (suc k) z xs below l is =
     exchanged_bijection n k (next z) (swap xs (suc k) (answer z (suc k + 1))) below (omega (arith, l))
     (swap_keeps n xs (suc k) (answer z (suc k + 1)) l (omega (arith, l, other)) is)
 
-answer_below : (z i : ℕ) → 1 ≤ i → answer z i < i
+pub answer_below : (z i : ℕ) → 1 ≤ i → answer z i < i
 unfolding answer
 answer_below z i some = omega (arith, some)
 

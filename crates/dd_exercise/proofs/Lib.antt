@@ -8,3 +8,15 @@ pub mod DifferentLemmas
 pub mod TallyLemmas
 pub mod OneText
 pub mod ItemSizes
+pub mod TwoChambers
+pub mod EighteenSeeds
+pub mod SeedsExist
+pub mod ItemsExist
+pub mod CellsExist
+pub mod SortExists
+pub mod NextJoint
+pub mod RoundsExist
+pub mod CornersExist
+pub mod SurfaceExists
+pub mod OrbifoldExists
+pub mod TextExists
