@@ -13,11 +13,11 @@ use Rattle.dd_front.proofs.Telling.{one_first}
 pub record HasShortFirst (f : Machine) : Type 0 where
   pub list : List Symbol
   pub first : HasFirst f list
-  pub small : length list < 2 ^ 64
+  pub small : length list < 2 ^ 127
 
 -- where the first entry has so many members, it is done
 pub first_there : (f : Machine) (count : Option ℕ) → is_some count ≡ true
-    → MatchOption count ((list : List Symbol) → ¬ HasFirst f list) (λ n. (n < 2 ^ 64) × ((list : List Symbol) × HasFirst f list × (length list ≡ n))) → HasShortFirst f
+    → MatchOption count ((list : List Symbol) → ¬ HasFirst f list) (λ n. (n < 2 ^ 127) × ((list : List Symbol) × HasFirst f list × (length list ≡ n))) → HasShortFirst f
 first_there f None some first = cc
 first_there f (Some n) some (low, first) =
     let size = first.2 in

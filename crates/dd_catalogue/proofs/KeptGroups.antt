@@ -1,5 +1,5 @@
 -- Rounds of a run that keeps checkpoints.
-use Rattle.std.proofs.Common.{◌≡◌, ◌⊎◌, ℕ, ◌≤◌, List, [], ◌∷◌, ◌++◌, Bool, true, false, Option, Result, Ok, Err, IfOk, length, take, inl, inr, ⊎_elim, refl, sym, ap, ◌∙◌, subst, arith}
+use Rattle.std.proofs.Common.{◌≡◌, ◌⊎◌, ℕ, ◌<◌, ◌≤◌, List, [], ◌∷◌, ◌++◌, Bool, true, false, Option, Result, Ok, Err, IfOk, length, take, inl, inr, ⊎_elim, refl, sym, ap, ◌∙◌, subst, arith}
 use Rattle.std.specs.Prelude.{if◌then◌else◌, MatchBool}
 use Rattle.std.specs.List.{AllByRecursion, Contains}
 use Rattle.dd_model.specs.Position.{IsWhollyBefore}
@@ -11,13 +11,13 @@ use Rattle.dd_model.proofs.Lists.{Contains-head}
 use Rattle.dd_front.specs.declared.entry.Entry.{Entry}
 use Rattle.dd_front.specs.Machine.{Machine, StandsAt, jobs_of}
 use Rattle.dd_front.proofs.Standing.{stands_once}
-use Rattle.dd_check.specs.declared.checkpoint.Checkpoint.{Checkpoint}
+use Rattle.dd_check.specs.ChainPuts.{IsStop}
 use Rattle.dd_check.specs.Clauses.{HasWork}
 use Rattle.dd_check.specs.ChainStarts.{Start}
 use Rattle.dd_pages.specs.Pages.{IsEmpty}
 use Rattle.dd_pages.specs.Rounds.{AreOpen}
-use Rattle.dd_pages.specs.Runs.{IsLimit}
-use Rattle.dd_pages.specs.Names.{HasRun, IsPutStop, IsRoundStop}
+use Rattle.dd_pages.specs.Runs.{IsLimit, most_lines}
+use Rattle.dd_pages.specs.Names.{HasRun}
 use Rattle.dd_pages.specs.Saves.{HoldsCheckAt, Saves, IsOfRound}
 use Rattle.dd_pages.specs.declared.fault.RunFault.{RunFault}
 use Rattle.dd_pages.specs.declared.finish.Finish.{Finish}
@@ -29,7 +29,7 @@ use Rattle.dd_catalogue.specs.Splits.{IsSplit, IsGroupDone}
 use Rattle.dd_catalogue.specs.Ways.{Way, IsUnderWay, IsFull}
 use Rattle.dd_catalogue.specs.Outs.{IsPartOut}
 use Rattle.dd_catalogue.specs.Kept.{IsMid, IsHead}
-use Rattle.dd_catalogue.proofs.KeptRuns.{head_after, job_work, kept_more, mid_failed, mid_full, mid_round, mid_saved, mid_stopped, mid_unsaved, mid_whole}
+use Rattle.dd_catalogue.proofs.KeptRuns.{head_after, job_work, kept_more, mid_ended, mid_failed, mid_full, mid_round, mid_saved, mid_stopped, mid_unsaved, mid_whole, round_stop}
 use Rattle.dd_catalogue.proofs.RoundEntries.{round_behind}
 use Rattle.dd_catalogue.proofs.Splits.{refined_keeps, split_opens}
 use Rattle.dd_catalogue.proofs.WaySteps.{full_part, way_part, way_round, way_split}
@@ -145,21 +145,21 @@ module _ (s : Start) (most : ℕ) (tells : Bool) (old before held now : Option (
   head_work = ⊎_elim (λ never. cc) (λ work. work) head.mid.due
 
   -- a place where a checkpoint may be put between two rounds
-  pub place_stop : (at : Position) → StandsAt f.from f.entries at → IsLongAsWhole at → (check : Checkpoint) → check.at ≡ head.way.since → check.lines ≡ page.count → IsPutStop head.way.start check
-  place_stop at stands long check at_is lines_is =
+  pub place_stop : (at : Position) → StandsAt f.from f.entries at → IsLongAsWhole at → IsStop head.way.start.portion head.way.since
+  place_stop at stands long =
       let way = head.mid.under.emitted in
       let later = subst (AllByRecursion (λ j. ¬ IsWhollyBefore f.from j)) head.ahead_is (subst (λ from. AllByRecursion (λ j. ¬ IsWhollyBefore from j) head.way.ahead) (sym way.stays) head.mid.later) in
       let stop = whole_stop head.way.start.portion head.way.since f.from at f.entries (subst (AreWork head.way.start.portion head.way.since) head.ahead_is head.mid.work) stands later long in
-      inl (subst (IsRoundStop head.way.start.portion) (stands_once f.from at head.way.since f.entries stands (head.stands refl) ∙ sym at_is) stop)
+      subst (IsStop head.way.start.portion) (stands_once f.from at head.way.since f.entries stands (head.stands refl)) (round_stop head.way.start.portion at stop)
 
   module _ (at : Position) (stands : StandsAt f.from f.entries at) (long : IsLongAsWhole at) where
-    pub head_saved : (after : Option (List ℕ)) → (tells ≡ true → HoldsCheckAt s page f after) → IsHead s most tells true old before after now page f
-    head_saved after saves = record {
+    pub head_saved : page.count < most_lines → (after : Option (List ℕ)) → (tells ≡ true → HoldsCheckAt s page f after) → IsHead s most tells true old before after now page f
+    head_saved low after saves = record {
       way = head.way;
       start_is = head.start_is;
       most_is = head.most_is;
       mid =
-          mid_saved head.way tells false old before held now page f head.mid after (head.stands refl) (place_stop at stands long) (inr head_work)
+          mid_saved head.way tells false old before held now page f head.mid after (head.stands refl) (place_stop at stands long) low (inr head_work)
           (λ told. subst (λ x. HoldsCheckAt x page f after) (sym head.start_is) (saves told));
       ahead_is = head.ahead_is;
       opens = head.opens;
@@ -173,6 +173,14 @@ module _ (s : Start) (most : ℕ) (tells : Bool) (old before held now : Option (
         (subst (λ n. HasRun head.way.start n pause old now tells before after (Err fault)) head.most_is
         (mid_unsaved head.way tells false old before held now page f head.mid after pause fault (head.stands refl) (place_stop at stands long) (inr head_work)
         (λ told. subst (λ x. Saves {T = Unit} x page f held after (Err fault)) (sym head.start_is) (saves told))))
+
+  -- the checkpoint of the end was put last
+  pub head_ended : (after : Option (List ℕ)) (pause : Option ℕ) (limit : Limit) → IsLimit s.lines pause limit → page.count ≤ limit.last → f.entries ≡ [] → (tells ≡ true → HoldsCheckAt s page f after) → HasRun s most pause old now tells before after (Ok Whole)
+  head_ended after pause limit is low none saves =
+      subst (λ x. HasRun x most pause old now tells before after (Ok Whole)) head.start_is
+      (subst (λ n. HasRun head.way.start n pause old now tells before after (Ok Whole)) head.most_is
+      (mid_ended head.way tells false old before held now page f head.mid after pause limit (head_limit s most tells false old before held now page f head pause limit is) low none head_work
+      (λ told. subst (λ x. HoldsCheckAt x page f after) (sym head.start_is) (saves told))))
 
 -- ## Lines of a round that were written
 

@@ -1,5 +1,5 @@
 -- Runs that keep checkpoints.
-use Rattle.std.proofs.Common.{◌≡◌, ◌≢◌, ◌⊎◌, ℕ, ◌*◌, ◌≤◌, min, List, [], ◌∷◌, ◌++◌, Bool, true, false, Option, Result, Ok, Err, IsOk, IfOk, length, length-append, append_assoc, take, inl, inr, ⊎_elim, refl, sym, ap, ◌∙◌, subst, arith}
+use Rattle.std.proofs.Common.{◌≡◌, ◌≢◌, ◌⊎◌, ℕ, ◌*◌, ◌<◌, ◌≤◌, min, List, [], ◌∷◌, ◌++◌, Bool, true, false, Option, Result, Ok, Err, IsOk, IfOk, length, length-append, append_assoc, take, inl, inr, ⊎_elim, refl, sym, ap, ◌∙◌, subst, arith}
 use Rattle.std.proofs.lemmas.List.{append-nil, take_all, take-append-le}
 use Rattle.std.specs.Io.KnownBytes.{Appends}
 use Rattle.std.specs.List.{AllByRecursion, Contains}
@@ -30,11 +30,11 @@ use Rattle.dd_check.specs.ChainPuts.{IsPut, IsStop, IsNextMember}
 use Rattle.dd_check.specs.ChainStarts.{Start, first_start}
 use Rattle.dd_pages.specs.Pages.{IsEmpty}
 use Rattle.dd_pages.specs.Rounds.{AreJobsFrom, AreOpen}
-use Rattle.dd_pages.specs.Runs.{IsLimit, IsPause, IsBeforePause, Finishes}
+use Rattle.dd_pages.specs.Runs.{IsLimit, IsPause, IsBeforePause, Finishes, most_lines}
 use Rattle.dd_pages.specs.declared.finish.Finish.TheVariants.{Whole, Paused, CutShort}
 use Rattle.dd_pages.specs.declared.limit.Limit.{Limit}
 use Rattle.dd_pages.specs.Saves.{HoldsCheckAt, Saves, SavesFirst, IsOfRound}
-use Rattle.dd_pages.specs.Names.{KeepsName, PutsCheck, PutsAtEnd, PutsAtPause, PutsBetween, IsPutStop, IsRoundStop, LeavesName, FinishesName, HasRun}
+use Rattle.dd_pages.specs.Names.{KeepsName, PutsCheck, PutsAtEnd, PutsAtPause, PutsBeforeLast, LeavesName, FinishesName, HasRun}
 use Rattle.dd_pages.specs.declared.fault.RunFault.{RunFault}
 use Rattle.dd_pages.specs.declared.finish.Finish.{Finish}
 use Rattle.dd_pages.specs.declared.pages.Page.{Page}
@@ -46,7 +46,7 @@ use Rattle.dd_catalogue.proofs.JobsFrom.{from_opening}
 use Rattle.dd_catalogue.proofs.Outcomes.{WentOut, went_out, held_between, lines_between, shown_earlier, finish_whole, finish_full, full_lines}
 use Rattle.dd_catalogue.proofs.RoundEntries.{done_early}
 use Rattle.dd_catalogue.proofs.WaySteps.{appends_nothing, way_first, way_part, full_part, begun_open}
-use Rattle.dd_catalogue.proofs.Working.{work_left, taken_part}
+use Rattle.dd_catalogue.proofs.Working.{IsRoundStop, work_left, taken_part}
 
 -- a run with a job has work
 has_work : (s : Start) (jobs : List Job) (c : Job) → AreWork s.portion s.at jobs → Contains jobs c → HasWork s
@@ -61,17 +61,10 @@ has_work s jobs c work there =
 pub job_work : (w : Way) (now : Option (List ℕ)) (page : Page) (f : Machine) (c : Job) → IsUnderWay w now page f → Contains (jobs_of f.entries) c → HasWork w.start
 job_work w now page f c way there = let own = way.emitted.held.go_on.extend c there in has_work w.start w.jobs own.0 way.emitted.work own.1
 
--- a run may stop where a checkpoint is put
-round_stop : (q : Portion) (p : Position) → IsRoundStop q p → IsStop q p
+-- a run may stop between two rounds
+pub round_stop : (q : Portion) (p : Position) → IsRoundStop q p → IsStop q p
 round_stop q End stop = tt
 round_stop q (At job) stop = inl stop
-
-member_stop : (q : Portion) (p : Position) → IsNextMember q p → IsStop q p
-member_stop q End next = absurd next
-member_stop q (At job) next = inr next
-
-may_stop : (s : Start) (check : Checkpoint) → IsPutStop s check → IsStop s.portion check.at
-may_stop s check stop = ⊎_elim (λ round. round_stop s.portion check.at round) (λ next. member_stop s.portion check.at next.0) stop
 
 -- ## Checkpoints that were put
 
@@ -211,41 +204,51 @@ module _ (w : Way) (tells here : Bool) (old before held now : Option (List ℕ))
 
   -- ## A checkpoint of where the machine stands
 
-  module _ (after : Option (List ℕ)) (check : HoldsCheckAt w.start page f after) (stop : IsPutStop w.start check.is_check.check) (due : (w.start.number ≡ 1) ⊎ HasWork w.start) where
-    put_here : IsPutAt w.start after w.base check.is_check.check.at
-    put_here = record {
-      put = record {
-        check = check.is_check.check;
-        put = check_put w.start page f after w.base check mid.settled (mid_lines check.is_check.check.at check.is_check.stands) (may_stop w.start check.is_check.check stop);
-        all = check.is_check.bytes ∙ mid.settled;
-        stop = stop;
-        due = due;
-      };
-      at_is = refl;
-    }
+  module _ (after : Option (List ℕ)) (check : HoldsCheckAt w.start page f after) (stop : IsStop w.start.portion check.is_check.check.at) where
+    put_base : IsPut after w.base w.start check.is_check.check
+    put_base = check_put w.start page f after w.base check mid.settled (mid_lines check.is_check.check.at check.is_check.stands) stop
 
     put_rounds : IsOfRound w.start w.most check.is_check.check.at w.base
     put_rounds = told_shown w.start w.most check.is_check.check.at w.base page.count (mid_lines check.is_check.check.at check.is_check.stands)
 
     pub puts_base : PutsCheck w.start w.most after w.base
-    puts_base = puts_more w.start w.most after w.base [] w.base check.is_check.check.at (sym (append-nil w.base)) put_rounds put_here
+    puts_base = record { check = check.is_check.check; put = put_base; of_round = put_rounds }
 
-    pub kept_here : StandsAt f.from f.entries w.since → HasKept w.start w.most before after w.base w.since true
-    kept_here stands = record {
+    puts_end : check.is_check.check.at ≡ End → PutsAtEnd w.start after w.base
+    puts_end end = record { check = check.is_check.check; put = put_base; all = check.is_check.bytes ∙ mid.settled; at_end = end }
+
+    put_here : page.count < most_lines → (w.start.number ≡ 1) ⊎ HasWork w.start → IsPutAt w.start after w.base check.is_check.check.at
+    put_here low due = record {
+      put = record {
+        check = check.is_check.check;
+        put = put_base;
+        all = check.is_check.bytes ∙ mid.settled;
+        before_last = subst (λ n. n < most_lines) (sym check.is_check.lines) low;
+        due = due;
+      };
+      at_is = refl;
+    }
+
+    pub kept_here : page.count < most_lines → (w.start.number ≡ 1) ⊎ HasWork w.start → StandsAt f.from f.entries w.since → HasKept w.start w.most before after w.base w.since true
+    kept_here low due stands = record {
       told = w.base;
       more = [];
       parts = sym (append-nil w.base);
       at = check.is_check.check.at;
-      kept = inr put_here;
+      kept = inr (put_here low due);
       rounds = put_rounds;
       is_here = λ true_now. stands_once f.from check.is_check.check.at w.since f.entries check.is_check.stands stands;
       all_told = λ true_now. refl;
     }
 
+  -- the run may stop where such a checkpoint stands
+  stop_of : (after : Option (List ℕ)) (check : HoldsCheckAt w.start page f after) → StandsAt f.from f.entries w.since → IsStop w.start.portion w.since → IsStop w.start.portion check.is_check.check.at
+  stop_of after check stands stop = subst (IsStop w.start.portion) (sym (stands_once f.from check.is_check.check.at w.since f.entries check.is_check.stands stands)) stop
+
   -- where it was put
-  pub mid_saved : (after : Option (List ℕ)) → StandsAt f.from f.entries w.since → ((check : Checkpoint) → check.at ≡ w.since → check.lines ≡ page.count → IsPutStop w.start check) → (w.start.number ≡ 1) ⊎ HasWork w.start
+  pub mid_saved : (after : Option (List ℕ)) → StandsAt f.from f.entries w.since → IsStop w.start.portion w.since → page.count < most_lines → (w.start.number ≡ 1) ⊎ HasWork w.start
       → (tells ≡ true → HoldsCheckAt w.start page f after) → IsMid w tells true old before after now page f
-  mid_saved after stands stop due saves = record {
+  mid_saved after stands stop low due saves = record {
     appended = mid.appended;
     known_is = mid.known_is;
     under = mid.under;
@@ -255,15 +258,12 @@ module _ (w : Way) (tells here : Bool) (old before held now : Option (List ℕ))
     work = mid.work;
     later = mid.later;
     round_is = mid.round_is;
-    kept = λ told. let check = saves told in kept_here after check (stop_of check) due stands;
+    kept = λ told. let check = saves told in kept_here after check (stop_of after check stands stop) low due stands;
     due = inl refl;
   }
-    where
-      stop_of : (check : HoldsCheckAt w.start page f after) → IsPutStop w.start check.is_check.check
-      stop_of check = stop check.is_check.check (stands_once f.from check.is_check.check.at w.since f.entries check.is_check.stands stands) check.is_check.lines
 
   -- and where it could not be put
-  pub mid_unsaved : (after : Option (List ℕ)) (pause : Option ℕ) (fault : RunFault) → StandsAt f.from f.entries w.since → ((check : Checkpoint) → check.at ≡ w.since → check.lines ≡ page.count → IsPutStop w.start check)
+  pub mid_unsaved : (after : Option (List ℕ)) (pause : Option ℕ) (fault : RunFault) → StandsAt f.from f.entries w.since → IsStop w.start.portion w.since
       → (w.start.number ≡ 1) ⊎ HasWork w.start → (tells ≡ true → Saves {T = Unit} w.start page f held after (Err fault)) → HasRun w.start w.most pause old now tells before after (Err fault)
   mid_unsaved after pause fault stands stop due saves = record {
     output = w.base;
@@ -272,8 +272,7 @@ module _ (w : Way) (tells here : Bool) (old before held now : Option (List ℕ))
         ⊎_elim
         (λ same. subst (λ x. LeavesName w.start w.most pause before x (Err fault) w.base) (sym same) (name_left pause (Err fault) (mid.kept told) tt))
         (λ check.
-        let at = stands_once f.from check.is_check.check.at w.since f.entries check.is_check.stands stands in
-        let puts = puts_base after check (stop check.is_check.check at check.is_check.lines) due in
+        let puts = puts_base after check (stop_of after check stands stop) in
         record { held = inr puts; first = λ one worked. puts; idle = λ later none. absurd (⊎_elim later none due); finish = tt })
         (saves told);
   }
@@ -312,6 +311,20 @@ module _ (w : Way) (tells here : Bool) (old before held now : Option (List ℕ))
           (λ end. ⊎_elim (λ same. absurd (no_work (ap jobs_of none) ahead (sym (k.is_here stays) ∙ same.at_start) work)) (λ put. at_end k work end put) k.kept)
           ended
 
+  -- the same, where the checkpoint of the end was put last
+  pub mid_ended : (after : Option (List ℕ)) (pause : Option ℕ) (limit : Limit) → IsLimit w.start.lines pause limit → page.count ≤ limit.last → f.entries ≡ [] → HasWork w.start → (tells ≡ true → HoldsCheckAt w.start page f after)
+      → HasRun w.start w.most pause old now tells before after (Ok Whole)
+  mid_ended after pause limit is low none due saves = record {
+    output = w.base;
+    is_output = record { appended = mid_out.appended; front = mid_out.front; finishes = finish_whole w.start pause limit page.count w.base is (mid_lines End (subst (λ es. StandsAt f.from es End) (sym none) refl)) low };
+    left = λ told.
+        let check = saves told in
+        let end : check.is_check.check.at ≡ End = subst (λ es. StandsAt f.from es check.is_check.check.at) none check.is_check.stands in
+        let stop = subst (IsStop w.start.portion) (sym end) tt in
+        let puts = puts_base after check stop in
+        record { held = inr puts; first = λ one worked. puts; idle = λ later idle. absurd (idle due); finish = λ work. puts_end after check stop end };
+  }
+
   -- it came to the last line
   module _ (due : HasWork w.start) (later : Option (List ℕ)) (new : Page) (h : Machine) (limit : Limit) (full : IsFull w later new limit.last h) (empty : IsEmpty new) (pause : Option ℕ) (is : IsLimit w.start.lines pause limit)
       (rounds : (told : tells ≡ true) → IsOfRound w.start w.most (mid.kept told).at (w.base ++ full.lines.written))
@@ -349,14 +362,14 @@ module _ (w : Way) (tells here : Bool) (old before held now : Option (List ℕ))
               subst (λ x. LeavesName w.start w.most pause before x r full_output) (sym same)
               (left_name w.start w.most pause before held k.told (k.more ++ full.lines.written) full_output k.at r (ap (λ xs. xs ++ full.lines.written) k.parts ∙ append_assoc k.told k.more full.lines.written) of_round k.kept does)
 
-          between : (k : HasKept w.start w.most before held w.base w.since here) → (held ≡ before) ⊎ PutsBetween w.start held full_output
+          between : (k : HasKept w.start w.most before held w.base w.since here) → (held ≡ before) ⊎ PutsBeforeLast w.start held full_output
           between k =
               ⊎_elim
               (λ same. inl same.same)
               (λ put. inr (record {
                 check = put.put.check;
                 put = more_put w.start held k.told (k.more ++ full.lines.written) full_output put.put.check (ap (λ xs. xs ++ full.lines.written) k.parts ∙ append_assoc k.told k.more full.lines.written) put.put.all put.put.put;
-                stop = put.put.stop;
+                before_last = put.put.before_last;
               }))
               k.kept
 
@@ -556,6 +569,9 @@ module _ (s : Start) (most : ℕ) (some : 1 ≤ most) (old before held : Option 
     number_one : s.number ≡ 1
     number_one = ap (λ (t : Start). t.number) first
 
+    first_low : page.count < most_lines
+    first_low = let none = ap (λ (t : Start). t.lines) first in omega (arith, count, none)
+
     begun_stop : (p : Position) (es : List Entry) → jobs_of es ≡ begun.jobs → StandsAt s.at es p → IsRoundStop s.portion p
     begun_stop p [] same stands = subst (IsRoundStop s.portion) (sym stands) tt
     begun_stop p (e ∷ es) same stands =
@@ -597,10 +613,10 @@ module _ (s : Start) (most : ℕ) (some : 1 ≤ most) (old before held : Option 
       standing = first_mid false place (work_standing place check.is_check.stands) (λ never. cc)
 
       first_kept : HasKept s most before after [] place true
-      first_kept = kept_here (first_way place (take most (work_standing place check.is_check.stands).whole)) false true old before held old page f standing after check (inl (first_stop place check.is_check.stands)) (inl number_one) check.is_check.stands
+      first_kept = kept_here (first_way place (take most (work_standing place check.is_check.stands).whole)) false true old before held old page f standing after check (round_stop s.portion place (first_stop place check.is_check.stands)) first_low (inl number_one) check.is_check.stands
 
       first_puts : PutsCheck s most after []
-      first_puts = puts_base (first_way place (take most (work_standing place check.is_check.stands).whole)) false true old before held old page f standing after check (inl (first_stop place check.is_check.stands)) (inl number_one)
+      first_puts = puts_base (first_way place (take most (work_standing place check.is_check.stands).whole)) false true old before held old page f standing after check (round_stop s.portion place (first_stop place check.is_check.stands))
 
   -- it could not be put
   pub first_failed : (s.number ≡ 1 → s ≡ first_start s.portion) → (pause : Option ℕ) (after : Option (List ℕ)) (tells : Bool) (fault : RunFault) → (tells ≡ true → SavesFirst s page f before after (Err fault))

@@ -9,13 +9,12 @@ use Rattle.dd_model.specs.declared.jobs.Position.{Position}
 use Rattle.dd_front.specs.Machine.{Machine, jobs_of}
 use Rattle.dd_front.specs.Rounds.{open_jobs}
 use Rattle.dd_front.specs.Step.{EmitsPart, at_symbol}
-use Rattle.dd_check.specs.declared.checkpoint.Checkpoint.{Checkpoint}
 use Rattle.dd_check.specs.Clauses.{HasWork}
-use Rattle.dd_check.specs.ChainPuts.{IsNextMember}
+use Rattle.dd_check.specs.ChainPuts.{IsStop}
 use Rattle.std.specs.Io.KnownBytes.{Appends}
 use Rattle.dd_pages.specs.Pages.{HasLines, IsEmpty}
-use Rattle.dd_pages.specs.Runs.{IsLimit}
-use Rattle.dd_pages.specs.Names.{HasRun, IsPutStop}
+use Rattle.dd_pages.specs.Runs.{IsLimit, most_lines}
+use Rattle.dd_pages.specs.Names.{HasRun}
 use Rattle.dd_pages.specs.Saves.{HoldsCheckAt, Saves, IsOfRound}
 use Rattle.dd_pages.specs.declared.fault.RunFault.{RunFault}
 use Rattle.dd_pages.specs.declared.finish.Finish.{Finish}
@@ -74,11 +73,13 @@ module _ (w : Way) (now : Option (List ℕ)) (page : Page) (m : Machine) (last :
       → (tells ≡ true → HasKept w.start w.most before held (w.base ++ full.lines.written) (at_symbol full.next) false) → IsMid member_way tells false old before held now page m
   member_mid tells old before held appended some due kept = mid_here next_from now page m next_way empty (at_symbol full.next) full.stands work later_from tells old before held appended some due kept
 
-  -- a member with a line of its own
-  pub next_stop : (pause : Option ℕ) (limit : Limit) → IsLimit w.start.lines pause limit → page.count < limit.last → (check : Checkpoint) → check.at ≡ at_symbol full.next → check.lines ≡ page.count → IsPutStop w.start check
-  next_stop pause limit is low check at_is lines_is =
-      let most = limit_most w.start.lines pause limit is in
-      inr (subst (IsNextMember w.start.portion) (sym at_is) (record { next = full.next; member = full.member; job_is = refl }), omega (arith, low, lines_is, most))
+  -- a member
+  pub next_stop : IsStop w.start.portion (at_symbol full.next)
+  next_stop = inr (record { next = full.next; member = full.member; job_is = refl })
+
+  -- with a line of its own
+  pub next_low : (pause : Option ℕ) (limit : Limit) → IsLimit w.start.lines pause limit → page.count < limit.last → page.count < most_lines
+  next_low pause limit is low = let most = limit_most w.start.lines pause limit is in omega (arith, low, most)
 
 module _ (w : Way) (tells : Bool) (old before held now : Option (List ℕ)) (page : Page) (f : Machine) (mid : IsMid w tells false old before held now page f) where
   work_due : HasWork w.start
@@ -124,7 +125,7 @@ module _ (w : Way) (tells : Bool) (old before held now : Option (List ℕ)) (pag
 
       -- its checkpoint could not be put
       pub member_unsaved : page.count < limit.last → (after : Option (List ℕ)) (fault : RunFault) → (tells ≡ true → Saves {T = Unit} w.start page m held after (Err fault)) → HasRun w.start w.most pause old now tells before after (Err fault)
-      member_unsaved low after fault saves = mid_unsaved (member_way w now page m page.count full mid.empty mid.work) tells false old before held now page m here_mid after pause fault full.stands (next_stop w now page m page.count full mid.empty mid.work pause limit is low) (inr work_due) saves
+      member_unsaved low after fault saves = mid_unsaved (member_way w now page m page.count full mid.empty mid.work) tells false old before held now page m here_mid after pause fault full.stands (next_stop w now page m page.count full mid.empty mid.work) (inr work_due) saves
 
       -- and where it was put
       pub member_saved : page.count < limit.last → (after : Option (List ℕ)) → (tells ≡ true → HoldsCheckAt w.start page m after) → GoesOnHere w tells old before after now page m
@@ -132,7 +133,7 @@ module _ (w : Way) (tells : Bool) (old before held now : Option (List ℕ)) (pag
         way = member_way w now page m page.count full mid.empty mid.work;
         start_is = refl;
         most_is = refl;
-        mid = mid_saved (member_way w now page m page.count full mid.empty mid.work) tells false old before held now page m here_mid after full.stands (next_stop w now page m page.count full mid.empty mid.work pause limit is low) (inr work_due) saves;
+        mid = mid_saved (member_way w now page m page.count full mid.empty mid.work) tells false old before held now page m here_mid after full.stands (next_stop w now page m page.count full mid.empty mid.work) (next_low w now page m page.count full mid.empty mid.work pause limit is low) (inr work_due) saves;
       }
 
 -- ## At a member, after lines of its round
@@ -151,7 +152,7 @@ module _ (w : Way) (tells : Bool) (old before held mid_now : Option (List ℕ)) 
     -- the checkpoint of there could not be put
     pub after_unsaved : (after : Option (List ℕ)) (fault : RunFault) → (tells ≡ true → Saves {T = Unit} w.start new m held after (Err fault)) → HasRun w.start w.most pause old now tells before after (Err fault)
     after_unsaved after fault saves =
-        mid_unsaved (member_way w now new m last full empty mid.work) tells false old before held now new m after_mid after pause fault full.stands (next_stop w now new m last full empty mid.work pause limit is low) (inr due) saves
+        mid_unsaved (member_way w now new m last full empty mid.work) tells false old before held now new m after_mid after pause fault full.stands (next_stop w now new m last full empty mid.work) (inr due) saves
 
     -- and where it was put
     pub after_saved : (after : Option (List ℕ)) → (tells ≡ true → HoldsCheckAt w.start new m after) → GoesOnHere w tells old before after now new m
@@ -159,7 +160,7 @@ module _ (w : Way) (tells : Bool) (old before held mid_now : Option (List ℕ)) 
       way = member_way w now new m last full empty mid.work;
       start_is = refl;
       most_is = refl;
-      mid = mid_saved (member_way w now new m last full empty mid.work) tells false old before held now new m after_mid after full.stands (next_stop w now new m last full empty mid.work pause limit is low) (inr due) saves;
+      mid = mid_saved (member_way w now new m last full empty mid.work) tells false old before held now new m after_mid after full.stands (next_stop w now new m last full empty mid.work) (next_low w now new m last full empty mid.work pause limit is low) (inr due) saves;
     }
 
 -- ## As many lines as fit

@@ -440,7 +440,7 @@ few_emitted f g room emitted not emits =
     (cases_lt room (length emitted))
 
 -- where the first entry is not done it has no members
-pub none_on_way : (f : Machine) (count : Option ℕ) → is_some count ≡ false → MatchOption count ((list : List Symbol) → ¬ HasFirst f list) (λ n. (n < 2 ^ 64) × ((list : List Symbol) × HasFirst f list × (length list ≡ n)))
+pub none_on_way : (f : Machine) (count : Option ℕ) → is_some count ≡ false → MatchOption count ((list : List Symbol) → ¬ HasFirst f list) (λ n. (n < 2 ^ 127) × ((list : List Symbol) × HasFirst f list × (length list ≡ n)))
     → (list : List Symbol) → ¬ HasFirst f list
 none_on_way f None not first = first
 none_on_way f (Some n) not first = cc

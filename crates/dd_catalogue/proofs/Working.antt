@@ -32,7 +32,6 @@ use Rattle.dd_jobs.specs.declared.portions.Portion.{Portion}
 use Rattle.dd_jobs.specs.Portions.{IsPortionJob, IsPortionMember}
 use Rattle.dd_jobs.proofs.PortionLaws.{portion_job, under_portion}
 use Rattle.dd_board.specs.Desk.{AreJobsOf}
-use Rattle.dd_pages.specs.Names.{IsRoundStop}
 use Rattle.dd_pages.specs.Rounds.{AreJobsFrom}
 use Rattle.dd_catalogue.specs.Works.{IsPartOfOne, HasPart, AreWork, CoverRest, IsStarting, IsLongAsWhole}
 use Rattle.dd_catalogue.specs.Splits.{IsNoLonger}
@@ -497,6 +496,11 @@ whole_part p at jobs c work there long =
     let numbers : length of.job.prefix ≡ length c.prefix = (portion_job p of.job opening).numbers ∙ ap (λ n. min (3 * n) 9) (sym size) ∙ sym long in
     let prefix : c.prefix ≡ of.job.prefix = same_when_whole of.job.prefix c.prefix of.extends.begins numbers in
     subst (IsPortionJob p) (λ i. record { size = sym size i; prefix = sym prefix i }) opening
+
+-- where a run stands between two rounds: at a job of the portion, or at the end
+abbrev pub IsRoundStop : Portion → Position → Type 0
+IsRoundStop p End = Unit {0}
+IsRoundStop p (At job) = IsPortionJob p job
 
 -- where a machine stands that has such work, it may stop, if the position is as long as the jobs of an opening
 pub whole_stop : (p : Portion) (since from at : Position) (es : List Entry) → AreWork p since (jobs_of es) → StandsAt from es at → AllByRecursion (λ j. ¬ IsWhollyBefore from j) (jobs_of es) → IsLongAsWhole at → IsRoundStop p at

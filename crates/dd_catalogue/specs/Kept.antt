@@ -1,5 +1,5 @@
 -- A run that keeps checkpoints, under way.
-use Rattle.std.specs.Prelude.{◌≡◌, ◌≢◌, ◌⊎◌, ◌≤◌, ℕ, List, [], ◌++◌, Bool, true, false, Option, length, take}
+use Rattle.std.specs.Prelude.{◌≡◌, ◌≢◌, ◌⊎◌, ◌<◌, ◌≤◌, ℕ, List, [], ◌++◌, Bool, true, false, Option, length, take}
 use Rattle.std.specs.Io.KnownBytes.{Appends}
 use Rattle.std.specs.List.{AllByRecursion}
 use Rattle.dd_model.specs.Position.{IsWhollyBefore}
@@ -12,18 +12,19 @@ use Rattle.dd_check.specs.ChainPuts.{IsPut}
 use Rattle.dd_check.specs.ChainStarts.{Start}
 use Rattle.dd_pages.specs.Pages.{IsEmpty}
 use Rattle.dd_pages.specs.Rounds.{AreOpen}
-use Rattle.dd_pages.specs.Names.{IsPutStop}
+use Rattle.dd_pages.specs.Runs.{most_lines}
 use Rattle.dd_pages.specs.Saves.{IsOfRound}
 use Rattle.dd_pages.specs.declared.pages.Page.{Page}
 use Rattle.dd_catalogue.specs.Ways.{Way, IsUnderWay}
 use Rattle.dd_catalogue.specs.Works.{AreWork}
 
--- The name holds a checkpoint of the run that tells all of some bytes. The run is the first of its chain or has work.
+-- The name holds a checkpoint of the run that tells all of some bytes, and was put before the last line that there may be. The run
+-- is the first of its chain or has work.
 pub record IsKeptPut (s : Start) (held : Option (List ℕ)) (base : List ℕ) : Type 0 where
   pub check : Checkpoint
   pub put : IsPut held base s check
   pub all : check.bytes ≡ length base
-  pub stop : IsPutStop s check
+  pub before_last : check.lines < most_lines
   pub due : (s.number ≡ 1) ⊎ HasWork s
 
 -- a later run of a chain has written nothing and put nothing

@@ -27,7 +27,7 @@ use crate::emission::{reach_member, write_done};
 use crate::rounds::{do_kept_round, front_of, stands_at_job};
 use crate::step::Step;
 use dd_front::{Finder, Front};
-use dd_pages::{Finish, Limit, Page, Run, RunFault, save, save_first};
+use dd_pages::{Finish, Limit, MOST_LINES, Page, Run, RunFault, save, save_first};
 use dd_ports::{Gate, Sink, SinkFault, Store};
 use std::alloc::Global;
 use std::sync::Wait;
@@ -39,8 +39,9 @@ const LINES_A_CHECKPOINT: u64 = 65_536;
 /// Writes the lines of a run, and keeps its checkpoint under the name, so that a run that was
 /// stopped can be resumed. It puts the checkpoint after each round with lines, at a pause and at
 /// the end. A round in the middle of a job is followed by no checkpoint; it is put before the first
-/// line of the next round. The first run of a chain also puts it before the first line. Neither the
-/// workers nor what they choose changes what is written.
+/// line of the next round. A round with the last line that there may be is followed by none. The
+/// first run of a chain also puts the checkpoint before the first line. Neither the workers nor what
+/// they choose changes what is written.
 pub fn write_run<R: Threads + Wait + Sync, F: Finder + Sync, G: Gate + Sync, S: Store, O: Sink>(
     rt: &R,
     alloc: Global,
@@ -139,7 +140,7 @@ fn keep_rounds<R: Threads + Wait + Sync, F: Finder + Sync, G: Gate + Sync, S: St
 
 /// Writes the lines of a round that is done. If the name does not have the checkpoint of where the
 /// front stands, it is put before the next line. It is put after the last line of the round too, if
-/// the front then stands at a job of the portion or at the end.
+/// the front then stands at a job of the portion or at the end, and a further line may be written.
 fn keep_round<R: Threads + Sync, S: Store, O: Sink>(
     rt: &R,
     alloc: Global,
@@ -184,8 +185,9 @@ fn keep_round<R: Threads + Sync, S: Store, O: Sink>(
 }
 
 /// Writes the lines of a round that is done, where the name has the checkpoint of where the front
-/// stands. It puts further checkpoints among the lines, and after the last line of the round, if
-/// the front then stands at a job of the portion or at the end.
+/// stands. It puts further checkpoints among the lines. It puts one after the last line of the
+/// round, if the front then stands at a job of the portion or at the end, and a further line may be
+/// written.
 fn write_kept<R: Threads + Sync, S: Store, O: Sink>(
     rt: &R,
     alloc: Global,
@@ -327,7 +329,7 @@ fn keep_member<S: Store>(
 }
 
 /// Puts the checkpoint of a run between two rounds, if its front stands at a job of the portion or
-/// at the end.
+/// at the end. If no further line may be written, it leaves the name as it is.
 fn keep_place<S: Store>(
     alloc: Global,
     run: &Run,
@@ -350,6 +352,9 @@ fn keep_place<S: Store>(
     ensures sure { S.sure store.old ≡ true → StaysSure StoreFailed
         (S.faults store.old) (S.faults store.new) (S.sure store.new) result }
 {
+    if page.count >= MOST_LINES {
+        return Ok(Step::Next(false));
+    }
     let Ok(is_place) = stands_at_job(front) else {
         return Err(RunFault::Memory);
     };

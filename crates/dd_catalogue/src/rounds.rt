@@ -237,9 +237,9 @@ pub fn do_round<R: Threads + Wait + Sync, F: Finder + Sync, G: Gate + Sync>(
 }
 
 /// How many members the first entry has, where it is done.
-pub fn count_at_front(front: &Front) -> Option<usize>
+pub fn count_at_front(front: &Front) -> Option<u128>
     ensures { MatchOption result ((list : List Symbol) → ¬ HasFirst front.now list)
-        (λ count. (count < 2 ^ 64) × ((list : List Symbol) × HasFirst front.now list
+        (λ count. (count < 2 ^ 127) × ((list : List Symbol) × HasFirst front.now list
         × (length list ≡ count))) }
 {
     match &front.entries().first()?.state {

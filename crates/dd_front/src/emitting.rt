@@ -46,7 +46,7 @@ impl Front {
         let mut list = self.entries.take_done()?;
         let before = list.count_before(&self.from);
         list.skip(before);
-        self.lines += list.len() as u128;
+        self.lines += list.len();
         Some(list)
     }
 
@@ -72,9 +72,9 @@ impl Front {
         ensures same { OnErr result (self.new ≡ self.old) }
     {
         let mut part = self.left()?;
-        let first = part.copy(count as usize)?;
+        let first = part.copy(count as u128)?;
         let next = position_at(self.alloc, &first)?;
-        part.keep(count as usize);
+        part.keep(count as u128);
         self.from = next;
         self.lines += u128::from(count);
         Ok(part)

@@ -102,7 +102,7 @@ impl Front {
             Event::Part { count } => match first_list(entries) {
                 Some(list) => {
                     let before = list.count_before(&self.from);
-                    *count < (list.len() - before) as u64
+                    (*count as u128) < list.len() - before
                 }
                 None => false,
             },

@@ -1,10 +1,10 @@
-ghost use Rattle.std.specs.Prelude.{◌≡◌, ◌++◌, ◌≤◌, ◌<◌, [], List, length, take, drop, slice_index_or, IfOk, OnOk, OnErr};
+ghost use Rattle.std.specs.Prelude.{◌≡◌, ◌++◌, ◌≤◌, ◌<◌, ◌^◌, [], List, length, take, drop, slice_index_or, IfOk, OnOk, OnErr};
 ghost use Rattle.std.specs.List.{AllByRecursion};
 ghost use Rattle.dd_model.specs.Symbol.{Symbol, IsSymbol};
 ghost use Rattle.dd_model.specs.Lists.{IsWithout};
 ghost use Rattle.dd_model.specs.Position.{IsBefore};
 ghost use Rattle.dd_model.specs.Wanted.{IsAscending};
-ghost use Rattle.dd_front.specs.Spans.{IsCut, joined_spans};
+ghost use Rattle.dd_front.specs.Spans.{IsCut, AreShort, joined_spans};
 
 use crate::span::Span;
 use dd_model::{Memory, Position};
@@ -18,7 +18,7 @@ use std::marker::Model;
 #[derive(Drop)]
 pub struct Members {
     spans: Vec<Span>,
-    count: usize,
+    count: u128,
 }
 
 impl Model for Members {
@@ -26,21 +26,23 @@ impl Model for Members {
 
     ghost view = { λ a. joined_spans a.spans.items };
 
-    ghost invariant = { λ a. a.count ≡ length (joined_spans a.spans.items) };
+    ghost invariant = { λ a. (a.count ≡ length (joined_spans a.spans.items))
+        × AreShort a.spans.items };
 }
 
 /// Returns how many spans the first `count` members fill, and how many members of the next span
 /// they are.
-fn cut(spans: &[Span], count: usize) -> (usize, usize)
+fn cut(spans: &[Span], count: u128) -> (usize, usize)
     requires { count ≤ length (joined_spans spans.now) }
     ensures { IsCut spans.now count result.0 result.1 }
 {
     let mut rest = count;
     for (k, span) in spans.iter().enumerate() {
-        if rest < span.len() {
-            return (k, rest);
+        let long = span.len() as u128;
+        if rest < long {
+            return (k, rest as usize);
         }
-        rest -= span.len();
+        rest -= long;
     }
     (spans.len(), 0)
 }
@@ -61,7 +63,7 @@ impl Members {
     pub fn new(alloc: Global, list: SymbolList) -> Result<Members, Memory>
         ensures { IfOk result (λ members. members ≡ list) }
     {
-        let count = list.len();
+        let count = list.len() as u128;
         if count == 0 {
             return Ok(Members::none(alloc));
         }
@@ -96,9 +98,10 @@ impl Members {
         self.spans.allocator()
     }
 
-    /// How many members there are.
-    pub fn len(&self) -> usize
-        ensures { result ≡ length self.now }
+    /// How many members there are. Two such counts can be added.
+    pub fn len(&self) -> u128
+        ensures count { result ≡ length self.now }
+        ensures small { result < 2 ^ 127 }
     {
         self.count
     }
@@ -108,18 +111,15 @@ impl Members {
         ensures members { OnOk result (self.new ≡ self.old ++ other) }
         ensures same { OnErr result (self.new ≡ self.old) }
     {
-        let Members { mut spans, count } = other;
-        // No memory has room for so many that the sum would be too large.
-        let Some(count) = self.count.checked_add(count) else {
-            return Err(Memory);
-        };
+        let count = self.count + other.count;
+        let Members { mut spans, .. } = other;
         self.spans.append(&mut spans)?;
         self.count = count;
         Ok(())
     }
 
     /// A copy of the member at a place, counted from 0.
-    pub fn copy(&self, place: usize) -> Result<Connected, Memory>
+    pub fn copy(&self, place: u128) -> Result<Connected, Memory>
         requires { place < length self.now }
         ensures { IfOk result (λ member. member ≡ slice_index_or self.now place member) }
     {
@@ -128,7 +128,7 @@ impl Members {
     }
 
     /// Leaves out the first `count` members.
-    pub fn skip(&mut self, count: usize)
+    pub fn skip(&mut self, count: u128)
         requires { count ≤ length self.old }
         ensures { self.new ≡ drop count self.old }
     {
@@ -142,7 +142,7 @@ impl Members {
     }
 
     /// Keeps only the first `count` members.
-    pub fn keep(&mut self, count: usize)
+    pub fn keep(&mut self, count: u128)
         requires { count ≤ length self.old }
         ensures { self.new ≡ take count self.old }
     {
@@ -158,7 +158,7 @@ impl Members {
     }
 
     /// How many members of an ascending list are before a position: they are its first ones.
-    pub fn count_before(&self, at: &Position) -> usize
+    pub fn count_before(&self, at: &Position) -> u128
         requires ascending { IsAscending self.now }
         requires symbols { AllByRecursion IsSymbol self.now }
         ensures within { result ≤ length self.now }

@@ -1,5 +1,5 @@
 -- The lines of members that are cut into parts.
-use Rattle.std.proofs.Common.{◌≡◌, ℕ, suc, ◌+◌, ◌<◌, List, [], ◌∷◌, ◌++◌, Result, Ok, IfOk, Vec, length, length-append, reverse, slice_index_or, sym, ap, ◌∙◌, subst, append_assoc, arith}
+use Rattle.std.proofs.Common.{◌≡◌, ℕ, suc, ◌+◌, ◌*◌, ◌^◌, ◌<◌, ◌≤◌, List, [], ◌∷◌, ◌++◌, Result, Ok, IfOk, Vec, length, length-append, reverse, slice_index_or, sym, ap, ◌∙◌, subst, append_assoc, arith}
 use Rattle.std.proofs.lemmas.List.{append-nil, reverse-append}
 use Rattle.std.proofs.lemmas.List.Concat.{flat_map-append}
 use Rattle.std.specs.List.{flat_map}
@@ -73,6 +73,15 @@ all_made_of (part ∷ parts) (result ∷ results) size each =
 
 -- ## Joining
 
+-- a text in a vector, whose lines are counted
+pub few_bytes : (k : ℕ) (ss : List Symbol) (text : Vec ℕ Global) → AreLines k ss (bytes_of text) → length (bytes_of text) ≤ 2 ^ 63 * length ss
+few_bytes k [] text none = let size = ap length none in omega (arith, size)
+few_bytes k (s ∷ ss) text lines =
+    let whole = text.ok.0 in
+    let within = text.ok.1 in
+    let room = text.small in
+    omega (arith, whole, within, room)
+
 -- Of these symbols the texts are the lines of all but those of the parts whose results are left.
 pub record AreJoined (k : ℕ) (all : List Symbol) (left : List (Result (Vec ℕ Global) Memory)) (texts : List (Vec ℕ Global)) : Type 0 where
   pub done : List Symbol
@@ -81,6 +90,7 @@ pub record AreJoined (k : ℕ) (all : List Symbol) (left : List (Result (Vec ℕ
   pub numbered : AreNumbered (k + length done) parts
   pub made : AreMade parts left
   pub lines : AreLines k done (joined texts)
+  pub few : length (joined texts) ≤ 2 ^ 63 * length done
 
 pub none_joined : (k : ℕ) (all : List Symbol) (parts : List Part) (left : List (Result (Vec ℕ Global) Memory)) (texts : List (Vec ℕ Global)) → AreParts k all parts → AreMade parts left → texts ≡ []
     → AreJoined k all left texts
@@ -91,13 +101,14 @@ none_joined k all parts left texts are made none = record {
   numbered = subst (λ n. AreNumbered n parts) (omega arith) are.numbered;
   made = made;
   lines = ap joined none;
+  few = let size = ap (λ ts. length (joined ts)) none in omega (arith, size);
 }
 
 -- the lines of the next part were put behind the others
 part_joined : (k : ℕ) (all done : List Symbol) (part : Part) (parts : List Part) (text : Vec ℕ Global) (left : List (Result (Vec ℕ Global) Memory)) (texts now : List (Vec ℕ Global))
     → all ≡ done ++ flat_map members_of (part ∷ parts) → AreNumbered (k + length done) (part ∷ parts) → AreMade (part ∷ parts) (Ok text ∷ left) → now ≡ texts ++ text ∷ [] → AreLines k done (joined texts)
-    → AreJoined k all left now
-part_joined k all done part parts text left texts now whole numbered made more lines =
+    → length (joined texts) ≤ 2 ^ 63 * length done → AreJoined k all left now
+part_joined k all done part parts text left texts now whole numbered made more lines few =
     let size = length-append done (members_of part) in
     let next = subst (λ n. AreLines n (members_of part) (bytes_of text)) numbered.0 made.0 in
     let both : joined now ≡ joined texts ++ bytes_of text =
@@ -109,16 +120,21 @@ part_joined k all done part parts text left texts now whole numbered made more l
       numbered = subst (λ n. AreNumbered n parts) (omega (arith, size)) numbered.1;
       made = made.1;
       lines = subst (AreLines k (done ++ members_of part)) (sym both) (joined_lines k done (members_of part) (joined texts) (bytes_of text) lines next);
+      few =
+          let long = ap length both ∙ length-append (joined texts) (bytes_of text) in
+          let own = few_bytes (k + length done) (members_of part) text next in
+          omega (arith, few, size, long, own);
     }
 
 joined_at : (k : ℕ) (all done : List Symbol) (parts : List Part) (text : Vec ℕ Global) (left : List (Result (Vec ℕ Global) Memory)) (texts now : List (Vec ℕ Global))
-    → all ≡ done ++ flat_map members_of parts → AreNumbered (k + length done) parts → AreMade parts (Ok text ∷ left) → now ≡ texts ++ text ∷ [] → AreLines k done (joined texts) → AreJoined k all left now
-joined_at k all done [] text left texts now whole numbered made more lines = absurd made
-joined_at k all done (part ∷ parts) text left texts now whole numbered made more lines = part_joined k all done part parts text left texts now whole numbered made more lines
+    → all ≡ done ++ flat_map members_of parts → AreNumbered (k + length done) parts → AreMade parts (Ok text ∷ left) → now ≡ texts ++ text ∷ [] → AreLines k done (joined texts)
+    → length (joined texts) ≤ 2 ^ 63 * length done → AreJoined k all left now
+joined_at k all done [] text left texts now whole numbered made more lines few = absurd made
+joined_at k all done (part ∷ parts) text left texts now whole numbered made more lines few = part_joined k all done part parts text left texts now whole numbered made more lines few
 
 pub one_joined : (k : ℕ) (all : List Symbol) (text : Vec ℕ Global) (left later : List (Result (Vec ℕ Global) Memory)) (texts now : List (Vec ℕ Global)) → left ≡ Ok text ∷ later
     → now ≡ texts ++ text ∷ [] → AreJoined k all left texts → AreJoined k all later now
-one_joined k all text left later texts now next more are = joined_at k all are.done are.parts text later texts now are.whole are.numbered (subst (AreMade are.parts) next are.made) more are.lines
+one_joined k all text left later texts now next more are = joined_at k all are.done are.parts text later texts now are.whole are.numbered (subst (AreMade are.parts) next are.made) more are.lines are.few
 
 -- no result is left
 all_done : (k : ℕ) (all done : List Symbol) (parts : List Part) (text : List ℕ) → all ≡ done ++ flat_map members_of parts → AreMade parts [] → AreLines k done text → AreLines k all text
@@ -127,3 +143,11 @@ all_done k all done (part ∷ parts) text whole made lines = absurd made
 
 pub all_joined : (k : ℕ) (all : List Symbol) (left : List (Result (Vec ℕ Global) Memory)) (texts : List (Vec ℕ Global)) → left ≡ [] → AreJoined k all left texts → AreLines k all (joined texts)
 all_joined k all left texts none are = all_done k all are.done are.parts (joined texts) are.whole (subst (AreMade are.parts) none are.made) are.lines
+
+-- and they are no longer than so many lines may be
+all_few : (all done : List Symbol) (parts : List Part) (n : ℕ) → all ≡ done ++ flat_map members_of parts → AreMade parts [] → n ≤ 2 ^ 63 * length done → n ≤ 2 ^ 63 * length all
+all_few all done [] n whole made few = let size = ap length (whole ∙ append-nil done) in omega (arith, few, size)
+all_few all done (part ∷ parts) n whole made few = absurd made
+
+pub few_joined : (k : ℕ) (all : List Symbol) (left : List (Result (Vec ℕ Global) Memory)) (texts : List (Vec ℕ Global)) → left ≡ [] → AreJoined k all left texts → length (joined texts) ≤ 2 ^ 63 * length all
+few_joined k all left texts none are = all_few all are.done are.parts (length (joined texts)) are.whole (subst (AreMade are.parts) none are.made) are.few

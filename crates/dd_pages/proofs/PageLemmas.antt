@@ -112,23 +112,27 @@ front_made k base start before now page ss text are grown has =
     front_of_text k base start before now ss ss [] has.written (page.buffer.items ++ text) (sym (append-nil ss)) (waiting_lines k base start before page ss text are has) has.appended grown
 
 -- the lines of more members were made, where none waited
-pub lines_put : (k : ℕ) (base : List ℕ) (start now : Option (List ℕ)) (page : Page) (buffer : Vec ℕ Global) (ss more : List Symbol) → AddsLines page.count more page.buffer.items buffer.items
-    → page.waiting ≡ [] → HasLines k base start now page ss → HasLines k base start now (record page { buffer = buffer; count = page.count + length more }) (ss ++ more)
-lines_put k base start now page buffer ss more added none has =
-    let made = all_made k base start now page ss none has in
-    let size = length-append ss more in
-    let whole = has.count in
-    let after = subst (λ n. AreLines n more added.lines) (whole ∙ ap (λ ts. k + length ts) (sym made)) added.are_lines in
-    record {
-      written = has.written;
-      appended = has.appended;
-      made = ss ++ more;
-      parts = sym (append-nil (ss ++ more)) ∙ ap (λ ws. (ss ++ more) ++ ws) (sym none);
-      lines = subst (λ xs. AreLines k (ss ++ more) ((base ++ has.written) ++ xs)) (sym added.text)
-          (subst (λ ts. AreLines k (ts ++ more) ((base ++ has.written) ++ (page.buffer.items ++ added.lines))) made (more_lines k base start now page ss more added.lines has after));
-      count = omega (arith, whole, size);
-      bytes = has.bytes;
-    }
+module _ (k : ℕ) (base : List ℕ) (start before now : Option (List ℕ)) (old : Page) (buffer : List ℕ) (ss more : List Symbol) (added : AddsLines old.count more old.buffer.items buffer) (none : old.waiting ≡ [])
+    (has : HasLines k base start before old ss)
+  where
+    added_lines : AreLines k (ss ++ more) ((base ++ has.written) ++ buffer)
+    added_lines =
+        let made = all_made k base start before old ss none has in
+        let after = subst (λ n. AreLines n more added.lines) (has.count ∙ ap (λ ts. k + length ts) (sym made)) added.are_lines in
+        subst (λ xs. AreLines k (ss ++ more) ((base ++ has.written) ++ xs)) (sym added.text)
+        (subst (λ ts. AreLines k (ts ++ more) ((base ++ has.written) ++ (old.buffer.items ++ added.lines))) made (more_lines k base start before old ss more added.lines has after))
+
+    -- they were sent with what was collected
+    pub lines_added : (new : Page) → new.waiting ≡ old.waiting → new.count ≡ old.count + length more → IsSent before now buffer old.bytes new → HasLines k base start now new (ss ++ more)
+    lines_added new waiting count sent =
+        let size = length-append ss more in
+        let whole = has.count in
+        lines_of_text k base start before now new (ss ++ more) (ss ++ more) has.written buffer old.bytes (sym (append-nil (ss ++ more)) ∙ ap (λ ws. (ss ++ more) ++ ws) (sym (waiting ∙ none)))
+        added_lines has.appended (omega (arith, count, whole, size)) has.bytes sent
+
+    -- of these and of what was collected a part was written
+    pub front_added : GrowsByPrefix before now buffer → IsFrontOut k base start now (ss ++ more)
+    front_added grown = front_of_text k base start before now (ss ++ more) (ss ++ more) [] has.written buffer (sym (append-nil (ss ++ more))) added_lines has.appended grown
 
 -- where nothing is left on the page, all lines are written
 pub all_written : (k : ℕ) (base : List ℕ) (start now : Option (List ℕ)) (page : Page) (ss : List Symbol) → IsEmpty page → (has : HasLines k base start now page ss) → AreLines k ss (base ++ has.written)

@@ -1,10 +1,10 @@
 -- Texts that are put behind what is collected and sent.
-use Rattle.std.proofs.Common.{◌≡◌, ℕ, List, [], ◌++◌, Option, length-append, refl, sym, ap, ◌∙◌, arith, append_assoc}
+use Rattle.std.proofs.Common.{◌≡◌, ℕ, List, [], ◌++◌, Option, length, length-append, refl, sym, ap, ◌∙◌, arith, append_assoc}
 use Rattle.std.proofs.lemmas.List.{append-nil}
 use Rattle.std.proofs.KnownBytes.{Appends-nil}
 use Rattle.dd_ports.specs.Grows.{GrowsByPrefix}
 use Rattle.dd_ports.proofs.Growth.{Appends_trans, prefix_after}
-use Rattle.dd_pages.specs.Pages.{IsSent}
+use Rattle.dd_pages.specs.Pages.{HasRoomFor, IsSent}
 use Rattle.dd_pages.specs.declared.pages.Page.{Page}
 
 -- Of some texts all but what is left was put behind what was collected, and sent.
@@ -48,3 +48,17 @@ sending_front before then now old page all left text later next grown has =
     prefix_after before then now first.written (page.buffer.items ++ text) later (old.buffer.items ++ all) first.appended grown
     (ap (λ xs. first.written ++ xs) (append_assoc page.buffer.items text later) ∙ sym (append_assoc first.written page.buffer.items (text ++ later)) ∙ ap (λ xs. xs ++ (text ++ later)) (sym first.parts)
     ∙ append_assoc old.buffer.items has.done (text ++ later) ∙ ap (λ xs. old.buffer.items ++ (has.done ++ xs)) (sym next) ∙ ap (λ xs. old.buffer.items ++ xs) (sym has.texts))
+
+-- there is room for the next text
+pub sending_room : (before now : Option (List ℕ)) (old page : Page) (all left text later : List ℕ) → left ≡ text ++ later → page.waiting ≡ old.waiting → page.count ≡ old.count → HasRoomFor old all
+    → IsSending before now old page all left → HasRoomFor page text
+sending_room before now old page all left text later next waiting count room has =
+    let sent = has.sent in
+    let both = ap length sent.parts in
+    let was = length-append old.buffer.items has.done in
+    let is = length-append sent.written page.buffer.items in
+    let bytes = sent.bytes in
+    let whole = ap length has.texts ∙ length-append has.done left in
+    let rest = ap length next ∙ length-append text later in
+    let same = ap length waiting in
+    omega (arith, both, was, is, bytes, whole, rest, same, count, room)

@@ -1,9 +1,6 @@
 -- What a run leaves under its name.
 use Rattle.std.specs.Prelude.{◌≡◌, ◌≢◌, ◌⊎◌, ◌<◌, ℕ, List, [], Option, Result, IsOk, IfOk, Bool, true, length}
-use Rattle.dd_model.specs.declared.jobs.Position.{Position}
-use Rattle.dd_model.specs.declared.jobs.Position.TheVariants.{At, End}
-use Rattle.dd_jobs.specs.declared.portions.Portion.{Portion}
-use Rattle.dd_jobs.specs.Portions.{IsPortionJob}
+use Rattle.dd_model.specs.declared.jobs.Position.TheVariants.{End}
 use Rattle.dd_check.specs.declared.checkpoint.Checkpoint.{Checkpoint}
 use Rattle.dd_check.specs.Clauses.{HasWork}
 use Rattle.dd_check.specs.ChainPuts.{IsPut, IsNextMember}
@@ -41,25 +38,17 @@ pub record PutsAtPause (s : Start) (pause : Option ℕ) (after : Option (List �
   pub all : check.bytes ≡ length output
   pub next : IsNextMember s.portion check.at
 
--- where a checkpoint between two rounds stands: at a job of the portion, or at the end
-abbrev pub IsRoundStop : Portion → Position → Type 0
-IsRoundStop p End = Unit {0}
-IsRoundStop p (At job) = IsPortionJob p job
-
--- It was put between two rounds, or at a member with a line. So it was not put after the last line that there may be.
-abbrev pub IsPutStop : Start → Checkpoint → Type 0
-IsPutStop s check = IsRoundStop s.portion check.at ⊎ (IsNextMember s.portion check.at × (check.lines < most_lines))
-
-pub record PutsBetween (s : Start) (after : Option (List ℕ)) (output : List ℕ) : Type 0 where
+-- it was put before the last line that there may be
+pub record PutsBeforeLast (s : Start) (after : Option (List ℕ)) (output : List ℕ) : Type 0 where
   pub check : Checkpoint
   pub put : IsPut after output s check
-  pub stop : IsPutStop s check
+  pub before_last : check.lines < most_lines
 
--- What an end of the run's own leaves. Nothing is put after the last line that there may be.
+-- What an end of the run's own leaves. A run that is cut short has put nothing after its last line.
 abbrev pub FinishesName : Start → Option ℕ → Option (List ℕ) → Option (List ℕ) → List ℕ → Finish → Type 0
 FinishesName s pause before after output Whole = HasWork s → PutsAtEnd s after output
 FinishesName s pause before after output Paused = PutsAtPause s pause after output
-FinishesName s pause before after output CutShort = (after ≡ before) ⊎ PutsBetween s after output
+FinishesName s pause before after output CutShort = (after ≡ before) ⊎ PutsBeforeLast s after output
 
 -- What a run leaves under its name. The first run of a chain has put a checkpoint before its first byte. A later one that has no
 -- work leaves the name as it was, whatever stopped it.

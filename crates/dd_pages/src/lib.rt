@@ -14,7 +14,7 @@ mod saving;
 
 pub use fault::RunFault;
 pub use finish::Finish;
-pub use limit::Limit;
+pub use limit::{Limit, MOST_LINES};
 pub use pace::Pace;
 pub use pages::Page;
 pub use run::Run;

@@ -1,4 +1,4 @@
-ghost use Rattle.std.specs.Prelude.{◌+◌, ◌≤◌, ◌<◌, ◌^◌, IfOk, length};
+ghost use Rattle.std.specs.Prelude.{◌+◌, ◌*◌, ◌≤◌, ◌<◌, ◌^◌, IfOk, length};
 ghost use Rattle.dd_model.specs.Text.{AreLines};
 ghost use Rattle.dd_pages.specs.Texts.{joined};
 ghost use Rattle.dd_pages.specs.Parts.{AreParts};
@@ -29,7 +29,8 @@ fn room_for(members: &Members) -> usize {
         return 0;
     }
     let line = 6 * symbols.alike_from(0).table().symbol().size() as usize + 24;
-    members.len().saturating_mul(line)
+    let count = members.len().min(u64::MAX as u128) as usize;
+    count.saturating_mul(line)
 }
 
 /// The lines of a part. Its members are given back here, by the thread that has just read them.
@@ -54,8 +55,8 @@ fn parts_of(size: usize, before: u64, mut members: Members) -> Result<Vec<Part>,
     ensures { IfOk result (λ parts. AreParts before members parts.items) }
 {
     let mut parts = Vec::new(*members.allocator());
-    while members.len() > size {
-        let kept = members.len() - size;
+    while members.len() > size as u128 {
+        let kept = members.len() - size as u128;
         let mut part = members.share()?;
         part.skip(kept);
         members.keep(kept);
@@ -79,10 +80,13 @@ pub fn lines_by<R: Threads + Sync>(
 ) -> Result<Vec<Vec<u8>>, Memory>
     requires threads { 1 ≤ threads }
     requires few { before + length members < 2 ^ 64 }
-    ensures { IfOk result (λ texts. AreLines before members (joined texts.items)) }
+    ensures lines { IfOk result (λ texts. AreLines before members (joined texts.items)) }
+    ensures few { IfOk result
+        (λ texts. length (joined texts.items) ≤ 2 ^ 63 * length members) }
 {
     let alloc = *members.allocator();
-    let size = members.len().div_ceil(PARTS * threads as usize).max(FEWEST);
+    let count = members.len() as usize;
+    let size = count.div_ceil(PARTS * threads as usize).max(FEWEST);
     let parts = parts_of(size, before, members)?;
     let made = thread::map_vec(rt, parts, &lines_of)?;
     let mut texts = Vec::with_capacity(alloc, made.len())?;

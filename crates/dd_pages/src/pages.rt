@@ -1,9 +1,8 @@
-ghost use Rattle.std.specs.Prelude.{◌≡◌, ◌+◌, ◌≤◌, ◌++◌, ℕ, List, [], Option, OnOk, true, length};
+ghost use Rattle.std.specs.Prelude.{◌≡◌, ◌+◌, ◌*◌, ◌^◌, ◌≤◌, ◌++◌, ℕ, List, [], Option, OnOk, OnErr, true, length};
 ghost use Rattle.dd_ports.specs.declared.sink.SinkFault.TheVariants.{Failed};
 ghost use Rattle.dd_ports.specs.Causes.{HasCause, StaysSure};
 ghost use Rattle.dd_ports.specs.Grows.{GrowsByPrefix};
 ghost use Rattle.dd_pages.specs.Texts.{joined};
-ghost use Rattle.dd_pages.specs.Pages.{IsEmpty, IsSent, KeepsLines, AddsAll, WritesFront, WritesFrontOf};
 
 use crate::lines::lines_by;
 use dd_front::Members;
@@ -20,7 +19,7 @@ const FULL: usize = 65_536;
 
 /// How many members wait until several threads make their lines: the lists of most entries, and of
 /// most rounds, are too short to be worth the start of a thread.
-const BATCH: usize = 65_536;
+const BATCH: u128 = 65_536;
 
 /// The number of members of which one thread makes the lines before it looks whether to write. It
 /// is so small that the lines are still in the processor's cache when they are written.
@@ -28,19 +27,21 @@ const PART: usize = 512;
 
 /// Lines on their way out: members that wait for their lines, and lines that are collected to be
 /// written at once. The page also has the number of the last line of all these, and how many bytes
-/// were written.
+/// were written. No line has 2^63 bytes, so 128 bits count them.
 #[derive(Drop)]
 pub struct Page {
     waiting: Members,
     buffer: Vec<u8>,
     pub count: u64,
     pub bytes: u128,
+    ghost few: { bytes + length buffer.items + 2 ^ 63 * length waiting ≤ 2 ^ 63 * count },
 }
 
 /// Puts a text behind what is collected. Where nothing is collected, the text is taken as it is and
 /// not copied.
 fn put_behind(collected: &mut Vec<u8>, text: Vec<u8>) -> Result<(), Memory>
-    ensures { OnOk result (collected.new.items ≡ collected.old.items ++ text.items) }
+    ensures text { OnOk result (collected.new.items ≡ collected.old.items ++ text.items) }
+    ensures same { OnErr result (collected.new.items ≡ collected.old.items) }
 {
     if collected.is_empty() {
         *collected = text;
@@ -51,6 +52,8 @@ fn put_behind(collected: &mut Vec<u8>, text: Vec<u8>) -> Result<(), Memory>
 }
 
 impl Page {
+    ghost use Rattle.dd_pages.specs.Pages.{IsEmpty, IsSent, HasRoomFor, KeepsLines, AddsAll, WritesFront, WritesFrontOf};
+
     /// Returns an empty page after `count` lines.
     pub fn new(alloc: Global, count: u64) -> Page
         ensures empty { IsEmpty result }
@@ -78,13 +81,10 @@ impl Page {
         ensures sure { O.sure out.old ≡ true
             → StaysSure Failed (O.faults out.old) (O.faults out.new) (O.sure out.new) result }
     {
-        // A sum over 128 bits cannot be kept; no run lives to see it.
-        let Some(bytes) = self.bytes.checked_add(self.buffer.len() as u128) else {
-            return Err(SinkFault::Memory);
-        };
         write_all_of(out, &self.buffer)?;
-        self.bytes = bytes;
+        let bytes = self.bytes + self.buffer.len() as u128;
         self.buffer.clear();
+        self.bytes = bytes;
         Ok(())
     }
 
@@ -109,6 +109,7 @@ impl Page {
 
     /// Puts a text behind what is collected, and writes where that is enough.
     fn put<O: Sink>(&mut self, text: Vec<u8>, out: &mut O) -> Result<(), SinkFault>
+        requires { HasRoomFor self.old text.items }
         ensures sent { OnOk result (IsSent (O.held out.old) (O.held out.new)
             (self.old.buffer.items ++ text.items) self.old.bytes self.new) }
         ensures waiting { OnOk result (self.new.waiting ≡ self.old.waiting) }
@@ -129,6 +130,7 @@ impl Page {
     /// Puts texts behind what is collected, one after the other, and writes each time that is
     /// enough.
     fn put_all<O: Sink>(&mut self, texts: Vec<Vec<u8>>, out: &mut O) -> Result<(), SinkFault>
+        requires { HasRoomFor self.old (joined texts.items) }
         ensures sent { OnOk result (IsSent (O.held out.old) (O.held out.new)
             (self.old.buffer.items ++ joined texts.items) self.old.bytes self.new) }
         ensures waiting { OnOk result (self.new.waiting ≡ self.old.waiting) }
@@ -166,7 +168,7 @@ impl Page {
         if self.waiting.len() == 0 {
             return Ok(());
         }
-        let before = self.count.saturating_sub(self.waiting.len() as u64);
+        let before = self.count - self.waiting.len() as u64;
         let alloc = *self.buffer.allocator();
         let members = mem::replace(&mut self.waiting, Members::none(alloc));
         let Ok(texts) = lines_by(rt, threads, before, members) else {
@@ -205,9 +207,8 @@ impl Page {
             ((held : Option (List ℕ)) → AddsAll held held self.old self.new members) }
         ensures count { OnOk result (self.new.count ≡ self.old.count + length members) }
     {
-        let count = self.count + members.len() as u64;
+        self.count += members.len() as u64;
         self.waiting.append(members)?;
-        self.count = count;
         Ok(())
     }
 
@@ -225,10 +226,11 @@ impl Page {
         ensures sure { O.sure out.old ≡ true
             → StaysSure Failed (O.faults out.old) (O.faults out.new) (O.sure out.new) result }
     {
-        let Ok(()) = put_list(&mut self.buffer, self.count, part) else {
+        let before = self.count;
+        self.count = before + part.len() as u64;
+        let Ok(()) = put_list(&mut self.buffer, before, part) else {
             return Err(SinkFault::Memory);
         };
-        self.count += part.len() as u64;
         self.write_if_full(out)?;
         Ok(())
     }

@@ -72,11 +72,11 @@ impl Catalogue {
         let Some(members) = self.members.as_slice().get(first..end) else {
             return Ok(false);
         };
-        if members.len() != list.len() {
+        if members.len() as u128 != list.len() {
             return Ok(false);
         }
         for (k, member) in members.iter().enumerate() {
-            if cmp_code(member.symbol(), list.copy(k)?.symbol()) != Ordering::Equal {
+            if cmp_code(member.symbol(), list.copy(k as u128)?.symbol()) != Ordering::Equal {
                 return Ok(false);
             }
         }

@@ -208,7 +208,7 @@ fn has_room(front: &Front) -> bool
         return true;
     };
     match &entry.state {
-        State::Done(list) => front.lines() <= MANY as u128 && list.len() as u64 <= MANY,
+        State::Done(list) => front.lines() <= MANY as u128 && list.len() <= MANY as u128,
         State::Open | State::Out => true,
     }
 }

@@ -105,7 +105,7 @@ fn singles<R: Abort>(rt: &R, alloc: Global) -> Members {
 }
 
 /// Returns the first `count` of them.
-fn first_singles<R: Abort>(rt: &R, alloc: Global, count: usize) -> Members {
+fn first_singles<R: Abort>(rt: &R, alloc: Global, count: u128) -> Members {
     let mut members = singles(rt, alloc);
     assert!(rt; count <= members.len());
     members.keep(count);
@@ -121,18 +121,18 @@ fn two_spans<R: Abort>(rt: &R, alloc: Global) -> Members {
 }
 
 /// How many members there are, and in how many spans.
-fn counts(members: &Members) -> (usize, usize) {
+fn counts(members: &Members) -> (u128, usize) {
     (members.len(), members.spans().len())
 }
 
-fn counts_without_two<R: Abort>(rt: &R, members: &Members) -> (usize, usize) {
+fn counts_without_two<R: Abort>(rt: &R, members: &Members) -> (u128, usize) {
     let mut end = members.share().expect(rt, "a share");
     assert!(rt; end.len() == 3);
     end.skip(2);
     counts(&end)
 }
 
-fn counts_of_the_second<R: Abort>(rt: &R, members: &Members) -> (usize, usize) {
+fn counts_of_the_second<R: Abort>(rt: &R, members: &Members) -> (u128, usize) {
     let mut part = members.share().expect(rt, "a share");
     assert!(rt; part.len() == 3);
     part.skip(1);

@@ -1,4 +1,4 @@
-use Rattle.std.proofs.Common.{false}
+use Rattle.std.proofs.Common.{false, arith}
 use Rattle.std.proofs.lemmas.Result.{err_from_is_err_and}
 use Rattle.dd_pages.specs.Runs.{start_of}
 use Rattle.dd_pages.specs.declared.fault.RunFault.TheVariants.{Memory}
@@ -25,7 +25,7 @@ returns-in_ok-save-clause-leaves g c most tells before start now still head =
     let held = g.S.Store.held c.args.store.now c.args.name.now in
     let after = g.S.Store.held c.save.new.store c.args.name.now in
     let place = c.in-Ok.ensures c.if-is_place.true in
-    rw c.if-is_place.true (head_saved s most tells start before held now c.args.page.now c.args.front.now head place.0 place.1 place.2 after (λ told. c.in_ok-save.ensures.saves (still told)))
+    rw c.if-is_place.true (head_saved s most tells start before held now c.args.page.now c.args.front.now head place.0 place.1 place.2 (omega (arith, c.if-page-ge-MOST_LINES.false)) after (λ told. c.in_ok-save.ensures.saves (still told)))
 
 pub returns-else-is_place-clause-leaves : goal.returns-else-is_place-clause-leaves
 returns-else-is_place-clause-leaves g c most tells before start now still head = rw c.if-is_place.false head

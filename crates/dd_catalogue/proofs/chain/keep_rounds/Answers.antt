@@ -18,7 +18,7 @@ use Rattle.dd_catalogue.proofs.WaySteps.{way_ready}
 use Rattle.dd_catalogue.proofs.Weights.{weighed}
 use Rattle.dd_catalogue.proofs.PlainRuns.{lighter_group}
 use Rattle.dd_catalogue.proofs.KeptRuns.{first_failed, head_first, other_fault}
-use Rattle.dd_catalogue.proofs.KeptGroups.{group_mid, group_way, group_work, head_saved, head_stopped, head_unsaved, head_whole}
+use Rattle.dd_catalogue.proofs.KeptGroups.{group_mid, group_way, group_work, head_ended, head_stopped, head_unsaved, head_whole}
 use Rattle.dd_catalogue.proofs.chain.keep_rounds.Goals as goal
 
 pub returns-in_err-save_first-clause-run : goal.returns-in_err-save_first-clause-run
@@ -126,8 +126,8 @@ returns-in_ok-save-clause-run g c =
     let end = rw c.if-not-more.true at c.in-Ok.ensures.round in
     let away = subst (λ here. IsHead s most tells here old before held now page f) c.if-not-is_here.true head in
     let ends : StandsAt f.from f.entries End = subst (λ es. StandsAt f.from es End) (sym end.none) refl in
-    let saved = head_saved s most tells old before held now page f away End ends tt after (λ told. subst (λ m. HoldsCheckAt s page m after) end.same (c.in_ok-save.ensures.saves (c.loop-more.invariant.others told).0)) in
-    head_whole s most tells true old before after now page f saved refl c.args.run.now.pause c.limit-limit.result c.limit-limit.ensures c.loop-more.invariant.low end.none
+    head_ended s most tells old before held now page f away after c.args.run.now.pause c.limit-limit.result c.limit-limit.ensures c.loop-more.invariant.low end.none
+    (λ told. subst (λ m. HoldsCheckAt s page m after) end.same (c.in_ok-save.ensures.saves (c.loop-more.invariant.others told).0))
 
 pub keep_round-requires-clause-mid : goal.keep_round-requires-clause-mid
 keep_round-requires-clause-mid g c κs within =

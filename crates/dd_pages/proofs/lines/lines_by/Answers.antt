@@ -1,7 +1,7 @@
 use Rattle.std.proofs.Common.{◌∷◌, ap, sym, ◌∙◌, subst, length, arith, rules}
 use Rattle.std.specs.Vec.Iter.{into_iter_items}
 use Rattle.std.proofs.lemmas.List.{nil_from_length}
-use Rattle.dd_pages.proofs.LineParts.{AreMade, all_made_of, none_joined, one_joined, all_joined}
+use Rattle.dd_pages.proofs.LineParts.{AreMade, all_made_of, none_joined, one_joined, all_joined, few_joined}
 use Rattle.dd_pages.proofs.lines.lines_by.Goals as goal
 
 pub loop-lines-init : goal.loop-lines-init
@@ -21,7 +21,12 @@ loop-lines-preserved g c =
       one_joined _ _ c.in_ok-lines.field-0 _ _ _ _ (steps.0 ∙ ap (λ r. r ∷ into_iter_items c.next.new.self) c.in_ok-lines.was) c.in_ok-push.ensures.items ih.1,
     )
 
-pub returns : goal.returns
-returns g c =
+pub returns-clause-few : goal.returns-clause-few
+returns-clause-few g c =
+    let ih = c.loop-lines.invariant in
+    few_joined _ _ _ _ (nil_from_length _ (omega (arith, ih.0, c.in-None.ensures.steps.0))) ih.1
+
+pub returns-clause-lines : goal.returns-clause-lines
+returns-clause-lines g c =
     let ih = c.loop-lines.invariant in
     all_joined _ _ _ _ (nil_from_length _ (omega (arith, ih.0, c.in-None.ensures.steps.0))) ih.1

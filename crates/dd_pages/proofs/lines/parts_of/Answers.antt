@@ -10,7 +10,7 @@ pub loop-members-preserved : goal.loop-members-preserved
 loop-members-preserved c =
     let left = c.loop-members.members in
     let kept = c.len-in-loop-members.result - c.args.size in
-    let fits : kept ≤ length left = omega (arith, c.len-in-loop-members.ensures) in
+    let fits : kept ≤ length left = omega (arith, c.len-in-loop-members.ensures.count) in
     let tail : c.skip.new.self ≡ drop kept left = c.skip.ensures ∙ ap (drop kept) c.in_ok-part.ensures in
     let split = sym (ap (λ xs. xs ++ c.skip.new.self) c.keep.ensures ∙ ap (λ xs. take kept left ++ xs) tail ∙ take-append-drop kept left) in
     let before = ap (λ n. c.args.before + n) (sym (ap length c.keep.ensures ∙ length-take-le kept left fits)) in

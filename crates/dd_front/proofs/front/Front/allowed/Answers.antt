@@ -38,7 +38,7 @@ returns-in-Some c =
     let within : k ≤ length list = c.count_before-before.ensures.within in
     let here : IsWithout (IsBefore c.self.inside.from) list (drop k list) = c.count_before-before.ensures.without in
     let without : IsWithout (IsBefore f.from) list (drop k list) = subst (λ m. IsWithout (IsBefore m.from) list (drop k list)) c.self.view_is here in
-    let told = part_told f c.as_slice-entries.result.now list rest k c.len.result c.in-Part.count es c.in-Some.ensures.1 within without c.len.ensures in
+    let told = part_told f c.as_slice-entries.result.now list rest k c.len.result c.in-Part.count es c.in-Some.ensures.1 within without c.len.ensures.count in
     subst (λ e. IsTrue (nat_lt c.in-Part.count (c.len.result - k)) ↔ IsPermitted f e) (sym c.in-Part.is) told
 
 pub returns-in-None : goal.returns-in-None

@@ -26,7 +26,7 @@ overflow_add-self c =
     let room : f.lines + length c.in_ok-list.list < 2 ^ 128 = c.requires c.in_ok-list.list
     (first_of f c.self.inside.entries c.in_ok-list.list c.take_done.new.self (ap (λ m. m.entries) c.self.view_is) c.in_ok-list.ensures) in
     let lines : c.self.inside.lines ≡ f.lines = ap (λ m. m.lines) c.self.view_is in
-    let len : c.len.result ≡ length c.in_ok-list.list - c.count_before-before.result = c.len.ensures ∙ ap length c.skip.ensures ∙ length-drop c.count_before-before.result c.in_ok-list.list in
+    let len : c.len.result ≡ length c.in_ok-list.list - c.count_before-before.result = c.len.ensures.count ∙ ap length c.skip.ensures ∙ length-drop c.count_before-before.result c.in_ok-list.list in
     omega arith
 
 pub returns-clause-members : goal.returns-clause-members
@@ -35,4 +35,4 @@ returns-clause-members c =
     let list = c.in_ok-list.list in
     let without : IsWithout (IsBefore c.self.inside.from) list (drop k list) = c.count_before-before.ensures.without in
     emits_where c.take_done.new.self list c.skip.new.self k (c.self.inside.lines + c.len.result) c.self.view_is c.in_ok-list.ensures without c.skip.ensures
-    (ap (λ n. c.self.inside.lines + n) c.len.ensures) refl
+    (ap (λ n. c.self.inside.lines + n) c.len.ensures.count) refl

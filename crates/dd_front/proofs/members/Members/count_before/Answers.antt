@@ -51,7 +51,7 @@ overflow_add-count c =
     let here : own ≡ get_or spans i own = c.symbols-symbols.ensures ∙ c.span-item.is ∙ ap (get_or spans i) (sym c.symbols-symbols.ensures) in
     let inside : c.loop-k.k < length own = omega (arith, c.loop-k-test.true, c.len-k-end.ensures) in
     let low = walk_within spans c.args.self.now own i c.loop-k.k c.loop-k.count all c.loop-span-test.true here inside c.loop-k.invariant.0 in
-    omega (arith, c.len-all.ensures, c.len-all.type_inv, low)
+    omega (arith, c.len-all.ensures.count, c.len-all.ensures.small, low)
 
 pub loop-k-preserved : goal.loop-k-preserved
 loop-k-preserved c =
@@ -84,5 +84,5 @@ returns-clause-without c =
     let spans = c.deref-span-items.result.now in
     let all = ap joined_spans c.deref-span-items.ensures.value ∙ c.self.view_is in
     let walked : joined_spans (take c.loop-span.span-index spans) ≡ c.args.self.now = ap joined_spans (take_all c.loop-span.span-index spans c.loop-span-test.false) ∙ all in
-    subst (λ n. IsWithout (IsBefore c.args.at.now) c.args.self.now (drop n c.args.self.now)) (sym c.len-all.ensures)
+    subst (λ n. IsWithout (IsBefore c.args.at.now) c.args.self.now (drop n c.args.self.now)) (sym c.len-all.ensures.count)
     (without_whole (IsBefore c.args.at.now) c.args.self.now (subst (AllByRecursion (IsBefore c.args.at.now)) walked c.loop-span.invariant.1))

@@ -1,4 +1,4 @@
-use Rattle.std.proofs.Common.{◌≡◌, ◌-◌, List, [], length, ◌∙◌, subst, rules}
+use Rattle.std.proofs.Common.{◌≡◌, ◌-◌, List, [], length, ap, ◌∙◌, subst, rules}
 use Rattle.dd_model.specs.Symbol.{Symbol}
 use Rattle.dd_model.specs.Text.{AreLines}
 use Rattle.dd_pages.specs.Texts.{joined}
@@ -9,8 +9,8 @@ pub returns-in_err-put_all-clause-front : goal.returns-in_err-put_all-clause-fro
 returns-in_err-put_all-clause-front g c k base start ss has =
     let old = c.args.self.now in
     let text = joined c.in-Ok.texts.items in
-    let before : c.saturating_sub-before.result ≡ old.count - length old.waiting = search rules in
-    let are = subst (λ (ms : List Symbol). AreLines c.saturating_sub-before.result ms text) c.replace-members.ensures.value c.in-Ok.ensures in
+    let before = ap (λ n. old.count - n) c.len-2.ensures.count in
+    let are = subst (λ (ms : List Symbol). AreLines (old.count - c.len-2.result) ms text) c.replace-members.ensures.value c.in-Ok.ensures.lines in
     front_made k base start _ _ old ss text (subst (λ n. AreLines n old.waiting text) before are) c.put_all.ensures.front has
 
 pub returns-clause-kept : goal.returns-clause-kept
@@ -18,8 +18,8 @@ returns-clause-kept g c k base start ss has =
     let old = c.args.self.now in
     let text = joined c.in-Ok.texts.items in
     let sent = c.in_ok-put_all.ensures in
-    let before : c.saturating_sub-before.result ≡ old.count - length old.waiting = search rules in
-    let are = subst (λ (ms : List Symbol). AreLines c.saturating_sub-before.result ms text) c.replace-members.ensures.value c.in-Ok.ensures in
+    let before = ap (λ n. old.count - n) c.len-2.ensures.count in
+    let are = subst (λ (ms : List Symbol). AreLines (old.count - c.len-2.result) ms text) c.replace-members.ensures.value c.in-Ok.ensures.lines in
     let none : c.replace-members.new.dest ≡ [] = search rules in
     lines_made k base start _ _ old c.put_all.new.self ss text (subst (λ n. AreLines n old.waiting text) before are) sent.sent (sent.waiting ∙ none) sent.count has
 
@@ -27,6 +27,6 @@ pub returns-clause-front : goal.returns-clause-front
 returns-clause-front g c k base start ss has =
     let old = c.args.self.now in
     let text = joined c.in-Ok.texts.items in
-    let before : c.saturating_sub-before.result ≡ old.count - length old.waiting = search rules in
-    let are = subst (λ (ms : List Symbol). AreLines c.saturating_sub-before.result ms text) c.replace-members.ensures.value c.in-Ok.ensures in
+    let before = ap (λ n. old.count - n) c.len-2.ensures.count in
+    let are = subst (λ (ms : List Symbol). AreLines (old.count - c.len-2.result) ms text) c.replace-members.ensures.value c.in-Ok.ensures.lines in
     front_made k base start _ _ old ss text (subst (λ n. AreLines n old.waiting text) before are) c.put_all.ensures.front has

@@ -2,7 +2,7 @@ use Rattle.std.proofs.Common.{refl, ap, ◌∙◌, length, arith}
 use Rattle.std.specs.Vec.Iter.{into_iter_items}
 use Rattle.std.proofs.lemmas.List.Concat.{flat_map-cons}
 use Rattle.dd_pages.specs.Texts.{bytes_of, joined}
-use Rattle.dd_pages.proofs.Sending.{sending_start, sending_more, sending_front}
+use Rattle.dd_pages.proofs.Sending.{sending_start, sending_more, sending_front, sending_room}
 use Rattle.dd_pages.proofs.pages.Page.put_all.Goals as goal
 
 pub loop-text-init : goal.loop-text-init
@@ -34,3 +34,9 @@ pub returns-in_err-put-clause-front : goal.returns-in_err-put-clause-front
 returns-in_err-put-clause-front g c =
     let rest = into_iter_items c.next.new.self in
     sending_front _ _ _ _ _ _ _ _ _ (ap joined c.in-Some.ensures.steps.0 ∙ flat_map-cons bytes_of c.in-Some.text rest) c.put.ensures.front c.loop-text.invariant.1
+
+pub put-requires : goal.put-requires
+put-requires g c =
+    let ih = c.loop-text.invariant in
+    let rest = into_iter_items c.next.new.self in
+    sending_room _ _ _ _ _ _ _ _ (ap joined c.in-Some.ensures.steps.0 ∙ flat_map-cons bytes_of c.in-Some.text rest) ih.2 ih.3 c.requires ih.1
