@@ -17,6 +17,7 @@ pub mod SideLemmas
 pub mod WriteLemmas
 pub mod SumLemmas
 pub mod KeptLemmas
+pub mod KeptBounds
 pub mod EndGrowth
 pub mod StartLemmas
 pub mod FilledLemmas

@@ -3,6 +3,8 @@ use Rattle.std.specs.Prelude.{◌≡◌, ℕ, ◌*◌, ◌/◌, ◌%◌, ◌≤�
 use Rattle.std.specs.declared.option.Option.{Option}
 use Rattle.std.specs.declared.option.Option.TheVariants.{None, Some}
 use Rattle.dd_model.specs.declared.pair.Pair.{Pair}
+use Rattle.dd_model.specs.declared.pair.Pair.TheVariants.{Tile, Vertex}
+use Rattle.dd_model.specs.declared.requests.Request.{Request}
 use Rattle.dd_model.specs.Symbol.{Symbol}
 use Rattle.dd_model.specs.Partial.{Completes}
 use Rattle.dd_model.specs.Wanted.{Wanted}
@@ -12,6 +14,8 @@ use Rattle.dd_bounds.specs.Counted.{AreCounted, HasCounted, HaveOthers}
 use Rattle.dd_bounds.specs.Ends.{led}
 use Rattle.dd_bounds.specs.Passing.{AreEndsOf, Passes}
 use Rattle.dd_bounds.specs.PathEnd.{PathEnd}
+use Rattle.dd_bounds.specs.Shares.{BoundsReciprocals, IsTotal}
+use Rattle.dd_bounds.specs.Units.{share_unit}
 use Rattle.dd_bounds.specs.declared.census.Census.{Census}
 use Rattle.dd_bounds.specs.declared.class_shares.ClassShares.{ClassShares}
 use Rattle.dd_bounds.specs.declared.end.End.{End}
@@ -61,3 +65,14 @@ IsCensusOf t partial test census = (s : Symbol) → Wanted t.request s → Passe
 pub record IsJoin (C : Symbol → Type 0) (p : Pair) (x y : ℕ) : Type 0 where
   pub side : (s : Symbol) → C s → y % 2 ≡ x % 2
   pub leads : (s : Symbol) → C s → led s p x ≡ y / 2
+
+-- what bounds the shares of a pair: where the first bound holds of a wanted completion that passes a test, the second does
+abbrev pub KeepsBounds : Request → Symbol → (Symbol → Bool) → Pair → ℕ → ℕ → Type 0
+KeepsBounds q partial test p bound most = (s : Symbol) → Wanted q s → Passes partial test s → BoundsReciprocals s p bound → BoundsReciprocals s p most
+
+-- what the shares of both pairs are at most in all wanted completions
+pub record AreBounds (q : Request) (partial : Symbol) (tiles vertices : ℕ) : Type 0 where
+  pub tiles_within : IsTotal q partial Tile share_unit tiles
+  pub vertices_within : IsTotal q partial Vertex share_unit vertices
+  pub few_tiles : tiles ≤ 36 * share_unit
+  pub few_vertices : vertices ≤ 36 * share_unit

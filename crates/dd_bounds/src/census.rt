@@ -27,6 +27,11 @@ fn limit_of(request: &Request, pair: Pair) -> u32
     }
 }
 
+/// Returns whether a request limits the cells of a pair.
+pub(crate) fn is_limited(request: &Request, pair: Pair) -> bool {
+    limit_of(request, pair) != 0
+}
+
 /// What is known of the cells of a pair in a table. It counts the whole cells, how many of them are
 /// chains, their chambers, and what they add at most. It also has how often an involution of the
 /// pair is known to fix a chamber.

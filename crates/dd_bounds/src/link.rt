@@ -14,7 +14,7 @@ pub(crate) struct Link {
 }
 
 /// The involution of a place of a code.
-fn index_of(place: u8) -> Index
+pub(crate) fn index_of(place: u8) -> Index
     ensures { result ≡ index_at (place % 3) }
 {
     Index::ALL[usize::from(place % 3)]

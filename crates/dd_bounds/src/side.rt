@@ -1,4 +1,4 @@
-ghost use Rattle.std.specs.Prelude.{◌≡◌, ◌≢◌, ◌⊎◌, ℕ, ◌+◌, ◌*◌, ◌/◌, ◌%◌, ◌≤◌, ◌<◌, Bool, true, IsFalse, Some, slice_get};
+ghost use Rattle.std.specs.Prelude.{◌≡◌, ◌≢◌, ◌⊎◌, ℕ, ◌+◌, ◌*◌, ◌/◌, ◌%◌, ◌≤◌, ◌<◌, Bool, true, IsFalse, IfSome, IfNone, Some, slice_get};
 ghost use Rattle.dd_model.specs.Symbol.{Symbol as Tiling};
 ghost use Rattle.dd_model.specs.declared.pair.Pair.TheVariants.{Tile, Vertex};
 ghost use Rattle.dd_partial_table.specs.Rows.{partial_of, IsReady};
@@ -7,13 +7,15 @@ ghost use Rattle.dd_bounds.specs.Units.{share_unit};
 ghost use Rattle.dd_bounds.specs.Classes.{joined_class};
 ghost use Rattle.dd_bounds.specs.Passing.{Passes};
 ghost use Rattle.dd_bounds.specs.Sides.{IsSide, IsSideOfSome, IsSumOf, IsCensusOf, IsJoin, ends_of};
-ghost use Rattle.dd_bounds.specs.Sides.{class_weight};
+ghost use Rattle.dd_bounds.specs.Sides.{class_weight, KeepsBounds};
+ghost use Rattle.dd_model.specs.Wanted.{Wanted};
 ghost use Rattle.dd_bounds.specs.Census.{IsSmall};
 
-use crate::census::Census;
+use crate::census::{Census, is_limited};
 use crate::class::Class;
 use crate::class_shares::ClassShares;
 use crate::end::End;
+use dd_model::Pair;
 
 /// The paths of a pair in a table that a search fills, kept at their ends, and the sum of the
 /// shares of all chambers. A flag is twice a chamber, and 1 more for the second involution of the
@@ -133,6 +135,41 @@ impl Side {
         }
         census.add_joined(one, other, shares.joined(one, other));
         census
+    }
+
+    /// What the cells of the pair add at most where two flags are joined and a bound is given, or
+    /// None if there are then more cells than the request allows. If the request does not limit the
+    /// pair, no census is looked at.
+    #[inline(always)]
+    pub(crate) fn limited_with(
+        &self,
+        shares: &ClassShares,
+        pair: Pair,
+        x: u8,
+        y: u8,
+        bound: u64,
+    ) -> Option<u64>
+        requires same { shares.now.pair ≡ pair }
+        requires pair { (pair ≡ Tile) ⊎ (pair ≡ Vertex) }
+        requires first { x < 74 }
+        requires second { y < 74 }
+        requires some { IsSideOfSome shares.now self.now }
+        ensures none { IfNone result ((partial : Tiling) (test : Tiling → Bool)
+            → IsJoin (Passes partial test) pair x y → IsSide shares.now partial self.now
+            → (s : Tiling) → Wanted shares.now.request s → ¬ Passes partial test s) }
+        ensures bound { IfSome result (λ most. (partial : Tiling) (test : Tiling → Bool)
+            → IsJoin (Passes partial test) pair x y → IsSide shares.now partial self.now
+            → KeepsBounds shares.now.request partial test pair bound most) }
+        ensures few { IfSome result (λ most. most ≤ bound) }
+    {
+        if !is_limited(&shares.request, pair) {
+            return Some(bound);
+        }
+        let census = self.census_with(shares, x, y);
+        let Some(most) = census.limited(&shares.request, pair, shares.size, bound) else {
+            return None;
+        };
+        Some(most)
     }
 
     /// Fixes the end of a path, which closes it where the other one is fixed. False where no wanted

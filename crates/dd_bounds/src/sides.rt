@@ -1,4 +1,4 @@
-ghost use Rattle.std.specs.Prelude.{◌≡◌, ℕ, ◌+◌, ◌*◌, ◌≤◌, ◌<◌, Bool, IsTrue, IsFalse};
+ghost use Rattle.std.specs.Prelude.{◌≡◌, ℕ, ◌+◌, ◌*◌, ◌≤◌, ◌<◌, Bool, IsTrue, IsFalse, IfSome, IfNone};
 ghost use Rattle.std.specs.Int.{bit_at};
 ghost use Rattle.dd_model.specs.Partial.{Completes};
 ghost use Rattle.dd_model.specs.Symbol.{Symbol as Tiling};
@@ -11,11 +11,11 @@ ghost use Rattle.dd_bounds.specs.Shares.{BoundsReciprocals, IsSought};
 ghost use Rattle.dd_bounds.specs.Units.{share_unit};
 ghost use Rattle.dd_bounds.specs.Kept.{AreSides, AreSidesOfSome, IsImage};
 ghost use Rattle.dd_bounds.specs.Passing.{Passes};
-ghost use Rattle.dd_bounds.specs.Sides.{IsCensusOf, IsSumOf};
+ghost use Rattle.dd_bounds.specs.Sides.{AreBounds, KeepsBounds};
 
 use crate::census::Census;
 use crate::degrees::SHARE_UNIT;
-use crate::link::Link;
+use crate::link::{Link, index_of};
 use crate::path_shares::PathShares;
 use crate::side::Side;
 use dd_model::{Index, Pair, Request};
@@ -44,69 +44,119 @@ impl Sides {
         }
     }
 
-    /// The totals where an image becomes known.
+    /// What the cells of both pairs add at most where an image becomes known: their totals then. A
+    /// pair that the image does not change keeps the bound that is given for it.
     #[inline(always)]
-    pub(crate) fn totals_with(&self, classes: &PathShares, link: &Link) -> (u64, u64)
+    fn totals_with(
+        &self,
+        classes: &PathShares,
+        link: &Link,
+        tiles: u64,
+        vertices: u64,
+    ) -> (u64, u64)
         requires some { AreSidesOfSome classes.now self.now }
+        requires tiles { tiles ≤ 36 * share_unit }
+        requires vertices { vertices ≤ 36 * share_unit }
         ensures tiles { (partial : Tiling) (test : Tiling → Bool)
             → AreSides classes.now partial self.now → IsImage (Passes partial test) link.now
-            → IsSumOf classes.now.tiles partial test result.0 }
+            → KeepsBounds classes.now.request partial test Tile tiles result.0 }
         ensures vertices { (partial : Tiling) (test : Tiling → Bool)
             → AreSides classes.now partial self.now → IsImage (Passes partial test) link.now
-            → IsSumOf classes.now.vertices partial test result.1 }
+            → KeepsBounds classes.now.request partial test Vertex vertices result.1 }
         ensures few_tiles { result.0 ≤ 36 * share_unit }
         ensures few_vertices { result.1 ≤ 36 * share_unit }
     {
         let first = link.flags(0);
         let second = link.flags(1);
-        let tiles = &self.tiles;
-        let vertices = &self.vertices;
+        let sides = self;
         match link.index {
             Index::Zero => (
-                tiles.total_with(&classes.tiles, first.0, first.1),
-                vertices.total,
+                sides.tiles.total_with(&classes.tiles, first.0, first.1),
+                vertices,
             ),
             Index::One => (
-                tiles.total_with(&classes.tiles, second.0, second.1),
-                vertices.total_with(&classes.vertices, first.0, first.1),
+                sides.tiles.total_with(&classes.tiles, second.0, second.1),
+                sides
+                    .vertices
+                    .total_with(&classes.vertices, first.0, first.1),
             ),
             Index::Two => (
-                tiles.total,
-                vertices.total_with(&classes.vertices, second.0, second.1),
+                tiles,
+                sides
+                    .vertices
+                    .total_with(&classes.vertices, second.0, second.1),
             ),
         }
     }
 
-    /// The censuses where an image becomes known.
+    /// What the cells of both pairs add at most where an image becomes known and bounds are given.
+    /// Returns None if there are then more cells than the request allows. A census is looked at
+    /// only if the image changes it, and the request limits the pair.
     #[inline(always)]
-    fn censuses_with(&self, classes: &PathShares, link: &Link) -> (Census, Census)
+    fn limited_with(
+        &self,
+        classes: &PathShares,
+        link: &Link,
+        tiles: u64,
+        vertices: u64,
+    ) -> Option<(u64, u64)>
         requires some { AreSidesOfSome classes.now self.now }
-        ensures tiles { (partial : Tiling) (test : Tiling → Bool)
+        ensures none { IfNone result ((partial : Tiling) (test : Tiling → Bool)
             → AreSides classes.now partial self.now → IsImage (Passes partial test) link.now
-            → IsCensusOf classes.now.tiles partial test result.0 }
-        ensures vertices { (partial : Tiling) (test : Tiling → Bool)
+            → (s : Tiling) → Wanted classes.now.request s → ¬ Passes partial test s) }
+        ensures tiles { IfSome result (λ most. (partial : Tiling) (test : Tiling → Bool)
             → AreSides classes.now partial self.now → IsImage (Passes partial test) link.now
-            → IsCensusOf classes.now.vertices partial test result.1 }
-        ensures few_tiles { IsSmall result.0 }
-        ensures few_vertices { IsSmall result.1 }
+            → KeepsBounds classes.now.request partial test Tile tiles most.0) }
+        ensures vertices { IfSome result (λ most. (partial : Tiling) (test : Tiling → Bool)
+            → AreSides classes.now partial self.now → IsImage (Passes partial test) link.now
+            → KeepsBounds classes.now.request partial test Vertex vertices most.1) }
+        ensures few_tiles { IfSome result (λ most. most.0 ≤ tiles) }
+        ensures few_vertices { IfSome result (λ most. most.1 ≤ vertices) }
     {
         let first = link.flags(0);
         let second = link.flags(1);
-        let tiles = &self.tiles;
-        let vertices = &self.vertices;
+        let own = &classes.tiles;
+        let other = &classes.vertices;
+        let sides = self;
         match link.index {
-            Index::Zero => (
-                tiles.census_with(&classes.tiles, first.0, first.1),
-                vertices.census,
-            ),
-            Index::One => (
-                tiles.census_with(&classes.tiles, second.0, second.1),
-                vertices.census_with(&classes.vertices, first.0, first.1),
-            ),
-            Index::Two => (
-                tiles.census,
-                vertices.census_with(&classes.vertices, second.0, second.1),
-            ),
+            Index::Zero => {
+                let side = &sides.tiles;
+                let Some(cells) = side.limited_with(own, Pair::Tile, first.0, first.1, tiles) else {
+                    return None;
+                };
+                Some((cells, vertices))
+            }
+            Index::One => {
+                let side = &sides.tiles;
+                let Some(cells) = side.limited_with(own, Pair::Tile, second.0, second.1, tiles)
+                else {
+                    return None;
+                };
+                let side = &sides.vertices;
+                let Some(corners) = side.limited_with(
+                    other,
+                    Pair::Vertex,
+                    first.0,
+                    first.1,
+                    vertices,
+                ) else {
+                    return None;
+                };
+                Some((cells, corners))
+            }
+            Index::Two => {
+                let side = &sides.vertices;
+                let Some(corners) = side.limited_with(
+                    other,
+                    Pair::Vertex,
+                    second.0,
+                    second.1,
+                    vertices,
+                ) else {
+                    return None;
+                };
+                Some((tiles, corners))
+            }
         }
     }
 
@@ -134,8 +184,44 @@ impl Sides {
         }
     }
 
+    /// What the cells of both pairs add at most. A pair that the image at a place of the code does
+    /// not change is limited as the request limits it, and only that. Returns None if the pair has
+    /// more cells than the request allows.
+    #[inline(always)]
+    fn bounds(&self, classes: &PathShares, table: &Rows, place: u8) -> Option<(u64, u64)>
+        requires ready { IsReady table.now }
+        requires kept { AreSides classes.now (partial_of table.now) self.now }
+        ensures none { IfNone result ((s : Tiling)
+            → ¬ IsSought classes.now.request (partial_of table.now) s) }
+        ensures bounds { IfSome result (λ most.
+            AreBounds classes.now.request (partial_of table.now) most.0 most.1) }
+    {
+        let tiles = self.tiles.total;
+        let vertices = self.vertices.total;
+        let request = &classes.request;
+        let size = table.size();
+        match index_of(place) {
+            Index::Zero => {
+                let corners = &self.vertices.census;
+                let Some(most) = corners.limited(request, Pair::Vertex, size, vertices) else {
+                    return None;
+                };
+                Some((tiles, most))
+            }
+            Index::One => Some((tiles, vertices)),
+            Index::Two => {
+                let cells = &self.tiles.census;
+                let Some(most) = cells.limited(request, Pair::Tile, size, tiles) else {
+                    return None;
+                };
+                Some((most, vertices))
+            }
+        }
+    }
+
     /// Returns whether it is sure that no wanted symbol completes the table that has a number at a
-    /// place of its code. The limits of the request are looked at only if `with_limits` is true.
+    /// place of its code. Bounds are given of all that complete the table. The limits of the
+    /// request are looked at only if `with_limits` is true.
     #[inline(always)]
     fn is_ruled_out(
         &self,
@@ -143,33 +229,30 @@ impl Sides {
         table: &Rows,
         place: u8,
         number: u8,
+        bounds: (u64, u64),
         with_limits: bool,
     ) -> bool
         requires ready { IsReady table.now }
         requires place { place < 3 * (partial_of table.now).size }
         requires number { number ≤ 36 }
         requires kept { AreSides classes.now (partial_of table.now) self.now }
+        requires bounds { AreBounds classes.now.request (partial_of table.now) bounds.0 bounds.1 }
         ensures { IsTrue result → (s : Tiling)
             → IsSought classes.now.request (partial_of table.now) s
             → ¬ HasNumberAt place number s }
     {
         let link = Link::told(place, number);
-        let (tiles, vertices) = self.totals_with(classes, &link);
+        let (tiles, vertices) = self.totals_with(classes, &link, bounds.0, bounds.1);
         if is_too_small(tiles, vertices, table.size()) {
             return true;
         }
         if !with_limits {
             return false;
         }
-        let (cells, corners) = self.censuses_with(classes, &link);
-        exceed(
-            &classes.request,
-            table.size(),
-            &cells,
-            tiles,
-            &corners,
-            vertices,
-        )
+        let Some((cells, corners)) = self.limited_with(classes, &link, tiles, vertices) else {
+            return true;
+        };
+        is_too_small(cells, corners, table.size())
     }
 
     /// Returns whether it is sure that no wanted symbol completes the table that has a number at a
@@ -189,7 +272,9 @@ impl Sides {
             → IsSought classes.now.request (partial_of table.now) s
             → ¬ HasNumberAt place number s }
     {
-        self.is_ruled_out(classes, table, place, number, sets_limits(&classes.request))
+        let bounds = (self.tiles.total, self.vertices.total);
+        let with_limits = sets_limits(&classes.request);
+        self.is_ruled_out(classes, table, place, number, bounds, with_limits)
     }
 
     /// Returns those of some numbers, as bits, that are not ruled out at a place of the code. It
@@ -202,12 +287,14 @@ impl Sides {
         table: &Rows,
         place: u8,
         numbers: u64,
+        bounds: (u64, u64),
         with_limits: bool,
     ) -> u64
         requires ready { IsReady table.now }
         requires place { place < 3 * (partial_of table.now).size }
         requires numbers { (m : ℕ) → bit_at numbers m ≡ 1 → m ≤ 36 }
         requires kept { AreSides classes.now (partial_of table.now) self.now }
+        requires bounds { AreBounds classes.now.request (partial_of table.now) bounds.0 bounds.1 }
         ensures { (m : ℕ) → bit_at numbers m ≡ 1 → bit_at result m ≡ 0 → (s : Tiling)
             → IsSought classes.now.request (partial_of table.now) s
             → ¬ HasNumberAt place m s }
@@ -217,7 +304,7 @@ impl Sides {
         while left != 0 {
             let number = left.trailing_zeros() as u8;
             left &= left - 1;
-            if !self.is_ruled_out(classes, table, place, number, with_limits) {
+            if !self.is_ruled_out(classes, table, place, number, bounds, with_limits) {
                 kept |= 1 << number;
             }
         }
@@ -226,6 +313,7 @@ impl Sides {
 
     /// Returns those of some numbers, as bits, that neither shares nor limits rule out at a place
     /// of the code. It stays a call of its own, so that requests without limits pay nothing for it.
+    /// A pair that the image does not change is limited once for all numbers.
     #[inline(never)]
     fn sieve_with_limits(&self, classes: &PathShares, table: &Rows, place: u8, numbers: u64) -> u64
         requires ready { IsReady table.now }
@@ -236,7 +324,10 @@ impl Sides {
             → IsSought classes.now.request (partial_of table.now) s
             → ¬ HasNumberAt place m s }
     {
-        self.sieve_by(classes, table, place, numbers, true)
+        let Some(bounds) = self.bounds(classes, table, place) else {
+            return 0;
+        };
+        self.sieve_by(classes, table, place, numbers, bounds, true)
     }
 
     /// Returns those of some numbers, as bits, that are not ruled out at a place of the code.
@@ -253,7 +344,8 @@ impl Sides {
         if sets_limits(&classes.request) {
             return self.sieve_with_limits(classes, table, place, numbers);
         }
-        self.sieve_by(classes, table, place, numbers, false)
+        let bounds = (self.tiles.total, self.vertices.total);
+        self.sieve_by(classes, table, place, numbers, bounds, false)
     }
 
     /// Joins the paths that what was put into the table after a mark joins. True where a cell is

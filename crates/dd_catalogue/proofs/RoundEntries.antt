@@ -12,7 +12,7 @@ use Rattle.dd_front.specs.declared.entry.State.{State}
 use Rattle.dd_front.specs.declared.entry.State.TheVariants.{Open, Out, Done}
 use Rattle.dd_front.specs.Absorbed.{AreAbsorbed, MayAbsorb, ComeFrom}
 use Rattle.dd_front.specs.Allowed.{HasFirst}
-use Rattle.dd_front.specs.Joining.{IsDone}
+use Rattle.dd_front.specs.Joining.{IsDone, done_with, done_first}
 use Rattle.dd_front.specs.Machine.{Machine, entry_of, open_entries, jobs_of}
 use Rattle.dd_front.specs.Rounds.{open_jobs, job_if_open}
 use Rattle.dd_front.proofs.Absorbing.{all_front, all_back, absorbed_jobs}
@@ -172,6 +172,24 @@ none_taken zero (e ∷ es) jobs some opens is none = absurd (omega (arith, some)
 none_taken (suc most) (e ∷ es) jobs some opens is none =
     let taken = ap length (taken_jobs (suc most) (e ∷ es) jobs opens is) in
     absurd (omega (arith, taken, none))
+
+-- the jobs of the first entries
+pub jobs_first : (P : List Job → Type 0) (count : ℕ) (es now : List Entry) → now ≡ es → P (take count (jobs_of es)) → P (jobs_of (take count now))
+jobs_first P count es now same holds = subst (λ (ds : List Entry). P (jobs_of (take count ds))) (sym same) (subst P (take-map (λ (e : Entry). e.job) count es) holds)
+
+-- what one worker found under the first jobs may be absorbed
+pub may_absorb_first : (f : Machine) (lists : List (List Symbol)) (count : ℕ) → AreOpen f.entries → count ≤ length f.entries → length lists ≡ length (take count f.entries)
+    → ComeFrom f.request (jobs_of (take count f.entries)) (done_with lists (take count f.entries)) → (length lists ≡ count) × MayAbsorb f (length lists) (done_first lists f.entries)
+may_absorb_first f lists count opens low long come =
+    let taken = length-take count f.entries in
+    let same : length lists ≡ count = omega (arith, long, taken, low) in (
+      same,
+      subst (λ k. MayAbsorb f k (done_with lists (take k f.entries))) (sym same) (record {
+        enough = low;
+        open_entries = all_front (λ (e : Entry). e.state ≡ Open) (take count f.entries) (drop count f.entries) (subst AreOpen (sym (take-append-drop count f.entries)) opens);
+        come_from = come;
+      }),
+    )
 
 -- where those behind so many are open, one that is done is among so many
 pub done_early : (m : ℕ) (es : List Entry) (e : Entry) → AreOpen (drop m es) → Contains es e → IsDone e.state → Contains (take m (jobs_of es)) e.job

@@ -92,8 +92,12 @@ fn is_longer(at: &Position, job: &Job) -> bool
 fn is_to_split(front: &Front, job: &Job) -> Result<bool, Memory>
     ensures { IfOk result (λ yes. OnTrue yes (IsToSplit front.now job.now)) }
 {
+    // Most jobs are small, and a position takes a copy.
+    if !is_large(&front.request(), job) {
+        return Ok(false);
+    }
     let at = front.position()?;
-    Ok(is_large(&front.request(), job) && !is_longer(&at, job))
+    Ok(!is_longer(&at, job))
 }
 
 /// Puts the children of the first job in its place, if it is large, and returns whether it did.

@@ -19,7 +19,7 @@ use dd_front::{Entry, Finder, Front, State};
 use dd_model::{Job, Memory, Position};
 use dd_pages::{Pace, Run};
 use dd_ports::Gate;
-use dd_steal::run_round;
+use dd_steal::{find_each, run_round};
 use std::alloc::Global;
 use std::sync::Wait;
 use std::thread::Threads;
@@ -207,6 +207,32 @@ pub fn stands_at_job(front: &Front) -> Result<bool, Memory>
     }
 }
 
+/// Does the next round of a front by one worker, whose jobs stay in their entries, and returns
+/// whether there was one. It fails only if an allocation fails, and the front is then as before.
+fn do_round_alone<F: Finder, G: Gate>(
+    alloc: Global,
+    finder: &mut F,
+    gate: &G,
+    most: u32,
+    front: &mut Front,
+) -> Result<bool, Memory>
+    requires round { 1 ≤ most }
+    requires valid { IsValid (F.request finder.old) }
+    requires ready { IsReady (F.request finder.old) front.old }
+    ensures request { F.request finder.new ≡ F.request finder.old }
+    ensures round { IfOk result (λ more. MatchBool more (IsRoundDone most front.old front.new)
+        (IsAtEnd front.old front.new)) }
+    ensures same { OnErr result (front.new ≡ front.old) }
+{
+    let count = front.entries().len().min(most as usize);
+    if count == 0 {
+        return Ok(false);
+    }
+    let lists = find_each(alloc, finder, gate, &front.entries()[..count])?;
+    front.finish_first(lists);
+    Ok(true)
+}
+
 /// Does the next round of a front, and returns whether there was one. It fails only if an
 /// allocation fails, and the front is then as before.
 pub fn do_round<R: Threads + Wait + Sync, F: Finder + Sync, G: Gate + Sync>(
@@ -226,6 +252,9 @@ pub fn do_round<R: Threads + Wait + Sync, F: Finder + Sync, G: Gate + Sync>(
         (IsAtEnd front.old front.new)) }
     ensures same { OnErr result (front.new ≡ front.old) }
 {
+    if pace.workers == 1 {
+        return do_round_alone(alloc, finder, gate, pace.round, front);
+    }
     let jobs = front.first(pace.round)?;
     if jobs.is_empty() {
         return Ok(false);

@@ -1,6 +1,6 @@
 -- What a round brings back is absorbed.
 use Rattle.std.proofs.Common.{◌≡◌, ℕ, zero, suc, ◌≤◌, List, [], ◌∷◌, ◌++◌, length, take, drop, refl, sym, ap, ◌∙◌, subst, arith}
-use Rattle.std.proofs.lemmas.List.{take-append-drop, take-map, length-take, length-map}
+use Rattle.std.proofs.lemmas.List.{append-nil, take-append-drop, take-map, length-take, length-map}
 use Rattle.std.specs.List.{AllByRecursion, Contains}
 use Rattle.dd_model.specs.Symbol.{Symbol}
 use Rattle.dd_model.specs.Code.{IsBelow}
@@ -8,6 +8,7 @@ use Rattle.dd_model.specs.Wanted.{IsMember}
 use Rattle.dd_model.specs.Joined.{IsPartBelow, AreUnderJobs}
 use Rattle.dd_model.specs.declared.jobs.Job.{Job}
 use Rattle.dd_model.specs.declared.requests.Request.{Request}
+use Rattle.dd_model.proofs.Ascending.{begins_itself}
 use Rattle.dd_model.proofs.Lists.{all_from_members, Contains-head, Contains-none}
 use Rattle.dd_model.proofs.Pairs.{ArePairs, pairs_front, pairs_back, ascending_pairs, pairs_ascending}
 use Rattle.dd_front.specs.declared.entry.Entry.{Entry}
@@ -16,7 +17,7 @@ use Rattle.dd_front.specs.Machine.{Machine, entry_of, jobs_of}
 use Rattle.dd_front.specs.Absorbed.{Extends, IsFound, MayAbsorb, AreAbsorbed, Absorbs, found_by}
 use Rattle.dd_front.specs.Numbers.{AreBelow}
 use Rattle.dd_front.specs.Invariant.{IsFront, AreInOrder, AreListed, AreParts}
-use Rattle.dd_front.specs.Joining.{IsDone, AreBlocks, AreJoined, done_with}
+use Rattle.dd_front.specs.Joining.{IsDone, AreBlocks, AreJoined, done_with, done_first}
 use Rattle.dd_front.proofs.Blocks.{blocks_from}
 use Rattle.dd_front.proofs.Lasting.{pairs_of}
 use Rattle.dd_front.proofs.Entries.{found_by-append}
@@ -97,7 +98,7 @@ numbers_with next [] es below = below
 numbers_with next (l ∷ lists) [] below = tt
 numbers_with next (l ∷ lists) (e ∷ es) below = (below.0, numbers_with next lists es below.1)
 
-jobs_with : (lists : List (List Symbol)) (es : List Entry) → jobs_of (done_with lists es) ≡ jobs_of es
+pub jobs_with : (lists : List (List Symbol)) (es : List Entry) → jobs_of (done_with lists es) ≡ jobs_of es
 jobs_with [] es = refl
 jobs_with (l ∷ lists) [] = refl
 jobs_with (l ∷ lists) (e ∷ es) = ap (λ js. e.job ∷ js) (jobs_with lists es)
@@ -150,3 +151,22 @@ pub absorbs_none : (f : Machine) (k : ℕ) (es : List Entry) → es ≡ [] → M
 absorbs_none f k es none may =
     let taken = none_taken (take k f.entries) es none may.come_from.each in
     absorbs_with f f k es [] (subst (λ ds. AreJoined (jobs_of ds) es []) (sym taken) none) refl
+
+-- ## Entries that are done where they stand
+
+extends_own : (job : Job) → Extends job job
+extends_own job = record { size = refl; begins = begins_itself job.prefix }
+
+-- each entry has its own list
+joined_own : (lists : List (List Symbol)) (olds : List Entry) → length lists ≡ length olds → AreJoined (jobs_of olds) (done_with lists olds) lists
+joined_own [] [] long = refl
+joined_own [] (e ∷ es) long = absurd (omega arith)
+joined_own (l ∷ lists) [] long = absurd (omega arith)
+joined_own (l ∷ lists) (e ∷ es) long =
+    (entry_of e.number e.job (Done l) ∷ [], done_with lists es, refl, (extends_own e.job, tt), sym (append-nil l), joined_own lists es (omega arith))
+
+pub joined_first : {m f : Machine} (lists : List (List Symbol)) → m ≡ f → length lists ≤ length f.entries → AreJoined (jobs_of (take (length lists) m.entries)) (done_first lists f.entries) lists
+joined_first {m} {f} lists same enough =
+    let taken = length-take (length lists) f.entries in
+    subst (λ (n : Machine). AreJoined (jobs_of (take (length lists) n.entries)) (done_first lists f.entries) lists) (sym same)
+    (joined_own lists (take (length lists) f.entries) (omega (arith, taken, enough)))

@@ -1,5 +1,5 @@
 -- Entries that a round brings back, by the jobs that they come from.
-use Rattle.std.specs.Prelude.{◌≡◌, ◌≢◌, List, [], ◌∷◌, ◌++◌}
+use Rattle.std.specs.Prelude.{◌≡◌, ◌≢◌, List, [], ◌∷◌, ◌++◌, length, take}
 use Rattle.std.specs.List.{AllByRecursion}
 use Rattle.dd_model.specs.Symbol.{Symbol}
 use Rattle.dd_model.specs.declared.jobs.Job.{Job}
@@ -40,3 +40,7 @@ abbrev pub done_with : List (List Symbol) → List Entry → List Entry
 done_with [] es = es
 done_with (list ∷ lists) [] = []
 done_with (list ∷ lists) (e ∷ es) = entry_of e.number e.job (Done list) ∷ done_with lists es
+
+-- so many of the first entries as there are lists, done with these
+abbrev pub done_first : List (List Symbol) → List Entry → List Entry
+done_first lists es = done_with lists (take (length lists) es)

@@ -6,7 +6,7 @@ ghost use Rattle.dd_model.specs.Jobs.{AreAscendingJobs, AreApart};
 use crate::entry::{Entry, State};
 use crate::entry_list::EntryList;
 use crate::event::Event;
-use crate::listing::{copies_of, position_of};
+use crate::listing::position_of;
 use crate::looking::first_list;
 use dd_model::{Job, Memory, Position, Request};
 use std::alloc::Global;
@@ -72,7 +72,7 @@ impl Front {
         ensures { IfOk result (λ front. IsOpened request jobs.items from lines front) }
     {
         let next = jobs.len() as u64 + 1;
-        let entries = EntryList::of_jobs(alloc, copies_of(alloc, &jobs)?)?;
+        let entries = EntryList::of_copies(alloc, &jobs)?;
         let position = position_of(entries.as_slice(), &from)?;
         Ok(Front {
             alloc,

@@ -1,9 +1,10 @@
-ghost use Rattle.std.specs.Prelude.{◌≡◌, ℕ, take, IfOk, OnOk, OnErr};
+ghost use Rattle.std.specs.Prelude.{◌≡◌, ℕ, length, take, IfOk, OnOk, OnErr};
 ghost use Rattle.dd_front.specs.Rounds.{open_jobs};
 
 use crate::entry::Entry;
 use crate::front::Front;
 use crate::joining::join;
+use crate::members::Members;
 use dd_model::{Job, Memory};
 use std::alloc::Global;
 
@@ -25,6 +26,7 @@ fn first_open(alloc: Global, entries: &[Entry], most: usize) -> Result<Vec<Job>,
 
 impl Front {
     ghost use Rattle.dd_front.specs.Absorbed.{MayAbsorb, Absorbs};
+    ghost use Rattle.dd_front.specs.Joining.{done_first};
 
     /// Returns copies of the jobs of the first open entries, at most `most`.
     pub fn first(&self, most: u32) -> Result<Vec<Job>, Memory>
@@ -47,5 +49,16 @@ impl Front {
         let lists = join(self.alloc, self.entries.as_slice(), entries)?;
         self.entries.put_lists(lists);
         Ok(())
+    }
+
+    /// Makes the first entries done with these lists, which have what is under their jobs. Nothing
+    /// is copied or joined, as `absorb` has to do.
+    pub fn finish_first(&mut self, lists: Vec<Members>)
+        requires { MayAbsorb self.old (length lists.items)
+            (done_first lists.items self.old.entries) }
+        ensures { Absorbs self.old (length lists.items) (done_first lists.items self.old.entries)
+            self.new }
+    {
+        self.entries.put_lists(lists);
     }
 }

@@ -1,7 +1,9 @@
-ghost use Rattle.std.specs.Prelude.{◌≡◌, IfOk};
+ghost use Rattle.std.specs.Prelude.{◌≡◌, length, IfOk};
 ghost use Rattle.dd_model.specs.Request.{IsValid};
 ghost use Rattle.dd_model.specs.Jobs.{AreAscendingJobs, AreApart};
 ghost use Rattle.dd_front.specs.Absorbed.{ComeFrom};
+ghost use Rattle.dd_front.specs.Joining.{done_with};
+ghost use Rattle.dd_front.specs.Machine.{jobs_of};
 ghost use Rattle.dd_board.specs.Desk.{AreJobsOf};
 
 use dd_front::{Entry, Finder, Members, State};
@@ -38,4 +40,30 @@ pub(crate) fn do_alone<F: Finder, G: Gate>(
         })?;
     }
     Ok(entries)
+}
+
+/// Finds what is under the jobs of some entries, one after the other, on this thread and as worker
+/// 1. The entries stay where they are, and no job is copied.
+pub fn find_each<F: Finder, G: Gate>(
+    alloc: Global,
+    finder: &mut F,
+    gate: &G,
+    entries: &[Entry],
+) -> Result<Vec<Members>, Memory>
+    requires valid { IsValid (F.request finder.old) }
+    requires ascending { AreAscendingJobs (jobs_of entries.now) }
+    requires apart { AreApart (jobs_of entries.now) }
+    requires all { AreJobsOf (F.request finder.old) (jobs_of entries.now) }
+    ensures request { F.request finder.new ≡ F.request finder.old }
+    ensures long { IfOk result (λ lists. length lists.items ≡ length entries.now) }
+    ensures come { IfOk result (λ lists. ComeFrom (F.request finder.old) (jobs_of entries.now)
+        (done_with lists.items entries.now)) }
+{
+    let mut lists = Vec::with_capacity(alloc, entries.len())?;
+    for entry in entries {
+        gate.enter(1, lists.len() as u64 + 1);
+        let list = finder.find(alloc, &entry.job)?;
+        lists.push(Members::new(alloc, list)?)?;
+    }
+    Ok(lists)
 }

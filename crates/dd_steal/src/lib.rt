@@ -10,6 +10,7 @@ mod round;
 mod sweeping;
 mod worker;
 
+pub use alone::find_each;
 pub use ended::Ended;
 pub use round::run_round;
 pub use sweeping::sweep;

@@ -8,7 +8,7 @@ pub invariant_of-result : goal.invariant_of-result
 invariant_of-result c =
     let q = c.args.request in
     let jobs = c.args.jobs.items in
-    let es : c.in_ok-entries.entries ≡ open_entries 1 jobs = c.in_ok-entries.ensures ∙ ap (open_entries 1) (c.in_ok-copies_of.ensures ∙ c.deref.ensures.value) in
+    let es : c.in_ok-entries.entries ≡ open_entries 1 jobs = c.in_ok-entries.ensures ∙ ap (open_entries 1) c.deref.ensures.value in
     let next : 1 + length jobs ≡ c.len.result + 1 = omega arith in
     let parts : AreParts jobs = record { ascending = c.requires.ascending; apart = c.requires.apart } in
     subst (λ n. IsFront q jobs n c.in_ok-entries.entries) next (subst (IsFront q jobs (1 + length jobs)) (sym es) (front_opened q jobs jobs c.requires.valid parts parts))
