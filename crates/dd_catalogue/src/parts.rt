@@ -17,6 +17,8 @@ const NUMBERS_A_CHAMBER: u64 = 5;
 /// than 20 chambers is large, but for degrees below 3.
 const MANY_NUMBERS: u64 = 40;
 
+const NUMBERS_BEYOND: u64 = 3;
+
 const NUMBERS_LESS: u64 = 90;
 
 const NUMBERS_LESS_FROM_2: u64 = 65;
@@ -46,7 +48,7 @@ fn numbers_of_few(request: &Request, size: u32) -> u64 {
 fn numbers_of_small(request: &Request, size: u32) -> u64 {
     let numbers = numbers_of_few(request, size);
     let further = numbers.saturating_sub(MANY_NUMBERS);
-    numbers.min(MANY_NUMBERS) + 3 * further / NUMBERS_A_CHAMBER
+    numbers.min(MANY_NUMBERS) + further / NUMBERS_A_CHAMBER * NUMBERS_BEYOND
 }
 
 /// Returns whether a request allows only few classes of tiles or of vertices.
