@@ -115,47 +115,34 @@ impl Sides {
     {
         let first = link.flags(0);
         let second = link.flags(1);
-        let own = &classes.tiles;
-        let other = &classes.vertices;
-        let sides = self;
         match link.index {
             Index::Zero => {
-                let side = &sides.tiles;
-                let Some(cells) = side.limited_with(own, Pair::Tile, first.0, first.1, tiles) else {
+                let (side, own) = (&self.tiles, &classes.tiles);
+                let Some(most) = side.limited_with(own, Pair::Tile, first.0, first.1, tiles) else {
                     return None;
                 };
-                Some((cells, vertices))
+                Some((most, vertices))
             }
             Index::One => {
-                let side = &sides.tiles;
+                let (side, own) = (&self.tiles, &classes.tiles);
                 let Some(cells) = side.limited_with(own, Pair::Tile, second.0, second.1, tiles)
                 else {
                     return None;
                 };
-                let side = &sides.vertices;
-                let Some(corners) = side.limited_with(
-                    other,
-                    Pair::Vertex,
-                    first.0,
-                    first.1,
-                    vertices,
-                ) else {
+                let (side, own) = (&self.vertices, &classes.vertices);
+                let Some(most) = side.limited_with(own, Pair::Vertex, first.0, first.1, vertices)
+                else {
                     return None;
                 };
-                Some((cells, corners))
+                Some((cells, most))
             }
             Index::Two => {
-                let side = &sides.vertices;
-                let Some(corners) = side.limited_with(
-                    other,
-                    Pair::Vertex,
-                    second.0,
-                    second.1,
-                    vertices,
-                ) else {
+                let (side, own) = (&self.vertices, &classes.vertices);
+                let Some(most) = side.limited_with(own, Pair::Vertex, second.0, second.1, vertices)
+                else {
                     return None;
                 };
-                Some((tiles, corners))
+                Some((tiles, most))
             }
         }
     }

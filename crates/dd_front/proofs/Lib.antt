@@ -2,6 +2,7 @@ mod ValidRequests
 pub mod Placed
 pub mod Replaced
 mod Kept
+mod Packing
 mod Firsts
 mod Blocks
 mod Joins

@@ -14,3 +14,4 @@ pub mod Rounds
 pub mod Joining
 pub mod Shut
 pub mod Spans
+pub mod Opening

@@ -1,7 +1,7 @@
 ghost use Rattle.std.specs.Prelude.{◌≡◌, ◌≢◌, ◌↔◌, ◌+◌, ◌<◌, ◌≤◌, ◌^◌, length, IsTrue, IfOk, OnOk, OnErr, MatchOption};
 
 use crate::entry::{Entry, State};
-use crate::listing::{listed, listed_copies};
+use crate::listing::listed;
 use crate::looking::{first_open, place_near, shut_after};
 use crate::members::Members;
 use dd_model::{Job, Memory};
@@ -50,17 +50,6 @@ impl EntryList {
     {
         Ok(EntryList {
             all: listed(alloc, 1, jobs)?,
-            gone: 0,
-            shut: 0,
-        })
-    }
-
-    /// Open entries of copies of these jobs, numbered from 1 on.
-    pub fn of_copies(alloc: Global, jobs: &[Job]) -> Result<EntryList, Memory>
-        ensures { IfOk result (λ entries. entries ≡ open_entries 1 jobs.now) }
-    {
-        Ok(EntryList {
-            all: listed_copies(alloc, jobs)?,
             gone: 0,
             shut: 0,
         })

@@ -8,6 +8,7 @@ use crate::entry_list::EntryList;
 use crate::event::Event;
 use crate::listing::position_of;
 use crate::looking::first_list;
+use crate::opening::Opening;
 use dd_model::{Job, Memory, Position, Request};
 use std::alloc::Global;
 use std::marker::Model;
@@ -18,7 +19,7 @@ use std::marker::Model;
 pub struct Front {
     pub(crate) alloc: Global,
     pub(crate) request: Request,
-    pub(crate) opening: Vec<Job>,
+    pub(crate) opening: Opening,
     pub(crate) opened: u128,
     pub(crate) from: Position,
     pub(crate) entries: EntryList,
@@ -37,7 +38,7 @@ impl Model for Front {
 
     ghost view = { λ a. record {
       request = a.request;
-      opening = a.opening.items;
+      opening = a.opening;
       opened = a.opened;
       from = a.from;
       entries = a.entries;
@@ -46,7 +47,7 @@ impl Model for Front {
       saved = record { lines = a.saved_lines; position = a.saved_position };
     } };
 
-    ghost invariant = { λ a. IsFront a.request a.opening.items a.next a.entries };
+    ghost invariant = { λ a. IsFront a.request a.opening a.next a.entries };
 }
 
 impl Front {
@@ -72,12 +73,13 @@ impl Front {
         ensures { IfOk result (λ front. IsOpened request jobs.items from lines front) }
     {
         let next = jobs.len() as u64 + 1;
-        let entries = EntryList::of_copies(alloc, &jobs)?;
+        let opening = Opening::of(alloc, &jobs)?;
+        let entries = EntryList::of_jobs(alloc, jobs)?;
         let position = position_of(entries.as_slice(), &from)?;
         Ok(Front {
             alloc,
             request,
-            opening: jobs,
+            opening,
             opened: lines,
             from,
             entries,

@@ -46,6 +46,7 @@ mod listing;
 mod looking;
 mod members;
 mod naming;
+mod opening;
 mod rounds;
 mod saving;
 mod span;

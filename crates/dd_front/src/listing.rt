@@ -23,24 +23,6 @@ pub fn listed(alloc: Global, first: u64, jobs: Vec<Job>) -> Result<Vec<Entry>, M
     Ok(entries)
 }
 
-/// Open entries of copies of jobs, numbered from 1 on. Each copy is made in its entry: there are
-/// thousands of jobs, and a list of the copies would take as much memory as they do.
-pub fn listed_copies(alloc: Global, jobs: &[Job]) -> Result<Vec<Entry>, Memory>
-    ensures { IfOk result (λ entries. entries.items ≡ open_entries 1 jobs.now) }
-{
-    let mut entries = Vec::with_capacity(alloc, jobs.len())?;
-    let mut number = 0;
-    for job in jobs {
-        number += 1;
-        entries.push(Entry {
-            number,
-            job: job.try_copy()?,
-            state: State::Open,
-        })?;
-    }
-    Ok(entries)
-}
-
 /// Returns where a machine is that has these entries and continues from a position.
 pub fn position_of(entries: &[Entry], from: &Position) -> Result<Position, Memory>
     ensures { IfOk result (λ position. StandsAt from.now entries.now position) }

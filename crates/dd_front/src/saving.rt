@@ -40,7 +40,8 @@ impl Front {
         ensures same { OnErr result (self.new ≡ self.old) }
     {
         let from = self.saved_position.try_copy()?;
-        let jobs = copies_from(self.alloc, &self.opening, &from)?;
+        let opening = self.opening.jobs(self.alloc)?;
+        let jobs = copies_from(self.alloc, &opening, &from)?;
         let next = jobs.len() as u64 + 1;
         let entries = EntryList::of_jobs(self.alloc, jobs)?;
         self.from = from;

@@ -6,7 +6,7 @@ use Rattle.dd_front.proofs.front.Front.split.Goals as goal
 pub invariant_of-self-2 : goal.invariant_of-self-2
 invariant_of-self-2 c =
     let q = c.self.inside.request in
-    let opening = c.self.inside.opening.items in
+    let opening = c.self.inside.opening in
     let next = c.self.inside.next in
     let jobs = c.into_vec-jobs.result.items in
     subst (λ n. IsFront q opening n c.split.new.self) (ap (λ n. next + n) (sym (c.len.ensures ∙ omega arith)))
