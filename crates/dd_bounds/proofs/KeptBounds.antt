@@ -8,7 +8,6 @@ use Rattle.dd_model.specs.Wanted.{Wanted}
 use Rattle.dd_model.proofs.AllDegrees.{all_degrees_positive}
 use Rattle.dd_bounds.specs.Counted.{HasCounted}
 use Rattle.dd_bounds.specs.Kept.{AreSides}
-use Rattle.dd_bounds.specs.Passing.{Passes}
 use Rattle.dd_bounds.specs.Shares.{BoundsReciprocals, IsSought, IsTotal}
 use Rattle.dd_bounds.specs.Sides.{AreBounds, IsSide, IsSumOf, KeepsBounds}
 use Rattle.dd_bounds.specs.Units.{share_unit}

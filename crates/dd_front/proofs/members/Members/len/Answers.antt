@@ -1,4 +1,3 @@
-use Rattle.std.proofs.Common.{arith}
 use Rattle.dd_front.proofs.ShortSpans.{few_spans}
 use Rattle.dd_front.proofs.members.Members.len.Goals as goal
 
