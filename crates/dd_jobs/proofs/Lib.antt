@@ -5,6 +5,7 @@ pub mod Growth
 pub mod FirstVisits
 pub mod CodeFronts
 pub mod Listings
+mod AlikeSizes
 mod ShardJobs
 pub mod PortionLaws
 pub mod ShardLaws

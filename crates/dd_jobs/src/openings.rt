@@ -15,6 +15,10 @@ use std::alloc::Global;
 /// How many numbers the prefixes of an opening have.
 const NUMBERS: usize = 9;
 
+/// The greatest number in such a prefix. Each of its nine numbers is at most one more than the
+/// greatest of 1 and the numbers before it. From this size on, each size has the same prefixes.
+const GREATEST: u32 = 10;
+
 /// Adds the first-visit prefixes of nine numbers, or of a whole table, that begin with a prefix.
 fn add_jobs(
     alloc: Global,
@@ -47,6 +51,20 @@ fn add_jobs(
     Ok(())
 }
 
+/// Adds the jobs of a size, which has the prefixes of the jobs that are given.
+fn add_alike(alloc: Global, alike: &[Job], size: u32, jobs: &mut Vec<Job>) -> Result<(), Memory>
+    requires alike { AreJobsUnder 10 9 [] alike.now }
+    requires size { 10 ≤ size }
+    ensures { OnOk result (Appends (AreJobsUnder size (min (3 * size) 9) [])
+        jobs.old.items jobs.new.items) }
+{
+    for job in alike {
+        let prefix = Prefix::from_slice(alloc, job.prefix.as_slice())?;
+        jobs.push(Job { size, prefix })?;
+    }
+    Ok(())
+}
+
 /// The jobs with which the search for a catalogue begins: for each size, all first-visit prefixes
 /// of nine numbers, or of three times the size where that is less.
 pub fn opening(alloc: Global, q: &Request) -> Result<Vec<Job>, Memory>
@@ -54,9 +72,18 @@ pub fn opening(alloc: Global, q: &Request) -> Result<Vec<Job>, Memory>
     ensures { IfOk result (λ jobs. IsOpening q.now jobs.items) }
 {
     let mut jobs = Vec::new(alloc);
-    for k in 0..q.chambers {
+    for k in 0..q.chambers.min(GREATEST - 1) {
         let mut prefix = ArrayVec::new();
         add_jobs(alloc, k + 1, &mut prefix, &mut jobs)?;
+    }
+    if q.chambers < GREATEST {
+        return Ok(jobs);
+    }
+    let mut alike = Vec::new(alloc);
+    let mut prefix = ArrayVec::new();
+    add_jobs(alloc, GREATEST, &mut prefix, &mut alike)?;
+    for size in GREATEST..q.chambers + 1 {
+        add_alike(alloc, &alike, size, &mut jobs)?;
     }
     Ok(jobs)
 }
