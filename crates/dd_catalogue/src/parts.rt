@@ -19,6 +19,10 @@ const MANY_NUMBERS: u64 = 40;
 
 const NUMBERS_BEYOND: u64 = 3;
 
+/// A small job lacks at most this many of the numbers of a job with some ten thousand members. So
+/// its weight is at most 32, also for degrees below 3.
+const MOST_MISSING: u64 = 20;
+
 const NUMBERS_LESS: u64 = 90;
 
 const NUMBERS_LESS_FROM_2: u64 = 65;
@@ -48,7 +52,8 @@ fn numbers_of_few(request: &Request, size: u32) -> u64 {
 fn numbers_of_small(request: &Request, size: u32) -> u64 {
     let numbers = numbers_of_few(request, size);
     let further = numbers.saturating_sub(MANY_NUMBERS);
-    numbers.min(MANY_NUMBERS) + further / NUMBERS_A_CHAMBER * NUMBERS_BEYOND
+    let few = numbers.min(MANY_NUMBERS) + further / NUMBERS_A_CHAMBER * NUMBERS_BEYOND;
+    few.max(numbers.saturating_sub(MOST_MISSING))
 }
 
 /// Returns whether a request allows only few classes of tiles or of vertices.

@@ -32,8 +32,8 @@ const WORKERS_A_JOB: u32 = 8;
 /// at once, and what is written is still near.
 const JOBS_ALONE: u32 = 4;
 
-/// How much the jobs of a round weigh together at most, for each worker. More workers than
-/// `HEAVY_WORKERS` get no more, so that a round holds few members.
+/// How much the jobs of a round weigh together at most, so that a round holds few members. If no
+/// checkpoint is kept, it is so much for each of several workers, of at most `HEAVY_WORKERS`.
 const ROUND_WEIGHT: u64 = 64;
 
 const HEAVY_WORKERS: u32 = 8;

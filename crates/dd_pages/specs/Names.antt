@@ -38,13 +38,13 @@ pub record PutsAtPause (s : Start) (pause : Option ℕ) (after : Option (List �
   pub all : check.bytes ≡ length output
   pub next : IsNextMember s.portion check.at
 
--- it was put before the last line that there may be
+-- it has fewer lines than there may be
 pub record PutsBeforeLast (s : Start) (after : Option (List ℕ)) (output : List ℕ) : Type 0 where
   pub check : Checkpoint
   pub put : IsPut after output s check
   pub before_last : check.lines < most_lines
 
--- What an end of the run's own leaves. A run that is cut short has put nothing after its last line.
+-- What an end of the run's own leaves. A run that is cut short leaves what the name held, or a checkpoint that was put before its last line.
 abbrev pub FinishesName : Start → Option ℕ → Option (List ℕ) → Option (List ℕ) → List ℕ → Finish → Type 0
 FinishesName s pause before after output Whole = HasWork s → PutsAtEnd s after output
 FinishesName s pause before after output Paused = PutsAtPause s pause after output

@@ -200,7 +200,8 @@ impl Page {
         Ok(())
     }
 
-    /// Lets members wait for their lines, behind all others.
+    /// Lets members wait for their lines, behind all others. If memory runs out, the page is of no
+    /// further use.
     fn wait(&mut self, members: Members) -> Result<(), Memory>
         requires few { self.old.count + length members ≤ 1000000000000000000 }
         ensures lines { OnOk result
@@ -213,7 +214,7 @@ impl Page {
     }
 
     /// Makes the lines of the next members, where none waits before them, and writes lines once
-    /// there are enough.
+    /// there are enough. After an error the page is of no further use.
     fn add_part<O: Sink>(&mut self, part: &Symbols<'_>, out: &mut O) -> Result<(), SinkFault>
         requires waiting { self.old.waiting ≡ [] }
         requires few { self.old.count + length part.now ≤ 1000000000000000000 }

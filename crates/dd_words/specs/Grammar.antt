@@ -15,7 +15,7 @@ use Rattle.dd_words.specs.Given.{Given, AreSingle}
 use Rattle.dd_words.specs.FirstWords.{first_word, verb_of}
 use Rattle.dd_words.specs.GivenValues.{IsNumberOr, IsNumberIfGiven, IsNameIfGiven, IsFlagIfGiven, IsSet, IsFramed}
 
--- workers and symbols in a round
+-- workers and jobs in a round
 pub record IsRun (settings : List Given) (workers round : ℕ) (pause : Option ℕ) : Type 0 where
   pub workers_are : IsNumberOr settings Workers 1 64 1 workers
   pub round_is : IsNumberOr settings Round 1 4096 64 round

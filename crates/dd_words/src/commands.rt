@@ -36,11 +36,11 @@ pub enum Command {
         request: Request,
         /// The number of workers, 1 to 64.
         workers: u32,
-        /// The number of symbols in a round, 1 to 4096.
+        /// The number of jobs in a round, 1 to 4096.
         round: u32,
         /// The number of lines before a pause.
         pause: Option<u32>,
-        /// The checkpoint to which a pause is written.
+        /// The name under which the checkpoint is kept.
         checkpoint: Option<Name>,
     },
     /// A catalogue that is taken up again at a checkpoint.
@@ -49,7 +49,7 @@ pub enum Command {
         name: Name,
         /// The number of workers, 1 to 64.
         workers: u32,
-        /// The number of symbols in a round, 1 to 4096.
+        /// The number of jobs in a round, 1 to 4096.
         round: u32,
         /// The number of lines before the next pause.
         pause: Option<u32>,

@@ -14,7 +14,7 @@ use dd_model::Request;
 pub struct Run {
     /// The number of workers.
     pub workers: u32,
-    /// The number of symbols in a round.
+    /// The number of jobs in a round.
     pub round: u32,
     /// The number of lines before a pause.
     pub pause: Option<u32>,

@@ -24,11 +24,11 @@ pub enum Setting {
     Minimal,
     /// The number of workers.
     Workers,
-    /// The number of symbols in a round.
+    /// The number of jobs in a round.
     Round,
     /// The number of lines before a pause.
     Pause,
-    /// The checkpoint to which a pause is written.
+    /// The name under which the checkpoint is kept.
     Checkpoint,
     /// The shape of a cell.
     Cell,
