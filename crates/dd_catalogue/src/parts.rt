@@ -63,10 +63,10 @@ fn allows_few_classes(request: &Request) -> bool {
 }
 
 /// Returns the weight of a job: about how many times ten thousand members are under it at most. It
-/// doubles for every four numbers that the job has less. If only few classes are allowed, it is 0.
+/// doubles for every four numbers that the job has less. If only few classes are allowed, it is 1.
 pub fn weight_of(request: &Request, job: &Job) -> u64 {
     if allows_few_classes(request) {
-        return 0;
+        return 1;
     }
     let numbers = job.prefix.as_slice().len() as u64;
     let missing = numbers_of_few(request, job.size).saturating_sub(numbers);

@@ -32,8 +32,11 @@ const WORKERS_A_JOB: u32 = 8;
 /// at once, and what is written is still near.
 const JOBS_ALONE: u32 = 4;
 
-/// How much the jobs of a round weigh together at most, so that a round holds few members.
+/// How much the jobs of a round weigh together at most, so that a round holds few members. If no
+/// checkpoint is kept, it is so much for each of several workers, of at most `HEAVY_WORKERS`.
 const ROUND_WEIGHT: u64 = 64;
+
+const HEAVY_WORKERS: u32 = 8;
 
 /// Returns how many of the workers a round of `jobs` jobs has use for.
 fn useful_workers(workers: u32, jobs: usize) -> u32
@@ -110,7 +113,7 @@ fn pace_without_empty_jobs<F: Finder>(
 {
     let request = finder.request();
     let mut left = pace.round;
-    let mut heavy = ROUND_WEIGHT;
+    let mut heavy = ROUND_WEIGHT * u64::from(pace.workers.min(HEAVY_WORKERS));
     let mut round = 0_u32;
     for entry in entries {
         let weight = weight_of(&request, &entry.job);
