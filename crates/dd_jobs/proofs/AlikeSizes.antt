@@ -1,7 +1,10 @@
--- From ten chambers on, the prefixes of the opening are the same for each size.
-use Rattle.std.proofs.Common.{◌≡◌, ℕ, zero, suc, ◌+◌, ◌*◌, ◌≤◌, max, min, List, [], ◌∷◌, length, get_or, map, take, refl, sym, ap, ◌∙◌, subst, ⊎_elim, arith}
+-- From four chambers on, a size has the prefixes of ten chambers that have no greater number.
+use Rattle.std.proofs.Common.{◌≡◌, ℕ, zero, suc, ◌+◌, ◌*◌, ◌<◌, ◌≤◌, max, min, Bool, true, false, cond, List, [], ◌∷◌, length, get_or, map, take, refl, sym, ap, ◌∙◌, subst, ⊎_elim, arith}
+use Rattle.std.proofs.lemmas.Bool.{ltb-true, lt-ltb}
 use Rattle.std.proofs.lemmas.List.{take_more}
-use Rattle.std.specs.List.{Contains}
+use Rattle.std.proofs.lemmas.List.Elements.{All-filter, All-from_recursion, All-contains, filter_passes}
+use Rattle.std.proofs.Math.Dec.{ltb}
+use Rattle.std.specs.List.{AllByRecursion, Contains, filter}
 use Rattle.std.specs.Ordering.{nat_cmp, ordering_then}
 use Rattle.std.specs.Cmp.Lexicographic.{slice_cmp}
 use Rattle.std.specs.declared.cmp.Ordering.TheVariants.{Equal}
@@ -12,6 +15,7 @@ use Rattle.dd_model.proofs.Orders.{nat_cmp-same}
 use Rattle.dd_jobs.specs.FirstVisit.{IsFirstVisitPrefix, greatest}
 use Rattle.dd_jobs.specs.Opening.{IsJobUnder, AreJobsUnder}
 use Rattle.dd_jobs.proofs.Growth.{greatest_push}
+use Rattle.dd_jobs.proofs.CodeFronts.{le_greatest}
 
 -- the greatest number grows by at most one a place
 grown : (n : ℕ) (xs : List ℕ) → IsFirstVisitPrefix n xs → (t : ℕ) → t ≤ length xs → greatest (take t xs) ≤ t + 1
@@ -24,19 +28,26 @@ grown n xs is (suc t) low =
     let same : greatest (take (suc t) xs) ≡ greatest (take (t + 1) xs) = ap (λ j. greatest (take j xs)) next in
     omega arith
 
-first_visit_alike : (n m : ℕ) (xs : List ℕ) → length xs ≡ 9 → 10 ≤ n → 10 ≤ m → IsFirstVisitPrefix n xs → IsFirstVisitPrefix m xs
-first_visit_alike n m xs nine some large is = record {
-  within = λ t low.
-      let inside = is.within t low in
-      let next = is.next t low in
-      let before = grown n xs is t (omega arith) in
-      (inside.0, omega arith);
+first_visit_alike : (n m : ℕ) (xs : List ℕ) → length xs ≡ 9 → 4 ≤ n → 4 ≤ m → ((t : ℕ) → t < length xs → get_or xs t 0 ≤ m) → IsFirstVisitPrefix n xs → IsFirstVisitPrefix m xs
+first_visit_alike n m xs nine some large low is = record {
+  within = λ t h. ((is.within t h).0, low t h);
   short = omega arith;
   involutive = is.involutive;
   distinct = is.distinct;
   next = is.next;
   reached = λ k one below told. is.reached k one (omega arith) told;
 }
+
+-- a prefix of nine numbers has none above 10
+low_ten : (n : ℕ) (xs : List ℕ) → length xs ≡ 9 → IsFirstVisitPrefix n xs → (t : ℕ) → t < length xs → get_or xs t 0 ≤ 10
+low_ten n xs nine is t low = let next = is.next t low in let before = grown n xs is t (omega arith) in omega arith
+
+greatest_low : (n : ℕ) (xs : List ℕ) → 1 ≤ n → ((t : ℕ) → t < length xs → get_or xs t 0 ≤ n) → greatest xs ≤ n
+greatest_low n [] some low = some
+greatest_low n (x ∷ xs) some low =
+    let rest = greatest_low n xs some (λ t h. low (suc t) (omega arith)) in
+    let first = low 0 (omega arith) in
+    omega arith
 
 -- the job of another size with the same prefix
 abbrev pub of_size : ℕ → Job → Job
@@ -66,31 +77,73 @@ ascending_alike n (j ∷ js) size up = (
   ascending_alike n js (λ job there. size job (Contains-later j job js there)) up.1,
 )
 
+-- no number of the prefix is above a size
+abbrev pub fits : ℕ → Job → Bool
+fits n job = ltb (greatest job.prefix) (n + 1)
+
+-- the jobs of a size that have the prefixes of jobs of ten chambers
+abbrev pub alike : ℕ → List Job → List Job
+alike n jobs = map (of_size n) (filter (fits n) jobs)
+
+kept_there : (p : Job → Bool) (xs : List Job) (y : Job) → Contains (filter p xs) y → Contains xs y × (p y ≡ true)
+kept_there p xs y there =
+    let self = All-from_recursion (Contains xs) xs (all_from_members (Contains xs) xs (λ x here. here)) in
+    (All-contains (Contains xs) (filter p xs) y (All-filter p (Contains xs) xs self) there, All-contains (λ x. p x ≡ true) (filter p xs) y (filter_passes p xs) there)
+
+later_kept : (b : Bool) (x : Job) (zs : List Job) (y : Job) → Contains zs y → Contains (cond b (x ∷ zs) zs) y
+later_kept true x zs y there = Contains-later x y zs there
+later_kept false x zs y there = there
+
+there_kept : (p : Job → Bool) (xs : List Job) (y : Job) → Contains xs y → p y ≡ true → Contains (filter p xs) y
+there_kept p [] y there pass = there
+there_kept p (x ∷ xs) y there pass =
+    ⊎_elim
+    (λ first. subst (λ b. Contains (cond b (x ∷ filter p xs) (filter p xs)) y) (sym (ap p first ∙ pass)) (subst (λ z. Contains (x ∷ filter p xs) z) first (Contains-head x (filter p xs))))
+    (λ later. later_kept (p x) x (filter p xs) y (there_kept p xs y later pass))
+    (Contains-cases x y xs there)
+
+ascending_with : (b : Bool) (x : Job) (zs : List Job) → AllByRecursion (IsJobBelow x) zs → AreAscendingJobs zs → AreAscendingJobs (cond b (x ∷ zs) zs)
+ascending_with true x zs below up = (below, up)
+ascending_with false x zs below up = up
+
+ascending_kept : (p : Job → Bool) (xs : List Job) → AreAscendingJobs xs → AreAscendingJobs (filter p xs)
+ascending_kept p [] up = tt
+ascending_kept p (x ∷ xs) up =
+    ascending_with (p x) x (filter p xs)
+    (all_from_members (IsJobBelow x) (filter p xs) (λ y there. each_of (IsJobBelow x) xs y up.0 (kept_there p xs y there).0))
+    (ascending_kept p xs up.1)
+
 -- the jobs of a size, from those of ten chambers
-pub jobs_alike : (n : ℕ) (jobs : List Job) → 10 ≤ n → AreJobsUnder 10 9 [] jobs → AreJobsUnder n (min (3 * n) 9) [] (map (of_size n) jobs)
+pub jobs_alike : (n : ℕ) (jobs : List Job) → 4 ≤ n → AreJobsUnder 10 9 [] jobs → AreJobsUnder n (min (3 * n) 9) [] (alike n jobs)
 jobs_alike n jobs large are =
     let nine : min (3 * n) 9 ≡ 9 = omega arith in
     record {
-      ascending = ascending_alike n jobs (λ job there. ((are.members job).0 there).size) are.ascending;
+      ascending = ascending_alike n (filter (fits n) jobs) (λ job there. ((are.members job).0 (kept_there (fits n) jobs job there).0).size) (ascending_kept (fits n) jobs are.ascending);
       members = λ job. (
         (λ there.
-            let x = mapped_from (of_size n) jobs job there in
-            let under = (are.members x.0).0 x.1 in
+            let x = mapped_from (of_size n) (filter (fits n) jobs) job there in
+            let kept = kept_there (fits n) jobs x.0 x.1 in
+            let under = (are.members x.0).0 kept.0 in
+            let low = ltb-true (greatest x.0.prefix) (n + 1) kept.1 in
             subst (IsJobUnder n (min (3 * n) 9) []) x.2 (record {
               size = refl;
               numbers = under.numbers ∙ sym nine;
               begins = tt;
-              first_visit = first_visit_alike 10 n x.0.prefix under.numbers (omega arith) large under.first_visit;
+              first_visit = first_visit_alike 10 n x.0.prefix under.numbers (omega arith) large (λ t h. let le = le_greatest x.0.prefix t h in omega arith) under.first_visit;
             })),
         (λ under.
             let other = of_size 10 job in
+            let numbers = under.numbers ∙ nine in
+            let first = under.first_visit in
             let there : Contains jobs other = (are.members other).1 (record {
               size = refl;
-              numbers = under.numbers ∙ nine;
+              numbers = numbers;
               begins = tt;
-              first_visit = first_visit_alike n 10 job.prefix (under.numbers ∙ nine) large (omega arith) under.first_visit;
+              first_visit = first_visit_alike n 10 job.prefix numbers large (omega arith) (low_ten n job.prefix numbers first) first;
             }) in
+            let low = greatest_low n job.prefix (omega arith) (λ t h. (first.within t h).1) in
+            let pass = lt-ltb (greatest job.prefix) (n + 1) (omega arith) in
             let same : of_size n other ≡ job = λ x. record { size = sym under.size x; prefix = job.prefix } in
-            subst (Contains (map (of_size n) jobs)) same (Contains-map (of_size n) jobs other there)),
+            subst (Contains (alike n jobs)) same (Contains-map (of_size n) (filter (fits n) jobs) other (there_kept (fits n) jobs other there pass))),
       );
     }

@@ -15,9 +15,12 @@ use std::alloc::Global;
 /// How many numbers the prefixes of an opening have.
 const NUMBERS: usize = 9;
 
-/// The greatest number in such a prefix. Each of its nine numbers is at most one more than the
-/// greatest of 1 and the numbers before it. From this size on, each size has the same prefixes.
+/// No such prefix has a greater number. Each of its nine numbers is at most one more than the
+/// greatest of 1 and the numbers before it.
 const GREATEST: u32 = 10;
+
+/// From this size on, a size has the prefixes of `GREATEST` chambers that have no number above it.
+const FIRST_ALIKE: u32 = 4;
 
 /// Adds the first-visit prefixes of nine numbers, or of a whole table, that begin with a prefix.
 fn add_jobs(
@@ -51,16 +54,20 @@ fn add_jobs(
     Ok(())
 }
 
-/// Adds the jobs of a size, which has the prefixes of the jobs that are given.
+/// Adds the jobs of a size, which has those of the prefixes that have no number above it. The jobs
+/// that are given are those of `GREATEST` chambers.
 fn add_alike(alloc: Global, alike: &[Job], size: u32, jobs: &mut Vec<Job>) -> Result<(), Memory>
     requires alike { AreJobsUnder 10 9 [] alike.now }
-    requires size { 10 ≤ size }
+    requires size { 4 ≤ size }
     ensures { OnOk result (Appends (AreJobsUnder size (min (3 * size) 9) [])
         jobs.old.items jobs.new.items) }
 {
     for job in alike {
-        let prefix = Prefix::from_slice(alloc, job.prefix.as_slice())?;
-        jobs.push(Job { size, prefix })?;
+        let numbers = job.prefix.as_slice();
+        if u32::from(greatest(numbers)) <= size {
+            let prefix = Prefix::from_slice(alloc, numbers)?;
+            jobs.push(Job { size, prefix })?;
+        }
     }
     Ok(())
 }
@@ -72,17 +79,17 @@ pub fn opening(alloc: Global, q: &Request) -> Result<Vec<Job>, Memory>
     ensures { IfOk result (λ jobs. IsOpening q.now jobs.items) }
 {
     let mut jobs = Vec::new(alloc);
-    for k in 0..q.chambers.min(GREATEST - 1) {
+    for k in 0..q.chambers.min(FIRST_ALIKE - 1) {
         let mut prefix = ArrayVec::new();
         add_jobs(alloc, k + 1, &mut prefix, &mut jobs)?;
     }
-    if q.chambers < GREATEST {
+    if q.chambers < FIRST_ALIKE {
         return Ok(jobs);
     }
     let mut alike = Vec::new(alloc);
     let mut prefix = ArrayVec::new();
     add_jobs(alloc, GREATEST, &mut prefix, &mut alike)?;
-    for size in GREATEST..q.chambers + 1 {
+    for size in FIRST_ALIKE..q.chambers + 1 {
         add_alike(alloc, &alike, size, &mut jobs)?;
     }
     Ok(jobs)

@@ -12,8 +12,8 @@ loop-k-preserved c =
           (subst (λ xs. Appends (AreJobsUnder k (min (3 * k) 9) xs) c.loop-k.jobs.items c.add_jobs.new.jobs.items) c.new-prefix.ensures c.in_ok-add_jobs.ensures.jobs);
     }
 
-pub returns-then-q-lt-GREATEST : goal.returns-then-q-lt-GREATEST
-returns-then-q-lt-GREATEST c =
+pub returns-then-q-lt-FIRST_ALIKE : goal.returns-then-q-lt-FIRST_ALIKE
+returns-then-q-lt-FIRST_ALIKE c =
     let end = c.loop-k.auto.k-end in
     let last : c.loop-k.k ≡ c.args.q.now.chambers = omega arith in
     opening_whole c.args.q.now c.loop-k.jobs.items (subst (λ k. AreOpeningBelow (k + 1) c.loop-k.jobs.items) last c.loop-k.invariant.jobs)
@@ -21,7 +21,7 @@ returns-then-q-lt-GREATEST c =
 pub loop-size-init : goal.loop-size-init
 loop-size-init c =
     let end = c.loop-k.auto.k-end in
-    let last : c.loop-k.k ≡ 9 = omega arith in
+    let last : c.loop-k.k ≡ 3 = omega arith in
     record { jobs = subst (λ k. AreOpeningBelow (k + 1) c.loop-k.jobs.items) last c.loop-k.invariant.jobs }
 
 pub loop-size-preserved : goal.loop-size-preserved
