@@ -12,7 +12,6 @@ mod Shutting
 mod SmallCodes
 mod Emitted
 mod Skipped
-mod ShortSpans
 pub mod Spanning
 pub mod Telling
 pub mod Standing

@@ -1,6 +1,6 @@
 -- Lists that follow each other.
-use Rattle.std.specs.Prelude.{◌≡◌, ℕ, ◌+◌, ◌^◌, ◌<◌, ◌≤◌, List, [], length, get_or, take}
-use Rattle.std.specs.List.{flat_map, AllByRecursion}
+use Rattle.std.specs.Prelude.{◌≡◌, ℕ, ◌+◌, ◌<◌, ◌≤◌, List, [], length, get_or, take}
+use Rattle.std.specs.List.{flat_map}
 use Rattle.dd_model.specs.Symbol.{Symbol}
 
 -- what spans have that follow each other
@@ -13,7 +13,3 @@ pub record IsCut (spans : List (List Symbol)) (count k rest : ℕ) : Type 0 wher
   pub count_is : count ≡ length (joined_spans (take k spans)) + rest
   pub inside : k < length spans → rest < length (get_or spans k [])
   pub end : k ≡ length spans → rest ≡ 0
-
--- no span has more members than 64 bits can count
-abbrev pub AreShort : List (List Symbol) → Type 0
-AreShort = AllByRecursion (λ span. length span < 2 ^ 64)

@@ -4,7 +4,7 @@ ghost use Rattle.dd_model.specs.Symbol.{Symbol, IsSymbol};
 ghost use Rattle.dd_model.specs.Lists.{IsWithout};
 ghost use Rattle.dd_model.specs.Position.{IsBefore};
 ghost use Rattle.dd_model.specs.Wanted.{IsAscending};
-ghost use Rattle.dd_front.specs.Spans.{IsCut, AreShort, joined_spans};
+ghost use Rattle.dd_front.specs.Spans.{IsCut, joined_spans};
 
 use crate::span::Span;
 use dd_model::{Memory, Position};
@@ -18,16 +18,12 @@ use std::marker::Model;
 #[derive(Drop)]
 pub struct Members {
     spans: Vec<Span>,
-    count: u128,
 }
 
 impl Model for Members {
     ghost Value = { List Symbol };
 
     ghost view = { λ a. joined_spans a.spans.items };
-
-    ghost invariant = { λ a. (a.count ≡ length (joined_spans a.spans.items))
-        × AreShort a.spans.items };
 }
 
 /// Returns how many spans the first `count` members fill, and how many members of the next span
@@ -54,7 +50,6 @@ impl Members {
     {
         Members {
             spans: Vec::new(alloc),
-            count: 0,
         }
     }
 
@@ -63,13 +58,12 @@ impl Members {
     pub fn new(alloc: Global, list: SymbolList) -> Result<Members, Memory>
         ensures { IfOk result (λ members. members ≡ list) }
     {
-        let count = list.len() as u128;
-        if count == 0 {
+        if list.len() == 0 {
             return Ok(Members::none(alloc));
         }
         let mut spans = Vec::with_capacity(alloc, 1)?;
         spans.push(Span::new(alloc, list)?)?;
-        Ok(Members { spans, count })
+        Ok(Members { spans })
     }
 
     /// A further owner of the same members.
@@ -80,10 +74,7 @@ impl Members {
         for span in &self.spans {
             spans.push(span.share()?)?;
         }
-        Ok(Members {
-            spans,
-            count: self.count,
-        })
+        Ok(Members { spans })
     }
 
     /// The spans, in order.
@@ -103,7 +94,11 @@ impl Members {
         ensures count { result ≡ length self.now }
         ensures small { result < 2 ^ 127 }
     {
-        self.count
+        let mut count = 0;
+        for span in &self.spans {
+            count += span.len() as u128;
+        }
+        count
     }
 
     /// Puts other members behind these. At `Err` these are as before.
@@ -111,11 +106,8 @@ impl Members {
         ensures members { OnOk result (self.new ≡ self.old ++ other) }
         ensures same { OnErr result (self.new ≡ self.old) }
     {
-        let count = self.count + other.count;
-        let Members { mut spans, .. } = other;
-        self.spans.append(&mut spans)?;
-        self.count = count;
-        Ok(())
+        let Members { mut spans } = other;
+        Ok(self.spans.append(&mut spans)?)
     }
 
     /// A copy of the member at a place, counted from 0.
@@ -138,7 +130,6 @@ impl Members {
             let first = &mut self.spans[0];
             first.skip(rest);
         }
-        self.count -= count;
     }
 
     /// Keeps only the first `count` members.
@@ -154,7 +145,6 @@ impl Members {
         } else {
             self.spans.truncate(k);
         }
-        self.count = count;
     }
 
     /// How many members of an ascending list are before a position: they are its first ones.
