@@ -137,6 +137,25 @@ impl Table {
         Ok(())
     }
 
+    /// Refuses degrees above 0 that vary in a cell, are no multiple of its r, or have a branching
+    /// value over 30. The least chambers of the cells of tiles and of vertices are given.
+    fn check_cells(&self, tiles: &[u32], vertices: &[u32]) -> Result<(), Refusal>
+        requires table { AreConnected (symbol_of self.now) }
+        requires some { 1 ≤ (symbol_of self.now).size }
+        requires positive { OfBoth (ArePositive (symbol_of self.now)) }
+        requires tiles { AreLeast (symbol_of self.now) Pair.Tile tiles.now }
+        requires vertices { AreLeast (symbol_of self.now) Pair.Vertex vertices.now }
+        ensures symbol { OnOk result (IsSmallSymbol (symbol_of self.now)) }
+        ensures why { IfErr result (λ why. IsFault (symbol_of self.now) why) }
+    {
+        self.check_constant(Pair::Tile, tiles)?;
+        self.check_constant(Pair::Vertex, vertices)?;
+        self.check_multiples(Pair::Tile, tiles)?;
+        self.check_multiples(Pair::Vertex, vertices)?;
+        self.check_small(Pair::Tile, tiles)?;
+        self.check_small(Pair::Vertex, vertices)
+    }
+
     /// Refuses degrees that are not those of a symbol with branching values of at most 30.
     pub(crate) fn check_degrees(&self, alloc: Global) -> Result<(), Refusal>
         requires table { AreConnected (symbol_of self.now) }
@@ -148,12 +167,6 @@ impl Table {
         self.check_positive(Pair::Vertex)?;
         let tiles = self.involutions.least_of_cells(alloc, Pair::Tile)?;
         let vertices = self.involutions.least_of_cells(alloc, Pair::Vertex)?;
-        self.check_constant(Pair::Tile, &tiles)?;
-        self.check_constant(Pair::Vertex, &vertices)?;
-        self.check_multiples(Pair::Tile, &tiles)?;
-        self.check_multiples(Pair::Vertex, &vertices)?;
-        self.check_small(Pair::Tile, &tiles)?;
-        self.check_small(Pair::Vertex, &vertices)?;
-        Ok(())
+        self.check_cells(&tiles, &vertices)
     }
 }
