@@ -5,10 +5,10 @@ use smallvec::SmallVec;
 use std::alloc::Global;
 use std::marker::Model;
 
-/// The first numbers of a code, each at most 216. Up to 36 of them take no memory.
+/// The first numbers of a code, each at most 216. Up to 16 of them take no memory of their own.
 #[derive(Drop)]
 pub struct Prefix {
-    numbers: SmallVec<u8, 36, Global>,
+    numbers: SmallVec<u8, 16, Global>,
 }
 
 impl Model for Prefix {
