@@ -6,42 +6,19 @@ use Rattle.std.proofs.lemmas.List.{append-nil}
 use Rattle.dd_model.specs.Line.{after_space}
 use Rattle.dd_check.specs.declared.checkpoint.Checkpoint.{Checkpoint}
 use Rattle.dd_check.specs.declared.items.Item.{Item}
-use Rattle.dd_check.specs.declared.limits.Limits.{Limits}
 use Rattle.dd_check.specs.Texts.{Text, line_text}
-use Rattle.dd_check.specs.Rows.{number_row, filter_word, limits_row, set_row, place_row}
-use Rattle.dd_jobs.specs.declared.shards.Shard.{Shard}
-use Rattle.dd_check.specs.ShardChecks.{shard_line}
+use Rattle.dd_check.specs.Rows.{number_row, limits_row, set_row, place_row}
 use Rattle.dd_check.specs.Checks.{limits_of, check_text}
 use Rattle.dd_check.proofs.JoinLemmas.{numbers_joined}
 
-pub limits_line : (old o1 o2 o3 o4 o5 : Text) (l : Limits) → o1 ≡ old ++ codes "request" → o2 ≡ o1 ++ after_space l.chambers → o3 ≡ o2 ++ after_space l.tiles
-    → o4 ≡ o3 ++ after_space l.vertices → o5 ≡ o4 ++ codes " " ++ filter_word l.minimal ++ codes "\n" → o5 ≡ old ++ line_text (limits_row l)
-limits_line old o1 o2 o3 o4 o5 l e1 e2 e3 e4 e5 =
-    e5 ∙ ap (λ z. z ++ codes " " ++ filter_word l.minimal ++ codes "\n")
-    (e4 ∙ ap (λ z. z ++ after_space l.vertices) (e3 ∙ ap (λ z. z ++ after_space l.tiles) (e2 ∙ ap (λ z. z ++ after_space l.chambers) e1)))
-    ∙ regrouped old (codes "request") (codes " ") (decimal l.chambers) (decimal l.tiles) (decimal l.vertices) (filter_word l.minimal) (codes "\n")
-  where
-    regrouped : (old h s a b c w e : Text) → old ++ h ++ (s ++ a) ++ (s ++ b) ++ (s ++ c) ++ s ++ w ++ e ≡ old ++ ((h ++ (s ++ (a ++ (s ++ (b ++ (s ++ (c ++ (s ++ w)))))))) ++ e)
-    regrouped old h s a b c w e = simp append_assoc refl
-
-pub job_line : (old o1 o2 o3 o4 : Text) (size : ℕ) (prefix : List ℕ) → o1 ≡ old ++ codes "at" → o2 ≡ o1 ++ after_space size → o3 ≡ o2 ++ flat_map after_space prefix
-    → o4 ≡ o3 ++ codes "\n" → o4 ≡ old ++ line_text (codes "at" ∷ decimal size ∷ map decimal prefix)
-job_line old o1 o2 o3 o4 size prefix e1 e2 e3 e4 =
-    e4 ∙ ap (λ z. z ++ codes "\n") (e3 ∙ ap (λ z. z ++ flat_map after_space prefix) (e2 ∙ ap (λ z. z ++ after_space size) e1))
+pub job_line : (old o1 o2 o3 : Text) (size : ℕ) (prefix : List ℕ) → o1 ≡ old ++ (codes "at " ++ decimal size) → o2 ≡ o1 ++ flat_map after_space prefix
+    → o3 ≡ o2 ++ codes "\n" → o3 ≡ old ++ line_text (codes "at" ∷ decimal size ∷ map decimal prefix)
+job_line old o1 o2 o3 size prefix e1 e2 e3 =
+    e3 ∙ ap (λ z. z ++ codes "\n") (e2 ∙ ap (λ z. z ++ flat_map after_space prefix) e1)
     ∙ regrouped old (decimal size) (flat_map after_space prefix)
     ∙ ap (λ z. old ++ (z ++ codes "\n")) (sym (numbers_joined (codes "at") (size ∷ prefix)))
   where
-    regrouped : (old a b : Text) → old ++ codes "at" ++ (32 ∷ a) ++ b ++ codes "\n" ≡ old ++ ((codes "at" ++ ((32 ∷ a) ++ b)) ++ codes "\n")
-    regrouped old a b = simp append_assoc refl
-
--- the line of a shard
-pub shard_row : (old o1 o2 o3 o4 : Text) (shard : Shard) → o1 ≡ old ++ codes "dressline shard" → o2 ≡ o1 ++ after_space shard.index → o3 ≡ o2 ++ after_space shard.count → o4 ≡ o3 ++ codes "\n"
-    → o4 ≡ old ++ shard_line shard
-shard_row old o1 o2 o3 o4 shard e1 e2 e3 e4 =
-    e4 ∙ ap (λ z. z ++ codes "\n") (e3 ∙ ap (λ z. z ++ after_space shard.count) (e2 ∙ ap (λ z. z ++ after_space shard.index) e1))
-    ∙ regrouped old (decimal shard.index) (decimal shard.count)
-  where
-    regrouped : (old a b : Text) → old ++ codes "dressline shard" ++ (32 ∷ a) ++ (32 ∷ b) ++ codes "\n" ≡ old ++ ((codes "dressline shard" ++ (32 ∷ (a ++ (32 ∷ b)))) ++ codes "\n")
+    regrouped : (old a b : Text) → old ++ (codes "at " ++ a) ++ b ++ codes "\n" ≡ old ++ ((codes "at" ++ ((32 ∷ a) ++ b)) ++ codes "\n")
     regrouped old a b = simp append_assoc refl
 
 -- the whole text

@@ -1,7 +1,6 @@
-ghost use Rattle.std.specs.Prelude.{◌≡◌, ◌++◌, ◌≤◌, OnOk, OnErr, codes, decimal};
+ghost use Rattle.std.specs.Prelude.{◌≡◌, ◌++◌, ◌≤◌, OnOk, OnErr, codes, string_bytes};
 ghost use Rattle.std.specs.List.{flat_map};
 ghost use Rattle.dd_model.specs.Line.{after_space};
-ghost use Rattle.dd_model.specs.Longer.{IsLonger};
 ghost use Rattle.dd_check.specs.Texts.{line_text};
 ghost use Rattle.dd_check.specs.Sets.{item_text};
 ghost use Rattle.dd_check.specs.Rows.{number_row, filter_word, limits_row, place_row};
@@ -13,20 +12,18 @@ ghost use Rattle.dd_check.specs.ShardChecks.{shard_line};
 use crate::checkpoint::Checkpoint;
 use crate::runs::{begins_run, last_of_run};
 use dd_jobs::Shard;
-use dd_model::{Allowed, Job, Memory, Position, Request, put_bytes};
-use itoa::Buffer;
+use dd_model::{Allowed, Job, Memory, Position, Request};
+use std::alloc::AllocError;
+use std::fmt::Write;
 
 /// Appends the text of a checkpoint. At `Err` the text is as before.
 pub fn write_checkpoint(out: &mut Vec<u8>, c: &Checkpoint) -> Result<(), Memory>
     ensures check { OnOk result (AddsCheck c.now out.old.items out.new.items) }
     ensures same { OnErr result (out.new.items ≡ out.old.items) }
 {
-    let length = out.len();
-    let written = put_checkpoint(out, c);
-    if written.is_err() {
-        out.truncate(length);
-    }
-    written
+    let mut text = String::new(*out.allocator());
+    put_checkpoint(&mut text, c)?;
+    Ok(out.extend_from_slice(text.as_bytes())?)
 }
 
 /// Appends the line of a shard and the text of a checkpoint. After `Err` the text is as before.
@@ -34,130 +31,100 @@ pub fn write_shard(out: &mut Vec<u8>, shard: Shard, c: &Checkpoint) -> Result<()
     ensures check { OnOk result (AddsShardCheck shard c.now out.old.items out.new.items) }
     ensures same { OnErr result (out.new.items ≡ out.old.items) }
 {
-    let length = out.len();
-    let written = put_shard(out, shard, c);
-    if written.is_err() {
-        out.truncate(length);
-    }
-    written
+    let mut text = String::new(*out.allocator());
+    put_shard(&mut text, shard, c)?;
+    Ok(out.extend_from_slice(text.as_bytes())?)
 }
 
-fn put_shard(out: &mut Vec<u8>, shard: Shard, c: &Checkpoint) -> Result<(), Memory>
-    ensures check { OnOk result (AddsShardCheck shard c.now out.old.items out.new.items) }
-    ensures longer { IsLonger out.old.items out.new.items }
+fn put_shard(text: &mut String, shard: Shard, c: &Checkpoint) -> Result<(), AllocError>
+    ensures { OnOk result
+        (AddsShardCheck shard c.now (string_bytes text.old) (string_bytes text.new)) }
 {
-    put_shard_line(out, shard)?;
-    put_checkpoint(out, c)?;
+    put_shard_line(text, shard)?;
+    put_checkpoint(text, c)?;
     Ok(())
 }
 
 /// Appends the numbers of a shard.
-fn put_shard_line(out: &mut Vec<u8>, shard: Shard) -> Result<(), Memory>
-    ensures line { OnOk result (out.new.items ≡ out.old.items ++ shard_line shard) }
-    ensures longer { IsLonger out.old.items out.new.items }
+fn put_shard_line(text: &mut String, shard: Shard) -> Result<(), AllocError>
+    ensures { OnOk result (string_bytes text.new ≡ string_bytes text.old ++ shard_line shard) }
 {
-    put_bytes(out, b"dressline shard")?;
-    put_next(out, u128::from(shard.index()))?;
-    put_next(out, u128::from(shard.count()))?;
-    put_bytes(out, b"\n")?;
-    Ok(())
+    writeln!(text, "dressline shard {} {}", shard.index(), shard.count())
 }
 
-fn put_checkpoint(out: &mut Vec<u8>, c: &Checkpoint) -> Result<(), Memory>
-    ensures check { OnOk result (AddsCheck c.now out.old.items out.new.items) }
-    ensures longer { IsLonger out.old.items out.new.items }
+fn put_checkpoint(text: &mut String, c: &Checkpoint) -> Result<(), AllocError>
+    ensures { OnOk result (AddsCheck c.now (string_bytes text.old) (string_bytes text.new)) }
 {
-    put_first_lines(out, c)?;
-    put_set_line(out, b"faces", &c.request.faces)?;
-    put_set_line(out, b"degrees", &c.request.degrees)?;
-    put_last_lines(out, c)?;
+    put_first_lines(text, c)?;
+    put_set_line(text, "faces", &c.request.faces)?;
+    put_set_line(text, "degrees", &c.request.degrees)?;
+    put_last_lines(text, c)?;
     Ok(())
 }
 
 /// Appends the lines before those of the sets.
-fn put_first_lines(out: &mut Vec<u8>, c: &Checkpoint) -> Result<(), Memory>
-    ensures lines { OnOk result (out.new.items ≡ out.old.items ++ codes "dressline checkpoint 2\n"
+fn put_first_lines(text: &mut String, c: &Checkpoint) -> Result<(), AllocError>
+    ensures { OnOk result (string_bytes text.new
+        ≡ string_bytes text.old ++ codes "dressline checkpoint 2\n"
         ++ line_text (number_row (codes "run") c.now.run)
         ++ line_text (limits_row (limits_of c.now.request))) }
-    ensures longer { IsLonger out.old.items out.new.items }
 {
-    put_bytes(out, b"dressline checkpoint 2\n")?;
-    put_number_line(out, b"run", u128::from(c.run))?;
-    put_limits_line(out, &c.request)
-}
-
-/// Appends the lines after those of the sets.
-fn put_last_lines(out: &mut Vec<u8>, c: &Checkpoint) -> Result<(), Memory>
-    ensures lines { OnOk result (out.new.items ≡ out.old.items
-        ++ line_text (number_row (codes "lines") c.now.lines)
-        ++ line_text (number_row (codes "bytes") c.now.bytes) ++ line_text (place_row c.now.at)) }
-    ensures longer { IsLonger out.old.items out.new.items }
-{
-    put_number_line(out, b"lines", c.lines)?;
-    put_number_line(out, b"bytes", c.bytes)?;
-    put_place_line(out, &c.at)
-}
-
-/// Appends a word and a number.
-fn put_number_line(out: &mut Vec<u8>, key: &[u8], number: u128) -> Result<(), Memory>
-    ensures line { OnOk result (out.new.items
-        ≡ out.old.items ++ line_text (number_row key.now number)) }
-    ensures longer { IsLonger out.old.items out.new.items }
-{
-    put_bytes(out, key)?;
-    put_next(out, number)?;
-    put_bytes(out, b"\n")
-}
-
-/// Appends what is asked for beside the sets.
-fn put_limits_line(out: &mut Vec<u8>, q: &Request) -> Result<(), Memory>
-    ensures line { OnOk result (out.new.items
-        ≡ out.old.items ++ line_text (limits_row (limits_of q.now))) }
-    ensures longer { IsLonger out.old.items out.new.items }
-{
-    put_bytes(out, b"request")?;
-    put_next(out, u128::from(q.chambers))?;
-    put_next(out, u128::from(q.tiles))?;
-    put_next(out, u128::from(q.vertices))?;
-    put_filter(out, q.minimal)?;
+    writeln!(text, "dressline checkpoint 2\nrun {}", c.run)?;
+    put_limits_line(text, &c.request)?;
     Ok(())
 }
 
-/// Appends the word for the minimal symbols, or for all, and the line's end.
-fn put_filter(out: &mut Vec<u8>, minimal: bool) -> Result<(), Memory>
-    ensures word { OnOk result (out.new.items
-        ≡ out.old.items ++ codes " " ++ filter_word minimal ++ codes "\n") }
-    ensures longer { IsLonger out.old.items out.new.items }
+/// Appends the lines after those of the sets.
+fn put_last_lines(text: &mut String, c: &Checkpoint) -> Result<(), AllocError>
+    ensures { OnOk result (string_bytes text.new ≡ string_bytes text.old
+        ++ line_text (number_row (codes "lines") c.now.lines)
+        ++ line_text (number_row (codes "bytes") c.now.bytes) ++ line_text (place_row c.now.at)) }
 {
-    if minimal {
-        put_bytes(out, b" minimal\n")
-    } else {
-        put_bytes(out, b" all\n")
-    }
+    writeln!(text, "lines {}\nbytes {}", c.lines, c.bytes)?;
+    put_place_line(text, &c.at)?;
+    Ok(())
+}
+
+/// Appends what is asked for beside the sets.
+fn put_limits_line(text: &mut String, q: &Request) -> Result<(), AllocError>
+    ensures { OnOk result (string_bytes text.new
+        ≡ string_bytes text.old ++ line_text (limits_row (limits_of q.now))) }
+{
+    let filter = filter_word(q.minimal);
+    writeln!(
+        text,
+        "request {} {} {} {filter}",
+        q.chambers, q.tiles, q.vertices
+    )
+}
+
+/// Returns the word for the minimal symbols, or for all.
+fn filter_word(minimal: bool) -> &'static str
+    ensures { result.now ≡ filter_word minimal }
+{
+    if minimal { "minimal" } else { "all" }
 }
 
 /// Appends a word and the items of a set.
-fn put_set_line(out: &mut Vec<u8>, key: &[u8], set: &Allowed) -> Result<(), Memory>
-    ensures line { OnOk result (AddsSetLine key.now set.now out.old.items out.new.items) }
-    ensures longer { IsLonger out.old.items out.new.items }
+fn put_set_line(text: &mut String, key: &str, set: &Allowed) -> Result<(), AllocError>
+    ensures { OnOk result
+        (AddsSetLine key.now set.now (string_bytes text.old) (string_bytes text.new)) }
 {
-    put_bytes(out, key)?;
-    put_bytes(out, b" ")?;
-    put_set(out, set)?;
-    put_bytes(out, b"\n")?;
+    write!(text, "{key} ")?;
+    put_set(text, set)?;
+    writeln!(text)?;
     Ok(())
 }
 
 /// Appends the longest rows of numbers of a set, in order, with commas between them.
-fn put_set(out: &mut Vec<u8>, set: &Allowed) -> Result<(), Memory>
-    ensures set { OnOk result (AddsSet set.now out.old.items out.new.items) }
-    ensures longer { IsLonger out.old.items out.new.items }
+fn put_set(text: &mut String, set: &Allowed) -> Result<(), AllocError>
+    ensures { OnOk result (AddsSet set.now (string_bytes text.old) (string_bytes text.new)) }
 {
     let mut begun = false;
     for number in 1..217 {
         if begins_run(set, number) {
             let last = last_of_run(set, number);
-            put_item(out, begun, number, last)?;
+            put_item(text, begun, number, last)?;
             begun = true;
         }
     }
@@ -165,81 +132,58 @@ fn put_set(out: &mut Vec<u8>, set: &Allowed) -> Result<(), Memory>
 }
 
 /// Appends the numbers from low to high as an item, after a comma where the set has begun.
-fn put_item(out: &mut Vec<u8>, begun: bool, low: u32, high: u32) -> Result<(), Memory>
+fn put_item(text: &mut String, begun: bool, low: u32, high: u32) -> Result<(), AllocError>
     requires { low ≤ high }
-    ensures item { OnOk result (out.new.items
-        ≡ out.old.items ++ next_item begun (run_of low high)) }
-    ensures longer { IsLonger out.old.items out.new.items }
+    ensures { OnOk result (string_bytes text.new
+        ≡ string_bytes text.old ++ next_item begun (run_of low high)) }
 {
     if begun {
-        put_bytes(out, b",")?;
+        write!(text, ",")?;
     }
-    put_ends(out, low, high)
+    put_ends(text, low, high)
 }
 
 /// Appends one number, or two with a dash between them.
-fn put_ends(out: &mut Vec<u8>, low: u32, high: u32) -> Result<(), Memory>
-    ensures item { OnOk result (out.new.items ≡ out.old.items ++ item_text (run_of low high)) }
-    ensures longer { IsLonger out.old.items out.new.items }
+fn put_ends(text: &mut String, low: u32, high: u32) -> Result<(), AllocError>
+    ensures { OnOk result (string_bytes text.new
+        ≡ string_bytes text.old ++ item_text (run_of low high)) }
 {
-    put_number(out, u128::from(low))?;
     if low == high {
-        return Ok(());
+        write!(text, "{low}")
+    } else {
+        write!(text, "{low}-{high}")
     }
-    put_bytes(out, b"-")?;
-    put_number(out, u128::from(high))
 }
 
 /// Appends a position.
-fn put_place_line(out: &mut Vec<u8>, at: &Position) -> Result<(), Memory>
-    ensures line { OnOk result (out.new.items ≡ out.old.items ++ line_text (place_row at.now)) }
-    ensures longer { IsLonger out.old.items out.new.items }
+fn put_place_line(text: &mut String, at: &Position) -> Result<(), AllocError>
+    ensures { OnOk result (string_bytes text.new
+        ≡ string_bytes text.old ++ line_text (place_row at.now)) }
 {
     match at {
-        Position::At(job) => put_job_line(out, job),
-        Position::End => put_bytes(out, b"at end\n"),
+        Position::At(job) => put_job_line(text, job),
+        Position::End => writeln!(text, "at end"),
     }
 }
 
 /// Appends the size and the numbers of a job.
-fn put_job_line(out: &mut Vec<u8>, job: &Job) -> Result<(), Memory>
-    ensures line { OnOk result (out.new.items
-        ≡ out.old.items ++ line_text (place_row (Position.At job.now))) }
-    ensures longer { IsLonger out.old.items out.new.items }
+fn put_job_line(text: &mut String, job: &Job) -> Result<(), AllocError>
+    ensures { OnOk result (string_bytes text.new
+        ≡ string_bytes text.old ++ line_text (place_row (Position.At job.now))) }
 {
-    put_bytes(out, b"at")?;
-    put_next(out, u128::from(job.size))?;
-    put_all(out, job.prefix.as_slice())?;
-    put_bytes(out, b"\n")?;
+    write!(text, "at {}", job.size)?;
+    put_all(text, job.prefix.as_slice())?;
+    writeln!(text)?;
     Ok(())
 }
 
 /// Appends numbers, each after a space.
-fn put_all(out: &mut Vec<u8>, numbers: &[u8]) -> Result<(), Memory>
-    ensures numbers { OnOk result (out.new.items
-        ≡ out.old.items ++ flat_map after_space numbers.now) }
-    ensures longer { IsLonger out.old.items out.new.items }
+fn put_all(text: &mut String, numbers: &[u8]) -> Result<(), AllocError>
+    ensures { OnOk result (string_bytes text.new
+        ≡ string_bytes text.old ++ flat_map after_space numbers.now) }
 {
     for number in numbers {
-        put_next(out, u128::from(*number))?;
+        write!(text, " {number}")?;
     }
     Ok(())
-}
-
-/// Appends a number after a space.
-fn put_next(out: &mut Vec<u8>, number: u128) -> Result<(), Memory>
-    ensures number { OnOk result (out.new.items ≡ out.old.items ++ after_space number) }
-    ensures longer { IsLonger out.old.items out.new.items }
-{
-    put_bytes(out, b" ")?;
-    put_number(out, number)
-}
-
-/// Appends a number in decimal.
-fn put_number(out: &mut Vec<u8>, number: u128) -> Result<(), Memory>
-    ensures number { OnOk result (out.new.items ≡ out.old.items ++ decimal number) }
-    ensures longer { IsLonger out.old.items out.new.items }
-{
-    let mut digits = Buffer::new();
-    put_bytes(out, digits.format(number).as_bytes())
 }

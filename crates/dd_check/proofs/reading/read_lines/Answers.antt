@@ -48,3 +48,15 @@ returns-in_err-end_at-clause-fault c =
     handed_on c.from_residual-in_err-end_at.result (IsToldFault (IsLineFault (texts c.args.lines.now))) c.in_err-end_at.field-0.0 c.from_residual-in_err-end_at.ensures.1
     (λ told. longer_fault (texts c.args.lines.now) c.in_err-end_at.field-0.0 c.in_ok-limits.limits c.in_ok-count.count c.in_ok-bytes.bytes c.in_ok-at.at
     (record { run = c.in_ok-run.run'; faces = c.in_ok-faces.faces; degrees = c.in_ok-degrees.degrees; run_told = c.in_ok-run.ensures.told; limits_told = c.in_ok-limits.ensures.told; faces_told = c.in_ok-faces.ensures.told; degrees_told = c.in_ok-degrees.ensures.told }) c.in_ok-count.ensures.told c.in_ok-bytes.ensures.told c.in_ok-at.ensures.told (c.in_err-end_at.ensures.longer))
+
+pub returns-clause-told : goal.returns-clause-told
+returns-clause-told c = record {
+  run = c.in_ok-run.ensures.told;
+  limits = c.in_ok-limits.ensures.told;
+  faces = c.in_ok-faces.ensures.told;
+  degrees = c.in_ok-degrees.ensures.told;
+  count = rw c.from.ensures c.in_ok-count.ensures.told;
+  bytes = rw c.from-2.ensures c.in_ok-bytes.ensures.told;
+  at = c.in_ok-at.ensures.told;
+  end = c.in_ok-end_at.ensures.end;
+}

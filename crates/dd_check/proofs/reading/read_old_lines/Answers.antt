@@ -34,3 +34,17 @@ pub returns-in_err-end_at-clause-fault : goal.returns-in_err-end_at-clause-fault
 returns-in_err-end_at-clause-fault c =
     handed_on c.from_residual-in_err-end_at.result (IsToldFault (IsOldLineFault (texts c.args.lines.now))) c.in_err-end_at.field-0.0 c.from_residual-in_err-end_at.ensures.1
     (λ told. old_longer_fault (texts c.args.lines.now) c.in_err-end_at.field-0.0 c.in_ok-run.run' c.in_ok-limits.limits c.in_ok-count.count c.in_ok-bytes.bytes c.in_ok-at.at c.in_ok-run.ensures.told c.in_ok-limits.ensures.told c.in_ok-count.ensures.told c.in_ok-bytes.ensures.told c.in_ok-at.ensures.told (c.in_err-end_at.ensures.longer))
+
+pub returns-clause-told : goal.returns-clause-told
+returns-clause-told c = record {
+  face = c.in_ok-limits.limits.least_face;
+  degree = c.in_ok-limits.limits.least_degree;
+  run = c.in_ok-run.ensures.told;
+  limits = c.in_ok-limits.ensures.told;
+  face_set = c.least.ensures;
+  degree_set = c.least-2.ensures;
+  count = rw c.from.ensures c.in_ok-count.ensures.told;
+  bytes = rw c.from-2.ensures c.in_ok-bytes.ensures.told;
+  at = c.in_ok-at.ensures.told;
+  end = c.in_ok-end_at.ensures.end;
+}

@@ -4,6 +4,24 @@ use Rattle.dd_check.specs.Rows.{limits_row}
 use Rattle.dd_check.proofs.WordReads.{nth_word, same_word, five_words}
 use Rattle.dd_check.proofs.rows.limits_row.Goals as goal
 
+pub returns-in_err-read_number-clause-none : goal.returns-in_err-read_number-clause-none
+returns-in_err-read_number-clause-none c =
+    given_none c.from_residual.result c.from_residual.ensures
+    (λ limits row. c.in_err-read_number.ensures.none limits.chambers
+    (record { digits = nth_word c.args.words.now 1 _ (limits_row limits) (omega (arith, c.in-len5.len_at_least)) row.words_are; short = row.chambers }))
+
+pub returns-in_err-read_number-2-clause-none : goal.returns-in_err-read_number-2-clause-none
+returns-in_err-read_number-2-clause-none c =
+    given_none c.from_residual-in_err-read_number-2.result c.from_residual-in_err-read_number-2.ensures
+    (λ limits row. c.in_err-read_number-2.ensures.none limits.tiles
+    (record { digits = nth_word c.args.words.now 2 _ (limits_row limits) (omega (arith, c.in-len5.len_at_least)) row.words_are; short = row.tiles }))
+
+pub returns-in_err-read_number-3-clause-none : goal.returns-in_err-read_number-3-clause-none
+returns-in_err-read_number-3-clause-none c =
+    given_none c.from_residual-in_err-read_number-3.result c.from_residual-in_err-read_number-3.ensures
+    (λ limits row. c.in_err-read_number-3.ensures.none limits.vertices
+    (record { digits = nth_word c.args.words.now 3 _ (limits_row limits) (omega (arith, c.in-len5.len_at_least)) row.words_are; short = row.vertices }))
+
 pub returns-in_err-read_filter-clause-none : goal.returns-in_err-read_filter-clause-none
 returns-in_err-read_filter-clause-none c =
     given_none c.from_residual-in_err-read_filter.result c.from_residual-in_err-read_filter.ensures

@@ -4,6 +4,30 @@ use Rattle.dd_check.specs.Rows.{old_limits_row}
 use Rattle.dd_check.proofs.WordReads.{nth_word, same_word, seven_words}
 use Rattle.dd_check.proofs.rows.old_limits_row.Goals as goal
 
+pub returns-in_err-read_number-clause-none : goal.returns-in_err-read_number-clause-none
+returns-in_err-read_number-clause-none c =
+    given_none c.from_residual.result c.from_residual.ensures
+    (λ limits row. c.in_err-read_number.ensures.none limits.chambers
+    (record { digits = nth_word c.args.words.now 1 _ (old_limits_row limits) (omega (arith, c.in-len7.len_at_least)) row.words_are; short = row.chambers }))
+
+pub returns-in_err-read_number-2-clause-none : goal.returns-in_err-read_number-2-clause-none
+returns-in_err-read_number-2-clause-none c =
+    given_none c.from_residual-in_err-read_number-2.result c.from_residual-in_err-read_number-2.ensures
+    (λ limits row. c.in_err-read_number-2.ensures.none limits.tiles
+    (record { digits = nth_word c.args.words.now 2 _ (old_limits_row limits) (omega (arith, c.in-len7.len_at_least)) row.words_are; short = row.tiles }))
+
+pub returns-in_err-read_number-3-clause-none : goal.returns-in_err-read_number-3-clause-none
+returns-in_err-read_number-3-clause-none c =
+    given_none c.from_residual-in_err-read_number-3.result c.from_residual-in_err-read_number-3.ensures
+    (λ limits row. c.in_err-read_number-3.ensures.none limits.vertices
+    (record { digits = nth_word c.args.words.now 3 _ (old_limits_row limits) (omega (arith, c.in-len7.len_at_least)) row.words_are; short = row.vertices }))
+
+pub returns-in_err-read_number-4-clause-none : goal.returns-in_err-read_number-4-clause-none
+returns-in_err-read_number-4-clause-none c =
+    given_none c.from_residual-in_err-read_number-4.result c.from_residual-in_err-read_number-4.ensures
+    (λ limits row. c.in_err-read_number-4.ensures.none limits.least_face
+    (record { digits = nth_word c.args.words.now 4 _ (old_limits_row limits) (omega (arith, c.in-len7.len_at_least)) row.words_are; short = row.least_face }))
+
 pub returns-in_err-read_number-5-clause-none : goal.returns-in_err-read_number-5-clause-none
 returns-in_err-read_number-5-clause-none c =
     given_none c.from_residual-in_err-read_number-5.result c.from_residual-in_err-read_number-5.ensures

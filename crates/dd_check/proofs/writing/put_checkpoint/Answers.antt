@@ -1,12 +1,13 @@
 use Rattle.std.proofs.Common.{refl}
+use Rattle.std.specs.Prelude.{string_bytes}
 use Rattle.dd_check.specs.Checks.{check_text}
 use Rattle.dd_check.proofs.LineLemmas.{check_lines}
 use Rattle.dd_check.proofs.writing.put_checkpoint.Goals as goal
 
-pub returns-clause-check : goal.returns-clause-check
-returns-clause-check c =
-    let f = c.in_ok-put_set_line.ensures.line in
-    let d = c.in_ok-put_set_line-2.ensures.line in
+pub returns : goal.returns
+returns c =
+    let f = c.in_ok-put_set_line.ensures in
+    let d = c.in_ok-put_set_line-2.ensures in
     record {
       check = check_text c.args.c.now f.items d.items;
       is_check = record {
@@ -18,6 +19,6 @@ returns-clause-check c =
         degree_set = d.set_is;
         text_is = refl;
       };
-      text = check_lines c.args.out.now.items c.put_first_lines.new.out.items c.put_set_line.new.out.items c.put_set_line-2.new.out.items c.put_last_lines.new.out.items
-          c.args.c.now f.items d.items c.in_ok-put_first_lines.ensures.lines f.text d.text c.in_ok-put_last_lines.ensures.lines;
+      text = check_lines (string_bytes c.args.text.now) (string_bytes c.put_first_lines.new.text) (string_bytes c.put_set_line.new.text) (string_bytes c.put_set_line-2.new.text)
+          (string_bytes c.put_last_lines.new.text) c.args.c.now f.items d.items c.in_ok-put_first_lines.ensures f.text d.text c.in_ok-put_last_lines.ensures;
     }
