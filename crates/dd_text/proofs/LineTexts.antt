@@ -81,14 +81,25 @@ size_put n first old a b c d ea eb ec ed =
     parted : (old a b c d : List ℕ) → old ++ a ++ b ++ c ++ d ≡ old ++ (a ++ b ++ c ++ d)
     parted old a b c d = simp (append_assoc) refl
 
--- the head of a line and its degrees, appended one after the other
-pub line_put : (old head tiles vertices front new : List ℕ) → front ≡ old ++ head → new ≡ front ++ tiles ++ codes "," ++ vertices ++ codes ">\n"
-    → new ≡ old ++ (head ++ tiles ++ codes "," ++ vertices ++ codes ">\n")
-line_put old head tiles vertices front new ef en =
-    en ∙ ap (λ t. t ++ tiles ++ codes "," ++ vertices ++ codes ">\n") ef ∙ parted old head tiles (codes ",") vertices (codes ">\n")
+-- a head that was cut back after its degrees is as before
+cut_back : (head a b c d longer cut : List ℕ) (end : ℕ) → end ≡ length head → longer ≡ head ++ a ++ b ++ c ++ d → cut ≡ take end longer → cut ≡ head
+cut_back head a b c d longer cut end count is cut_is =
+    cut_is ∙ ap (take end) (is ∙ parted head a b c d) ∙ take_at head (a ++ b ++ c ++ d) end (sym count)
   where
-    parted : (old a b c d e : List ℕ) → old ++ a ++ b ++ c ++ d ++ e ≡ old ++ (a ++ b ++ c ++ d ++ e)
-    parted old a b c d e = simp (append_assoc) refl
+    parted : (head a b c d : List ℕ) → head ++ a ++ b ++ c ++ d ≡ head ++ (a ++ b ++ c ++ d)
+    parted head a b c d = simp (append_assoc) refl
+
+-- and so is its outline
+pub outline_kept : (k : ℕ) (s : Symbol) (o n : Outline) (a b c d longer : List ℕ) (end : ℕ) → end ≡ length o.head.items → longer ≡ o.head.items ++ a ++ b ++ c ++ d
+    → n.head.items ≡ take end longer → n.number_end ≡ o.number_end → n.tiles ≡ o.tiles → n.vertices ≡ o.vertices → IsOutlineOf k s o → IsOutlineOf k s n
+outline_kept k s o n a b c d longer end count is cut same tiles vertices kept = record {
+  numbered = subst (λ m. IsNumbered k (shared_by s) n.head.items m) (sym same)
+      (subst (λ t. IsNumbered k (shared_by s) t o.number_end) (sym (cut_back o.head.items a b c d longer n.head.items end count is cut)) kept.numbered);
+  cells = record {
+    tiles = subst (λ v. AreCells s Tile v.items) (sym tiles) kept.cells.tiles;
+    vertices = subst (λ v. AreCells s Vertex v.items) (sym vertices) kept.cells.vertices;
+  };
+}
 
 -- the least chambers of cells are chambers
 pub all_chambers : (s : Symbol) (p : Pair) (ds : List ℕ) → AreCells s p ds → All (IsChamber s) ds

@@ -1,10 +1,11 @@
 -- One line more.
-use Rattle.std.proofs.Common.{◌≡◌, ℕ, suc, ◌+◌, ◌<◌, List, [], ◌∷◌, ◌++◌, length, take, get_or, append-nil, append_assoc, refl, sym, ap, ◌∙◌, subst, arith}
-use Rattle.std.proofs.lemmas.List.{length-take-le}
+use Rattle.std.proofs.Common.{◌≡◌, ℕ, suc, ◌+◌, ◌<◌, ◌≤◌, List, [], ◌∷◌, ◌++◌, length, take, get_or, append-nil, append_assoc, refl, sym, ap, ◌∙◌, subst, arith}
+use Rattle.std.proofs.lemmas.List.{length-take-le, take_all}
 use Rattle.std.proofs.Math.Seq.{take-suc}
 use Rattle.dd_model.specs.Symbol.{Symbol}
 use Rattle.dd_model.specs.Line.{IsLine}
 use Rattle.dd_model.specs.Text.{AreLines}
+use Rattle.dd_model.specs.Longer.{IsLonger}
 use Rattle.dd_model.proofs.Texts.{joined_lines}
 use Rattle.dd_text.specs.Writing.{AddsLine, AddsLines}
 
@@ -22,3 +23,15 @@ one_line_more k number i ss s old now later h here count before line =
       are_lines = subst (λ ts. AreLines k ts (before.lines ++ line.line)) taken (joined_lines k (take i ss) (s ∷ []) before.lines line.line before.are_lines one);
       text = line.text ∙ ap (λ t. t ++ line.line) before.text ∙ append_assoc old before.lines line.line;
     }
+
+-- before the first line
+pub no_lines : (k : ℕ) (ss : List Symbol) (old : List ℕ) → AddsLines k (take 0 ss) old old
+no_lines k ss old = record { lines = []; are_lines = refl; text = sym (append-nil old) }
+
+-- after the last line
+pub all_lines : (k i : ℕ) (ss : List Symbol) (old new : List ℕ) → length ss ≤ i → AddsLines k (take i ss) old new → AddsLines k ss old new
+all_lines k i ss old new whole added = subst (λ ts. AddsLines k ts old new) (take_all i ss whole) added
+
+-- the old text stays in front
+pub front_stays : (k : ℕ) (ss : List Symbol) (old now new : List ℕ) → AddsLines k ss old now → new ≡ now → IsLonger old new
+front_stays k ss old now new added same = record { rest = added.lines; text = same ∙ added.text }

@@ -1,11 +1,10 @@
-ghost use Rattle.std.specs.Prelude.{◌≡◌, ◌+◌, ◌^◌, ◌<◌, ◌≤◌, ℕ, [], length, take, IfOk, OnOk};
+ghost use Rattle.std.specs.Prelude.{◌≡◌, ◌+◌, ◌^◌, ◌<◌, ◌≤◌, ℕ, [], length, take, IfOk, OnErr, OnOk};
 ghost use Rattle.dd_model.specs.Small.{IsSmallSymbol};
 ghost use Rattle.dd_model.specs.Symbol.{IsChamber, Symbol as Tiling};
 ghost use Rattle.dd_symbol.specs.Images.{with_degrees};
 ghost use Rattle.dd_text.specs.Numbered.{IsNumbered};
 ghost use Rattle.dd_text.specs.Outline.{HasCells, HasNumber, IsOutlineOf};
 ghost use Rattle.dd_text.specs.Making.{IsBegun, IsFinished, TellsChamber};
-ghost use Rattle.dd_model.specs.Longer.{IsLonger};
 ghost use Rattle.dd_text.specs.Writing.{AddsLine};
 
 use crate::counting::count_up;
@@ -165,20 +164,23 @@ impl Outline {
         Ok(())
     }
 
-    /// Appends the line of a symbol.
-    pub(crate) fn put_line(&self, out: &mut Vec<u8>, symbol: &Symbol) -> Result<(), Memory>
-        requires { HasCells symbol.now self.now }
-        ensures line { OnOk result ((k : ℕ) → IsOutlineOf k symbol.now self.now
+    /// Appends the line of a symbol. It is put together here, so that the text grows once.
+    pub(crate) fn put_line(&mut self, out: &mut Vec<u8>, symbol: &Symbol) -> Result<(), Memory>
+        requires { HasCells symbol.now self.old }
+        ensures line { OnOk result ((k : ℕ) → IsOutlineOf k symbol.now self.old
             → AddsLine k symbol.now out.old.items out.new.items) }
-        ensures longer { IsLonger out.old.items out.new.items }
+        ensures outline { OnOk result ((k : ℕ) (s : Tiling) → IsOutlineOf k s self.old
+            → IsOutlineOf k s self.new) }
+        ensures same { OnErr result (out.new.items ≡ out.old.items) }
     {
-        put_bytes(out, &self.head)?;
-        put_cells(out, symbol, &self.tiles, &self.vertices)?;
+        let length = self.head.len();
+        put_cells(&mut self.head, symbol, &self.tiles, &self.vertices)?;
+        out.extend_from_slice(&self.head)?;
+        self.head.truncate(length);
         Ok(())
     }
 
-    /// Appends the line of a symbol of a list. It is put together here, so that the text grows
-    /// once.
+    /// Appends the line of a symbol of a list, likewise.
     #[inline(always)]
     pub(crate) fn put_listed(
         &mut self,
@@ -194,7 +196,7 @@ impl Outline {
             listed.now.table.now listed.now.m01.now listed.now.m12.now) out.old.items out.new.items) }
         ensures outline { OnOk result ((k : ℕ) (s : Tiling) → IsOutlineOf k s self.old
             → IsOutlineOf k s self.new) }
-        ensures longer { IsLonger out.old.items out.new.items }
+        ensures same { OnErr result (out.new.items ≡ out.old.items) }
     {
         let length = self.head.len();
         put_told(
@@ -204,7 +206,7 @@ impl Outline {
             listed.m12,
             &self.vertices,
         )?;
-        put_bytes(out, &self.head)?;
+        out.extend_from_slice(&self.head)?;
         self.head.truncate(length);
         Ok(())
     }

@@ -18,12 +18,8 @@ pub fn put_line(out: &mut Vec<u8>, k: u128, symbol: &Symbol) -> Result<(), Memor
     ensures line { OnOk result (AddsLine k symbol.now out.old.items out.new.items) }
     ensures same { OnErr result (out.new.items ≡ out.old.items) }
 {
-    let length = out.len();
-    let written = append_line(out, k, symbol);
-    if written.is_err() {
-        out.truncate(length);
-    }
-    written
+    let mut outline = Outline::of(*out.allocator(), k, symbol)?;
+    outline.put_line(out, symbol)
 }
 
 /// Appends the lines of some symbols, numbered from `before + 1` on. At `Err` the text is as
@@ -59,13 +55,6 @@ fn append_lines(out: &mut Vec<u8>, before: u64, symbols: &[Connected]) -> Result
     Ok(())
 }
 
-fn append_line(out: &mut Vec<u8>, k: u128, symbol: &Symbol) -> Result<(), Memory>
-    ensures line { OnOk result (AddsLine k symbol.now out.old.items out.new.items) }
-    ensures longer { IsLonger out.old.items out.new.items }
-{
-    Outline::of(*out.allocator(), k, symbol)?.put_line(out, symbol)
-}
-
 /// Appends the degrees of the cells at their least chambers, and the line's end.
 pub(crate) fn put_cells(
     out: &mut Vec<u8>,
@@ -75,10 +64,9 @@ pub(crate) fn put_cells(
 ) -> Result<(), Memory>
     requires tiles { All (IsChamber symbol.now) tiles.now }
     requires vertices { All (IsChamber symbol.now) vertices.now }
-    ensures degrees { OnOk result (out.new.items ≡ out.old.items
+    ensures { OnOk result (out.new.items ≡ out.old.items
         ++ spaced (map (degree symbol.now Pair.Tile) tiles.now) ++ codes ","
         ++ spaced (map (degree symbol.now Pair.Vertex) vertices.now) ++ codes ">\n") }
-    ensures longer { IsLonger out.old.items out.new.items }
 {
     put_degrees(out, symbol, Pair::Tile, tiles)?;
     put_bytes(out, b",")?;
@@ -90,8 +78,7 @@ pub(crate) fn put_cells(
 /// yet.
 #[inline(always)]
 pub(crate) fn put_image(out: &mut Vec<u8>, chamber: u32, image: u32) -> Result<(), Memory>
-    ensures image { OnOk result (TellsImage chamber image out.old.items out.new.items) }
-    ensures longer { IsLonger out.old.items out.new.items }
+    ensures { OnOk result (TellsImage chamber image out.old.items out.new.items) }
 {
     if image < chamber {
         return Ok(());
@@ -110,9 +97,8 @@ fn put_degrees(
     chambers: &[u32],
 ) -> Result<(), Memory>
     requires { All (IsChamber symbol.now) chambers.now }
-    ensures degrees { OnOk result (out.new.items ≡ out.old.items
+    ensures { OnOk result (out.new.items ≡ out.old.items
         ++ spaced (map (degree symbol.now pair) chambers.now)) }
-    ensures longer { IsLonger out.old.items out.new.items }
 {
     let mut begun = false;
     for chamber in chambers {
@@ -125,8 +111,7 @@ fn put_degrees(
 /// Appends a number of a list, after a space where the list has begun.
 #[inline(always)]
 fn put_next(out: &mut Vec<u8>, begun: bool, number: u32) -> Result<(), Memory>
-    ensures next { OnOk result (out.new.items ≡ out.old.items ++ next_number begun number) }
-    ensures longer { IsLonger out.old.items out.new.items }
+    ensures { OnOk result (out.new.items ≡ out.old.items ++ next_number begun number) }
 {
     if begun {
         return put_spaced(out, number);
@@ -137,8 +122,7 @@ fn put_next(out: &mut Vec<u8>, begun: bool, number: u32) -> Result<(), Memory>
 /// Appends a space and a number in decimal, at once where it has one or two digits, as most have.
 #[inline(always)]
 fn put_spaced(out: &mut Vec<u8>, number: u32) -> Result<(), Memory>
-    ensures number { OnOk result (out.new.items ≡ out.old.items ++ after_space number) }
-    ensures longer { IsLonger out.old.items out.new.items }
+    ensures { OnOk result (out.new.items ≡ out.old.items ++ after_space number) }
 {
     if number < 10 {
         return put_bytes(out, &[b' ', digit(number)]);
@@ -161,8 +145,7 @@ fn digit(number: u32) -> u8
 
 /// Appends the number of a line in decimal, which is faster where it fits in 64 bits.
 pub(crate) fn put_ordinal(out: &mut Vec<u8>, k: u128) -> Result<(), Memory>
-    ensures number { OnOk result (out.new.items ≡ out.old.items ++ decimal k) }
-    ensures longer { IsLonger out.old.items out.new.items }
+    ensures { OnOk result (out.new.items ≡ out.old.items ++ decimal k) }
 {
     let mut digits = Buffer::new();
     match u64::try_from(k) {
@@ -174,8 +157,7 @@ pub(crate) fn put_ordinal(out: &mut Vec<u8>, k: u128) -> Result<(), Memory>
 /// Appends a number in decimal, at once where it has one or two digits, as most have.
 #[inline(always)]
 pub(crate) fn put_number(out: &mut Vec<u8>, number: u32) -> Result<(), Memory>
-    ensures number { OnOk result (out.new.items ≡ out.old.items ++ decimal number) }
-    ensures longer { IsLonger out.old.items out.new.items }
+    ensures { OnOk result (out.new.items ≡ out.old.items ++ decimal number) }
 {
     if number < 10 {
         return Ok(out.push(digit(number))?);
@@ -188,8 +170,7 @@ pub(crate) fn put_number(out: &mut Vec<u8>, number: u32) -> Result<(), Memory>
 
 /// Appends a number of any length in decimal.
 fn put_long(out: &mut Vec<u8>, number: u32) -> Result<(), Memory>
-    ensures number { OnOk result (out.new.items ≡ out.old.items ++ decimal number) }
-    ensures longer { IsLonger out.old.items out.new.items }
+    ensures { OnOk result (out.new.items ≡ out.old.items ++ decimal number) }
 {
     let mut digits = Buffer::new();
     put_bytes(out, digits.format(number).as_bytes())

@@ -17,10 +17,10 @@ loop-chamber-preserved c =
     let old = c.args.out.now.items in
     let before = subst (λ left. IsSpaced all left c.loop-chamber.begun old c.loop-chamber.out.items) (mapped-cons (degree s p) ds k c.loop-chamber-test.true) c.loop-chamber.invariant in
     spaced_next all (map (degree s p) (drop (k + 1) ds)) (degree s p (get_or ds k 0)) c.loop-chamber.begun old c.loop-chamber.out.items c.put_next.new.out.items before
-    (c.in_ok-put_next.ensures.next ∙ ap (λ n. c.loop-chamber.out.items ++ next_number c.loop-chamber.begun n) c.degree.ensures)
+    (c.in_ok-put_next.ensures ∙ ap (λ n. c.loop-chamber.out.items ++ next_number c.loop-chamber.begun n) c.degree.ensures)
 
-pub returns-clause-degrees : goal.returns-clause-degrees
-returns-clause-degrees c =
+pub returns : goal.returns
+returns c =
     let s = c.args.symbol.now in
     let all = map (degree s c.args.pair) c.args.chambers.now in
     spaced_all all c.loop-chamber.begun c.args.out.now.items c.loop-chamber.out.items
