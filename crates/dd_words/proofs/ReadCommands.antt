@@ -19,7 +19,7 @@ use Rattle.dd_words.specs.Values.{Text, IsName}
 use Rattle.dd_words.specs.Layout.{IsLaid}
 use Rattle.dd_words.specs.Given.{Given, AreSingle}
 use Rattle.dd_words.specs.Laying.{texts}
-use Rattle.dd_words.specs.Grammar.{IsCatalogue, IsSharded, IsResumed, IsDrawn, AreMerged, IsRequested, IsSaid, IsCommand}
+use Rattle.dd_words.specs.Grammar.{IsCatalogue, IsSharded, IsResumed, IsDrawn, AreMerged, IsOnFile, IsRequested, IsSaid, IsCommand}
 use Rattle.dd_words.specs.GivenValues.{IsNumberIfGiven, IsNameIfGiven}
 use Rattle.dd_words.specs.FirstWords.{first_word, verb_of}
 use Rattle.dd_words.specs.Reading.{IsReadAs}
@@ -52,10 +52,28 @@ two_before_third (x ∷ []) f low high = absurd (omega arith)
 two_before_third (x ∷ y ∷ []) f low high = absurd (omega arith)
 two_before_third (x ∷ y ∷ z ∷ v ∷ xs) f low high = absurd (omega arith)
 
+pub two_texts : (xs : List (Bor Text)) (d e : Bor Text) → 2 ≤ length xs → length xs < 3 → texts xs ≡ (get_or xs 0 d).now ∷ (get_or xs 1 e).now ∷ []
+two_texts (x ∷ y ∷ []) d e low high = refl
+two_texts [] d e low high = absurd (omega arith)
+two_texts (x ∷ []) d e low high = absurd (omega arith)
+two_texts (x ∷ y ∷ z ∷ xs) d e low high = absurd (omega arith)
+
+pub three_texts : (xs : List (Bor Text)) (d e f : Bor Text) → 3 ≤ length xs → length xs < 4
+    → texts xs ≡ (get_or xs 0 d).now ∷ (get_or xs 1 e).now ∷ (get_or xs 2 f).now ∷ []
+three_texts (x ∷ y ∷ z ∷ []) d e f low high = refl
+three_texts [] d e f low high = absurd (omega arith)
+three_texts (x ∷ []) d e f low high = absurd (omega arith)
+three_texts (x ∷ y ∷ []) d e f low high = absurd (omega arith)
+three_texts (x ∷ y ∷ z ∷ v ∷ xs) d e f low high = absurd (omega arith)
+
 pub some_one_text : (xs : List (Bor Text)) → 1 ≤ length xs → length xs < 2 → IsOneText xs
 some_one_text [] low high = absurd (omega arith)
 some_one_text (x ∷ []) low high = record { text = x.now; is = refl }
 some_one_text (x ∷ y ∷ xs) low high = absurd (omega arith)
+
+-- what is said with these arguments
+pub read_as : (v : Verb) (xs ys : List Text) (ss : List Given) (c : Command) → xs ≡ ys → verb_of c ≡ v → IsSaid c ys ss → IsReadAs v xs ss c
+read_as v xs ys ss c e is said = record { verb_is = is; said = subst (λ zs. IsSaid c zs ss) (sym e) said }
 
 pub no_catalogue : (xs : List Text) (ss : List Given) (w : Text) → xs ≡ w ∷ []
     → ((q : Request) (workers round : ℕ) (pause : Option ℕ) (checkpoint : Option Text) → IsCatalogue w ss q workers round pause checkpoint → ⊥)
@@ -90,6 +108,11 @@ pub no_drawing : (xs : List Text) (ss : List Given) (w : Text) → xs ≡ w ∷ 
     → (c : Command) → IsReadAs verb.Draw xs ss c → ⊥
 no_drawing xs ss w e none (command.Draw file frame) h = none file frame (subst (λ ys. IsSaid (command.Draw file frame) ys ss) e h.said)
 no_drawing xs ss w e none other h = let same = h.verb_is in absurd (cc)
+
+pub no_file : (kind : FileKind) (xs : List Text) (ss : List Given) (w : Text) → xs ≡ w ∷ [] → ((file : Text) → IsOnFile w file → ⊥)
+    → (c : Command) → IsReadAs (verb.File kind) xs ss c → ⊥
+no_file kind xs ss w e none (command.File other file) h = none file (subst (λ ys. IsSaid (command.File other file) ys ss) e h.said)
+no_file kind xs ss w e none other h = let same = h.verb_is in absurd (cc)
 
 -- a word at a place of a list of names
 pub name_at : (ws : List (Bor Text)) (k : ℕ) (d : Bor Text) → k < length ws → AllByRecursion IsName (texts ws) → IsName (get_or ws k d).now

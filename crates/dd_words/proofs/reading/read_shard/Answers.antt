@@ -1,8 +1,9 @@
-use Rattle.std.proofs.Common.{Err, map, ap}
+use Rattle.std.proofs.Common.{Err, map, ap, refl}
 use Rattle.dd_words.specs.Laying.{texts}
 use Rattle.dd_words.specs.Settings.{given_of}
 use Rattle.dd_words.proofs.Faults.{same_fault}
-use Rattle.dd_words.proofs.ReadCommands.{two_and_third, two_before_third, no_shard}
+use Rattle.dd_words.proofs.ReadCommands.{two_and_third, two_before_third, no_shard, read_as, three_texts}
+use Rattle.dd_words.specs.declared.verbs.Verb.TheVariants.{Shard}
 use Rattle.dd_words.proofs.reading.read_shard.Goals as goal
 
 pub returns-in_default-shard_of-clause-not_taken : goal.returns-in_default-shard_of-clause-not_taken
@@ -17,3 +18,8 @@ returns-in_err-asked-clause-not_taken c failed =
     no_shard (texts c.args.arguments.now) (map given_of c.args.settings.now) all.0 all.1 _ all.2
     (λ shard q workers round pause checkpoint h.
     c.in_err-asked.ensures.not_taken (ap Err (same_fault c.from_residual.result c.in_err-asked.field-0.0 c.from_residual.ensures.1 failed)) q workers round pause checkpoint h.catalogue)
+
+pub returns-clause-command : goal.returns-clause-command
+returns-clause-command c =
+    read_as Shard _ _ _ _ (three_texts c.args.arguments.now _ _ _ c.in-len3.len_at_least c.in-len3.len_below) refl
+    (record { shard_is = c.in-Some.ensures.some; catalogue = c.in_ok-asked.ensures.asked })
