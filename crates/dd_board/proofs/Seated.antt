@@ -1,7 +1,8 @@
 -- Seats are numbered in order, and have counted nothing at first.
-use Rattle.std.proofs.Common.{◌≡◌, ℕ, ◌+◌, List, [], ◌∷◌, ◌++◌, map, sum_by, sym, ◌∙◌, ap, arith}
+use Rattle.std.proofs.Common.{◌≡◌, ℕ, ◌+◌, ◌<◌, length, get_or, List, [], ◌∷◌, ◌++◌, map, sum_by, sym, ◌∙◌, ap, arith}
 use Rattle.std.proofs.lemmas.List.{map_push}
-use Rattle.std.proofs.lemmas.List.Sums.{sum_by_push}
+use Rattle.std.proofs.lemmas.List.Sums.{sum_by_push, sum_by-remove}
+use Rattle.std.specs.List.{remove}
 use Rattle.dd_model.specs.Code.{count_from}
 use Rattle.dd_model.proofs.CountFrom.{count_from-more}
 use Rattle.dd_board.specs.declared.seat.Seat.{Seat}
@@ -27,4 +28,23 @@ sums_more {K} {L} {S} {D} {B} seats seat (a, b, c, d, e) (v, w, x, y, z) = (
   none_more (λ (s : Seat K L S D B). s.shares.split.amount) seats seat c x,
   none_more (λ (s : Seat K L S D B). s.shares.finish.amount) seats seat d y,
   none_more (λ (s : Seat K L S D B). s.shares.back.amount) seats seat e z,
+)
+
+one_less : {A : Type 0} (amount : A → ℕ) (xs ys : List A) (x : A) → 0 < length xs → x ≡ get_or xs 0 x → ys ≡ remove xs 0 → sum_by amount ys + amount x ≡ sum_by amount xs
+one_less amount xs ys x some first rest =
+    ap (λ zs. sum_by amount zs + amount x) rest ∙ ap (λ y. sum_by amount (remove xs 0) + amount y) first ∙ sum_by-remove amount xs 0 x some
+
+-- the sums of seats without the first, and what that one has counted, are those of all
+pub without_first : {K L S D B : Type 0} (seats rest : List (Seat K L S D B)) (seat : Seat K L S D B) → 0 < length seats → seat ≡ get_or seats 0 seat → rest ≡ remove seats 0
+    → (sum_by (λ (s : Seat K L S D B). s.shares.take.amount) rest + seat.shares.take.amount ≡ sum_by (λ (s : Seat K L S D B). s.shares.take.amount) seats)
+    × (sum_by (λ (s : Seat K L S D B). s.shares.look.amount) rest + seat.shares.look.amount ≡ sum_by (λ (s : Seat K L S D B). s.shares.look.amount) seats)
+    × (sum_by (λ (s : Seat K L S D B). s.shares.split.amount) rest + seat.shares.split.amount ≡ sum_by (λ (s : Seat K L S D B). s.shares.split.amount) seats)
+    × (sum_by (λ (s : Seat K L S D B). s.shares.finish.amount) rest + seat.shares.finish.amount ≡ sum_by (λ (s : Seat K L S D B). s.shares.finish.amount) seats)
+    × (sum_by (λ (s : Seat K L S D B). s.shares.back.amount) rest + seat.shares.back.amount ≡ sum_by (λ (s : Seat K L S D B). s.shares.back.amount) seats)
+without_first {K} {L} {S} {D} {B} seats rest seat some first less = (
+  one_less (λ (s : Seat K L S D B). s.shares.take.amount) seats rest seat some first less,
+  one_less (λ (s : Seat K L S D B). s.shares.look.amount) seats rest seat some first less,
+  one_less (λ (s : Seat K L S D B). s.shares.split.amount) seats rest seat some first less,
+  one_less (λ (s : Seat K L S D B). s.shares.finish.amount) seats rest seat some first less,
+  one_less (λ (s : Seat K L S D B). s.shares.back.amount) seats rest seat some first less,
 )

@@ -63,12 +63,12 @@ impl<N: Naming, K: Ledger, L: Ledger, S: Ledger, D: Ledger, B: Ledger> Board<N, 
         ensures sums { IfOk result (λ made. HaveSums made.1.items 0 0 0 0 0) }
     {
         let (books, shares) = Books::open(blanks);
-        let waiting = AtomicU64::new(jobs.len() as u64);
-        let desk = Desk::open(alloc, *q, jobs)?;
+        let waiting = jobs.len() as u64;
         let seats = seats_of(alloc, shares, seats)?;
+        let desk = Desk::open(alloc, *q, jobs)?;
         let board = Board {
             counted: Mutex::new(Counted { desk, books }),
-            waiting,
+            waiting: AtomicU64::new(waiting),
             out: AtomicU64::new(0),
             splitting: AtomicU64::new(0),
         };

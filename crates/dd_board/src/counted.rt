@@ -101,9 +101,9 @@ impl<N: Naming, K: Ledger, L: Ledger, S: Ledger, D: Ledger, B: Ledger> Counted<N
         ensures same { OnErr result (self.new ≡ self.old) }
         ensures ticket { IfErr result (λ back. back ≡ ticket) }
     {
-        if self.desk.back(seat.worker, ticket.entry()).is_err() {
+        let Ok(()) = self.desk.back(seat.worker, ticket.entry()) else {
             return Err(ticket);
-        }
+        };
         self.books.back.add(&mut seat.shares.back, 1);
         Ok(())
     }
