@@ -3,3 +3,4 @@ mod InTurn
 mod Whole
 mod Settled
 mod Steps
+mod Held

@@ -1,6 +1,6 @@
 ghost use Rattle.std.specs.Prelude.{◌≡◌, length, IfOk};
 ghost use Rattle.dd_model.specs.Request.{IsValid};
-ghost use Rattle.dd_model.specs.Jobs.{AreAscendingJobs, AreApart};
+ghost use Rattle.dd_model.specs.Jobs.{AreAscendingJobs, AreApart, IsJobOf, AreMembersUnder};
 ghost use Rattle.dd_front.specs.Absorbed.{ComeFrom};
 ghost use Rattle.dd_front.specs.Joining.{done_with};
 ghost use Rattle.dd_front.specs.Machine.{jobs_of};
@@ -10,6 +10,18 @@ use dd_front::{Entry, Finder, Members, State};
 use dd_model::{Job, Memory};
 use dd_ports::Gate;
 use std::alloc::Global;
+
+/// The members under a job.
+fn members_under<F: Finder>(alloc: Global, finder: &mut F, job: &Job) -> Result<Members, Memory>
+    requires valid { IsValid (F.request finder.old) }
+    requires job { IsJobOf (F.request finder.old) job.now }
+    ensures request { F.request finder.new ≡ F.request finder.old }
+    ensures under { IfOk result
+        (λ members. AreMembersUnder (F.request finder.old) job.now members) }
+{
+    let list = finder.find(alloc, job)?;
+    Members::new(alloc, list)
+}
 
 /// Does the jobs of a round one after the other, on this thread, as worker 1. Nobody else takes or
 /// steals one, so there is no board, no lock and no deque.
@@ -28,11 +40,10 @@ pub(crate) fn do_alone<F: Finder, G: Gate>(
         (λ entries. ComeFrom (F.request finder.old) jobs.items entries.items) }
 {
     let mut entries = Vec::with_capacity(alloc, jobs.len())?;
-    let mut number = 0;
     for job in jobs {
-        number += 1;
+        let number = entries.len() as u64 + 1;
         gate.enter(1, number);
-        let members = Members::new(alloc, finder.find(alloc, &job)?)?;
+        let members = members_under(alloc, finder, &job)?;
         entries.push(Entry {
             number,
             job,
@@ -62,8 +73,7 @@ pub fn find_each<F: Finder, G: Gate>(
     let mut lists = Vec::with_capacity(alloc, entries.len())?;
     for entry in entries {
         gate.enter(1, lists.len() as u64 + 1);
-        let list = finder.find(alloc, &entry.job)?;
-        lists.push(Members::new(alloc, list)?)?;
+        lists.push(members_under(alloc, finder, &entry.job)?)?;
     }
     Ok(lists)
 }

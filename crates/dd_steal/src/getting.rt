@@ -35,18 +35,23 @@ fn steal_one<N: Naming, R: Wait>(rt: &R, hand: &mut Hand<N>) -> Option<Ticket<N>
     None
 }
 
-// Takes a job and puts it into the deque. Where the deque has no more room the worker has the ticket in hand.
+// Takes a job ahead and puts it into the deque, if the worker is to take one and more jobs wait than
+// there are other workers. Returns the ticket only if the deque has no room for it.
 fn take_ahead<N: Naming, K: Ledger, L: Ledger, S: Ledger, D: Ledger, B: Ledger, R: Wait>(
     rt: &R,
     board: &Board<N, K, L, S, D, B>,
     seat: &mut Seat<K, L, S, D, B>,
     hand: &mut Hand<N>,
+    ahead: bool,
 ) -> Result<Option<Ticket<N>>, Memory>
     ensures tickets { IsLeftWith (held_after result) seat.old hand.old seat.new hand.new }
     ensures looks { seat.old.shares.look.amount ≤ seat.new.shares.look.amount }
     ensures worker { seat.new.worker ≡ seat.old.worker }
     ensures place { hand_place hand.new ≡ hand_place hand.old }
 {
+    if !ahead || board.waiting() <= hand.others() as u64 {
+        return Ok(None);
+    }
     match board.take(rt, seat)? {
         Taken::Job(ticket) => Ok(hand.push(ticket).err()),
         Taken::Idle => Ok(None),
@@ -72,6 +77,27 @@ fn wait_for_jobs<N: Naming, K: Ledger, L: Ledger, S: Ledger, D: Ledger, B: Ledge
     }
 }
 
+// A ticket of another worker's deque, if no job is open. If there is none either, waits for jobs.
+fn steal_or_wait<N: Naming, K: Ledger, L: Ledger, S: Ledger, D: Ledger, B: Ledger, R: Wait>(
+    rt: &R,
+    board: &Board<N, K, L, S, D, B>,
+    hand: &mut Hand<N>,
+) -> Option<Ticket<N>>
+    ensures stolen { hand_stolen hand.new ≡ hand_stolen hand.old + held_by result }
+    ensures popped { hand_popped hand.new ≡ hand_popped hand.old }
+    ensures pushed { hand_pushed hand.new ≡ hand_pushed hand.old }
+    ensures place { hand_place hand.new ≡ hand_place hand.old }
+{
+    if board.waiting() > 0 {
+        return None;
+    }
+    let stolen = steal_one(rt, hand);
+    if stolen.is_none() {
+        wait_for_jobs(board, hand.others());
+    }
+    stolen
+}
+
 /// The next ticket: the first of the worker's own deque, else that of the first job that is open,
 /// else one of another worker. A worker that has done a job and finds its deque empty takes another
 /// job ahead.
@@ -94,16 +120,11 @@ pub fn next_ticket<N: Naming, K: Ledger, L: Ledger, S: Ledger, D: Ledger, B: Led
     if let Some(ticket) = hand.pop() {
         return Ok(Some(ticket));
     }
-    if ahead && board.waiting() > hand.others() as u64 {
-        if let Some(ticket) = take_ahead(rt, board, seat, hand)? {
-            return Ok(Some(ticket));
-        }
+    if let Some(ticket) = take_ahead(rt, board, seat, hand, ahead)? {
+        return Ok(Some(ticket));
     }
-    if board.waiting() == 0 {
-        if let Some(ticket) = steal_one(rt, hand) {
-            return Ok(Some(ticket));
-        }
-        wait_for_jobs(board, hand.others());
+    if let Some(ticket) = steal_or_wait(rt, board, hand) {
+        return Ok(Some(ticket));
     }
     if let Taken::Job(ticket) = board.take(rt, seat)? {
         return Ok(Some(ticket));

@@ -3,14 +3,13 @@ ghost use Rattle.dd_model.specs.Request.{IsValid};
 ghost use Rattle.dd_model.specs.Jobs.{AreAscendingJobs, AreApart};
 ghost use Rattle.dd_front.specs.Absorbed.{ComeFrom};
 ghost use Rattle.dd_board.specs.Desk.{AreJobsOf};
-ghost use Rattle.dd_steal.specs.Sweep.{AreDone};
 
 use crate::alone::do_alone;
 use crate::crew::{Member, crew_of, seats_of};
 use crate::sweeping::sweep;
 use crate::worker::work;
-use dd_board::{Blanks, Board, Desk};
-use dd_deques::Rack;
+use dd_board::{Blanks, Board, Desk, Seat};
+use dd_deques::{Hand, Rack};
 use dd_front::{Entry, Finder, Naming};
 use dd_model::{Job, Memory, Request};
 use dd_ports::Gate;
@@ -97,7 +96,13 @@ fn open_round<N: Naming, K: Ledger, L: Ledger, S: Ledger, D: Ledger, B: Ledger>(
     jobs: Vec<Job>,
     workers: u32,
     blanks: Blanks,
-) -> Result<(Board<N, K, L, S, D, B>, Vec<Member<N, K, L, S, D, B>>), Memory>
+) -> Result<
+    (
+        Board<N, K, L, S, D, B>,
+        Vec<Member<Seat<K, L, S, D, B>, Hand<N>>>,
+    ),
+    Memory,
+>
     requires workers { (1 ≤ workers) × (workers ≤ 64) }
     requires request { request.now ≡ N.request }
     requires jobs { jobs.items ≡ N.jobs }
@@ -141,7 +146,7 @@ fn work_at_once<
     finder: &F,
     gate: &G,
     board: &Board<N, K, L, S, D, B>,
-    crew: &mut [Member<N, K, L, S, D, B>],
+    crew: &mut [Member<Seat<K, L, S, D, B>, Hand<N>>],
 )
     requires request { F.request finder.now ≡ N.request }
     requires some { 0 < length crew.old }
@@ -152,7 +157,7 @@ fn work_at_once<
         rt,
         crew,
         workers,
-        &|_, member: &mut Member<N, K, L, S, D, B>|
+        &|_, member: &mut Member<Seat<K, L, S, D, B>, Hand<N>>|
             requires { F.request finder.now ≡ N.request }
         {
             let mut own = finder.fork();
@@ -162,12 +167,26 @@ fn work_at_once<
     );
 }
 
+// Does what is left at a desk, on this thread. Returns the entries of the round.
+fn close_desk<N: Naming, F: Finder>(
+    alloc: Global,
+    finder: &mut F,
+    mut desk: Desk<N>,
+) -> Result<Vec<Entry>, Memory>
+    requires { F.request finder.old ≡ N.request }
+    ensures request { F.request finder.new ≡ F.request finder.old }
+    ensures round { IfOk result (λ entries. ComeFrom N.request N.jobs entries.items) }
+{
+    sweep(alloc, finder, &mut desk)?;
+    Ok(desk.into_entries())
+}
+
 // Does what the workers of a round left, on this thread. Returns the entries of the round.
 fn close_round<N: Naming, K: Ledger, L: Ledger, S: Ledger, D: Ledger, B: Ledger, F: Finder>(
     alloc: Global,
     finder: &mut F,
     board: Board<N, K, L, S, D, B>,
-    crew: Vec<Member<N, K, L, S, D, B>>,
+    crew: Vec<Member<Seat<K, L, S, D, B>, Hand<N>>>,
 ) -> Result<Vec<Entry>, Memory>
     requires request { F.request finder.old ≡ N.request }
     requires some { 0 < length crew.items }
@@ -177,9 +196,8 @@ fn close_round<N: Naming, K: Ledger, L: Ledger, S: Ledger, D: Ledger, B: Ledger,
     ensures request { F.request finder.new ≡ F.request finder.old }
     ensures round { IfOk result (λ entries. ComeFrom N.request N.jobs entries.items) }
 {
-    let mut desk = board.close(seats_of(alloc, crew)?);
-    sweep(alloc, finder, &mut desk)?;
-    Ok(entries_of(desk))
+    let seats = seats_of(alloc, crew)?;
+    close_desk(alloc, finder, board.close(seats))
 }
 
 // Does the jobs of a round and ledgers that have names.
@@ -226,12 +244,4 @@ fn run_named<
     let (board, mut crew) = open_round::<N, K, L, S, D, B>(alloc, &request, jobs, workers, blanks)?;
     work_at_once(rt, alloc, finder, gate, &board, crew.as_mut_slice());
     close_round(alloc, finder, board, crew)
-}
-
-// The entries of a desk on which all is done: those of its round.
-fn entries_of<N: Naming>(desk: Desk<N>) -> Vec<Entry>
-    requires { AreDone desk.machine.entries }
-    ensures { ComeFrom N.request N.jobs result.items }
-{
-    desk.into_entries()
 }

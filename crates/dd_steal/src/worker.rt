@@ -1,6 +1,6 @@
-ghost use Rattle.std.specs.Prelude.{◌≡◌, ◌⊎◌, ◌*◌, ◌<◌, MatchOption, MatchResult, length};
+ghost use Rattle.std.specs.Prelude.{◌≡◌, ◌⊎◌, ◌*◌, ◌<◌, IfErr, MatchOption, MatchResult, length};
 ghost use Rattle.dd_deques.specs.Hands.{hand_passes, hand_place, HasAllOfHand};
-ghost use Rattle.dd_board.specs.Ledgers.{Counts};
+ghost use Rattle.dd_board.specs.Ledgers.{Counts, CountsFinish};
 ghost use Rattle.dd_steal.specs.Worker.{IsLeftWith, IsIdle, held_at_end};
 
 use crate::choice::{is_to_split, is_worth_a_split};
@@ -41,6 +41,26 @@ fn split_job<N: Naming, K: Ledger, L: Ledger, S: Ledger, D: Ledger, B: Ledger, R
     }
 }
 
+// Finds what is under a job. `Err` comes for want of memory alone, and has the ticket.
+fn find_job<N: Naming, K: Ledger, L: Ledger, S: Ledger, D: Ledger, B: Ledger, R: Wait, F: Finder>(
+    rt: &R,
+    alloc: Global,
+    finder: &mut F,
+    board: &Board<N, K, L, S, D, B>,
+    seat: &mut Seat<K, L, S, D, B>,
+    ticket: Ticket<N>,
+) -> Result<(), Ticket<N>>
+    requires { F.request finder.old ≡ N.request }
+    ensures request { F.request finder.new ≡ F.request finder.old }
+    ensures counts { CountsFinish seat.old seat.new result }
+    ensures ticket { IfErr result (λ back. back ≡ ticket) }
+{
+    match finder.find(alloc, ticket.job()) {
+        Ok(list) => board.finish(rt, seat, ticket, list),
+        Err(_) => Err(ticket),
+    }
+}
+
 // Does a job: finds what is under it, or splits it. `Err` comes for want of memory alone, and has the ticket.
 fn do_job<N: Naming, K: Ledger, L: Ledger, S: Ledger, D: Ledger, B: Ledger, R: Wait, F: Finder>(
     rt: &R,
@@ -57,19 +77,15 @@ fn do_job<N: Naming, K: Ledger, L: Ledger, S: Ledger, D: Ledger, B: Ledger, R: W
         (λ _. Counts seat.old seat.new 0 0 1 0 0 ⊎ Counts seat.old seat.new 0 0 0 1 0)
         (λ back. (back ≡ ticket) × Counts seat.old seat.new 0 0 0 0 0) }
 {
-    let mut ticket = ticket;
-    if is_to_split(ticket.job(), board.waiting(), others) {
-        board.begin_split();
-        let left = split_job(rt, alloc, finder, board, seat, ticket);
-        board.end_split();
-        match left? {
-            None => return Ok(()),
-            Some(back) => ticket = back,
-        }
+    if !is_to_split(ticket.job(), board.waiting(), others) {
+        return find_job(rt, alloc, finder, board, seat, ticket);
     }
-    match finder.find(alloc, ticket.job()) {
-        Ok(list) => board.finish(rt, seat, ticket, list),
-        Err(_) => Err(ticket),
+    board.begin_split();
+    let left = split_job(rt, alloc, finder, board, seat, ticket);
+    board.end_split();
+    match left? {
+        None => Ok(()),
+        Some(back) => find_job(rt, alloc, finder, board, seat, back),
     }
 }
 

@@ -1,5 +1,5 @@
 use Rattle.std.proofs.Common.{rules, ◌≡◌, ◌+◌, ◌++◌, ◌∷◌, [], length, refl, sym, ap, ◌∙◌, subst, arith}
-use Rattle.std.proofs.lemmas.List.{append_assoc, append-nil, length-append, map_push, length_push, nil_from_length}
+use Rattle.std.proofs.lemmas.List.{append_assoc, append-nil, map_push, nil_from_length}
 use Rattle.std.proofs.lemmas.List.Elements.{All-nil, All-push, recursion_from_All}
 use Rattle.std.specs.List.{All}
 use Rattle.std.specs.Vec.Iter.{into_iter_items}
@@ -15,33 +15,23 @@ pub loop-job-init : goal.loop-job-init
 loop-job-init g c =
     let none : c.in_ok-entries.entries.items ≡ [] = c.in_ok-entries.ensures.items in
     let gives = c.into_iter-job-iterator.ensures.into_iter_gives in
-    record { whole = gives.0; left = omega (arith, ap length gives.0, gives.1, c.args.jobs.ok.0); number = refl; jobs = ap jobs_of none; request = refl; found = subst (All (IsFound (g.F.Finder.request c.args.finder.now))) (sym none) (All-nil (IsFound (g.F.Finder.request c.args.finder.now))) }
-
-pub overflow_add-number : goal.overflow_add-number
-overflow_add-number g c =
-    let i = c.loop-job.invariant in
-    let some = ap length c.in-Some.ensures.steps.0 in
-    let whole = ap length i.whole in
-    let parts = length-append c.loop-job.yielded (into_iter_items c.loop-job.job-iterator) in
-    omega (arith, i.number, some, whole, parts, c.args.jobs.small)
+    record { whole = gives.0; left = omega (arith, ap length gives.0, gives.1, c.args.jobs.ok.0); jobs = ap jobs_of none; request = refl; found = subst (All (IsFound (g.F.Finder.request c.args.finder.now))) (sym none) (All-nil (IsFound (g.F.Finder.request c.args.finder.now))) }
 
 pub loop-job-preserved : goal.loop-job-preserved
 loop-job-preserved g c =
     let i = c.loop-job.invariant in
     let q = g.F.Finder.request c.args.finder.now in
     let job = c.in-Some.job in
-    let entry = entry_of (c.loop-job.number + 1) job (Done c.in_ok-members.members) in
+    let entry = entry_of (c.len-in-loop-job.result + 1) job (Done c.in_ok-members.members) in
     let longer : c.push.new.self.items ≡ c.loop-job.entries.items ++ entry ∷ [] = c.in_ok-push.ensures.items in
-    let under = subst (λ r. AreMembersUnder r job c.in_ok-find.field-0) i.request c.in_ok-find.ensures.members in
-    let count = length_push c.loop-job.yielded job in
+    let under = subst (λ r. AreMembersUnder r job c.in_ok-members.members) i.request c.in_ok-members.ensures.under in
     record {
       whole = append_assoc c.loop-job.yielded (job ∷ []) (into_iter_items c.next.new.self) ∙ ap (λ rest. c.loop-job.yielded ++ rest) (sym c.in-Some.ensures.steps.0) ∙ i.whole;
       left = omega (arith, i.left, ap length c.in-Some.ensures.steps.0, c.in-Some.ensures.steps.1);
-      number = omega (arith, i.number, count);
       jobs = ap jobs_of longer ∙ map_push (λ (e : Entry). e.job) c.loop-job.entries.items entry ∙ ap (λ js. js ++ job ∷ []) i.jobs;
-      request = c.find.ensures.request ∙ i.request;
+      request = c.members_under.ensures.request ∙ i.request;
       found = subst (All (IsFound q)) (sym longer) (All-push (IsFound q) c.loop-job.entries.items entry i.found
-          (record { list = c.in_ok-members.members; done = search rules; under = subst (AreMembersUnder q job) (sym c.in_ok-members.ensures) under }));
+          (record { list = c.in_ok-members.members; done = search rules; under = under }));
     }
 
 pub returns-clause-round : goal.returns-clause-round

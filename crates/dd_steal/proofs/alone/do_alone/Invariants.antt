@@ -9,7 +9,6 @@ abbrev pub invariant-loop-job : goal.invariant-loop-job
 invariant-loop-job g l = record {
   whole : l.yielded ++ into_iter_items l.job-iterator ≡ l.fn.jobs.items;
   left : into_iter_len l.job-iterator ≡ length (into_iter_items l.job-iterator);
-  number : l.number ≡ length l.yielded;
   jobs : jobs_of l.entries.items ≡ l.yielded;
   request : g.F.Finder.request l.finder ≡ g.F.Finder.request l.fn.finder;
   found : All (IsFound (g.F.Finder.request l.fn.finder)) l.entries.items;

@@ -1,17 +1,15 @@
-use Rattle.std.proofs.Common.{rules, ◌≡◌, ◌+◌, ◌<◌, ◌++◌, ◌∷◌, [], length, take, refl, sym, ap, ◌∙◌, subst, arith}
-use Rattle.std.proofs.lemmas.List.{take_more, length_push, length-take, take_all}
+use Rattle.std.proofs.Common.{◌≡◌, ◌+◌, ◌++◌, ◌∷◌, [], length, take, sym, ap, ◌∙◌, subst, arith}
+use Rattle.std.proofs.lemmas.List.{length_push, take_all}
 use Rattle.std.specs.List.{AllByRecursion}
 use Rattle.dd_model.specs.Jobs.{AreMembersUnder, IsJobOf}
-use Rattle.dd_front.specs.declared.entry.Entry.{Entry}
-use Rattle.dd_front.specs.declared.entry.State.TheVariants.{Done}
 use Rattle.dd_front.specs.Absorbed.{IsFound}
 use Rattle.dd_front.specs.Joining.{done_with}
-use Rattle.dd_front.specs.Machine.{entry_of, jobs_of}
+use Rattle.dd_front.specs.Machine.{jobs_of}
 use Rattle.dd_steal.proofs.InTurn.{come_from_own, found_push, job_at, jobs_done}
 use Rattle.dd_steal.proofs.alone.find_each.Goals as goal
 
-pub find-requires-clause-job : goal.find-requires-clause-job
-find-requires-clause-job g c =
+pub members_under-requires-clause-job : goal.members_under-requires-clause-job
+members_under-requires-clause-job g c =
     let i = c.loop-entry.invariant in
     let es = c.args.entries.now in
     subst (λ r. IsJobOf r c.entry-item.result.job) (sym i.request)
@@ -25,15 +23,15 @@ loop-entry-preserved g c =
     let at = c.loop-entry.entry-index in
     let e = c.entry-item.result in
     let low = c.loop-entry-test.true in
-    let list = c.in_ok-new.field-0 in
+    let list = c.in_ok-members_under.field-0 in
     let lists = c.loop-entry.lists.items in
     let longer : c.push.new.self.items ≡ lists ++ list ∷ [] = c.in_ok-push.ensures.items in
-    let under = subst (λ r. AreMembersUnder r e.job c.in_ok-list.list) i.request c.in_ok-list.ensures.members in
+    let under = subst (λ r. AreMembersUnder r e.job list) i.request c.in_ok-members_under.ensures.under in
     record {
       long = ap length longer ∙ length_push lists list ∙ omega (arith, i.long);
-      request = c.find.ensures.request ∙ i.request;
+      request = c.members_under.ensures.request ∙ i.request;
       found = subst (λ ls. AllByRecursion (IsFound q) (done_with ls (take (at + 1) es))) (sym longer)
-          (found_push q lists list es at e low c.entry-item.is i.long i.found (subst (AreMembersUnder q e.job) (sym c.in_ok-new.ensures) under));
+          (found_push q lists list es at e low c.entry-item.is i.long i.found under);
     }
 
 pub returns-clause-long : goal.returns-clause-long
