@@ -1,8 +1,8 @@
 -- The tables of the letters go together with each other and with tables of two letters.
-use Rattle.std.proofs.Common.{◌≡◌, ℕ, zero, suc, ◌*◌, ◌≤◌, List, [], ◌∷◌, sym, ap, ◌∙◌, subst, arith}
-use Rattle.std.proofs.Math.Nat.{mul_comm}
+use Rattle.std.proofs.Common.{◌≡◌, ℕ, zero, suc, ◌*◌, ◌<◌, ◌≤◌, List, [], ◌∷◌, Ok, Err, IfOk, IfErr, OnOk, refl, sym, ap, ◌∙◌, subst, arith}
 use Rattle.std.proofs.lemmas.Nat.{mul-le}
 use Rattle.std.specs.List.{AllByRecursion}
+use Rattle.std.specs.declared.result.Result.{Result}
 use Rattle.dd_model.specs.declared.pair.Pair.{Pair}
 use Rattle.dd_model.specs.declared.pair.Pair.TheVariants.{Tile, Vertex, Edge}
 use Rattle.dd_model.specs.Symbol.{Symbol, IsSymbol, IsTable}
@@ -13,11 +13,16 @@ use Rattle.dd_template.specs.Table.{Table, IsPart, entry}
 use Rattle.dd_template.specs.Entries.{entries}
 use Rattle.dd_template.specs.Lawful.{IsLawful}
 use Rattle.dd_template.specs.Made.{made}
+use Rattle.dd_template.specs.declared.applying.ApplyFault.{ApplyFault}
+use Rattle.dd_template.specs.declared.applying.ApplyFault.TheVariants.{TooManyChambers, Memory}
 use Rattle.dd_template.proofs.MadeSymbols.{made_symbol}
 use Rattle.dd_template.proofs.NamedTables.{dual_lawful, operation_lawful}
 use Rattle.dd_opword.specs.declared.letters.Letter.{Letter}
 use Rattle.dd_opword.specs.declared.letters.Letter.TheVariants.{Dual, Ambo, Truncate, Chamfer}
-use Rattle.dd_opword.specs.Meaning.{table_of_letter, meaning, parts_of}
+use Rattle.dd_opword.specs.declared.words.OpWord.{OpWord}
+use Rattle.dd_opword.specs.declared.words.OpWord.TheVariants.{One, Two, Three}
+use Rattle.dd_opword.specs.Words.{letters_of}
+use Rattle.dd_opword.specs.Meaning.{IsMadeBy, IsWordFault, table_of_letter, meaning, parts_of}
 use Rattle.dd_opword.specs.Composed.{part_in, times, composed_degree, composed}
 use Rattle.dd_opword.specs.Together.{IsFixedUpTo, GoTogether, MayGoFirst}
 use Rattle.dd_opword.proofs.ComposedParts.{parts_of_part, entry-composed}
@@ -149,25 +154,44 @@ over_letter a l t e = subst (IsOverLetter a) (sym e)
 -- ## What words make
 
 -- one table over another
-pub made_both : (outer inner c : Table) (s : Symbol) → GoTogether outer inner → IsTable s → c ≡ composed outer inner → made c s ≡ made outer (made inner s)
-made_both outer inner c s go table e = ap (λ u. made u s) e ∙ composed_made outer inner s (are_applied outer inner s go table)
+made_both : (outer inner : Table) (s : Symbol) → GoTogether outer inner → IsTable s → made (composed outer inner) s ≡ made outer (made inner s)
+made_both outer inner s go table = composed_made outer inner s (are_applied outer inner s go table)
 
--- a letter over a table
-pub made_over : (l : Letter) (t c : Table) (s : Symbol) → MayGoFirst t → IsTable s → c ≡ composed (table_of_letter l) t
-    → made c s ≡ made (table_of_letter l) (made t s)
-made_over l t c s first table e = made_both (table_of_letter l) t c s (letter_follows l t first) table e
+-- what is returned for a word
+pub record IsMeant (w : OpWord) (s : Symbol) (result : Result Symbol ApplyFault) : Type 0 where
+  pub made : IfOk result (λ derived. derived ≡ meaning (letters_of w) s)
+  pub within : OnOk result (s.size * parts_of (letters_of w) ≤ 1024)
+  pub why : IfErr result (λ why. IsWordFault w s why)
+
+-- by a table that makes what the word means
+meant_by : (t : Table) (w : OpWord) (s : Symbol) (result : Result Symbol ApplyFault) → made t s ≡ meaning (letters_of w) s → t.parts ≡ parts_of (letters_of w)
+    → IsMadeBy t s result → IsMeant w s result
+meant_by t w s (Ok derived) same parts is = record { made = is.made ∙ same; within = subst (λ n. s.size * n ≤ 1024) parts is.within; why = tt }
+meant_by t w s (Err (TooManyChambers n)) same parts is =
+    record { made = tt; within = tt; why = (is.why.0, subst (λ n. 1024 < s.size * n) parts is.why.1) }
+meant_by t w s (Err Memory) same parts is = record { made = tt; within = tt; why = subst (λ n. s.size * n ≤ 1024) parts is.why }
+
+pub one_meant : (x : Letter) (s : Symbol) (result : Result Symbol ApplyFault) → IsMadeBy (table_of_letter x) s result → IsMeant (One x) s result
+one_meant x s result is = meant_by (table_of_letter x) (One x) s result refl (omega arith) is
+
+pub two_meant : (x y : Letter) (s : Symbol) (result : Result Symbol ApplyFault) → IsMadeBy (composed (table_of_letter x) (table_of_letter y)) s result
+    → IsMeant (Two x y) s result
+two_meant x y s result is =
+    let outer = table_of_letter x in
+    let inner = table_of_letter y in
+    meant_by (composed outer inner) (Two x y) s result (made_both outer inner s (letter_follows x inner (letter_first y)) is.small.symbol.table) (omega arith) is
+
+pub three_meant : (x y z : Letter) (s : Symbol) (result : Result Symbol ApplyFault)
+    → IsMadeBy (composed (table_of_letter x) (composed (table_of_letter y) (table_of_letter z))) s result → IsMeant (Three x y z) s result
+three_meant x y z s result is =
+    let outer = table_of_letter x in
+    let middle = table_of_letter y in
+    let inner = table_of_letter z in
+    let table = is.small.symbol.table in
+    meant_by (composed outer (composed middle inner)) (Three x y z) s result
+    (made_both outer (composed middle inner) s (letter_follows x (composed middle inner) (two_first y z)) table
+    ∙ ap (made outer) (made_both middle inner s (letter_follows y inner (letter_first z)) table)) (omega arith) is
 
 pub meaning_symbol : (ls : List Letter) (s : Symbol) → IsSymbol s → IsSymbol (meaning ls s)
 meaning_symbol [] s is = is
 meaning_symbol (l ∷ ls) s is = made_symbol (table_of_letter l) (meaning ls s) (letter_lawful l) (meaning_symbol ls s is)
-
--- ## Words of letters
-
--- the parts of three letters
-pub parts_of_three : (x y z : Letter) → (table_of_letter z).parts * (table_of_letter y).parts * (table_of_letter x).parts ≡ parts_of (x ∷ y ∷ z ∷ [])
-parts_of_three x y z =
-    let a = (table_of_letter x).parts in
-    let b = (table_of_letter y).parts in
-    let c = (table_of_letter z).parts in
-    let one : c * 1 ≡ c = omega arith in
-    mul_comm (c * b) a ∙ ap (λ n. a * n) (mul_comm c b) ∙ ap (λ n. a * (b * n)) (sym one)

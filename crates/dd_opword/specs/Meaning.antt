@@ -1,7 +1,10 @@
 -- What a word of operations means.
-use Rattle.std.specs.Prelude.{◌≡◌, ℕ, ◌*◌, ◌<◌, ◌≤◌, List, [], ◌∷◌}
+use Rattle.std.specs.Prelude.{◌≡◌, ℕ, ◌*◌, ◌<◌, ◌≤◌, List, [], ◌∷◌, IfOk, IfErr, OnOk}
+use Rattle.std.specs.declared.result.Result.{Result}
+use Rattle.dd_model.specs.Small.{IsSmallSymbol}
 use Rattle.dd_model.specs.Symbol.{Symbol}
 use Rattle.dd_template.specs.Table.{Table}
+use Rattle.dd_template.specs.Applying.{IsFaultOf}
 use Rattle.dd_template.specs.Made.{made}
 use Rattle.dd_template.specs.Named.{dual, ambo, truncate, chamfer}
 use Rattle.dd_template.specs.declared.applying.ApplyFault.{ApplyFault}
@@ -33,3 +36,10 @@ parts_of (l ∷ ls) = (table_of_letter l).parts * parts_of ls
 abbrev pub IsWordFault : OpWord → Symbol → ApplyFault → Type 0
 IsWordFault w s (TooManyChambers n) = (n ≡ s.size) × (1024 < s.size * parts_of (letters_of w))
 IsWordFault w s Memory = s.size * parts_of (letters_of w) ≤ 1024
+
+-- what is returned for a table and a symbol: what the table makes of the symbol, or why nothing is made
+pub record IsMadeBy (t : Table) (s : Symbol) (result : Result Symbol ApplyFault) : Type 0 where
+  pub made : IfOk result (λ derived. derived ≡ made t s)
+  pub within : OnOk result (s.size * t.parts ≤ 1024)
+  pub why : IfErr result (λ why. IsFaultOf t s why)
+  pub small : IsSmallSymbol s

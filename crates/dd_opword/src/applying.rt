@@ -1,10 +1,7 @@
 ghost use Rattle.std.specs.Prelude.{◌≡◌, ◌*◌, ◌≤◌, IfOk, IfErr, OnOk};
-ghost use Rattle.dd_model.specs.Small.{IsSmallSymbol};
-ghost use Rattle.dd_template.specs.Applying.{IsFaultOf};
-ghost use Rattle.dd_template.specs.Made.{made};
 ghost use Rattle.dd_template.specs.Table.{table_of};
 ghost use Rattle.dd_opword.specs.Composed.{composed};
-ghost use Rattle.dd_opword.specs.Meaning.{IsWordFault, meaning, parts_of, table_of_letter};
+ghost use Rattle.dd_opword.specs.Meaning.{IsMadeBy, IsWordFault, meaning, parts_of, table_of_letter};
 ghost use Rattle.dd_opword.specs.Together.{GoTogether, MayGoFirst};
 ghost use Rattle.dd_opword.specs.Words.{letters_of};
 
@@ -35,9 +32,7 @@ pub fn apply_word(alloc: Global, word: &OpWord, symbol: &Connected) -> Result<Co
 
 /// Returns what the table of a letter makes of a symbol.
 fn apply_letter(alloc: Global, letter: Letter, symbol: &Connected) -> Result<Connected, ApplyFault>
-    ensures made { IfOk result (λ derived. derived ≡ made (table_of_letter letter) symbol.now) }
-    ensures within { OnOk result (symbol.now.size * (table_of_letter letter).parts ≤ 1024) }
-    ensures why { IfErr result (λ why. IsFaultOf (table_of_letter letter) symbol.now why) }
+    ensures { IsMadeBy (table_of_letter letter) symbol.now result }
 {
     match letter {
         Letter::Dual => apply(alloc, &DUAL, symbol),
@@ -45,6 +40,21 @@ fn apply_letter(alloc: Global, letter: Letter, symbol: &Connected) -> Result<Con
         Letter::Truncate => apply(alloc, &TRUNCATE, symbol),
         Letter::Chamfer => apply(alloc, &CHAMFER, symbol),
     }
+}
+
+/// Returns what two tables of K and of L parts, the second first, make of a symbol. M is the number
+/// of their parts.
+fn apply_both<const K: usize, const L: usize, const M: usize>(
+    alloc: Global,
+    outer: &Template<K>,
+    inner: &Template<L>,
+    symbol: &Connected,
+) -> Result<Connected, ApplyFault>
+    requires together { GoTogether (table_of outer.now) (table_of inner.now) }
+    requires parts { M ≡ L * K }
+    ensures { IsMadeBy (composed (table_of outer.now) (table_of inner.now)) symbol.now result }
+{
+    apply(alloc, &compose::<K, L, M>(outer, inner), symbol)
 }
 
 /// Returns what a letter makes of what an inner table of L parts makes of a symbol. A, T and C are
@@ -59,18 +69,13 @@ fn apply_after<const L: usize, const A: usize, const T: usize, const C: usize>(
     requires ambo { A ≡ L * 2 }
     requires truncate { T ≡ L * 3 }
     requires chamfer { C ≡ L * 4 }
-    ensures made { IfOk result (λ derived. derived ≡
-        made (table_of_letter letter) (made (table_of inner.now) symbol.now)) }
-    ensures within { OnOk result (symbol.now.size * (L * (table_of_letter letter).parts) ≤ 1024) }
-    ensures why { IfErr result (λ why.
-        IsFaultOf (composed (table_of_letter letter) (table_of inner.now)) symbol.now why) }
-    ensures small { IsSmallSymbol symbol.now }
+    ensures { IsMadeBy (composed (table_of_letter letter) (table_of inner.now)) symbol.now result }
 {
     match letter {
-        Letter::Dual => apply(alloc, &compose::<1, L, L>(&DUAL, inner), symbol),
-        Letter::Ambo => apply(alloc, &compose::<2, L, A>(&AMBO, inner), symbol),
-        Letter::Truncate => apply(alloc, &compose::<3, L, T>(&TRUNCATE, inner), symbol),
-        Letter::Chamfer => apply(alloc, &compose::<4, L, C>(&CHAMFER, inner), symbol),
+        Letter::Dual => apply_both::<1, L, L>(alloc, &DUAL, inner, symbol),
+        Letter::Ambo => apply_both::<2, L, A>(alloc, &AMBO, inner, symbol),
+        Letter::Truncate => apply_both::<3, L, T>(alloc, &TRUNCATE, inner, symbol),
+        Letter::Chamfer => apply_both::<4, L, C>(alloc, &CHAMFER, inner, symbol),
     }
 }
 
@@ -81,12 +86,7 @@ fn apply_two(
     second: Letter,
     symbol: &Connected,
 ) -> Result<Connected, ApplyFault>
-    ensures made { IfOk result (λ derived. derived ≡
-        made (table_of_letter first) (made (table_of_letter second) symbol.now)) }
-    ensures within { OnOk result (symbol.now.size
-        * ((table_of_letter second).parts * (table_of_letter first).parts) ≤ 1024) }
-    ensures why { IfErr result (λ why.
-        IsFaultOf (composed (table_of_letter first) (table_of_letter second)) symbol.now why) }
+    ensures { IsMadeBy (composed (table_of_letter first) (table_of_letter second)) symbol.now result }
 {
     match second {
         Letter::Dual => apply_after::<1, 2, 3, 4>(alloc, first, &DUAL, symbol),
@@ -94,40 +94,6 @@ fn apply_two(
         Letter::Truncate => apply_after::<3, 6, 9, 12>(alloc, first, &TRUNCATE, symbol),
         Letter::Chamfer => apply_after::<4, 8, 12, 16>(alloc, first, &CHAMFER, symbol),
     }
-}
-
-/// Returns what a letter makes of what two tables of K and of L parts, the second first, make of a
-/// symbol. M is the number of their parts, and A, T and C are the numbers of parts that they have
-/// with `a`, `t` and `c`.
-fn apply_after_two<
-    const K: usize,
-    const L: usize,
-    const M: usize,
-    const A: usize,
-    const T: usize,
-    const C: usize,
->(
-    alloc: Global,
-    letter: Letter,
-    middle: &Template<K>,
-    inner: &Template<L>,
-    symbol: &Connected,
-) -> Result<Connected, ApplyFault>
-    requires together { GoTogether (table_of middle.now) (table_of inner.now) }
-    requires first { MayGoFirst (composed (table_of middle.now) (table_of inner.now)) }
-    requires parts { M ≡ L * K }
-    requires ambo { A ≡ M * 2 }
-    requires truncate { T ≡ M * 3 }
-    requires chamfer { C ≡ M * 4 }
-    ensures made { IfOk result (λ derived. derived ≡ made (table_of_letter letter)
-        (made (table_of middle.now) (made (table_of inner.now) symbol.now))) }
-    ensures within { OnOk result
-        (symbol.now.size * (L * K * (table_of_letter letter).parts) ≤ 1024) }
-    ensures why { IfErr result (λ why. IsFaultOf (composed (table_of_letter letter)
-        (composed (table_of middle.now) (table_of inner.now))) symbol.now why) }
-{
-    let both = compose::<K, L, M>(middle, inner);
-    apply_after::<M, A, T, C>(alloc, letter, &both, symbol)
 }
 
 /// Returns what the first of two letters makes of what the second makes of what an inner table of L
@@ -153,25 +119,25 @@ fn apply_both_after<
     requires third { (third : Letter) × (table_of inner.now ≡ table_of_letter third) }
     requires low { (L2 ≡ L * 2) × (L3 ≡ L * 3) × (L4 ≡ L * 4) × (L6 ≡ L * 6) }
     requires high { (L8 ≡ L * 8) × (L9 ≡ L * 9) × (L12 ≡ L * 12) × (L16 ≡ L * 16) }
-    ensures made { IfOk result (λ derived. derived ≡ made (table_of_letter first)
-        (made (table_of_letter second) (made (table_of inner.now) symbol.now))) }
-    ensures within { OnOk result (symbol.now.size
-        * (L * (table_of_letter second).parts * (table_of_letter first).parts) ≤ 1024) }
-    ensures why { IfErr result (λ why. IsFaultOf (composed (table_of_letter first)
-        (composed (table_of_letter second) (table_of inner.now))) symbol.now why) }
+    ensures { IsMadeBy (composed (table_of_letter first)
+        (composed (table_of_letter second) (table_of inner.now))) symbol.now result }
 {
     match second {
         Letter::Dual => {
-            apply_after_two::<1, L, L, L2, L3, L4>(alloc, first, &DUAL, inner, symbol)
+            let both = compose::<1, L, L>(&DUAL, inner);
+            apply_after::<L, L2, L3, L4>(alloc, first, &both, symbol)
         }
         Letter::Ambo => {
-            apply_after_two::<2, L, L2, L4, L6, L8>(alloc, first, &AMBO, inner, symbol)
+            let both = compose::<2, L, L2>(&AMBO, inner);
+            apply_after::<L2, L4, L6, L8>(alloc, first, &both, symbol)
         }
         Letter::Truncate => {
-            apply_after_two::<3, L, L3, L6, L9, L12>(alloc, first, &TRUNCATE, inner, symbol)
+            let both = compose::<3, L, L3>(&TRUNCATE, inner);
+            apply_after::<L3, L6, L9, L12>(alloc, first, &both, symbol)
         }
         Letter::Chamfer => {
-            apply_after_two::<4, L, L4, L8, L12, L16>(alloc, first, &CHAMFER, inner, symbol)
+            let both = compose::<4, L, L4>(&CHAMFER, inner);
+            apply_after::<L4, L8, L12, L16>(alloc, first, &both, symbol)
         }
     }
 }
@@ -184,13 +150,8 @@ fn apply_three(
     third: Letter,
     symbol: &Connected,
 ) -> Result<Connected, ApplyFault>
-    ensures made { IfOk result (λ derived. derived ≡ made (table_of_letter first)
-        (made (table_of_letter second) (made (table_of_letter third) symbol.now))) }
-    ensures within { OnOk result (symbol.now.size
-        * ((table_of_letter third).parts * (table_of_letter second).parts
-        * (table_of_letter first).parts) ≤ 1024) }
-    ensures why { IfErr result (λ why. IsFaultOf (composed (table_of_letter first)
-        (composed (table_of_letter second) (table_of_letter third))) symbol.now why) }
+    ensures { IsMadeBy (composed (table_of_letter first)
+        (composed (table_of_letter second) (table_of_letter third))) symbol.now result }
 {
     match third {
         Letter::Dual => {
