@@ -4,6 +4,7 @@ pub mod SheetLemmas
 pub mod BelowLemmas
 pub mod TurnLemmas
 pub mod OrientedLemmas
+pub mod KeptCovers
 pub mod PushLemmas
 pub mod BuiltSheets
 pub mod Labels

@@ -1,6 +1,7 @@
 pub mod Sheets
 pub mod Shifts
 pub mod OrientedCover
+pub mod Covers
 pub mod Torus
 pub mod PlaneValues
 pub mod Ends

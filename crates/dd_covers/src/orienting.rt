@@ -5,12 +5,13 @@ ghost use Rattle.dd_model.specs.Connected.{Connected as AllReached};
 ghost use Rattle.dd_model.specs.Isomorphic.{IsMorphism, IsIsomorphism};
 ghost use Rattle.dd_model.specs.declared.index.Index.{Index};
 ghost use Rattle.dd_cells.specs.Orientation.{IsOriented};
-ghost use Rattle.dd_covers.specs.OrientedCover.{two_sheets, IsOrientedCover};
+ghost use Rattle.dd_covers.specs.Covers.{IsOrientedBy};
+ghost use Rattle.dd_covers.specs.OrientedCover.{IsOrientedCover};
 ghost use Rattle.dd_covers.specs.Mirrors.{HasFixedChamber};
 ghost use Rattle.dd_covers.specs.Shifts.{AreOnes};
 
 use crate::cover::Cover;
-use crate::sheets::{below, sheets, turn};
+use crate::sheets::{below, cover};
 use crate::shifts::Shifts;
 use dd_cells::{Orientation, orientation};
 use dd_model::Memory;
@@ -58,15 +59,30 @@ fn ones(alloc: Global, symbol: &Symbol) -> Result<Shifts, Memory>
     })
 }
 
+/// The cover of an oriented symbol by itself.
+fn itself(alloc: Global, s: &Connected) -> Result<Cover, Memory>
+    requires { IsOriented s.now }
+    ensures { IfOk result (IsOrientedBy s.now) }
+{
+    let symbol = s.symbol();
+    let chambers = below(alloc, symbol, 1)?;
+    let turn = below(alloc, symbol, 1)?;
+    Ok(Cover {
+        symbol: s.try_copy(alloc)?,
+        below: chambers,
+        turn,
+    })
+}
+
 /// The two sheets of a symbol that is not oriented, each of which every involution leads to the
 /// other.
-fn both_sheets(alloc: Global, s: &Connected) -> Result<Connected, Memory>
+fn both_sheets(alloc: Global, s: &Connected) -> Result<Cover, Memory>
     requires few { s.now.size ≤ 8192 }
     requires not_oriented { ¬ IsOriented s.now }
-    ensures { IfOk result (λ cover. cover ≡ two_sheets s.now) }
+    ensures { IfOk result (IsOrientedBy s.now) }
 {
     let ones = ones(alloc, s.symbol())?;
-    Ok(sheets(alloc, s, 2, &ones)?)
+    Ok(cover(alloc, s, 2, &ones)?)
 }
 
 /// Returns the oriented cover of a symbol of at most 8,192 chambers. This is the symbol itself if
@@ -81,15 +97,8 @@ pub fn oriented(alloc: Global, s: &Connected) -> Result<Cover, Memory>
     ensures connected { IfOk result (λ cover. AllReached cover.symbol) }
 {
     if is_oriented(alloc, s)? {
-        return Ok(Cover {
-            symbol: s.try_copy(alloc)?,
-            below: below(alloc, s.symbol(), 1)?,
-            turn: below(alloc, s.symbol(), 1)?,
-        });
+        Ok(itself(alloc, s)?)
+    } else {
+        Ok(both_sheets(alloc, s)?)
     }
-    Ok(Cover {
-        symbol: both_sheets(alloc, s)?,
-        below: below(alloc, s.symbol(), 2)?,
-        turn: turn(alloc, s.symbol(), 2)?,
-    })
 }

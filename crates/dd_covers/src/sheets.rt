@@ -1,10 +1,11 @@
 ghost use Rattle.std.specs.Prelude.{◌≡◌, ◌*◌, ◌<◌, ◌≤◌, ◌++◌, IfOk, OnOk};
 ghost use Rattle.dd_model.specs.Symbol.{IsChamber};
 ghost use Rattle.dd_model.specs.Code.{chambers};
+ghost use Rattle.dd_covers.specs.Covers.{AreSheets, IsCoverBy};
 ghost use Rattle.dd_covers.specs.Sheets.{all_sheets, all_images_in, alike, sheet_images, sheets_of, below_sheets, degrees_of, turned_in, turned_sheet, turned};
 ghost use Rattle.dd_covers.specs.Shifts.{AreBelow, shifts_by, shift};
-ghost use Rattle.dd_symbol.specs.Building.{IsConnectedSymbol};
 
+use crate::cover::Cover;
 use crate::shifts::Shifts;
 use dd_model::{Index, Map, Memory, Pair};
 use dd_symbol::{Connected, Refusal, Symbol, build, item};
@@ -127,7 +128,7 @@ fn push_turned(turn: &mut Vec<u32>, symbol: &Symbol, k: u32, sheet: u32) -> Resu
 }
 
 /// Returns the chamber in the next sheet, for each chamber of k sheets.
-pub(crate) fn turn(alloc: Global, symbol: &Symbol, k: u32) -> Result<Map, Memory>
+fn turn(alloc: Global, symbol: &Symbol, k: u32) -> Result<Map, Memory>
     requires { k * symbol.now.size ≤ 16384 }
     ensures { IfOk result (λ map. map ≡ turned symbol.now k 1) }
 {
@@ -139,15 +140,8 @@ pub(crate) fn turn(alloc: Global, symbol: &Symbol, k: u32) -> Result<Map, Memory
 }
 
 /// The symbol of k sheets, which is known to be one.
-pub(crate) fn sheets(
-    alloc: Global,
-    s: &Connected,
-    k: u32,
-    shifts: &Shifts,
-) -> Result<Connected, Memory>
-    requires shifts { AreBelow s.now k shifts.now }
-    requires small { k * s.now.size ≤ 16384 }
-    requires symbol { IsConnectedSymbol (sheets_of s.now k (shift shifts.now)) }
+fn sheets(alloc: Global, s: &Connected, k: u32, shifts: &Shifts) -> Result<Connected, Memory>
+    requires { AreSheets s.now k shifts.now }
     ensures { IfOk result (λ cover. cover ≡ sheets_of s.now k (shift shifts.now)) }
 {
     let symbol = s.symbol();
@@ -166,4 +160,19 @@ pub(crate) fn sheets(
             _ => unreachable!(),
         },
     }
+}
+
+/// Returns the cover of k sheets, which are known to be a symbol.
+pub(crate) fn cover(alloc: Global, s: &Connected, k: u32, shifts: &Shifts) -> Result<Cover, Memory>
+    requires { AreSheets s.now k shifts.now }
+    ensures { IfOk result (IsCoverBy s.now k (shift shifts.now)) }
+{
+    let symbol = s.symbol();
+    let below = below(alloc, symbol, k)?;
+    let turn = turn(alloc, symbol, k)?;
+    Ok(Cover {
+        symbol: sheets(alloc, s, k, shifts)?,
+        below,
+        turn,
+    })
 }

@@ -10,7 +10,7 @@ ghost use Rattle.dd_covers.specs.TorusFaults.{IsTorusFault};
 
 use crate::cover::Cover;
 use crate::orienting::oriented;
-use crate::sheets::{below, sheets, turn};
+use crate::sheets::cover;
 use crate::torus_faults::TorusFault;
 use crate::torus_shifts::torus_shifts;
 use crate::wanting::greatest_value;
@@ -28,13 +28,9 @@ fn torus_over(alloc: Global, s: &Connected, k: u32) -> Result<Cover, Memory>
     ensures cover { IfOk result (λ cover. IsTorusCoverOf s.now k cover.symbol cover.below) }
     ensures turn { IfOk result (λ cover. IsIsomorphism cover.symbol cover.symbol cover.turn) }
 {
-    let symbol = s.symbol();
+    let _symbol = s.symbol();
     let shifts = torus_shifts(alloc, s, k)?;
-    Ok(Cover {
-        symbol: sheets(alloc, s, k, &shifts)?,
-        below: below(alloc, symbol, k)?,
-        turn: turn(alloc, symbol, k)?,
-    })
+    Ok(cover(alloc, s, k, &shifts)?)
 }
 
 /// First one map, then another.
@@ -62,13 +58,9 @@ fn flat_torus(alloc: Global, s: &Connected) -> Result<Cover, Memory>
     let _symbol = s.symbol();
     let middle = oriented(alloc, s)?;
     let k = greatest_value(&middle.symbol);
-    let upper = torus_over(alloc, &middle.symbol, k)?;
-    let below = composed(alloc, &upper.below, &middle.below)?;
-    Ok(Cover {
-        symbol: upper.symbol,
-        below,
-        turn: upper.turn,
-    })
+    let mut upper = torus_over(alloc, &middle.symbol, k)?;
+    upper.below = composed(alloc, &upper.below, &middle.below)?;
+    Ok(upper)
 }
 
 /// The torus cover of a flat symbol of at most 1,024 chambers, which is that of its oriented cover.

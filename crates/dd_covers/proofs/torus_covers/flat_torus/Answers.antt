@@ -19,26 +19,26 @@ pub returns-clause-torus : goal.returns-clause-torus
 returns-clause-torus c =
     let middle = c.in_ok-middle.middle in
     let upper = c.in_ok-upper.upper in
-    torus_above c.args.s.now upper.symbol c.in_ok-below.below c.symbol-symbol.ensures.symbol.symbol c.symbol-symbol.ensures.connected c.requires.flat (record {
+    torus_above c.args.s.now upper.symbol c.in_ok-upper-2.field-0 c.symbol-symbol.ensures.symbol.symbol c.symbol-symbol.ensures.connected c.requires.flat (record {
       middle = middle.symbol;
       lower = middle.below;
       oriented = c.in_ok-middle.ensures.cover;
       sheets = c.greatest_value-k.result;
       upper = upper.below;
       torus = c.in_ok-upper.ensures.cover;
-      composed = c.in_ok-below.ensures;
+      composed = c.in_ok-upper-2.ensures;
     })
 
 pub returns-clause-morphism : goal.returns-clause-morphism
 returns-clause-morphism c =
     let middle = c.in_ok-middle.middle in
     let upper = c.in_ok-upper.upper in
-    morphism_above c.args.s.now upper.symbol c.in_ok-below.below c.symbol-symbol.ensures.symbol.symbol c.symbol-symbol.ensures.connected c.requires.flat (record {
+    morphism_above c.args.s.now upper.symbol c.in_ok-upper-2.field-0 c.symbol-symbol.ensures.symbol.symbol c.symbol-symbol.ensures.connected c.requires.flat (record {
       middle = middle.symbol;
       lower = middle.below;
       oriented = c.in_ok-middle.ensures.cover;
       sheets = c.greatest_value-k.result;
       upper = upper.below;
       torus = c.in_ok-upper.ensures.cover;
-      composed = c.in_ok-below.ensures;
+      composed = c.in_ok-upper-2.ensures;
     })
