@@ -1,7 +1,8 @@
 -- The entries of the first table, summed edge by edge.
-use Rattle.std.proofs.Common.{◌≡◌, ℕ, zero, suc, ◌+◌, ◌*◌, ◌<◌, ◌≤◌, ◌^◌, ℤ, pos, SFits, to_z, of_z, ◌+ℤ◌, ◌-ℤ◌, nat_abs, Bool, true, false, cond, nat_eq, List, [], ◌∷◌, ◌++◌, length, take, get_or, inl, refl, sym, ap, ◌∙◌, subst, add-one, arith}
+use Rattle.std.proofs.Common.{◌≡◌, ◌≢◌, ℕ, zero, suc, ◌+◌, ◌*◌, ◌<◌, ◌≤◌, ◌^◌, ℤ, pos, SFits, to_z, of_z, ◌+ℤ◌, ◌-ℤ◌, nat_abs, Bool, true, false, cond, nat_eq, List, [], ◌∷◌, ◌++◌, length, take, get_or, inl, refl, sym, ap, ◌∙◌, subst, add-one, arith}
 use Rattle.std.specs.Int.{w128}
 use Rattle.std.proofs.lemmas.Int.{ints, to_z-of_z, fits_signed_from_abs}
+use Rattle.std.proofs.lemmas.Bool.{cond-true, cond-false, eq-eqb, ne_eqb}
 use Rattle.std.proofs.lemmas.List.{take_more, take_all}
 use Rattle.dd_cells.specs.Fraction.{IsReduced}
 use Rattle.dd_lattice.specs.declared.net.Net.{Net}
@@ -10,7 +11,7 @@ use Rattle.dd_lattice.proofs.Rings.{at, nat, equal, ◌⊞◌}
 use Rattle.dd_draw.proofs.LowestTerms.{size_read}
 use Rattle.dd_draw.proofs.Ratios.{narrow_not_wide}
 use Rattle.dd_draw.specs.Elimination.{sum_unlooped, first_entry, whole, ends_at, joins, seen_from}
-use Rattle.dd_draw.specs.FirstTable.{unlooped_share}
+use Rattle.dd_draw.specs.FirstTable.{unlooped_share, share_of}
 use Rattle.dd_draw.specs.Limit.{IsWide, IsNarrow}
 
 negated_sum : (f : NetEdge → ℤ) (es : List NetEdge) → sum_unlooped (λ e. pos 0 -ℤ f e) es ≡ pos 0 -ℤ sum_unlooped f es
@@ -44,8 +45,22 @@ sum_last f (d ∷ es) e =
 sum_read_fits : (s x : ℤ) (k : ℕ) → nat_abs s ≤ 2 ^ 63 * k → nat_abs x ≤ 2 ^ 63 → k < 2 ^ 63 → SFits w128 (s +ℤ x)
 sum_read_fits s x k p q low = fits_signed_from_abs w128 (s +ℤ x) (omega (arith, ints))
 
-share_read : (x : ℤ) → nat_abs x ≤ 2 ^ 63 → to_z w128 (of_z w128 x) ≡ x
+pub share_read : (x : ℤ) → nat_abs x ≤ 2 ^ 63 → to_z w128 (of_z w128 x) ≡ x
 share_read x q = to_z-of_z w128 x (fits_signed_from_abs w128 x (omega arith))
+
+turned_is_small : (x : ℤ) → nat_abs x ≤ 2 ^ 63 → nat_abs (pos 0 -ℤ x) ≤ 2 ^ 63
+turned_is_small x q = omega (arith, ints)
+
+-- a number with its sign turned
+pub turned_fits : (x : ℤ) → nat_abs x ≤ 2 ^ 63 → SFits w128 (pos 0 -ℤ to_z w128 (of_z w128 x))
+turned_fits x q =
+    subst (λ z. SFits w128 (pos 0 -ℤ z)) (sym (share_read x q)) (let k = turned_is_small x q in fits_signed_from_abs w128 (pos 0 -ℤ x) (omega arith))
+
+pub turned_read : (x : ℤ) → nat_abs x ≤ 2 ^ 63 → to_z w128 (of_z w128 (pos 0 -ℤ to_z w128 (of_z w128 x))) ≡ pos 0 -ℤ x
+turned_read x q = ap (λ z. to_z w128 (of_z w128 (pos 0 -ℤ z))) (share_read x q) ∙ share_read (pos 0 -ℤ x) (turned_is_small x q)
+
+pub turned_small : (x : ℤ) → nat_abs x ≤ 2 ^ 63 → nat_abs (to_z w128 (of_z w128 (pos 0 -ℤ to_z w128 (of_z w128 x)))) ≤ 2 ^ 63
+turned_small x q = subst (λ z. nat_abs z ≤ 2 ^ 63) (sym (turned_read x q)) (turned_is_small x q)
 
 pub sum_fits : (s x : ℤ) (k : ℕ) → nat_abs s ≤ 2 ^ 63 * k → nat_abs x ≤ 2 ^ 63 → k < 2 ^ 63 → SFits w128 (s +ℤ to_z w128 (of_z w128 x))
 sum_fits s x k p q low = subst (λ z. SFits w128 (s +ℤ z)) (sym (share_read x q)) (sum_read_fits s x k p q low)
@@ -109,3 +124,29 @@ pub entry_not_wide : (net : Net) (i j a : ℕ) (z : ℤ) → SFits w128 z → z 
     → ¬ IsWide (whole (first_entry net i (suc j)))
 entry_not_wide net i j a z fits e size low =
     subst (λ y. ¬ IsWide (whole y)) (e ∙ ap (first_entry net i) (add-one j)) (whole_not_wide z (subst (λ n. n ≤ 2 ^ 62) (size_read z a fits size) low))
+
+-- ## What one edge gives
+
+module _ (n i j : ℕ) (e : NetEdge) where
+  pub looped : e.from ≡ e.to → pos 0 ≡ share_of n i j e
+  looped same = sym (cond-true _ _ _ (eq-eqb e.from e.to same))
+
+  module _ (other : e.from ≢ e.to) where
+    unlooped : unlooped_share n i j e ≡ share_of n i j e
+    unlooped = sym (cond-false _ _ _ (ne_eqb e.from e.to other))
+
+    pub along : j ≡ n → seen_from (λ d. d.x) (i + 1) e ≡ share_of n i j e
+    along first = sym (cond-true _ _ _ (eq-eqb j n first)) ∙ unlooped
+
+    module _ (not_first : j ≢ n) where
+      later : cond (nat_eq j (n + 1)) (seen_from (λ d. d.y) (i + 1) e) (cond (nat_eq i j) (ends_at (i + 1) e) (pos 0 -ℤ joins (i + 1) (j + 1) e)) ≡ share_of n i j e
+      later = sym (cond-false _ _ _ (ne_eqb j n not_first)) ∙ unlooped
+
+      pub across : j ≡ n + 1 → seen_from (λ d. d.y) (i + 1) e ≡ share_of n i j e
+      across second = sym (cond-true _ _ _ (eq-eqb j (n + 1) second)) ∙ later
+
+      pub own : j ≢ n + 1 → i ≡ j → ends_at (i + 1) e ≡ share_of n i j e
+      own not_second same = sym (cond-true _ _ _ (eq-eqb i j same)) ∙ sym (cond-false _ _ _ (ne_eqb j (n + 1) not_second)) ∙ later
+
+      pub joined : j ≢ n + 1 → i ≢ j → pos 0 -ℤ joins (i + 1) (j + 1) e ≡ share_of n i j e
+      joined not_second differ = sym (cond-false _ _ _ (ne_eqb i j differ)) ∙ sym (cond-false _ _ _ (ne_eqb j (n + 1) not_second)) ∙ later

@@ -1,5 +1,5 @@
 -- Sums and products of numerators and denominators within the limit fit, and what they are as ratios.
-use Rattle.std.proofs.Common.{◌≡◌, ◌≢◌, ◌⊎◌, zero, suc, ◌*◌, ◌<◌, ◌≤◌, ◌^◌, ℤ, pos, negsuc, SFits, to_z, of_z, ◌-ℤ◌, ◌*ℤ◌, ◌<ℤ◌, nat_abs, Option, Some, None, MatchOption, false, inl, sym, ap, ◌∙◌, subst, lit<, arith}
+use Rattle.std.proofs.Common.{true, ◌≡◌, ◌≢◌, ◌⊎◌, zero, suc, ◌*◌, ◌<◌, ◌≤◌, ◌^◌, ℤ, pos, negsuc, SFits, to_z, of_z, ◌-ℤ◌, ◌*ℤ◌, ◌<ℤ◌, nat_abs, Option, Some, None, MatchOption, false, inl, sym, ap, ◌∙◌, subst, lit<, arith}
 use lib.Signed.{lt_z}
 use Rattle.std.specs.Int.{w128}
 use Rattle.std.proofs.lemmas.Int.{ints, to_z-of_z, fits_signed_from_abs, fits_signed_mul, unsigned_abs-mul}
@@ -66,6 +66,10 @@ read_turned x y p q =
     ap (λ z. to_z w128 (of_z w128 (pos 0 -ℤ z))) (read_product x y p q)
     ∙ to_z-of_z w128 (pos 0 -ℤ x *ℤ y) (difference_fits (pos 0) (x *ℤ y) (omega arith) (product_bound x y p q))
 
+pub read_turned_fits : (x y : ℤ) → IsSmall x → IsSmall y → SFits w128 (pos 0 -ℤ to_z w128 (of_z w128 (to_z w128 (of_z w128 x) *ℤ to_z w128 (of_z w128 y))))
+read_turned_fits x y p q =
+    subst (SFits w128) (λ i. pos 0 -ℤ sym (read_product x y p q) i) (difference_fits (pos 0) (x *ℤ y) (omega arith) (product_bound x y p q))
+
 -- ## Signs
 
 positive_product : (x y : ℤ) → pos 0 <ℤ x → pos 0 <ℤ y → pos 0 <ℤ (x *ℤ y)
@@ -90,6 +94,14 @@ read_not_negative x y p q some more e =
   where
     above : (z : ℤ) → z ≢ pos 0 → lt_z z (pos 0) ≡ false → pos 0 <ℤ z
     above z n e = omega (arith, ints)
+
+pub read_turned_positive : (x y : ℤ) → IsSmall x → IsSmall y → lt_z (to_z w128 (of_z w128 (to_z w128 (of_z w128 x) *ℤ to_z w128 (of_z w128 y)))) (pos 0) ≡ true
+    → pos 0 <ℤ to_z w128 (of_z w128 (pos 0 -ℤ to_z w128 (of_z w128 (to_z w128 (of_z w128 x) *ℤ to_z w128 (of_z w128 y)))))
+read_turned_positive x y p q e =
+    subst (λ z. pos 0 <ℤ z) (sym (read_turned x y p q)) (turned (x *ℤ y) (ap (λ z. lt_z z (pos 0)) (sym (read_product x y p q)) ∙ e))
+  where
+    turned : (z : ℤ) → lt_z z (pos 0) ≡ true → pos 0 <ℤ (pos 0 -ℤ z)
+    turned z e = omega (arith, ints)
 
 -- ## Answers
 

@@ -136,21 +136,35 @@ quotient_size (pos a) (pos b) some = div-le_self a b
 quotient_size (negsuc a) (pos b) some = let e = div-le_self a b in omega arith
 quotient_size n (negsuc b) some = absurd (omega (arith, ints))
 
-pub floor_small : (k num den r : ℤ) → nat_abs k ≤ 2 ^ 63 → nat_abs num ≤ 2 ^ 62 → pos 0 <ℤ den → nat_abs den ≤ 2 ^ 62
-    → r ≡ int_div_euclid (to_z w128 (of_z w128 (to_z w128 (of_z w128 k) *ℤ to_z w128 (of_z w128 num)))) (to_z w128 (of_z w128 den)) → nat_abs (to_z w128 (of_z w128 r)) ≤ 2 ^ 125
-floor_small k num den r pk pn some pd e =
-    let size = product_size k num (2 ^ 63) (2 ^ 62) pk pn in
-    let plain : r ≡ int_div_euclid (k *ℤ num) den
-    = e ∙ (λ i. int_div_euclid (to_z w128 (of_z w128 (read k (omega arith) i *ℤ read num (omega arith) i))) (read den (omega arith) i)) ∙ (λ i. int_div_euclid (read (k *ℤ num) (omega arith) i) den) in
-    let less = quotient_size (k *ℤ num) den some in
-    let small : nat_abs r ≤ 2 ^ 125 = subst (λ z. nat_abs z ≤ 2 ^ 125) (sym plain) (omega arith) in
-    subst (λ z. nat_abs z ≤ 2 ^ 125) (sym (read r (omega arith))) small
+module _ (k num den r : ℤ) (pk : nat_abs k ≤ 2 ^ 63) (pn : nat_abs num ≤ 2 ^ 62) (some : pos 0 <ℤ den) (pd : nat_abs den ≤ 2 ^ 62)
+    (e : r ≡ int_div_euclid (to_z w128 (of_z w128 (to_z w128 (of_z w128 k) *ℤ to_z w128 (of_z w128 num)))) (to_z w128 (of_z w128 den))) where
+  quotient : r ≡ int_div_euclid (k *ℤ num) den
+  quotient =
+      let size = product_size k num (2 ^ 63) (2 ^ 62) pk pn in
+      e ∙ (λ i. int_div_euclid (to_z w128 (of_z w128 (read k (omega arith) i *ℤ read num (omega arith) i))) (read den (omega arith) i)) ∙ (λ i. int_div_euclid (read (k *ℤ num) (omega arith) i) den)
+
+  small : nat_abs r ≤ 2 ^ 125
+  small =
+      let size = product_size k num (2 ^ 63) (2 ^ 62) pk pn in
+      let less = quotient_size (k *ℤ num) den some in
+      subst (λ z. nat_abs z ≤ 2 ^ 125) (sym quotient) (omega arith)
+
+  pub floor_small : nat_abs (to_z w128 (of_z w128 r)) ≤ 2 ^ 125
+  floor_small = let k = small in subst (λ z. nat_abs z ≤ 2 ^ 125) (sym (read r (omega arith))) small
+
+  pub floor_read : to_z w128 (of_z w128 r) ≡ int_div_euclid (k *ℤ num) den
+  floor_read = let k = small in read r (omega arith) ∙ quotient
+
+sum_size : (x y : ℤ) → nat_abs x ≤ 2 ^ 125 → nat_abs y ≤ 2 ^ 125 → nat_abs (x +ℤ y) ≤ 2 ^ 127 - 1
+sum_size x y p q = omega (arith, ints)
 
 pub spot_read : (x y : ℤ) → nat_abs x ≤ 2 ^ 125 → nat_abs y ≤ 2 ^ 125 → to_z w128 (of_z w128 (to_z w128 (of_z w128 x) +ℤ to_z w128 (of_z w128 y))) ≡ x +ℤ y
-spot_read x y p q = (λ i. to_z w128 (of_z w128 (read x (omega arith) i +ℤ read y (omega arith) i))) ∙ read (x +ℤ y) (sum x y p q)
-  where
-    sum : (x y : ℤ) → nat_abs x ≤ 2 ^ 125 → nat_abs y ≤ 2 ^ 125 → nat_abs (x +ℤ y) ≤ 2 ^ 127 - 1
-    sum x y p q = omega (arith, ints)
+spot_read x y p q = (λ i. to_z w128 (of_z w128 (read x (omega arith) i +ℤ read y (omega arith) i))) ∙ read (x +ℤ y) (sum_size x y p q)
+
+pub spot_fits : (x y : ℤ) → nat_abs x ≤ 2 ^ 125 → nat_abs y ≤ 2 ^ 125 → FitsSigned w128 (to_z w128 (of_z w128 x) +ℤ to_z w128 (of_z w128 y))
+spot_fits x y p q =
+    let n = sum_size x y p q in
+    subst (FitsSigned w128) (λ i. sym (read x (omega arith)) i +ℤ sym (read y (omega arith)) i) (fits_signed_from_abs w128 (x +ℤ y) (omega arith))
 
 pub lean_small : (j k : ℤ) → j ≡ k → nat_abs j ≤ 2 ^ 63 → nat_abs k ≤ 2 ^ 63
 lean_small j k e h = subst (λ z. nat_abs z ≤ 2 ^ 63) e h

@@ -14,3 +14,9 @@ pub returns : goal.returns
 returns c = answer_at c.reduced.result _ _ _ _
     (read_difference c.args.a.num c.args.b.den c.args.b.num c.args.a.den c.requires.a.num c.requires.b.den c.requires.b.num c.requires.a.den)
     (read_product c.args.a.den c.args.b.den c.requires.a.den c.requires.b.den) c.reduced.ensures
+
+pub overflow_mul-a : goal.overflow_mul-a
+overflow_mul-a c = read_product_fits c.args.a.num c.args.b.den c.requires.a.num c.requires.b.den
+
+pub overflow_mul-b : goal.overflow_mul-b
+overflow_mul-b c = read_product_fits c.args.b.num c.args.a.den c.requires.b.num c.requires.a.den

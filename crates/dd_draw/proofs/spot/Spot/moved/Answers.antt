@@ -1,7 +1,16 @@
-use Rattle.std.proofs.Common.{◌≤◌, ◌+◌, ◌^◌, nat_abs, sym, subst}
+use Rattle.std.proofs.Common.{refl, pos, arith, ◌≤◌, ◌+◌, ◌^◌, nat_abs, sym, subst}
 use Rattle.dd_draw.specs.Spots.{lean, rise}
 use Rattle.dd_draw.proofs.Spots.{lean_small, shift_small, shift_read, moved_read, moved_small, moved_fits, leaning_read, leaning_small, along_fits, times_fits, rise_fits}
 use Rattle.dd_draw.proofs.spot.Spot.moved.Goals as goal
+
+pub overflow_mul-result : goal.overflow_mul-result
+overflow_mul-result c =
+    times_fits (pos 1000) c.args.x (pos 1000) c.from-x.result (omega arith) (shift_small c.args.x c.ranges.x) refl (shift_read c.args.x c.from-x.result c.ranges.x c.from-x.ensures)
+
+pub overflow_mul-result-2 : goal.overflow_mul-result-2
+overflow_mul-result-2 c =
+    times_fits (lean c.args.frame) c.args.y c.second_side-lean.result.0 c.from-y.result (lean_small c.second_side-lean.result.0 (lean c.args.frame) c.second_side-lean.ensures.lean c.second_side-lean.ensures.small_lean)
+    (shift_small c.args.y c.ranges.y) c.second_side-lean.ensures.lean (shift_read c.args.y c.from-y.result c.ranges.y c.from-y.ensures)
 
 pub overflow_add-result : goal.overflow_add-result
 overflow_add-result c =
