@@ -51,6 +51,9 @@ CATALOGUES = (
 SAME = (
     ("catalogue 8 --workers 4", "catalogue 8 --workers 1 --round 4096"),
     ("catalogue 14 --workers 4", "catalogue 14 --workers 1 --round 4096"),
+    ("catalogue --minimal --least-face=6 --degrees=3,1-2 2 --workers=64 --vertices=3", "catalogue 2 --faces 6-216 --degrees 1-3 --vertices 3 --minimal"),
+    ("catalogue 4 --least-degree=5 --least-face 5", "catalogue 4 --degrees 5-216 --faces=5-216"),
+    ("exercise 1 00", "exercise 1 0"),
 )
 
 # The words of a catalogue, and how many symbols it has.
@@ -225,6 +228,7 @@ FILES = (
     ("canon", "# nothing\n#", ""),
     ("lines", "", ""),
     ("dual", OCTAGONS, "<1.1:3:1 3,2 3,1 2 3:3,8 4>\n"),
+    ("dual --", OCTAGONS, "<1.1:3:1 3,2 3,1 2 3:3,8 4>\n"),
     ("dual", "<1.1:3:2 3,1 3,1 2 3:3,4 8>", OCTAGONS),
     ("minimal", ROTATIONS, SQUARES),
     ("minimal", OCTAGONS, OCTAGONS),
@@ -316,6 +320,7 @@ LETTERS = {"d": "dual", "a": "ambo", "t": "truncate", "c": "chamfer"}
 ALIKE = (
     ("apply ad", OCTAGONS, "apply a", OCTAGONS),
     ("apply dd", "<7.3:3:1 2 3,2 3,3 2:8 4,3>", "canon", OCTAGONS),
+    ("apply -- ad", OCTAGONS, "apply ad", OCTAGONS),
     ("oriented", OCTAGONS, "canon", TURNED_OCTAGONS),
     ("oriented", ONE_SQUARE, "canon", ONE_SQUARE),
     ("torus", ONE_SQUARE, "canon", ONE_SQUARE),
