@@ -24,8 +24,8 @@ pub fn a_cell_has_at_most_two_chambers_for_each_turn()
 {}
 
 /// Let each chamber of a flat symbol have two shares, one for its tile and one for its vertex. Each
-/// share is at least a fixed number divided by the degree there. Then twice the sum of all shares is
-/// at least this number times the number of chambers.
+/// share is at least a fixed number divided by the degree there. Then twice the sum of all shares
+/// is at least this number times the number of chambers.
 pub fn flat_symbols_have_large_shares()
     ensures { (s : Symbol) (whole : ℕ) (tiles vertices : ℕ → ℕ) → IsSymbol s → Flat s
         → ((d : ℕ) → IsChamber s d → whole ≤ tiles d * degree s Tile d)

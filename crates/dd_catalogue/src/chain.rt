@@ -40,8 +40,8 @@ const LINES_A_CHECKPOINT: u64 = 65_536;
 /// stopped can be resumed. It puts the checkpoint after each round with lines, at a pause and at
 /// the end. A round in the middle of a job is followed by no checkpoint; it is put before the first
 /// line of the next round. A round with the last line that there may be is followed by none. The
-/// first run of a chain also puts the checkpoint before the first line. Neither the workers nor what
-/// they choose changes what is written.
+/// first run of a chain also puts the checkpoint before the first line. Neither the workers nor
+/// what they choose changes what is written.
 pub fn write_run<R: Threads + Wait + Sync, F: Finder + Sync, G: Gate + Sync, S: Store, O: Sink>(
     rt: &R,
     alloc: Global,

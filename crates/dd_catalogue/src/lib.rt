@@ -7,12 +7,12 @@
 //!
 //! - **Large jobs are done in parts.** A large job at the front becomes its children, and these
 //!   theirs, until the first one is small (`split_large`). A round ends before it has too much
-//!   under it (`few_ahead`). So it holds about a million members at most. A run whose position is
-//!   within a large job splits it before its first round, and leaves out the parts that are wholly
-//!   before the position (`parts_from`).
+//!   under it (`few_ahead`). So it holds about half a million members at most. A run whose position
+//!   is within a large job splits it before its first round, and leaves out the parts that are
+//!   wholly before the position (`parts_from`).
 //! - **Jobs that are not counted.** Several workers may do a round, and no checkpoint may limit how
-//!   far it is ahead. Then the round does not count jobs under which the finder sees that nothing is
-//!   (`do_long_round`). They are most of the jobs.
+//!   far it is ahead. Then the round does not count jobs under which the finder sees that nothing
+//!   is (`do_long_round`). They are most of the jobs.
 //! - **Several workers** take the jobs of a round from a board and do them. They split jobs under
 //!   which much may be, and steal from each other. A sweep does what they leave (`run_round`).
 //! - **One worker** does the jobs in order, with no board, no lock and no deque. The jobs stay in

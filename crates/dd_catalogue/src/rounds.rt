@@ -32,11 +32,12 @@ const WORKERS_A_JOB: u32 = 8;
 /// at once, and what is written is still near.
 const JOBS_ALONE: u32 = 4;
 
-/// How much the jobs of a round weigh together at most, so that a round holds few members. If no
-/// checkpoint is kept, it is so much for each of several workers, of at most `HEAVY_WORKERS`.
+/// How much the jobs of a round weigh together at most, so that a round holds few members.
 const ROUND_WEIGHT: u64 = 64;
 
-const HEAVY_WORKERS: u32 = 8;
+/// How much they weigh at most if several workers keep no checkpoint. Lighter rounds would start
+/// threads for little, and heavier ones would hold more members.
+const LONG_ROUND_WEIGHT: u64 = 128;
 
 /// Returns how many of the workers a round of `jobs` jobs has use for.
 fn useful_workers(workers: u32, jobs: usize) -> u32
@@ -113,7 +114,7 @@ fn pace_without_empty_jobs<F: Finder>(
 {
     let request = finder.request();
     let mut left = pace.round;
-    let mut heavy = ROUND_WEIGHT * u64::from(pace.workers.min(HEAVY_WORKERS));
+    let mut heavy = LONG_ROUND_WEIGHT;
     let mut round = 0_u32;
     for entry in entries {
         let weight = weight_of(&request, &entry.job);

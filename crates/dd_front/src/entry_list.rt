@@ -157,7 +157,8 @@ impl EntryList {
     }
 
     /// Frees the entries that have left, if they are more than half of the list. So a list has at
-    /// most twice as many entries as were kept at once, and moves at most one for each that it frees.
+    /// most twice as many entries as were kept at once. It moves at most one for each that it
+    /// frees.
     fn free_gone(&mut self)
         ensures { self.new ≡ self.old }
     {

@@ -27,7 +27,7 @@ impl Model for Opening {
     ghost invariant = { λ a. IsPacked a.sizes.items a.counts.items a.numbers.items };
 }
 
-/// Returns the jobs of these sizes. Each one has the next numbers, of which the counts say how many.
+/// Returns the jobs of these sizes. Each one has the next numbers, as many as its count says.
 fn unpack(
     alloc: Global,
     sizes: &[u32],

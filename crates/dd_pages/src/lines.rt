@@ -15,8 +15,8 @@ const FEWEST: usize = 2048;
 
 /// How many parts there are for each thread, each with a thread of its own. Equally many members
 /// may take twice as long if few of them share a table. The processors should not wait for the last
-/// part.
-const PARTS: usize = 4;
+/// part. More threads would keep more memory.
+const PARTS: usize = 2;
 
 /// Returns how many bytes the lines of some members take, or a few more. A catalogue goes by size,
 /// so the first member decides.

@@ -17,9 +17,9 @@ use std::thread::Threads;
 /// How many bytes are collected before they are written.
 const FULL: usize = 65_536;
 
-/// How many members wait until several threads make their lines: the lists of most entries, and of
-/// most rounds, are too short to be worth the start of a thread.
-const BATCH: u128 = 65_536;
+/// How many members wait until several threads make their lines: the lists of most entries are too
+/// short to be worth the start of a thread.
+const BATCH: u64 = 16_384;
 
 /// The number of members of which one thread makes the lines before it looks whether to write. It
 /// is so small that the lines are still in the processor's cache when they are written.
@@ -31,6 +31,8 @@ const PART: usize = 512;
 #[derive(Drop)]
 pub struct Page {
     waiting: Members,
+    /// How many members wait, which `waiting` would have to count.
+    waits: u64,
     buffer: Vec<u8>,
     pub count: u64,
     pub bytes: u128,
@@ -62,6 +64,7 @@ impl Page {
     {
         Page {
             waiting: Members::none(alloc),
+            waits: 0,
             buffer: Vec::new(alloc),
             count,
             bytes: 0,
@@ -171,6 +174,7 @@ impl Page {
         let before = self.count - self.waiting.len() as u64;
         let alloc = *self.buffer.allocator();
         let members = mem::replace(&mut self.waiting, Members::none(alloc));
+        self.waits = 0;
         let Ok(texts) = lines_by(rt, threads, before, members) else {
             return Err(SinkFault::Memory);
         };
@@ -208,7 +212,9 @@ impl Page {
             ((held : Option (List ℕ)) → AddsAll held held self.old self.new members) }
         ensures count { OnOk result (self.new.count ≡ self.old.count + length members) }
     {
-        self.count += members.len() as u64;
+        let more = members.len() as u64;
+        self.count += more;
+        self.waits = self.waits.saturating_add(more);
         self.waiting.append(members)?;
         Ok(())
     }
@@ -308,7 +314,7 @@ impl Page {
         let Ok(()) = self.wait(members) else {
             return Err(SinkFault::Memory);
         };
-        if self.waiting.len() < BATCH {
+        if self.waits < BATCH {
             return Ok(());
         }
         self.make(rt, threads, out)?;

@@ -36,8 +36,8 @@ pub fn a_finished_chain_of_calls_writes_its_text()
         → IsPortionText p beginning 0 bytes }
 {}
 
-/// If a chain of calls of the program has begun and its last call paused, the calls have written the
-/// first lines together. The checkpoint says how many lines these are.
+/// If a chain of calls of the program has begun and its last call paused, the calls have written
+/// the first lines together. The checkpoint says how many lines these are.
 pub fn a_paused_chain_of_calls_writes_the_first_lines()
     ensures { (p : Portion) (name : Option (List ℕ)) (calls : List ProgramCall)
         → (bytes : List ℕ) → AllByRecursion IsProgramCall calls

@@ -7,8 +7,8 @@ returns-in_default-clause-front g c k base start ss has =
     let held = g.O.Sink.held c.args.out.now in
     front_of_more k base start held ss c.args.members (front_kept k base start held c.args.self.now ss has)
 
-pub returns-then-len-lt-BATCH-clause-front : goal.returns-then-len-lt-BATCH-clause-front
-returns-then-len-lt-BATCH-clause-front g c k base start ss has =
+pub returns-then-self-lt-BATCH-clause-front : goal.returns-then-self-lt-BATCH-clause-front
+returns-then-self-lt-BATCH-clause-front g c k base start ss has =
     let held = g.O.Sink.held c.args.out.now in
     front_of_more k base start held ss c.args.members (front_kept k base start held c.args.self.now ss has)
 
