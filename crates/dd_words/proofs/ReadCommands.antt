@@ -1,6 +1,7 @@
 -- What a verb, its arguments and settings ask for.
 use Rattle.std.proofs.Common.{◌≡◌, ◌≤◌, ◌<◌, ℕ, zero, suc, List, [], ◌∷◌, length, get_or, Option, Some, None, Bool, true, not, Bor, rules, refl, sym, ap, ◌∙◌, subst, arith}
 use Rattle.std.specs.Prelude.{IsSome, is_some}
+use Rattle.std.proofs.lemmas.List.{length-map}
 use Rattle.dd_model.specs.declared.requests.Request.{Request}
 use Rattle.dd_model.proofs.Lists.{cons_head, cons_tail}
 use Rattle.dd_jobs.specs.declared.shards.Shard.{Shard}
@@ -19,7 +20,7 @@ use Rattle.dd_words.specs.Values.{Text, IsName}
 use Rattle.dd_words.specs.Layout.{IsLaid}
 use Rattle.dd_words.specs.Given.{Given, AreSingle}
 use Rattle.dd_words.specs.Laying.{texts}
-use Rattle.dd_words.specs.Grammar.{IsCatalogue, IsSharded, IsResumed, IsDrawn, AreMerged, IsOnFile, IsRequested, IsSaid, IsCommand}
+use Rattle.dd_words.specs.Grammar.{IsCatalogue, IsSharded, IsResumed, IsDrawn, AreMerged, IsOnFile, IsRequested, IsSaid, IsCommand, OnOne, OnTwo, OnThree}
 use Rattle.dd_words.specs.GivenValues.{IsNumberIfGiven, IsNameIfGiven}
 use Rattle.dd_words.specs.FirstWords.{first_word, verb_of}
 use Rattle.dd_words.specs.Reading.{IsReadAs}
@@ -70,6 +71,46 @@ pub some_one_text : (xs : List (Bor Text)) → 1 ≤ length xs → length xs < 2
 some_one_text [] low high = absurd (omega arith)
 some_one_text (x ∷ []) low high = record { text = x.now; is = refl }
 some_one_text (x ∷ y ∷ xs) low high = absurd (omega arith)
+
+-- how many arguments a verb has
+abbrev HasCount : Verb → ℕ → Type 0
+HasCount verb.Shard n = n ≡ 3
+HasCount verb.Exercise n = n ≡ 2
+HasCount verb.Apply n = n ≡ 2
+HasCount verb.Merge n = Unit {0}
+HasCount v n = n ≡ 1
+
+one_only : (xs : List Text) (P : Text → Type 0) → OnOne xs P → length xs ≡ 1
+one_only [] P h = absurd h
+one_only (x ∷ []) P h = refl
+one_only (x ∷ y ∷ xs) P h = absurd h
+
+two_only : (xs : List Text) (P : Text → Text → Type 0) → OnTwo xs P → length xs ≡ 2
+two_only [] P h = absurd h
+two_only (x ∷ []) P h = absurd h
+two_only (x ∷ y ∷ []) P h = refl
+two_only (x ∷ y ∷ z ∷ xs) P h = absurd h
+
+three_only : (xs : List Text) (P : Text → Text → Text → Type 0) → OnThree xs P → length xs ≡ 3
+three_only [] P h = absurd h
+three_only (x ∷ []) P h = absurd h
+three_only (x ∷ y ∷ []) P h = absurd h
+three_only (x ∷ y ∷ z ∷ []) P h = refl
+three_only (x ∷ y ∷ z ∷ w ∷ xs) P h = absurd h
+
+counted : (c : Command) (xs : List Text) (ss : List Given) → IsSaid c xs ss → HasCount (verb_of c) (length xs)
+counted (command.Catalogue q workers round pause checkpoint) xs ss h = one_only xs _ h
+counted (command.Resume name workers round pause) xs ss h = one_only xs _ h
+counted (command.Shard shard q workers round pause checkpoint) xs ss h = three_only xs _ h
+counted (command.ResumeShard name workers round pause) xs ss h = one_only xs _ h
+counted (command.Draw file frame) xs ss h = one_only xs _ h
+counted (command.Exercise start count) xs ss h = two_only xs _ h
+counted (command.Apply word file) xs ss h = two_only xs _ h
+counted (command.Merge files) xs ss h = tt
+counted (command.File kind file) xs ss h = one_only xs _ h
+
+pub has_count : (v : Verb) (xs : List (Bor Text)) (ss : List Given) (c : Command) → IsReadAs v (texts xs) ss c → HasCount v (length xs)
+has_count v xs ss c h = subst (HasCount v) (length-map xs (λ text. text.now)) (subst (λ u. HasCount u (length (texts xs))) h.verb_is (counted c (texts xs) ss h.said))
 
 -- what is said with these arguments
 pub read_as : (v : Verb) (xs ys : List Text) (ss : List Given) (c : Command) → xs ≡ ys → verb_of c ≡ v → IsSaid c ys ss → IsReadAs v xs ss c

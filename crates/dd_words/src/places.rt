@@ -4,7 +4,7 @@ ghost use Rattle.dd_words.specs.Places.{name_of, has_place};
 use crate::verbs::Verb;
 
 /// The place of an argument of a command.
-#[derive(Debug, Clone, Copy, PartialEq, Eq)]
+#[derive(Clone, Copy)]
 pub enum Place {
     /// The first argument.
     First,

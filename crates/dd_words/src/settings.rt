@@ -6,7 +6,7 @@ ghost use Rattle.dd_words.specs.Settings.{given_of};
 use crate::verbs::Verb;
 
 /// What an option of a command sets.
-#[derive(Debug, Clone, Copy, PartialEq, Eq)]
+#[derive(Clone, Copy, PartialEq, Eq)]
 pub enum Setting {
     /// The most classes of tiles.
     Tiles,

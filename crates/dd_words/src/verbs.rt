@@ -5,7 +5,7 @@ use crate::commands::FileKind;
 use dd_template::Operation;
 
 /// What the first word of a command says.
-#[derive(Debug, Clone, Copy, PartialEq, Eq)]
+#[derive(Clone, Copy)]
 pub enum Verb {
     /// `catalogue`.
     Catalogue,

@@ -1,9 +1,10 @@
-use Rattle.std.proofs.Common.{Err, map, ap, refl}
+use Rattle.std.proofs.Common.{Err, map, ap, refl, length, ◌<◌, ◌≤◌, rules, tests, arith}
 use Rattle.dd_words.specs.Laying.{texts}
 use Rattle.dd_words.specs.Settings.{given_of}
 use Rattle.dd_words.proofs.Faults.{same_fault}
-use Rattle.dd_words.proofs.ReadCommands.{two_and_third, two_before_third, no_shard, read_as, three_texts}
+use Rattle.dd_words.proofs.ReadCommands.{two_and_third, two_before_third, no_shard, read_as, three_texts, has_count}
 use Rattle.dd_words.specs.declared.verbs.Verb.TheVariants.{Shard}
+use Rattle.dd_words.proofs.reading.read_shard.Goals.{in_default-via-then-arguments-lt3, in_default-via-else-arguments-lt3+else-arguments-lt4}
 use Rattle.dd_words.proofs.reading.read_shard.Goals as goal
 
 pub returns-in_default-shard_of-clause-not_taken : goal.returns-in_default-shard_of-clause-not_taken
@@ -23,3 +24,11 @@ pub returns-clause-command : goal.returns-clause-command
 returns-clause-command c =
     read_as Shard _ _ _ _ (three_texts c.args.arguments.now _ _ _ c.in-len3.len_at_least c.in-len3.len_below) refl
     (record { shard_is = c.in-Some.ensures.some; catalogue = c.in_ok-asked.ensures.asked })
+
+pub returns-in_default-clause-not_taken : goal.returns-in_default-clause-not_taken
+returns-in_default-clause-not_taken c _ d h =
+    let count = has_count Shard c.args.arguments.now _ d h in
+    elim c.in_default.branch [
+      | in_default-via-then-arguments-lt3 w ↦ let few : length c.args.arguments.now < 3 = search (rules, tests) in omega arith
+      | in_default-via-else-arguments-lt3+else-arguments-lt4 w ↦ let many : 4 ≤ length c.args.arguments.now = search (rules, tests) in omega arith
+    ]
