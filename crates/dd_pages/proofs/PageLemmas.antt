@@ -1,6 +1,5 @@
 -- Lines that are made, collected and written page by page.
-use Rattle.std.proofs.Common.{◌≡◌, ℕ, Vec, ◌+◌, ◌-◌, List, [], ◌++◌, Option, length, length-append, refl, sym, ap, ◌∙◌, subst, arith, append_assoc}
-use Rattle.std.specs.Global.{Global}
+use Rattle.std.proofs.Common.{◌≡◌, ℕ, ◌+◌, ◌-◌, List, [], ◌++◌, Option, length, length-append, refl, sym, ap, ◌∙◌, subst, arith, append_assoc}
 use Rattle.std.specs.Io.KnownBytes.{Appends}
 use Rattle.dd_model.specs.Symbol.{Symbol}
 use Rattle.dd_model.specs.Text.{AreLines}

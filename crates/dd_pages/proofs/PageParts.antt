@@ -72,3 +72,9 @@ count_of_all before now old new all left none has =
     let whole = has.count in
     let size = ap length has.parts ∙ length-append has.done left in
     omega (arith, none, whole, size)
+
+pub all_counted : (before now : Option (List ℕ)) (old new : Page) (all left : List Symbol) → left ≡ [] → HasAdded before now old new all left → new.count ≡ old.count + length all
+all_counted before now old new all left none has =
+    let whole = ap length (has.parts ∙ ap (λ ts. has.done ++ ts) none ∙ append-nil has.done) in
+    let count = has.count in
+    omega (arith, count, whole)

@@ -1,5 +1,5 @@
 -- Texts that are put behind what is collected and sent.
-use Rattle.std.proofs.Common.{◌≡◌, ℕ, List, [], ◌++◌, Option, length, length-append, refl, sym, ap, ◌∙◌, arith, append_assoc}
+use Rattle.std.proofs.Common.{◌≡◌, ℕ, List, [], ◌++◌, Option, length, length-append, refl, sym, ap, ◌∙◌, subst, arith, append_assoc}
 use Rattle.std.proofs.lemmas.List.{append-nil}
 use Rattle.std.proofs.KnownBytes.{Appends-nil}
 use Rattle.dd_ports.specs.Grows.{GrowsByPrefix}
@@ -62,3 +62,15 @@ sending_room before now old page all left text later next waiting count room has
     let rest = ap length next ∙ length-append text later in
     let same = ap length waiting in
     omega (arith, both, was, is, bytes, whole, rest, same, count, room)
+
+-- no text is left
+pub sending_end : (before now : Option (List ℕ)) (old page : Page) (all left : List ℕ) → left ≡ [] → IsSending before now old page all left → IsSent before now (old.buffer.items ++ all) old.bytes page
+sending_end before now old page all left none has =
+    let whole = has.texts ∙ ap (λ xs. has.done ++ xs) none ∙ append-nil has.done in
+    subst (λ xs. IsSent before now (old.buffer.items ++ xs) old.bytes page) (sym whole) has.sent
+
+pub sent_front : (before now : Option (List ℕ)) (text : List ℕ) (sum : ℕ) (page : Page) → IsSent before now text sum page → GrowsByPrefix before now text
+sent_front before now text sum page sent = (sent.written, page.buffer.items, sym sent.parts, sent.appended)
+
+pub sent_as : (before now : Option (List ℕ)) (text other : List ℕ) (sum : ℕ) (page : Page) → text ≡ other → IsSent before now text sum page → IsSent before now other sum page
+sent_as before now text other sum page same sent = record { written = sent.written; appended = sent.appended; parts = sym same ∙ sent.parts; bytes = sent.bytes }

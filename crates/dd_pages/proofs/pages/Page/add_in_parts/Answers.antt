@@ -3,7 +3,7 @@ use Rattle.std.proofs.lemmas.List.{drop_all}
 use Rattle.dd_front.specs.Spans.{joined_spans}
 use Rattle.dd_front.proofs.Spanning.{joined_from}
 use Rattle.dd_pages.proofs.PageLemmas.{front_kept, front_of_more}
-use Rattle.dd_pages.proofs.PageParts.{part_added, front_part, all_added}
+use Rattle.dd_pages.proofs.PageParts.{part_added, front_part, all_added, all_counted}
 use Rattle.dd_pages.proofs.pages.Page.add_in_parts.Goals as goal
 
 pub returns-in_err-make-clause-front : goal.returns-in_err-make-clause-front
@@ -32,3 +32,13 @@ pub returns-clause-front : goal.returns-clause-front
 returns-clause-front g c k base start ss has =
     let none : joined_spans (drop c.loop-span.span-index c.spans-span-items.result.now) ≡ [] = ap joined_spans (drop_all c.loop-span.span-index c.spans-span-items.result.now c.loop-span-test.false) in
     front_kept k base start _ _ _ (all_added _ _ _ _ _ _ none c.loop-span.invariant.0 k base start ss has)
+
+pub returns-clause-all : goal.returns-clause-all
+returns-clause-all g c =
+    let none : joined_spans (drop c.loop-span.span-index c.spans-span-items.result.now) ≡ [] = ap joined_spans (drop_all c.loop-span.span-index c.spans-span-items.result.now c.loop-span-test.false) in
+    all_added _ _ _ _ _ _ none c.loop-span.invariant.0
+
+pub returns-clause-count : goal.returns-clause-count
+returns-clause-count g c =
+    let none : joined_spans (drop c.loop-span.span-index c.spans-span-items.result.now) ≡ [] = ap joined_spans (drop_all c.loop-span.span-index c.spans-span-items.result.now c.loop-span-test.false) in
+    all_counted _ _ _ _ _ _ none c.loop-span.invariant.0

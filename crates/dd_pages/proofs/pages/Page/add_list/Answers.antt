@@ -1,4 +1,4 @@
-use Rattle.std.proofs.Common.{◌≡◌, ◌<◌, ◌≤◌, ◌++◌, [], length, min, refl, ap, ◌∙◌, arith}
+use Rattle.std.proofs.Common.{◌≡◌, ◌<◌, [], length, refl, ap, ◌∙◌, arith}
 use Rattle.std.proofs.lemmas.List.{length-drop, nil_from_length}
 use Rattle.dd_pages.proofs.PageLemmas.{front_kept}
 use Rattle.dd_pages.proofs.PageParts.{count_of_all, parted, none_added, part_added, part_fits, front_part, all_added}

@@ -1,4 +1,4 @@
-use Rattle.std.proofs.Common.{◌++◌, ◌+◌, length, ap, ◌∙◌}
+use Rattle.std.proofs.Common.{◌+◌, ap, ◌∙◌}
 use Rattle.dd_pages.proofs.PageLemmas.{front_added, lines_added}
 use Rattle.dd_pages.proofs.pages.Page.add_part.Goals as goal
 

@@ -1,8 +1,9 @@
 use Rattle.std.proofs.Common.{refl, ap, ◌∙◌, length, arith}
 use Rattle.std.specs.Vec.Iter.{into_iter_items}
+use Rattle.std.proofs.lemmas.List.{nil_from_length}
 use Rattle.std.proofs.lemmas.List.Concat.{flat_map-cons}
 use Rattle.dd_pages.specs.Texts.{bytes_of, joined}
-use Rattle.dd_pages.proofs.Sending.{sending_start, sending_more, sending_front, sending_room}
+use Rattle.dd_pages.proofs.Sending.{sending_start, sending_more, sending_front, sending_room, sending_end, sent_front}
 use Rattle.dd_pages.proofs.pages.Page.put_all.Goals as goal
 
 pub loop-text-init : goal.loop-text-init
@@ -40,3 +41,13 @@ put-requires g c =
     let ih = c.loop-text.invariant in
     let rest = into_iter_items c.next.new.self in
     sending_room _ _ _ _ _ _ _ _ (ap joined c.in-Some.ensures.steps.0 ∙ flat_map-cons bytes_of c.in-Some.text rest) ih.2 ih.3 c.requires ih.1
+
+pub returns-clause-sent : goal.returns-clause-sent
+returns-clause-sent g c =
+    let none = nil_from_length (into_iter_items c.loop-text.text-iterator) (omega (arith, c.loop-text.invariant.0, c.in-None.ensures.steps.0)) in
+    sending_end _ _ _ _ _ _ (ap joined none) c.loop-text.invariant.1
+
+pub returns-clause-front : goal.returns-clause-front
+returns-clause-front g c =
+    let none = nil_from_length (into_iter_items c.loop-text.text-iterator) (omega (arith, c.loop-text.invariant.0, c.in-None.ensures.steps.0)) in
+    sent_front _ _ _ _ _ (sending_end _ _ _ _ _ _ (ap joined none) c.loop-text.invariant.1)
