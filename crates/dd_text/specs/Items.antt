@@ -3,13 +3,15 @@ use Rattle.std.specs.Prelude.{◌≡◌, ℕ, List, [], ◌∷◌, ◌++◌}
 use Rattle.std.specs.List.{AllByRecursion}
 use Rattle.dd_model.specs.Symbol.{Symbol}
 use Rattle.dd_model.specs.Parts.{Cursor}
-use Rattle.dd_model.specs.Spelling.{Shape, Tells}
+use Rattle.dd_model.specs.Spelling.{Shape, Tells, values}
 use Rattle.dd_model.specs.Reading.{IsSpellingTo, Item, IsItem, symbols_of, IsReadable}
 use Rattle.dd_symbol.specs.declared.refusals.Refusal.{Refusal}
 use Rattle.dd_symbol.specs.declared.refusals.Refusal.TheVariants as refusals
 use Rattle.dd_text.specs.declared.faults.Fault.{Fault}
 use Rattle.dd_text.specs.declared.symbol_text.SymbolText.{SymbolText}
-use Rattle.dd_text.specs.Texts.{IsTextOf}
+use Rattle.dd_text.specs.Texts.{IsTextOf, told_of}
+use Rattle.dd_text.specs.Images.{IsToldBy}
+use Rattle.dd_symbol.specs.Building.{listed}
 use Rattle.dd_text.specs.SymbolFaults.{IsShapeFault, IsSymbolFault}
 use Rattle.dd_text.specs.FileFaults.{IsFaultAfter}
 use Rattle.dd_text.specs.declared.faults.Why.{Why}
@@ -19,6 +21,16 @@ use Rattle.dd_text.specs.declared.faults.Why.TheVariants.{Stray, UnexpectedEnd, 
 abbrev pub why_of : Refusal → Why
 why_of refusals.Memory = Memory
 why_of why = Refused why
+
+-- the involutions that the numbers tell
+pub record AreInvolutionsOf (t : SymbolText) (s : Symbol) : Type 0 where
+  pub s0 : List ℕ
+  pub s1 : List ℕ
+  pub s2 : List ℕ
+  pub s0_told : IsToldBy t.size (values (told_of t.s0)) s0
+  pub s1_told : IsToldBy t.size (values (told_of t.s1)) s1
+  pub s2_told : IsToldBy t.size (values (told_of t.s2)) s2
+  pub same : s ≡ listed s0 s1 s2 [] []
 
 -- the numbers tell this symbol
 abbrev pub TextTells : SymbolText → Symbol → Type 0

@@ -75,7 +75,7 @@ impl fmt::Display for FileFault {
 }
 
 /// A fault in the text of one symbol, and its place.
-#[derive(Debug, Clone, Copy, PartialEq, Eq)]
+#[derive(Clone, Copy)]
 pub(crate) struct Fault {
     pub at: u32,
     pub why: Why,

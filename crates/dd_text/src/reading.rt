@@ -3,7 +3,8 @@ ghost use Rattle.dd_model.specs.Symbol.{Symbol};
 ghost use Rattle.dd_model.specs.Reading.{Reads, IsReadable};
 ghost use Rattle.dd_text.specs.Reader.{cursor_of, IsByteAt};
 ghost use Rattle.dd_text.specs.FileFaults.{IsNextFault, IsFileFault};
-ghost use Rattle.dd_text.specs.Items.{why_of, TextTells, IsFaultOfText, IsFaultAtSymbol, ReadsSymbol, ReadsItem};
+ghost use Rattle.dd_text.specs.Items.{why_of, AreInvolutionsOf, TextTells, IsFaultOfText};
+ghost use Rattle.dd_text.specs.Items.{IsFaultAtSymbol, ReadsSymbol, ReadsItem};
 
 use crate::degrees::degrees;
 use crate::faults::{Fault, FileFault, Why};
@@ -30,6 +31,18 @@ fn why_of(refusal: Refusal) -> Why
     }
 }
 
+/// The involutions of a text.
+fn involutions_of(alloc: Global, text: &SymbolText) -> Result<Involutions, Fault>
+    requires { text.now.size ≤ 1024 }
+    ensures told { IfOk result (λ involutions. AreInvolutionsOf text.now involutions) }
+    ensures why { IfErr result (λ fault. (place : ℕ) → IsFaultOfText text.now place fault) }
+{
+    let s0 = images(alloc, text.size, &text.s0)?;
+    let s1 = images(alloc, text.size, &text.s1)?;
+    let s2 = images(alloc, text.size, &text.s2)?;
+    Ok(Involutions::from_known(alloc, &s0, &s1, &s2)?)
+}
+
 /// The symbol of a text. A refusal has the place of the symbol's `<`.
 fn symbol_of(alloc: Global, text: &SymbolText, at: u32) -> Result<Connected, Fault>
     requires { text.now.size ≤ 1024 }
@@ -37,10 +50,7 @@ fn symbol_of(alloc: Global, text: &SymbolText, at: u32) -> Result<Connected, Fau
     ensures readable { IfOk result (λ symbol. IsReadable symbol) }
     ensures why { IfErr result (λ fault. IsFaultOfText text.now at fault) }
 {
-    let s0 = images(alloc, text.size, &text.s0)?;
-    let s1 = images(alloc, text.size, &text.s1)?;
-    let s2 = images(alloc, text.size, &text.s2)?;
-    let involutions = Involutions::from_known(alloc, &s0, &s1, &s2)?;
+    let involutions = involutions_of(alloc, text)?;
     let m01 = degrees(alloc, &involutions, Pair::Tile, &text.m01)?;
     let m12 = degrees(alloc, &involutions, Pair::Vertex, &text.m12)?;
     match build_on(alloc, involutions, m01, m12) {
