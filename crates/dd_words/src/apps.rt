@@ -1,7 +1,6 @@
-ghost use Rattle.std.specs.Prelude.{◌≡◌, false, cond, IfOk};
-ghost use Rattle.clap.specs.Words.{app_of, rule_of, with_rule};
-ghost use Rattle.dd_words.specs.SettingNames.{has_setting};
-ghost use Rattle.dd_words.specs.Places.{name_of, has_place};
+ghost use Rattle.std.specs.Prelude.{◌≡◌, false, IfOk};
+ghost use Rattle.clap.specs.Words.{app_of, rule_of};
+ghost use Rattle.dd_words.specs.Places.{name_of};
 ghost use Rattle.dd_words.specs.Apps.{place_rule, setting_rule, bare_app, with_places, with_settings, app_for};
 
 use crate::places::Place;
@@ -58,27 +57,12 @@ fn with_places<'a>(
 {
     let mut more = app;
     for place in places {
-        more = with_place(more, alloc, verb, *place)?;
+        if !place.is_of(verb) {
+            continue;
+        }
+        more = more.arg(argument(alloc, *place))?;
     }
     Ok(more)
-}
-
-/// An argument joins the app if the verb has it.
-fn with_place<'a>(
-    app: App<'a>,
-    alloc: Global,
-    verb: Verb,
-    place: Place,
-) -> Result<App<'a>, AllocError>
-    ensures { IfOk result (λ more.
-        app_of more ≡ cond (has_place verb place)
-        (with_rule (app_of app.entry) (place_rule (name_of place))) (app_of app.entry)) }
-{
-    if place.is_of(verb) {
-        app.arg(argument(alloc, place))
-    } else {
-        Ok(app)
-    }
 }
 
 /// No arguments, no help and no version.
@@ -112,27 +96,12 @@ fn with_settings<'a>(
 {
     let mut more = app;
     for setting in settings {
-        more = with_setting(more, alloc, verb, *setting)?;
+        if !setting.is_of(verb) {
+            continue;
+        }
+        more = more.arg(option(alloc, *setting))?;
     }
     Ok(more)
-}
-
-/// A setting joins the app if it is one of the verb.
-fn with_setting<'a>(
-    app: App<'a>,
-    alloc: Global,
-    verb: Verb,
-    setting: Setting,
-) -> Result<App<'a>, AllocError>
-    ensures { IfOk result (λ more.
-        app_of more ≡ cond (has_setting verb setting)
-        (with_rule (app_of app.entry) (setting_rule setting)) (app_of app.entry)) }
-{
-    if setting.is_of(verb) {
-        app.arg(option(alloc, setting))
-    } else {
-        Ok(app)
-    }
 }
 
 /// A setting: an option with a text, or a flag.
