@@ -6,7 +6,7 @@ ghost use Rattle.dd_deques.specs.Hands.{hand_place};
 ghost use Rattle.dd_deques.specs.Places.{IsRack};
 
 use dd_board::Desk;
-use dd_deques::{Hand, Rack};
+use dd_deques::{Hand, Rack, Rest};
 use dd_front::{Naming, Taken, Ticket};
 use dd_model::{Job, Prefix, Request};
 use std::alloc::Global;
@@ -40,6 +40,21 @@ fn push_to<N: Naming>(hands: &mut Vec<Hand<N>>, index: usize, ticket: Ticket<N>)
     hands[index].push(ticket).is_ok()
 }
 
+/// The hand at this index pushes the next ticket of the desk.
+fn push_next<N: Naming, R: Abort>(
+    rt: &R,
+    desk: &mut Desk<N>,
+    hands: &mut Vec<Hand<N>>,
+    index: usize,
+)
+    requires index { index < length hands.old.items }
+    requires rack { IsRack (map hand_place hands.old.items) }
+    ensures rack { IsRack (map hand_place hands.new.items) }
+    ensures count { length hands.new.items ≡ length hands.old.items }
+{
+    assert!(rt; push_to(hands, index, next_ticket(rt, desk)));
+}
+
 /// The entry that the hand at this index pops.
 fn pop_by<N: Naming>(hands: &mut Vec<Hand<N>>, index: usize) -> Option<Ticket<N>>
     requires index { index < length hands.old.items }
@@ -48,6 +63,16 @@ fn pop_by<N: Naming>(hands: &mut Vec<Hand<N>>, index: usize) -> Option<Ticket<N>
     ensures count { length hands.new.items ≡ length hands.old.items }
 {
     hands[index].pop()
+}
+
+/// The hand at this index pops this entry, or none if it is 0.
+fn pops<N: Naming, R: Abort>(rt: &R, hands: &mut Vec<Hand<N>>, index: usize, entry: u64)
+    requires index { index < length hands.old.items }
+    requires rack { IsRack (map hand_place hands.old.items) }
+    ensures rack { IsRack (map hand_place hands.new.items) }
+    ensures count { length hands.new.items ≡ length hands.old.items }
+{
+    assert_eq!(rt; entry_of(pop_by(hands, index)), entry);
 }
 
 /// The entry that the hand at this index steals.
@@ -65,6 +90,27 @@ fn steal_by<N: Naming, R: Wait>(
     hands[index].steal(rt, from)
 }
 
+/// The hand at this index steals this entry, or none if it is 0.
+fn steals<N: Naming, R: Abort + Wait>(
+    rt: &R,
+    hands: &mut Vec<Hand<N>>,
+    index: usize,
+    from: u32,
+    entry: u64,
+)
+    requires index { index < length hands.old.items }
+    requires rack { IsRack (map hand_place hands.old.items) }
+    ensures rack { IsRack (map hand_place hands.new.items) }
+    ensures count { length hands.new.items ≡ length hands.old.items }
+{
+    assert_eq!(rt; entry_of(steal_by(rt, hands, index, from)), entry);
+}
+
+/// This entry is the next that is left in the deques, or none if it is 0.
+fn leaves<N: Naming, R: Abort>(rt: &R, rest: &mut Rest<N>, entry: u64) {
+    assert_eq!(rt; entry_of(rest.next()), entry);
+}
+
 /// Hand 1 pushes the next three tickets of the desk.
 fn push_three<N: Naming, R: Abort>(rt: &R, desk: &mut Desk<N>, hands: &mut Vec<Hand<N>>)
     requires hands { length hands.old.items ≡ 2 }
@@ -72,9 +118,9 @@ fn push_three<N: Naming, R: Abort>(rt: &R, desk: &mut Desk<N>, hands: &mut Vec<H
     ensures rack { IsRack (map hand_place hands.new.items) }
     ensures count { length hands.new.items ≡ 2 }
 {
-    assert!(rt; push_to(hands, 0, next_ticket(rt, desk)));
-    assert!(rt; push_to(hands, 0, next_ticket(rt, desk)));
-    assert!(rt; push_to(hands, 0, next_ticket(rt, desk)));
+    push_next(rt, desk, hands, 0);
+    push_next(rt, desk, hands, 0);
+    push_next(rt, desk, hands, 0);
 }
 
 /// Hand 2 steals the first of three tickets of hand 1, and none of its own. Hand 1 pops the second.
@@ -84,9 +130,9 @@ fn leave_the_third<N: Naming, R: Abort + Wait>(rt: &R, hands: &mut Vec<Hand<N>>)
     ensures rack { IsRack (map hand_place hands.new.items) }
     ensures count { length hands.new.items ≡ 2 }
 {
-    assert_eq!(rt; entry_of(steal_by(rt, hands, 1, 1)), 1);
-    assert_eq!(rt; entry_of(steal_by(rt, hands, 1, 2)), 0);
-    assert_eq!(rt; entry_of(pop_by(hands, 0)), 2);
+    steals(rt, hands, 1, 1, 1);
+    steals(rt, hands, 1, 2, 0);
+    pops(rt, hands, 0, 2);
 }
 
 /// Hand 2 steals the first of three tickets, and hand 1 pops the others, of which it cannot push
@@ -97,10 +143,10 @@ fn leave_none<N: Naming, R: Abort + Wait>(rt: &R, hands: &mut Vec<Hand<N>>)
     ensures rack { IsRack (map hand_place hands.new.items) }
     ensures count { length hands.new.items ≡ 2 }
 {
-    assert_eq!(rt; entry_of(steal_by(rt, hands, 1, 1)), 1);
-    assert_eq!(rt; entry_of(pop_by(hands, 0)), 2);
+    steals(rt, hands, 1, 1, 1);
+    pops(rt, hands, 0, 2);
     let third = pop_by(hands, 0).expect(rt, "a third ticket");
-    assert!(rt; pop_by(hands, 0).is_none());
+    pops(rt, hands, 0, 0);
     assert!(rt; !push_to(hands, 0, third));
 }
 
@@ -111,8 +157,8 @@ fn find_none<N: Naming, R: Abort + Wait>(rt: &R, hands: &mut Vec<Hand<N>>)
     ensures rack { IsRack (map hand_place hands.new.items) }
     ensures count { length hands.new.items ≡ 2 }
 {
-    assert!(rt; steal_by(rt, hands, 1, 1).is_none());
-    assert!(rt; pop_by(hands, 1).is_none());
+    steals(rt, hands, 1, 1, 0);
+    pops(rt, hands, 1, 0);
 }
 
 /// One of three tickets is stolen, one is popped, and the third is left.
@@ -121,8 +167,8 @@ fn left_by_two_hands<N: Naming, R: Abort + Wait>(rt: &R, alloc: Global, desk: &m
     push_three(rt, desk, &mut hands);
     leave_the_third(rt, &mut hands);
     let mut rest = rack.close(hands);
-    assert_eq!(rt; entry_of(rest.next()), 3);
-    assert!(rt; rest.next().is_none());
+    leaves(rt, &mut rest, 3);
+    leaves(rt, &mut rest, 0);
 }
 
 /// A hand that pushed three tickets has no room for one more, though all three are gone.
@@ -131,7 +177,7 @@ fn full_hand<N: Naming, R: Abort + Wait>(rt: &R, alloc: Global, desk: &mut Desk<
     push_three(rt, desk, &mut hands);
     leave_none(rt, &mut hands);
     find_none(rt, &mut hands);
-    assert!(rt; rack.close(hands).next().is_none());
+    leaves(rt, &mut rack.close(hands), 0);
 }
 
 /// Each of three hands pushes the next ticket of the desk.
@@ -141,9 +187,9 @@ fn push_one_each<N: Naming, R: Abort>(rt: &R, desk: &mut Desk<N>, hands: &mut Ve
     ensures rack { IsRack (map hand_place hands.new.items) }
     ensures count { length hands.new.items ≡ 3 }
 {
-    assert!(rt; push_to(hands, 0, next_ticket(rt, desk)));
-    assert!(rt; push_to(hands, 1, next_ticket(rt, desk)));
-    assert!(rt; push_to(hands, 2, next_ticket(rt, desk)));
+    push_next(rt, desk, hands, 0);
+    push_next(rt, desk, hands, 1);
+    push_next(rt, desk, hands, 2);
 }
 
 /// Each of three hands steals from another one, and gets the ticket that the other one pushed.
@@ -153,10 +199,10 @@ fn steal_in_a_ring<N: Naming, R: Abort + Wait>(rt: &R, hands: &mut Vec<Hand<N>>)
     ensures rack { IsRack (map hand_place hands.new.items) }
     ensures count { length hands.new.items ≡ 3 }
 {
-    assert_eq!(rt; entry_of(steal_by(rt, hands, 0, 3)), 3);
-    assert_eq!(rt; entry_of(steal_by(rt, hands, 1, 1)), 1);
-    assert_eq!(rt; entry_of(steal_by(rt, hands, 2, 2)), 2);
-    assert_eq!(rt; entry_of(steal_by(rt, hands, 2, 1)), 0);
+    steals(rt, hands, 0, 3, 3);
+    steals(rt, hands, 1, 1, 1);
+    steals(rt, hands, 2, 2, 2);
+    steals(rt, hands, 2, 1, 0);
 }
 
 /// Each of three tickets is stolen by another hand, and none is left.
@@ -164,7 +210,7 @@ fn stolen_by_three_hands<N: Naming, R: Abort + Wait>(rt: &R, alloc: Global, desk
     let (rack, mut hands) = Rack::open(alloc, 3, 1).expect(rt, "a rack of three hands");
     push_one_each(rt, desk, &mut hands);
     steal_in_a_ring(rt, &mut hands);
-    assert!(rt; rack.close(hands).next().is_none());
+    leaves(rt, &mut rack.close(hands), 0);
 }
 
 /// The job for all tables of a size.
@@ -188,26 +234,35 @@ fn three_jobs<R: Abort>(rt: &R, alloc: Global) -> Vec<Job>
     jobs
 }
 
-/// Both rows, over the desks of a round.
-fn rows<N: Naming, R: Abort + Wait>(
-    rt: &R,
-    alloc: Global,
-    request: Request,
-    jobs: Vec<Job>,
-    again: Vec<Job>,
-)
+/// The row of two hands, over the desk of a round.
+fn row_of_two<N: Naming, R: Abort + Wait>(rt: &R, alloc: Global, request: Request, jobs: Vec<Job>)
     requires request { request ≡ N.request }
     requires jobs { jobs.items ≡ N.jobs }
-    requires again { again.items ≡ N.jobs }
     requires valid { IsValid request }
     requires ascending { AreAscendingJobs jobs.items }
     requires apart { AreApart jobs.items }
     requires all { AreJobsOf request jobs.items }
 {
-    let first = Desk::<N>::open(alloc, request, jobs);
-    left_by_two_hands(rt, alloc, &mut first.expect(rt, "a desk"));
-    let second = Desk::<N>::open(alloc, request, again);
-    full_hand(rt, alloc, &mut second.expect(rt, "another desk"));
+    let desk = Desk::<N>::open(alloc, request, jobs);
+    left_by_two_hands(rt, alloc, &mut desk.expect(rt, "a desk"));
+}
+
+/// The row of a full hand, over the desk of a round.
+fn row_of_full_hand<N: Naming, R: Abort + Wait>(
+    rt: &R,
+    alloc: Global,
+    request: Request,
+    jobs: Vec<Job>,
+)
+    requires request { request ≡ N.request }
+    requires jobs { jobs.items ≡ N.jobs }
+    requires valid { IsValid request }
+    requires ascending { AreAscendingJobs jobs.items }
+    requires apart { AreApart jobs.items }
+    requires all { AreJobsOf request jobs.items }
+{
+    let desk = Desk::<N>::open(alloc, request, jobs);
+    full_hand(rt, alloc, &mut desk.expect(rt, "a desk"));
 }
 
 /// The row of three hands, over the desk of a round.
@@ -231,8 +286,8 @@ fn three_hands_share_a_rack(rt: HostRuntime) {
 
 #[test]
 fn two_hands_share_a_rack(rt: HostRuntime) {
-    let request = Request::up_to(3);
     let jobs = three_jobs(&rt, rt.alloc());
+    row_of_two::<Brand, HostRuntime>(&rt, rt.alloc(), Request::up_to(3), jobs);
     let again = three_jobs(&rt, rt.alloc());
-    rows::<Brand, HostRuntime>(&rt, rt.alloc(), request, jobs, again);
+    row_of_full_hand::<Brand, HostRuntime>(&rt, rt.alloc(), Request::up_to(3), again);
 }
