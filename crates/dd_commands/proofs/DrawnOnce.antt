@@ -25,8 +25,10 @@ use Rattle.dd_commands.specs.declared.refusals.SymbolFault.TheVariants.{TooManyC
 use Rattle.dd_commands.specs.declared.refusals.SymbolRefusal.{SymbolRefusal}
 use Rattle.dd_commands.specs.declared.stop.Stop.{Stop}
 use Rattle.dd_commands.specs.declared.stop.Stop.TheVariants.{Refused, Memory}
-use Rattle.dd_commands.specs.Made.{IsCurved}
-use Rattle.dd_commands.specs.Drawings.{IsTorusNet, IsCell, IsDrawing, AreDrawings, IsWideNet, IsCrowded, IsUndrawn, IsFirstUndrawn}
+use Rattle.dd_commands.specs.declared.drawing.TorusNet.{TorusNet}
+use Rattle.dd_commands.specs.Made.{IsLeastTorus, IsCurved}
+use Rattle.dd_commands.specs.DrawnNets.{IsDrawable, AddsNetDrawing}
+use Rattle.dd_commands.specs.Drawings.{IsTorusNet, IsCell, IsDrawing, AddsDrawing, AreDrawings, IsWideNet, IsCrowded, IsUndrawn, IsFirstUndrawn}
 use Rattle.dd_commands.specs.Stops.{IsStop}
 use Rattle.dd_commands.proofs.MadeOnce.{torus_once}
 use Rattle.dd_commands.proofs.TorusForms.{cover_torus, least_torus, many_vertices}
@@ -115,6 +117,24 @@ pub none_drawn : (shape : Option Frame) (k : ℕ) (ss : List Symbol) (text : Lis
 none_drawn shape k [] text r readable fault is = fault
 none_drawn shape k (s ∷ ss) text r readable (inl here) is = undrawn shape s is.0 r.why readable.0 here.1 is.2
 none_drawn shape k (s ∷ ss) text r readable (inr later) is = none_drawn shape (k + 1) ss is.1 r readable.1 later.1 is.3
+
+-- the drawing of its net draws a symbol
+pub drawing_of_net : (shape : Option Frame) (s : Symbol) (of : TorusNet) (old new : List ℕ) → IsLeastTorus s of.torus → IsDrawable of → AddsNetDrawing shape of old new → AddsDrawing shape s old new
+drawing_of_net shape s of old new least drawable is = record {
+  drawing = document is.frame of.net.edges.items is.points;
+  is_drawing = record {
+    net = of.net;
+    is_net = record { torus = of.torus; least = least; is_net = drawable.net };
+    frame = is.frame;
+    is_cell = is.is_cell;
+    few = drawable.few;
+    narrow = is.narrow;
+    points = is.points;
+    placed = is.placed;
+    is_document = refl;
+  };
+  text = is.text;
+}
 
 -- why a net is not placed is why its symbol is not drawn
 pub stop_of_net : (s : Symbol) (net : Net) (stop : Stop SymbolFault) → IsTorusNet s net → net.vertices ≤ 96 → IsStop (IsWideNet net) stop → IsStop (IsUndrawn s) stop

@@ -1,5 +1,5 @@
 -- How the map of the totals grows by a name.
-use Rattle.std.proofs.Common.{◌≡◌, ℕ, suc, ◌+◌, ◌<◌, Bool, true, false, cond, if◌then◌else◌, List, [], ◌∷◌, ◌++◌, map, take, slice_get, length, append-nil, Option, Some, None, Vec, refl, sym, ap, ◌∙◌, subst, arith}
+use Rattle.std.proofs.Common.{◌≡◌, ℕ, suc, ◌+◌, ◌<◌, Bool, true, false, cond, if◌then◌else◌, List, [], ◌∷◌, ◌++◌, map, take, slice_get, length, append-nil, append_assoc, Option, Some, None, Vec, refl, sym, ap, ◌∙◌, subst, arith}
 use Rattle.std.specs.Global.{Global}
 use Rattle.std.specs.List.{AllByRecursion}
 use Rattle.std.specs.Str.{bytes_eq}
@@ -10,6 +10,7 @@ use Rattle.std.proofs.Math.Seq.{take-suc}
 use Rattle.std.proofs.lemmas.Option.{get_or_from_slice_get, slice_get_within}
 use Rattle.std.proofs.lemmas.Grind.{flat_map-append}
 use Rattle.std.proofs.lemmas.List.Concat.{flat_map-cons}
+use Rattle.dd_draw.proofs.Spots.{three_parts}
 use Rattle.dd_commands.specs.Totals.{counted, total_text}
 
 -- names with their numbers, as the map keeps them
@@ -55,3 +56,10 @@ totals_taken word es i e at =
     ap (λ j. take j es) next ∙ take-suc es i e inside ∙ ap (λ x. take i es ++ x ∷ []) (get_or_from_slice_get es i e e at) in
     let line : total_text word e ≡ flat_map (total_text word) (e ∷ []) = sym (append-nil (total_text word e)) ∙ sym (flat_map-cons (total_text word) e []) in
     ap (λ t. flat_map (total_text word) (take i es) ++ t) line ∙ sym (flat_map-append (total_text word) (take i es) (e ∷ [])) ∙ ap (flat_map (total_text word)) (sym taken)
+
+-- a text of four parts more
+pub four_parts : (old one two three four a b c d : List ℕ) → a ≡ old ++ one → b ≡ a ++ two → c ≡ b ++ three → d ≡ c ++ four
+    → d ≡ old ++ (one ++ (two ++ (three ++ four)))
+four_parts old one two three four a b c d ea eb ec ed =
+    ed ∙ ap (λ t. t ++ four) (three_parts old one two three a b c ea eb ec) ∙ append_assoc old (one ++ (two ++ three)) four
+    ∙ ap (λ t. old ++ t) (append_assoc one (two ++ three) four ∙ ap (λ t. one ++ t) (append_assoc two three four))

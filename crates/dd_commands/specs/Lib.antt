@@ -1,6 +1,7 @@
 pub mod InTurn
 pub mod Made
 pub mod Drawings
+pub mod DrawnNets
 pub mod Facts
 pub mod Totals
 pub mod Info

@@ -7,6 +7,7 @@ ghost use Rattle.dd_draw.specs.Limit.{IsNarrowPoint};
 ghost use Rattle.dd_draw.specs.Placement.{IsPlacement};
 ghost use Rattle.dd_draw.specs.Width.{Place, IsPlaceOf, IsWideAt};
 ghost use Rattle.dd_commands.specs.Drawings.{IsCell, IsWideNet, IsUndrawn, AddsDrawing, AreDrawings, IsFirstUndrawn};
+ghost use Rattle.dd_commands.specs.DrawnNets.{IsDrawable, AddsNetDrawing};
 ghost use Rattle.dd_commands.specs.Made.{IsLeastTorus};
 ghost use Rattle.dd_commands.specs.Stops.{IsStop};
 ghost use Rattle.dd_lattice.specs.NetOf.{IsNet};
@@ -38,10 +39,7 @@ struct TorusNet {
 fn torus_net(alloc: Global, s: &Connected) -> Result<TorusNet, Stop<SymbolFault>>
     requires { IsReadable s.now }
     ensures least { IfOk result (λ of. IsLeastTorus s.now of.torus) }
-    ensures torus { IfOk result (λ of. IsTorus of.torus) }
-    ensures net { IfOk result (λ of. IsNet of.torus of.net) }
-    ensures connected { IfOk result (λ of. IsConnectedNet of.net) }
-    ensures few { IfOk result (λ of. of.net.vertices ≤ 96) }
+    ensures drawable { IfOk result (λ of. IsDrawable of) }
     ensures why { IfErr result (IsStop (IsUndrawn s.now)) }
 {
     let cover = match flat_torus(alloc, s) {
@@ -91,15 +89,29 @@ fn places_of(alloc: Global, net: &Net) -> Result<Places, Stop<SymbolFault>>
 
 /// Returns the cell in which a torus is drawn: one of the shape that is given, or its own.
 fn cell_of(alloc: Global, shape: Option<Frame>, of: &TorusNet) -> Result<Frame, Memory>
-    requires torus { IsTorus of.now.torus }
-    requires net { IsNet of.now.torus of.now.net }
-    requires few { of.now.net.vertices ≤ 96 }
+    requires { IsDrawable of.now }
     ensures { IfOk result (IsCell shape of.now.torus) }
 {
     match shape {
         Some(frame) => Ok(frame),
         None => Ok(own_frame(&gram(alloc, &of.torus, &of.net)?)),
     }
+}
+
+/// Appends the drawing of a torus.
+fn put_net(out: &mut Vec<u8>, shape: Option<Frame>, of: &TorusNet) -> Result<(), Stop<SymbolFault>>
+    requires { IsDrawable of.now }
+    ensures text { OnOk result (AddsNetDrawing shape of.now out.old.items out.new.items) }
+    ensures why { IfErr result (IsStop (IsWideNet of.now.net)) }
+{
+    let alloc = *out.allocator();
+    let places = match places_of(alloc, &of.net) {
+        Ok(places) => places,
+        Err(stop) => return Err(stop),
+    };
+    let frame = cell_of(alloc, shape, of)?;
+    svg(out, &of.net, &places, frame)?;
+    Ok(())
 }
 
 /// Appends the drawing of a symbol.
@@ -112,15 +124,8 @@ fn put_drawing(
     ensures text { OnOk result (AddsDrawing shape s.now out.old.items out.new.items) }
     ensures why { IfErr result (IsStop (IsUndrawn s.now)) }
 {
-    let alloc = *out.allocator();
-    let of = torus_net(alloc, s)?;
-    let places = match places_of(alloc, &of.net) {
-        Ok(places) => places,
-        Err(stop) => return Err(stop),
-    };
-    let frame = cell_of(alloc, shape, &of)?;
-    svg(out, &of.net, &places, frame)?;
-    Ok(())
+    let of = torus_net(*out.allocator(), s)?;
+    put_net(out, shape, &of)
 }
 
 /// The drawings of symbols, one after the other.

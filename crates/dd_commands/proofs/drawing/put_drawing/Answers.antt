@@ -1,30 +1,19 @@
-use Rattle.std.proofs.Common.{refl}
-use Rattle.dd_draw.specs.Document.{document}
-use Rattle.dd_commands.proofs.DrawnOnce.{stop_of_net}
+use Rattle.std.proofs.lemmas.Result.{on_ok_weaker, IfErr-weaker}
+use Rattle.dd_commands.specs.Drawings.{IsWideNet, IsUndrawn}
+use Rattle.dd_commands.specs.Stops.{IsStop}
+use Rattle.dd_commands.proofs.DrawnOnce.{drawing_of_net, stop_of_net}
 use Rattle.dd_commands.proofs.drawing.put_drawing.Goals as goal
-
-pub returns-in-Err-clause-why : goal.returns-in-Err-clause-why
-returns-in-Err-clause-why c =
-    let of = c.in_ok-of.ensures in
-    stop_of_net c.args.s.now c.in_ok-of.of.net c.in-Err.stop (record { torus = c.in_ok-of.of.torus; least = of.least; is_net = of.net }) of.few c.in-Err.ensures.why
 
 pub returns-clause-text : goal.returns-clause-text
 returns-clause-text c =
-    let of = c.in_ok-of.of in
-    let told = c.in_ok-of.ensures in
-    let points = c.in-Ok.places.points.items in
-    record {
-      drawing = document c.in_ok-frame.frame of.net.edges.items points;
-      is_drawing = record {
-        net = of.net;
-        is_net = record { torus = of.torus; least = told.least; is_net = told.net };
-        frame = c.in_ok-frame.frame;
-        is_cell = c.in_ok-frame.ensures;
-        few = told.few;
-        narrow = c.in-Ok.ensures.narrow;
-        points = points;
-        placed = c.in-Ok.ensures.placement;
-        is_document = refl;
-      };
-      text = c.in_ok-svg.ensures.drawing;
-    }
+    let s = c.args.s.now in
+    let of = c.in_ok-of.ensures in
+    on_ok_weaker c.put_net.result (λ told. drawing_of_net c.args.shape s c.in_ok-of.of c.args.out.now.items c.put_net.new.out.items of.least of.drawable told) c.put_net.ensures.text
+
+pub returns-clause-why : goal.returns-clause-why
+returns-clause-why c =
+    let s = c.args.s.now in
+    let net = c.in_ok-of.of.net in
+    let of = c.in_ok-of.ensures in
+    IfErr-weaker c.put_net.result (IsStop (IsWideNet net)) (IsStop (IsUndrawn s))
+    (λ stop. stop_of_net s net stop (record { torus = c.in_ok-of.of.torus; least = of.least; is_net = of.drawable.net }) of.drawable.few) c.put_net.ensures.why

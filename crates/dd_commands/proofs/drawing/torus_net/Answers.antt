@@ -27,11 +27,12 @@ returns-clause-least c = record {
   least = c.in_ok-least_net.ensures.least;
 }
 
-pub returns-clause-few : goal.returns-clause-few
-returns-clause-few c =
+pub returns-clause-drawable : goal.returns-clause-drawable
+returns-clause-drawable c =
     let cells = c.count-count.ensures.exist in
     let count = c.count-count.ensures.cells cells.0 cells.1 in
     let of = c.in_ok-least_net.field-0 in
+    let told = c.in_ok-least_net.ensures in
     let few : c.count-count.result ≤ 96 = omega (arith, c.if-count-gt-MOST_VERTICES.false) in
-    let many = many_vertices c.in-Ok.cover.symbol of.torus of.net cells.0 c.in-Ok.ensures.torus c.in_ok-least_net.ensures.least c.in_ok-least_net.ensures.net cells.1 in
-    omega (arith, many, count, few)
+    let many = many_vertices c.in-Ok.cover.symbol of.torus of.net cells.0 c.in-Ok.ensures.torus told.least told.net cells.1 in
+    record { torus = told.torus; net = told.net; connected = told.connected; few = omega (arith, many, count, few) }

@@ -13,3 +13,6 @@ loop-place-preserved c =
     c.in_ok-put_total.ensures.line ∙ ap (λ t. t ++ line (count.0.now, count.1)) c.loop-place.invariant
     ∙ append_assoc c.args.out.now.items (flat_map line (take i es)) (line (count.0.now, count.1))
     ∙ ap (λ t. c.args.out.now.items ++ t) (totals_taken c.args.word.now es i (count.0.now, count.1) c.entry_at-count.ensures)
+
+pub returns-clause-longer : goal.returns-clause-longer
+returns-clause-longer c = record { rest = _; text = c.loop-place.invariant }
