@@ -102,13 +102,13 @@ info_once ss x y all a b =
     a.whole ∙ ap (λ l. l ++ totals_text a.groups) same.1 ∙ ap (λ gs. b.lines ++ totals_text gs) same.0 ∙ sym b.whole
 
 -- one symbol more is told
-pub told_more : (ss : List Symbol) (text new : List ℕ) (totals : List (List ℕ × ℕ)) (s : Symbol) (g : List ℕ) → IsToldSoFar ss text totals
-    → AddsInfoLine (length ss + 1) s g text new → IsToldSoFar (ss ++ s ∷ []) new (counted totals g)
-told_more ss text new totals s g a b =
+pub told_more : (ss : List Symbol) (text new : List ℕ) (totals after : List (List ℕ × ℕ)) (s : Symbol) → IsToldSoFar ss text totals
+    → AddsInfoLine (length ss + 1) s totals after text new → IsToldSoFar (ss ++ s ∷ []) new after
+told_more ss text new totals after s a b =
     let place : length ss + 1 ≡ 0 + length ss + 1 = omega arith in
     record {
-      groups = a.groups ++ g ∷ [];
-      are_lines = subst (AreInfoLines 0 (ss ++ s ∷ []) (a.groups ++ g ∷ [])) (sym b.text)
-          (lines_more 0 ss a.groups text s g b.line a.are_lines (subst (λ n. IsInfoLine n s g b.line) place b.is_line));
-      counts = ap (λ t. counted t g) a.counts ∙ totals_more a.groups g;
+      groups = a.groups ++ b.group ∷ [];
+      are_lines = subst (AreInfoLines 0 (ss ++ s ∷ []) (a.groups ++ b.group ∷ [])) (sym b.text)
+          (lines_more 0 ss a.groups text s b.group b.line a.are_lines (subst (λ n. IsInfoLine n s b.group b.line) place b.is_line));
+      counts = b.totals ∙ ap (λ t. counted t b.group) a.counts ∙ totals_more a.groups b.group;
     }

@@ -42,10 +42,7 @@ fn torus_net(alloc: Global, s: &Connected) -> Result<TorusNet, Stop<SymbolFault>
     ensures drawable { IfOk result (λ of. IsDrawable of) }
     ensures why { IfErr result (IsStop (IsUndrawn s.now)) }
 {
-    let cover = match flat_torus(alloc, s) {
-        Ok(cover) => cover,
-        Err(stop) => return Err(stop),
-    };
+    let cover = flat_torus(alloc, s)?;
     let count = count(&cover.symbol, Pair::Vertex);
     if count > MOST_VERTICES {
         return Err(Stop::Refused(SymbolFault::TooManyVertices { count }));
@@ -105,10 +102,7 @@ fn put_net(out: &mut Vec<u8>, shape: Option<Frame>, of: &TorusNet) -> Result<(),
     ensures why { IfErr result (IsStop (IsWideNet of.now.net)) }
 {
     let alloc = *out.allocator();
-    let places = match places_of(alloc, &of.net) {
-        Ok(places) => places,
-        Err(stop) => return Err(stop),
-    };
+    let places = places_of(alloc, &of.net)?;
     let frame = cell_of(alloc, shape, of)?;
     svg(out, &of.net, &places, frame)?;
     Ok(())

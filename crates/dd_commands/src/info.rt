@@ -1,7 +1,9 @@
-ghost use Rattle.std.specs.Prelude.{◌≡◌, ◌++◌, ◌+◌, ◌≤◌, length, IfOk, OnOk};
+ghost use Rattle.std.specs.Prelude.{◌≡◌, ◌++◌, ◌+◌, ◌<◌, ◌≤◌, length, IfOk, OnOk};
+ghost use Rattle.std.specs.List.{AllByRecursion};
 ghost use Rattle.dd_commands.specs.Facts.{head_text, tail_text};
 ghost use Rattle.dd_commands.specs.Info.{IsGroup, IsInfo};
 ghost use Rattle.dd_commands.specs.InfoSteps.{AddsInfoLine};
+ghost use Rattle.dd_commands.specs.Totals.{counted_in};
 
 use crate::facts::Facts;
 use crate::totals::Totals;
@@ -18,8 +20,7 @@ pub fn info_of(alloc: Global, symbols: &[Connected]) -> Result<Vec<u8>, Memory>
     let mut text = Vec::new(alloc);
     let mut totals = Totals::new(alloc);
     for (before, symbol) in symbols.iter().enumerate() {
-        let group = put_info_line(&mut text, before + 1, symbol)?;
-        totals.add(group)?;
+        put_info_line(&mut text, &mut totals, before + 1, symbol)?;
     }
     totals.put("total", &mut text)?;
     Ok(text)
@@ -35,9 +36,16 @@ pub fn group_of(alloc: Global, s: &Connected) -> Result<Vec<u8>, Memory>
     Ok(group)
 }
 
-/// Appends the line of number k, and answers the name of the group.
-fn put_info_line(out: &mut Vec<u8>, k: usize, s: &Connected) -> Result<Vec<u8>, Memory>
-    ensures { IfOk result (λ group. AddsInfoLine k s.now group.items out.old.items out.new.items) }
+/// Appends the line of number k, and counts the name of the group.
+fn put_info_line(
+    out: &mut Vec<u8>,
+    totals: &mut Totals,
+    k: usize,
+    s: &Connected,
+) -> Result<(), Memory>
+    requires { AllByRecursion (λ e. e.1 < 1000000000) (counted_in totals.old) }
+    ensures { OnOk result (AddsInfoLine k s.now (counted_in totals.old) (counted_in totals.new)
+        out.old.items out.new.items) }
 {
     let alloc = *out.allocator();
     let facts = Facts::of(alloc, s)?;
@@ -46,5 +54,6 @@ fn put_info_line(out: &mut Vec<u8>, k: usize, s: &Connected) -> Result<Vec<u8>, 
     out.extend_from_slice(head.as_bytes())?;
     out.extend_from_slice(&group)?;
     out.extend_from_slice(facts.tail().as_bytes())?;
-    Ok(group)
+    totals.add(group)?;
+    Ok(())
 }

@@ -40,10 +40,7 @@ fn put_sheets(out: &mut Vec<u8>, k: usize, s: &Connected) -> Result<(), Stop<Sym
     ensures why { IfErr result (IsStop (IsCurved s.now)) }
 {
     let alloc = *out.allocator();
-    let number = match sheets_of_flat(alloc, s) {
-        Ok(number) => number,
-        Err(stop) => return Err(stop),
-    };
+    let number = sheets_of_flat(alloc, s)?;
     put_line(out, k, number)?;
     Ok(())
 }

@@ -162,10 +162,7 @@ fn least_torus(alloc: Global, s: &Connected) -> Result<Connected, Stop<SymbolFau
     ensures torus { IfOk result (λ form. IsLeastTorus s.now form) }
     ensures why { IfErr result (IsStop (IsCurved s.now)) }
 {
-    let cover = match flat_torus(alloc, s) {
-        Ok(cover) => cover,
-        Err(stop) => return Err(stop),
-    };
+    let cover = flat_torus(alloc, s)?;
     Ok(least_form_with(alloc, &cover.symbol, cover.turn.as_slice())?)
 }
 

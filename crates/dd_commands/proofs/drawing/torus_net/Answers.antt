@@ -8,10 +8,10 @@ returns-then-count-gt-MOST_VERTICES-clause-why c =
     inr
     (inl
     (record {
-      flat = c.in-Ok.ensures.flat;
-      cover = c.in-Ok.cover.symbol;
-      below = c.in-Ok.cover.below;
-      is_cover = c.in-Ok.ensures.cover;
+      flat = c.in_ok-cover.ensures.flat;
+      cover = c.in_ok-cover.cover.symbol;
+      below = c.in_ok-cover.cover.below;
+      is_cover = c.in_ok-cover.ensures.cover;
       vertices = cells.0;
       are_vertices = cells.1;
       many = c.count-count.ensures.cells cells.0 cells.1;
@@ -20,10 +20,10 @@ returns-then-count-gt-MOST_VERTICES-clause-why c =
 
 pub returns-clause-least : goal.returns-clause-least
 returns-clause-least c = record {
-  flat = c.in-Ok.ensures.flat;
-  cover = c.in-Ok.cover.symbol;
-  below = c.in-Ok.cover.below;
-  is_cover = c.in-Ok.ensures.cover;
+  flat = c.in_ok-cover.ensures.flat;
+  cover = c.in_ok-cover.cover.symbol;
+  below = c.in_ok-cover.cover.below;
+  is_cover = c.in_ok-cover.ensures.cover;
   least = c.in_ok-least_net.ensures.least;
 }
 
@@ -34,5 +34,5 @@ returns-clause-drawable c =
     let of = c.in_ok-least_net.field-0 in
     let told = c.in_ok-least_net.ensures in
     let few : c.count-count.result ≤ 96 = omega (arith, c.if-count-gt-MOST_VERTICES.false) in
-    let many = many_vertices c.in-Ok.cover.symbol of.torus of.net cells.0 c.in-Ok.ensures.torus told.least told.net cells.1 in
+    let many = many_vertices c.in_ok-cover.cover.symbol of.torus of.net cells.0 c.in_ok-cover.ensures.torus told.least told.net cells.1 in
     record { torus = told.torus; net = told.net; connected = told.connected; few = omega (arith, many, count, few) }
