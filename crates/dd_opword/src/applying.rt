@@ -86,7 +86,8 @@ fn apply_two(
     second: Letter,
     symbol: &Connected,
 ) -> Result<Connected, ApplyFault>
-    ensures { IsMadeBy (composed (table_of_letter first) (table_of_letter second)) symbol.now result }
+    ensures { IsMadeBy (composed (table_of_letter first) (table_of_letter second))
+        symbol.now result }
 {
     match second {
         Letter::Dual => apply_after::<1, 2, 3, 4>(alloc, first, &DUAL, symbol),

@@ -1,7 +1,7 @@
 -- What a verb, its arguments and settings ask for.
-use Rattle.std.proofs.Common.{◌≡◌, ◌≤◌, ◌<◌, ℕ, zero, suc, List, [], ◌∷◌, length, get_or, Option, Some, None, Bool, true, not, Bor, rules, refl, sym, ap, ◌∙◌, subst, arith}
+use Rattle.std.proofs.Common.{◌≡◌, ◌≤◌, ◌<◌, ℕ, zero, suc, ◌+◌, List, [], ◌∷◌, ◌++◌, length, take, get_or, Option, Some, None, Bool, true, not, Bor, rules, refl, sym, ap, ◌∙◌, subst, arith}
 use Rattle.std.specs.Prelude.{IsSome, is_some}
-use Rattle.std.proofs.lemmas.List.{length-map}
+use Rattle.std.proofs.lemmas.List.{length-map, map_more}
 use Rattle.dd_model.specs.declared.requests.Request.{Request}
 use Rattle.dd_model.proofs.Lists.{cons_head, cons_tail}
 use Rattle.dd_jobs.specs.declared.shards.Shard.{Shard}
@@ -160,6 +160,12 @@ pub name_at : (ws : List (Bor Text)) (k : ℕ) (d : Bor Text) → k < length ws 
 name_at [] k d low all = absurd (omega arith)
 name_at (w ∷ ws) zero d low all = all.0
 name_at (w ∷ ws) (suc k) d low all = name_at ws k d (omega arith) all.1
+
+-- one name more
+pub name_more : (ws : List (Bor Text)) (k : ℕ) (d : Bor Text) (old new : List Text) (name : Text) → k < length ws → (get_or ws k d).now ≡ name → new ≡ old ++ name ∷ []
+    → texts (take k ws) ≡ old → texts (take (k + 1) ws) ≡ new
+name_more ws k d old new name low same is before =
+    map_more (λ text. text.now) ws k d low ∙ ap (λ xs. xs ++ (get_or ws k d).now ∷ []) before ∙ ap (λ x. old ++ x ∷ []) same ∙ sym is
 
 pub no_merge : (xs : List Text) (ss : List Given) → ((files : List Text) → AreMerged xs files → ⊥) → (c : Command) → IsReadAs verb.Merge xs ss c → ⊥
 no_merge xs ss none (command.Merge files) h = none files h.said
