@@ -3,6 +3,7 @@ ghost use Rattle.dd_model.specs.Request.{IsValid};
 ghost use Rattle.dd_model.specs.Jobs.{AreAscendingJobs, AreApart};
 ghost use Rattle.dd_front.specs.Absorbed.{ComeFrom};
 ghost use Rattle.dd_board.specs.Desk.{AreJobsOf};
+ghost use Rattle.dd_steal.specs.Rounds.{IsLedgerOf};
 
 use crate::alone::do_alone;
 use crate::crew::{Member, crew_of, seats_of};
@@ -110,16 +111,11 @@ fn open_round<N: Naming, K: Ledger, L: Ledger, S: Ledger, D: Ledger, B: Ledger>(
     requires ascending { AreAscendingJobs jobs.items }
     requires apart { AreApart jobs.items }
     requires all { AreJobsOf request.now jobs.items }
-    requires take { (blanks.take.name ≡ K.name) × (blanks.take.parts ≡ K.parts)
-        × (K.parts ≡ workers) }
-    requires look { (blanks.look.name ≡ L.name) × (blanks.look.parts ≡ L.parts)
-        × (L.parts ≡ workers) }
-    requires split { (blanks.split.name ≡ S.name) × (blanks.split.parts ≡ S.parts)
-        × (S.parts ≡ workers) }
-    requires finish { (blanks.finish.name ≡ D.name) × (blanks.finish.parts ≡ D.parts)
-        × (D.parts ≡ workers) }
-    requires back { (blanks.back.name ≡ B.name) × (blanks.back.parts ≡ B.parts)
-        × (B.parts ≡ workers) }
+    requires take { IsLedgerOf blanks.take K.name K.parts workers }
+    requires look { IsLedgerOf blanks.look L.name L.parts workers }
+    requires split { IsLedgerOf blanks.split S.name S.parts workers }
+    requires finish { IsLedgerOf blanks.finish D.name D.parts workers }
+    requires back { IsLedgerOf blanks.back B.name B.parts workers }
     ensures { IfOk result (λ made. length made.1.items ≡ workers) }
 {
     let room = room_for(jobs.len());
@@ -227,16 +223,11 @@ fn run_named<
     requires ascending { AreAscendingJobs jobs.items }
     requires apart { AreApart jobs.items }
     requires all { AreJobsOf N.request jobs.items }
-    requires take { (blanks.take.name ≡ K.name) × (blanks.take.parts ≡ K.parts)
-        × (K.parts ≡ workers) }
-    requires look { (blanks.look.name ≡ L.name) × (blanks.look.parts ≡ L.parts)
-        × (L.parts ≡ workers) }
-    requires split { (blanks.split.name ≡ S.name) × (blanks.split.parts ≡ S.parts)
-        × (S.parts ≡ workers) }
-    requires finish { (blanks.finish.name ≡ D.name) × (blanks.finish.parts ≡ D.parts)
-        × (D.parts ≡ workers) }
-    requires back { (blanks.back.name ≡ B.name) × (blanks.back.parts ≡ B.parts)
-        × (B.parts ≡ workers) }
+    requires take { IsLedgerOf blanks.take K.name K.parts workers }
+    requires look { IsLedgerOf blanks.look L.name L.parts workers }
+    requires split { IsLedgerOf blanks.split S.name S.parts workers }
+    requires finish { IsLedgerOf blanks.finish D.name D.parts workers }
+    requires back { IsLedgerOf blanks.back B.name B.parts workers }
     ensures request { F.request finder.new ≡ F.request finder.old }
     ensures round { IfOk result (λ entries. ComeFrom N.request N.jobs entries.items) }
 {
