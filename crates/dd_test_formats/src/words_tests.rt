@@ -27,5 +27,15 @@ fn an_empty_name_is_not_taken(rt: HostRuntime) {
 #[test]
 fn the_largest_catalogue_is_taken(rt: HostRuntime) {
     let told = read(&rt, rt.alloc(), &["catalogue", "36"]);
-    assert!(rt; matches!(told, Ok(Command::Catalogue { workers: 1, round: 64, pause: None, .. })));
+    assert!(rt;
+        matches!(
+            told,
+            Ok(Command::Catalogue {
+                workers: 1,
+                round: 64,
+                pause: None,
+                ..
+            })
+        )
+    );
 }
