@@ -14,7 +14,7 @@ ghost use Rattle.dd_board.specs.Calls.{Books, Takes, BooksSplit, BooksFinish, Bo
 ghost use Rattle.dd_board.specs.Calls.{IsNumberWhere, IsOutWith, MaySplitNow};
 
 use crate::copies::copy_of;
-use crate::looking::{has_out_with, place_of_first};
+use crate::out_entries::{has_out_with, place_of_first};
 use dd_front::{Entry, Event, Front, JobList, Members, Naming, Taken, Ticket};
 use dd_model::{Job, Memory, Request};
 use dd_symbol_list::SymbolList;

@@ -7,7 +7,7 @@ mod books;
 mod copies;
 mod counted;
 mod desk;
-mod looking;
+mod out_entries;
 mod seat;
 mod seats;
 mod shares;

@@ -52,7 +52,7 @@ mod catalogue;
 mod chain;
 mod emission;
 mod parts;
-mod resuming;
+mod resumed_jobs;
 mod rounds;
 mod step;
 

@@ -14,7 +14,7 @@ ghost use Rattle.dd_catalogue.specs.Works.{IsStarted, IsLongAsWhole};
 ghost use Rattle.dd_catalogue.specs.Splits.{IsReady, IsGroupDone};
 
 use crate::parts::{split_large, weight_of};
-use crate::resuming::parts_from;
+use crate::resumed_jobs::parts_from;
 use dd_front::{Entry, Finder, Front, State};
 use dd_model::{Job, Memory, Position};
 use dd_pages::{Pace, Run};

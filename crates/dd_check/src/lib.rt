@@ -4,11 +4,13 @@
 
 mod chain_laws;
 mod checkpoint;
+mod checkpoint_reader;
+mod checkpoint_writer;
 mod faults;
 mod items;
 mod kinds;
 mod limits;
-mod line_reading;
+mod line_fields;
 mod lines;
 mod numbers;
 mod parts;
@@ -16,15 +18,13 @@ mod place_rows;
 mod places;
 mod positions;
 mod ranges;
-mod reading;
 mod rows;
 mod runs;
 mod sets;
 mod shard_faults;
-mod shard_reading;
+mod shard_reader;
 mod stops;
 mod text_laws;
-mod writing;
 
 pub use chain_laws::{
     a_begun_chain_makes_a_text, a_begun_chain_writes_a_front, a_chain_is_joined_once,
@@ -32,13 +32,13 @@ pub use chain_laws::{
     a_paused_chain_writes_the_first_lines, the_lines_to_the_end_are_the_text,
 };
 pub use checkpoint::Checkpoint;
+pub use checkpoint_reader::read_checkpoint;
+pub use checkpoint_writer::{write_checkpoint, write_shard};
 pub use faults::CheckFault;
 pub use kinds::Kind;
-pub use reading::read_checkpoint;
 pub use shard_faults::ShardFault;
-pub use shard_reading::read_shard;
+pub use shard_reader::read_shard;
 pub use text_laws::{
     a_checkpoint_has_one_text, a_checkpoint_text_tells_one_checkpoint,
     a_faulty_text_tells_no_checkpoint, a_text_has_one_fault, what_was_written_reads_back,
 };
-pub use writing::{write_checkpoint, write_shard};

@@ -25,7 +25,7 @@ use Rattle.dd_commands.specs.declared.refusals.SymbolFault.TheVariants.{TooManyC
 use Rattle.dd_commands.specs.declared.refusals.SymbolRefusal.{SymbolRefusal}
 use Rattle.dd_commands.specs.declared.stop.Stop.{Stop}
 use Rattle.dd_commands.specs.declared.stop.Stop.TheVariants.{Refused, Memory}
-use Rattle.dd_commands.specs.declared.drawing.TorusNet.{TorusNet}
+use Rattle.dd_commands.specs.declared.drawings.TorusNet.{TorusNet}
 use Rattle.dd_commands.specs.Made.{IsLeastTorus, IsCurved}
 use Rattle.dd_commands.specs.DrawnNets.{IsDrawable, AddsNetDrawing}
 use Rattle.dd_commands.specs.Drawings.{IsTorusNet, IsCell, IsDrawing, AddsDrawing, AreDrawings, IsWideNet, IsCrowded, IsUndrawn, IsFirstUndrawn}

@@ -8,7 +8,7 @@ use Rattle.dd_draw.specs.Document.{document}
 use Rattle.dd_draw.specs.Placement.{IsPlacement}
 use Rattle.dd_draw.specs.Width.{Place, IsPlaceOf, IsWideAt}
 use Rattle.dd_draw.specs.declared.point.Point.{Point}
-use Rattle.dd_commands.specs.declared.drawing.TorusNet.{TorusNet}
+use Rattle.dd_commands.specs.declared.drawings.TorusNet.{TorusNet}
 use Rattle.dd_commands.specs.Drawings.{IsCell}
 
 -- a torus, and its net of at most 96 vertices

@@ -7,7 +7,7 @@ ghost use Rattle.dd_commands.specs.Faults.{IsCommandFault, fault_of_why};
 
 use crate::command_fault::CommandFault;
 use crate::commands::FileCommand;
-use crate::drawing::drawings_of;
+use crate::drawings::drawings_of;
 use crate::info::info_of;
 use crate::refusals::SymbolRefusal;
 use crate::sheet_lines::sheet_lines_of;

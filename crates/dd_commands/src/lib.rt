@@ -3,7 +3,7 @@
 
 mod command_fault;
 mod commands;
-mod drawing;
+mod drawings;
 mod facts;
 mod file_laws;
 mod file_text;

@@ -2,7 +2,7 @@ ghost use Rattle.std.specs.Prelude.{◌↔◌, IfOk, IsTrue};
 ghost use Rattle.dd_model.specs.declared.pair.Pair.{Pair};
 ghost use Rattle.dd_covers.specs.Torus.{IsSmoothAt, IsTorus};
 
-use crate::orienting::is_oriented;
+use crate::oriented_cover::is_oriented;
 use dd_cells::is_flat;
 use dd_model::{Memory, Pair};
 use dd_symbol::{Connected, Symbol};

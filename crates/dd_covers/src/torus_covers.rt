@@ -9,11 +9,11 @@ ghost use Rattle.dd_covers.specs.TorusCover.{IsTorusCoverOf, IsTorusCover};
 ghost use Rattle.dd_covers.specs.TorusFaults.{IsTorusFault};
 
 use crate::cover::Cover;
-use crate::orienting::oriented;
+use crate::oriented_cover::oriented;
 use crate::sheets::cover;
 use crate::torus_faults::TorusFault;
 use crate::torus_shifts::torus_shifts;
-use crate::wanting::greatest_value;
+use crate::wanted_values::greatest_value;
 use dd_cells::{curvature, is_flat};
 use dd_model::{Map, Memory};
 use dd_symbol::Connected;

@@ -6,11 +6,11 @@ ghost use Rattle.dd_covers.specs.Shifts.{AreBelow, AreZeros, shift};
 ghost use Rattle.dd_covers.specs.TorusCover.{AreTorusShifts};
 
 use crate::free_sides::free_sides;
-use crate::growing::joins;
-use crate::settling::settle;
+use crate::growth::joins;
+use crate::settled_shifts::settle;
 use crate::shifts::Shifts;
 use crate::visits::first_visits;
-use crate::wanting::first_wants;
+use crate::wanted_values::first_wants;
 use dd_model::Memory;
 use dd_symbol::{Connected, Symbol};
 use std::alloc::Global;

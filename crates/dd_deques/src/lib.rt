@@ -2,13 +2,13 @@
 //! others.
 #![tactic(auto)]
 
-mod emptying;
+mod drain;
 mod hand;
-mod joining;
+mod joins;
 mod known;
-mod linking;
+mod links;
 mod owner;
-mod owning;
+mod owner_deque;
 mod rack;
 mod rest;
 mod slot;

@@ -4,8 +4,8 @@ ghost use Rattle.dd_deques.specs.Places.{IsRack};
 ghost use Rattle.dd_deques.specs.Rests.{rest_pushed, rest_taken};
 
 use crate::hand::Hand;
-use crate::joining::join_all;
-use crate::linking::{bare_hands, link};
+use crate::joins::join_all;
+use crate::links::{bare_hands, link};
 use crate::rest::Rest;
 use dd_front::Naming;
 use dd_model::Memory;

@@ -2,13 +2,13 @@
 //! together.
 #![tactic(auto)]
 
+mod drive;
 mod driven;
-mod driving;
 mod parts;
-mod running;
+mod runs;
 mod turn;
-mod turning;
+mod turns;
 mod words;
 
+pub use drive::drive;
 pub use driven::Drive;
-pub use driving::drive;

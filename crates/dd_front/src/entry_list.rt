@@ -1,8 +1,8 @@
 ghost use Rattle.std.specs.Prelude.{◌≡◌, ◌≢◌, ◌↔◌, ◌+◌, ◌<◌, ◌≤◌, ◌^◌, length, IsTrue, IfOk, OnOk, OnErr, MatchOption};
 
 use crate::entry::{Entry, State};
-use crate::listing::listed;
-use crate::looking::{first_open, place_near, shut_after};
+use crate::listed::listed;
+use crate::lookups::{first_open, place_near, shut_after};
 use crate::members::Members;
 use dd_model::{Job, Memory};
 use std::alloc::Global;

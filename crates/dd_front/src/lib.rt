@@ -33,22 +33,22 @@
 //! through a run (`IsHeld`) is public, so that a loop that also absorbs rounds can carry it.
 #![tactic(auto)]
 
-mod emitting;
+mod emission;
 mod entry;
 mod entry_list;
 mod event;
 mod finder;
 mod front;
 mod job_list;
-mod joining;
+mod joined_lists;
 mod laws;
-mod listing;
-mod looking;
+mod listed;
+mod lookups;
 mod members;
 mod naming;
 mod opening;
 mod rounds;
-mod saving;
+mod saved;
 mod span;
 mod steps;
 mod ticket;

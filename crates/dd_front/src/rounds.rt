@@ -3,7 +3,7 @@ ghost use Rattle.dd_front.specs.Rounds.{open_jobs};
 
 use crate::entry::Entry;
 use crate::front::Front;
-use crate::joining::join;
+use crate::joined_lists::join;
 use crate::members::Members;
 use dd_model::{Job, Memory};
 use std::alloc::Global;

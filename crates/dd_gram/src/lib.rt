@@ -2,7 +2,7 @@
 #![tactic(auto)]
 
 mod basis;
-mod carrying;
+mod carried;
 mod edge_numbers;
 mod forms;
 mod frames;
@@ -10,10 +10,10 @@ mod grams;
 mod laws;
 mod loops;
 mod matrices;
-mod spreading;
+mod spread;
 mod step;
 
-pub use carrying::carry;
+pub use carried::carry;
 pub use forms::{Gram, Matrix};
 pub use frames::own_frame;
 pub use grams::gram;

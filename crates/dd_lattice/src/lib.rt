@@ -1,10 +1,10 @@
 //! Nets of tori: which edges are tree edges, crossing edges and left, and the shifts.
 #![tactic(auto)]
 
-mod growing;
+mod edge_lists;
+mod growth;
 mod kinds;
 mod laws;
-mod listing;
 mod net;
 mod net_edge;
 mod net_shifts;

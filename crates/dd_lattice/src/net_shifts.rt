@@ -13,9 +13,9 @@ ghost use Rattle.dd_lattice.specs.Nets.{IsConnectedNet};
 ghost use Rattle.dd_lattice.specs.Paths.{shift_by};
 ghost use Rattle.dd_lattice.specs.Shifts.{IsLeftEdge, AreShifts};
 
-use crate::growing::steps_from;
+use crate::edge_lists::{crossing_edges, left_edges, vertex_numbers};
+use crate::growth::steps_from;
 use crate::kinds::{EdgeKind, edge_kinds};
-use crate::listing::{crossing_edges, left_edges, vertex_numbers};
 use crate::net::Net;
 use crate::net_edge::NetEdge;
 use crate::paths::Path;

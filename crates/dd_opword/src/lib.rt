@@ -4,14 +4,14 @@
 //! `apply_word` applies it.
 #![tactic(auto)]
 
-mod applying;
-mod composing;
+mod application;
+mod composition;
 mod laws;
 mod letters;
 mod words;
 
-pub use applying::apply_word;
-pub use composing::compose;
+pub use application::apply_word;
+pub use composition::compose;
 pub use laws::{duals_have_the_same_ambo, tables_compose, texts_spell_one_word};
 pub use letters::Letter;
 pub use words::OpWord;

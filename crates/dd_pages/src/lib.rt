@@ -10,7 +10,7 @@ mod pace;
 mod pages;
 mod part;
 mod run;
-mod saving;
+mod saved;
 
 pub use fault::RunFault;
 pub use finish::Finish;
@@ -18,4 +18,4 @@ pub use limit::{Limit, MOST_LINES};
 pub use pace::Pace;
 pub use pages::Page;
 pub use run::Run;
-pub use saving::{save, save_first};
+pub use saved::{save, save_first};

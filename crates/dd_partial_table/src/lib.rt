@@ -2,8 +2,8 @@
 //! such prefixes.
 #![tactic(auto)]
 
-mod advancing;
-mod collecting;
+mod advance;
+mod collecting_search;
 mod level;
 mod levels;
 mod numbers;
@@ -15,8 +15,8 @@ mod stem;
 mod traversal;
 mod whole_stems;
 
-pub use advancing::{advance, begin, go_back};
-pub use collecting::{CollectingSearch, find};
+pub use advance::{advance, begin, go_back};
+pub use collecting_search::{CollectingSearch, find};
 pub use level::Level;
 pub use levels::Levels;
 pub use prefix_search::PrefixSearch;

@@ -2,17 +2,17 @@
 //! joined.
 #![tactic(auto)]
 
-mod ascending;
 mod doubles;
+mod falls;
 mod laws;
 mod member;
 mod members;
+mod merge;
 mod merge_fault;
-mod merging;
-mod sorting;
+mod sort;
 
 pub use dd_check::{ShardFault, read_shard, write_shard};
 pub use dd_jobs::shard_opening;
 pub use laws::shards_merge_to_the_catalogue;
+pub use merge::merge;
 pub use merge_fault::MergeFault;
-pub use merging::merge;

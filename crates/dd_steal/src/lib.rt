@@ -5,13 +5,13 @@ mod alone;
 mod choice;
 mod crew;
 mod ended;
-mod getting;
+mod next_ticket;
 mod round;
-mod sweeping;
+mod sweep;
 mod worker;
 
 pub use alone::find_each;
 pub use ended::Ended;
 pub use round::run_round;
-pub use sweeping::sweep;
+pub use sweep::sweep;
 pub use worker::work;

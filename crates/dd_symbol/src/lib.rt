@@ -31,7 +31,7 @@
 #![tactic(auto)]
 
 mod before;
-mod building;
+mod build;
 mod cells;
 mod connected;
 mod degrees;
@@ -48,7 +48,7 @@ mod symbol_ref;
 mod table;
 mod walk;
 
-pub use building::{build, build_fitting, build_known, build_on};
+pub use build::{build, build_fitting, build_known, build_on};
 pub use connected::Connected;
 pub use involutions::Involutions;
 pub use kind::Kind;

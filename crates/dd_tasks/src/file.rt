@@ -6,7 +6,7 @@ ghost use Rattle.dd_tasks.specs.Held.{AreFetched, IsTextOfHeld, AppendsFileText}
 ghost use Rattle.dd_tasks.specs.Stops.{IsFetchStop, IsWriteEnding, HasFileCause};
 
 use crate::ending::Ending;
-use crate::fetching::fetch_all;
+use crate::fetch::fetch_all;
 use dd_commands::{FileCommand, text_of_file};
 use dd_ports::{Sink, SinkFault, Store, StoreFault, write_all_of};
 use dd_text::{FileFault, Why};

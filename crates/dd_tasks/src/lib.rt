@@ -3,19 +3,19 @@
 #![tactic(auto)]
 
 mod ending;
-mod fetching;
+mod fetch;
 mod file;
-mod merging;
+mod merge;
+mod messages;
 mod status;
 mod task;
-mod telling;
 mod words;
 
 pub use ending::Ending;
-pub use fetching::{fetch_all, fetch_front};
+pub use fetch::{fetch_all, fetch_front};
 pub use file::{write_file, write_text};
-pub use merging::write_merge;
+pub use merge::write_merge;
+pub use messages::tell;
 pub use status::Status;
 pub use task::Task;
-pub use telling::tell;
 pub use words::read_task;

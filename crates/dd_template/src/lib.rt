@@ -1,10 +1,10 @@
 //! Operations on tilings, given by tables.
 #![tactic(auto)]
 
-mod applying;
+mod apply;
 mod constants;
 mod curvature;
-mod deciding;
+mod decision;
 mod entries;
 mod joined;
 mod lawful;
@@ -15,9 +15,9 @@ mod operations;
 mod tables;
 mod words;
 
-pub use applying::{ApplyFault, apply};
+pub use apply::{ApplyFault, apply};
 pub use constants::{AMBO, CHAMFER, DUAL, TRUNCATE};
-pub use deciding::is_lawful;
+pub use decision::is_lawful;
 pub use laws::{
     ambo_of_triangles, dual_is_lawful, duals_are_made, fractions_are_whole_numbers_of_parts,
     parts_are_met_again, truncated_squares_are_made, words_have_one_reduced_word,

@@ -7,10 +7,10 @@ ghost use Rattle.dd_text.specs.Outline.{HasCells, HasNumber, IsOutlineOf};
 ghost use Rattle.dd_text.specs.Making.{IsBegun, IsFinished, TellsChamber};
 ghost use Rattle.dd_text.specs.Writing.{AddsLine};
 
-use crate::counting::count_up;
 use crate::least::add_least;
+use crate::line_numbers::count_up;
+use crate::line_writer::{put_cells, put_image, put_number, put_ordinal};
 use crate::told_degrees::put_told;
-use crate::writing::{put_cells, put_image, put_number, put_ordinal};
 use dd_model::{Memory, Pair, put_bytes};
 use dd_symbol::Symbol;
 use dd_symbol_list::Listed;

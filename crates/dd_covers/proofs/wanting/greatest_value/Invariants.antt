@@ -1,5 +1,0 @@
-use Rattle.dd_covers.specs.Wanting.{IsGreatestTo}
-use Rattle.dd_covers.proofs.wanting.greatest_value.Given as goal
-
-abbrev pub invariant-loop-j : goal.invariant-loop-j
-invariant-loop-j l = IsGreatestTo l.symbol l.j l.greatest

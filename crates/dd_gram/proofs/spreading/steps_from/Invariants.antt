@@ -1,9 +1,0 @@
-use Rattle.std.proofs.Common.{◌-◌, length}
-use Rattle.dd_gram.proofs.SpreadLemmas.{IsSpread}
-use Rattle.dd_gram.proofs.spreading.steps_from.Given as goal
-
-abbrev pub invariant-loop-step : goal.invariant-loop-step
-invariant-loop-step l = IsSpread l.t l.net l.root l.met.items l.steps.items
-
-abbrev pub decreases-loop-step : goal.decreases-loop-step
-decreases-loop-step l = l.net.vertices - length l.steps.items

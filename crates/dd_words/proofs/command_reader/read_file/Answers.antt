@@ -1,0 +1,27 @@
+use Rattle.std.proofs.Common.{map, Err, refl, sym, ap, subst, length, ◌<◌, ◌≤◌, rules, tests, arith}
+use Rattle.dd_words.specs.Laying.{texts}
+use Rattle.dd_words.specs.Settings.{given_of}
+use Rattle.dd_words.proofs.ReadCommands.{read_as, one_text, no_file, has_count}
+use Rattle.dd_words.specs.declared.verbs.Verb.TheVariants.{File}
+use Rattle.dd_words.proofs.Faults.{same_fault}
+use Rattle.dd_words.specs.Values.{IsName}
+use Rattle.dd_words.proofs.command_reader.read_file.Goals.{in_default-via-then-arguments-lt1, in_default-via-else-arguments-lt1+else-arguments-lt2}
+use Rattle.dd_words.proofs.command_reader.read_file.Goals as goal
+
+pub returns-in_err-file-clause-not_taken : goal.returns-in_err-file-clause-not_taken
+returns-in_err-file-clause-not_taken c failed =
+    no_file c.args.kind (texts c.args.arguments.now) (map given_of c.args.settings.now) _ (one_text c.args.arguments.now _ c.in-len1.len_at_least c.in-len1.len_below)
+    (λ file h. c.in_err-file.ensures.not_taken (ap Err (same_fault c.from_residual.result c.in_err-file.field-0.0 c.from_residual.ensures.1 failed)) (subst IsName (sym h.same) h.is_name))
+
+pub returns-clause-command : goal.returns-clause-command
+returns-clause-command c =
+    read_as (File c.args.kind) _ _ _ _ (one_text c.args.arguments.now _ c.in-len1.len_at_least c.in-len1.len_below) refl
+    (record { same = c.in_ok-file.ensures.same; is_name = c.in_ok-file.ensures.name })
+
+pub returns-in_default-clause-not_taken : goal.returns-in_default-clause-not_taken
+returns-in_default-clause-not_taken c _ d h =
+    let count = has_count (File c.args.kind) c.args.arguments.now _ d h in
+    elim c.in_default.branch [
+      | in_default-via-then-arguments-lt1 w ↦ let few : length c.args.arguments.now < 1 = search (rules, tests) in omega arith
+      | in_default-via-else-arguments-lt1+else-arguments-lt2 w ↦ let many : 2 ≤ length c.args.arguments.now = search (rules, tests) in omega arith
+    ]
