@@ -8,12 +8,12 @@
 
 mod any_branching_laws;
 mod branching;
+mod sheet_count;
 mod sheet_laws;
-mod sheets;
 mod sheets_faults;
 
 pub use any_branching_laws::the_branching_clauses_leave_nothing_out;
 pub use branching::{flat_branching, flat_symbols_have_crystallographic_values};
+pub use sheet_count::sheets;
 pub use sheet_laws::{morphisms_have_sheets, torus_covers_have_the_fewest_sheets};
-pub use sheets::sheets;
 pub use sheets_faults::SheetsFault;

@@ -1,6 +1,7 @@
 //! Exact placement of nets.
 #![tactic(auto)]
 
+mod document;
 mod extent;
 mod first_table;
 mod fractions;
@@ -11,12 +12,11 @@ mod places;
 mod point;
 mod rows;
 mod spot;
-mod svg;
 mod tables;
 
+pub use document::svg;
 pub use laws::{a_connected_net_has_one_placement, a_net_has_one_first_wide_place};
 pub use place_fault::PlaceFault;
 pub use placement::{MOST_VERTICES, place};
 pub use places::Places;
 pub use point::Point;
-pub use svg::svg;

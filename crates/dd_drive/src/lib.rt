@@ -2,13 +2,13 @@
 //! together.
 #![tactic(auto)]
 
-mod drive;
 mod driven;
+mod driver;
 mod parts;
 mod runs;
 mod turn;
 mod turns;
 mod words;
 
-pub use drive::drive;
 pub use driven::Drive;
+pub use driver::drive;

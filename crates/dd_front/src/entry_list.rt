@@ -1,7 +1,7 @@
 ghost use Rattle.std.specs.Prelude.{◌≡◌, ◌≢◌, ◌↔◌, ◌+◌, ◌<◌, ◌≤◌, ◌^◌, length, IsTrue, IfOk, OnOk, OnErr, MatchOption};
 
 use crate::entry::{Entry, State};
-use crate::listed::listed;
+use crate::listed_jobs::listed;
 use crate::lookups::{first_open, place_near, shut_after};
 use crate::members::Members;
 use dd_model::{Job, Memory};

@@ -6,7 +6,7 @@ ghost use Rattle.dd_model.specs.Jobs.{AreAscendingJobs, AreApart};
 use crate::entry::{Entry, State};
 use crate::entry_list::EntryList;
 use crate::event::Event;
-use crate::listed::position_of;
+use crate::listed_jobs::position_of;
 use crate::lookups::first_list;
 use crate::opening::Opening;
 use dd_model::{Job, Memory, Position, Request};

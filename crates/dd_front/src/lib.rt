@@ -42,7 +42,7 @@ mod front;
 mod job_list;
 mod joined_lists;
 mod laws;
-mod listed;
+mod listed_jobs;
 mod lookups;
 mod members;
 mod naming;

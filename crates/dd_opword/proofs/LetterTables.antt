@@ -13,8 +13,8 @@ use Rattle.dd_template.specs.Table.{Table, IsPart, entry}
 use Rattle.dd_template.specs.Entries.{entries}
 use Rattle.dd_template.specs.Lawful.{IsLawful}
 use Rattle.dd_template.specs.Made.{made}
-use Rattle.dd_template.specs.declared.apply.ApplyFault.{ApplyFault}
-use Rattle.dd_template.specs.declared.apply.ApplyFault.TheVariants.{TooManyChambers, Memory}
+use Rattle.dd_template.specs.declared.application.ApplyFault.{ApplyFault}
+use Rattle.dd_template.specs.declared.application.ApplyFault.TheVariants.{TooManyChambers, Memory}
 use Rattle.dd_template.proofs.MadeSymbols.{made_symbol}
 use Rattle.dd_template.proofs.NamedTables.{dual_lawful, operation_lawful}
 use Rattle.dd_opword.specs.declared.letters.Letter.{Letter}

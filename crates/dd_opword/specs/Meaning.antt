@@ -7,8 +7,8 @@ use Rattle.dd_template.specs.Table.{Table}
 use Rattle.dd_template.specs.Applying.{IsFaultOf}
 use Rattle.dd_template.specs.Made.{made}
 use Rattle.dd_template.specs.Named.{dual, ambo, truncate, chamfer}
-use Rattle.dd_template.specs.declared.apply.ApplyFault.{ApplyFault}
-use Rattle.dd_template.specs.declared.apply.ApplyFault.TheVariants.{TooManyChambers, Memory}
+use Rattle.dd_template.specs.declared.application.ApplyFault.{ApplyFault}
+use Rattle.dd_template.specs.declared.application.ApplyFault.TheVariants.{TooManyChambers, Memory}
 use Rattle.dd_opword.specs.declared.letters.Letter.{Letter}
 use Rattle.dd_opword.specs.declared.letters.Letter.TheVariants.{Dual, Ambo, Truncate, Chamfer}
 use Rattle.dd_opword.specs.declared.words.OpWord.{OpWord}

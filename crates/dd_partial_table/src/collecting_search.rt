@@ -2,8 +2,8 @@ ghost use Rattle.std.specs.Prelude.{◌≡◌, ◌*◌, ◌≤◌, OnOk, length}
 ghost use Rattle.dd_jobs.specs.Under.{AreUnder, Appends};
 ghost use Rattle.dd_partial_table.specs.Growth.{HasGrown};
 
-use crate::advance::{advance, begin, go_back};
 use crate::prefix_search::PrefixSearch;
+use crate::search_steps::{advance, begin, go_back};
 use dd_model::Memory;
 use dd_symbol_list::SymbolList;
 

@@ -2,25 +2,25 @@
 //! such prefixes.
 #![tactic(auto)]
 
-mod advance;
 mod collecting_search;
 mod level;
 mod levels;
 mod numbers;
 mod prefix_search;
 mod rows;
+mod search_steps;
 mod sleepers;
 mod starts;
 mod stem;
 mod traversal;
 mod whole_stems;
 
-pub use advance::{advance, begin, go_back};
 pub use collecting_search::{CollectingSearch, find};
 pub use level::Level;
 pub use levels::Levels;
 pub use prefix_search::PrefixSearch;
 pub use rows::{Rows, place_of};
+pub use search_steps::{advance, begin, go_back};
 pub use starts::Starts;
 pub use stem::Stem;
 pub use traversal::{Standing, Visit, stand};

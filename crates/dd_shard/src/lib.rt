@@ -7,12 +7,12 @@ mod falls;
 mod laws;
 mod member;
 mod members;
-mod merge;
 mod merge_fault;
+mod merged_list;
 mod sort;
 
 pub use dd_check::{ShardFault, read_shard, write_shard};
 pub use dd_jobs::shard_opening;
 pub use laws::shards_merge_to_the_catalogue;
-pub use merge::merge;
 pub use merge_fault::MergeFault;
+pub use merged_list::merge;

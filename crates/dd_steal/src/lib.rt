@@ -5,13 +5,13 @@ mod alone;
 mod choice;
 mod crew;
 mod ended;
-mod next_ticket;
+mod last_sweep;
 mod round;
-mod sweep;
+mod ticket_search;
 mod worker;
 
 pub use alone::find_each;
 pub use ended::Ended;
+pub use last_sweep::sweep;
 pub use round::run_round;
-pub use sweep::sweep;
 pub use worker::work;

@@ -7,7 +7,7 @@ ghost use Rattle.dd_steal.specs.Rounds.{IsLedgerOf};
 
 use crate::alone::do_alone;
 use crate::crew::{Member, crew_of, seats_of};
-use crate::sweep::sweep;
+use crate::last_sweep::sweep;
 use crate::worker::work;
 use dd_board::{Blanks, Board, Desk, Seat};
 use dd_deques::{Hand, Rack};

@@ -5,7 +5,7 @@ ghost use Rattle.dd_steal.specs.Worker.{IsLeftWith, IsIdle, held_at_end};
 
 use crate::choice::{is_to_split, is_worth_a_split};
 use crate::ended::Ended;
-use crate::next_ticket::next_ticket;
+use crate::ticket_search::next_ticket;
 use dd_board::{Board, Seat};
 use dd_deques::Hand;
 use dd_front::{Finder, Naming, Ticket};

@@ -31,9 +31,9 @@
 #![tactic(auto)]
 
 mod before;
-mod build;
 mod cells;
 mod connected;
+mod construction;
 mod degrees;
 mod involutions;
 mod kind;
@@ -48,8 +48,8 @@ mod symbol_ref;
 mod table;
 mod walk;
 
-pub use build::{build, build_fitting, build_known, build_on};
 pub use connected::Connected;
+pub use construction::{build, build_fitting, build_known, build_on};
 pub use involutions::Involutions;
 pub use kind::Kind;
 pub use maps::{inverse, is_bijection, item};

@@ -4,8 +4,8 @@ use Rattle.dd_model.specs.Symbol.{Symbol}
 use Rattle.dd_template.specs.Table.{Table}
 use Rattle.dd_template.specs.declared.tables.Degree.{Degree}
 use Rattle.dd_template.specs.declared.tables.Degree.TheVariants.{OfTile, OfVertex, Fixed}
-use Rattle.dd_template.specs.declared.apply.ApplyFault.{ApplyFault}
-use Rattle.dd_template.specs.declared.apply.ApplyFault.TheVariants.{TooManyChambers, Memory}
+use Rattle.dd_template.specs.declared.application.ApplyFault.{ApplyFault}
+use Rattle.dd_template.specs.declared.application.ApplyFault.TheVariants.{TooManyChambers, Memory}
 
 -- A fault: the symbol of n chambers has too many for the parts of the table, or it has not and memory was wanting.
 abbrev pub IsFaultOf : Table → Symbol → ApplyFault → Type 0

@@ -1,7 +1,7 @@
 //! Operations on tilings, given by tables.
 #![tactic(auto)]
 
-mod apply;
+mod application;
 mod constants;
 mod curvature;
 mod decision;
@@ -15,7 +15,7 @@ mod operations;
 mod tables;
 mod words;
 
-pub use apply::{ApplyFault, apply};
+pub use application::{ApplyFault, apply};
 pub use constants::{AMBO, CHAMFER, DUAL, TRUNCATE};
 pub use decision::is_lawful;
 pub use laws::{

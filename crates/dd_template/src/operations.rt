@@ -5,7 +5,7 @@ ghost use Rattle.dd_template.specs.Made.{made};
 ghost use Rattle.dd_template.specs.Named.{table_of_operation};
 ghost use Rattle.dd_template.specs.declared.operations.Operation.{Operation as Named};
 
-use crate::apply::{ApplyFault, apply};
+use crate::application::{ApplyFault, apply};
 use crate::constants::{AMBO, CHAMFER, TRUNCATE};
 use dd_symbol::Connected;
 use std::alloc::Global;

@@ -1,7 +1,0 @@
-use Rattle.std.proofs.Common.{◌≡◌, ◌++◌, take}
-use Rattle.std.specs.List.{flat_map}
-use Rattle.dd_draw.specs.Document.{edge_text}
-use Rattle.dd_draw.proofs.svg.put_edges.Given as goal
-
-abbrev pub invariant-loop-edge : goal.invariant-loop-edge
-invariant-loop-edge l = l.out.items ≡ l.fn.out.items ++ flat_map (edge_text l.frame l.points) (take l.edge-index l.edge-items)
