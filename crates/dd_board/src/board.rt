@@ -79,12 +79,12 @@ impl<N: Naming, K: Ledger, L: Ledger, S: Ledger, D: Ledger, B: Ledger> Board<N, 
     pub fn take<R: Wait>(&self, rt: &R, seat: &mut Seat<K, L, S, D, B>) -> Result<Taken<N>, Memory>
         ensures { CountsTaken seat.old seat.new result }
     {
-        let taken = self.counted.lock(rt).take(seat)?;
-        if matches!(&taken, Taken::Job(_)) {
+        let taken = self.counted.lock(rt).take(seat);
+        if matches!(&taken, Ok(Taken::Job(_))) {
             self.out.fetch_add(1, Ordering::SeqCst);
             self.waiting.fetch_sub(1, Ordering::SeqCst);
         }
-        Ok(taken)
+        taken
     }
 
     /// About how many jobs are open. Nothing rests on it: others may take and split meanwhile.
@@ -126,10 +126,12 @@ impl<N: Naming, K: Ledger, L: Ledger, S: Ledger, D: Ledger, B: Ledger> Board<N, 
         ensures ticket { IfErr result (λ back. back ≡ ticket) }
     {
         let count = jobs.len() as u64;
-        self.counted.lock(rt).split(seat, ticket, jobs)?;
-        self.waiting.fetch_add(count, Ordering::SeqCst);
-        self.out.fetch_sub(1, Ordering::SeqCst);
-        Ok(())
+        let done = self.counted.lock(rt).split(seat, ticket, jobs);
+        if done.is_ok() {
+            self.waiting.fetch_add(count, Ordering::SeqCst);
+            self.out.fetch_sub(1, Ordering::SeqCst);
+        }
+        done
     }
 
     /// Books what was found under the ticket's job. It fails only if an allocation fails, and then
@@ -145,9 +147,11 @@ impl<N: Naming, K: Ledger, L: Ledger, S: Ledger, D: Ledger, B: Ledger> Board<N, 
         ensures counts { CountsFinish seat.old seat.new result }
         ensures ticket { IfErr result (λ back. back ≡ ticket) }
     {
-        self.counted.lock(rt).finish(seat, ticket, list)?;
-        self.out.fetch_sub(1, Ordering::SeqCst);
-        Ok(())
+        let done = self.counted.lock(rt).finish(seat, ticket, list);
+        if done.is_ok() {
+            self.out.fetch_sub(1, Ordering::SeqCst);
+        }
+        done
     }
 
     /// Makes the ticket's entry open again. It fails only if an allocation fails, and then returns
@@ -161,10 +165,12 @@ impl<N: Naming, K: Ledger, L: Ledger, S: Ledger, D: Ledger, B: Ledger> Board<N, 
         ensures counts { CountsBack seat.old seat.new result }
         ensures ticket { IfErr result (λ back. back ≡ ticket) }
     {
-        self.counted.lock(rt).back(seat, ticket)?;
-        self.waiting.fetch_add(1, Ordering::SeqCst);
-        self.out.fetch_sub(1, Ordering::SeqCst);
-        Ok(())
+        let done = self.counted.lock(rt).back(seat, ticket);
+        if done.is_ok() {
+            self.waiting.fetch_add(1, Ordering::SeqCst);
+            self.out.fetch_sub(1, Ordering::SeqCst);
+        }
+        done
     }
 
     /// The desk, for all seats. Its log has as many events of each kind as the seats have

@@ -10,7 +10,7 @@ fn jobs_of(alloc: Global, jobs: &[Job]) -> Result<Vec<Job>, Memory>
 {
     let mut copies = Vec::with_capacity(alloc, jobs.len())?;
     for job in jobs {
-        copies.push(job.try_copy()?)?;
+        copies.push_reserved(job.try_copy()?);
     }
     Ok(copies)
 }

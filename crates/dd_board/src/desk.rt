@@ -1,4 +1,5 @@
 ghost use Rattle.std.specs.Prelude.{◌≡◌, ◌≢◌, ◌⊎◌, ◌+◌, ◌<◌, ◌≤◌, ◌^◌, [], ◌∷◌, IfOk, OnOk, OnErr, IfErr, IfSome, MatchOption};
+ghost use Rattle.std.specs.Prelude.{vec_len, vec_capacity};
 ghost use Rattle.dd_model.specs.Request.{IsValid};
 ghost use Rattle.dd_model.specs.Jobs.{AreAscendingJobs, AreApart, AreMembersUnder, AreChildren, IsJobOf};
 ghost use Rattle.dd_front.specs.declared.event.Event.TheVariants.{Split, Finish, Resume};
@@ -30,7 +31,17 @@ fn front_of(alloc: Global, request: Request, jobs: Vec<Job>) -> Result<Front, Me
     ensures { IfOk result (λ front. IsOpened request jobs.items (first_place jobs.items) 0 front) }
 {
     let place = place_of_first(jobs.as_slice())?;
-    Ok(Front::open(alloc, request, jobs, place, 0)?)
+    Front::open(alloc, request, jobs, place, 0)
+}
+
+/// Returns an equal event, after which a log has room for one event more.
+fn copy_for(alloc: Global, log: &mut Vec<Event>, event: &Event) -> Result<Event, Memory>
+    ensures log { log.new.items ≡ log.old.items }
+    ensures copy { IfOk result (λ copy. copy ≡ event.now) }
+    ensures room { OnOk result (vec_len log.new < vec_capacity log.new) }
+{
+    log.reserve(1)?;
+    copy_of(alloc, event)
 }
 
 /// The front of a round's jobs, beside all events that led to it.
@@ -67,8 +78,7 @@ impl<N: Naming> Desk<N> {
         ensures entries { IfOk result
             (λ desk. desk.machine.entries ≡ open_entries 1 jobs.items) }
     {
-        let mut log = Vec::new(alloc);
-        log.push(Event::Resume)?;
+        let log = vec![in alloc; Event::Resume]?;
         let mut front = front_of(alloc, request, jobs)?;
         front.step(Event::Resume)?;
         Ok(Desk {
@@ -124,8 +134,7 @@ impl<N: Naming> Desk<N> {
         ensures books { OnOk result (Books event self.old self.new) }
         ensures same { OnErr result (self.new ≡ self.old) }
     {
-        self.log.reserve(1)?;
-        let copy = copy_of(self.alloc, &event)?;
+        let copy = copy_for(self.alloc, &mut self.log, &event)?;
         self.front.step(event)?;
         self.log.push_reserved(copy);
         Ok(())

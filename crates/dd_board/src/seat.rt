@@ -1,4 +1,5 @@
 ghost use Rattle.std.specs.Prelude.{◌≡◌};
+ghost use Rattle.dd_board.specs.Shares.{HaveParts};
 
 use crate::shares::Shares;
 use std::sync::ledger::Ledger;
@@ -9,11 +10,7 @@ use std::sync::ledger::Ledger;
 pub struct Seat<K: Ledger, L: Ledger, S: Ledger, D: Ledger, B: Ledger> {
     pub(crate) worker: u32,
     pub(crate) shares: Shares<K, L, S, D, B>,
-    ghost take_part: { shares.take.parts ≡ 1 },
-    ghost look_part: { shares.look.parts ≡ 1 },
-    ghost split_part: { shares.split.parts ≡ 1 },
-    ghost finish_part: { shares.finish.parts ≡ 1 },
-    ghost back_part: { shares.back.parts ≡ 1 },
+    ghost one_part: { HaveParts shares 1 },
 }
 
 impl<K: Ledger, L: Ledger, S: Ledger, D: Ledger, B: Ledger> Seat<K, L, S, D, B> {

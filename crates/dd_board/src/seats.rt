@@ -23,10 +23,10 @@ pub fn seats_of<K: Ledger, L: Ledger, S: Ledger, D: Ledger, B: Ledger>(
 {
     let mut seats = Vec::with_capacity(alloc, count as usize)?;
     for index in 0..count {
-        seats.push(Seat {
+        seats.push_reserved(Seat {
             worker: index + 1,
             shares: shares.one_of_each(),
-        })?;
+        });
     }
     Ok(seats)
 }

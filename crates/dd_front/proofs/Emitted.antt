@@ -10,7 +10,7 @@ use Rattle.dd_front.specs.declared.entry.Entry.{Entry}
 use Rattle.dd_front.specs.Machine.{Machine}
 use Rattle.dd_front.specs.Allowed.{HasFirst, MayPart}
 use Rattle.dd_front.specs.Step.{Emits, EmitsPart, at_symbol}
-use Rattle.dd_front.specs.Taken.{BeginsDone, BeginsNotDone, IsLeft}
+use Rattle.dd_front.specs.Taken.{BeginsDone, BeginsNotDone, IsLeft, HaveSmallCodes, IsPositionIn}
 use Rattle.dd_front.specs.Invariant.{AreInOrder}
 use Rattle.dd_front.proofs.Replaced.{all-map}
 use Rattle.dd_front.proofs.SmallCodes.{small_code}
@@ -57,7 +57,7 @@ left_of f es rest list left k e begins without order valid is =
       list = list;
       first = first_of f es list rest e begins;
       not_before = subst (IsWithout (IsBefore f.from) list) (sym is) without;
-      small = subst (AllByRecursion (λ s. AllByRecursion (λ n. n < 256) (code s))) (sym is) (without_all (IsBefore f.from) (λ s. AllByRecursion (λ n. n < 256) (code s)) list (drop k list) without each);
+      small = subst HaveSmallCodes (sym is) (without_all (IsBefore f.from) (λ s. AllByRecursion (λ n. n < 256) (code s)) list (drop k list) without each);
     }
 
 pub part_room : (f : Machine) (left : List Symbol) (count : ℕ) → IsLeft f left → MayPart f count → count < length left
@@ -85,7 +85,7 @@ parts_from f g left part next count is low read taken after = record {
 }
 
 -- the code of one of them has small numbers
-pub small_at : (left : List Symbol) (i : ℕ) (s : Symbol) → AllByRecursion (λ s. AllByRecursion (λ n. n < 256) (code s)) left → i < length left → s ≡ get_or left i s → AllByRecursion (λ n. n < 256) (code s)
+pub small_at : (left : List Symbol) (i : ℕ) (s : Symbol) → HaveSmallCodes left → i < length left → s ≡ get_or left i s → AllByRecursion (λ n. n < 256) (code s)
 small_at left i s small low read = each_of (λ t. AllByRecursion (λ n. n < 256) (code t)) left s small (i, low, sym read)
 
 -- the same, told of a machine that is equal
@@ -95,12 +95,12 @@ left_where {m} {f} rest list left k same begins without order valid is =
     subst (λ n. IsLeft n left) same (left_of m m.entries rest list left k refl begins without order valid is)
 
 -- a part of what is left, told of machines that are equal
-pub parts_where : {m f g : Machine} (left part : List Symbol) (next : Symbol) (from : Position) (count lines : ℕ) → m ≡ f → IsLeft f left → MayPart f count → next ≡ get_or left count next
-    → part ≡ take count left → from ≡ at_symbol next → lines ≡ m.lines + count → g ≡ record m { from = from; lines = lines } → EmitsPart f count g part
-parts_where {m} {f} {g} left part next from count lines same is may read taken place counted after =
+pub parts_where : {m f g : Machine} (left part : List Symbol) (from : Position) (count lines : ℕ) → m ≡ f → IsLeft f left → MayPart f count → IsPositionIn left count from
+    → part ≡ take count left → lines ≡ m.lines + count → g ≡ record m { from = from; lines = lines } → EmitsPart f count g part
+parts_where {m} {f} {g} left part from count lines same is may at taken counted after =
     let P : Machine → Type 0 = λ n. IsLeft n left → MayPart n count → EmitsPart n count g part in
     let there : P m = λ left_is may_part.
-    let e : g ≡ record m { from = at_symbol next; lines = lines } = subst (λ p. g ≡ record m { from = p; lines = lines }) place after in
-    let e' : g ≡ record m { from = at_symbol next; lines = m.lines + count } = subst (λ n. g ≡ record m { from = at_symbol next; lines = n }) counted e in
-    parts_from m g left part next count left_is (part_room m left count left_is may_part) read taken e' in
+    let e : g ≡ record m { from = at_symbol at.member; lines = lines } = subst (λ p. g ≡ record m { from = p; lines = lines }) at.is after in
+    let e' : g ≡ record m { from = at_symbol at.member; lines = m.lines + count } = subst (λ n. g ≡ record m { from = at_symbol at.member; lines = n }) counted e in
+    parts_from m g left part at.member count left_is (part_room m left count left_is may_part) at.read taken e' in
     subst P same there is may

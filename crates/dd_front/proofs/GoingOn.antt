@@ -46,7 +46,7 @@ go_on_first q jobs at ascending apart = record {
 -- ## Children in the place of a job
 
 -- a member under a job is under one of its children
-under_child : (q : Request) (job : Job) (cs : List Job) (s : Symbol) → AreChildren q job cs → IsMemberUnder q job s → IsUnderOne q cs s
+pub under_child : (q : Request) (job : Job) (cs : List Job) (s : Symbol) → AreChildren q job cs → IsMemberUnder q job s → IsUnderOne q cs s
 under_child q job cs s children under =
     let k = get_or (code s) (length job.prefix) 0 in
     let shorter = children.shorter in

@@ -1,6 +1,7 @@
--- Members of an ascending list that are before a position are its first ones.
-use Rattle.std.proofs.Common.{ℕ, List, [], ◌∷◌, ◌++◌, length, get_or, take, drop, inr, ⊎_elim}
-use Rattle.std.specs.List.{AllByRecursion}
+-- What is left of a list without the members that are before a position. Of an ascending list these are the first ones.
+use Rattle.std.proofs.Common.{◌≡◌, ℕ, Bool, true, false, List, [], ◌∷◌, length, get_or, take, drop, inr, refl, sym, subst, arith}
+use Rattle.std.specs.List.{AllByRecursion, items_where_true}
+use Rattle.std.specs.List.Retain.{IsFiltered, ReturnsInTurn}
 use Rattle.dd_model.specs.Symbol.{Symbol, IsSymbol, IsTable}
 use Rattle.dd_model.specs.Lists.{IsWithout}
 use Rattle.dd_model.specs.Position.{IsBefore}
@@ -20,12 +21,18 @@ pub without_whole : {A : Type 0} (P : A → Type 0) (xs : List A) → AllByRecur
 without_whole P [] all = tt
 without_whole P (x ∷ xs) all = without_first P x xs (drop (length xs) xs) all.0 (without_whole P xs all.1)
 
--- one list after the other
-pub without_append : {A : Type 0} (P : A → Type 0) (xs ys vs ws : List A) → IsWithout P xs ys → IsWithout P vs ws → IsWithout P (xs ++ vs) (ys ++ ws)
-without_append P [] [] vs ws w more = more
-without_append P [] (y ∷ ys) vs ws w more = absurd w
-without_append P (x ∷ xs) [] vs ws w more = without_first P x (xs ++ vs) ws w.0 (without_append P xs [] vs ws w.1 more)
-without_append P (x ∷ xs) (y ∷ ys) vs ws w more = ⊎_elim
-    (λ out. without_first P x (xs ++ vs) (y ∷ (ys ++ ws)) out.0 (without_append P xs (y ∷ ys) vs ws out.1 more))
-    (λ kept. inr (kept.0, kept.1, without_append P xs ys vs ws kept.2 more))
-    w
+-- a test that answers `true` exactly where P does not hold, and stays as it was, leaves those at which it does not
+module _ {A F : Type 0} (R : F → A → Bool → F → Type 0) (P : A → Type 0) (f : F) (h : (x : A) (b : Bool) (g : F) → R f x b g → (b ≡ true → ¬ P x) × (b ≡ false → P x) × (g ≡ f)) where
+  without_told : (bs : List Bool) (q : F) (xs : List A) → length bs ≡ length xs → ReturnsInTurn R f bs xs q → IsWithout P xs (items_where_true bs xs)
+  without_told [] q [] many told = tt
+  without_told [] q (x ∷ xs) many told = cc
+  without_told (b ∷ bs) q [] many told = absurd told
+  without_told (true ∷ bs) q (x ∷ xs) many told =
+      let one = h x true told.0 told.1 in
+      inr (one.0 refl, refl, without_told bs q xs (let m = many in omega arith) (subst (λ g. ReturnsInTurn R g bs xs q) one.2 told.2))
+  without_told (false ∷ bs) q (x ∷ xs) many told =
+      let one = h x false told.0 told.1 in
+      without_first P x xs (items_where_true bs xs) (one.1 refl) (without_told bs q xs (let m = many in omega arith) (subst (λ g. ReturnsInTurn R g bs xs q) one.2 told.2))
+
+  pub without_from_retain : (xs ys : List A) → IsFiltered R f xs ys → IsWithout P xs ys
+  without_from_retain xs ys k = subst (IsWithout P xs) (sym k.4) (without_told k.0 k.1 xs k.2 k.3)

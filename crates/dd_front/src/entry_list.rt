@@ -210,17 +210,12 @@ impl EntryList {
             ((self.new ≡ self.old) × BeginsNotDone self.old)
             (λ list. BeginsDone self.old list self.new) }
     {
-        let first = self.all.get_mut(self.gone)?;
-        match mem::replace(&mut first.state, State::Out) {
-            State::Done(list) => {
-                self.gone += 1;
-                self.shut = self.shut.saturating_sub(1);
-                Some(list)
-            }
-            other => {
-                first.state = other;
-                None
-            }
-        }
+        let State::Done(list) = &mut self.all.get_mut(self.gone)?.state else {
+            return None;
+        };
+        let list = mem::replace(list, Members::none(*list.allocator()));
+        self.gone += 1;
+        self.shut = self.shut.saturating_sub(1);
+        Some(list)
     }
 }

@@ -2,6 +2,7 @@ ghost use Rattle.std.specs.Prelude.{◌≡◌, ◌≢◌, ◌↔◌, IfOk, IsTru
 ghost use Rattle.dd_model.specs.Request.{IsValid};
 ghost use Rattle.dd_model.specs.Position.{IsPosition};
 ghost use Rattle.dd_model.specs.Jobs.{AreAscendingJobs, AreApart};
+ghost use Rattle.dd_front.specs.Machine.{StandsAt, open_entries};
 
 use crate::entry::{Entry, State};
 use crate::entry_list::EntryList;
@@ -50,8 +51,25 @@ impl Model for Front {
     ghost invariant = { λ a. IsFront a.request a.opening a.next a.entries };
 }
 
+/// Returns the jobs as an opening, open entries of them, and the position of a front with these
+/// entries that continues from `from`.
+fn begun(
+    alloc: Global,
+    jobs: Vec<Job>,
+    from: &Position,
+) -> Result<(Opening, EntryList, Position), Memory>
+    ensures opening { IfOk result (λ made. made.0 ≡ jobs.items) }
+    ensures entries { IfOk result (λ made. made.1 ≡ open_entries 1 jobs.items) }
+    ensures position { IfOk result (λ made. StandsAt from.now made.1 made.2) }
+{
+    let opening = Opening::of(alloc, &jobs)?;
+    let entries = EntryList::of_jobs(alloc, jobs)?;
+    let position = position_of(entries.as_slice(), from)?;
+    Ok((opening, entries, position))
+}
+
 impl Front {
-    ghost use Rattle.dd_front.specs.Machine.{IsOpened, StandsAt};
+    ghost use Rattle.dd_front.specs.Machine.{IsOpened};
     ghost use Rattle.std.specs.List.{AllByRecursion};
     ghost use Rattle.dd_front.specs.Allowed.{HasState, IsPermitted};
     ghost use Rattle.dd_front.specs.Places.{HasNoneOf, IsEntryOf};
@@ -73,9 +91,7 @@ impl Front {
         ensures { IfOk result (λ front. IsOpened request jobs.items from lines front) }
     {
         let next = jobs.len() as u64 + 1;
-        let opening = Opening::of(alloc, &jobs)?;
-        let entries = EntryList::of_jobs(alloc, jobs)?;
-        let position = position_of(entries.as_slice(), &from)?;
+        let (opening, entries, position) = begun(alloc, jobs, &from)?;
         Ok(Front {
             alloc,
             request,

@@ -61,9 +61,10 @@ impl Members {
         if list.len() == 0 {
             return Ok(Members::none(alloc));
         }
-        let mut spans = Vec::with_capacity(alloc, 1)?;
-        spans.push(Span::new(alloc, list)?)?;
-        Ok(Members { spans })
+        let span = Span::new(alloc, list)?;
+        Ok(Members {
+            spans: vec![in alloc; span]?,
+        })
     }
 
     /// A further owner of the same members.
@@ -72,7 +73,7 @@ impl Members {
     {
         let mut spans = Vec::with_capacity(*self.spans.allocator(), self.spans.len())?;
         for span in &self.spans {
-            spans.push(span.share()?)?;
+            spans.push_reserved(span.share()?);
         }
         Ok(Members { spans })
     }
@@ -124,6 +125,10 @@ impl Members {
         requires { count ≤ length self.old }
         ensures { self.new ≡ drop count self.old }
     {
+        // Most lists are emitted whole.
+        if count == 0 {
+            return;
+        }
         let (k, rest) = cut(&self.spans, count);
         let _ = self.spans.drain(..k);
         if rest > 0 {

@@ -4,21 +4,7 @@ ghost use Rattle.dd_model.specs.Position.{IsWhollyBefore};
 
 use crate::entry_list::EntryList;
 use crate::front::Front;
-use dd_model::{Job, Memory, Position};
-use std::alloc::Global;
-
-/// Copies of the jobs that are not wholly before a position.
-fn copies_from(alloc: Global, jobs: &[Job], at: &Position) -> Result<Vec<Job>, Memory>
-    ensures { IfOk result (λ copies. IsWithout (IsWhollyBefore at.now) jobs.now copies.items) }
-{
-    let mut copies = Vec::new(alloc);
-    for job in jobs {
-        if !job.is_wholly_before(at) {
-            copies.push(job.try_copy()?)?;
-        }
-    }
-    Ok(copies)
-}
+use dd_model::{Job, Memory};
 
 impl Front {
     ghost use Rattle.dd_front.specs.Step.{Saves, Resumes};
@@ -28,10 +14,19 @@ impl Front {
         ensures saves { OnOk result (Saves self.old self.new) }
         ensures same { OnErr result (self.new ≡ self.old) }
     {
-        let position = self.position()?;
+        self.saved_position = self.position()?;
         self.saved_lines = self.lines;
-        self.saved_position = position;
         Ok(())
+    }
+
+    /// Returns copies of the opening's jobs that are not wholly before the saved position.
+    fn saved_jobs(&self) -> Result<Vec<Job>, Memory>
+        ensures { IfOk result (λ jobs. IsWithout (IsWhollyBefore self.now.saved.position)
+            self.now.opening jobs.items) }
+    {
+        let mut jobs = self.opening.jobs(self.alloc)?;
+        jobs.retain(|job| !job.is_wholly_before(&self.saved_position));
+        Ok(jobs)
     }
 
     /// Goes back to what was kept.
@@ -40,12 +35,10 @@ impl Front {
         ensures same { OnErr result (self.new ≡ self.old) }
     {
         let from = self.saved_position.try_copy()?;
-        let opening = self.opening.jobs(self.alloc)?;
-        let jobs = copies_from(self.alloc, &opening, &from)?;
+        let jobs = self.saved_jobs()?;
         let next = jobs.len() as u64 + 1;
-        let entries = EntryList::of_jobs(self.alloc, jobs)?;
+        self.entries = EntryList::of_jobs(self.alloc, jobs)?;
         self.from = from;
-        self.entries = entries;
         self.next = next;
         self.lines = self.saved_lines;
         Ok(())

@@ -25,7 +25,7 @@ impl Front {
         match event {
             Event::Take { entry, .. } => self.set_state(entry, State::Out),
             Event::Look { .. } => {}
-            Event::Split { entry, jobs, .. } => self.split(entry, jobs)?,
+            Event::Split { entry, jobs, .. } => return self.split(entry, jobs),
             Event::Finish { entry, list, .. } => self.set_state(entry, State::Done(list)),
             Event::Back { entry, .. } => self.set_state(entry, State::Open),
             Event::Emit => {
@@ -34,8 +34,8 @@ impl Front {
             Event::Part { count } => {
                 let _ = self.part(count)?;
             }
-            Event::Save => self.save()?,
-            Event::Resume => self.resume()?,
+            Event::Save => return self.save(),
+            Event::Resume => return self.resume(),
         }
         Ok(())
     }

@@ -44,11 +44,11 @@ pub(crate) fn do_alone<F: Finder, G: Gate>(
         let number = entries.len() as u64 + 1;
         gate.enter(1, number);
         let members = members_under(alloc, finder, &job)?;
-        entries.push(Entry {
+        entries.push_reserved(Entry {
             number,
             job,
             state: State::Done(members),
-        })?;
+        });
     }
     Ok(entries)
 }
@@ -73,7 +73,7 @@ pub fn find_each<F: Finder, G: Gate>(
     let mut lists = Vec::with_capacity(alloc, entries.len())?;
     for entry in entries {
         gate.enter(1, lists.len() as u64 + 1);
-        lists.push(members_under(alloc, finder, &entry.job)?)?;
+        lists.push_reserved(members_under(alloc, finder, &entry.job)?);
     }
     Ok(lists)
 }

@@ -32,7 +32,7 @@ pub fn seats_of<S: Drop, H: Drop>(alloc: Global, crew: Vec<Member<S, H>>) -> Res
 {
     let mut seats = Vec::with_capacity(alloc, crew.len())?;
     for member in crew {
-        seats.push(member.seat)?;
+        seats.push_reserved(member.seat);
     }
     Ok(seats)
 }

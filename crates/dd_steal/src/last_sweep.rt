@@ -28,7 +28,7 @@ pub fn sweep<N: Naming, F: Finder>(
     Ok(())
 }
 
-// The first entry that is out.
+/// Returns the first entry that is out.
 fn first_out(entries: &[Entry]) -> Option<&Entry>
     ensures { MatchOption result (IsNoneOut entries.now)
         (λ entry. Contains entries.now entry.now × (entry.now.state ≡ Out)) }
@@ -36,7 +36,7 @@ fn first_out(entries: &[Entry]) -> Option<&Entry>
     entries.iter().find(|entry| entry.state.is_out())
 }
 
-// Makes every entry open again that is out.
+/// Makes every entry open again that is out.
 fn give_back<N: Naming>(desk: &mut Desk<N>) -> Result<(), Memory>
     ensures none { OnOk result (IsNoneOut desk.new.machine.entries) }
     ensures swept { IsSwept desk.old.log desk.new.log }
@@ -48,7 +48,7 @@ fn give_back<N: Naming>(desk: &mut Desk<N>) -> Result<(), Memory>
     Ok(())
 }
 
-// Books what was found, as worker 1.
+/// Books what was found, as worker 1.
 fn finish_as_first<N: Naming>(
     desk: &mut Desk<N>,
     ticket: Ticket<N>,
@@ -62,7 +62,7 @@ fn finish_as_first<N: Naming>(
     desk.finish(1, ticket, list).map_err(|_| Memory)
 }
 
-// Does the first job that is open, and answers whether there was one.
+/// Does the first job that is open, and returns whether there was one.
 fn do_next<N: Naming, F: Finder>(
     alloc: Global,
     finder: &mut F,

@@ -90,7 +90,8 @@ pub fn run_round<R: Threads + Wait + Sync, F: Finder + Sync, G: Gate + Sync>(
     )
 }
 
-// The board of a round and ledgers that have names, and its workers, each with a deque for a ticket of each job.
+/// Returns the board of a round and ledgers that have names, and its workers. Each worker has a
+/// deque with room for a ticket of each job.
 fn open_round<N: Naming, K: Ledger, L: Ledger, S: Ledger, D: Ledger, B: Ledger>(
     alloc: Global,
     request: &Request,
@@ -125,7 +126,7 @@ fn open_round<N: Naming, K: Ledger, L: Ledger, S: Ledger, D: Ledger, B: Ledger>(
     Ok((board, crew))
 }
 
-// Has each worker of a round work at its board, on a thread of its own.
+/// Has each worker of a round work at its board, on a thread of its own.
 fn work_at_once<
     N: Naming + Send + Sync,
     K: Ledger + Send + Sync,
@@ -163,7 +164,7 @@ fn work_at_once<
     );
 }
 
-// Does what is left at a desk, on this thread. Returns the entries of the round.
+/// Does what is left at a desk, on this thread. Returns the entries of the round.
 fn close_desk<N: Naming, F: Finder>(
     alloc: Global,
     finder: &mut F,
@@ -177,7 +178,7 @@ fn close_desk<N: Naming, F: Finder>(
     Ok(desk.into_entries())
 }
 
-// Does what the workers of a round left, on this thread. Returns the entries of the round.
+/// Does what the workers of a round left, on this thread. Returns the entries of the round.
 fn close_round<N: Naming, K: Ledger, L: Ledger, S: Ledger, D: Ledger, B: Ledger, F: Finder>(
     alloc: Global,
     finder: &mut F,
@@ -196,7 +197,7 @@ fn close_round<N: Naming, K: Ledger, L: Ledger, S: Ledger, D: Ledger, B: Ledger,
     close_desk(alloc, finder, board.close(seats))
 }
 
-// Does the jobs of a round and ledgers that have names.
+/// Does the jobs of a round and ledgers that have names.
 fn run_named<
     N: Naming + Send + Sync,
     K: Ledger + Send + Sync,

@@ -17,7 +17,7 @@ const LOOKS: u32 = 2000;
 /// How often it looks at all: some seconds.
 const MOST_LOOKS: u32 = 100_000_000;
 
-// A ticket of another worker's deque: the others are asked in turn.
+/// Returns a ticket of another worker's deque: the others are asked in turn.
 fn steal_one<N: Naming, R: Wait>(rt: &R, hand: &mut Hand<N>) -> Option<Ticket<N>>
     ensures stolen { hand_stolen hand.new ≡ hand_stolen hand.old + held_by result }
     ensures popped { hand_popped hand.new ≡ hand_popped hand.old }
@@ -35,8 +35,8 @@ fn steal_one<N: Naming, R: Wait>(rt: &R, hand: &mut Hand<N>) -> Option<Ticket<N>
     None
 }
 
-// Takes a job ahead and puts it into the deque, if the worker is to take one and more jobs wait than
-// there are other workers. Returns the ticket only if the deque has no room for it.
+/// Takes a job ahead and puts it into the deque, if the worker is to take one and more jobs wait
+/// than there are other workers. Returns the ticket only if the deque has no room for it.
 fn take_ahead<N: Naming, K: Ledger, L: Ledger, S: Ledger, D: Ledger, B: Ledger, R: Wait>(
     rt: &R,
     board: &Board<N, K, L, S, D, B>,
@@ -58,8 +58,8 @@ fn take_ahead<N: Naming, K: Ledger, L: Ledger, S: Ledger, D: Ledger, B: Ledger, 
     }
 }
 
-// Waits for an open job while another worker is just splitting one, and a moment longer. Where no job is out none can come, and a
-// worker that is alone does not wait.
+/// Waits for an open job while another worker is just splitting one, and a moment longer. If no job
+/// is out, none can come. A worker without others does not wait.
 fn wait_for_jobs<N: Naming, K: Ledger, L: Ledger, S: Ledger, D: Ledger, B: Ledger>(
     board: &Board<N, K, L, S, D, B>,
     others: usize,
@@ -77,7 +77,8 @@ fn wait_for_jobs<N: Naming, K: Ledger, L: Ledger, S: Ledger, D: Ledger, B: Ledge
     }
 }
 
-// A ticket of another worker's deque, if no job is open. If there is none either, waits for jobs.
+/// Returns a ticket of another worker's deque, if no job is open. If there is none either, waits
+/// for jobs.
 fn steal_or_wait<N: Naming, K: Ledger, L: Ledger, S: Ledger, D: Ledger, B: Ledger, R: Wait>(
     rt: &R,
     board: &Board<N, K, L, S, D, B>,

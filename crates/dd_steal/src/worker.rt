@@ -14,7 +14,8 @@ use std::alloc::Global;
 use std::sync::Wait;
 use std::sync::ledger::Ledger;
 
-// Splits a job, and answers its ticket where that is not worth it. `Err` comes for want of memory alone, and has the ticket.
+/// Splits a job, or returns its ticket if that is not worth it. It fails only if an allocation
+/// fails, and then returns the ticket.
 fn split_job<N: Naming, K: Ledger, L: Ledger, S: Ledger, D: Ledger, B: Ledger, R: Wait, F: Finder>(
     rt: &R,
     alloc: Global,
@@ -41,7 +42,7 @@ fn split_job<N: Naming, K: Ledger, L: Ledger, S: Ledger, D: Ledger, B: Ledger, R
     }
 }
 
-// Finds what is under a job. `Err` comes for want of memory alone, and has the ticket.
+/// Finds what is under a job. It fails only if an allocation fails, and then returns the ticket.
 fn find_job<N: Naming, K: Ledger, L: Ledger, S: Ledger, D: Ledger, B: Ledger, R: Wait, F: Finder>(
     rt: &R,
     alloc: Global,
@@ -61,7 +62,8 @@ fn find_job<N: Naming, K: Ledger, L: Ledger, S: Ledger, D: Ledger, B: Ledger, R:
     }
 }
 
-// Does a job: finds what is under it, or splits it. `Err` comes for want of memory alone, and has the ticket.
+/// Does a job: finds what is under it, or splits it. It fails only if an allocation fails, and then
+/// returns the ticket.
 fn do_job<N: Naming, K: Ledger, L: Ledger, S: Ledger, D: Ledger, B: Ledger, R: Wait, F: Finder>(
     rt: &R,
     alloc: Global,

@@ -7,11 +7,11 @@ loop-seats-init g c =
     let seat = c.remove-shares.result in
     let removed = c.remove-shares.ensures in
     let fewer = without_first c.args.seats.items c.remove-shares.new.self.items seat c.requires removed.value removed.items in (
-      omega (arith, seat.take_part, removed.len),
-      omega (arith, seat.look_part, removed.len),
-      omega (arith, seat.split_part, removed.len),
-      omega (arith, seat.finish_part, removed.len),
-      omega (arith, seat.back_part, removed.len),
+      omega (arith, seat.one_part.0, removed.len),
+      omega (arith, seat.one_part.1, removed.len),
+      omega (arith, seat.one_part.2, removed.len),
+      omega (arith, seat.one_part.3, removed.len),
+      omega (arith, seat.one_part.4, removed.len),
       omega (arith, fewer.0),
       omega (arith, fewer.1),
       omega (arith, fewer.2),
@@ -27,11 +27,11 @@ loop-seats-preserved g c =
     let removed = c.remove-more.ensures in
     let some : 0 < length c.loop-seats.seats.items = search rules in
     let fewer = without_first c.loop-seats.seats.items c.remove-more.new.self.items seat some removed.value removed.items in (
-      omega (arith, before.0, merged.0.0, seat.take_part, removed.len),
-      omega (arith, before.1, merged.1.0, seat.look_part, removed.len),
-      omega (arith, before.2, merged.2.0, seat.split_part, removed.len),
-      omega (arith, before.3, merged.3.0, seat.finish_part, removed.len),
-      omega (arith, before.4, merged.4.0, seat.back_part, removed.len),
+      omega (arith, before.0, merged.0.0, seat.one_part.0, removed.len),
+      omega (arith, before.1, merged.1.0, seat.one_part.1, removed.len),
+      omega (arith, before.2, merged.2.0, seat.one_part.2, removed.len),
+      omega (arith, before.3, merged.3.0, seat.one_part.3, removed.len),
+      omega (arith, before.4, merged.4.0, seat.one_part.4, removed.len),
       omega (arith, before.5, merged.0.1, fewer.0),
       omega (arith, before.6, merged.1.1, fewer.1),
       omega (arith, before.7, merged.2.1, fewer.2),

@@ -1,4 +1,4 @@
-use Rattle.std.proofs.Common.{◌≡◌, ◌+◌, length, map}
+use Rattle.std.proofs.Common.{◌≡◌, ◌+◌, ◌≤◌, length, map, vec_capacity}
 use Rattle.dd_model.specs.Code.{count_from}
 use Rattle.dd_board.specs.Shares.{HaveAmounts}
 use Rattle.dd_board.specs.Seats.{HaveSums}
@@ -10,4 +10,4 @@ invariant-loop-index g l =
     (l.shares.take.parts + l.index ≡ l.fn.count) × (l.shares.look.parts + l.index ≡ l.fn.count) × (l.shares.split.parts + l.index ≡ l.fn.count)
     × (l.shares.finish.parts + l.index ≡ l.fn.count) × (l.shares.back.parts + l.index ≡ l.fn.count)
     × HaveAmounts l.shares 0 0 0 0 0 × (length l.seats.items ≡ l.index) × (map (λ s. s.worker) l.seats.items ≡ count_from 1 l.index)
-    × HaveSums l.seats.items 0 0 0 0 0
+    × HaveSums l.seats.items 0 0 0 0 0 × (l.fn.count ≤ vec_capacity l.seats)

@@ -15,7 +15,7 @@ pub loop-job-init : goal.loop-job-init
 loop-job-init g c =
     let none : c.in_ok-entries.entries.items ≡ [] = c.in_ok-entries.ensures.items in
     let gives = c.into_iter-job-iterator.ensures.into_iter_gives in
-    record { whole = gives.0; left = omega (arith, ap length gives.0, gives.1, c.args.jobs.ok.0); jobs = ap jobs_of none; request = refl; found = subst (All (IsFound (g.F.Finder.request c.args.finder.now))) (sym none) (All-nil (IsFound (g.F.Finder.request c.args.finder.now))) }
+    record { whole = gives.0; left = omega (arith, ap length gives.0, gives.1, c.args.jobs.ok.0); jobs = ap jobs_of none; request = refl; room = search rules; found = subst (All (IsFound (g.F.Finder.request c.args.finder.now))) (sym none) (All-nil (IsFound (g.F.Finder.request c.args.finder.now))) }
 
 pub loop-job-preserved : goal.loop-job-preserved
 loop-job-preserved g c =
@@ -23,13 +23,14 @@ loop-job-preserved g c =
     let q = g.F.Finder.request c.args.finder.now in
     let job = c.in-Some.job in
     let entry = entry_of (c.len-in-loop-job.result + 1) job (Done c.in_ok-members.members) in
-    let longer : c.push.new.self.items ≡ c.loop-job.entries.items ++ entry ∷ [] = c.in_ok-push.ensures.items in
+    let longer : c.push_reserved.new.self.items ≡ c.loop-job.entries.items ++ entry ∷ [] = c.push_reserved.ensures.items in
     let under = subst (λ r. AreMembersUnder r job c.in_ok-members.members) i.request c.in_ok-members.ensures.under in
     record {
       whole = append_assoc c.loop-job.yielded (job ∷ []) (into_iter_items c.next.new.self) ∙ ap (λ rest. c.loop-job.yielded ++ rest) (sym c.in-Some.ensures.steps.0) ∙ i.whole;
       left = omega (arith, i.left, ap length c.in-Some.ensures.steps.0, c.in-Some.ensures.steps.1);
       jobs = ap jobs_of longer ∙ map_push (λ (e : Entry). e.job) c.loop-job.entries.items entry ∙ ap (λ js. js ++ job ∷ []) i.jobs;
       request = c.members_under.ensures.request ∙ i.request;
+      room = search rules;
       found = subst (All (IsFound q)) (sym longer) (All-push (IsFound q) c.loop-job.entries.items entry i.found
           (record { list = c.in_ok-members.members; done = search rules; under = under }));
     }

@@ -1,4 +1,4 @@
-use Rattle.std.proofs.Common.{◌≡◌, ◌+◌, ◌++◌, ◌∷◌, [], length, take, sym, ap, ◌∙◌, subst, arith}
+use Rattle.std.proofs.Common.{rules, ◌≡◌, ◌+◌, ◌++◌, ◌∷◌, [], length, take, sym, ap, ◌∙◌, subst, arith}
 use Rattle.std.proofs.lemmas.List.{length_push, take_all}
 use Rattle.std.specs.List.{AllByRecursion}
 use Rattle.dd_model.specs.Jobs.{AreMembersUnder, IsJobOf}
@@ -25,10 +25,11 @@ loop-entry-preserved g c =
     let low = c.loop-entry-test.true in
     let list = c.in_ok-members_under.field-0 in
     let lists = c.loop-entry.lists.items in
-    let longer : c.push.new.self.items ≡ lists ++ list ∷ [] = c.in_ok-push.ensures.items in
+    let longer : c.push_reserved.new.self.items ≡ lists ++ list ∷ [] = c.push_reserved.ensures.items in
     let under = subst (λ r. AreMembersUnder r e.job list) i.request c.in_ok-members_under.ensures.under in
     record {
       long = ap length longer ∙ length_push lists list ∙ omega (arith, i.long);
+      room = search rules;
       request = c.members_under.ensures.request ∙ i.request;
       found = subst (λ ls. AllByRecursion (IsFound q) (done_with ls (take (at + 1) es))) (sym longer)
           (found_push q lists list es at e low c.entry-item.is i.long i.found under);

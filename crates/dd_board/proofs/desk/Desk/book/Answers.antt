@@ -11,5 +11,5 @@ invariant_of-self-2 g c =
     let may : IsAllowed f e = subst (λ v. IsAllowed v.machine e) (sym c.self.view_is) c.requires.allowed in
     let next = next_of_call f c.step.new.self e c.requires.call may c.in_ok-step.ensures.step in
     let log : c.push_reserved.new.self.items ≡ c.self.inside.log.items ++ e ∷ [] =
-    c.push_reserved.ensures.items ∙ (ap (λ es. es ++ c.in_ok-copy.copy ∷ []) c.in_ok-reserve.ensures.items ∙ ap (λ d. c.self.inside.log.items ++ d ∷ []) c.in_ok-copy.ensures) in
+    c.push_reserved.ensures.items ∙ (ap (λ es. es ++ c.in_ok-copy.copy ∷ []) c.copy_for.ensures.log ∙ ap (λ d. c.self.inside.log.items ++ d ∷ []) c.in_ok-copy.ensures.copy) in
     subst (IsDesk g.N.Naming.request g.N.Naming.jobs c.step.new.self) (sym log) (desk_more _ _ f c.step.new.self _ e c.self.invariant c.requires.call next)

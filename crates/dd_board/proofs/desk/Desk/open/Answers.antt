@@ -1,4 +1,4 @@
-use Rattle.std.proofs.Common.{◌≡◌, [], ◌∷◌, ◌++◌, subst, sym, ap, ◌∙◌}
+use Rattle.std.proofs.Common.{◌≡◌, [], ◌∷◌, subst, sym}
 use Rattle.dd_front.specs.declared.event.Event.TheVariants.{Resume}
 use Rattle.dd_front.specs.Machine.{IsOpened}
 use Rattle.dd_board.specs.Desk.{IsDesk, AreJobsOf, first_place}
@@ -13,7 +13,7 @@ invariant_of-result g c =
     let jobs = g.N.Naming.jobs in
     let by_jobs = subst (λ js. IsOpened c.args.request js (first_place js) 0 c.in_ok-front.front) c.requires.jobs c.in_ok-front.ensures in
     let opened : IsOpened q jobs (first_place jobs) 0 c.in_ok-front.front = subst (λ r. IsOpened r jobs (first_place jobs) 0 c.in_ok-front.front) c.requires.request by_jobs in
-    let log : c.push.new.self.items ≡ Resume ∷ [] = c.in_ok-push.ensures.items ∙ ap (λ es. es ++ Resume ∷ []) c.new-log.ensures.items in
+    let log : c.in_ok-log.log.items ≡ Resume ∷ [] = c.in_ok-log.ensures.items in
     let all : AreJobsOf q jobs = subst (AreJobsOf q) c.requires.jobs (subst (λ r. AreJobsOf r c.args.jobs.items) c.requires.request c.requires.all) in
     subst (IsDesk q jobs c.step.new.self) (sym log) (desk_first q jobs c.in_ok-front.front c.step.new.self (subst IsValid c.requires.request c.requires.valid) all opened c.in_ok-step.ensures.step)
 
