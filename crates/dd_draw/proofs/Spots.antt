@@ -1,11 +1,15 @@
 -- Numbers of spots as the code reads and writes them, boxes of more spots, and texts of more parts.
-use Rattle.std.proofs.Common.{FitsSigned, ◌≤ℤ◌, ◌<ℤ◌, ◌-◌, div-le_self, ◌≡◌, ℕ, ◌+◌, ◌*◌, ◌<◌, ◌≤◌, ◌^◌, ℤ, pos, negsuc, int_lt, SFits, to_z, of_z, ◌+ℤ◌, ◌-ℤ◌, ◌*ℤ◌, nat_abs, Bool, true, false, cond, List, [], ◌∷◌, ◌++◌, length, take, get_or, append_assoc, refl, sym, ap, ◌∙◌, subst, arith}
+use Rattle.std.proofs.Common.{zero, suc, FitsSigned, ◌≤ℤ◌, ◌<ℤ◌, ◌-◌, div-le_self, ◌≡◌, ℕ, ◌+◌, ◌*◌, ◌<◌, ◌≤◌, ◌^◌, ℤ, pos, negsuc, int_lt, SFits, to_z, of_z, ◌+ℤ◌, ◌-ℤ◌, ◌*ℤ◌, nat_abs, Bool, true, false, cond, List, [], ◌∷◌, ◌++◌, length, take, get_or, append_assoc, refl, sym, ap, ◌∙◌, subst, arith}
 use Rattle.std.specs.Int.{w64, w128, int_min, int_max, int_div_euclid}
-use Rattle.std.specs.List.{flat_map}
+use Rattle.std.specs.List.{AllByRecursion, flat_map}
 use Rattle.std.proofs.lemmas.Int.{ints, to_z-of_z, fits_signed_from_abs, int_max_is, int_min_is, unsigned_abs-mul}
 use Rattle.std.proofs.lemmas.List.{take_more, append-nil}
 use Rattle.std.proofs.lemmas.Grind.{flat_map-append}
 use Rattle.std.proofs.Math.Nat.{mul-le-mul}
+use Rattle.dd_cells.specs.declared.fractions.Fraction.{Fraction}
+use Rattle.dd_draw.specs.Limit.{IsNarrowPoint, IsWithin}
+use Rattle.dd_draw.specs.Spots.{floor_of}
+use Rattle.dd_draw.specs.declared.point.Point.{Point}
 use Rattle.dd_draw.specs.Extents.{covering, with_spot}
 use Rattle.dd_draw.specs.declared.extent.Extent.{Extent}
 use Rattle.dd_draw.specs.declared.spot.Spot.{Spot}
@@ -155,6 +159,16 @@ module _ (k num den r : ℤ) (pk : nat_abs k ≤ 2 ^ 63) (pn : nat_abs num ≤ 2
   pub floor_read : to_z w128 (of_z w128 r) ≡ int_div_euclid (k *ℤ num) den
   floor_read = let k = small in read r (omega arith) ∙ quotient
 
+-- the part of a spot that the first coordinate makes, and the sum of both parts
+pub thousand_small : (f : Fraction) → IsWithin f → nat_abs (floor_of (pos 1000) f) ≤ 2 ^ 73
+thousand_small f within =
+    let size = product_size (pos 1000) f.num 1000 (2 ^ 62) (omega arith) within.num in
+    let less = quotient_size (pos 1000 *ℤ f.num) f.den within.reduced.positive in
+    omega arith
+
+pub spot_small : (a b : ℤ) → nat_abs a ≤ 2 ^ 73 → nat_abs b ≤ 2 ^ 125 → nat_abs (a +ℤ b) ≤ 2 ^ 125 + 2 ^ 73
+spot_small a b p q = omega (arith, ints)
+
 sum_size : (x y : ℤ) → nat_abs x ≤ 2 ^ 125 → nat_abs y ≤ 2 ^ 125 → nat_abs (x +ℤ y) ≤ 2 ^ 127 - 1
 sum_size x y p q = omega (arith, ints)
 
@@ -201,6 +215,13 @@ pub covering_append : (e : Extent) (xs ys : List Spot) → covering e (xs ++ ys)
 covering_append e [] ys = refl
 covering_append e (x ∷ xs) ys = covering_append (with_spot e x) xs ys
 
+-- ## Points
+
+pub narrow_at : (points : List Point) (i : ℕ) (d : Point) → i < length points → AllByRecursion IsNarrowPoint points → IsNarrowPoint (get_or points i d)
+narrow_at [] i d low all = absurd (omega arith)
+narrow_at (p ∷ ps) zero d low all = all.0
+narrow_at (p ∷ ps) (suc i) d low all = narrow_at ps i d (omega arith) all.1
+
 -- ## Parts in their order
 
 pub part_more : {X Y : Type 0} (f : X → List Y) (xs : List X) (k : ℕ) (d : X) → k < length xs → flat_map f (take (k + 1) xs) ≡ flat_map f (take k xs) ++ f (get_or xs k d)
@@ -220,15 +241,19 @@ covering_two f es k d e xs a b now new low two before put =
     put ∙ ap (λ n. with_spot (with_spot n a) b) before ∙ sym (covering_append e (xs ++ old) (a ∷ b ∷ []))
     ∙ ap (covering e) (append_assoc xs old (a ∷ b ∷ []) ∙ ap (λ ys. xs ++ ys) (ap (λ ys. old ++ ys) (sym two) ∙ sym (part_more f es k d low)))
 
--- three parts of a text, one after the other
-pub three_parts : (old one two three a b c : List ℕ) → a ≡ old ++ one → b ≡ a ++ two → c ≡ b ++ three → c ≡ old ++ (one ++ (two ++ three))
-three_parts old one two three a b c ea eb ec =
-    ec ∙ ap (λ t. t ++ three) (eb ∙ ap (λ t. t ++ two) ea) ∙ append_assoc (old ++ one) two three ∙ append_assoc old one (two ++ three)
+-- the parts of a line of the drawing, in groups
+pub head_parts : (h a s b c d e : List ℕ) → h ++ (a ++ (s ++ (b ++ (s ++ (c ++ (s ++ (d ++ e))))))) ≡ h ++ ((a ++ (s ++ (b ++ (s ++ (c ++ (s ++ d)))))) ++ e)
+head_parts h a s b c d e = simp append_assoc refl
 
--- the texts of three spots, and one after them
-pub three_spots : (f : Spot → List ℕ) (a b c : Spot) (end : List ℕ) → flat_map f (a ∷ b ∷ c ∷ []) ++ end ≡ f a ++ (f b ++ (f c ++ end))
-three_spots f a b c end =
-    append_assoc (f a) (f b ++ (f c ++ [])) end ∙ ap (λ t. f a ++ t) (append_assoc (f b) (f c ++ []) end ∙ ap (λ t. f b ++ t) (append_assoc (f c) [] end))
+pub cell_parts : (old h l s a b c d e f z : List ℕ) → (old ++ ((h ++ l) ++ (a ++ (s ++ (b ++ (l ++ (c ++ (s ++ d)))))))) ++ (l ++ (e ++ (s ++ (f ++ z))))
+    ≡ old ++ (h ++ (((l ++ (a ++ (s ++ b))) ++ ((l ++ (c ++ (s ++ d))) ++ ((l ++ (e ++ (s ++ f))) ++ []))) ++ z))
+cell_parts old h l s a b c d e f z = simp (append_assoc, append-nil) refl
+
+pub line_parts : (h a s b l c d z : List ℕ) → h ++ (a ++ (s ++ (b ++ (l ++ (c ++ (s ++ (d ++ z))))))) ≡ h ++ ((a ++ (s ++ b)) ++ (l ++ ((c ++ (s ++ d)) ++ z)))
+line_parts h a s b l c d z = simp append_assoc refl
+
+pub circle_parts : (old h a o b s c d z : List ℕ) → (old ++ h) ++ (a ++ (o ++ (b ++ (s ++ (c ++ (o ++ (d ++ z))))))) ≡ old ++ (h ++ ((a ++ (o ++ b)) ++ (s ++ ((c ++ (o ++ d)) ++ z))))
+circle_parts old h a o b s c d z = simp append_assoc refl
 
 -- five parts of a text, one after the other
 pub five_parts : (old one two three four five a b c d e : List ℕ) → a ≡ old ++ one → b ≡ a ++ two → c ≡ b ++ three → d ≡ c ++ four → e ≡ d ++ five

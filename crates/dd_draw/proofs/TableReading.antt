@@ -25,7 +25,7 @@ read_row : (rows : List (Vec Fraction Global)) (k : ℕ) (row : Vec Fraction Glo
     → row_at (lists rows) k ≡ xs
 read_row rows k row xs e f l = get_or-map items_of rows k row [] l ∙ ap items_of (sym e) ∙ sym f
 
-rows_count : (rows : List (Vec Fraction Global)) (n k : ℕ) → suc (length (lists rows)) ≡ n → suc k < n → k < length rows
+pub rows_count : (rows : List (Vec Fraction Global)) (n k : ℕ) → suc (length (lists rows)) ≡ n → suc k < n → k < length rows
 rows_count rows n k e l = let m = length-map rows items_of in omega arith
 
 pub column_inside : (net : Net) (k i n : ℕ) (xs : List Fraction) → n < net.vertices → IsRowOf net k i xs → n < length xs

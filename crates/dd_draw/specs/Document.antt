@@ -28,10 +28,13 @@ head_text e = codes "<svg xmlns=\"http://www.w3.org/2000/svg\" viewBox=\"" ++ (v
 abbrev pub corner_text : Spot → List ℕ
 corner_text s = codes "L" ++ spot_text s
 
+-- the closed path from the start through the other corners
+abbrev pub outline_text : List Spot → List ℕ
+outline_text corners = codes "<path d=\"M0 0" ++ (flat_map corner_text corners ++ codes "Z\" stroke=\"silver\"/>\n")
+
 -- the cell
 abbrev pub cell_text : Frame → List ℕ
-cell_text frame =
-    codes "<path d=\"M0 0" ++ (flat_map corner_text (corners frame) ++ codes "Z\" stroke=\"silver\"/>\n")
+cell_text frame = outline_text (corners frame)
 
 -- an edge, from the one end to the other
 abbrev pub line_text : Spot → Spot → List ℕ
@@ -48,8 +51,11 @@ exact_text f = signed_decimal f.num ++ (codes "/" ++ signed_decimal f.den)
 abbrev pub middle_text : Spot → List ℕ
 middle_text s = codes "<circle cx=\"" ++ (signed_decimal s.x ++ (codes "\" cy=\"" ++ (signed_decimal s.y ++ codes "\" r=\"12\" data-at=\"")))
 
+abbrev pub circle_text : Spot → Point → List ℕ
+circle_text s p = middle_text s ++ (exact_text p.x ++ (codes " " ++ (exact_text p.y ++ codes "\"/>\n")))
+
 abbrev pub vertex_text : Frame → Point → List ℕ
-vertex_text frame p = middle_text (spot_of frame p) ++ (exact_text p.x ++ (codes " " ++ (exact_text p.y ++ codes "\"/>\n")))
+vertex_text frame p = circle_text (spot_of frame p) p
 
 -- the head, the cell, the edges and the vertices in their order
 abbrev pub document : Frame → List NetEdge → List Point → List ℕ

@@ -1,22 +1,21 @@
-ghost use Rattle.std.specs.Prelude.{◌≡◌, ◌++◌, ◌≤◌, ◌<◌, ◌*◌, ◌^◌, length, nat_abs, slice_index_or, OnOk, OnErr, IfOk, string_bytes};
+ghost use Rattle.std.specs.Prelude.{◌≡◌, [], ◌∷◌, ◌++◌, ◌≤◌, ◌<◌, ◌*◌, ◌^◌, length, nat_abs, slice_index_or, OnOk, OnErr, string_bytes};
 ghost use Rattle.std.specs.List.{AllByRecursion, flat_map};
-ghost use Rattle.dd_model.specs.Longer.{IsLonger};
 ghost use Rattle.dd_lattice.specs.Nets.{IsConnectedNet};
 ghost use Rattle.dd_draw.specs.Limit.{IsNarrowPoint};
 ghost use Rattle.dd_draw.specs.Spots.{IsSmallSpot, corners, from_spot, to_spot};
 ghost use Rattle.dd_draw.specs.Extents.{extent_of, IsSmallExtent};
-ghost use Rattle.dd_draw.specs.Document.{head_text, view_text, cell_text, corner_text, spot_text, line_text, edge_text, middle_text, vertex_text, exact_text, document};
+ghost use Rattle.dd_draw.specs.Document.{head_text, cell_text, outline_text, line_text, edge_text, circle_text, vertex_text, document};
 
 use crate::extent::Extent;
 use crate::places::Places;
 use crate::point::Point;
 use crate::spot::{Spot, second_side};
-use dd_cells::Fraction;
 use dd_lattice::{Net, NetEdge};
-use dd_model::{Frame, Memory, put_bytes};
-use std::alloc::{AllocError, Global};
+use dd_model::{Frame, Memory};
+use std::alloc::AllocError;
+use std::fmt::Write;
 
-/// The corners of the cell after the first.
+/// Returns the corners of the cell after the first.
 fn corners(frame: Frame) -> [Spot; 3]
     ensures same { result ≡ corners frame }
     ensures small { AllByRecursion IsSmallSpot result }
@@ -32,24 +31,15 @@ fn corners(frame: Frame) -> [Spot; 3]
     ]
 }
 
-/// Appends a spot.
-fn put_spot(out: &mut Vec<u8>, spot: Spot) -> Result<(), Memory>
-    ensures spot { OnOk result (out.new.items ≡ out.old.items ++ spot_text spot) }
-    ensures longer { IsLonger out.old.items out.new.items }
-{
-    let alloc = *out.allocator();
-    let text = format!(in alloc; "{} {}", spot.x, spot.y)?;
-    put_bytes(out, text.as_bytes())?;
-    Ok(())
-}
-
-/// The part of a box that is looked at, with its margin.
-fn view_of(alloc: Global, extent: Extent) -> Result<String, AllocError>
+/// Appends the head of a drawing. The drawing shows the box with a margin of 100.
+fn put_head(text: &mut String, extent: Extent) -> Result<(), AllocError>
     requires { IsSmallExtent extent }
-    ensures { IfOk result (λ text. string_bytes text ≡ view_text extent) }
+    ensures { OnOk result (string_bytes text.new ≡ string_bytes text.old ++ head_text extent) }
 {
-    format!(in alloc;
-        "{} {} {} {}",
+    writeln!(
+        text,
+        "<svg xmlns=\"http://www.w3.org/2000/svg\" viewBox=\"{} {} {} {}\" \
+         fill=\"none\" stroke=\"black\" stroke-width=\"6\">",
         extent.left - 100,
         extent.top - 100,
         extent.right.abs_diff(extent.left) + 200,
@@ -57,83 +47,46 @@ fn view_of(alloc: Global, extent: Extent) -> Result<String, AllocError>
     )
 }
 
-/// Appends the head of a drawing of so wide a box.
-fn put_head(out: &mut Vec<u8>, extent: Extent) -> Result<(), Memory>
-    requires { IsSmallExtent extent }
-    ensures head { OnOk result (out.new.items ≡ out.old.items ++ head_text extent) }
-    ensures longer { IsLonger out.old.items out.new.items }
-{
-    let view = view_of(*out.allocator(), extent)?;
-    put_bytes(out, b"<svg xmlns=\"http://www.w3.org/2000/svg\" viewBox=\"")?;
-    put_bytes(out, view.as_bytes())?;
-    put_bytes(
-        out,
-        b"\" fill=\"none\" stroke=\"black\" stroke-width=\"6\">\n",
-    )?;
-    Ok(())
-}
-
-/// Appends a corner of the cell.
-fn put_corner(out: &mut Vec<u8>, corner: Spot) -> Result<(), Memory>
-    ensures corner { OnOk result (out.new.items ≡ out.old.items ++ corner_text corner) }
-    ensures longer { IsLonger out.old.items out.new.items }
-{
-    put_bytes(out, b"L")?;
-    put_spot(out, corner)?;
-    Ok(())
-}
-
 /// Appends the path round the cell.
-fn put_cell(out: &mut Vec<u8>, frame: Frame) -> Result<(), Memory>
-    ensures cell { OnOk result (out.new.items ≡ out.old.items ++ cell_text frame) }
-    ensures longer { IsLonger out.old.items out.new.items }
+fn put_cell(text: &mut String, frame: Frame) -> Result<(), AllocError>
+    ensures { OnOk result (string_bytes text.new ≡ string_bytes text.old ++ cell_text frame) }
 {
     let [one, two, three] = corners(frame);
-    put_bytes(out, b"<path d=\"M0 0")?;
-    put_corner(out, one)?;
-    put_corner(out, two)?;
-    put_corner(out, three)?;
-    put_bytes(out, b"Z\" stroke=\"silver\"/>\n")?;
-    Ok(())
+    put_outline(text, one, two, three)
 }
 
-/// Appends a fraction.
-fn put_exact(out: &mut Vec<u8>, fraction: Fraction) -> Result<(), Memory>
-    ensures fraction { OnOk result (out.new.items ≡ out.old.items ++ exact_text fraction) }
-    ensures longer { IsLonger out.old.items out.new.items }
+/// Appends the closed path from the start through three spots.
+fn put_outline(text: &mut String, one: Spot, two: Spot, three: Spot) -> Result<(), AllocError>
+    ensures { OnOk result (string_bytes text.new
+        ≡ string_bytes text.old ++ outline_text (one ∷ two ∷ three ∷ [])) }
 {
-    let alloc = *out.allocator();
-    let text = format!(in alloc; "{}/{}", fraction.num, fraction.den)?;
-    put_bytes(out, text.as_bytes())?;
-    Ok(())
+    write!(
+        text,
+        "<path d=\"M0 0L{} {}L{} {}",
+        one.x, one.y, two.x, two.y
+    )?;
+    writeln!(text, "L{} {}Z\" stroke=\"silver\"/>", three.x, three.y)
 }
 
-/// What stands before the exact coordinates of a vertex.
-fn middle_of(alloc: Global, spot: Spot) -> Result<String, AllocError>
-    ensures { IfOk result (λ text. string_bytes text ≡ middle_text spot) }
+/// Appends the circle of a vertex that is printed at a spot, with the exact coordinates of its
+/// point.
+fn put_circle(text: &mut String, spot: Spot, point: &Point) -> Result<(), AllocError>
+    ensures { OnOk result
+        (string_bytes text.new ≡ string_bytes text.old ++ circle_text spot point.now) }
 {
-    format!(in alloc;
+    write!(
+        text,
         "<circle cx=\"{}\" cy=\"{}\" r=\"12\" data-at=\"",
         spot.x, spot.y
+    )?;
+    writeln!(
+        text,
+        "{}/{} {}/{}\"/>",
+        point.x.num, point.x.den, point.y.num, point.y.den
     )
 }
 
-/// Appends a vertex.
-fn put_vertex(out: &mut Vec<u8>, frame: Frame, point: &Point) -> Result<(), Memory>
-    requires { IsNarrowPoint point.now }
-    ensures vertex { OnOk result (out.new.items ≡ out.old.items ++ vertex_text frame point.now) }
-    ensures longer { IsLonger out.old.items out.new.items }
-{
-    let middle = middle_of(*out.allocator(), Spot::of(frame, point))?;
-    put_bytes(out, middle.as_bytes())?;
-    put_exact(out, point.x)?;
-    put_bytes(out, b" ")?;
-    put_exact(out, point.y)?;
-    put_bytes(out, b"\"/>\n")?;
-    Ok(())
-}
-
-/// The two ends of an edge.
+/// Returns the two ends of an edge.
 fn ends_of(frame: Frame, points: &[Point], edge: NetEdge) -> (Spot, Spot)
     requires from { (1 ≤ edge.from) × (edge.from ≤ length points.now) }
     requires to { (1 ≤ edge.to) × (edge.to ≤ length points.now) }
@@ -147,7 +100,7 @@ fn ends_of(frame: Frame, points: &[Point], edge: NetEdge) -> (Spot, Spot)
     (from, to.moved(frame, edge.x, edge.y))
 }
 
-/// The box of all that is printed of the cell and of the edges.
+/// Returns the least box that has all that is printed of the cell and of the edges.
 fn extent_of(frame: Frame, net: &Net, points: &[Point]) -> Extent
     requires connected { IsConnectedNet net.now }
     requires count { length points.now ≡ net.now.vertices }
@@ -164,65 +117,62 @@ fn extent_of(frame: Frame, net: &Net, points: &[Point]) -> Extent
     extent
 }
 
-/// Appends an edge.
-fn put_edge(out: &mut Vec<u8>, from: Spot, to: Spot) -> Result<(), Memory>
-    ensures edge { OnOk result (out.new.items ≡ out.old.items ++ line_text from to) }
-    ensures longer { IsLonger out.old.items out.new.items }
+/// Appends a line from a spot to another.
+fn put_edge(text: &mut String, from: Spot, to: Spot) -> Result<(), AllocError>
+    ensures { OnOk result (string_bytes text.new ≡ string_bytes text.old ++ line_text from to) }
 {
-    put_bytes(out, b"<path d=\"M")?;
-    put_spot(out, from)?;
-    put_bytes(out, b"L")?;
-    put_spot(out, to)?;
-    put_bytes(out, b"\"/>\n")?;
-    Ok(())
+    writeln!(
+        text,
+        "<path d=\"M{} {}L{} {}\"/>",
+        from.x, from.y, to.x, to.y
+    )
 }
 
 /// Appends the edges in their order.
-fn put_edges(out: &mut Vec<u8>, frame: Frame, net: &Net, points: &[Point]) -> Result<(), Memory>
+fn put_edges(text: &mut String, frame: Frame, net: &Net, points: &[Point]) -> Result<(), AllocError>
     requires connected { IsConnectedNet net.now }
     requires count { length points.now ≡ net.now.vertices }
     requires narrow { AllByRecursion IsNarrowPoint points.now }
-    ensures edges { OnOk result (out.new.items
-        ≡ out.old.items ++ flat_map (edge_text frame points.now) net.now.edges.items) }
-    ensures longer { IsLonger out.old.items out.new.items }
+    ensures { OnOk result (string_bytes text.new
+        ≡ string_bytes text.old ++ flat_map (edge_text frame points.now) net.now.edges.items) }
 {
     for edge in &net.edges {
         let (from, to) = ends_of(frame, points, *edge);
-        put_edge(out, from, to)?;
+        put_edge(text, from, to)?;
     }
     Ok(())
 }
 
 /// Appends the vertices in their order.
-fn put_vertices(out: &mut Vec<u8>, frame: Frame, points: &[Point]) -> Result<(), Memory>
+fn put_vertices(text: &mut String, frame: Frame, points: &[Point]) -> Result<(), AllocError>
     requires { AllByRecursion IsNarrowPoint points.now }
-    ensures vertices { OnOk result
-        (out.new.items ≡ out.old.items ++ flat_map (vertex_text frame) points.now) }
-    ensures longer { IsLonger out.old.items out.new.items }
+    ensures { OnOk result (string_bytes text.new
+        ≡ string_bytes text.old ++ flat_map (vertex_text frame) points.now) }
 {
     for point in points {
-        put_vertex(out, frame, point)?;
+        put_circle(text, Spot::of(frame, point), point)?;
     }
     Ok(())
 }
 
-/// Appends the drawing of a placed net. If an allocation fails, the text may have a part of the
-/// drawing.
-fn append_svg(out: &mut Vec<u8>, net: &Net, places: &Places, frame: Frame) -> Result<(), Memory>
+/// Appends the drawing of a net whose vertices are at some points.
+fn put_drawing(
+    text: &mut String,
+    frame: Frame,
+    net: &Net,
+    points: &[Point],
+) -> Result<(), AllocError>
     requires connected { IsConnectedNet net.now }
-    requires count { length places.now.points.items ≡ net.now.vertices }
-    requires narrow { AllByRecursion IsNarrowPoint places.now.points.items }
-    ensures drawing { OnOk result (out.new.items
-        ≡ out.old.items ++ document frame net.now.edges.items places.now.points.items) }
-    ensures longer { IsLonger out.old.items out.new.items }
+    requires count { length points.now ≡ net.now.vertices }
+    requires narrow { AllByRecursion IsNarrowPoint points.now }
+    ensures { OnOk result (string_bytes text.new
+        ≡ string_bytes text.old ++ document frame net.now.edges.items points.now) }
 {
-    let points = places.points.as_slice();
-    put_head(out, extent_of(frame, net, points))?;
-    put_cell(out, frame)?;
-    put_edges(out, frame, net, points)?;
-    put_vertices(out, frame, points)?;
-    put_bytes(out, b"</svg>\n")?;
-    Ok(())
+    put_head(text, extent_of(frame, net, points))?;
+    put_cell(text, frame)?;
+    put_edges(text, frame, net, points)?;
+    put_vertices(text, frame, points)?;
+    writeln!(text, "</svg>")
 }
 
 /// Appends the drawing of a placed net: its cell, its edges and its vertices with their exact
@@ -235,10 +185,7 @@ pub fn svg(out: &mut Vec<u8>, net: &Net, places: &Places, frame: Frame) -> Resul
         ≡ out.old.items ++ document frame net.now.edges.items places.now.points.items) }
     ensures same { OnErr result (out.new.items ≡ out.old.items) }
 {
-    let length = out.len();
-    let written = append_svg(out, net, places, frame);
-    if written.is_err() {
-        out.truncate(length);
-    }
-    written
+    let mut text = String::new(*out.allocator());
+    put_drawing(&mut text, frame, net, &places.points)?;
+    Ok(out.extend_from_slice(text.as_bytes())?)
 }

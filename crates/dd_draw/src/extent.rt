@@ -5,7 +5,7 @@ ghost use Rattle.dd_draw.specs.Spots.{IsSmallSpot, start};
 use crate::spot::Spot;
 
 /// The least box that has some spots.
-#[derive(Debug, Clone, Copy, PartialEq, Eq)]
+#[derive(Clone, Copy)]
 pub struct Extent {
     pub left: i128,
     pub top: i128,
@@ -27,7 +27,7 @@ impl Extent {
         }
     }
 
-    /// The least box that has one spot more.
+    /// Returns the least box that has this box and a spot.
     pub fn with(self, spot: Spot) -> Extent
         requires small { IsSmallExtent self }
         requires spot { IsSmallSpot spot }

@@ -11,7 +11,8 @@ use dd_cells::Fraction;
 use dd_lattice::{Net, NetEdge};
 use std::alloc::Global;
 
-/// The shift of an edge that is no loop, as seen from a vertex, or 0 where it has no end there.
+/// Returns the shift of an edge that is no loop, as seen from a vertex, or 0 if it has no end
+/// there.
 fn shift_seen(edge: NetEdge, shift: i64, vertex: u32) -> i128
     requires { edge.from ≢ edge.to }
     ensures value { result ≡ if_same edge.from vertex shift -ℤ if_same edge.to vertex shift }
@@ -26,7 +27,7 @@ fn shift_seen(edge: NetEdge, shift: i64, vertex: u32) -> i128
     0
 }
 
-/// How many ends an edge that is no loop has at a vertex.
+/// Returns the number of ends that an edge that is no loop has at a vertex.
 fn end_count(edge: NetEdge, vertex: u32) -> i128
     requires { edge.from ≢ edge.to }
     ensures value { result ≡ ends_at vertex edge }
@@ -39,7 +40,7 @@ fn end_count(edge: NetEdge, vertex: u32) -> i128
     }
 }
 
-/// 1 where an edge joins two different vertices, and else 0.
+/// Returns 1 if an edge joins two different vertices, and else 0.
 fn join_count(edge: NetEdge, one: u32, other: u32) -> i128
     requires { one ≢ other }
     ensures value { result ≡ joins one other edge }
@@ -54,7 +55,7 @@ fn join_count(edge: NetEdge, one: u32, other: u32) -> i128
     0
 }
 
-/// What an edge gives to an entry of the first table. A loop gives nothing.
+/// Returns what an edge adds to an entry of the first table. A loop adds nothing.
 fn share(edge: NetEdge, vertices: u32, row: u32, column: u32) -> i128
     requires row { row < vertices }
     requires few { vertices ≤ 96 }
@@ -77,7 +78,7 @@ fn share(edge: NetEdge, vertices: u32, row: u32, column: u32) -> i128
     -join_count(edge, row + 1, column + 1)
 }
 
-/// An entry of the first table.
+/// Returns an entry of the first table.
 fn first_entry(net: &Net, row: u32, column: u32) -> i128
     requires row { row < net.now.vertices }
     requires few { net.now.vertices ≤ 96 }
@@ -91,7 +92,7 @@ fn first_entry(net: &Net, row: u32, column: u32) -> i128
     sum
 }
 
-/// A row of the first table.
+/// Returns a row of the first table.
 pub(crate) fn first_row(alloc: Global, net: &Net, row: u32) -> Result<Vec<Fraction>, PlaceFault>
     requires row { row < net.now.vertices }
     requires few { net.now.vertices ≤ 96 }

@@ -5,13 +5,13 @@ use dd_model::Memory;
 use std::alloc::AllocFailed;
 
 /// Why a net is not placed.
-#[derive(Debug, Clone, Copy, PartialEq, Eq)]
+#[derive(Debug, Clone, Copy)]
 pub enum PlaceFault {
     /// There are over 96 vertices.
     TooManyVertices { count: u32 },
-    /// The first number over 2^62 of the elimination stands here.
+    /// The first number of the elimination that is over 2^62 is at this place.
     TooWide { step: u32, row: u32, column: u32 },
-    /// There was no room.
+    /// Out of memory.
     Memory,
 }
 

@@ -17,7 +17,7 @@ use dd_lattice::Net;
 use dd_model::Memory;
 use std::alloc::Global;
 
-/// The most vertices of a net that is placed.
+/// The greatest number of vertices of a net that is placed.
 pub const MOST_VERTICES: u32 = 96;
 
 /// Returns the points that the last table has. The first vertex is at the origin. The coordinates
@@ -43,8 +43,8 @@ fn points_of(alloc: Global, vertices: usize, rows: &[Vec<Fraction>]) -> Result<V
     Ok(points)
 }
 
-/// Where the vertices of a connected net stand: each in the middle of the ends that its edges lead
-/// to, and the first at the origin.
+/// Returns the places of the vertices of a connected net. Each vertex is in the middle of the ends
+/// that its edges lead to, and the first is at the origin.
 pub fn place(alloc: Global, net: &Net) -> Result<Places, PlaceFault>
     requires { IsConnectedNet net.now }
     ensures placement { IfOk result (λ places. IsPlacement net.now places.points.items) }

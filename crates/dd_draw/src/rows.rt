@@ -7,7 +7,7 @@ use crate::place_fault::PlaceFault;
 use dd_cells::Fraction;
 use std::alloc::Global;
 
-/// The row of a step, divided by its pivot.
+/// Returns the row of a step, divided by its pivot.
 pub(crate) fn divided(
     alloc: Global,
     row: &[Fraction],
@@ -38,7 +38,7 @@ pub(crate) fn divided(
     Ok(new)
 }
 
-/// Another row, less its factor times the row of the step.
+/// Returns another row, less its factor times the row of the step.
 pub(crate) fn remaining(
     alloc: Global,
     row: &[Fraction],

@@ -7,7 +7,7 @@ use dd_cells::Fraction;
 use dd_model::Frame;
 
 /// Where something is printed, in thousandths of the side of a cell.
-#[derive(Debug, Clone, Copy, PartialEq, Eq)]
+#[derive(Clone, Copy)]
 pub struct Spot {
     pub x: i128,
     pub y: i128,
@@ -39,7 +39,7 @@ fn floor_of(times: i128, fraction: Fraction) -> i128
 }
 
 impl Spot {
-    /// The spot of a point.
+    /// Returns the spot of a point.
     pub fn of(frame: Frame, point: &Point) -> Spot
         requires x { IsWithin point.now.x }
         requires y { IsWithin point.now.y }

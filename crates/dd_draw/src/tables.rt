@@ -9,7 +9,7 @@ use dd_cells::Fraction;
 use dd_lattice::Net;
 use std::alloc::Global;
 
-/// The first table: a row for each vertex but the first.
+/// Returns the first table: a row for each vertex but the first.
 fn first_table(alloc: Global, net: &Net) -> Result<Vec<Vec<Fraction>>, PlaceFault>
     requires connected { IsConnectedNet net.now }
     requires few { net.now.vertices ≤ 96 }
@@ -53,7 +53,7 @@ fn eliminate(
     Ok(())
 }
 
-/// The last table.
+/// Returns the last table.
 pub(crate) fn last_table(alloc: Global, net: &Net) -> Result<Vec<Vec<Fraction>>, PlaceFault>
     requires connected { IsConnectedNet net.now }
     requires few { net.now.vertices ≤ 96 }

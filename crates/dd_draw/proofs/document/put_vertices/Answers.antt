@@ -1,8 +1,13 @@
-use Rattle.dd_draw.specs.Document.{vertex_text}
+use Rattle.std.proofs.Common.{◌++◌, ◌∙◌, get_or, pos, ap}
+use Rattle.std.specs.Prelude.{string_bytes}
+use Rattle.dd_draw.specs.Document.{circle_text, vertex_text}
+use Rattle.dd_draw.specs.declared.point.Point.{Point}
 use Rattle.dd_draw.proofs.Spots.{text_more}
 use Rattle.dd_draw.proofs.document.put_vertices.Goals as goal
 
 pub loop-point-preserved : goal.loop-point-preserved
 loop-point-preserved c =
-    text_more (vertex_text c.args.frame) c.args.points.now c.loop-point.point-index _ c.args.out.now.items c.loop-point.out.items c.put_vertex.new.out.items
-    c.loop-point-test.true c.loop-point.invariant c.in_ok-put_vertex.ensures.vertex
+    let none : Point = record { x = record { num = pos 0; den = pos 0 }; y = record { num = pos 0; den = pos 0 } } in
+    text_more (vertex_text c.args.frame) c.args.points.now c.loop-point.point-index none (string_bytes c.args.text.now) (string_bytes c.loop-point.text) (string_bytes c.put_circle.new.text)
+    c.loop-point-test.true c.loop-point.invariant
+    (c.in_ok-put_circle.ensures ∙ ap (λ s. string_bytes c.loop-point.text ++ circle_text s (get_or c.args.points.now c.loop-point.point-index none)) c.of.ensures.same)

@@ -1,7 +1,7 @@
 use Rattle.std.proofs.Common.{suc, ◌+◌, sym, subst, arith}
 use Rattle.dd_draw.proofs.StepLemmas.{midway_skip, midway_all}
 use Rattle.dd_draw.proofs.TableLemmas.{within_row, pivot_number}
-use Rattle.dd_draw.proofs.TableReading.{handed_on, column_inside, few_numbers, pivot_row, own_stop, own_done, left_row, done_row, other_stop, other_done}
+use Rattle.dd_draw.proofs.TableReading.{handed_on, column_inside, few_numbers, rows_count, pivot_row, own_stop, own_done, left_row, done_row, other_stop, other_done}
 use Rattle.dd_draw.specs.Tables.{IsMidway, IsPlaceFault, lists}
 use Rattle.dd_draw.proofs.tables.eliminate.Goals as goal
 use Rattle.dd_draw.proofs.tables.eliminate.Goals.{then-other-place+in_ok-rest, else-other-place}
@@ -113,3 +113,23 @@ pub returns-clause-table : goal.returns-clause-table
 returns-clause-table c =
     midway_all c.args.net.now c.args.place c.loop-other.other (lists c.loop-other.rows.items)
     (let m = c.loop-other.invariant.many in omega (arith, c.loop-other-test.false)) c.loop-other.invariant
+
+pub index-requires : goal.index-requires
+index-requires c =
+    omega (arith, rows_count c.args.rows.now.items c.args.net.now.vertices c.args.place c.requires.table.many c.requires.place, c.args.rows.now.ok.0)
+
+pub index_mut-requires : goal.index_mut-requires
+index_mut-requires c =
+    omega (arith, rows_count c.args.rows.now.items c.args.net.now.vertices c.args.place c.requires.table.many c.requires.place, c.args.rows.now.ok.0)
+
+pub index-requires-then-other-place : goal.index-requires-then-other-place
+index-requires-then-other-place c =
+    omega (arith, rows_count c.loop-other.rows.items c.args.net.now.vertices c.args.place c.loop-other.invariant.many c.requires.place, c.loop-other.rows.ok.0)
+
+pub index-requires-then-other-place-2 : goal.index-requires-then-other-place-2
+index-requires-then-other-place-2 c =
+    omega (arith, rows_count c.loop-other.rows.items c.args.net.now.vertices c.loop-other.other c.loop-other.invariant.many (omega (arith, c.loop-other-test.true)), c.loop-other.rows.ok.0)
+
+pub index_mut-requires-then-other-place : goal.index_mut-requires-then-other-place
+index_mut-requires-then-other-place c =
+    omega (arith, rows_count c.loop-other.rows.items c.args.net.now.vertices c.loop-other.other c.loop-other.invariant.many (omega (arith, c.loop-other-test.true)), c.loop-other.rows.ok.0)

@@ -1,6 +1,6 @@
-use Rattle.std.proofs.Common.{pos, ap, ◌∙◌, ◌+ℤ◌}
+use Rattle.std.proofs.Common.{◌≤◌, ◌+◌, ◌^◌, pos, nat_abs, sym, subst, ap, ◌∙◌, ◌+ℤ◌, arith}
 use Rattle.dd_draw.specs.Spots.{floor_of}
-use Rattle.dd_draw.proofs.Spots.{one_read, side_read, spot_fits, spot_read}
+use Rattle.dd_draw.proofs.Spots.{one_read, side_read, spot_fits, spot_read, thousand_small, spot_small}
 use Rattle.dd_draw.proofs.spot.Spot.of.Goals as goal
 
 pub returns-clause-same : goal.returns-clause-same
@@ -13,3 +13,18 @@ returns-clause-same c =
 
 pub overflow_add-result : goal.overflow_add-result
 overflow_add-result c = spot_fits c.floor_of.result c.floor_of-2.result c.floor_of.ensures.small c.floor_of-2.ensures.small
+
+pub floor_of-requires-clause-times : goal.floor_of-requires-clause-times
+floor_of-requires-clause-times c = omega arith
+
+pub returns-clause-x : goal.returns-clause-x
+returns-clause-x c =
+    let a = c.floor_of.result in
+    let b = c.floor_of-2.result in
+    let small = subst (λ z. nat_abs z ≤ 2 ^ 73) (sym c.floor_of.ensures.same) (thousand_small c.args.point.now.x c.requires.x) in
+    subst (λ z. nat_abs z ≤ 2 ^ 125 + 2 ^ 73) (sym (spot_read a b c.floor_of.ensures.small c.floor_of-2.ensures.small)) (spot_small a b small c.floor_of-2.ensures.small)
+
+pub returns-clause-y : goal.returns-clause-y
+returns-clause-y c =
+    let small = c.floor_of-3.ensures.small in
+    subst (λ z. nat_abs z ≤ 2 ^ 125 + 2 ^ 73) (sym (one_read c.floor_of-3.result small)) (omega (arith, small))
