@@ -25,7 +25,7 @@ use Rattle.dd_check.proofs.ChainStops.{stop_place, stop_range, stop_in_shard}
 same_text : (x y : Text) → Some x ≡ Some y → x ≡ y
 same_text x y e = cc
 
-other_kind : Catalogues ≡ Shards → ⊥
+pub other_kind : Catalogues ≡ Shards → ⊥
 other_kind e = cc
 
 -- a text is one of one shard, or of a catalogue, and of one checkpoint

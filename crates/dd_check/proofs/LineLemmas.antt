@@ -21,6 +21,14 @@ job_line old o1 o2 o3 size prefix e1 e2 e3 =
     regrouped : (old a b : Text) → old ++ (codes "at " ++ a) ++ b ++ codes "\n" ≡ old ++ ((codes "at" ++ ((32 ∷ a) ++ b)) ++ codes "\n")
     regrouped old a b = simp append_assoc refl
 
+pub set_line : (old o1 o2 o3 key items : Text) → o1 ≡ old ++ (key ++ codes " ") → o2 ≡ o1 ++ items → o3 ≡ o2 ++ codes "\n"
+    → o3 ≡ old ++ line_text (key ∷ items ∷ [])
+set_line old o1 o2 o3 key items e1 e2 e3 =
+    e3 ∙ ap (λ z. z ++ codes "\n") (e2 ∙ ap (λ z. z ++ items) e1) ∙ regrouped old key items
+  where
+    regrouped : (old key items : Text) → old ++ (key ++ codes " ") ++ items ++ codes "\n" ≡ old ++ line_text (key ∷ items ∷ [])
+    regrouped old key items = simp append_assoc refl
+
 -- the whole text
 pub check_lines : (old o1 o2 o3 o4 : Text) (c : Checkpoint) (faces degrees : List Item)
     → o1 ≡ old ++ codes "dressline checkpoint 2\n" ++ line_text (number_row (codes "run") c.run) ++ line_text (limits_row (limits_of c.request))

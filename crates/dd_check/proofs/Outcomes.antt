@@ -1,5 +1,6 @@
 -- What is answered of a whole text.
 use Rattle.std.proofs.Common.{◌≡◌, ℕ, List, sym, subst, inl, inr}
+use Rattle.std.specs.Prelude.{Result, Ok, Err, IfOk, IfErr, IsErrAnd}
 use Rattle.dd_check.specs.declared.checkpoint.Checkpoint.{Checkpoint}
 use Rattle.dd_check.specs.declared.faults.CheckFault.{CheckFault}
 use Rattle.dd_check.specs.declared.faults.CheckFault.TheVariants.{Version, Shape, Range, Position, Long, Memory}
@@ -9,7 +10,9 @@ use Rattle.dd_check.specs.Lines.{IsToldFault}
 use Rattle.dd_check.specs.Readings.{TellsCheck, TellsOldCheck}
 use Rattle.dd_check.specs.Places.{IsPlace, IsOldPlace}
 use Rattle.dd_check.specs.Accepted.{IsShortText, IsCheckpointText}
+use Rattle.dd_check.specs.Checks.{StandsFor, OldStandsFor}
 use Rattle.dd_check.specs.Refusals.{HasFault}
+use Rattle.dd_check.specs.Outcomes.{AreShortLines, AreNewLines, AreOldLines, IsReading}
 use Rattle.dd_check.proofs.CheckReads.{stands_for, old_stands_for}
 
 -- a fault of a line
@@ -55,33 +58,50 @@ old_line_fault text Memory short old h never = absurd never
 
 -- ---- the answers
 
-pub new_refused : (text : Text) (ls : List Text) (f : CheckFault) → ls ≡ lines_of text → IsShortText text → IsNew ls → IsToldFault (IsLineFault ls) f → IsToldFault (HasFault text) f
-new_refused text ls f e short new h told =
-    let fault = subst (λ l. IsLineFault l f) e (h told) in
-    line_fault text f short (subst IsNew e new) fault (line_fault_is (lines_of text) f fault)
+module _ (text : Text) (ls : List Text) (are : AreNewLines text ls) where
+  pub new_refused : (f : CheckFault) → IsToldFault (IsLineFault ls) f → IsToldFault (HasFault text) f
+  new_refused f h told =
+      let fault = subst (λ l. IsLineFault l f) are.are.lines_are (h told) in
+      line_fault text f are.are.short (subst IsNew are.are.lines_are are.new) fault (line_fault_is (lines_of text) f fault)
 
-pub old_refused : (text : Text) (ls : List Text) (f : CheckFault) → ls ≡ lines_of text → IsShortText text → IsOld ls → IsToldFault (IsOldLineFault ls) f → IsToldFault (HasFault text) f
-old_refused text ls f e short old h told =
-    let fault = subst (λ l. IsOldLineFault l f) e (h told) in
-    old_line_fault text f short (subst IsOld e old) fault (old_line_fault_is (lines_of text) f fault)
+  new_stands : (c : Checkpoint) → TellsCheck ls c → StandsFor text c
+  new_stands c t = stands_for text c (subst IsNew are.are.lines_are are.new) (subst (λ l. TellsCheck l c) are.are.lines_are t)
 
-pub new_read : (text : Text) (ls : List Text) (c : Checkpoint) → ls ≡ lines_of text → IsShortText text → IsNew ls → TellsCheck ls c → IsPlace c.request c.at → IsCheckpointText text c
-new_read text ls c e short new t place =
-    inl (record { short = short; stands = stands_for text c (subst IsNew e new) (subst (λ l. TellsCheck l c) e t); place = place })
+  pub new_read : (c : Checkpoint) → TellsCheck ls c → IsPlace c.request c.at → IsCheckpointText text c
+  new_read c t place = inl (record { short = are.are.short; stands = new_stands c t; place = place })
 
-pub old_read : (text : Text) (ls : List Text) (c : Checkpoint) → ls ≡ lines_of text → IsShortText text → IsOld ls → TellsOldCheck ls c → IsOldPlace c.request c.at → IsCheckpointText text c
-old_read text ls c e short old t place =
-    inr (record { short = short; stands = old_stands_for text c (subst IsOld e old) (subst (λ l. TellsOldCheck l c) e t); place = place })
+  pub new_misplaced : (c : Checkpoint) → TellsCheck ls c → (IsPlace c.request c.at → ⊥) → HasFault text Position
+  new_misplaced c t refused = (are.are.short, (c, inl (record { stands = new_stands c t; refused = refused })))
 
-pub new_misplaced : (text : Text) (ls : List Text) (c : Checkpoint) → ls ≡ lines_of text → IsShortText text → IsNew ls → TellsCheck ls c → (IsPlace c.request c.at → ⊥)
-    → HasFault text Position
-new_misplaced text ls c e short new t refused =
-    (short, (c, inl (record { stands = stands_for text c (subst IsNew e new) (subst (λ l. TellsCheck l c) e t); refused = refused })))
+module _ (text : Text) (ls : List Text) (are : AreOldLines text ls) where
+  pub old_refused : (f : CheckFault) → IsToldFault (IsOldLineFault ls) f → IsToldFault (HasFault text) f
+  old_refused f h told =
+      let fault = subst (λ l. IsOldLineFault l f) are.are.lines_are (h told) in
+      old_line_fault text f are.are.short (subst IsOld are.are.lines_are are.old) fault (old_line_fault_is (lines_of text) f fault)
 
-pub old_misplaced : (text : Text) (ls : List Text) (c : Checkpoint) → ls ≡ lines_of text → IsShortText text → IsOld ls → TellsOldCheck ls c → (IsOldPlace c.request c.at → ⊥)
-    → HasFault text Position
-old_misplaced text ls c e short old t refused =
-    (short, (c, inr (record { stands = old_stands_for text c (subst IsOld e old) (subst (λ l. TellsOldCheck l c) e t); refused = refused })))
+  old_stands : (c : Checkpoint) → TellsOldCheck ls c → OldStandsFor text c
+  old_stands c t = old_stands_for text c (subst IsOld are.are.lines_are are.old) (subst (λ l. TellsOldCheck l c) are.are.lines_are t)
 
-pub no_version : (text : Text) (ls : List Text) → ls ≡ lines_of text → IsShortText text → (IsNew ls → ⊥) → (IsOld ls → ⊥) → HasFault text Version
-no_version text ls e short not_new not_old = (short, record { not_new = λ h. not_new (subst IsNew (sym e) h); not_old = λ h. not_old (subst IsOld (sym e) h) })
+  pub old_read : (c : Checkpoint) → TellsOldCheck ls c → IsOldPlace c.request c.at → IsCheckpointText text c
+  old_read c t place = inr (record { short = are.are.short; stands = old_stands c t; place = place })
+
+  pub old_misplaced : (c : Checkpoint) → TellsOldCheck ls c → (IsOldPlace c.request c.at → ⊥) → HasFault text Position
+  old_misplaced c t refused = (are.are.short, (c, inr (record { stands = old_stands c t; refused = refused })))
+
+pub no_version : (text : Text) (ls : List Text) → AreShortLines text ls → (IsNew ls → ⊥) → (IsOld ls → ⊥) → HasFault text Version
+no_version text ls are not_new not_old =
+    (are.short, record { not_new = λ h. not_new (subst IsNew (sym are.lines_are) h); not_old = λ h. not_old (subst IsOld (sym are.lines_are) h) })
+
+-- ---- one clause for both outcomes
+
+pub of_value : (text : Text) (r : Result Checkpoint CheckFault) → IsReading text r → IfOk r (IsCheckpointText text)
+of_value text (Ok c) h = h
+of_value text (Err f) h = tt
+
+pub of_fault : (text : Text) (r : Result Checkpoint CheckFault) → IsReading text r → IfErr r (IsToldFault (HasFault text))
+of_fault text (Ok c) h = tt
+of_fault text (Err f) h = h
+
+pub refused : (text : Text) (r : Result Checkpoint CheckFault) (f : CheckFault) → IsErrAnd r (λ y. y ≡ f) → IsToldFault (HasFault text) f → IsReading text r
+refused text (Ok c) f is holds = absurd is
+refused text (Err g) f is holds = subst (IsToldFault (HasFault text)) (sym is) holds

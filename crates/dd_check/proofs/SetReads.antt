@@ -65,6 +65,10 @@ pub ends_in_order : (item : Item) → IsItem item → low_of item ≤ high_of it
 ends_in_order (One number) h = omega arith
 ends_in_order (Span low high) h = let a = h.1 in omega arith
 
+pub item_ends : (item : Item) (low high : ℕ) → IsItem item → low ≡ low_of item → high ≡ high_of item → (1 ≤ low) × (low ≤ high) × (high ≤ 216)
+item_ends (One n) low high i e f = (omega (arith, i.0), omega arith, omega (arith, i.1))
+item_ends (Span a b) low high i e f = (omega (arith, i.0), omega (arith, i.1), omega (arith, i.2))
+
 pub still_more : (all : List Item) (item : Item) (rest : List Item) (next : ℕ) → IsItem item → next ≤ low_of item → StillAre all (item ∷ rest) next → StillAre all rest (high_of item + 2)
 still_more all item rest next is from h = record {
   there = λ a. let b = (h.there a).0 in (record { each = b.each.1; parted = b.parted.1 }, b.parted.0);

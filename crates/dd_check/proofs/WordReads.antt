@@ -1,6 +1,6 @@
 -- Words, as the parts that references lead to.
 use Rattle.std.proofs.Common.{◌≡◌, ◌≢◌, ◌↔◌, IsTrue, ℕ, zero, suc, ◌+◌, ◌<◌, ◌≤◌, Bool, true, false, List, [], ◌∷◌, ◌++◌, length, get_or, take, map, refl, sym, ap, ◌∙◌, subst, arith, Option, Some, None}
-use Rattle.std.specs.Prelude.{decimal, IfSome, IfNone, Vec}
+use Rattle.std.specs.Prelude.{codes, decimal, MatchOption, Vec}
 use Rattle.std.specs.Borrow.{Bor}
 use Rattle.std.specs.Global.{Global}
 use Rattle.std.specs.List.{AllByRecursion}
@@ -14,9 +14,11 @@ use Rattle.dd_check.specs.declared.items.Item.TheVariants.{One, Span}
 use Rattle.dd_check.specs.Texts.{Text, texts, parts_of}
 use Rattle.dd_check.specs.Numerals.{IsShort, IsNumeral}
 use Rattle.dd_check.specs.Sets.{ends_of, item_text, set_text}
-use Rattle.dd_check.specs.Rows.{IsShortItem, IsNumberRow, IsSetRow}
+use Rattle.dd_check.specs.declared.limits.Limits.{Limits}
+use Rattle.dd_check.specs.declared.limits.OldLimits.{OldLimits}
+use Rattle.dd_check.specs.Rows.{IsShortItem, IsNumberRow, IsLimitsRow, IsOldLimitsRow, IsSetRow}
 use Rattle.dd_check.specs.Faults.{IsLine}
-use Rattle.dd_check.specs.Told.{AreEnds, IsItemWord, IsSetWord, IsWhatTells, IsWhatTellsItems, AreNumerals}
+use Rattle.dd_check.specs.Told.{AreEnds, IsItemWord, AreItemWords, IsSetWord, IsWhatTells, IsWhatTellsItems, AreLimitWords, AreOldLimitWords, AreNumerals}
 use Rattle.dd_check.proofs.JoinLemmas.{Avoids, split_joined, joined_parts}
 use Rattle.dd_check.proofs.NumberLemmas.{avoids_low}
 use Rattle.dd_check.proofs.SetReads.{TellsEach, tells_more, tells_none}
@@ -74,12 +76,11 @@ ends_parted (One n) a = split_joined 45 (decimal n) [] (avoids_low 45 (omega ari
 ends_parted (Span low high) a =
     split_joined 45 (decimal low) (decimal high ∷ []) (avoids_low 45 (omega arith) low a.0, (avoids_low 45 (omega arith) high a.1.0, tt))
 
-pub item_told : (r : Option Item) (ws : List (Bor Text)) (word : Text) → texts ws ≡ parts_of 45 word → IfSome r (λ item. AreEnds (texts ws) item)
-    → IfNone r ((item : Item) → AreEnds (texts ws) item → ⊥) → IsWhatTells IsItemWord word r
-item_told (Some item) ws word e some none =
-    record { text_is = joined_parts 45 word (map decimal (ends_of item)) (sym e ∙ some.words_are); short = some.short }
-item_told None ws word e some none = λ item h.
-    none item (record { words_are = e ∙ ap (parts_of 45) h.text_is ∙ ends_parted item h.short; short = h.short })
+pub item_told : (r : Option Item) (ws : List (Bor Text)) (word : Text) → texts ws ≡ parts_of 45 word → IsWhatTells AreEnds (texts ws) r → IsWhatTells IsItemWord word r
+item_told (Some item) ws word e h =
+    record { text_is = joined_parts 45 word (map decimal (ends_of item)) (sym e ∙ h.words_are); short = h.short }
+item_told None ws word e h = λ item is.
+    h item (record { words_are = e ∙ ap (parts_of 45) is.text_is ∙ ends_parted item is.short; short = is.short })
 
 all_avoid : (items : List Item) → AllByRecursion IsShortItem items → AllByRecursion (Avoids 44) (map item_text items)
 all_avoid [] a = tt
@@ -95,25 +96,25 @@ items_more ws k d items item h is t =
     subst (λ xs. TellsEach item_text IsShortItem xs (items ++ item ∷ [])) (sym (take_word ws k d h))
     (tells_more item_text IsShortItem (take k (texts ws)) (get_or ws k d).now items item t is.text_is is.short)
 
-pub items_none : (word : Text) (ws : List (Bor Text)) (k : ℕ) (d : Bor Text) → texts ws ≡ parts_of 44 word → k < length ws
-    → ((item : Item) → IsItemWord (get_or ws k d).now item → ⊥) → (items : List Item) → IsSetWord word items → ⊥
-items_none word ws k d e h none items is =
+pub items_none : (ws : List (Bor Text)) (k : ℕ) (d : Bor Text) → k < length ws → ((item : Item) → IsItemWord (get_or ws k d).now item → ⊥)
+    → (items : List Item) → AreItemWords (texts ws) items → ⊥
+items_none ws k d h none items are =
     let same = length_texts ws in
     tells_none item_text IsShortItem (texts ws) k (omega arith) (λ item eq short. none item (record { text_is = sym (word_at ws k d h) ∙ eq; short = short })) items
-    (record { words_are = e ∙ ap (parts_of 44) is.text_is ∙ items_parted items is.some is.short; each = is.short })
+    (record { words_are = are.words_are; each = are.short })
+
+pub items_all : (ws : List (Bor Text)) (k : ℕ) (items : List Item) → length ws ≤ k → TellsEach item_text IsShortItem (take k (texts ws)) items → AreItemWords (texts ws) items
+items_all ws k items h t = record { words_are = sym (take_words ws k h) ∙ t.words_are; short = t.each }
 
 parts_some : (c : ℕ) (text : Text) → parts_of c text ≡ [] → ⊥
 parts_some c text e = let n = length-slice_split (λ b. b == c) text in let m = ap length e in omega arith
 
-pub items_all : (word : Text) (ws : List (Bor Text)) (k : ℕ) (items : List Item) → texts ws ≡ parts_of 44 word → length ws ≤ k
-    → TellsEach item_text IsShortItem (take k (texts ws)) items → IsSetWord word items
-items_all word ws k items e h t =
-    let parted : parts_of 44 word ≡ map item_text items = sym e ∙ sym (take_words ws k h) ∙ t.words_are in
-    record {
-      text_is = joined_parts 44 word (map item_text items) parted;
-      some = λ empty. parts_some 44 word (parted ∙ ap (map item_text) empty);
-      short = t.each;
-    }
+pub set_word_told : (r : Option (Vec Item Global)) (word : Text) (words : List Text) → words ≡ parts_of 44 word → IsWhatTellsItems AreItemWords words r → IsWhatTellsItems IsSetWord word r
+set_word_told None word words e h = λ items is.
+    h items (record { words_are = e ∙ ap (parts_of 44) is.text_is ∙ items_parted items is.some is.short; short = is.short })
+set_word_told (Some items) word words e h =
+    let parted : parts_of 44 word ≡ map item_text items.items = sym e ∙ h.words_are in
+    record { text_is = joined_parts 44 word (map item_text items.items) parted; some = λ empty. parts_some 44 word (parted ∙ ap (map item_text) empty); short = h.short }
 
 -- ---- rows
 
@@ -148,9 +149,60 @@ pub seven_words : (ws : List (Bor Text)) (d0 d1 d2 d3 d4 d5 d6 : Bor Text) (a0 a
 seven_words (x0 ∷ x1 ∷ x2 ∷ x3 ∷ x4 ∷ x5 ∷ x6 ∷ []) d0 d1 d2 d3 d4 d5 d6 a0 a1 a2 a3 a4 a5 a6 low high p0 p1 p2 p3 p4 p5 p6 = cc
 seven_words ws d0 d1 d2 d3 d4 d5 d6 a0 a1 a2 a3 a4 a5 a6 low high p0 p1 p2 p3 p4 p5 p6 = absurd (omega arith)
 
-pub number_some : (r : Option ℕ) (key word : Text) (words : List Text) → words ≡ key ∷ word ∷ [] → IfSome r (λ n. IsNumeral word n) → IfSome r (λ n. IsNumberRow key words n)
-number_some None key word words e h = tt
-number_some (Some n) key word words e h = record { words_are = e ∙ ap (λ w. key ∷ w ∷ []) h.digits; short = h.short }
+-- a number after its word
+pub number_told : (r : Option ℕ) (key word : Text) (words : List Text) → words ≡ key ∷ word ∷ [] → IsWhatTells IsNumeral word r → IsWhatTells (IsNumberRow key) words r
+number_told None key word words e h = λ n row. h n (record { digits = ap (λ ws. get_or ws 1 []) (sym e ∙ row.words_are); short = row.short })
+number_told (Some n) key word words e h = record { words_are = e ∙ ap (λ w. key ∷ w ∷ []) h.digits; short = h.short }
+
+-- limits after their word
+pub limits_told : (r : Option Limits) (chambers tiles vertices filter : Text) (words : List Text) → words ≡ codes "request" ∷ chambers ∷ tiles ∷ vertices ∷ filter ∷ []
+    → MatchOption r ((limits : Limits) → AreLimitWords chambers tiles vertices filter limits → ⊥) (AreLimitWords chambers tiles vertices filter) → IsWhatTells IsLimitsRow words r
+limits_told None chambers tiles vertices filter words e h = λ limits row.
+    let same = sym e ∙ row.words_are in
+    h limits (record {
+      chambers_is = record { digits = ap (λ ws. get_or ws 1 []) same; short = row.chambers };
+      tiles_is = record { digits = ap (λ ws. get_or ws 2 []) same; short = row.tiles };
+      vertices_is = record { digits = ap (λ ws. get_or ws 3 []) same; short = row.vertices };
+      filter_is = ap (λ ws. get_or ws 4 []) same;
+    })
+limits_told (Some limits) chambers tiles vertices filter words e h = record {
+  words_are = e ∙ (λ i. codes "request" ∷ h.chambers_is.digits i ∷ h.tiles_is.digits i ∷ h.vertices_is.digits i ∷ h.filter_is i ∷ []);
+  chambers = h.chambers_is.short;
+  tiles = h.tiles_is.short;
+  vertices = h.vertices_is.short;
+}
+
+-- limits of version 1 after their word
+pub old_limits_told : (r : Option OldLimits) (chambers tiles vertices face degree filter : Text) (words : List Text)
+    → words ≡ codes "request" ∷ chambers ∷ tiles ∷ vertices ∷ face ∷ degree ∷ filter ∷ []
+    → MatchOption r ((limits : OldLimits) → AreOldLimitWords chambers tiles vertices face degree filter limits → ⊥) (AreOldLimitWords chambers tiles vertices face degree filter)
+    → IsWhatTells IsOldLimitsRow words r
+old_limits_told None chambers tiles vertices face degree filter words e h = λ limits row.
+    let same = sym e ∙ row.words_are in
+    h limits (record {
+      limits_are = record {
+        chambers_is = record { digits = ap (λ ws. get_or ws 1 []) same; short = row.chambers };
+        tiles_is = record { digits = ap (λ ws. get_or ws 2 []) same; short = row.tiles };
+        vertices_is = record { digits = ap (λ ws. get_or ws 3 []) same; short = row.vertices };
+        filter_is = ap (λ ws. get_or ws 6 []) same;
+      };
+      face_is = record { digits = ap (λ ws. get_or ws 4 []) same; short = row.least_face };
+      degree_is = record { digits = ap (λ ws. get_or ws 5 []) same; short = row.least_degree };
+    })
+old_limits_told (Some limits) chambers tiles vertices face degree filter words e h =
+    let is = h.limits_are in
+    record {
+      words_are = e ∙ (λ i. codes "request" ∷ is.chambers_is.digits i ∷ is.tiles_is.digits i ∷ is.vertices_is.digits i ∷ h.face_is.digits i ∷ h.degree_is.digits i ∷ is.filter_is i ∷ []);
+      chambers = is.chambers_is.short;
+      tiles = is.tiles_is.short;
+      vertices = is.vertices_is.short;
+      least_face = h.face_is.short;
+      least_degree = h.degree_is.short;
+    }
+
+-- no value, for a reason
+pub match_none : {A P : Type 0} (Q : A → Type 0) (r : Option A) → r ≡ None → P → MatchOption r P Q
+match_none {P = P} Q r e p = subst (λ x. MatchOption x P Q) (sym e) p
 
 -- a set after its word
 pub set_told : (r : Option (Vec Item Global)) (key word : Text) (words : List Text) → words ≡ key ∷ word ∷ [] → IsWhatTellsItems IsSetWord word r → IsWhatTellsItems (IsSetRow key) words r

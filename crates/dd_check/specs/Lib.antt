@@ -20,5 +20,6 @@ pub mod Places
 pub mod Accepted
 pub mod ShardChecks
 pub mod Refusals
+pub mod Outcomes
 pub mod Messages
 pub mod ShardFaults

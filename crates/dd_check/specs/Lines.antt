@@ -20,6 +20,11 @@ pub record IsMissing (lines : List Text) (k : ℕ) (fault : CheckFault) : Type 0
   pub shape : fault ≡ Shape k
   pub none : (line : Text) → IsLine lines k line → ⊥
 
+-- line k tells no value
+pub record IsUnformed {A : Type 0} (form : List Text → A → Type 0) (lines : List Text) (k : ℕ) (fault : CheckFault) : Type 0 where
+  pub shape : fault ≡ Shape k
+  pub none : (a : A) → Tells form lines k a → ⊥
+
 -- the answer's fault, unless memory was wanting
 abbrev pub IsToldFault : (CheckFault → Type 0) → CheckFault → Type 0
 IsToldFault P fault = (fault ≡ Memory → ⊥) → P fault

@@ -6,12 +6,14 @@ use Rattle.dd_model.specs.declared.jobs.Job.{Job}
 use Rattle.dd_model.specs.declared.jobs.Position.{Position}
 use Rattle.dd_model.specs.declared.jobs.Position.TheVariants.{At as AtJob, End as NoJob}
 use Rattle.dd_check.specs.declared.items.Item.{Item}
+use Rattle.dd_check.specs.declared.limits.Limits.{Limits}
+use Rattle.dd_check.specs.declared.limits.OldLimits.{OldLimits}
 use Rattle.dd_check.specs.declared.places.Place.{Place}
 use Rattle.dd_check.specs.declared.places.Place.TheVariants.{At, End}
 use Rattle.dd_check.specs.Texts.{Text}
 use Rattle.dd_check.specs.Numerals.{IsShort, IsNumeral}
 use Rattle.dd_check.specs.Sets.{ends_of, item_text, set_text}
-use Rattle.dd_check.specs.Rows.{IsShortItem, IsPlaceRow}
+use Rattle.dd_check.specs.Rows.{filter_word, IsShortItem, IsPlaceRow}
 
 -- a word that tells an item
 pub record IsItemWord (word : Text) (item : Item) : Type 0 where
@@ -22,6 +24,11 @@ pub record IsItemWord (word : Text) (item : Item) : Type 0 where
 pub record AreEnds (words : List Text) (item : Item) : Type 0 where
   pub words_are : words ≡ map decimal (ends_of item)
   pub short : IsShortItem item
+
+-- words that tell an item each
+pub record AreItemWords (words : List Text) (items : List Item) : Type 0 where
+  pub words_are : words ≡ map item_text items
+  pub short : AllByRecursion IsShortItem items
 
 -- a word that tells one or more items
 pub record IsSetWord (word : Text) (items : List Item) : Type 0 where
@@ -36,6 +43,20 @@ IsWhatTells form words told = MatchOption told ((a : _) → form words a → ⊥
 -- the same of a list of items
 abbrev pub IsWhatTellsItems : {B : Type 0} → (B → List Item → Type 0) → B → Option (Vec Item Global) → Type 0
 IsWhatTellsItems form words told = MatchOption told ((items : List Item) → form words items → ⊥) (λ items. form words items.items)
+
+-- words that are the limits of a request
+pub record AreLimitWords (chambers tiles vertices filter : Text) (limits : Limits) : Type 0 where
+  pub chambers_is : IsNumeral chambers limits.chambers
+  pub tiles_is : IsNumeral tiles limits.tiles
+  pub vertices_is : IsNumeral vertices limits.vertices
+  pub filter_is : filter ≡ filter_word limits.minimal
+
+-- words that are those of version 1
+pub record AreOldLimitWords (chambers tiles vertices face degree filter : Text) (limits : OldLimits) : Type 0 where
+  pub limits_are : AreLimitWords chambers tiles vertices filter
+      (record { chambers = limits.chambers; tiles = limits.tiles; vertices = limits.vertices; minimal = limits.minimal })
+  pub face_is : IsNumeral face limits.least_face
+  pub degree_is : IsNumeral degree limits.least_degree
 
 -- words that are numbers
 abbrev pub AreNumerals : List Text → List ℕ → Type 0

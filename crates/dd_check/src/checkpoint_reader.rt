@@ -1,10 +1,11 @@
-ghost use Rattle.std.specs.Prelude.{◌↔◌, codes, IfOk, IfErr, IsTrue};
-ghost use Rattle.dd_check.specs.Texts.{texts};
-ghost use Rattle.dd_check.specs.Faults.{IsLine, IsLineFault, IsOldLineFault};
+ghost use Rattle.std.specs.Prelude.{IfOk, IfErr};
+ghost use Rattle.dd_check.specs.Texts.{Text, texts};
+ghost use Rattle.dd_check.specs.Faults.{IsLineFault, IsOldLineFault};
 ghost use Rattle.dd_check.specs.Lines.{IsToldFault};
 ghost use Rattle.dd_check.specs.Readings.{TellsCheck, TellsOldCheck};
 ghost use Rattle.dd_check.specs.Accepted.{IsCheckpointText};
 ghost use Rattle.dd_check.specs.Refusals.{HasFault};
+ghost use Rattle.dd_check.specs.Outcomes.{AreShortLines, AreNewLines, AreOldLines, IsReading};
 
 use crate::checkpoint::Checkpoint;
 use crate::faults::CheckFault;
@@ -15,7 +16,7 @@ use crate::stops::{is_old_place, is_place};
 use dd_model::{Allowed, Request};
 use std::alloc::Global;
 
-/// How many bytes a text may have.
+/// The greatest number of bytes of a text.
 const LONGEST: usize = 4_096;
 
 /// The greatest number of a run.
@@ -24,7 +25,7 @@ const LAST_RUN: u64 = 999_999_999;
 /// The greatest number of lines, and of bytes.
 const MOST: u64 = 1_000_000_000_000_000_000;
 
-/// The values of a checkpoint text of version 2 or 1.
+/// Returns the values of a checkpoint text of version 2 or 1.
 pub fn read_checkpoint(alloc: Global, bytes: &[u8]) -> Result<Checkpoint, CheckFault>
     ensures read { IfOk result (IsCheckpointText bytes.now) }
     ensures fault { IfErr result (IsToldFault (HasFault bytes.now)) }
@@ -33,25 +34,47 @@ pub fn read_checkpoint(alloc: Global, bytes: &[u8]) -> Result<Checkpoint, CheckF
         return Err(CheckFault::Long);
     }
     let lines = parts(alloc, bytes, b'\n')?;
-    let lines = lines.as_slice();
-    if is_first(lines, b"dressline checkpoint 2") {
-        let c = read_lines(alloc, lines)?;
-        if !is_place(alloc, &c.request, &c.at)? {
-            return Err(CheckFault::Position);
-        }
-        return Ok(c);
-    }
-    if !is_first(lines, b"dressline checkpoint 1") {
-        return Err(CheckFault::Version);
-    }
-    let c = read_old_lines(alloc, lines)?;
-    if !is_old_place(&c.request, &c.at) {
-        return Err(CheckFault::Position);
-    }
-    Ok(c)
+    read_text(alloc, &lines)
 }
 
-/// The values of the lines of version 2 from the second line on.
+/// Returns the values of the lines of a text of version 2 or 1.
+fn read_text(alloc: Global, lines: &[&[u8]]) -> Result<Checkpoint, CheckFault>
+    ensures { (text : Text) → AreShortLines text (texts lines.now) → IsReading text result }
+{
+    if is_first(lines, b"dressline checkpoint 2") {
+        read_new(alloc, lines)
+    } else if is_first(lines, b"dressline checkpoint 1") {
+        read_old(alloc, lines)
+    } else {
+        Err(CheckFault::Version)
+    }
+}
+
+/// Returns the values of the lines of a text of version 2.
+fn read_new(alloc: Global, lines: &[&[u8]]) -> Result<Checkpoint, CheckFault>
+    ensures { (text : Text) → AreNewLines text (texts lines.now) → IsReading text result }
+{
+    let c = read_lines(alloc, lines)?;
+    if is_place(alloc, &c.request, &c.at)? {
+        Ok(c)
+    } else {
+        Err(CheckFault::Position)
+    }
+}
+
+/// Returns the values of the lines of a text of version 1.
+fn read_old(alloc: Global, lines: &[&[u8]]) -> Result<Checkpoint, CheckFault>
+    ensures { (text : Text) → AreOldLines text (texts lines.now) → IsReading text result }
+{
+    let c = read_old_lines(alloc, lines)?;
+    if is_old_place(&c.request, &c.at) {
+        Ok(c)
+    } else {
+        Err(CheckFault::Position)
+    }
+}
+
+/// Returns the values of the lines of version 2 from the second line on.
 fn read_lines(alloc: Global, lines: &[&[u8]]) -> Result<Checkpoint, CheckFault>
     ensures told { IfOk result (TellsCheck (texts lines.now)) }
     ensures fault { IfErr result (IsToldFault (IsLineFault (texts lines.now))) }
@@ -80,7 +103,7 @@ fn read_lines(alloc: Global, lines: &[&[u8]]) -> Result<Checkpoint, CheckFault>
     })
 }
 
-/// The values of the lines of version 1 from the second line on.
+/// Returns the values of the lines of version 1 from the second line on.
 fn read_old_lines(alloc: Global, lines: &[&[u8]]) -> Result<Checkpoint, CheckFault>
     ensures told { IfOk result (TellsOldCheck (texts lines.now)) }
     ensures fault { IfErr result (IsToldFault (IsOldLineFault (texts lines.now))) }

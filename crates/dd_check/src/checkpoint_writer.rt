@@ -16,7 +16,7 @@ use dd_model::{Allowed, Job, Memory, Position, Request};
 use std::alloc::AllocError;
 use std::fmt::Write;
 
-/// Appends the text of a checkpoint. At `Err` the text is as before.
+/// Appends the text of a checkpoint. After `Err` the text is as before.
 pub fn write_checkpoint(out: &mut Vec<u8>, c: &Checkpoint) -> Result<(), Memory>
     ensures check { OnOk result (AddsCheck c.now out.old.items out.new.items) }
     ensures same { OnErr result (out.new.items ≡ out.old.items) }
@@ -36,30 +36,30 @@ pub fn write_shard(out: &mut Vec<u8>, shard: Shard, c: &Checkpoint) -> Result<()
     Ok(out.extend_from_slice(text.as_bytes())?)
 }
 
+/// Appends the line of a shard and the lines of a checkpoint.
 fn put_shard(text: &mut String, shard: Shard, c: &Checkpoint) -> Result<(), AllocError>
     ensures { OnOk result
         (AddsShardCheck shard c.now (string_bytes text.old) (string_bytes text.new)) }
 {
     put_shard_line(text, shard)?;
-    put_checkpoint(text, c)?;
-    Ok(())
+    put_checkpoint(text, c)
 }
 
-/// Appends the numbers of a shard.
+/// Appends the line with the numbers of a shard.
 fn put_shard_line(text: &mut String, shard: Shard) -> Result<(), AllocError>
     ensures { OnOk result (string_bytes text.new ≡ string_bytes text.old ++ shard_line shard) }
 {
     writeln!(text, "dressline shard {} {}", shard.index(), shard.count())
 }
 
+/// Appends the lines of a checkpoint.
 fn put_checkpoint(text: &mut String, c: &Checkpoint) -> Result<(), AllocError>
     ensures { OnOk result (AddsCheck c.now (string_bytes text.old) (string_bytes text.new)) }
 {
     put_first_lines(text, c)?;
     put_set_line(text, "faces", &c.request.faces)?;
     put_set_line(text, "degrees", &c.request.degrees)?;
-    put_last_lines(text, c)?;
-    Ok(())
+    put_last_lines(text, c)
 }
 
 /// Appends the lines before those of the sets.
@@ -70,8 +70,7 @@ fn put_first_lines(text: &mut String, c: &Checkpoint) -> Result<(), AllocError>
         ++ line_text (limits_row (limits_of c.now.request))) }
 {
     writeln!(text, "dressline checkpoint 2\nrun {}", c.run)?;
-    put_limits_line(text, &c.request)?;
-    Ok(())
+    put_limits_line(text, &c.request)
 }
 
 /// Appends the lines after those of the sets.
@@ -81,11 +80,10 @@ fn put_last_lines(text: &mut String, c: &Checkpoint) -> Result<(), AllocError>
         ++ line_text (number_row (codes "bytes") c.now.bytes) ++ line_text (place_row c.now.at)) }
 {
     writeln!(text, "lines {}\nbytes {}", c.lines, c.bytes)?;
-    put_place_line(text, &c.at)?;
-    Ok(())
+    put_place_line(text, &c.at)
 }
 
-/// Appends what is asked for beside the sets.
+/// Appends the line of the limits of a request.
 fn put_limits_line(text: &mut String, q: &Request) -> Result<(), AllocError>
     ensures { OnOk result (string_bytes text.new
         ≡ string_bytes text.old ++ line_text (limits_row (limits_of q.now))) }
@@ -105,18 +103,17 @@ fn filter_word(minimal: bool) -> &'static str
     if minimal { "minimal" } else { "all" }
 }
 
-/// Appends a word and the items of a set.
+/// Appends a line of a word and the items of a set.
 fn put_set_line(text: &mut String, key: &str, set: &Allowed) -> Result<(), AllocError>
     ensures { OnOk result
         (AddsSetLine key.now set.now (string_bytes text.old) (string_bytes text.new)) }
 {
     write!(text, "{key} ")?;
     put_set(text, set)?;
-    writeln!(text)?;
-    Ok(())
+    writeln!(text)
 }
 
-/// Appends the longest rows of numbers of a set, in order, with commas between them.
+/// Appends the items of a set: its longest rows of numbers, in order, with commas between them.
 fn put_set(text: &mut String, set: &Allowed) -> Result<(), AllocError>
     ensures { OnOk result (AddsSet set.now (string_bytes text.old) (string_bytes text.new)) }
 {
@@ -155,7 +152,7 @@ fn put_ends(text: &mut String, low: u32, high: u32) -> Result<(), AllocError>
     }
 }
 
-/// Appends a position.
+/// Appends the line of a position.
 fn put_place_line(text: &mut String, at: &Position) -> Result<(), AllocError>
     ensures { OnOk result (string_bytes text.new
         ≡ string_bytes text.old ++ line_text (place_row at.now)) }
@@ -166,15 +163,14 @@ fn put_place_line(text: &mut String, at: &Position) -> Result<(), AllocError>
     }
 }
 
-/// Appends the size and the numbers of a job.
+/// Appends the line of a position at a job, by the size and the numbers of the job.
 fn put_job_line(text: &mut String, job: &Job) -> Result<(), AllocError>
     ensures { OnOk result (string_bytes text.new
         ≡ string_bytes text.old ++ line_text (place_row (Position.At job.now))) }
 {
     write!(text, "at {}", job.size)?;
     put_all(text, job.prefix.as_slice())?;
-    writeln!(text)?;
-    Ok(())
+    writeln!(text)
 }
 
 /// Appends numbers, each after a space.

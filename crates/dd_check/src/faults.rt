@@ -14,7 +14,7 @@ pub enum CheckFault {
     Shape { line: u32 },
     /// This line has a number out of range.
     Range { line: u32 },
-    /// The position is none at which a catalogue may stop.
+    /// A catalogue may not stop at the position.
     Position,
     /// There are over 4,096 bytes.
     Long,

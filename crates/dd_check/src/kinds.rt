@@ -1,5 +1,5 @@
-/// Which texts a run resumes from.
-#[derive(Clone, Copy, Debug, PartialEq, Eq)]
+/// Which kind of texts a run resumes from.
+#[derive(Clone, Copy)]
 pub enum Kind {
     /// Texts of catalogues.
     Catalogues,

@@ -3,12 +3,15 @@ ghost use Rattle.dd_check.specs.Texts.{texts};
 ghost use Rattle.dd_check.specs.Rows.{IsNumberRow, IsLimitsRow, IsOldLimitsRow, IsSetRow, IsPlaceRow};
 ghost use Rattle.dd_check.specs.Ranges.{IsFromTo, AreLimits, AreOldLimits, IsInRange, IsInOldRange};
 ghost use Rattle.dd_check.specs.Sets.{AreItems};
-ghost use Rattle.dd_check.specs.Lines.{IsToldFault, IsToldInRange, IsToldSet, IsFaultHere};
+ghost use Rattle.dd_check.specs.Faults.{Tells};
+ghost use Rattle.dd_check.specs.Lines.{IsToldFault, IsToldInRange, IsToldSet, IsFaultHere, IsUnformed};
+ghost use Rattle.dd_check.specs.Told.{position_of};
 
 use crate::faults::CheckFault;
 use crate::limits::{Limits, OldLimits};
 use crate::lines::words_at;
 use crate::place_rows::place_row;
+use crate::places::Place;
 use crate::positions::position;
 use crate::ranges::{are_limits, are_old_limits, is_from_to, is_in_old_range, is_in_range};
 use crate::rows::{limits_row, number_row, old_limits_row};
@@ -16,7 +19,7 @@ use crate::sets::{are_items, set_of, set_row};
 use dd_model::{Allowed, Position};
 use std::alloc::Global;
 
-/// The number of a line after a word, from low to high.
+/// Returns the number of a line after a word. It is from `low` to `high`.
 pub(crate) fn number_at(
     alloc: Global,
     lines: &[&[u8]],
@@ -41,7 +44,7 @@ pub(crate) fn number_at(
     Ok(number)
 }
 
-/// What is asked for beside the sets.
+/// Returns the limits of a request that a line has.
 pub(crate) fn limits_at(alloc: Global, lines: &[&[u8]], line: u32) -> Result<Limits, CheckFault>
     requires { 1 ≤ line }
     ensures told { IfOk result (IsToldInRange (texts lines.now) line IsLimitsRow AreLimits) }
@@ -58,7 +61,8 @@ pub(crate) fn limits_at(alloc: Global, lines: &[&[u8]], line: u32) -> Result<Lim
     Ok(limits)
 }
 
-/// Returns the same in version 1, with the least numbers of the sets.
+/// Returns the limits of a request that a line of version 1 has, with the least numbers of its
+/// sets.
 pub(crate) fn old_limits_at(
     alloc: Global,
     lines: &[&[u8]],
@@ -79,7 +83,7 @@ pub(crate) fn old_limits_at(
     Ok(limits)
 }
 
-/// The set of a line after a word.
+/// Returns the set of a line after a word.
 pub(crate) fn set_at(
     alloc: Global,
     lines: &[&[u8]],
@@ -102,7 +106,21 @@ pub(crate) fn set_at(
     Ok(set_of(items))
 }
 
-/// The position of a line.
+/// Returns what a line tells of a position, which may be out of range.
+fn told_place(alloc: Global, lines: &[&[u8]], line: u32) -> Result<Place, CheckFault>
+    requires { 1 ≤ line }
+    ensures told { IfOk result
+        (λ place. Tells IsPlaceRow (texts lines.now) line (position_of place)) }
+    ensures fault { IfErr result (IsToldFault (IsUnformed IsPlaceRow (texts lines.now) line)) }
+{
+    let words = words_at(alloc, lines, line)?;
+    match place_row(alloc, &words)? {
+        Some(place) => Ok(place),
+        None => Err(CheckFault::Shape { line }),
+    }
+}
+
+/// Returns the position of a line.
 pub(crate) fn place_at(
     alloc: Global,
     lines: &[&[u8]],
@@ -116,17 +134,14 @@ pub(crate) fn place_at(
     ensures fault { IfErr result
         (IsToldFault (IsFaultHere (texts lines.now) line IsPlaceRow (IsInRange chambers))) }
 {
-    let words = words_at(alloc, lines, line)?;
-    let Some(place) = place_row(alloc, &words)? else {
-        return Err(CheckFault::Shape { line });
-    };
+    let place = told_place(alloc, lines, line)?;
     if !is_in_range(chambers, &place) {
         return Err(CheckFault::Range { line });
     }
-    Ok(position(alloc, &place)?)
+    position(alloc, &place).map_err(CheckFault::from)
 }
 
-/// The position of a line of version 1.
+/// Returns the position of a line of version 1.
 pub(crate) fn old_place_at(
     alloc: Global,
     lines: &[&[u8]],
@@ -140,12 +155,9 @@ pub(crate) fn old_place_at(
     ensures fault { IfErr result
         (IsToldFault (IsFaultHere (texts lines.now) line IsPlaceRow (IsInOldRange chambers))) }
 {
-    let words = words_at(alloc, lines, line)?;
-    let Some(place) = place_row(alloc, &words)? else {
-        return Err(CheckFault::Shape { line });
-    };
+    let place = told_place(alloc, lines, line)?;
     if !is_in_old_range(chambers, &place) {
         return Err(CheckFault::Range { line });
     }
-    Ok(position(alloc, &place)?)
+    position(alloc, &place).map_err(CheckFault::from)
 }

@@ -7,7 +7,7 @@ use crate::faults::CheckFault;
 use crate::parts::parts;
 use std::alloc::Global;
 
-/// The words of a line, counted from 1, which ends with a line feed.
+/// Returns the words of a line. Lines are counted from 1, and end with a line feed.
 pub(crate) fn words_at<'a>(
     alloc: Global,
     lines: &[&'a [u8]],
@@ -21,10 +21,10 @@ pub(crate) fn words_at<'a>(
     if after >= lines.len() {
         return Err(CheckFault::Shape { line });
     }
-    Ok(parts(alloc, lines[after - 1], b' ')?)
+    parts(alloc, lines[after - 1], b' ').map_err(CheckFault::from)
 }
 
-/// Makes sure that nothing stands after the line feed of the line before.
+/// Returns `Err` if anything comes after the line feed of the line before this one.
 pub(crate) fn end_at(lines: &[&[u8]], line: u32) -> Result<(), CheckFault>
     requires { 1 ≤ line }
     ensures end { OnOk result (IsEnd (texts lines.now) line) }

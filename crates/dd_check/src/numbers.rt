@@ -1,5 +1,6 @@
-ghost use Rattle.std.specs.Prelude.{◌≡◌, ◌↔◌, ℕ, IsTrue, IfSome, IfNone, decimal};
+ghost use Rattle.std.specs.Prelude.{◌≡◌, ◌↔◌, IsTrue, decimal};
 ghost use Rattle.dd_check.specs.Numerals.{IsNumeral};
+ghost use Rattle.dd_check.specs.Told.{IsWhatTells};
 
 use itoa::Buffer;
 use std::str;
@@ -7,11 +8,10 @@ use std::str;
 /// One more than the greatest number of 19 digits.
 const LIMIT: u64 = 10_000_000_000_000_000_000;
 
-/// The number of a word that is written as the number is: without a leading zero, and with at
-/// most 19 digits.
+/// Returns the number of a word that is written as the number is: without a leading zero, and with
+/// at most 19 digits.
 pub(crate) fn read_number(word: &[u8]) -> Option<u64>
-    ensures some { IfSome result (λ n. IsNumeral word.now n) }
-    ensures none { IfNone result ((n : ℕ) → IsNumeral word.now n → ⊥) }
+    ensures { IsWhatTells IsNumeral word.now result }
 {
     let text = match str::from_utf8(word) {
         Ok(text) => text,

@@ -3,7 +3,7 @@ ghost use Rattle.dd_check.specs.Texts.{parts_of, texts};
 
 use std::alloc::{AllocError, Global};
 
-/// What stands between the places of a byte.
+/// Returns the parts of a text that are between the places of a byte.
 pub(crate) fn parts(alloc: Global, text: &[u8], separator: u8) -> Result<Vec<&[u8]>, AllocError>
     ensures { IfOk result (λ parts. texts parts.items ≡ parts_of separator text.now) }
 {

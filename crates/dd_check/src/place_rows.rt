@@ -7,7 +7,7 @@ use crate::places::Place;
 use dd_model::Memory;
 use std::alloc::Global;
 
-/// A position after its word.
+/// Returns the position that the words of a line are.
 pub(crate) fn place_row(alloc: Global, words: &[&[u8]]) -> Result<Option<Place>, Memory>
     ensures { IfOk result (λ told. IsWhatTellsPlace (texts words.now) told) }
 {
@@ -23,7 +23,7 @@ pub(crate) fn place_row(alloc: Global, words: &[&[u8]]) -> Result<Option<Place>,
     read_place(alloc, first, rest)
 }
 
-/// The end of all positions, where the word says so.
+/// Returns the end of all positions, if the word says so.
 fn end_of(word: &[u8]) -> Option<Place>
     ensures { IsWhatTellsEnd word.now result }
 {
@@ -33,7 +33,7 @@ fn end_of(word: &[u8]) -> Option<Place>
     None
 }
 
-/// A size and numbers.
+/// Returns the position that a word for its size and words for its numbers are.
 fn read_place(alloc: Global, size: &[u8], rest: &[&[u8]]) -> Result<Option<Place>, Memory>
     ensures { IfOk result (λ told. IsWhatTellsJob size.now (texts rest.now) told) }
 {
@@ -46,7 +46,7 @@ fn read_place(alloc: Global, size: &[u8], rest: &[&[u8]]) -> Result<Option<Place
     }
 }
 
-/// The numbers of some words.
+/// Returns the numbers that some words are.
 fn read_numbers(alloc: Global, words: &[&[u8]]) -> Result<Option<Vec<u64>>, Memory>
     ensures { IfOk result (λ told. IsWhatTellsNumbers (texts words.now) told) }
 {

@@ -5,7 +5,7 @@ use crate::places::Place;
 use dd_model::{Job, Memory, Position, Prefix};
 use std::alloc::Global;
 
-/// Returns the position that a text has.
+/// Returns the position that a text gives.
 pub(crate) fn position(alloc: Global, place: &Place) -> Result<Position, Memory>
     requires { IsSmallPlace place.now }
     ensures { IfOk result (λ at. at ≡ position_of place.now) }
@@ -20,7 +20,7 @@ pub(crate) fn position(alloc: Global, place: &Place) -> Result<Position, Memory>
     }
 }
 
-/// A prefix of these numbers.
+/// Returns the prefix that has these numbers.
 fn prefix_of(alloc: Global, numbers: &[u64]) -> Result<Prefix, Memory>
     requires { (t : ℕ) → t < length numbers.now → slice_index numbers.now t ≤ 216 }
     ensures { IfOk result (λ prefix. prefix ≡ numbers.now) }
@@ -29,5 +29,5 @@ fn prefix_of(alloc: Global, numbers: &[u64]) -> Result<Prefix, Memory>
     for number in numbers {
         bytes.push(*number as u8)?;
     }
-    Ok(Prefix::from_slice(alloc, &bytes)?)
+    Prefix::from_slice(alloc, &bytes)
 }

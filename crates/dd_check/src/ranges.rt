@@ -71,7 +71,7 @@ fn are_images_and_degrees(size: u64, numbers: &[u64]) -> bool
     true
 }
 
-/// The greatest number that may stand at a place of a code, counted from 0.
+/// Returns the greatest number that may be at a place of a code, counted from 0.
 fn greatest_at(size: u64, place: u64) -> u64
     requires { size ≤ 36 }
     ensures { ((place < 3 * size) × (result ≡ size)) ⊎ ((3 * size ≤ place) × (result ≡ 216)) }

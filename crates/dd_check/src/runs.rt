@@ -12,7 +12,7 @@ pub(crate) fn begins_run(set: &Allowed, number: u32) -> bool
     set.has(number) && !set.has(number - 1)
 }
 
-/// The last number of the row of numbers of a set that begins at a number of it.
+/// Returns the last number of the row of numbers of a set that begins at a number of it.
 pub(crate) fn last_of_run(set: &Allowed, low: u32) -> u32
     requires { IsIn set.now low }
     ensures within { (low ≤ result) × (result ≤ 216) }

@@ -1,10 +1,9 @@
-ghost use Rattle.std.specs.Prelude.{◌≡◌, ◌⊎◌, ◌↔◌, ◌≤◌, ◌<◌, ℕ, IfOk, IfSome, IfNone, IsTrue};
+ghost use Rattle.std.specs.Prelude.{◌≡◌, ◌⊎◌, ◌↔◌, ◌≤◌, ℕ, IfOk, IsTrue};
 ghost use Rattle.dd_model.specs.Allowed.{IsIn};
-ghost use Rattle.dd_check.specs.declared.items.Item.{Item};
 ghost use Rattle.dd_check.specs.Texts.{texts};
 ghost use Rattle.dd_check.specs.Sets.{IsItem, AreItems, IsSetOf, low_of, high_of};
 ghost use Rattle.dd_check.specs.Rows.{IsSetRow};
-ghost use Rattle.dd_check.specs.Told.{AreEnds, IsItemWord, IsSetWord, IsWhatTells, IsWhatTellsItems};
+ghost use Rattle.dd_check.specs.Told.{AreEnds, IsItemWord, AreItemWords, IsSetWord, IsWhatTells, IsWhatTellsItems};
 
 use crate::items::Item;
 use crate::numbers::read_number;
@@ -12,7 +11,7 @@ use crate::parts::parts;
 use dd_model::{Allowed, Memory};
 use std::alloc::Global;
 
-/// The items after a word.
+/// Returns the items after a word.
 pub(crate) fn set_row(
     alloc: Global,
     words: &[&[u8]],
@@ -29,15 +28,21 @@ pub(crate) fn set_row(
     read_items(alloc, items)
 }
 
-/// The items of a word, which have commas between them.
+/// Returns the items of a word, which have commas between them.
 fn read_items(alloc: Global, word: &[u8]) -> Result<Option<Vec<Item>>, Memory>
     ensures { IfOk result (λ told. IsWhatTellsItems IsSetWord word.now told) }
 {
-    let mut items = Vec::new(alloc);
     let words = parts(alloc, word, b',')?;
-    let words = words.as_slice();
-    for part in words {
-        match read_item(alloc, part)? {
+    items_of(alloc, &words)
+}
+
+/// Returns the items that some words are.
+fn items_of(alloc: Global, words: &[&[u8]]) -> Result<Option<Vec<Item>>, Memory>
+    ensures { IfOk result (λ told. IsWhatTellsItems AreItemWords (texts words.now) told) }
+{
+    let mut items = Vec::new(alloc);
+    for word in words {
+        match read_item(alloc, word)? {
             Some(item) => items.push(item)?,
             None => return Ok(None),
         }
@@ -45,7 +50,7 @@ fn read_items(alloc: Global, word: &[u8]) -> Result<Option<Vec<Item>>, Memory>
     Ok(Some(items))
 }
 
-/// One number, or two with a dash between them.
+/// Returns the item that a word is: one number, or two with a dash between them.
 fn read_item(alloc: Global, word: &[u8]) -> Result<Option<Item>, Memory>
     ensures { IfOk result (λ told. IsWhatTells IsItemWord word.now told) }
 {
@@ -53,10 +58,9 @@ fn read_item(alloc: Global, word: &[u8]) -> Result<Option<Item>, Memory>
     Ok(item_of(&ends))
 }
 
-/// The item of one number, or of two.
+/// Returns the item that has one number, or two.
 fn item_of(words: &[&[u8]]) -> Option<Item>
-    ensures some { IfSome result (λ item. AreEnds (texts words.now) item) }
-    ensures none { IfNone result ((item : Item) → AreEnds (texts words.now) item → ⊥) }
+    ensures { IsWhatTells AreEnds (texts words.now) result }
 {
     match words {
         [number] => Some(Item::One(read_number(number)?)),
@@ -92,7 +96,7 @@ fn is_item(item: Item) -> bool
     }
 }
 
-/// The least number of an item.
+/// Returns the least number of an item.
 fn low_of(item: Item) -> u64
     ensures { result ≡ low_of item }
 {
@@ -102,7 +106,7 @@ fn low_of(item: Item) -> u64
     }
 }
 
-/// The greatest number of an item.
+/// Returns the greatest number of an item.
 fn high_of(item: Item) -> u64
     ensures { result ≡ high_of item }
 {
@@ -112,7 +116,7 @@ fn high_of(item: Item) -> u64
     }
 }
 
-/// The set of the numbers of some items.
+/// Returns the set of the numbers of some items.
 pub(crate) fn set_of(items: &[Item]) -> Allowed
     requires { AreItems items.now }
     ensures { IsSetOf items.now result }
@@ -124,7 +128,7 @@ pub(crate) fn set_of(items: &[Item]) -> Allowed
     set
 }
 
-/// The numbers from low to high join a set.
+/// Adds the numbers from `low` to `high` to a set.
 fn add_range(set: &mut Allowed, low: u32, high: u32)
     requires { (1 ≤ low) × (low ≤ high) × (high ≤ 216) }
     ensures { (m : ℕ) → IsIn set.new m ↔ (IsIn set.old m ⊎ ((low ≤ m) × (m ≤ high))) }

@@ -47,7 +47,8 @@ fn is_whole_place(alloc: Global, q: &Request, job: &Job) -> Result<bool, Memory>
     Ok(is_opening(q, &first))
 }
 
-/// Returns the same of version 1: the end, or a job of the opening.
+/// Returns whether a catalogue may stop at a position of version 1: at the end, or at a job of the
+/// opening.
 pub(crate) fn is_old_place(q: &Request, at: &Position) -> bool
     ensures { IsTrue result ↔ IsOldPlace q.now at.now }
 {

@@ -10,7 +10,6 @@ use Rattle.std.proofs.Math.Seq.{take-suc}
 use Rattle.std.proofs.lemmas.Option.{get_or_from_slice_get, slice_get_within}
 use Rattle.std.proofs.lemmas.Grind.{flat_map-append}
 use Rattle.std.proofs.lemmas.List.Concat.{flat_map-cons}
-use Rattle.dd_draw.proofs.Spots.{three_parts}
 use Rattle.dd_commands.specs.Totals.{counted, total_text}
 
 -- names with their numbers, as the map keeps them
@@ -56,6 +55,11 @@ totals_taken word es i e at =
     ap (λ j. take j es) next ∙ take-suc es i e inside ∙ ap (λ x. take i es ++ x ∷ []) (get_or_from_slice_get es i e e at) in
     let line : total_text word e ≡ flat_map (total_text word) (e ∷ []) = sym (append-nil (total_text word e)) ∙ sym (flat_map-cons (total_text word) e []) in
     ap (λ t. flat_map (total_text word) (take i es) ++ t) line ∙ sym (flat_map-append (total_text word) (take i es) (e ∷ [])) ∙ ap (flat_map (total_text word)) (sym taken)
+
+-- three parts of a text, one after the other
+pub three_parts : (old one two three a b c : List ℕ) → a ≡ old ++ one → b ≡ a ++ two → c ≡ b ++ three → c ≡ old ++ (one ++ (two ++ three))
+three_parts old one two three a b c ea eb ec =
+    ec ∙ ap (λ t. t ++ three) (eb ∙ ap (λ t. t ++ two) ea) ∙ append_assoc (old ++ one) two three ∙ append_assoc old one (two ++ three)
 
 -- a text of four parts more
 pub four_parts : (old one two three four a b c d : List ℕ) → a ≡ old ++ one → b ≡ a ++ two → c ≡ b ++ three → d ≡ c ++ four

@@ -1,4 +1,5 @@
 use Rattle.std.proofs.Common.{refl}
+use Rattle.std.proofs.lemmas.Result.{on_ok_weaker}
 use Rattle.std.specs.Prelude.{string_bytes}
 use Rattle.dd_check.specs.Checks.{check_text}
 use Rattle.dd_check.proofs.LineLemmas.{check_lines}
@@ -8,7 +9,8 @@ pub returns : goal.returns
 returns c =
     let f = c.in_ok-put_set_line.ensures in
     let d = c.in_ok-put_set_line-2.ensures in
-    record {
+    on_ok_weaker c.put_last_lines.result
+    (λ last. record {
       check = check_text c.args.c.now f.items d.items;
       is_check = record {
         faces = f.items;
@@ -20,5 +22,6 @@ returns c =
         text_is = refl;
       };
       text = check_lines (string_bytes c.args.text.now) (string_bytes c.put_first_lines.new.text) (string_bytes c.put_set_line.new.text) (string_bytes c.put_set_line-2.new.text)
-          (string_bytes c.put_last_lines.new.text) c.args.c.now f.items d.items c.in_ok-put_first_lines.ensures f.text d.text c.in_ok-put_last_lines.ensures;
-    }
+          (string_bytes c.put_last_lines.new.text) c.args.c.now f.items d.items c.in_ok-put_first_lines.ensures f.text d.text last;
+    })
+    c.put_last_lines.ensures

@@ -1,4 +1,5 @@
 use Rattle.std.proofs.Common.{◌++◌, ◌∙◌, ap}
+use Rattle.std.proofs.lemmas.Result.{on_ok_weaker}
 use Rattle.std.specs.Prelude.{string_bytes}
 use Rattle.std.specs.List.{flat_map}
 use Rattle.dd_model.specs.Line.{after_space}
@@ -10,5 +11,7 @@ returns c =
     let o1 = string_bytes c.write.new.self in
     let o2 = string_bytes c.put_all.new.text in
     let o3 = string_bytes c.writeln.new.self in
-    job_line (string_bytes c.args.text.now) o1 o2 o3 c.args.job.now.size c.args.job.now.prefix
-    c.in_ok-write.ensures.bytes (c.in_ok-put_all.ensures ∙ ap (λ ns. o1 ++ flat_map after_space ns) c.as_slice.ensures) c.in_ok-writeln.ensures.bytes
+    on_ok_weaker c.writeln.result
+    (job_line (string_bytes c.args.text.now) o1 o2 o3 c.args.job.now.size c.args.job.now.prefix
+    c.in_ok-write.ensures.bytes (c.in_ok-put_all.ensures ∙ ap (λ ns. o1 ++ flat_map after_space ns) c.as_slice.ensures))
+    c.writeln.ensures.bytes

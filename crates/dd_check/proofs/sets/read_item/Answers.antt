@@ -5,4 +5,4 @@ use Rattle.dd_check.proofs.sets.read_item.Goals as goal
 
 pub returns : goal.returns
 returns c =
-    item_told c.item_of.result c.deref.result.now c.args.word.now (ap texts c.deref.ensures.value ∙ c.in_ok-ends.ensures) c.item_of.ensures.some c.item_of.ensures.none
+    item_told c.item_of.result c.deref.result.now c.args.word.now (ap texts c.deref.ensures.value ∙ c.in_ok-ends.ensures) c.item_of.ensures

@@ -1,5 +1,5 @@
 use Rattle.std.proofs.Common.{◌++◌, refl, ap, ◌∙◌}
-use Rattle.dd_draw.proofs.Spots.{three_parts}
+use Rattle.dd_commands.proofs.TotalsSteps.{three_parts}
 use Rattle.dd_commands.specs.Facts.{head_text, tail_text}
 use Rattle.dd_commands.proofs.info.put_info_line.Goals as goal
 
