@@ -1,9 +1,8 @@
 -- What a census tells of the tables with an image more, and of the ends that are left.
-use Rattle.std.proofs.Common.{◌≡◌, ℕ, ◌+◌, ◌*◌, ◌%◌, ◌≤◌, ◌⊎◌, Bool, refl, sym, ap, ◌∙◌, inl, inr, ⊎_elim, arith}
+use Rattle.std.proofs.Common.{◌≡◌, ℕ, ◌+◌, ◌*◌, ◌%◌, ◌≤◌, Bool, refl, sym, ap, ◌∙◌, inl, inr, ⊎_elim, arith}
 use Rattle.std.proofs.lemmas.Bool.{cases_lt}
 use Rattle.dd_model.specs.Symbol.{Symbol}
 use Rattle.dd_model.specs.Wanted.{Wanted}
-use Rattle.dd_model.specs.declared.pair.Pair.TheVariants.{Tile, Vertex}
 use Rattle.dd_bounds.specs.Census.{HasCell, HasFixedEnd, HasJoined}
 use Rattle.dd_bounds.specs.Changes.{IsLink, AreFixed, AreClosed, AreJoined}
 use Rattle.dd_bounds.specs.Classes.{IsClosedShare, IsCappedShare, IsJoinedShare}
@@ -21,7 +20,7 @@ use Rattle.dd_bounds.proofs.PassingTables.{passing_tables}
 use Rattle.dd_bounds.proofs.PutLemmas.{put, closed_put}
 use Rattle.dd_bounds.proofs.SideLemmas.{IsAnEnd, AreTwoEnds, end_live, end_chambers, end_other, end_capped, joined_both, joined_together, ends_link, end_fixed, right_capped, right_closed, right_connected}
 
-module _ (t : ClassShares) (which : (t.pair ≡ Tile) ⊎ (t.pair ≡ Vertex)) (P : Symbol) (test : Symbol → Bool) (old : ℕ → PathEnd) (total : ℕ)
+module _ (t : ClassShares) (P : Symbol) (test : Symbol → Bool) (old : ℕ → PathEnd) (total : ℕ)
     (are : AreEndsOf t.request P test t.pair old total) where
   -- ## An involution fixes the end of a path
 
@@ -34,7 +33,7 @@ module _ (t : ClassShares) (which : (t.pair ≡ Tile) ⊎ (t.pair ≡ Vertex)) (
       fixed_census : (R K : ℕ → Type 0) → IsChange s t.pair old x R K → (64 ≤ a → IsApart s t.pair x R) → IsCounted s t.pair R K after
       fixed_census R K change apart =
           end_counted t.request (Passes P test) P.size t.pair (passing_tables P test) old total are s is wanted R K first told
-          x a v own (end_fixed t which P test old total total are end join v share) (sym (end_chambers t old end)) all (right_capped t which P test old total total are end join v share few s wanted is) (end_capped t old end) change apart after more
+          x a v own (end_fixed t P test old total total are end join v share) (sym (end_chambers t old end)) all (right_capped t P test old total total are end join v share few s wanted is) (end_capped t old end) change apart after more
 
       pub capped_census : HasCounted s t.pair after
       capped_census = fixed_census (λ _. ⊥) (λ _. ⊥) (none_left s t.pair old x) (λ _ e no. absurd no)
@@ -63,7 +62,7 @@ module _ (t : ClassShares) (which : (t.pair ≡ Tile) ⊎ (t.pair ≡ Vertex)) (
       met_census : (R K : ℕ → Type 0) → IsChange s t.pair old x R K → IsApart s t.pair x R → IsCounted s t.pair R K after
       met_census R K change away =
           met_counted t.request (Passes P test) P.size t.pair (passing_tables P test) old total are s is wanted R K first told
-          x y meet a v own (sym (end_chambers t old end)) all (right_closed t which P test old total total are end y join other apart v share few s wanted is) (end_capped t old end)
+          x y meet a v own (sym (end_chambers t old end)) all (right_closed t P test old total total are end y join other apart v share few s wanted is) (end_capped t old end)
           (IsLoose old) first told change.near (λ z holds. (change.fewer z holds).0) away after more
 
       pub closed_census : HasCounted s t.pair after
@@ -81,15 +80,15 @@ module _ (t : ClassShares) (which : (t.pair ≡ Tile) ⊎ (t.pair ≡ Vertex)) (
     module _ (v own : ℕ) (share : IsJoinedShare t.request t.pair t.weights a b v) (all : own ≡ (a % 64 + b % 64) * v) (s : Symbol) (wanted : Wanted t.request s) (is : Passes P test s)
         (first : Census) (told : AreCounted s t.pair old first) (after : Census) (more : HasJoined first a b own after) where
       link : IsLink (Passes P test) t.pair old x y
-      link = ends_link t which P test old total total are two sized few join v share
+      link = ends_link t P test old total total are two sized few join v share
 
       paths_census : (R K : ℕ → Type 0) → ((e : ℕ) → R e → IsNear s t.pair (IsAtEnd old) e) → ((z : ℕ) → K z → IsLoose old z) → (64 ≤ a → 64 ≤ b → IsApart s t.pair x R)
           → IsCounted s t.pair R K after
       paths_census R K near fewer away =
-          let both = joined_both t which P test old total total are two sized few join v share in
+          let both = joined_both t P test old total total are two sized few join v share in
           joined_counted t.request (Passes P test) P.size t.pair (passing_tables P test) old total are s is wanted R K first told
-          x y a b v own link (joined_together t which P test old total total are two sized few join v share) (all ∙ ap (λ k. k * v) (sym both.chambers)) (λ high _. both.stays (inl high))
-          (right_connected t which P test old total total are two sized few join v share s wanted is)
+          x y a b v own link (joined_together t P test old total total are two sized few join v share) (all ∙ ap (λ k. k * v) (sym both.chambers)) (λ high _. both.stays (inl high))
+          (right_connected t P test old total total are two sized few join v share s wanted is)
           (λ high. (end_capped t old two.one).1 high) (λ high. (end_capped t old two.other).1 high) near fewer away after more
 
       pub joined_census : HasCounted s t.pair after

@@ -21,7 +21,6 @@ side_of_longer old new t side same undone kept =
       sized = kept.sized ∙ sym same;
       ends = ends_of_fewer t.request (partial_of old) (partial_of new) (λ _. true) (λ _. true) t.pair (ends_of t side) side.total same more kept.ends;
       others = kept.others;
-      few = kept.few;
       counted = λ s wanted full. kept.counted s wanted (completes_shorter old new undone s full);
     }
 

@@ -1,5 +1,5 @@
 -- What bounds the shares of a pair in wanted symbols.
-use Rattle.std.proofs.Common.{◌≡◌, ◌⊎◌, ℕ, ◌+◌, ◌*◌, ◌<◌, ◌≤◌, Bool, true, inl, inr, refl, sym, ap, subst, arith}
+use Rattle.std.proofs.Common.{◌≡◌, ℕ, ◌+◌, ◌*◌, ◌<◌, ◌≤◌, Bool, true, refl, sym, ap, subst, arith}
 use Rattle.dd_model.specs.declared.pair.Pair.{Pair}
 use Rattle.dd_model.specs.declared.pair.Pair.TheVariants.{Tile, Vertex}
 use Rattle.dd_model.specs.declared.requests.Request.{Request}
@@ -18,7 +18,7 @@ use Rattle.dd_bounds.specs.declared.sides.Sides.{Sides}
 use Rattle.dd_bounds.proofs.FlatBound.{flat_bound}
 use Rattle.dd_bounds.proofs.SumLemmas.{bounds_of_sum, census_as_kept, sum_as_kept, total_small}
 
-module _ (t : ClassShares) (P : Symbol) (q : Request) (p : Pair) (asked : t.request ≡ q) (pair : t.pair ≡ p) (which : (p ≡ Tile) ⊎ (p ≡ Vertex)) where
+module _ (t : ClassShares) (P : Symbol) (q : Request) (p : Pair) (asked : t.request ≡ q) (pair : t.pair ≡ p) where
   wanted_there : (s : Symbol) → Wanted q s → Wanted t.request s
   wanted_there s wanted = subst (λ r. Wanted r s) (sym asked) wanted
 
@@ -26,13 +26,13 @@ module _ (t : ClassShares) (P : Symbol) (q : Request) (p : Pair) (asked : t.requ
   pub sum_bounds : (test : Symbol → Bool) (total bound : ℕ) → IsSumOf t P test total → KeepsBounds q P test p bound total
   sum_bounds test total bound sum s wanted is before =
       subst (λ r. BoundsReciprocals s r total) pair
-      (bounds_of_sum t P test total (subst (λ r. (r ≡ Tile) ⊎ (r ≡ Vertex)) (sym pair) which) sum s (wanted_there s wanted) is)
+      (bounds_of_sum t P test total sum s (wanted_there s wanted) is)
 
   -- so does the sum that is kept
   pub total_bounds : (side : Side) → IsSide t P side → IsTotal q P p share_unit side.total
   total_bounds side kept s sought =
       subst (λ r. BoundsReciprocals s r side.total) pair
-      (bounds_of_sum t P (λ _. true) side.total (subst (λ r. (r ≡ Tile) ⊎ (r ≡ Vertex)) (sym pair) which) (sum_as_kept t P side kept (λ _. true)) s (wanted_there s sought.wanted)
+      (bounds_of_sum t P (λ _. true) side.total (sum_as_kept t P side kept (λ _. true)) s (wanted_there s sought.wanted)
       (record { completes = sought.completes; passed = refl }))
 
   -- what the census counts that is kept
@@ -51,8 +51,8 @@ none_of_bounds q s size A B wanted is tiles vertices low =
 -- the totals that are kept bound both pairs
 pub bounds_kept : (t : PathShares) (P : Symbol) (sides : Sides) → AreSides t P sides → P.size ≤ 36 → AreBounds t.request P sides.tiles.total sides.vertices.total
 bounds_kept t P sides kept small = record {
-  tiles_within = total_bounds t.tiles P t.request Tile t.tiles_asked t.tiles_pair (inl refl) sides.tiles kept.tiles;
-  vertices_within = total_bounds t.vertices P t.request Vertex t.vertices_asked t.vertices_pair (inr refl) sides.vertices kept.vertices;
+  tiles_within = total_bounds t.tiles P t.request Tile t.tiles_asked t.tiles_pair sides.tiles kept.tiles;
+  vertices_within = total_bounds t.vertices P t.request Vertex t.vertices_asked t.vertices_pair sides.vertices kept.vertices;
   few_tiles = total_small t.tiles P sides.tiles kept.tiles small;
   few_vertices = total_small t.vertices P sides.vertices kept.vertices small;
 }

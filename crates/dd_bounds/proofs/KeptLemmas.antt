@@ -1,7 +1,6 @@
 -- The ends of paths after some were written.
-use Rattle.std.proofs.Common.{◌≡◌, ℕ, ◌+◌, ◌*◌, ◌%◌, ◌<◌, ◌≤◌, ◌⊎◌, Bool, List, Some, length, set, slice_get, sym, ap, subst, arith}
+use Rattle.std.proofs.Common.{◌≡◌, ℕ, ◌+◌, ◌*◌, ◌%◌, ◌<◌, ◌≤◌, Bool, List, Some, length, set, slice_get, sym, ap, subst, arith}
 use Rattle.dd_model.specs.Symbol.{Symbol}
-use Rattle.dd_model.specs.declared.pair.Pair.TheVariants.{Tile, Vertex}
 use Rattle.dd_model.specs.Wanted.{Wanted}
 use Rattle.dd_bounds.specs.Census.{HasCell, HasFixedEnd, HasJoined}
 use Rattle.dd_bounds.specs.Classes.{joined_class, IsClosedShare, IsCappedShare, IsJoinedShare}
@@ -43,14 +42,14 @@ pub record IsBeyond (one : End) (further kind : ℕ) (e : End) : Type 0 where
   pub other : one.class.number < 64 → e.other ≡ further
   pub class : one.class.number < 64 → e.class.number ≡ kind
 
-module _ (t : ClassShares) (which : (t.pair ≡ Tile) ⊎ (t.pair ≡ Vertex)) (P : Symbol) (test : Symbol → Bool) (xs : List End) (total more : ℕ)
+module _ (t : ClassShares) (P : Symbol) (test : Symbol → Bool) (xs : List End) (total more : ℕ)
     (are : AreEndsOf t.request P test t.pair (view t xs) total) (long : length xs ≡ 74) (x : ℕ) (one : End) (flag : x < 74) where
   pub capped_kept : IsAnEnd t (view t xs) x one.other one.class.number → one.class.number % 64 ≤ 36 → (v i j : ℕ) (n d : End) → i ≡ x → j ≡ one.other → n.class.number ≡ 0
       → IsBeyond one x (64 + one.class.number % 64) d → IsJoin (Passes P test) t.pair x x → IsCappedShare t.request t.pair t.weights one.class.number v
       → more + class_weight t one.class.number ≡ total + one.class.number % 64 * v → AreEndsOf t.request P test t.pair (view t (set (set xs i n) j d)) more
   capped_kept end few v i j n d first second none beyond join share sum =
       kept_two t t.request P test t.pair xs more long x one.other i j n d flag one.other_inside first second
-      (ends_capped t which P test (view t xs) total more are end join v share few (end_of t (Some n)) (end_of t (Some d)) (ap (λ k. k % 64) none)
+      (ends_capped t P test (view t xs) total more are end join v share few (end_of t (Some n)) (end_of t (Some d)) (ap (λ k. k % 64) none)
       (λ high. ap (λ k. k % 64) (beyond.fixed high)) (λ low i. path_end t (beyond.other low i) (beyond.class low i)) sum)
 
   pub closed_kept : IsAnEnd t (view t xs) x one.other one.class.number → one.class.number % 64 ≤ 36 → (y v i j : ℕ) (n d : End) → one.other ≡ y → (y ≡ x → ⊥) → i ≡ x → j ≡ one.other
@@ -58,7 +57,7 @@ module _ (t : ClassShares) (which : (t.pair ≡ Tile) ⊎ (t.pair ≡ Vertex)) (
       → more + class_weight t one.class.number ≡ total + one.class.number % 64 * v → AreEndsOf t.request P test t.pair (view t (set (set xs i n) j d)) more
   closed_kept end few y v i j n d other apart first second none also join share sum =
       kept_two t t.request P test t.pair xs more long x one.other i j n d flag one.other_inside first second
-      (ends_closed t which P test (view t xs) total more are end y join other apart v share few (end_of t (Some n)) (end_of t (Some d)) (ap (λ k. k % 64) none) (ap (λ k. k % 64) also) sum)
+      (ends_closed t P test (view t xs) total more are end y join other apart v share few (end_of t (Some n)) (end_of t (Some d)) (ap (λ k. k % 64) none) (ap (λ k. k % 64) also) sum)
 
   pub connected_kept : (y : ℕ) (other : End) → AreTwoEnds t (view t xs) x one.other one.class.number y other.other other.class.number → t.size ≡ P.size → y < 74
       → one.class.number % 64 + other.class.number % 64 ≤ 36 → (v a b i j : ℕ) (n o e d : End) → a ≡ x → b ≡ y → i ≡ one.other → j ≡ other.other → n.class.number ≡ 0 → o.class.number ≡ 0
@@ -68,7 +67,7 @@ module _ (t : ClassShares) (which : (t.pair ≡ Tile) ⊎ (t.pair ≡ Vertex)) (
       → AreEndsOf t.request P test t.pair (view t (set (set (set (set xs a n) b o) i e) j d)) more
   connected_kept y other two sized y_flag few v a b i j n o e d first second third fourth none nor ahead back join share sum =
       kept_four t t.request P test t.pair xs more long x y one.other other.other a b i j n o e d flag y_flag one.other_inside other.other_inside first second third fourth
-      (ends_connected t which P test (view t xs) total more are two sized few join v share (end_of t (Some n)) (end_of t (Some o)) (end_of t (Some e)) (end_of t (Some d))
+      (ends_connected t P test (view t xs) total more are two sized few join v share (end_of t (Some n)) (end_of t (Some o)) (end_of t (Some e)) (end_of t (Some d))
       (ap (λ k. k % 64) none) (ap (λ k. k % 64) nor)
       (λ high. ap (λ k. k % 64) (ahead.fixed high)) (λ low i. path_end t (ahead.other low i) (ahead.class low i))
       (λ high. ap (λ k. k % 64) (back.fixed high)) (λ low i. path_end t (back.other low i) (back.class low i)) sum)
@@ -80,7 +79,7 @@ pub record IsRest (t : ClassShares) (P : Symbol) (test : Symbol → Bool) (old n
   pub others : HaveOthers new
   pub counted : (s : Symbol) → Wanted t.request s → Passes P test s → AreCounted s t.pair old first → AreCounted s t.pair new after
 
-module _ (t : ClassShares) (which : (t.pair ≡ Tile) ⊎ (t.pair ≡ Vertex)) (P : Symbol) (test : Symbol → Bool) (xs : List End) (total : ℕ)
+module _ (t : ClassShares) (P : Symbol) (test : Symbol → Bool) (xs : List End) (total : ℕ)
     (are : AreEndsOf t.request P test t.pair (view t xs) total) (others : HaveOthers (view t xs)) (long : length xs ≡ 74) (x : ℕ) (one : End) (flag : x < 74)
     (first after : Census) (v own : ℕ) where
   pub capped_rest : IsAnEnd t (view t xs) x one.other one.class.number → one.class.number % 64 ≤ 36 → (i j : ℕ) (n d : End) → i ≡ x → j ≡ one.other → n.class.number ≡ 0
@@ -90,13 +89,13 @@ module _ (t : ClassShares) (which : (t.pair ≡ Tile) ⊎ (t.pair ≡ Vertex)) (
       let new = put (put (view t xs) x (end_of t (Some n))) one.other (end_of t (Some d)) in
       let empty : (end_of t (Some n)).chambers ≡ 0 = ap (λ k. k % 64) none in
       let gone : 64 ≤ one.class.number → (end_of t (Some d)).chambers ≡ 0 = λ high. ap (λ k. k % 64) (beyond.fixed high) in
-      let each = are_fixed t which P test (view t xs) total total are end join v share (end_of t (Some n)) (end_of t (Some d)) empty gone
+      let each = are_fixed t P test (view t xs) total total are end join v share (end_of t (Some n)) (end_of t (Some d)) empty gone
       (λ low i. path_end t (beyond.other low i) (beyond.class low i)) in
       subst (λ f. IsRest t P test (view t xs) f first after) (sym (two_written t xs long x one.other i j n d flag one.other_inside first_place second_place))
       (record {
         others = fixed_others t.request (Passes P test) P.size t.pair (passing_tables P test) (view t xs) new total are x v (end_live t (view t xs) end) others each;
         counted = λ s wanted is told.
-            capped_counted t which P test (view t xs) total are end join few v own share all s wanted is first told after more (end_of t (Some n)) (end_of t (Some d)) others empty gone each;
+            capped_counted t P test (view t xs) total are end join few v own share all s wanted is first told after more (end_of t (Some n)) (end_of t (Some d)) others empty gone each;
       })
 
   pub closed_rest : IsAnEnd t (view t xs) x one.other one.class.number → one.class.number % 64 ≤ 36 → (y i j : ℕ) (n d : End) → one.other ≡ y → (y ≡ x → ⊥) → i ≡ x → j ≡ one.other
@@ -109,7 +108,7 @@ module _ (t : ClassShares) (which : (t.pair ≡ Tile) ⊎ (t.pair ≡ Vertex)) (
       (record {
         others = closed_others t.request (Passes P test) P.size t.pair (passing_tables P test) (view t xs) new total are x each others;
         counted = λ s wanted is told.
-            closed_counted t which P test (view t xs) total are end few y join other apart v own share all s wanted is first told after more new each;
+            closed_counted t P test (view t xs) total are end few y join other apart v own share all s wanted is first told after more new each;
       })
 
   pub connected_rest : (y : ℕ) (other : End) → AreTwoEnds t (view t xs) x one.other one.class.number y other.other other.class.number → t.size ≡ P.size → y < 74
@@ -120,15 +119,15 @@ module _ (t : ClassShares) (which : (t.pair ≡ Tile) ⊎ (t.pair ≡ Vertex)) (
       → IsRest t P test (view t xs) (view t (set (set (set (set xs a n) b o) i e) j d)) first after
   connected_rest y other two sized y_flag few a b i j n o e d first_place second_place third_place fourth_place none nor ahead back join share all more =
       let new = connected (view t xs) x y one.other other.other (end_of t (Some n)) (end_of t (Some o)) (end_of t (Some e)) (end_of t (Some d)) in
-      let each = are_joined t which P test (view t xs) total total are two sized few join v share (end_of t (Some n)) (end_of t (Some o)) (end_of t (Some e)) (end_of t (Some d))
+      let each = are_joined t P test (view t xs) total total are two sized few join v share (end_of t (Some n)) (end_of t (Some o)) (end_of t (Some e)) (end_of t (Some d))
       (ap (λ k. k % 64) none) (ap (λ k. k % 64) nor)
       (λ high. ap (λ k. k % 64) (ahead.fixed high)) (λ low i. path_end t (ahead.other low i) (ahead.class low i))
       (λ high. ap (λ k. k % 64) (back.fixed high)) (λ low i. path_end t (back.other low i) (back.class low i)) in
-      let link = ends_link t which P test (view t xs) total total are two sized few join v share in
+      let link = ends_link t P test (view t xs) total total are two sized few join v share in
       subst (λ f. IsRest t P test (view t xs) f first after)
       (sym (four_written t xs long x y one.other other.other a b i j n o e d flag y_flag one.other_inside other.other_inside first_place second_place third_place fourth_place))
       (record {
         others = joined_others t.request (Passes P test) P.size t.pair (passing_tables P test) (view t xs) new total are x y v link others each;
         counted = λ s wanted is told.
-            joined_paths_counted t which P test (view t xs) total are two sized few join v own share all s wanted is first told after more new others each;
+            joined_paths_counted t P test (view t xs) total are two sized few join v own share all s wanted is first told after more new others each;
       })

@@ -4,7 +4,7 @@ use Rattle.std.proofs.lemmas.Bool.{cases_lt, leb-true, le-leb}
 use Rattle.std.specs.Prelude.{leb}
 use Rattle.dd_model.specs.Code.{count_from}
 use Rattle.dd_model.specs.Symbol.{Symbol}
-use Rattle.dd_model.specs.declared.pair.Pair.TheVariants.{Tile, Vertex}
+use Rattle.dd_model.specs.declared.pair.Pair.TheVariants.{Tile, Vertex, Edge}
 use Rattle.dd_model.specs.declared.pair.Pair.{Pair}
 use Rattle.dd_model.specs.declared.requests.Request.{Request}
 use Rattle.dd_model.proofs.CountFrom.{length-count_from}
@@ -79,7 +79,15 @@ module _ (t : ClassShares) (ends : ℕ → PathEnd) {x m a : ℕ} (end : IsAnEnd
 either_open : (a b : ℕ) → ((64 ≤ a) × (64 ≤ b)) ⊎ ((a < 64) ⊎ (b < 64))
 either_open a b = ⊎_elim (λ low. inr (inl low)) (λ high. ⊎_elim (λ low. inr (inr low)) (λ also. inl (high, also)) (cases_lt b 64)) (cases_lt a 64)
 
-module _ (t : ClassShares) (which : (t.pair ≡ Tile) ⊎ (t.pair ≡ Vertex)) (P : Symbol) (test : Symbol → Bool) (old : ℕ → PathEnd) (total more : ℕ)
+-- the shares are those of tiles or of vertices
+pub which_pair : (t : ClassShares) → (t.pair ≡ Tile) ⊎ (t.pair ≡ Vertex)
+which_pair t = (elim t.pair as (λ p. ¬ (p ≡ Edge) → (p ≡ Tile) ⊎ (p ≡ Vertex)) [
+  | Tile ↦ λ _. inl refl
+  | Vertex ↦ λ _. inr refl
+  | Edge ↦ λ none. absurd (none refl)
+]) t.cells
+
+module _ (t : ClassShares) (P : Symbol) (test : Symbol → Bool) (old : ℕ → PathEnd) (total more : ℕ)
     (are : AreEndsOf t.request P test t.pair old total) where
   -- ## An involution fixes the end of a path
 
@@ -103,7 +111,7 @@ module _ (t : ClassShares) (which : (t.pair ≡ Tile) ⊎ (t.pair ≡ Vertex)) (
         let turns : turns_of t.size c ≡ c % 64 = turns_capped t.size c (omega arith) in
         fixed_right t.request P test t.pair old total are x (turns_of t.size c) v end_fixed (omega (arith, turns, own)) (from low))
         (λ high.
-        met_right t.request P test t.pair old total are x x a v which
+        met_right t.request P test t.pair old total are x x a v (which_pair t)
         (record { is_end = end_live t old end; side = λ _ _. refl; leads = join.leads; which = inl (refl, (end_capped t old end).1 high) })
         (share.closed high) (sym own) few (end_capped t old end))
         (cases_lt a 64)
@@ -136,7 +144,7 @@ module _ (t : ClassShares) (which : (t.pair ≡ Tile) ⊎ (t.pair ≡ Vertex)) (
       (share : IsClosedShare t.request t.pair a v) where
     pub right_closed : a % 64 ≤ 36 → AreRight t.request P test t.pair x v
     right_closed few =
-        met_right t.request P test t.pair old total are x y a v which
+        met_right t.request P test t.pair old total are x y a v (which_pair t)
         (record { is_end = end_live t old end; side = join.side; leads = join.leads; which = inr (apart, sym other ∙ end_other t old end) })
         share (sym (end_chambers t old end)) few (end_capped t old end)
 
@@ -202,7 +210,7 @@ module _ (t : ClassShares) (which : (t.pair ≡ Tile) ⊎ (t.pair ≡ Vertex)) (
         let enough = joined_both.chambers in
         ⊎_elim
         (λ high.
-        linked_closed t.request P test t.pair old total are x y (joined_class a b) v which ends_link ((end_capped t old two.one).1 high.0) ((end_capped t old two.other).1 high.1)
+        linked_closed t.request P test t.pair old total are x y (joined_class a b) v (which_pair t) ends_link ((end_capped t old two.one).1 high.0) ((end_capped t old two.other).1 high.1)
         (share.closed high.0 high.1) joined_together (omega (arith, enough, few)) (joined_both.stays (inl high.0)))
         (λ low. linked_right t.request P test t.pair old total are x y (turns_of t.size (joined_class a b)) v ends_link turns (from_joined low))
         (either_open a b)

@@ -1,11 +1,10 @@
 -- The totals that are kept, and those with a join.
-use Rattle.std.proofs.Common.{◌≡◌, ℕ, ◌+◌, ◌*◌, ◌%◌, ◌<◌, ◌≤◌, ◌⊎◌, Bool, true, false, cond, ltb, IsTrue, IsFalse, refl, sym, ap, ◌∙◌, subst, ⊎_elim, arith}
+use Rattle.std.proofs.Common.{◌≡◌, ℕ, ◌+◌, ◌*◌, ◌%◌, ◌<◌, ◌≤◌, Bool, true, false, cond, ltb, IsTrue, IsFalse, refl, sym, ap, ◌∙◌, subst, ⊎_elim, arith}
 use Rattle.std.proofs.lemmas.Bool.{cases_eq, cases_lt, ne_eqb, lt-ltb, le-ltb}
 use Rattle.std.specs.Prelude.{nat_eq, not}
 use Rattle.std.proofs.Math.Nat.{mul-le-mul, mul-le-mul_right}
 use Rattle.dd_model.specs.Symbol.{Symbol}
 use Rattle.dd_model.specs.Wanted.{Wanted}
-use Rattle.dd_model.specs.declared.pair.Pair.TheVariants.{Tile, Vertex}
 use Rattle.dd_model.specs.declared.pair.Pair.{Pair}
 use Rattle.dd_model.specs.declared.requests.Request.{Request}
 use Rattle.dd_bounds.specs.Shares.{BoundsReciprocals, IsSought, IsShare}
@@ -25,7 +24,7 @@ use Rattle.dd_bounds.proofs.CountedSides.{capped_census, closed_census, joined_c
 use Rattle.dd_bounds.proofs.EndTotals.{bounds_of_ends}
 use Rattle.dd_bounds.proofs.PassingTables.{ends_of_fewer, one_within, two_within, all_within}
 use Rattle.dd_bounds.proofs.PutLemmas.{put, connected}
-use Rattle.dd_bounds.proofs.SideLemmas.{one_path_within, chambers_within, IsAnEnd, AreTwoEnds, end_live, end_chambers, end_other, end_weight, ends_capped, ends_closed, ends_connected}
+use Rattle.dd_bounds.proofs.SideLemmas.{one_path_within, chambers_within, IsAnEnd, AreTwoEnds, end_live, end_chambers, end_other, end_weight, ends_capped, ends_closed, ends_connected, which_pair}
 
 -- the total is a bound
 pub sum_small : (t : ClassShares) (P : Symbol) (test : Symbol → Bool) (total : ℕ) → P.size ≤ 36 → IsSumOf t P test total → total ≤ 36 * share_unit
@@ -54,9 +53,9 @@ join_of_none P p x y = record { side = λ s c. absurd (no c.passed); leads = λ 
     no h = cc
 
 -- a sum of shares bounds what the degrees of each wanted completion that passes the test add
-pub bounds_of_sum : (t : ClassShares) (P : Symbol) (test : Symbol → Bool) (total : ℕ) → (t.pair ≡ Tile) ⊎ (t.pair ≡ Vertex) → IsSumOf t P test total
+pub bounds_of_sum : (t : ClassShares) (P : Symbol) (test : Symbol → Bool) (total : ℕ) → IsSumOf t P test total
     → (s : Symbol) → Wanted t.request s → Passes P test s → BoundsReciprocals s t.pair total
-bounds_of_sum t P test total which sum s wanted is = bounds_of_ends t.request (Passes P test) P.size t.pair sum.ends total which sum.are s is.completes.size (wanted, is)
+bounds_of_sum t P test total sum s wanted is = bounds_of_ends t.request (Passes P test) P.size t.pair sum.ends total (which_pair t) sum.are s is.completes.size (wanted, is)
 
 module _ (t : ClassShares) (P : Symbol) (side : Side) (kept : IsSide t P side) where
   -- what holds in all completions holds in those that pass a test
@@ -85,42 +84,42 @@ module _ (t : ClassShares) (P : Symbol) (side : Side) (kept : IsSide t P side) w
       let mine = end_chambers t (ends_of t side) end in
       omega (arith, within, mine, small)
 
-  pub sum_capped : (t.pair ≡ Tile) ⊎ (t.pair ≡ Vertex) → {x m a : ℕ} → IsAnEnd t (ends_of t side) x m a → a % 64 ≤ 36 → (v : ℕ) → IsCappedShare t.request t.pair t.weights a v
+  pub sum_capped : {x m a : ℕ} → IsAnEnd t (ends_of t side) x m a → a % 64 ≤ 36 → (v : ℕ) → IsCappedShare t.request t.pair t.weights a v
       → (test : Symbol → Bool) (more : ℕ) → IsJoin (Passes P test) t.pair x x → more + class_weight t a ≡ side.total + a % 64 * v → IsSumOf t P test more
-  sum_capped which {x} {m} {a} end few v share test more join sum = ⊎_elim
+  sum_capped {x} {m} {a} end few v share test more join sum = ⊎_elim
       (λ low. record {
         ends = put (put (ends_of t side) x (path_end t 0 0)) m (path_end t x (64 + a % 64));
-        are = ends_capped t which P test (ends_of t side) side.total more (passing test) end join v share few (path_end t 0 0) (path_end t x (64 + a % 64)) refl
+        are = ends_capped t P test (ends_of t side) side.total more (passing test) end join v share few (path_end t 0 0) (path_end t x (64 + a % 64)) refl
             (λ high. absurd (omega (arith, low, high))) (λ _. refl) sum;
       })
       (λ high. record {
         ends = put (put (ends_of t side) x (path_end t 0 0)) m (path_end t 0 0);
-        are = ends_capped t which P test (ends_of t side) side.total more (passing test) end join v share few (path_end t 0 0) (path_end t 0 0) refl
+        are = ends_capped t P test (ends_of t side) side.total more (passing test) end join v share few (path_end t 0 0) (path_end t 0 0) refl
             (λ _. refl) (λ low. absurd (omega (arith, low, high))) sum;
       })
       (cases_lt a 64)
 
-  pub census_capped : (t.pair ≡ Tile) ⊎ (t.pair ≡ Vertex) → {x m a : ℕ} → IsAnEnd t (ends_of t side) x m a → a % 64 ≤ 36 → (v own : ℕ) → IsCappedShare t.request t.pair t.weights a v → own ≡ a % 64 * v
+  pub census_capped : {x m a : ℕ} → IsAnEnd t (ends_of t side) x m a → a % 64 ≤ 36 → (v own : ℕ) → IsCappedShare t.request t.pair t.weights a v → own ≡ a % 64 * v
       → (test : Symbol → Bool) → IsJoin (Passes P test) t.pair x x → (after : Census) → HasFixedEnd side.census a own after → IsCensusOf t P test after
-  census_capped which end few v own share all test join after more s wanted is =
-      capped_census t which P test (ends_of t side) side.total (passing test) end join few v own share all s wanted is side.census (kept.counted s wanted is.completes) after more
+  census_capped end few v own share all test join after more s wanted is =
+      capped_census t P test (ends_of t side) side.total (passing test) end join few v own share all s wanted is side.census (kept.counted s wanted is.completes) after more
 
-  pub census_closed : (t.pair ≡ Tile) ⊎ (t.pair ≡ Vertex) → {x m a : ℕ} → IsAnEnd t (ends_of t side) x m a → a % 64 ≤ 36 → (y : ℕ) → m ≡ y → (y ≡ x → ⊥) → (v own : ℕ)
+  pub census_closed : {x m a : ℕ} → IsAnEnd t (ends_of t side) x m a → a % 64 ≤ 36 → (y : ℕ) → m ≡ y → (y ≡ x → ⊥) → (v own : ℕ)
       → IsClosedShare t.request t.pair a v → own ≡ a % 64 * v → (test : Symbol → Bool) → IsJoin (Passes P test) t.pair x y → (after : Census) → HasCell side.census a own after → IsCensusOf t P test after
-  census_closed which end few y other apart v own share all test join after more s wanted is =
-      closed_census t which P test (ends_of t side) side.total (passing test) end few y join other apart v own share all s wanted is side.census (kept.counted s wanted is.completes) after more
+  census_closed end few y other apart v own share all test join after more s wanted is =
+      closed_census t P test (ends_of t side) side.total (passing test) end few y join other apart v own share all s wanted is side.census (kept.counted s wanted is.completes) after more
 
-  pub census_connected : (t.pair ≡ Tile) ⊎ (t.pair ≡ Vertex) → {x m a y l b : ℕ} → AreTwoEnds t (ends_of t side) x m a y l b → a % 64 + b % 64 ≤ 36 → (v own : ℕ)
+  pub census_connected : {x m a y l b : ℕ} → AreTwoEnds t (ends_of t side) x m a y l b → a % 64 + b % 64 ≤ 36 → (v own : ℕ)
       → IsJoinedShare t.request t.pair t.weights a b v → own ≡ (a % 64 + b % 64) * v → (test : Symbol → Bool) → IsJoin (Passes P test) t.pair x y
       → (after : Census) → HasJoined side.census a b own after → IsCensusOf t P test after
-  census_connected which two few v own share all test join after more s wanted is =
-      joined_census t which P test (ends_of t side) side.total (passing test) two kept.sized few join v own share all s wanted is side.census (kept.counted s wanted is.completes) after more
+  census_connected two few v own share all test join after more s wanted is =
+      joined_census t P test (ends_of t side) side.total (passing test) two kept.sized few join v own share all s wanted is side.census (kept.counted s wanted is.completes) after more
 
-  pub sum_closed : (t.pair ≡ Tile) ⊎ (t.pair ≡ Vertex) → {x m a : ℕ} → IsAnEnd t (ends_of t side) x m a → a % 64 ≤ 36 → (y : ℕ) → m ≡ y → (y ≡ x → ⊥) → (v : ℕ)
+  pub sum_closed : {x m a : ℕ} → IsAnEnd t (ends_of t side) x m a → a % 64 ≤ 36 → (y : ℕ) → m ≡ y → (y ≡ x → ⊥) → (v : ℕ)
       → IsClosedShare t.request t.pair a v → (test : Symbol → Bool) (more : ℕ) → IsJoin (Passes P test) t.pair x y → more + class_weight t a ≡ side.total + a % 64 * v → IsSumOf t P test more
-  sum_closed which {x} {m} {a} end few y other apart v share test more join sum = record {
+  sum_closed {x} {m} {a} end few y other apart v share test more join sum = record {
     ends = put (put (ends_of t side) x (path_end t 0 0)) m (path_end t 0 0);
-    are = ends_closed t which P test (ends_of t side) side.total more (passing test) end y join other apart v share few (path_end t 0 0) (path_end t 0 0) refl refl sum;
+    are = ends_closed t P test (ends_of t side) side.total more (passing test) end y join other apart v share few (path_end t 0 0) (path_end t 0 0) refl refl sum;
   }
 
   module _ {x m a y l b : ℕ} (two : AreTwoEnds t (ends_of t side) x m a y l b) where
@@ -151,12 +150,12 @@ module _ (t : ClassShares) (P : Symbol) (side : Side) (kept : IsSide t P side) w
     far_end : ℕ → ℕ → PathEnd
     far_end k mate = cond (ltb k 64) (path_end t mate (joined_class a b)) (path_end t 0 0)
 
-    pub sum_connected : (t.pair ≡ Tile) ⊎ (t.pair ≡ Vertex) → a % 64 + b % 64 ≤ 36 → (v : ℕ) → IsJoinedShare t.request t.pair t.weights a b v → (test : Symbol → Bool) (more : ℕ)
+    pub sum_connected : a % 64 + b % 64 ≤ 36 → (v : ℕ) → IsJoinedShare t.request t.pair t.weights a b v → (test : Symbol → Bool) (more : ℕ)
         → IsJoin (Passes P test) t.pair x y → more + (class_weight t a + class_weight t b) ≡ side.total + (a % 64 + b % 64) * v → IsSumOf t P test more
     unfolding far_end
-    sum_connected which few v share test more join sum = record {
+    sum_connected few v share test more join sum = record {
       ends = connected (ends_of t side) x y m l (path_end t 0 0) (path_end t 0 0) (far_end a l) (far_end b m);
-      are = ends_connected t which P test (ends_of t side) side.total more (passing test) two kept.sized few join v share
+      are = ends_connected t P test (ends_of t side) side.total more (passing test) two kept.sized few join v share
           (path_end t 0 0) (path_end t 0 0) (far_end a l) (far_end b m) refl refl (gone a l) (there a l) (gone b m) (there b m) sum;
     }
       where

@@ -52,14 +52,6 @@ pub record HasJoined (c : Census) (one other own : ℕ) (d : Census) : Type 0 wh
   pub goes_on : (one < 64) ⊎ (other < 64) → d ≡ c
   pub closed : 64 ≤ one → 64 ≤ other → HasCell c (joined_class one other) own d
 
--- the numbers of a census are not too large
-pub record IsSmall (c : Census) : Type 0 where
-  pub cells : c.cells ≤ 36
-  pub chains : c.chains ≤ c.cells
-  pub chambers : c.chambers ≤ 64 * c.cells
-  pub most : c.most ≤ c.cells * (64 * share_unit)
-  pub fixed : c.fixed ≤ 72
-
 -- The whole cells are among the cells, of which there are no more than a limit. Twice the number of chains is that of the
 -- fixed flags. A whole cell adds what it adds, a further chain at most 1, and a further cycle at most 2.
 pub record HasRoom (s : Symbol) (p : Pair) (c : Census) (limit : ℕ) : Type 0 where

@@ -1,4 +1,6 @@
 -- What a search keeps beside its table.
+use Rattle.std.proofs.Common.{arith}
+use Rattle.dd_bounds.specs.declared.census.Census.{Census}
 use Rattle.std.specs.Prelude.{◌≡◌, []}
 use Rattle.dd_model.specs.Symbol.{Symbol, op}
 use Rattle.dd_bounds.specs.Sides.{IsSide, IsSideOfSome}
@@ -26,9 +28,24 @@ pub record AreSidesOfSome (classes : PathShares) (sides : Sides) : Type 0 where
   pub tiles : IsSideOfSome classes.tiles sides.tiles
   pub vertices : IsSideOfSome classes.vertices sides.vertices
 
+-- nothing is counted
+abbrev pub no_census : Census
+no_census = record {
+  cells = 0;
+  chains = 0;
+  chambers = 0;
+  fixed = 0;
+  most = 0;
+  few_cells = omega arith;
+  few_chains = omega arith;
+  few_chambers = omega arith;
+  few_flags = omega arith;
+  low = omega arith;
+}
+
 -- the sides where there are none
 abbrev pub no_side : Side
-no_side = record { ends = []; total = 0; census = record { cells = 0; chains = 0; chambers = 0; fixed = 0; most = 0 } }
+no_side = record { ends = []; total = 0; census = no_census }
 
 abbrev pub no_sides : Sides
 no_sides = record { tiles = no_side; vertices = no_side }

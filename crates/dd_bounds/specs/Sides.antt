@@ -9,7 +9,6 @@ use Rattle.dd_model.specs.Symbol.{Symbol}
 use Rattle.dd_model.specs.Partial.{Completes}
 use Rattle.dd_model.specs.Wanted.{Wanted}
 use Rattle.dd_bounds.specs.Classes.{share_in}
-use Rattle.dd_bounds.specs.Census.{IsSmall}
 use Rattle.dd_bounds.specs.Counted.{AreCounted, HasCounted, HaveOthers}
 use Rattle.dd_bounds.specs.Ends.{led}
 use Rattle.dd_bounds.specs.Passing.{AreEndsOf, Passes}
@@ -43,7 +42,6 @@ pub record IsSide (t : ClassShares) (partial : Symbol) (side : Side) : Type 0 wh
   pub sized : t.size ≡ partial.size
   pub ends : AreEndsOf t.request partial (λ _. true) t.pair (ends_of t side) side.total
   pub others : HaveOthers (ends_of t side)
-  pub few : IsSmall side.census
   pub counted : (s : Symbol) → Wanted t.request s → Completes partial s → AreCounted s t.pair (ends_of t side) side.census
 
 -- the same in all completions of some table that is not too large

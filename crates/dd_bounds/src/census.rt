@@ -3,7 +3,6 @@ ghost use Rattle.std.specs.Bool.{OnTrue, OnFalse};
 ghost use Rattle.dd_model.specs.Symbol.{Symbol as Tiling};
 ghost use Rattle.dd_model.specs.Wanted.{AtMost, Wanted};
 ghost use Rattle.dd_model.specs.declared.pair.Pair.TheVariants.{Tile, Vertex};
-ghost use Rattle.dd_bounds.specs.Counted.{HasCounted};
 ghost use Rattle.dd_bounds.specs.Shares.{BoundsReciprocals};
 ghost use Rattle.dd_bounds.specs.Units.{share_unit};
 
@@ -42,16 +41,21 @@ pub(crate) struct Census {
     chambers: u32,
     fixed: u32,
     most: u64,
+    ghost few_cells: { cells ≤ 36 },
+    ghost few_chains: { chains ≤ cells },
+    ghost few_chambers: { chambers ≤ 64 * cells },
+    ghost few_flags: { fixed ≤ 72 },
+    ghost low: { most ≤ cells * (64 * share_unit) },
 }
 
 impl Census {
-    ghost use Rattle.dd_bounds.specs.Census.{IsNone, IsSmall, HasFlag, HasCell};
+    ghost use Rattle.dd_bounds.specs.Census.{IsNone, HasFlag, HasCell};
     ghost use Rattle.dd_bounds.specs.Census.{HasFixedEnd, HasJoined, HasRoom};
+    ghost use Rattle.dd_bounds.specs.Counted.{HasCounted};
 
     /// The census of a table of which nothing is known.
     pub(crate) fn none() -> Census
-        ensures none { IsNone result }
-        ensures small { IsSmall result }
+        ensures { IsNone result }
     {
         Census {
             cells: 0,
@@ -65,9 +69,7 @@ impl Census {
     /// Counts a fixed flag.
     #[inline(always)]
     fn add_flag(&mut self)
-        requires { IsSmall self.old }
-        ensures flag { HasFlag self.old self.new }
-        ensures small { IsSmall self.new }
+        ensures { HasFlag self.old self.new }
     {
         if self.fixed >= FLAGS {
             return;
@@ -78,10 +80,8 @@ impl Census {
     /// Counts a whole cell with the chambers of a path of a class, which add at most `most`.
     #[inline(always)]
     pub(crate) fn add_cell(&mut self, class: Class, most: u64)
-        requires small { IsSmall self.old }
-        requires most { most ≤ 64 * share_unit }
-        ensures cell { HasCell self.old class.number most self.new }
-        ensures small { IsSmall self.new }
+        requires { most ≤ 64 * share_unit }
+        ensures { HasCell self.old class.number most self.new }
     {
         if self.cells >= CELLS {
             return;
@@ -98,10 +98,8 @@ impl Census {
     /// cell if its other end is fixed.
     #[inline(always)]
     pub(crate) fn add_fixed_end(&mut self, class: Class, most: u64)
-        requires small { IsSmall self.old }
-        requires most { most ≤ 64 * share_unit }
-        ensures fixed { HasFixedEnd self.old class.number most self.new }
-        ensures small { IsSmall self.new }
+        requires { most ≤ 64 * share_unit }
+        ensures { HasFixedEnd self.old class.number most self.new }
     {
         self.add_flag();
         if class.is_capped() {
@@ -113,11 +111,9 @@ impl Census {
     /// fixed.
     #[inline(always)]
     pub(crate) fn add_joined(&mut self, one: Class, other: Class, most: u64)
-        requires small { IsSmall self.old }
         requires most { most ≤ 64 * share_unit }
         requires few { one.number % 64 + other.number % 64 < 64 }
-        ensures joined { HasJoined self.old one.number other.number most self.new }
-        ensures small { IsSmall self.new }
+        ensures { HasJoined self.old one.number other.number most self.new }
     {
         if one.is_capped() && other.is_capped() {
             self.add_cell(one.joined(other), most);
@@ -136,8 +132,7 @@ impl Census {
 
     /// What all cells add at most; None where there are more than a limit allows.
     fn bound(&self, limit: u32, size: u8) -> Option<u64>
-        requires small { IsSmall self.now }
-        requires limit { limit ≤ 36 }
+        requires { limit ≤ 36 }
         ensures none { IfNone result ((s : Tiling) (p : Pair) → s.size ≡ size
             → ¬ HasRoom s p self.now limit) }
         ensures some { IfSome result (λ most. (s : Tiling) (p : Pair) → s.size ≡ size
@@ -159,8 +154,7 @@ impl Census {
     /// None if there are more cells than the limit allows.
     #[inline(always)]
     pub(crate) fn limited(&self, request: &Request, pair: Pair, size: u8, total: u64) -> Option<u64>
-        requires small { IsSmall self.now }
-        requires pair { (pair ≡ Tile) ⊎ (pair ≡ Vertex) }
+        requires { (pair ≡ Tile) ⊎ (pair ≡ Vertex) }
         ensures none { IfNone result ((s : Tiling) → s.size ≡ size → Wanted request.now s
             → ¬ HasCounted s pair self.now) }
         ensures bound { IfSome result (λ most. (s : Tiling) → s.size ≡ size → Wanted request.now s

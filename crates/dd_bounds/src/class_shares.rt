@@ -1,4 +1,5 @@
 ghost use Rattle.std.specs.Prelude.{◌≡◌, ◌+◌, ◌%◌, ◌*◌, ◌≤◌, ◌<◌, IsTrue};
+ghost use Rattle.dd_model.specs.declared.pair.Pair.TheVariants.{Edge};
 ghost use Rattle.dd_bounds.specs.Units.{share_unit};
 ghost use Rattle.dd_bounds.specs.Classes.{share_in, turns_of};
 ghost use Rattle.dd_bounds.specs.Classes.{IsClassShare, IsClassWeight, AreClassWeights};
@@ -25,6 +26,7 @@ pub(crate) struct ClassShares {
     pub(crate) pair: Pair,
     pub(crate) size: u8,
     weights: [u64; 192],
+    ghost cells: { ¬ (pair ≡ Edge) },
     ghost few: { size ≤ 36 },
     ghost are_told: { AreClassWeights request pair size weights },
 }
@@ -65,7 +67,8 @@ fn weight_of_class(request: &Request, pair: Pair, size: u8, class: u8) -> u64
 impl ClassShares {
     /// Returns the weights of a pair for the degrees that a request allows in tables of a size.
     pub(crate) fn of(request: &Request, pair: Pair, size: u8) -> ClassShares
-        requires { size ≤ 36 }
+        requires cells { ¬ (pair ≡ Edge) }
+        requires size { size ≤ 36 }
         ensures request { result.request ≡ request.now }
         ensures pair { result.pair ≡ pair }
         ensures size { result.size ≡ size }

@@ -1,6 +1,5 @@
-ghost use Rattle.std.specs.Prelude.{◌≡◌, ◌≢◌, ◌⊎◌, ℕ, ◌+◌, ◌*◌, ◌/◌, ◌%◌, ◌≤◌, ◌<◌, Bool, true, IsFalse, IfSome, IfNone, Some, slice_get};
+ghost use Rattle.std.specs.Prelude.{◌≡◌, ◌≢◌, ℕ, ◌+◌, ◌*◌, ◌/◌, ◌%◌, ◌≤◌, ◌<◌, Bool, true, IsFalse, IfSome, IfNone, Some, slice_get};
 ghost use Rattle.dd_model.specs.Symbol.{Symbol as Tiling};
-ghost use Rattle.dd_model.specs.declared.pair.Pair.TheVariants.{Tile, Vertex};
 ghost use Rattle.dd_partial_table.specs.Rows.{partial_of, IsReady};
 ghost use Rattle.dd_bounds.specs.Shares.{IsSought};
 ghost use Rattle.dd_bounds.specs.Units.{share_unit};
@@ -9,7 +8,6 @@ ghost use Rattle.dd_bounds.specs.Passing.{Passes};
 ghost use Rattle.dd_bounds.specs.Sides.{IsSide, IsSideOfSome, IsSumOf, IsCensusOf, IsJoin, ends_of};
 ghost use Rattle.dd_bounds.specs.Sides.{class_weight, KeepsBounds};
 ghost use Rattle.dd_model.specs.Wanted.{Wanted};
-ghost use Rattle.dd_bounds.specs.Census.{IsSmall};
 
 use crate::census::{Census, is_limited};
 use crate::class::Class;
@@ -75,7 +73,6 @@ impl Side {
     /// The total where two flags are joined.
     #[inline(always)]
     pub(crate) fn total_with(&self, shares: &ClassShares, x: u8, y: u8) -> u64
-        requires pair { (shares.now.pair ≡ Tile) ⊎ (shares.now.pair ≡ Vertex) }
         requires first { x < 74 }
         requires second { y < 74 }
         requires some { IsSideOfSome shares.now self.now }
@@ -106,12 +103,10 @@ impl Side {
     /// The census where two flags are joined.
     #[inline(always)]
     pub(crate) fn census_with(&self, shares: &ClassShares, x: u8, y: u8) -> Census
-        requires pair { (shares.now.pair ≡ Tile) ⊎ (shares.now.pair ≡ Vertex) }
         requires first { x < 74 }
         requires second { y < 74 }
         requires some { IsSideOfSome shares.now self.now }
-        ensures few { IsSmall result }
-        ensures census { (partial : Tiling) (test : Tiling → Bool)
+        ensures { (partial : Tiling) (test : Tiling → Bool)
             → IsJoin (Passes partial test) shares.now.pair x y → IsSide shares.now partial self.now
             → IsCensusOf shares.now partial test result }
     {
@@ -150,7 +145,6 @@ impl Side {
         bound: u64,
     ) -> Option<u64>
         requires same { shares.now.pair ≡ pair }
-        requires pair { (pair ≡ Tile) ⊎ (pair ≡ Vertex) }
         requires first { x < 74 }
         requires second { y < 74 }
         requires some { IsSideOfSome shares.now self.now }
@@ -176,7 +170,6 @@ impl Side {
     /// symbol completes the table, since the request allows the closed path no degree.
     #[inline(always)]
     fn cap(&mut self, shares: &ClassShares, x: u8) -> bool
-        requires pair { (shares.now.pair ≡ Tile) ⊎ (shares.now.pair ≡ Vertex) }
         requires flag { x < 74 }
         requires some { IsSideOfSome shares.now self.old }
         requires live { 1 ≤ (ends_of shares.now self.old x).chambers }
@@ -201,7 +194,6 @@ impl Side {
     /// no wanted symbol completes the table, since the request allows the closed path no degree.
     #[inline(always)]
     fn connect(&mut self, shares: &ClassShares, x: u8, y: u8) -> bool
-        requires pair { (shares.now.pair ≡ Tile) ⊎ (shares.now.pair ≡ Vertex) }
         requires first { x < 74 }
         requires second { y < 74 }
         requires some { IsSideOfSome shares.now self.old }
@@ -234,7 +226,6 @@ impl Side {
     /// table, since the request allows the closed path no degree.
     #[inline(always)]
     fn close(&mut self, shares: &ClassShares, x: u8, mate: u8) -> bool
-        requires pair { (shares.now.pair ≡ Tile) ⊎ (shares.now.pair ≡ Vertex) }
         requires first { x < 74 }
         requires second { mate < 74 }
         requires some { IsSideOfSome shares.now self.old }
@@ -261,7 +252,6 @@ impl Side {
     /// table, since the request allows their cell no degree.
     #[inline(always)]
     pub(crate) fn join(&mut self, shares: &ClassShares, x: u8, y: u8) -> bool
-        requires pair { (shares.now.pair ≡ Tile) ⊎ (shares.now.pair ≡ Vertex) }
         requires first { x < 74 }
         requires second { y < 74 }
         requires some { IsSideOfSome shares.now self.old }

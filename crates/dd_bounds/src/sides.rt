@@ -1,11 +1,10 @@
 ghost use Rattle.std.specs.Prelude.{◌≡◌, ℕ, ◌+◌, ◌*◌, ◌≤◌, ◌<◌, Bool, IsTrue, IsFalse, IfSome, IfNone};
-ghost use Rattle.std.specs.Int.{bit_at};
 ghost use Rattle.dd_model.specs.Partial.{Completes};
 ghost use Rattle.dd_model.specs.Symbol.{Symbol as Tiling};
+ghost use Rattle.dd_partial_table.specs.Chambers.{bit_of};
 ghost use Rattle.dd_partial_table.specs.Rows.{partial_of, IsReady, HasNumberAt};
 ghost use Rattle.dd_model.specs.Wanted.{Wanted};
 ghost use Rattle.dd_model.specs.declared.pair.Pair.TheVariants.{Tile, Vertex};
-ghost use Rattle.dd_bounds.specs.Census.{IsSmall};
 ghost use Rattle.dd_bounds.specs.Counted.{HasCounted};
 ghost use Rattle.dd_bounds.specs.Shares.{BoundsReciprocals, IsSought};
 ghost use Rattle.dd_bounds.specs.Units.{share_unit};
@@ -19,7 +18,7 @@ use crate::link::{Link, index_of};
 use crate::path_shares::PathShares;
 use crate::side::Side;
 use dd_model::{Index, Pair, Request};
-use dd_partial_table::Rows;
+use dd_partial_table::{ChamberSet, Rows};
 
 /// The paths of both pairs of a table that a search fills, with two shares for each chamber, one
 /// for each pair. The share of a chamber is SHARE_UNIT divided by the least degree that a request
@@ -264,7 +263,7 @@ impl Sides {
         self.is_ruled_out(classes, table, place, number, bounds, with_limits)
     }
 
-    /// Returns those of some numbers, as bits, that are not ruled out at a place of the code. It
+    /// Returns those of some numbers that are not ruled out at a place of the code. It
     /// takes all numbers at once, since most of what it computes for one, such as the path that
     /// ends at the chamber, is the same for the others.
     #[inline(always)]
@@ -273,58 +272,65 @@ impl Sides {
         classes: &PathShares,
         table: &Rows,
         place: u8,
-        numbers: u64,
+        numbers: ChamberSet,
         bounds: (u64, u64),
         with_limits: bool,
-    ) -> u64
+    ) -> ChamberSet
         requires ready { IsReady table.now }
         requires place { place < 3 * (partial_of table.now).size }
-        requires numbers { (m : ℕ) → bit_at numbers m ≡ 1 → m ≤ 36 }
         requires kept { AreSides classes.now (partial_of table.now) self.now }
         requires bounds { AreBounds classes.now.request (partial_of table.now) bounds.0 bounds.1 }
-        ensures { (m : ℕ) → bit_at numbers m ≡ 1 → bit_at result m ≡ 0 → (s : Tiling)
+        ensures { (m : ℕ) → bit_of numbers m ≡ 1 → bit_of result m ≡ 0 → (s : Tiling)
             → IsSought classes.now.request (partial_of table.now) s
             → ¬ HasNumberAt place m s }
     {
-        let mut kept = 0;
+        let mut kept = ChamberSet::none();
         let mut left = numbers;
-        while left != 0 {
-            let number = left.trailing_zeros() as u8;
-            left &= left - 1;
+        while let Some(number) = left.take_first() {
             if !self.is_ruled_out(classes, table, place, number, bounds, with_limits) {
-                kept |= 1 << number;
+                kept.insert(number);
             }
         }
         kept
     }
 
-    /// Returns those of some numbers, as bits, that neither shares nor limits rule out at a place
+    /// Returns those of some numbers that neither shares nor limits rule out at a place
     /// of the code. It stays a call of its own, so that requests without limits pay nothing for it.
     /// A pair that the image does not change is limited once for all numbers.
     #[inline(never)]
-    fn sieve_with_limits(&self, classes: &PathShares, table: &Rows, place: u8, numbers: u64) -> u64
+    fn sieve_with_limits(
+        &self,
+        classes: &PathShares,
+        table: &Rows,
+        place: u8,
+        numbers: ChamberSet,
+    ) -> ChamberSet
         requires ready { IsReady table.now }
         requires place { place < 3 * (partial_of table.now).size }
-        requires numbers { (m : ℕ) → bit_at numbers m ≡ 1 → m ≤ 36 }
         requires kept { AreSides classes.now (partial_of table.now) self.now }
-        ensures { (m : ℕ) → bit_at numbers m ≡ 1 → bit_at result m ≡ 0 → (s : Tiling)
+        ensures { (m : ℕ) → bit_of numbers m ≡ 1 → bit_of result m ≡ 0 → (s : Tiling)
             → IsSought classes.now.request (partial_of table.now) s
             → ¬ HasNumberAt place m s }
     {
         let Some(bounds) = self.bounds(classes, table, place) else {
-            return 0;
+            return ChamberSet::none();
         };
         self.sieve_by(classes, table, place, numbers, bounds, true)
     }
 
-    /// Returns those of some numbers, as bits, that are not ruled out at a place of the code.
+    /// Returns those of some numbers that are not ruled out at a place of the code.
     #[inline(always)]
-    pub fn sieve(&self, classes: &PathShares, table: &Rows, place: u8, numbers: u64) -> u64
+    pub fn sieve(
+        &self,
+        classes: &PathShares,
+        table: &Rows,
+        place: u8,
+        numbers: ChamberSet,
+    ) -> ChamberSet
         requires ready { IsReady table.now }
         requires place { place < 3 * (partial_of table.now).size }
-        requires numbers { (m : ℕ) → bit_at numbers m ≡ 1 → m ≤ 36 }
         requires kept { AreSides classes.now (partial_of table.now) self.now }
-        ensures { (m : ℕ) → bit_at numbers m ≡ 1 → bit_at result m ≡ 0 → (s : Tiling)
+        ensures { (m : ℕ) → bit_of numbers m ≡ 1 → bit_of result m ≡ 0 → (s : Tiling)
             → IsSought classes.now.request (partial_of table.now) s
             → ¬ HasNumberAt place m s }
     {
@@ -408,8 +414,6 @@ fn exceed(
     vertices: &Census,
     vertex_total: u64,
 ) -> bool
-    requires few_tiles { IsSmall tiles.now }
-    requires few_vertices { IsSmall vertices.now }
     requires tile_total { tile_total ≤ 36 * share_unit }
     requires vertex_total { vertex_total ≤ 36 * share_unit }
     ensures { IsTrue result → (s : Tiling) → s.size ≡ size → Wanted request.now s

@@ -12,7 +12,9 @@ use dd_bounds::{PathShares, Sides, parity_rules_out};
 use dd_degrees::{add_tied, with_places};
 use dd_jobs::{can_follow, child};
 use dd_model::{Job, Memory, Prefix, Request};
-use dd_partial_table::{CollectingSearch, PrefixSearch, Starts, Stem, find, involutions, ties};
+use dd_partial_table::{
+    ChamberSet, CollectingSearch, PrefixSearch, Starts, Stem, find, involutions, ties,
+};
 use dd_symbol_list::SymbolList;
 use std::alloc::Global;
 use std::marker::Model;
@@ -392,7 +394,7 @@ impl PrefixSearch for Descent {
     }
 
     #[inline(always)]
-    fn candidates(&self) -> u64 {
+    fn candidates(&self) -> ChamberSet {
         let place = self.stem.prefix().len() as u8;
         let numbers = self.stem.candidates();
         self.levels

@@ -7,7 +7,7 @@
 //! and the walk over tables stops at each.
 //!
 //! 1. *Which numbers can come next?* The image must be a chamber without an image, up to the first
-//!    that was not met. `Stem::candidates` returns these as bits, from the bits of `Rows`. `Sides`
+//!    that was not met. `Stem::candidates` returns the set of these, from the bits of `Rows`. `Sides`
 //!    (dd_bounds) removes the numbers after which the shares of all chambers would be too small, or
 //!    after which there would be more cells than the request allows (`sieve`). It looks only at the
 //!    ends of the paths that a number joins, and at a census of the cells that are whole. Asking

@@ -5,7 +5,6 @@ ghost use Rattle.dd_model.specs.Jobs.{AreExtensions, AreChildren};
 ghost use Rattle.dd_invol.specs.Children.{IsStemOf};
 ghost use Rattle.dd_partial_table.specs.Stem.{Any, IsStem, prefix_of, size_of};
 ghost use Rattle.dd_jobs.specs.Under.{HasNothingUnder};
-ghost use Rattle.dd_partial_table.specs.Visit.{IsVisiting};
 
 use dd_jobs::{can_follow, child};
 use dd_model::{Job, Memory, Request};
@@ -16,9 +15,7 @@ use std::alloc::Global;
 pub(crate) fn stem_of(job: &Job, visit: &mut Visit) -> Option<Stem>
     requires size { (1 ≤ job.now.size) × (job.now.size ≤ 36) }
     requires short { length job.now.prefix ≤ 3 * job.now.size }
-    requires visiting { IsVisiting visit.old }
-    ensures visiting { IsVisiting visit.new }
-    ensures stem { MatchOption result (HasNothingUnder Any job.now.size job.now.prefix)
+    ensures { MatchOption result (HasNothingUnder Any job.now.size job.now.prefix)
         (λ stem. IsStemOf job.now stem) }
 {
     let mut stem = Stem::new(job.size as u8);
@@ -35,9 +32,7 @@ pub(crate) fn stem_of(job: &Job, visit: &mut Visit) -> Option<Stem>
 fn may_grow(stem: &mut Stem, visit: &mut Visit, number: u8) -> bool
     requires stem { IsStem stem.old }
     requires room { length (prefix_of stem.old) < 3 * size_of stem.old }
-    requires visiting { IsVisiting visit.old }
     ensures same { stem.new ≡ stem.old }
-    ensures visiting { IsVisiting visit.new }
     ensures dead { OnFalse result
         (HasNothingUnder Any (size_of stem.old) (prefix_of stem.old ++ number ∷ [])) }
 {

@@ -3,7 +3,7 @@ ghost use Rattle.std.specs.Bool.{OnTrue, OnFalse};
 ghost use Rattle.dd_jobs.specs.Under.{HasNothingUnder};
 
 use dd_model::Request;
-use dd_partial_table::{PrefixSearch, Stem, Visit, is_least};
+use dd_partial_table::{ChamberSet, PrefixSearch, Stem, Visit, is_least};
 use std::marker::Model;
 
 /// A search for tables of one size, of which nothing but leastness is asked: a stem that grows and
@@ -20,15 +20,10 @@ impl Model for Tables {
 
     ghost Value = { Growing };
 
-    ghost use Rattle.dd_partial_table.specs.Visit.{IsVisiting};
-
     ghost view = { λ a. record { request = a.request; stem = a.stem } };
-
-    ghost invariant = { λ a. IsVisiting a.visit };
 }
 
 impl Tables {
-    ghost use Rattle.dd_partial_table.specs.Visit.{IsVisiting};
     ghost use Rattle.dd_partial_table.specs.Rows.{depth_of};
     ghost use Rattle.dd_partial_table.specs.Stem.{Any, IsStem, prefix_of, size_of};
     ghost use Rattle.dd_partial_table.specs.Table.{HasLeastTable};
@@ -51,7 +46,6 @@ impl Tables {
 
     /// The search from a stem on, with the room for its traversals.
     pub(crate) fn from_stem(request: &Request, stem: Stem, visit: Visit) -> Tables
-        requires { IsVisiting visit }
         ensures request { result.request ≡ request.now }
         ensures stem { result.stem ≡ stem }
     {
@@ -126,7 +120,7 @@ impl PrefixSearch for Tables {
         self.stem.mark()
     }
 
-    fn candidates(&self) -> u64 {
+    fn candidates(&self) -> ChamberSet {
         self.stem.candidates()
     }
 

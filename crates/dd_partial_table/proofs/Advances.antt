@@ -1,16 +1,15 @@
 -- How far a search has come from a state at its levels, for states of any kind.
-use Rattle.std.proofs.Common.{◌≡◌, ◌↔◌, ◌⊎◌, ℕ, ◌-◌, ◌*◌, ◌<◌, ◌≤◌, List, [], ◌∷◌, ◌++◌, length, refl, sym, ap, ◌∙◌, subst, inl, inr, ⊎_elim, arith}
-use Rattle.std.specs.Int.{bit_at}
-use Rattle.std.specs.Int.Bits.{bit_and}
+use Rattle.std.proofs.Common.{◌≡◌, ◌↔◌, ◌⊎◌, ℕ, ◌*◌, ◌<◌, ◌≤◌, List, [], ◌∷◌, ◌++◌, length, refl, sym, ap, ◌∙◌, subst, inl, inr, ⊎_elim, arith}
 use Rattle.dd_model.specs.Symbol.{Symbol}
 use Rattle.dd_model.specs.Code.{IsBelow}
 use Rattle.dd_model.specs.declared.requests.Request.{Request}
+use Rattle.dd_partial_table.specs.Chambers.{bit_of, HasNone, IsFirst}
 use Rattle.dd_partial_table.specs.Search.{GoesOn}
 use Rattle.dd_jobs.specs.Under.{IsUnder, HasNothingUnder}
 use Rattle.dd_partial_table.specs.Levels.{IsStep, IsBeyond, IsAt, IsToTry, IsLeft, IsLeftAt, first_at, first_of, weight}
+use Rattle.dd_partial_table.specs.declared.chamber_set.ChamberSet.{ChamberSet}
 use Rattle.dd_partial_table.specs.declared.level.Level.{Level}
-use Rattle.dd_model.proofs.LowestBits.{IsLowestBit}
-use Rattle.dd_partial_table.proofs.LevelSteps.{below_left, left_none, all_to_try, tried_or_left, later_left, fewer_left}
+use Rattle.dd_partial_table.proofs.LevelSteps.{below_left, left_none, all_to_try, tried_or_left, later_left}
 use Rattle.dd_partial_table.proofs.Weights.{lighter_popped, lighter_tried}
 
 -- both ways, and on
@@ -62,7 +61,7 @@ module _ {S : Type 0} (request : S → Request) (wanted : Request → Symbol →
   low_prefix begun state first level levels fits come = let room = subst (λ k. length (prefix state) < end k) come.same_size come.at.0.room in omega (arith, room, fits)
 
   -- Nothing was left at the last level: the search goes back to the one before.
-  pub came_back : (begun state : S) (first levels : List Level) (level before : Level) → HasCome begun first state (level ∷ before ∷ levels) → level.left ≡ 0 → HasCome begun first (undone state before.mark) (before ∷ levels)
+  pub came_back : (begun state : S) (first levels : List Level) (level before : Level) → HasCome begun first state (level ∷ before ∷ levels) → HasNone level.left → HasCome begun first (undone state before.mark) (before ∷ levels)
   came_back begun state first levels level before come empty =
       let step = come.at.1.0 in
       record {
@@ -76,15 +75,15 @@ module _ {S : Type 0} (request : S → Request) (wanted : Request → Symbol →
       }
 
   -- there was no level before it
-  pub came_to_end : (begun state : S) (first : List Level) (level : Level) → HasCome begun first state (level ∷ []) → level.left ≡ 0
+  pub came_to_end : (begun state : S) (first : List Level) (level : Level) → HasCome begun first state (level ∷ []) → HasNone level.left
       → (s : Symbol) → IsLeftAt prefix undone (wanted (request begun)) (size begun) begun first s → ⊥
   came_to_end begun state first level come empty s left =
       (through (come.left s) (left_others (left_none (wanted (request begun)) (size begun) (prefix state) level.left s empty))).0 left
 
   -- The least number that was left is tried, and nothing is under the prefix with it.
-  pub came_dead : (begun state : S) (first levels : List Level) (level : Level) (m : ℕ) → end (size begun) ≤ 5 * size begun → HasCome begun first state (level ∷ levels) → IsLowestBit level.left m
-      → HasNothingUnder (wanted (request state)) (size state) (prefix state ++ m ∷ []) → HasCome begun first state (record { mark = level.mark; left = bit_and level.left (level.left - 1) } ∷ levels)
-  came_dead begun state first levels level m fits come lowest dead =
+  pub came_dead : (begun state : S) (first levels : List Level) (level : Level) (m : ℕ) (rest : ChamberSet) → end (size begun) ≤ 5 * size begun → HasCome begun first state (level ∷ levels) → IsFirst level.left m rest
+      → HasNothingUnder (wanted (request state)) (size state) (prefix state ++ m ∷ []) → HasCome begun first state (record { mark = level.mark; left = rest } ∷ levels)
+  came_dead begun state first levels level m rest fits come taken dead =
       let W = wanted (request begun) in
       let n = size begun in
       let low = low_prefix begun state first level levels fits come in
@@ -95,8 +94,8 @@ module _ {S : Type 0} (request : S → Request) (wanted : Request → Symbol →
         same_size = come.same_size;
         at = (record { mark = come.at.0.mark; room = come.at.0.room }, come.at.1);
         same_first = come.same_first;
-        left = λ s. through (come.left s) (on_left (through (tried_or_left W n (prefix state) level.left m s low lowest) (left_others (none s))));
-        lighter = let before = come.lighter in let less = lighter_tried level (record { mark = level.mark; left = bit_and level.left (level.left - 1) }) levels (fewer_left level.left m lowest) in omega (arith, before, less);
+        left = λ s. through (come.left s) (on_left (through (tried_or_left W n (prefix state) level.left m rest s low taken) (left_others (none s))));
+        lighter = let before = come.lighter in let less = lighter_tried level (record { mark = level.mark; left = rest }) levels taken.fewer in omega (arith, before, less);
       }
 
   -- The least number that was left led on to a state beyond the level.
@@ -109,13 +108,13 @@ module _ {S : Type 0} (request : S → Request) (wanted : Request → Symbol →
         ↔ (IsUnder (wanted (request begun)) (size begun) (prefix state) s ⊎ IsLeft prefix undone (wanted (request begun)) (size begun) state levels s)
     pub lighter : weight levels < weight first
 
-  pub came_in : (begun state new : S) (first levels : List Level) (level : Level) (m : ℕ) → end (size begun) ≤ 5 * size begun → HasCome begun first state (level ∷ levels) → IsLowestBit level.left m
-      → GoesOn request wanted size prefix end m state new → undone new (depth state) ≡ state → HasEntered begun first new (record { mark = level.mark; left = bit_and level.left (level.left - 1) } ∷ levels)
-  came_in begun state new first levels level m fits come lowest on back =
+  pub came_in : (begun state new : S) (first levels : List Level) (level : Level) (m : ℕ) (rest : ChamberSet) → end (size begun) ≤ 5 * size begun → HasCome begun first state (level ∷ levels) → IsFirst level.left m rest
+      → GoesOn request wanted size prefix end m state new → undone new (depth state) ≡ state → HasEntered begun first new (record { mark = level.mark; left = rest } ∷ levels)
+  came_in begun state new first levels level m rest fits come taken on back =
       let W = wanted (request begun) in
       let n = size begun in
       let low = low_prefix begun state first level levels fits come in
-      let later : Level = record { mark = level.mark; left = bit_and level.left (level.left - 1) } in
+      let later : Level = record { mark = level.mark; left = rest } in
       let there : undone new level.mark ≡ state = ap (undone new) come.at.0.mark ∙ back in
       let step : IsStep request wanted size prefix end depth valid later state new = record {
         number = m;
@@ -123,7 +122,7 @@ module _ {S : Type 0} (request : S → Request) (wanted : Request → Symbol →
         mark = come.at.0.mark;
         room = come.at.0.room;
         longer = on;
-        later = λ k told. later_left level.left m k lowest told;
+        later = λ k told. later_left level.left m rest k taken told;
       } in
       let same : (s : Symbol) → IsUnder W n (prefix new) s ↔ IsUnder W n (prefix state ++ m ∷ []) s = λ s. of_first begun state come.same_request come.same_size (λ V k. IsUnder V k (prefix new) s ↔ IsUnder V k (prefix state ++ m ∷ []) s) (on.same.same s) in
       record {
@@ -132,16 +131,16 @@ module _ {S : Type 0} (request : S → Request) (wanted : Request → Symbol →
         same_size = on.same_size ∙ come.same_size;
         same_first = ap (λ t. first_of undone t levels) there ∙ come.same_first;
         left = λ s. through (come.left s) (through
-            (regroup (tried_or_left W n (prefix state) level.left m s low lowest))
+            (regroup (tried_or_left W n (prefix state) level.left m rest s low taken))
             (subst (λ t. (IsUnder W n (prefix state ++ m ∷ []) s ⊎ (IsToTry W n (prefix state) later.left s ⊎ IsLeft prefix undone W n state levels s))
             ↔ (IsUnder W n (prefix new) s ⊎ (IsToTry W n (prefix t) later.left s ⊎ IsLeft prefix undone W n t levels s))) (sym there)
             (on_left ((same s).1, (same s).0))));
-        lighter = let before = come.lighter in let less = lighter_tried level later levels (fewer_left level.left m lowest) in omega (arith, before, less);
+        lighter = let before = come.lighter in let less = lighter_tried level later levels taken.fewer in omega (arith, before, less);
       }
 
   -- The search goes on at the state to which the number led, as a new level.
   pub came_on : (begun new : S) (first levels : List Level) (level : Level) → end (size begun) ≤ 5 * size begun → valid new → HasEntered begun first new levels
-      → level.mark ≡ depth new → length (prefix new) < end (size new) → ((k : ℕ) → bit_at level.left k ≡ 0 → HasNothingUnder (wanted (request new)) (size new) (prefix new ++ k ∷ []))
+      → level.mark ≡ depth new → length (prefix new) < end (size new) → ((k : ℕ) → bit_of level.left k ≡ 0 → HasNothingUnder (wanted (request new)) (size new) (prefix new ++ k ∷ []))
       → weight (level ∷ levels) ≤ weight first → HasCome begun first new (level ∷ levels)
   came_on begun new first levels level fits v entered mark room none light =
       let inside = subst (λ k. length (prefix new) < end k) entered.same_size room in

@@ -1,17 +1,16 @@
 -- The steps of a search from level to level, for states of any kind.
-use Rattle.std.proofs.Common.{◌≡◌, ◌≢◌, ◌↔◌, ◌⊎◌, ℕ, ◌-◌, ◌*◌, ◌<◌, ◌≤◌, List, [], ◌∷◌, ◌++◌, length, refl, sym, ap, ◌∙◌, subst, inl, inr, ⊎_elim, arith}
+use Rattle.std.proofs.Common.{◌≡◌, ◌≢◌, ◌↔◌, ◌⊎◌, ℕ, ◌*◌, ◌<◌, ◌≤◌, List, [], ◌∷◌, ◌++◌, length, refl, sym, ap, ◌∙◌, subst, inl, inr, ⊎_elim, arith}
 use Rattle.std.proofs.lemmas.Bool.{cases_eq, cases_lt}
-use Rattle.std.proofs.lemmas.Nat.{and_le_r}
 use Rattle.std.proofs.lemmas.Nat.Bits.{bit_at-zero, bit_at-lt}
 use Rattle.std.specs.Int.{bit_at}
-use Rattle.std.specs.Int.Bits.{bit_and}
 use Rattle.dd_model.specs.Symbol.{Symbol}
 use Rattle.dd_model.specs.Code.{IsBelow}
 use Rattle.dd_model.specs.declared.requests.Request.{Request}
 use Rattle.dd_jobs.specs.Under.{IsUnder, HasNothingUnder, next_number}
+use Rattle.dd_partial_table.specs.Chambers.{bit_of, HasNone, IsFirst}
 use Rattle.dd_partial_table.specs.Levels.{IsBeyond, IsToTry, IsLeft, IsLeftAt}
+use Rattle.dd_partial_table.specs.declared.chamber_set.ChamberSet.{ChamberSet}
 use Rattle.dd_partial_table.specs.declared.level.Level.{Level}
-use Rattle.dd_model.proofs.LowestBits.{IsLowestBit, dropped_same, dropped_other}
 use Rattle.dd_partial_table.proofs.Prefixes.{below_next, extended, shortened}
 
 -- each level has a longer prefix than the one before it
@@ -46,54 +45,54 @@ below_left request wanted size prefix end depth undone valid W n low state (leve
     left
 
 -- nothing is left at a level without numbers
-pub left_none : (W : Symbol → Type 0) (n : ℕ) (prefix : List ℕ) (left : ℕ) (s : Symbol) → left ≡ 0 → ¬ IsToTry W n prefix left s
+pub left_none : (W : Symbol → Type 0) (n : ℕ) (prefix : List ℕ) (left : ChamberSet) (s : Symbol) → HasNone left → ¬ IsToTry W n prefix left s
 left_none W n prefix left s empty try = let zero = ap (λ bits. bit_at bits (next_number prefix s)) empty ∙ bit_at-zero (next_number prefix s) in let told = try.told in omega (arith, zero, told)
 
 -- all under a prefix is to be tried where the numbers that are left are all that may come next
-pub all_to_try : (W : Symbol → Type 0) (n : ℕ) (prefix : List ℕ) (left : ℕ) (s : Symbol) → length prefix < 5 * n → ((m : ℕ) → bit_at left m ≡ 0 → HasNothingUnder W n (prefix ++ m ∷ []))
+pub all_to_try : (W : Symbol → Type 0) (n : ℕ) (prefix : List ℕ) (left : ChamberSet) (s : Symbol) → length prefix < 5 * n → ((m : ℕ) → bit_of left m ≡ 0 → HasNothingUnder W n (prefix ++ m ∷ []))
     → IsUnder W n prefix s ↔ IsToTry W n prefix left s
 all_to_try W n prefix left s low none = (
   (λ under.
       let next = next_number prefix s in
-      let bound = bit_at-lt left next in
+      let bound = bit_at-lt left.bits next in
       ⊎_elim
-      (λ (zero : bit_at left next ≡ 0). absurd (none next zero s (extended W n prefix next s low under refl)))
-      (λ (other : bit_at left next ≢ 0). record { under = under; told = omega (arith, other, bound) })
-      (cases_eq (bit_at left next) 0)),
+      (λ (zero : bit_of left next ≡ 0). absurd (none next zero s (extended W n prefix next s low under refl)))
+      (λ (other : bit_of left next ≢ 0). record { under = under; told = omega (arith, other, bound) })
+      (cases_eq (bit_of left next) 0)),
   (λ try. try.under),
 )
 
 -- The least number that is left is tried: what is to be tried is under the prefix with it, or still left.
-pub tried_or_left : (W : Symbol → Type 0) (n : ℕ) (prefix : List ℕ) (left m : ℕ) (s : Symbol) → length prefix < 5 * n → IsLowestBit left m
-    → IsToTry W n prefix left s ↔ (IsUnder W n (prefix ++ m ∷ []) s ⊎ IsToTry W n prefix (bit_and left (left - 1)) s)
-tried_or_left W n prefix left m s low lowest = (
+pub tried_or_left : (W : Symbol → Type 0) (n : ℕ) (prefix : List ℕ) (left : ChamberSet) (m : ℕ) (rest : ChamberSet) (s : Symbol) → length prefix < 5 * n → IsFirst left m rest
+    → IsToTry W n prefix left s ↔ (IsUnder W n (prefix ++ m ∷ []) s ⊎ IsToTry W n prefix rest s)
+tried_or_left W n prefix left m rest s low first = (
   (λ try.
       let next = next_number prefix s in
       ⊎_elim
       (λ (here : next ≡ m). inl (extended W n prefix m s low try.under here))
-      (λ (other : next ≢ m). inr (record { under = try.under; told = dropped_other left m next lowest other ∙ try.told }))
+      (λ (other : next ≢ m). inr (record { under = try.under; told = first.others next other ∙ try.told }))
       (cases_eq next m)),
   (λ either. ⊎_elim
       (λ under.
       let parts = shortened W n prefix m s under in
-      record { under = parts.0; told = ap (bit_at left) parts.1 ∙ lowest.set_ })
-      (λ (later : IsToTry W n prefix (bit_and left (left - 1)) s).
+      record { under = parts.0; told = ap (bit_of left) parts.1 ∙ first.here })
+      (λ (later : IsToTry W n prefix rest s).
       let next = next_number prefix s in
       ⊎_elim
-      (λ (here : next ≡ m). let gone = ap (bit_at (bit_and left (left - 1))) here ∙ dropped_same left m lowest in let told = later.told in absurd (omega (arith, gone, told)))
-      (λ (other : next ≢ m). record { under = later.under; told = sym (dropped_other left m next lowest other) ∙ later.told })
+      (λ (here : next ≡ m). let gone = ap (bit_of rest) here ∙ first.gone in let told = later.told in absurd (omega (arith, gone, told)))
+      (λ (other : next ≢ m). record { under = later.under; told = sym (first.others next other) ∙ later.told })
       (cases_eq next m))
       either),
 )
 
 -- the numbers that are left after the least one come after it
-pub later_left : (left m k : ℕ) → IsLowestBit left m → bit_at (bit_and left (left - 1)) k ≡ 1 → m < k
-later_left left m k lowest told = ⊎_elim
-    (λ (here : k ≡ m). let gone = ap (bit_at (bit_and left (left - 1))) here ∙ dropped_same left m lowest in absurd (omega (arith, gone, told)))
+pub later_left : (left : ChamberSet) (m : ℕ) (rest : ChamberSet) (k : ℕ) → IsFirst left m rest → bit_of rest k ≡ 1 → m < k
+later_left left m rest k first told = ⊎_elim
+    (λ (here : k ≡ m). let gone = ap (bit_of rest) here ∙ first.gone in absurd (omega (arith, gone, told)))
     (λ (other : k ≢ m).
-    let set_ = sym (dropped_other left m k lowest other) ∙ told in
+    let set_ = sym (first.others k other) ∙ told in
     ⊎_elim
-    (λ (below : k < m). let none = lowest.none_below k below in absurd (omega (arith, none, set_)))
+    (λ (below : k < m). let none = first.least k below in absurd (omega (arith, none, set_)))
     (λ above. omega (arith, above, other))
     (cases_lt k m))
     (cases_eq k m)
@@ -104,10 +103,3 @@ pub at_one : {S : Type 0} (prefix : S → List ℕ) (undone : S → ℕ → S) (
 at_one prefix undone W n state levels level is s =
     subst (λ ls. IsToTry W n (prefix state) level.left s ↔ IsLeftAt prefix undone W n state ls s) (sym is)
     ((λ try. inl try), (λ either. ⊎_elim (λ try. try) (λ none. absurd none) either))
-
--- without its lowest bit a number is less
-pub fewer_left : (left m : ℕ) → IsLowestBit left m → bit_and left (left - 1) < left
-fewer_left left m lowest = ⊎_elim
-    (λ empty. let set_ = lowest.set_ in let zero = ap (λ bits. bit_at bits m) empty ∙ bit_at-zero m in absurd (omega (arith, set_, zero)))
-    (λ some. let low = and_le_r left (left - 1) in omega (arith, low, some))
-    (cases_eq left 0)

@@ -1,6 +1,6 @@
 -- A traversal of a partial table from some chamber, beside a prefix.
-use Rattle.std.proofs.Common.{◌≡◌, ◌≢◌, ℕ, ◌+◌, ◌-◌, ◌/◌, ◌%◌, ◌<◌, ◌≤◌, List, [], ◌∷◌, length, get_or, replicate, sym, ap, ◌∙◌, subst, inl, ⊎_elim, arith}
-use Rattle.std.proofs.lemmas.Bool.{cases_lt}
+use Rattle.std.proofs.Common.{◌≡◌, ◌≢◌, ℕ, ◌+◌, ◌-◌, ◌/◌, ◌%◌, ◌<◌, ◌≤◌, List, [], ◌∷◌, length, get_or, replicate, sym, ap, ◌∙◌, subst, inl, inr, ⊎_elim, arith}
+use Rattle.std.proofs.lemmas.Bool.{cases_eq, cases_lt}
 use Rattle.std.proofs.lemmas.List.Folds.{sum_by-replicate}
 use Rattle.std.specs.List.{sum_by}
 use Rattle.dd_model.specs.Symbol.{Symbol, item, op}
@@ -8,7 +8,9 @@ use Rattle.dd_model.proofs.Lists.{zero_at}
 use Rattle.std.proofs.lemmas.List.{length-replicate}
 use Rattle.dd_canon.specs.Traversal.{unnumbered, IsVisit, IsMeeting}
 use Rattle.dd_jobs.specs.Places.{index_at}
+use Rattle.dd_partial_table.specs.Visit.{AreNumbered}
 use Rattle.dd_partial_table.specs.Beaten.{ReadsKnown, IsBeaten, Extends, AreMet}
+use Rattle.dd_partial_table.specs.declared.traversal.Visit.{Visit}
 use Rattle.dd_partial_table.proofs.Distinct.{distinct_from, all_from}
 
 -- so many zeros
@@ -27,6 +29,27 @@ visit_none n order number none blank =
       ordered = λ d low high. inl (ap (λ xs. item xs d) blank ∙ zero_at n (d - 1));
       room = omega arith;
     }
+
+-- a visit is one of the traversals of symbols with 36 chambers
+pub visit_of : (v : Visit) → IsVisit 36 v.order.items v.number
+visit_of v = record {
+  numbers = v.are_numbered.numbers;
+  within = v.are_numbered.within;
+  numbered = v.are_numbered.numbered;
+  ordered = λ d low high. ⊎_elim inl
+      (λ some. inr (let at = v.are_numbered.ordered d low high (omega arith) in (omega arith, at.0, at.1)))
+      (cases_eq (item v.number d) 0);
+  room = v.are_numbered.room;
+}
+
+pub numbered_of : (order number : List ℕ) → IsVisit 36 order number → AreNumbered order number
+numbered_of order number v = record {
+  numbers = v.numbers;
+  within = v.within;
+  numbered = v.numbered;
+  ordered = λ d low high some. ⊎_elim (λ none. absurd (omega arith)) (λ at. (at.1, at.2)) (v.ordered d low high);
+  room = v.room;
+}
 
 -- the chambers of an order are within 1 to n
 pub record AreInside (n : ℕ) (order : List ℕ) : Type 0 where

@@ -1,6 +1,7 @@
 -- What the levels of a search weigh falls with each number that is tried.
 use Rattle.std.proofs.Common.{◌≡◌, ℕ, suc, ◌+◌, ◌-◌, ◌*◌, ◌^◌, ◌<◌, ◌≤◌, List, [], ◌∷◌, length, ap, ◌∙◌, arith}
 use Rattle.std.proofs.Math.Nat.{pow-succ', one-le-pow}
+use Rattle.dd_partial_table.specs.Chambers.{HasNone}
 use Rattle.dd_partial_table.specs.declared.level.Level.{Level}
 use Rattle.dd_partial_table.specs.Levels.{weight, weight_of, weight_before}
 
@@ -32,21 +33,21 @@ next_weight level levels few =
     ap (λ k. (2 ^ 65) ^ k) e ∙ pow-succ' (2 ^ 65) (109 - suc (length levels))
 
 -- a level at which nothing is left is taken away
-pub lighter_popped : (level : Level) (levels : List Level) → level.left ≡ 0 → weight levels < weight (level ∷ levels)
+pub lighter_popped : (level : Level) (levels : List Level) → HasNone level.left → weight levels < weight (level ∷ levels)
 lighter_popped level [] empty = omega arith
 lighter_popped level (below ∷ levels) empty =
     let w = some_weight levels in
     let v = weight_of levels in
-    let gone : 2 * level.left * weight_of (below ∷ levels) ≡ 2 * 0 * weight_of (below ∷ levels) = ap (λ z. 2 * z * weight_of (below ∷ levels)) empty in
+    let gone : 2 * level.left.bits * weight_of (below ∷ levels) ≡ 2 * 0 * weight_of (below ∷ levels) = ap (λ z. 2 * z * weight_of (below ∷ levels)) empty in
     omega arith
 
 -- a number that was left was tried
-pub lighter_tried : (level later : Level) (levels : List Level) → later.left < level.left → weight (later ∷ levels) < weight (level ∷ levels)
-lighter_tried level later levels less = less_left level.left later.left (weight_of levels) (weight_before levels) less (some_weight levels)
+pub lighter_tried : (level later : Level) (levels : List Level) → later.left.bits < level.left.bits → weight (later ∷ levels) < weight (level ∷ levels)
+lighter_tried level later levels less = less_left level.left.bits later.left.bits (weight_of levels) (weight_before levels) less (some_weight levels)
 
 -- a number that was left led to a new level
-pub lighter_entered : (level later new : Level) (levels : List Level) → later.left < level.left → new.left < 2 ^ 64 → length levels < 109
+pub lighter_entered : (level later new : Level) (levels : List Level) → later.left.bits < level.left.bits → new.left.bits < 2 ^ 64 → length levels < 109
     → weight (new ∷ later ∷ levels) < weight (level ∷ levels)
 lighter_entered level later new levels less small few =
-    less_before level.left later.left new.left (weight_of levels) (weight_of (later ∷ levels)) (2 ^ 65) (weight_before levels) less
+    less_before level.left.bits later.left.bits new.left.bits (weight_of levels) (weight_of (later ∷ levels)) (2 ^ 65) (weight_before levels) less
     (next_weight later levels few) (omega arith) (some_weight (later ∷ levels))

@@ -1,10 +1,11 @@
 -- How far a search has come: the prefixes on the way from where it began, and what is still to be tried after each of them.
 use Rattle.std.specs.Prelude.{◌≡◌, ◌⊎◌, ℕ, ◌+◌, ◌-◌, ◌*◌, ◌^◌, ◌<◌, List, [], ◌∷◌, length}
-use Rattle.std.specs.Int.{bit_at}
 use Rattle.dd_model.specs.Symbol.{Symbol}
 use Rattle.dd_model.specs.declared.requests.Request.{Request}
+use Rattle.dd_partial_table.specs.Chambers.{bit_of}
 use Rattle.dd_partial_table.specs.Search.{GoesOn}
 use Rattle.dd_jobs.specs.Under.{IsUnder, next_number}
+use Rattle.dd_partial_table.specs.declared.chamber_set.ChamberSet.{ChamberSet}
 use Rattle.dd_partial_table.specs.declared.level.Level.{Level}
 
 -- A number was put in after the prefix of an old state, which led to a new one. All numbers that are left to be tried there come after it.
@@ -14,7 +15,7 @@ pub record IsStep {S : Type 0} (request : S → Request) (wanted : Request → S
   pub mark : level.mark ≡ depth old
   pub room : length (prefix old) < end (size old)
   pub longer : GoesOn request wanted size prefix end number old new
-  pub later : (k : ℕ) → bit_at level.left k ≡ 1 → number < k
+  pub later : (k : ℕ) → bit_of level.left k ≡ 1 → number < k
 
 -- The state is one to which the search came from its levels, the last of which comes first.
 abbrev pub IsBeyond : {S : Type 0} → (S → Request) → (Request → Symbol → Type 0) → (S → ℕ) → (S → List ℕ) → (ℕ → ℕ) → (S → ℕ) → (S → ℕ → S) → (S → Type 0) → S → List Level → Type 0
@@ -35,9 +36,9 @@ IsAt request wanted size prefix end depth undone valid state (level ∷ levels) 
     IsOpen size prefix end depth level state × IsBeyond request wanted size prefix end depth undone valid state levels
 
 -- what is still to be tried after a prefix: all under it whose next numbers are left
-pub record IsToTry (W : Symbol → Type 0) (n : ℕ) (prefix : List ℕ) (left : ℕ) (s : Symbol) : Type 0 where
+pub record IsToTry (W : Symbol → Type 0) (n : ℕ) (prefix : List ℕ) (left : ChamberSet) (s : Symbol) : Type 0 where
   pub under : IsUnder W n prefix s
-  pub told : bit_at left (next_number prefix s) ≡ 1
+  pub told : bit_of left (next_number prefix s) ≡ 1
 
 -- what is still to be tried at the levels from which the search came to a state
 abbrev pub IsLeft : {S : Type 0} → (S → List ℕ) → (S → ℕ → S) → (Symbol → Type 0) → ℕ → S → List Level → Symbol → Type 0
@@ -66,8 +67,8 @@ weight_of levels = (2 ^ 65) ^ (109 - length levels)
 
 abbrev pub weight_before : List Level → ℕ
 weight_before [] = 0
-weight_before (level ∷ levels) = (2 * level.left + 1) * weight_of levels + weight_before levels
+weight_before (level ∷ levels) = (2 * level.left.bits + 1) * weight_of levels + weight_before levels
 
 abbrev pub weight : List Level → ℕ
 weight [] = 0
-weight (level ∷ levels) = 2 * level.left * weight_of levels + weight_before levels + 1
+weight (level ∷ levels) = 2 * level.left.bits * weight_of levels + weight_before levels + 1

@@ -1,3 +1,4 @@
+pub mod Chambers
 pub mod Search
 pub mod Levels
 pub mod Table

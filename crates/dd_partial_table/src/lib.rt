@@ -2,6 +2,7 @@
 //! such prefixes.
 #![tactic(auto)]
 
+mod chamber_set;
 mod collecting_search;
 mod level;
 mod levels;
@@ -15,6 +16,7 @@ mod stem;
 mod traversal;
 mod whole_stems;
 
+pub use chamber_set::ChamberSet;
 pub use collecting_search::{CollectingSearch, find};
 pub use level::Level;
 pub use levels::Levels;

@@ -1,10 +1,12 @@
 ghost use Rattle.std.specs.Prelude.{◌≡◌, ℕ, ◌+◌, [], ◌∷◌, ◌++◌, ◌≤◌, ◌<◌, ◌↔◌, List, IsTrue, length};
 ghost use Rattle.std.specs.Bool.{OnTrue, OnFalse};
-ghost use Rattle.std.specs.Int.{bit_at};
 ghost use Rattle.dd_model.specs.Symbol.{Symbol as Tiling};
 ghost use Rattle.dd_model.specs.declared.requests.Request.{Request as Asked};
 ghost use Rattle.dd_jobs.specs.Under.{HasNothingUnder};
+ghost use Rattle.dd_partial_table.specs.Chambers.{bit_of};
 ghost use Rattle.dd_partial_table.specs.Search.{GoesOn};
+
+use crate::chamber_set::ChamberSet;
 
 /// A prefix of codes of one size, with what a search keeps to see early that nothing is under the
 /// prefix. A number is put at its end and taken away again, in place.
@@ -38,11 +40,11 @@ pub trait PrefixSearch {
     fn mark(&self) -> usize
         ensures { result ≡ depth self.now };
 
-    /// The numbers that may come next, as bits. Nothing is under the prefix with any other number.
-    fn candidates(&self) -> u64
+    /// The numbers that may come next. Nothing is under the prefix with any other number.
+    fn candidates(&self) -> ChamberSet
         requires valid { valid self.now }
         requires room { length (prefix self.now) < end (size self.now) }
-        ensures { (m : ℕ) → bit_at result m ≡ 0
+        ensures { (m : ℕ) → bit_of result m ≡ 0
             → HasNothingUnder (wanted (request self.now)) (size self.now)
             (prefix self.now ++ m ∷ []) };
 

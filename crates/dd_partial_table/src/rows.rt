@@ -1,9 +1,9 @@
 ghost use Rattle.std.specs.Prelude.{◌≡◌, ◌≢◌, ℕ, ◌+◌, ◌-◌, ◌*◌, ◌/◌, ◌%◌, ◌≤◌, ◌<◌, length, drop, slice_index};
 ghost use Rattle.std.specs.Bool.{OnTrue, OnFalse};
-ghost use Rattle.std.specs.Int.{bit_at};
 ghost use Rattle.dd_model.specs.Symbol.{op};
 ghost use Rattle.dd_jobs.specs.Places.{index_at, place, back_of, bits_of};
 
+use crate::chamber_set::ChamberSet;
 use arrayvec::ArrayVec;
 use dd_model::Index;
 
@@ -70,6 +70,7 @@ pub struct Rows {
 }
 
 impl Rows {
+    ghost use Rattle.dd_partial_table.specs.Chambers.{bit_of};
     ghost use Rattle.dd_partial_table.specs.Rows.{partial_of, depth_of, unwound, IsReady, HasNumberAt, Learns, Excludes, Commutes};
     ghost use Rattle.dd_partial_table.specs.Commuting.{CommutesAt, IsCommuting, KeepsCommuting, KeepsOthers};
 
@@ -131,15 +132,15 @@ impl Rows {
         back_of(place, self.numbers[place as usize])
     }
 
-    /// The chambers up to a number whose images are not known, as bits.
-    pub(crate) fn free_to(&self, i: Index, last: u8) -> u64
+    /// The chambers up to a number whose images are not known.
+    pub(crate) fn free_to(&self, i: Index, last: u8) -> ChamberSet
         requires ready { IsReady self.now }
         requires last { last ≤ (partial_of self.now).size }
-        ensures taken { (d : ℕ) → 1 ≤ d → d ≤ last → bit_at result d ≡ 0
+        ensures taken { (d : ℕ) → 1 ≤ d → d ≤ last → bit_of result d ≡ 0
             → op (partial_of self.now) i d ≢ 0 }
-        ensures chambers { (d : ℕ) → bit_at result d ≡ 1 → d ≤ last }
+        ensures chambers { (d : ℕ) → bit_of result d ≡ 1 → d ≤ last }
     {
-        self.free[place_of(i, 1) as usize] & ((2 << last) - 2)
+        ChamberSet::of_bits(self.free[place_of(i, 1) as usize], last)
     }
 
     /// How much was put in.

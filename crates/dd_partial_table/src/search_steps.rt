@@ -66,16 +66,14 @@ pub fn advance<T: PrefixSearch>(search: &mut T, levels: &mut Levels) -> bool
         return false;
     };
     loop {
-        if level.left == 0 {
+        let Some(number) = level.left.take_first() else {
             let Some(before) = levels.pop() else {
                 return false;
             };
             search.leave(before.mark);
             level = before;
             continue;
-        }
-        let number = level.left.trailing_zeros() as u8;
-        level.left &= level.left - 1;
+        };
         if search.enter(number) {
             let is_whole = search.is_whole();
             levels.push(level);

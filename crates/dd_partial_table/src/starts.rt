@@ -17,13 +17,9 @@ pub struct Starts {
 }
 
 impl Model for Starts {
-    ghost use Rattle.dd_partial_table.specs.Visit.{IsVisiting};
-
     ghost Value = { Unit {0} };
 
     ghost view = { λ _. tt };
-
-    ghost invariant = { λ a. IsVisiting a.visit };
 }
 
 impl Starts {

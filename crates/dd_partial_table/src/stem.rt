@@ -1,13 +1,12 @@
 ghost use Rattle.std.specs.Prelude.{◌≡◌, ◌≢◌, ℕ, ◌+◌, [], ◌∷◌, ◌++◌, ◌*◌, ◌≤◌, ◌<◌, ◌↔◌, IsTrue, length};
 ghost use Rattle.std.specs.Bool.{OnTrue, OnFalse};
-ghost use Rattle.std.specs.Int.{bit_at};
 ghost use Rattle.dd_model.specs.FirstVisit.{Grows};
 ghost use Rattle.dd_model.specs.Symbol.{op};
 ghost use Rattle.dd_jobs.specs.FirstVisit.{AreMet};
 ghost use Rattle.dd_partial_table.specs.Rows.{partial_of, depth_of, IsReady};
-ghost use Rattle.dd_partial_table.specs.Visit.{IsVisiting};
 ghost use Rattle.dd_jobs.specs.Under.{HasNothingUnder};
 
+use crate::chamber_set::ChamberSet;
 use crate::numbers::Numbers;
 use crate::rows::{Rows, index_at};
 use crate::traversal::{Standing, Visit, stand};
@@ -22,6 +21,7 @@ pub struct Stem {
 }
 
 impl Stem {
+    ghost use Rattle.dd_partial_table.specs.Chambers.{bit_of};
     ghost use Rattle.dd_partial_table.specs.Stem.{Any, IsStem, HasAbsorbed, prefix_of, size_of, cut_to, shortened};
 
     /// The empty prefix.
@@ -72,24 +72,24 @@ impl Stem {
         self.rows.mark()
     }
 
-    /// The numbers that may come next, as bits: the one that is known there, or each chamber
-    /// without an image up to the first that has not been met. There are none where the chamber
-    /// whose image is next has not been met.
+    /// The numbers that may come next: the one that is known there, or each chamber without an
+    /// image up to the first that has not been met. There are none where the chamber whose image is
+    /// next has not been met.
     #[inline(always)]
-    pub fn candidates(&self) -> u64
+    pub fn candidates(&self) -> ChamberSet
         requires stem { IsStem self.now }
         requires room { length (prefix_of self.now) < 3 * size_of self.now }
-        ensures others { (m : ℕ) → bit_at result m ≡ 0
+        ensures others { (m : ℕ) → bit_of result m ≡ 0
             → HasNothingUnder Any (size_of self.now) (prefix_of self.now ++ m ∷ []) }
-        ensures chambers { (m : ℕ) → bit_at result m ≡ 1 → m ≤ size_of self.now }
+        ensures chambers { (m : ℕ) → bit_of result m ≡ 1 → m ≤ size_of self.now }
     {
         if self.is_stuck() {
-            return 0;
+            return ChamberSet::none();
         }
         let place = self.prefix.len() as u8;
         let known = self.rows.number_at(place);
         if known != 0 {
-            return 1 << known;
+            return ChamberSet::only(known);
         }
         let last = 1 + self.prefix.greatest().min(self.rows.size() - 1);
         self.rows.free_to(index_at(place), last)
@@ -167,10 +167,8 @@ impl Stem {
     /// How the traversal from a chamber stands to the prefix. Where it reads smaller, nothing is
     /// under the prefix.
     pub(crate) fn standing(&self, start: u8, visit: &mut Visit) -> Standing
-        requires stem { IsStem self.now }
-        requires visiting { IsVisiting visit.old }
-        ensures visiting { IsVisiting visit.new }
-        ensures dead { result ≡ Standing.Smaller
+        requires { IsStem self.now }
+        ensures { result ≡ Standing.Smaller
             → HasNothingUnder Any (size_of self.now) (prefix_of self.now) }
     {
         if start == 0 || start > self.rows.size() {
@@ -182,10 +180,8 @@ impl Stem {
     /// Returns whether the traversal from some start gives a smaller code, so that nothing is under
     /// the prefix. A tie is none. Chamber 1 reads as the prefix itself, and is not tried.
     pub fn is_beaten(&self, visit: &mut Visit) -> bool
-        requires stem { IsStem self.now }
-        requires visiting { IsVisiting visit.old }
-        ensures visiting { IsVisiting visit.new }
-        ensures dead { IsTrue result → HasNothingUnder Any (size_of self.now) (prefix_of self.now) }
+        requires { IsStem self.now }
+        ensures { IsTrue result → HasNothingUnder Any (size_of self.now) (prefix_of self.now) }
     {
         for k in 1..self.rows.size() {
             match self.standing(k + 1, visit) {
@@ -201,9 +197,7 @@ impl Stem {
     pub fn enter(&mut self, number: u8, visit: &mut Visit) -> bool
         requires stem { IsStem self.old }
         requires room { length (prefix_of self.old) < 3 * size_of self.old }
-        requires visiting { IsVisiting visit.old }
         ensures stem { IsStem self.new }
-        ensures visiting { IsVisiting visit.new }
         ensures longer { OnTrue result (prefix_of self.new ≡ prefix_of self.old ++ number ∷ []) }
         ensures size { size_of self.new ≡ size_of self.old }
         ensures undone { OnTrue result (shortened self.new (depth_of self.old.rows) ≡ self.old) }

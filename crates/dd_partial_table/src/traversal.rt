@@ -5,7 +5,7 @@ ghost use Rattle.dd_partial_table.specs.Beaten.{IsBeaten};
 ghost use Rattle.dd_partial_table.specs.Open.{IsOpen};
 ghost use Rattle.dd_partial_table.specs.Passed.{IsPassed};
 ghost use Rattle.dd_partial_table.specs.Rows.{partial_of, IsReady};
-ghost use Rattle.dd_partial_table.specs.Visit.{IsVisiting};
+ghost use Rattle.dd_partial_table.specs.Visit.{AreNumbered};
 
 use crate::rows::Rows;
 use crate::sleepers::NOWHERE;
@@ -17,13 +17,12 @@ use arrayvec::ArrayVec;
 pub struct Visit {
     order: ArrayVec<u8, 36>,
     number: [u8; 36],
+    ghost are_numbered: { AreNumbered order.items number },
 }
 
 impl Visit {
     /// A visit that has met no chamber.
-    pub fn new() -> Visit
-        ensures { IsVisiting result }
-    {
+    pub fn new() -> Visit {
         let order = ArrayVec::new();
         let number = [0; 36];
         Visit { order, number }
@@ -31,10 +30,8 @@ impl Visit {
 
     /// A chamber without a number gets the next one.
     fn add(&mut self, chamber: u8) -> u8
-        requires visiting { IsVisiting self.old }
         requires chamber { (1 ≤ chamber) × (chamber ≤ 36) }
         requires none { item self.old.number chamber ≡ 0 }
-        ensures visiting { IsVisiting self.new }
         ensures order { self.new.order.items ≡ self.old.order.items ++ chamber ∷ [] }
         ensures number { self.new.number ≡ set self.old.number (chamber - 1)
             (length self.old.order.items + 1) }
@@ -48,10 +45,8 @@ impl Visit {
 
     /// Only the start has a number.
     fn begin(&mut self, start: u8)
-        requires visiting { IsVisiting self.old }
-        requires start { (1 ≤ start) × (start ≤ 36) }
-        ensures visiting { IsVisiting self.new }
-        ensures order { self.new.order.items ≡ start ∷ [] }
+        requires { (1 ≤ start) × (start ≤ 36) }
+        ensures { self.new.order.items ≡ start ∷ [] }
     {
         self.order = ArrayVec::new();
         self.number = [0; 36];
@@ -60,10 +55,8 @@ impl Visit {
 
     /// The number of a chamber, the next one where it has none.
     fn meet(&mut self, chamber: u8) -> u8
-        requires visiting { IsVisiting self.old }
-        requires chamber { (1 ≤ chamber) × (chamber ≤ 36) }
-        ensures visiting { IsVisiting self.new }
-        ensures meeting { IsMeeting self.old.order.items self.new.order.items
+        requires { (1 ≤ chamber) × (chamber ≤ 36) }
+        ensures { IsMeeting self.old.order.items self.new.order.items
             self.new.number chamber result }
     {
         let known = self.number[chamber as usize - 1];
@@ -91,10 +84,8 @@ pub enum Standing {
 #[inline(always)]
 pub fn stand(rows: &Rows, prefix: &[u8], start: u8, visit: &mut Visit) -> Standing
     requires ready { IsReady rows.now }
-    requires visiting { IsVisiting visit.old }
     requires start { (1 ≤ start) × (start ≤ (partial_of rows.now).size) }
     requires short { length prefix.now ≤ 3 * (partial_of rows.now).size }
-    ensures visiting { IsVisiting visit.new }
     ensures open { (place : ℕ) → result ≡ Standing.Open place
         → IsOpen (partial_of rows.now) prefix.now start }
     ensures beaten { result ≡ Standing.Smaller → IsBeaten (partial_of rows.now) prefix.now }

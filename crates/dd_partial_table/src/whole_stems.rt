@@ -5,7 +5,6 @@ ghost use Rattle.std.specs.Bool.{OnTrue, OnFalse};
 ghost use Rattle.dd_symbol.specs.Images.{of_rows};
 ghost use Rattle.dd_jobs.specs.Under.{HasNothingUnder};
 ghost use Rattle.dd_partial_table.specs.Stem.{Any, IsStem, prefix_of, size_of};
-ghost use Rattle.dd_partial_table.specs.Visit.{IsVisiting};
 ghost use Rattle.dd_partial_table.specs.Table.{AreOfTable, HasLeastTable, HasTable};
 ghost use Rattle.dd_partial_table.specs.Ties.{AreTiesOf};
 
@@ -21,8 +20,6 @@ use std::alloc::Global;
 pub fn is_least(stem: &Stem, visit: &mut Visit) -> bool
     requires stem { IsStem stem.now }
     requires whole { length (prefix_of stem.now) ≡ 3 * size_of stem.now }
-    requires visiting { IsVisiting visit.old }
-    ensures visiting { IsVisiting visit.new }
     ensures least { OnTrue result (HasLeastTable (size_of stem.now) (prefix_of stem.now)) }
     ensures none { OnFalse result (HasNothingUnder Any (size_of stem.now) (prefix_of stem.now)) }
 {

@@ -111,9 +111,7 @@ fn count_nodes(descent: &mut Descent) -> u64
     let known = descent.known();
     let mut count = 0u64;
     let mut left = descent.candidates();
-    while left != 0 {
-        let number = left.trailing_zeros() as u8;
-        left &= left - 1;
+    while let Some(number) = left.take_first() {
         if descent.enter(number) {
             if descent.known() > known {
                 count = count.saturating_add(1);

@@ -1,7 +1,6 @@
 ghost use Rattle.std.specs.Prelude.{◌≡◌, ◌*◌, ◌<◌, ◌≤◌};
 ghost use Rattle.dd_partial_table.specs.Rows.{partial_of, IsReady};
 ghost use Rattle.dd_partial_table.specs.Stem.{IsStem};
-ghost use Rattle.dd_partial_table.specs.Visit.{IsVisiting};
 ghost use Rattle.dd_bounds.specs.Kept.{AreSides};
 
 use dd_bounds::{PathShares, Sides, parity_rules_out};
@@ -197,10 +196,8 @@ fn count_nodes(
     mark: usize,
 ) -> u64
     requires stem { IsStem stem.old }
-    requires visiting { IsVisiting visit.old }
     requires kept { AreSides classes.now (partial_of stem.old.rows) before.now }
     ensures stem { stem.new ≡ stem.old }
-    ensures visiting { IsVisiting visit.new }
 {
     let mut sides = *before;
     if sides.learn(classes, stem.rows(), mark) {
@@ -219,7 +216,7 @@ fn count_nodes(
     }
     let numbers = stem.candidates();
     for number in 0..37u8 {
-        if (numbers >> number) & 1 == 0 {
+        if !numbers.contains(number) {
             continue;
         }
         if stem.enter(number, visit) {

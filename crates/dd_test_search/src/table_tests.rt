@@ -1,6 +1,5 @@
 ghost use Rattle.std.specs.Prelude.{◌≡◌};
 ghost use Rattle.dd_partial_table.specs.Stem.{IsStem};
-ghost use Rattle.dd_partial_table.specs.Visit.{IsVisiting};
 
 use dd_degrees::Table;
 use dd_invol::{Walk, children, tables_under};
@@ -114,9 +113,7 @@ fn children_of_a_job(rt: HostRuntime) {
 /// How many whole prefixes no test refuses.
 fn count_whole(stem: &mut Stem, visit: &mut Visit) -> u64
     requires stem { IsStem stem.old }
-    requires visiting { IsVisiting visit.old }
     ensures stem { stem.new ≡ stem.old }
-    ensures visiting { IsVisiting visit.new }
 {
     if stem.is_whole() {
         return 1;
@@ -125,7 +122,7 @@ fn count_whole(stem: &mut Stem, visit: &mut Visit) -> u64
     let mut count = 0;
     let numbers = stem.candidates();
     for number in 0..37u8 {
-        if (numbers >> number) & 1 == 0 {
+        if !numbers.contains(number) {
             continue;
         }
         if stem.enter(number, visit) {

@@ -9,13 +9,12 @@ use Rattle.dd_invol.proofs.splits.extensions.Goals as goal
 use Rattle.dd_invol.proofs.splits.extensions.Goals.{then-may_grow+in_ok-child+in_ok-push, else-may_grow}
 
 pub returns-in_default : goal.returns-in_default
-returns-in_default c = subst (AreExtensions c.args.q.now c.args.job.now) (sym c.new-jobs.ensures.items) (extensions_none c.args.q.now c.args.job.now c.in_default.ensures.stem)
+returns-in_default c = subst (AreExtensions c.args.q.now c.args.job.now) (sym c.new-jobs.ensures.items) (extensions_none c.args.q.now c.args.job.now c.in_default.ensures)
 
 pub loop-k-init : goal.loop-k-init
 loop-k-init c = record {
   jobs = subst (AreExtensionsBelow c.args.q.now c.args.job.now 1) (sym c.new-jobs.ensures.items) (extensions_first c.args.q.now c.args.job.now c.requires.shorter);
-  stem = c.in-Some.ensures.stem;
-  visiting = c.in-Some.ensures.visiting;
+  stem = c.in-Some.ensures;
 }
 
 pub loop-k-preserved : goal.loop-k-preserved
@@ -28,12 +27,12 @@ loop-k-preserved c =
     elim c.if-may_grow.branch [
       | then-may_grow+in_ok-child+in_ok-push w ↦
           let pushed = ap (λ l. l.items) w.jobs-is ∙ w.in_ok-push.ensures.items ∙ ap (λ j. c.loop-k.jobs.items ++ j ∷ []) w.in_ok-child.ensures in
-          record { jobs = subst (AreExtensionsBelow q job (k + 1)) (sym pushed) (extensions_more q job k c.loop-k.jobs.items i.jobs); stem = of; visiting = c.may_grow.ensures.visiting }
+          record { jobs = subst (AreExtensionsBelow q job (k + 1)) (sym pushed) (extensions_more q job k c.loop-k.jobs.items i.jobs); stem = of }
       | else-may_grow w ↦
           let one = subst (λ n. HasNothingUnder Any n (prefix_of c.loop-k.stem ++ k ∷ [])) i.stem.size w.if-may_grow.ensures.dead in
           let two = subst (λ xs. HasNothingUnder Any job.size (xs ++ k ∷ [])) i.stem.prefix one in
           let none = none_of_any q (extended job k) two in
-          record { jobs = subst (λ l. AreExtensionsBelow q job (k + 1) l.items) (sym w.jobs-is) (extensions_skip q job k c.loop-k.jobs.items none i.jobs); stem = of; visiting = c.may_grow.ensures.visiting }
+          record { jobs = subst (λ l. AreExtensionsBelow q job (k + 1) l.items) (sym w.jobs-is) (extensions_skip q job k c.loop-k.jobs.items none i.jobs); stem = of }
     ]
 
 pub returns : goal.returns

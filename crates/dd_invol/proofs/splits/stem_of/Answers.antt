@@ -5,8 +5,8 @@ use Rattle.dd_jobs.specs.Under.{HasNothingUnder}
 use Rattle.dd_partial_table.proofs.Extensions.{none_under_front}
 use Rattle.dd_invol.proofs.splits.stem_of.Goals as goal
 
-pub returns-then-not-enter-clause-stem : goal.returns-then-not-enter-clause-stem
-returns-then-not-enter-clause-stem c =
+pub returns-then-not-enter : goal.returns-then-not-enter
+returns-then-not-enter c =
     let n = c.args.job.now.size in
     let i = c.loop-number.number-index in
     let stem = c.loop-number.stem in

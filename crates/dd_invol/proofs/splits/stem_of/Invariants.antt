@@ -1,6 +1,5 @@
 use Rattle.std.proofs.Common.{◌≡◌, take}
 use Rattle.dd_partial_table.specs.Stem.{IsStem, prefix_of, size_of}
-use Rattle.dd_partial_table.specs.Visit.{IsVisiting}
 use Rattle.dd_invol.proofs.splits.stem_of.Given as goal
 
 abbrev pub invariant-loop-number : goal.invariant-loop-number
@@ -8,5 +7,4 @@ invariant-loop-number l = record {
   is : IsStem l.stem;
   size : size_of l.stem ≡ l.fn.job.size;
   prefix : prefix_of l.stem ≡ take l.number-index l.prefix;
-  visiting : IsVisiting l.visit;
 }

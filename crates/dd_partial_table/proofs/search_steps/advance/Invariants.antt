@@ -3,10 +3,10 @@ use Rattle.dd_partial_table.specs.Levels.{weight}
 use Rattle.dd_partial_table.proofs.Advances.{HasCome}
 use Rattle.dd_partial_table.proofs.search_steps.advance.Given as goal
 
-abbrev pub invariant-loop-level : goal.invariant-loop-level
-invariant-loop-level g l =
+abbrev pub invariant-loop-number : goal.invariant-loop-number
+invariant-loop-number g l =
     let T = g.T.PrefixSearch in
     HasCome T.request T.wanted T.size T.prefix T.end T.depth T.undone T.valid l.fn.search l.fn.levels l.search (l.level ∷ l.levels)
 
-abbrev pub decreases-loop-level : goal.decreases-loop-level
-decreases-loop-level g l = weight (l.level ∷ l.levels)
+abbrev pub decreases-loop-number : goal.decreases-loop-number
+decreases-loop-number g l = weight (l.level ∷ l.levels)

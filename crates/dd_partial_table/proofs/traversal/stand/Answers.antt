@@ -4,7 +4,7 @@ use Rattle.dd_canon.specs.Traversal.{IsVisit, IsMeeting}
 use Rattle.dd_jobs.specs.Places.{index_at}
 use Rattle.dd_partial_table.specs.Rows.{partial_of, HasNumberAt}
 use Rattle.dd_partial_table.proofs.Passing.{ReadsNext, passing_begun, passing_more, passed_here, agreeing_here, unknown_here}
-use Rattle.dd_partial_table.proofs.Traversing.{AreInside, extends_met, inside_begun, inside_met, met_at, reads_more, beats_here}
+use Rattle.dd_partial_table.proofs.Traversing.{AreInside, extends_met, inside_begun, inside_met, met_at, reads_more, beats_here, visit_of}
 use Rattle.dd_partial_table.proofs.traversal.stand.Goals as goal
 
 -- what is read at a place of the row of a chamber, whose first place is known
@@ -33,13 +33,12 @@ next_read P prefix xs ys number row offset u first image k low within rest begin
 pub loop-place-init : goal.loop-place-init
 loop-place-init c =
     let P = partial_of c.args.rows.now in
-    let inside = inside_begun P.size c.args.start c.begin.new.self.order.items c.begin.ensures.order c.requires.start in
+    let inside = inside_begun P.size c.args.start c.begin.new.self.order.items c.begin.ensures c.requires.start in
     record {
-      visiting = c.begin.ensures.visiting;
       inside = inside;
       reads = record { same = λ v low. absurd (omega arith) };
-      passing = passing_begun P c.args.prefix.now c.begin.new.self.order.items c.begin.new.self.number c.args.start 36 c.requires.ready.small c.begin.ensures.order c.begin.ensures.visiting.visit inside;
-      some = let order = c.begin.ensures.order in let one = ap length order in omega (arith, one);
+      passing = passing_begun P c.args.prefix.now c.begin.new.self.order.items c.begin.new.self.number c.args.start 36 c.requires.ready.small c.begin.ensures (visit_of c.begin.new.self) inside;
+      some = let order = c.begin.ensures in let one = ap length order in omega (arith, one);
       begun = omega arith;
     }
 
@@ -49,7 +48,7 @@ returns-then-number-prefix-clause-beaten c _ =
     let i = c.loop-offset.invariant in
     let next = next_read P c.args.prefix.now c.loop-offset.visit.order.items c.meet-number.new.self.order.items c.meet-number.new.self.number c.loop-place.row c.loop-offset.offset c.loop-offset.place _
     c.number_at-image.result c.meet-number.result i.low i.within c.loop-offset-test.true i.first c.if-place-prefix.false c.requires.ready.small i.inside
-    c.number_at-image.ensures.number c.if-image-eq0.false c.number_at-image.ensures.within c.meet-number.ensures.meeting c.meet-number.ensures.visiting.visit in
+    c.number_at-image.ensures.number c.if-image-eq0.false c.number_at-image.ensures.within c.meet-number.ensures (visit_of c.meet-number.new.self) in
     beats_here P c.args.prefix.now _ _ _ c.loop-offset.place _ c.meet-number.result 36 next.at i.reads next.visit next.inside next.place c.if-number-prefix.true
 
 pub returns-then-number-prefix-2-clause-larger : goal.returns-then-number-prefix-2-clause-larger
@@ -58,7 +57,7 @@ returns-then-number-prefix-2-clause-larger c _ =
     let i = c.loop-offset.invariant in
     let next = next_read P c.args.prefix.now c.loop-offset.visit.order.items c.meet-number.new.self.order.items c.meet-number.new.self.number c.loop-place.row c.loop-offset.offset c.loop-offset.place _
     c.number_at-image.result c.meet-number.result i.low i.within c.loop-offset-test.true i.first c.if-place-prefix.false c.requires.ready.small i.inside
-    c.number_at-image.ensures.number c.if-image-eq0.false c.number_at-image.ensures.within c.meet-number.ensures.meeting c.meet-number.ensures.visiting.visit in
+    c.number_at-image.ensures.number c.if-image-eq0.false c.number_at-image.ensures.within c.meet-number.ensures (visit_of c.meet-number.new.self) in
     passed_here P c.args.prefix.now _ _ c.loop-offset.visit.number _ c.args.start c.loop-offset.place _ c.meet-number.result 36 next i.passing c.if-number-prefix-2.true
 
 pub loop-offset-preserved : goal.loop-offset-preserved
@@ -67,12 +66,11 @@ loop-offset-preserved c =
     let i = c.loop-offset.invariant in
     let next = next_read P c.args.prefix.now c.loop-offset.visit.order.items c.meet-number.new.self.order.items c.meet-number.new.self.number c.loop-place.row c.loop-offset.offset c.loop-offset.place _
     c.number_at-image.result c.meet-number.result i.low i.within c.loop-offset-test.true i.first c.if-place-prefix.false c.requires.ready.small i.inside
-    c.number_at-image.ensures.number c.if-image-eq0.false c.number_at-image.ensures.within c.meet-number.ensures.meeting c.meet-number.ensures.visiting.visit in
-    let grown = extends_met _ _ _ _ _ c.meet-number.ensures.meeting in
+    c.number_at-image.ensures.number c.if-image-eq0.false c.number_at-image.ensures.within c.meet-number.ensures (visit_of c.meet-number.new.self) in
+    let grown = extends_met _ _ _ _ _ c.meet-number.ensures in
     let longer = grown.longer in
     let low = i.low in
     record {
-      visiting = c.meet-number.ensures.visiting;
       inside = next.inside;
       reads = reads_more P c.args.prefix.now _ _ _ c.loop-offset.place _ c.meet-number.result next.at i.reads (omega arith);
       passing = passing_more P c.args.prefix.now _ _ c.loop-offset.visit.number _ c.args.start c.loop-offset.place _ c.meet-number.result 36 next i.passing (omega arith);

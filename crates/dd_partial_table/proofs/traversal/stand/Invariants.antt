@@ -1,13 +1,11 @@
 use Rattle.std.proofs.Common.{◌≡◌, ◌+◌, ◌-◌, ◌*◌, ◌<◌, ◌≤◌, length, get_or}
 use Rattle.dd_partial_table.specs.Rows.{partial_of}
-use Rattle.dd_partial_table.specs.Visit.{IsVisiting}
 use Rattle.dd_partial_table.proofs.Passing.{IsPassing}
 use Rattle.dd_partial_table.proofs.Traversing.{AreInside, ReadsSo}
 use Rattle.dd_partial_table.proofs.traversal.stand.Given as goal
 
 abbrev pub invariant-loop-place : goal.invariant-loop-place
 invariant-loop-place l = record {
-  visiting : IsVisiting l.visit;
   inside : AreInside (partial_of l.rows).size l.visit.order.items;
   reads : ReadsSo (partial_of l.rows) l.prefix l.visit.order.items l.place;
   passing : IsPassing (partial_of l.rows) l.prefix l.start l.visit.order.items l.visit.number l.place;
@@ -17,7 +15,6 @@ invariant-loop-place l = record {
 
 abbrev pub invariant-loop-offset : goal.invariant-loop-offset
 invariant-loop-offset l = record {
-  visiting : IsVisiting l.visit;
   inside : AreInside (partial_of l.rows).size l.visit.order.items;
   reads : ReadsSo (partial_of l.rows) l.prefix l.visit.order.items l.place;
   passing : IsPassing (partial_of l.rows) l.prefix l.start l.visit.order.items l.visit.number l.place;

@@ -1,10 +1,9 @@
-use Rattle.std.proofs.Common.{◌≡◌, ℕ, ◌+◌, List, subst, arith}
+use Rattle.std.proofs.Common.{◌+◌, subst, arith}
 use Rattle.dd_partial_table.specs.Beaten.{IsBeaten}
 use Rattle.dd_partial_table.specs.Open.{IsOpen}
 use Rattle.dd_partial_table.specs.Passed.{IsPassed}
 use Rattle.dd_partial_table.specs.Rows.{partial_of}
 use Rattle.dd_partial_table.specs.Stem.{Any, prefix_of, size_of}
-use Rattle.dd_partial_table.specs.declared.stem.Stem.{Stem}
 use Rattle.dd_partial_table.proofs.Leastness.{none_under_beaten}
 use Rattle.dd_partial_table.proofs.LeastStems.{AreNotSmallerTo, start_more, least_of_stem}
 use Rattle.dd_partial_table.proofs.WholeStems.{of_stem, none_without_growth, none_unmet_before}
@@ -31,13 +30,10 @@ loop-k-preserved c =
     let size = c.size-k-end.ensures in
     let test = c.loop-k-test.true in
     let met = c.meets_all.ensures.0 c.if-not-meets_all.false in
-    record {
-      visiting = c.stand-standing.ensures.visiting;
-      starts = start_more stem c.loop-k.k c.stand-standing.result c.requires.stem c.requires.whole met c.in_default.not-Smaller
-          (λ larger. of_stem (λ r xs. IsPassed (partial_of r) xs (c.loop-k.k + 1)) stem c.rows.result.now c.prefix.result.now c.rows.ensures c.prefix.ensures (c.stand-standing.ensures.larger larger))
-          (λ place at. of_stem (λ r xs. IsOpen (partial_of r) xs (c.loop-k.k + 1)) stem c.rows.result.now c.prefix.result.now c.rows.ensures c.prefix.ensures (c.stand-standing.ensures.open place at))
-          (omega (arith, size, test)) c.loop-k.invariant.starts;
-    }
+    start_more stem c.loop-k.k c.stand-standing.result c.requires.stem c.requires.whole met c.in_default.not-Smaller
+    (λ larger. of_stem (λ r xs. IsPassed (partial_of r) xs (c.loop-k.k + 1)) stem c.rows.result.now c.prefix.result.now c.rows.ensures c.prefix.ensures (c.stand-standing.ensures.larger larger))
+    (λ place at. of_stem (λ r xs. IsOpen (partial_of r) xs (c.loop-k.k + 1)) stem c.rows.result.now c.prefix.result.now c.rows.ensures c.prefix.ensures (c.stand-standing.ensures.open place at))
+    (omega (arith, size, test)) c.loop-k.invariant
 
 pub returns-clause-least : goal.returns-clause-least
 returns-clause-least c =
@@ -48,4 +44,4 @@ returns-clause-least c =
     let end = c.loop-k.auto.k-end in
     let grows = c.grows.ensures.0 c.if-not-grows.false in
     let met = c.meets_all.ensures.0 c.if-not-meets_all.false in
-    least_of_stem stem c.requires.stem c.requires.whole grows met (subst (AreNotSmallerTo stem) (omega (arith, positive, size, test, end)) c.loop-k.invariant.starts)
+    least_of_stem stem c.requires.stem c.requires.whole grows met (subst (AreNotSmallerTo stem) (omega (arith, positive, size, test, end)) c.loop-k.invariant)

@@ -1,10 +1,8 @@
-use Rattle.std.proofs.Common.{◌≡◌, ℕ, ◌+◌, ◌∷◌, ◌++◌, [], List, sym, ap, ◌∙◌, subst, arith}
+use Rattle.std.proofs.Common.{◌≡◌, ◌+◌, ◌∷◌, ◌++◌, [], sym, ap, ◌∙◌, subst, arith}
 use Rattle.dd_partial_table.specs.Beaten.{IsBeaten}
 use Rattle.dd_partial_table.specs.Passed.{IsPassed}
 use Rattle.dd_partial_table.specs.Rows.{partial_of}
 use Rattle.dd_partial_table.specs.Stem.{Any, prefix_of, size_of}
-use Rattle.dd_partial_table.specs.declared.rows.Rows.{Rows}
-use Rattle.dd_partial_table.specs.declared.stem.Stem.{Stem}
 use Rattle.dd_partial_table.proofs.Leastness.{none_under_beaten}
 use Rattle.dd_partial_table.proofs.WholeStems.{AreOpenTo, of_stem, none_without_growth, none_unmet_before, open_passed, open_more, ties_of_open}
 use Rattle.dd_partial_table.proofs.whole_stems.ties.Goals as goal
@@ -29,20 +27,17 @@ loop-k-preserved c =
     let stem = c.args.stem.now in
     let P = partial_of stem.rows in
     let k = c.loop-k.k in
-    let old = c.loop-k.invariant.starts in
-    record {
-      visiting = c.stand.ensures.visiting;
-      starts = elim c.match-stand.branch [
-        | in-Larger w ↦
-            let passed = of_stem (λ r xs. IsPassed (partial_of r) xs (k + 1)) stem c.rows.result.now c.prefix.result.now c.rows.ensures c.prefix.ensures (c.stand.ensures.larger w.in-Larger.is) in
-            subst (λ v. AreOpenTo P (prefix_of stem) (k + 1) v.items) (sym w.ties-is) (open_passed P (prefix_of stem) c.loop-k.ties.items k old passed)
-        | in-Open+in_ok-push-in-Open w ↦
-            let longer : c.match-stand.ties.items ≡ c.loop-k.ties.items ++ (k + 1) ∷ [] = ap (λ v. v.items) w.ties-is ∙ w.in_ok-push-in-Open.ensures.items in
-            let size = c.size-k-end.ensures in
-            let test = c.loop-k-test.true in
-            open_more P (prefix_of stem) c.loop-k.ties.items c.match-stand.ties.items k old (omega arith) longer
-      ];
-    }
+    let old = c.loop-k.invariant in
+    elim c.match-stand.branch [
+      | in-Larger w ↦
+          let passed = of_stem (λ r xs. IsPassed (partial_of r) xs (k + 1)) stem c.rows.result.now c.prefix.result.now c.rows.ensures c.prefix.ensures (c.stand.ensures.larger w.in-Larger.is) in
+          subst (λ v. AreOpenTo P (prefix_of stem) (k + 1) v.items) (sym w.ties-is) (open_passed P (prefix_of stem) c.loop-k.ties.items k old passed)
+      | in-Open+in_ok-push-in-Open w ↦
+          let longer : c.match-stand.ties.items ≡ c.loop-k.ties.items ++ (k + 1) ∷ [] = ap (λ v. v.items) w.ties-is ∙ w.in_ok-push-in-Open.ensures.items in
+          let size = c.size-k-end.ensures in
+          let test = c.loop-k-test.true in
+          open_more P (prefix_of stem) c.loop-k.ties.items c.match-stand.ties.items k old (omega arith) longer
+    ]
 
 pub returns : goal.returns
 returns c =
@@ -53,4 +48,4 @@ returns c =
     let end = c.loop-k.auto.k-end in
     let grows = c.grows.ensures.0 c.if-not-grows.false in
     let met = c.meets_all.ensures.0 c.if-not-meets_all.false in
-    ties_of_open stem c.loop-k.ties.items c.requires.stem c.requires.whole grows met (subst (λ k. AreOpenTo (partial_of stem.rows) (prefix_of stem) k c.loop-k.ties.items) (omega arith) c.loop-k.invariant.starts)
+    ties_of_open stem c.loop-k.ties.items c.requires.stem c.requires.whole grows met (subst (λ k. AreOpenTo (partial_of stem.rows) (prefix_of stem) k c.loop-k.ties.items) (omega arith) c.loop-k.invariant)

@@ -1,11 +1,7 @@
 use Rattle.dd_partial_table.specs.Rows.{partial_of}
 use Rattle.dd_partial_table.specs.Stem.{prefix_of}
-use Rattle.dd_partial_table.specs.Visit.{IsVisiting}
 use Rattle.dd_partial_table.proofs.WholeStems.{AreOpenTo}
 use Rattle.dd_partial_table.proofs.whole_stems.ties.Given as goal
 
 abbrev pub invariant-loop-k : goal.invariant-loop-k
-invariant-loop-k l = record {
-  visiting : IsVisiting l.visit;
-  starts : AreOpenTo (partial_of l.stem.rows) (prefix_of l.stem) l.k l.ties.items;
-}
+invariant-loop-k l = AreOpenTo (partial_of l.stem.rows) (prefix_of l.stem) l.k l.ties.items

@@ -6,13 +6,13 @@ use Rattle.dd_test_search.proofs.search_rows.+count_nodes.Given as goal
 abbrev pub decreases-count_nodes : goal.decreases-count_nodes
 decreases-count_nodes l = 3 * size_of l.descent.now.stem - length (prefix_of l.descent.now.stem)
 
-abbrev pub invariant-loop-left : goal.invariant-loop-left
-invariant-loop-left l = record {
+abbrev pub invariant-loop-number : goal.invariant-loop-number
+invariant-loop-number l = record {
   same : l.descent ≡ l.fn.descent;
   descent : IsDescent l.fn.descent;
   short : length (prefix_of l.fn.descent.stem) < 3 * size_of l.fn.descent.stem;
   mark : l.mark ≡ length l.fn.descent.levels;
 }
 
-abbrev pub decreases-loop-left : goal.decreases-loop-left
-decreases-loop-left l = l.left
+abbrev pub decreases-loop-number : goal.decreases-loop-number
+decreases-loop-number l = l.left.bits

@@ -2,7 +2,6 @@ use Rattle.std.proofs.Common.{◌≡◌, ◌+◌, length, sym, ap, ◌∙◌, su
 use Rattle.std.proofs.lemmas.List.{length_push}
 use Rattle.dd_partial_table.specs.Rows.{partial_of, depth_of}
 use Rattle.dd_partial_table.specs.Stem.{prefix_of, size_of, shortened}
-use Rattle.dd_partial_table.specs.Visit.{IsVisiting}
 use Rattle.dd_partial_table.specs.declared.stem.Stem.{Stem}
 use Rattle.dd_bounds.specs.Kept.{AreSides}
 use Rattle.dd_bounds.proofs.EndGrowth.{kept_of_longer}
@@ -20,7 +19,7 @@ count_nodes-requires t c =
     let more : length (prefix_of c.enter.new.self) ≡ length (prefix_of c.args.stem.now) + 1 =
     ap length entered.longer ∙ length_push (prefix_of c.loop-number.stem) c.loop-number.number ∙ ap (λ (s : Stem). length (prefix_of s) + 1) i.same in
     let short = i.short in
-    (omega (arith, size, more, short), (entered.stem, (entered.visiting, kept_of_longer c.loop-number.stem.rows c.enter.new.self.rows (record { classes = classes; sides = sides }) entered.size (ap (λ (s : Stem). s.rows) entered.undone) kept)))
+    (omega (arith, size, more, short), (entered.stem, kept_of_longer c.loop-number.stem.rows c.enter.new.self.rows (record { classes = classes; sides = sides }) entered.size (ap (λ (s : Stem). s.rows) entered.undone) kept))
 
 pub loop-number-preserved : goal.loop-number-preserved
 loop-number-preserved t c =
@@ -30,7 +29,6 @@ loop-number-preserved t c =
       | then-enter w ↦ record {
         same = w.stem-is ∙ w.leave.ensures ∙ ap (λ (s : Stem). shortened s c.mark-here.result) w.count_nodes.ensures.stem ∙ ap (shortened c.enter.new.self) here ∙ w.if-enter.ensures.undone ∙ i.same;
         stem = i.stem;
-        visiting = subst IsVisiting (sym w.visit-is) w.count_nodes.ensures.visiting;
         kept = i.kept;
         short = i.short;
         here = i.here;
@@ -38,7 +36,6 @@ loop-number-preserved t c =
       | else-enter w ↦ record {
         same = w.stem-is ∙ w.if-enter.ensures.same ∙ i.same;
         stem = i.stem;
-        visiting = subst IsVisiting (sym w.visit-is) c.enter.ensures.visiting;
         kept = i.kept;
         short = i.short;
         here = i.here;

@@ -1,7 +1,6 @@
 use Rattle.std.proofs.Common.{◌≡◌, ◌-◌, ◌*◌, ◌<◌, ◌≤◌, length}
 use Rattle.dd_partial_table.specs.Rows.{partial_of, depth_of}
 use Rattle.dd_partial_table.specs.Stem.{IsStem, prefix_of, size_of}
-use Rattle.dd_partial_table.specs.Visit.{IsVisiting}
 use Rattle.dd_bounds.specs.Kept.{AreSides}
 use Rattle.dd_test_search.proofs.share_trials.+count_nodes.Given as goal
 
@@ -12,7 +11,6 @@ abbrev pub invariant-loop-number : goal.invariant-loop-number
 invariant-loop-number l = record {
   same : l.stem ≡ l.fn.stem;
   stem : IsStem l.fn.stem;
-  visiting : IsVisiting l.visit;
   kept : AreSides l.classes (partial_of l.fn.stem.rows) l.sides;
   short : length (prefix_of l.fn.stem) < 3 * size_of l.fn.stem;
   here : l.here ≡ depth_of l.fn.stem.rows;

@@ -1,7 +1,6 @@
 use Rattle.std.proofs.Common.{◌≡◌, sym, ap, ◌∙◌, subst, arith}
 use Rattle.dd_partial_table.specs.Rows.{depth_of}
 use Rattle.dd_partial_table.specs.Stem.{shortened}
-use Rattle.dd_partial_table.specs.Visit.{IsVisiting}
 use Rattle.dd_partial_table.specs.declared.stem.Stem.{Stem}
 use Rattle.dd_test_search.proofs.table_tests.+count_whole.Goals as goal
 use Rattle.dd_test_search.proofs.table_tests.+count_whole.Goals.{then-enter, else-enter}
@@ -14,14 +13,12 @@ loop-number-preserved t c =
       | then-enter w ↦ record {
         same = w.stem-is ∙ w.leave.ensures ∙ ap (λ (s : Stem). shortened s c.mark-mark.result) w.count_whole.ensures.stem ∙ ap (shortened c.enter.new.self) mark ∙ w.if-enter.ensures.undone ∙ i.same;
         stem = i.stem;
-        visiting = subst IsVisiting (sym w.visit-is) w.count_whole.ensures.visiting;
         short = i.short;
         mark = i.mark;
       }
       | else-enter w ↦ record {
         same = w.stem-is ∙ w.if-enter.ensures.same ∙ i.same;
         stem = i.stem;
-        visiting = subst IsVisiting (sym w.visit-is) c.enter.ensures.visiting;
         short = i.short;
         mark = i.mark;
       }

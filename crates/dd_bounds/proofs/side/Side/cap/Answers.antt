@@ -27,16 +27,15 @@ returns-clause-side c P join kept =
     let sum = c.total_after-self.ensures in
     let had = c.weight.ensures.told in
     let all = c.capped-fixed.ensures.told.all in
-    let rest = capped_rest t c.requires.pair P (λ _. true) xs c.args.self.now.total kept.ends kept.others long c.args.x c.end-end.result c.requires.flag
+    let rest = capped_rest t P (λ _. true) xs c.args.self.now.total kept.ends kept.others long c.args.x c.end-end.result c.requires.flag
     c.args.self.now.census c.add_fixed_end.new.self v c.capped-fixed.result end few c.from.result c.from-2.result c.none.result c.beyond.result c.from.ensures c.from-2.ensures c.none.ensures
     (record { fixed = c.beyond.ensures.fixed; other = c.beyond.ensures.other; class = λ low. c.beyond.ensures.class low ∙ c.capped.ensures })
-    join c.capped-fixed.ensures.told.right all c.add_fixed_end.ensures.fixed in
+    join c.capped-fixed.ensures.told.right all c.add_fixed_end.ensures in
     record {
       sized = kept.sized;
       others = rest.others;
-      few = c.add_fixed_end.ensures.small;
       counted = λ s wanted full. rest.counted s wanted (record { completes = full; passed = refl }) (kept.counted s wanted full);
-      ends = capped_kept t c.requires.pair P (λ _. true) xs c.args.self.now.total c.total_after-self.result kept.ends long c.args.x c.end-end.result c.requires.flag end few
+      ends = capped_kept t P (λ _. true) xs c.args.self.now.total c.total_after-self.result kept.ends long c.args.x c.end-end.result c.requires.flag end few
           v c.from.result c.from-2.result c.none.result c.beyond.result c.from.ensures c.from-2.ensures c.none.ensures
           (record { fixed = c.beyond.ensures.fixed; other = c.beyond.ensures.other; class = λ low. c.beyond.ensures.class low ∙ c.capped.ensures })
           join c.capped-fixed.ensures.told.right (omega (arith, sum, had, all));
@@ -50,6 +49,6 @@ returns-clause-dead c none P join kept s sought =
     let end = live_end t side.ends c.args.x c.end-end.result c.end-end.ensures c.requires.live in
     let told = c.capped-fixed.ensures.told in
     none_with_weight t.request P t.pair (c.args.x / 2) (c.end-end.result.class.number % 64) told.share c.capped-fixed.result end.some told.all none
-    (λ s sought. right_capped t c.requires.pair P (λ _. true) (view t side.ends) side.total side.total kept.ends end join told.share told.right
+    (λ s sought. right_capped t P (λ _. true) (view t side.ends) side.total side.total kept.ends end join told.share told.right
     (few_in_path t has.partial side has.kept end has.small) s sought.wanted (record { completes = sought.completes; passed = refl }))
     s sought

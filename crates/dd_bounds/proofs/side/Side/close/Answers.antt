@@ -30,16 +30,15 @@ returns-clause-side c P join kept =
     let sum = c.total_after-self.ensures in
     let had = c.weight.ensures.told in
     let all = c.closed-whole.ensures.told.all in
-    let rest = closed_rest t c.requires.pair P (λ _. true) xs c.args.self.now.total kept.ends kept.others long c.args.x c.end.result c.requires.first
+    let rest = closed_rest t P (λ _. true) xs c.args.self.now.total kept.ends kept.others long c.args.x c.end.result c.requires.first
     c.args.self.now.census c.add_cell.new.self v c.closed-whole.result end few c.args.mate c.from.result c.from-2.result c.none.result c.none-2.result
     (sym other) c.requires.apart c.from.ensures (c.from-2.ensures ∙ other) c.none.ensures c.none-2.ensures
-    join c.closed-whole.ensures.told.right all c.add_cell.ensures.cell in
+    join c.closed-whole.ensures.told.right all c.add_cell.ensures in
     record {
       sized = kept.sized;
       others = rest.others;
-      few = c.add_cell.ensures.small;
       counted = λ s wanted full. rest.counted s wanted (record { completes = full; passed = refl }) (kept.counted s wanted full);
-      ends = closed_kept t c.requires.pair P (λ _. true) xs c.args.self.now.total c.total_after-self.result kept.ends long c.args.x c.end.result c.requires.first end few
+      ends = closed_kept t P (λ _. true) xs c.args.self.now.total c.total_after-self.result kept.ends long c.args.x c.end.result c.requires.first end few
           c.args.mate v c.from.result c.from-2.result c.none.result c.none-2.result
           (sym other) c.requires.apart c.from.ensures (c.from-2.ensures ∙ other) c.none.ensures c.none-2.ensures
           join c.closed-whole.ensures.told.right (omega (arith, sum, had, all));
@@ -53,7 +52,7 @@ returns-clause-dead c none P join kept s sought =
     let end = live_end t side.ends c.args.x c.end.result c.end.ensures c.requires.live in
     let told = c.closed-whole.ensures.told in
     none_with_weight t.request P t.pair (c.args.x / 2) (c.end.result.class.number % 64) told.share c.closed-whole.result end.some told.all none
-    (λ s sought. right_closed t c.requires.pair P (λ _. true) (view t side.ends) side.total side.total kept.ends end c.args.mate join
+    (λ s sought. right_closed t P (λ _. true) (view t side.ends) side.total side.total kept.ends end c.args.mate join
     (sym (c.requires.other ∙ ap (λ (e : PathEnd). e.other) (ap (end_of t) c.end.ensures))) c.requires.apart told.share told.right
     (few_in_path t has.partial side has.kept end has.small) s sought.wanted (record { completes = sought.completes; passed = refl }))
     s sought

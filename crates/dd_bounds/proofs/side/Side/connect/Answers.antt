@@ -88,19 +88,18 @@ returns-clause-side c P join kept =
     let sum = c.total_after-self.ensures in
     let first = c.weight.ensures.told in
     let second = c.weight-2.ensures.told in
-    let rest = connected_rest t r.pair P (λ _. true) xs c.args.self.now.total kept.ends kept.others long c.args.x one r.first
+    let rest = connected_rest t P (λ _. true) xs c.args.self.now.total kept.ends kept.others long c.args.x one r.first
     c.args.self.now.census c.add_joined.new.self v c.joined-together.result c.args.y other two kept.sized r.second few
     c.from.result c.from-2.result c.from-3.result c.from-4.result c.none.result c.none-2.result c.beyond.result c.beyond-2.result
     c.from.ensures c.from-2.ensures c.from-3.ensures c.from-4.ensures c.none.ensures c.none-2.ensures
     (record { fixed = c.beyond.ensures.fixed; other = c.beyond.ensures.other; class = λ low. c.beyond.ensures.class low ∙ class })
     (record { fixed = c.beyond-2.ensures.fixed; other = c.beyond-2.ensures.other; class = λ low. c.beyond-2.ensures.class low ∙ class })
-    join c.joined-together.ensures.told.right all c.add_joined.ensures.joined in
+    join c.joined-together.ensures.told.right all c.add_joined.ensures in
     record {
       sized = kept.sized;
       others = rest.others;
-      few = c.add_joined.ensures.small;
       counted = λ s wanted full. rest.counted s wanted (record { completes = full; passed = refl }) (kept.counted s wanted full);
-      ends = connected_kept t r.pair P (λ _. true) xs c.args.self.now.total c.total_after-self.result kept.ends long c.args.x one r.first c.args.y other two kept.sized r.second few v
+      ends = connected_kept t P (λ _. true) xs c.args.self.now.total c.total_after-self.result kept.ends long c.args.x one r.first c.args.y other two kept.sized r.second few v
           c.from.result c.from-2.result c.from-3.result c.from-4.result c.none.result c.none-2.result c.beyond.result c.beyond-2.result
           c.from.ensures c.from-2.ensures c.from-3.ensures c.from-4.ensures c.none.ensures c.none-2.ensures
           (record { fixed = c.beyond.ensures.fixed; other = c.beyond.ensures.other; class = λ low. c.beyond.ensures.class low ∙ class })
@@ -120,6 +119,6 @@ returns-clause-dead c none P join kept s sought =
     let told = c.joined-together.ensures.told in
     let some = two.one.some in
     none_with_weight t.request P t.pair (c.args.x / 2) (one % 64 + other % 64) told.share c.joined-together.result (omega (arith, some)) told.all none
-    (λ s sought. right_connected t r.pair P (λ _. true) (view t side.ends) side.total side.total kept.ends two kept.sized (few_chambers t has.partial side has.kept two has.small) join
+    (λ s sought. right_connected t P (λ _. true) (view t side.ends) side.total side.total kept.ends two kept.sized (few_chambers t has.partial side has.kept two has.small) join
     told.share told.right s sought.wanted (record { completes = sought.completes; passed = refl }))
     s sought

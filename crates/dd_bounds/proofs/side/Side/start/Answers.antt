@@ -42,8 +42,7 @@ returns c P same =
     record {
       sized = sym same;
       others = λ x live. others_of_own t c.loop-k.k ends x (c.loop-k.invariant.own x live);
-      few = c.none.ensures.small;
-      counted = λ s _ _. counted_none s t.pair (IsAtEnd ends) (IsLoose ends) c.none.result c.none.ensures.none;
+      counted = λ s _ _. counted_none s t.pair (IsAtEnd ends) (IsLoose ends) c.none.result c.none.ensures;
       ends = subst (AreEndsOf t.request P (λ _. true) t.pair ends) (sym total)
           (chambers_alone t.request P (λ _. true) t.pair ends v (subst (λ k. IsShareFrom t.request t.pair k v) turns ((t.are_told.each 1 (omega arith)).told.with_ends (omega arith) (omega arith)))
           (λ x live. alone_of_own t P.size ends x (subst (λ k. IsOwn t k ends x) all (c.loop-k.invariant.own x live))));

@@ -42,7 +42,7 @@ returns-then-x-y-clause-total c P test join kept =
     let t = c.args.shares.now in
     let side = c.args.self.now in
     let end = one_counted t side.ends c.args.x c.end-end.result c.end-end.ensures c.chambers.ensures c.if-chambers-eq0.false in
-    sum_capped t P side kept c.requires.pair end (few_in_path t has.partial side has.kept end has.small) c.capped.ensures.told.share c.capped.ensures.told.right test c.total_after.result
+    sum_capped t P side kept end (few_in_path t has.partial side has.kept end has.small) c.capped.ensures.told.share c.capped.ensures.told.right test c.total_after.result
     (subst (IsJoin (Passes P test) t.pair c.args.x) (sym c.if-x-y.true) join)
     (summed t c.end-end.result.class.number _ _ c.capped.ensures.told.share c.total_after.result side.total c.weight-had.ensures.told c.capped.ensures.told.all c.total_after.ensures)
 
@@ -53,7 +53,7 @@ returns-then-x-y-clause-small c =
     let side = c.args.self.now in
     let end = one_counted t side.ends c.args.x c.end-end.result c.end-end.ensures c.chambers.ensures c.if-chambers-eq0.false in
     sum_small t has.partial (λ _. false) c.total_after.result has.small
-    (sum_capped t has.partial side has.kept c.requires.pair end (few_in_path t has.partial side has.kept end has.small) c.capped.ensures.told.share c.capped.ensures.told.right (λ _. false) c.total_after.result
+    (sum_capped t has.partial side has.kept end (few_in_path t has.partial side has.kept end has.small) c.capped.ensures.told.share c.capped.ensures.told.right (λ _. false) c.total_after.result
     (join_of_none has.partial t.pair c.args.x c.args.x)
     (summed t c.end-end.result.class.number _ _ c.capped.ensures.told.share c.total_after.result side.total c.weight-had.ensures.told c.capped.ensures.told.all c.total_after.ensures))
 
@@ -73,7 +73,7 @@ returns-then-end-y-clause-total c P test join kept =
     let t = c.args.shares.now in
     let side = c.args.self.now in
     let end = one_counted t side.ends c.args.x c.end-end.result c.end-end.ensures c.chambers.ensures c.if-chambers-eq0.false in
-    sum_closed t P side kept c.requires.pair end (few_in_path t has.partial side has.kept end has.small) c.args.y c.if-end-y.true (λ same. c.if-x-y.false (sym same))
+    sum_closed t P side kept end (few_in_path t has.partial side has.kept end has.small) c.args.y c.if-end-y.true (λ same. c.if-x-y.false (sym same))
     c.closed.ensures.told.share c.closed.ensures.told.right test c.total_after-then-end-y.result join
     (summed t c.end-end.result.class.number _ _ c.closed.ensures.told.share c.total_after-then-end-y.result side.total c.weight-had.ensures.told c.closed.ensures.told.all c.total_after-then-end-y.ensures)
 
@@ -84,7 +84,7 @@ returns-then-end-y-clause-small c =
     let side = c.args.self.now in
     let end = one_counted t side.ends c.args.x c.end-end.result c.end-end.ensures c.chambers.ensures c.if-chambers-eq0.false in
     sum_small t has.partial (λ _. false) c.total_after-then-end-y.result has.small
-    (sum_closed t has.partial side has.kept c.requires.pair end (few_in_path t has.partial side has.kept end has.small) c.args.y c.if-end-y.true (λ same. c.if-x-y.false (sym same))
+    (sum_closed t has.partial side has.kept end (few_in_path t has.partial side has.kept end has.small) c.args.y c.if-end-y.true (λ same. c.if-x-y.false (sym same))
     c.closed.ensures.told.share c.closed.ensures.told.right (λ _. false) c.total_after-then-end-y.result (join_of_none has.partial t.pair c.args.x c.args.y)
     (summed t c.end-end.result.class.number _ _ c.closed.ensures.told.share c.total_after-then-end-y.result side.total c.weight-had.ensures.told c.closed.ensures.told.all c.total_after-then-end-y.ensures))
 
@@ -136,7 +136,7 @@ returns-clause-total c P test join kept =
     let side = c.args.self.now in
     let two = two_ends t side.ends c.args.x c.args.y c.end-end.result c.end.result c.end-end.ensures c.end.ensures c.chambers.ensures c.chambers-2.ensures
     c.if-chambers-eq0.false c.if-chambers-eq0-2.false c.if-x-y.false c.if-end-y.false in
-    sum_connected t P side kept two c.requires.pair (few_chambers t has.partial side has.kept two has.small) c.joined.ensures.told.share c.joined.ensures.told.right test c.total_after-2.result join
+    sum_connected t P side kept two (few_chambers t has.partial side has.kept two has.small) c.joined.ensures.told.share c.joined.ensures.told.right test c.total_after-2.result join
     (summed_both t c.end-end.result.class.number c.end.result.class.number _ _ _ c.joined.ensures.told.share c.total_after-2.result side.total
     c.weight-had.ensures.told c.weight.ensures.told c.joined.ensures.told.all c.total_after-2.ensures)
 
@@ -148,7 +148,7 @@ returns-clause-small c =
     let two = two_ends t side.ends c.args.x c.args.y c.end-end.result c.end.result c.end-end.ensures c.end.ensures c.chambers.ensures c.chambers-2.ensures
     c.if-chambers-eq0.false c.if-chambers-eq0-2.false c.if-x-y.false c.if-end-y.false in
     sum_small t has.partial (λ _. false) c.total_after-2.result has.small
-    (sum_connected t has.partial side has.kept two c.requires.pair (few_chambers t has.partial side has.kept two has.small) c.joined.ensures.told.share c.joined.ensures.told.right (λ _. false) c.total_after-2.result
+    (sum_connected t has.partial side has.kept two (few_chambers t has.partial side has.kept two has.small) c.joined.ensures.told.share c.joined.ensures.told.right (λ _. false) c.total_after-2.result
     (join_of_none has.partial t.pair c.args.x c.args.y)
     (summed_both t c.end-end.result.class.number c.end.result.class.number _ _ _ c.joined.ensures.told.share c.total_after-2.result side.total
     c.weight-had.ensures.told c.weight.ensures.told c.joined.ensures.told.all c.total_after-2.ensures))

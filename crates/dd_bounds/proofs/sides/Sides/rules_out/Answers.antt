@@ -1,4 +1,4 @@
-use Rattle.std.proofs.Common.{true, refl, sym, ◌∙◌, subst, inl, inr}
+use Rattle.std.proofs.Common.{true, refl, sym, ◌∙◌, subst}
 use Rattle.dd_model.specs.Wanted.{Wanted}
 use Rattle.dd_partial_table.specs.Rows.{partial_of}
 use Rattle.dd_bounds.specs.Counted.{HasCounted}
@@ -28,6 +28,6 @@ returns c small s sought =
     (subst (λ p. HasCounted s p sides.tiles.census) t.tiles_pair (census_as_kept t.tiles P sides.tiles kept.tiles (λ _. true) s tile_wanted is))
     (subst (λ p. HasCounted s p sides.vertices.census) t.vertices_pair (census_as_kept t.vertices P sides.vertices kept.vertices (λ _. true) s vertex_wanted is))
     (subst (λ p. BoundsReciprocals s p sides.tiles.total) t.tiles_pair
-    (bounds_of_sum t.tiles P (λ _. true) sides.tiles.total (inl t.tiles_pair) (sum_as_kept t.tiles P sides.tiles kept.tiles (λ _. true)) s tile_wanted is))
+    (bounds_of_sum t.tiles P (λ _. true) sides.tiles.total (sum_as_kept t.tiles P sides.tiles kept.tiles (λ _. true)) s tile_wanted is))
     (subst (λ p. BoundsReciprocals s p sides.vertices.total) t.vertices_pair
-    (bounds_of_sum t.vertices P (λ _. true) sides.vertices.total (inr t.vertices_pair) (sum_as_kept t.vertices P sides.vertices kept.vertices (λ _. true)) s vertex_wanted is))
+    (bounds_of_sum t.vertices P (λ _. true) sides.vertices.total (sum_as_kept t.vertices P sides.vertices kept.vertices (λ _. true)) s vertex_wanted is))

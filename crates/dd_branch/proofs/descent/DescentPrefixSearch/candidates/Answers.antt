@@ -1,8 +1,8 @@
 use Rattle.std.proofs.Common.{◌≡◌, [], ◌∷◌, ◌++◌, ◌*◌, ◌<◌, length, sym, ap, subst, ⊎_elim, arith}
 use Rattle.std.proofs.lemmas.Bool.{cases_eq}
 use Rattle.std.proofs.lemmas.Nat.Bits.{bit_at-lt}
-use Rattle.std.specs.Int.{bit_at}
 use Rattle.dd_model.specs.Wanted.{IsMember}
+use Rattle.dd_partial_table.specs.Chambers.{bit_of}
 use Rattle.dd_partial_table.specs.Stem.{prefix_of, size_of}
 use Rattle.dd_jobs.specs.Under.{HasNothingUnder}
 use Rattle.dd_branch.specs.Descent.{Descending, IsDescent}
@@ -15,9 +15,9 @@ returns c m out =
     let d : Descending = record { request = c.self.inside.request; stem = c.self.inside.stem; shares = record { classes = c.self.inside.classes; sides = c.self.inside.levels.sides }; levels = c.self.inside.levels.before } in
     let is : IsDescent d = subst IsDescent (sym c.self.view_is) c.requires.valid in
     let low : length (prefix_of d.stem) < 3 * size_of d.stem = subst (λ (e : Descending). length (prefix_of e.stem) < 3 * size_of e.stem) (sym c.self.view_is) c.requires.room in
-    let bit = bit_at-lt c.candidates-numbers.result m in
+    let bit = bit_at-lt c.candidates-numbers.result.bits m in
     subst (λ (e : Descending). HasNothingUnder (IsMember e.request) (size_of e.stem) (prefix_of e.stem ++ m ∷ [])) c.self.view_is
     (⊎_elim
-    (λ (none : bit_at c.candidates-numbers.result m ≡ 0). none_where_no_table (IsMember d.request) (size_of d.stem) (prefix_of d.stem) m (c.candidates-numbers.ensures.others m none))
+    (λ (none : bit_of c.candidates-numbers.result m ≡ 0). none_where_no_table (IsMember d.request) (size_of d.stem) (prefix_of d.stem) m (c.candidates-numbers.ensures.others m none))
     (λ some. none_with_number d c.rows.result.now (length c.prefix.result.now) m is c.rows.ensures (ap length c.prefix.ensures) low (c.sieve.ensures m (omega (arith, bit, some)) out))
-    (cases_eq (bit_at c.candidates-numbers.result m) 0))
+    (cases_eq (bit_of c.candidates-numbers.result m) 0))

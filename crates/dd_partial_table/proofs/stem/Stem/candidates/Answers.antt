@@ -1,12 +1,10 @@
-use Rattle.std.proofs.Common.{◌≡◌, ◌≢◌, ◌+◌, ◌-◌, ◌%◌, ◌^◌, length, sym, ap, ◌∙◌, subst, inl, inr, ⊎_elim, arith}
+use Rattle.std.proofs.Common.{◌≡◌, ◌≢◌, ◌+◌, ◌-◌, ◌%◌, length, sym, ap, ◌∙◌, subst, inl, inr, ⊎_elim, arith}
 use Rattle.std.proofs.lemmas.Bool.{cases_eq, cases_lt}
-use Rattle.std.proofs.lemmas.Nat.{one_shl}
-use Rattle.std.proofs.lemmas.Nat.Bits.{bit_at-pow_same, bit_at-pow_other}
-use Rattle.std.specs.Int.{bit_at}
 use Rattle.dd_model.specs.declared.index.Index.{Index}
 use Rattle.dd_model.specs.Symbol.{op}
 use Rattle.dd_jobs.specs.Places.{index_at}
 use Rattle.dd_jobs.specs.FirstVisit.{greatest}
+use Rattle.dd_partial_table.specs.Chambers.{bit_of}
 use Rattle.dd_partial_table.specs.Rows.{partial_of}
 use Rattle.dd_partial_table.specs.Stem.{prefix_of}
 use Rattle.dd_partial_table.proofs.Candidates.{none_of_none, none_but_known, none_but_free}
@@ -20,20 +18,17 @@ pub returns-then-known-ne0-clause-others : goal.returns-then-known-ne0-clause-ot
 returns-then-known-ne0-clause-others c m none =
     let stem = c.args.self.now in
     let e = c.number_at-known.result in
-    let small = c.requires.stem.ready.small in
-    let within = c.number_at-known.ensures.within in
     let known = known_is stem c.len-place.result e c.len-place.ensures c.number_at-known.ensures.number in
     none_but_known stem e m c.requires.stem c.requires.room known c.if-known-ne0.true
-    (λ here. let bit = sym (ap (λ bits. bit_at bits m) (one_shl e 64 (omega (arith, small, within))) ∙ ap (bit_at (2 ^ e)) here ∙ bit_at-pow_same e) ∙ none in omega arith)
+    (λ here. let bit = sym (ap (bit_of c.only.result) here ∙ c.only.ensures.here) ∙ none in omega arith)
 
 pub returns-then-known-ne0-clause-chambers : goal.returns-then-known-ne0-clause-chambers
 returns-then-known-ne0-clause-chambers c m told =
     let e = c.number_at-known.result in
-    let small = c.requires.stem.ready.small in
     let within = c.number_at-known.ensures.within in
     ⊎_elim
     (λ (here : m ≡ e). omega (arith, here, within))
-    (λ (other : m ≢ e). let bit = sym (ap (λ bits. bit_at bits m) (one_shl e 64 (omega (arith, small, within))) ∙ bit_at-pow_other e m other) ∙ told in absurd (omega arith))
+    (λ (other : m ≢ e). let bit = sym (c.only.ensures.others m other) ∙ told in absurd (omega arith))
     (cases_eq m e)
 
 pub returns-clause-others : goal.returns-clause-others

@@ -1,4 +1,4 @@
 use Rattle.dd_partial_table.proofs.stem.Stem.is_beaten.Goals as goal
 
-pub returns-in-Smaller-clause-dead : goal.returns-in-Smaller-clause-dead
-returns-in-Smaller-clause-dead c _ = c.standing.ensures.dead c.in-Smaller.is
+pub returns-in-Smaller : goal.returns-in-Smaller
+returns-in-Smaller c _ = c.standing.ensures c.in-Smaller.is
