@@ -16,7 +16,8 @@ use Rattle.dd_check.specs.Clauses.{HasWork}
 use Rattle.dd_check.specs.ChainStarts.{Start}
 use Rattle.dd_pages.specs.Pages.{IsEmpty}
 use Rattle.dd_pages.specs.Rounds.{AreOpen}
-use Rattle.dd_pages.specs.Runs.{IsLimit, most_lines}
+use Rattle.dd_pages.specs.MostLines.{most_lines}
+use Rattle.dd_pages.specs.Runs.{IsLimit}
 use Rattle.dd_pages.specs.Names.{HasRun}
 use Rattle.dd_pages.specs.Saves.{HoldsCheckAt, Saves, IsOfRound}
 use Rattle.dd_pages.specs.declared.fault.RunFault.{RunFault}

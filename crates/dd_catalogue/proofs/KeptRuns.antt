@@ -30,7 +30,8 @@ use Rattle.dd_check.specs.ChainPuts.{IsPut, IsStop, IsNextMember}
 use Rattle.dd_check.specs.ChainStarts.{Start, first_start}
 use Rattle.dd_pages.specs.Pages.{IsEmpty}
 use Rattle.dd_pages.specs.Rounds.{AreJobsFrom, AreOpen}
-use Rattle.dd_pages.specs.Runs.{IsLimit, IsPause, IsBeforePause, Finishes, most_lines}
+use Rattle.dd_pages.specs.MostLines.{most_lines}
+use Rattle.dd_pages.specs.Runs.{IsLimit, IsPause, IsBeforePause, Finishes}
 use Rattle.dd_pages.specs.declared.finish.Finish.TheVariants.{Whole, Paused, CutShort}
 use Rattle.dd_pages.specs.declared.limit.Limit.{Limit}
 use Rattle.dd_pages.specs.Saves.{HoldsCheckAt, Saves, SavesFirst, IsOfRound}

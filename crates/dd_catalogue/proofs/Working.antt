@@ -37,6 +37,8 @@ use Rattle.dd_catalogue.specs.Works.{IsPartOfOne, HasPart, AreWork, CoverRest, I
 use Rattle.dd_catalogue.specs.Splits.{IsNoLonger}
 use Rattle.dd_catalogue.proofs.JobsFrom.{from_ascending, from_apart, from_jobs, from_opening, from_pairs, one_first, opening_pairs}
 use Rattle.dd_catalogue.proofs.RoundEntries.{take_nothing, take_within}
+use Rattle.dd_check.proofs.Fronts.{without_some}
+use Rattle.dd_front.proofs.GoingOn.{under_child}
 
 extends_itself : (job : Job) → Extends job job
 extends_itself job = record { size = refl; begins = begins_itself job.prefix }
@@ -259,19 +261,6 @@ work_split p at job jobs cs work children =
     child_of : (c : Job) → Contains cs c → Extends c job
     child_of c there = child_extends job c (children.extensions.extend c there)
 
--- a member under a job is under one of its children
-under_child : (q : Request) (job : Job) (cs : List Job) (s : Symbol) → AreChildren q job cs → IsMemberUnder q job s → IsUnderOne q cs s
-under_child q job cs s children under =
-    let long = length-code s under.member.wanted.symbol.table in
-    let shorter = children.shorter in
-    let size = under.size in
-    let k = get_or (code s) (length job.prefix) 0 in
-    let longer : IsMemberUnder q (extended job k) s = record { member = under.member; size = under.size; begins = begins_more job.prefix (code s) k (omega (arith, long, shorter, size)) under.begins refl } in
-    ⊎_elim
-    (λ there. record { job = extended job k; listed = there; under = longer })
-    (λ none. absurd (none s longer))
-    (children.extensions.complete k)
-
 -- The first of the jobs, in parts, without those that are wholly before the position. Some part is left.
 module _ (p : Portion) (at : Position) (job : Job) (jobs cs ds : List Job) (children : AreChildren p.request job cs) (left : IsWithout (IsWhollyBefore at) cs ds) (some : ds ≢ []) where
   child : (d : Job) → Contains ds d → Contains cs d
@@ -330,15 +319,6 @@ module _ (p : Portion) (at : Position) (job : Job) (jobs cs ds : List Job) (chil
   }
 
 -- ## What is left
-
-without_some : {A : Type 0} (P : A → Type 0) → ((x : A) → P x ⊎ ¬ P x) → (xs : List A) → (ys : List A) × IsWithout P xs ys
-without_some P decide [] = ([], tt)
-without_some P decide (x ∷ xs) =
-    let rest = without_some P decide xs in
-    ⊎_elim
-    (λ gone. (rest.0, without_first P x xs rest.0 gone rest.1))
-    (λ kept. (x ∷ rest.0, inr (kept, refl, rest.1)))
-    (decide x)
 
 -- what extends a job that is wholly before a position is wholly before it
 wholly_extended : (at : Position) (c job : Job) → Extends c job → IsWhollyBefore at job → IsWhollyBefore at c

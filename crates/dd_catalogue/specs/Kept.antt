@@ -12,7 +12,7 @@ use Rattle.dd_check.specs.ChainPuts.{IsPut}
 use Rattle.dd_check.specs.ChainStarts.{Start}
 use Rattle.dd_pages.specs.Pages.{IsEmpty}
 use Rattle.dd_pages.specs.Rounds.{AreOpen}
-use Rattle.dd_pages.specs.Runs.{most_lines}
+use Rattle.dd_pages.specs.MostLines.{most_lines}
 use Rattle.dd_pages.specs.Saves.{IsOfRound}
 use Rattle.dd_pages.specs.declared.pages.Page.{Page}
 use Rattle.dd_catalogue.specs.Ways.{Way, IsUnderWay}

@@ -10,10 +10,10 @@ ghost use Rattle.dd_pages.specs.Outputs.{IsOutput};
 
 use crate::emission::write_done;
 use crate::rounds::{do_long_round, front_of};
+use crate::workshop::Workshop;
 use dd_front::{Finder, Front};
 use dd_pages::{Finish, Page, Run};
 use dd_ports::{Gate, Sink, SinkFault};
-use std::alloc::Global;
 use std::sync::Wait;
 use std::thread::Threads;
 
@@ -21,19 +21,14 @@ use std::thread::Threads;
 /// lines of what was found page by page. Neither the workers nor what they choose changes what is
 /// written.
 pub fn write_catalogue<R: Threads + Wait + Sync, F: Finder + Sync, G: Gate + Sync, O: Sink>(
-    rt: &R,
-    alloc: Global,
+    workshop: &Workshop<'_, R, G>,
     finder: &mut F,
-    gate: &G,
     run: &Run,
     out: &mut O,
 ) -> Result<Finish, SinkFault>
     requires request { F.request finder.old ≡ run.now.portion.request }
     requires valid { IsValid run.now.portion.request }
     requires position { IsPosition run.now.at }
-    requires lines { run.now.lines ≤ 1000000000000000000 }
-    requires workers { (1 ≤ run.now.pace.workers) × (run.now.pace.workers ≤ 64) }
-    requires round { 1 ≤ run.now.pace.round }
     ensures request { F.request finder.new ≡ F.request finder.old }
     ensures output { (output : List ℕ) × IsOutput (start_of run.now) run.now.pause
         (O.held out.old) (O.held out.new) result output }
@@ -41,19 +36,17 @@ pub fn write_catalogue<R: Threads + Wait + Sync, F: Finder + Sync, G: Gate + Syn
     ensures sure { O.sure out.old ≡ true
         → StaysSure Failed (O.faults out.old) (O.faults out.new) (O.sure out.new) result }
 {
-    let Ok(mut front) = front_of(alloc, finder, run) else {
+    let Ok(mut front) = front_of(workshop.alloc, finder, run) else {
         return Err(SinkFault::Memory);
     };
-    let mut page = Page::new(alloc, run.lines);
-    write_rounds(rt, alloc, finder, gate, run, &mut front, &mut page, out)
+    let mut page = Page::new(workshop.alloc, run.lines);
+    write_rounds(workshop, finder, run, &mut front, &mut page, out)
 }
 
 /// Writes the lines of a run from its first round on.
 fn write_rounds<R: Threads + Wait + Sync, F: Finder + Sync, G: Gate + Sync, O: Sink>(
-    rt: &R,
-    alloc: Global,
+    workshop: &Workshop<'_, R, G>,
     finder: &mut F,
-    gate: &G,
     run: &Run,
     front: &mut Front,
     page: &mut Page,
@@ -61,9 +54,6 @@ fn write_rounds<R: Threads + Wait + Sync, F: Finder + Sync, G: Gate + Sync, O: S
 ) -> Result<Finish, SinkFault>
     requires request { F.request finder.old ≡ run.now.portion.request }
     requires valid { IsValid run.now.portion.request }
-    requires lines { run.now.lines ≤ 1000000000000000000 }
-    requires workers { (1 ≤ run.now.pace.workers) × (run.now.pace.workers ≤ 64) }
-    requires round { 1 ≤ run.now.pace.round }
     requires begun { IsStarted (start_of run.now) front.old }
     requires empty { IsEmpty page.old }
     requires count { page.old.count ≡ run.now.lines }
@@ -76,13 +66,20 @@ fn write_rounds<R: Threads + Wait + Sync, F: Finder + Sync, G: Gate + Sync, O: S
         → StaysSure Failed (O.faults out.old) (O.faults out.new) (O.sure out.new) result }
 {
     let limit = run.limit();
-    while let Ok(more) = do_long_round(rt, alloc, finder, gate, run.pace, front) {
+    while let Ok(more) = do_long_round(workshop, finder, run.pace, front) {
         if !more {
-            page.flush(rt, run.pace.workers, out)?;
+            page.flush(workshop.rt, run.pace.workers(), out)?;
             return Ok(Finish::Whole);
         }
-        if !write_done(rt, run.pace.workers, limit.last, front, page, out)? {
-            page.flush(rt, run.pace.workers, out)?;
+        if !write_done(
+            workshop.rt,
+            run.pace.workers(),
+            limit.last,
+            front,
+            page,
+            out,
+        )? {
+            page.flush(workshop.rt, run.pace.workers(), out)?;
             return Ok(limit.finish());
         }
     }

@@ -22,10 +22,13 @@ ghost use Rattle.dd_front.specs.Rounds.{open_jobs};
 ghost use Rattle.dd_catalogue.specs.Ways.{Way};
 ghost use Rattle.dd_catalogue.specs.Kept.{IsHead, IsMid};
 ghost use Rattle.dd_catalogue.specs.Steps.{IsSomeMid, IsNextStep, Leaves, LeavesMember, StillWait, IsWithin};
+ghost use Rattle.dd_pages.specs.MostLines.{most_lines};
 
 use crate::emission::{reach_member, write_done};
+use crate::output::Output;
 use crate::rounds::{do_kept_round, front_of, stands_at_job};
 use crate::step::Step;
+use crate::workshop::Workshop;
 use dd_front::{Finder, Front};
 use dd_pages::{Finish, Limit, MOST_LINES, Page, Run, RunFault, save, save_first};
 use dd_ports::{Gate, Sink, SinkFault, Store};
@@ -43,10 +46,8 @@ const LINES_A_CHECKPOINT: u64 = 65_536;
 /// first run of a chain also puts the checkpoint before the first line. Neither the workers nor
 /// what they choose changes what is written.
 pub fn write_run<R: Threads + Wait + Sync, F: Finder + Sync, G: Gate + Sync, S: Store, O: Sink>(
-    rt: &R,
-    alloc: Global,
+    workshop: &Workshop<'_, R, G>,
     finder: &mut F,
-    gate: &G,
     run: &Run,
     name: &str,
     store: &mut S,
@@ -55,10 +56,7 @@ pub fn write_run<R: Threads + Wait + Sync, F: Finder + Sync, G: Gate + Sync, S: 
     requires request { F.request finder.old ≡ run.now.portion.request }
     requires valid { IsValid run.now.portion.request }
     requires position { IsPosition run.now.at }
-    requires lines { run.now.lines ≤ 1000000000000000000 }
     requires first { run.now.number ≡ 1 → start_of run.now ≡ first_start run.now.portion }
-    requires workers { (1 ≤ run.now.pace.workers) × (run.now.pace.workers ≤ 64) }
-    requires round { 1 ≤ run.now.pace.round }
     ensures request { F.request finder.new ≡ F.request finder.old }
     ensures run { HasRun (start_of run.now) run.now.pace.round run.now.pause
         (O.held out.old) (O.held out.new)
@@ -72,39 +70,35 @@ pub fn write_run<R: Threads + Wait + Sync, F: Finder + Sync, G: Gate + Sync, S: 
     ensures sink_sure { O.sure out.old ≡ true → StaysSure SinkFailed
         (O.faults out.old) (O.faults out.new) (O.sure out.new) result }
 {
-    let Ok(mut front) = front_of(alloc, finder, run) else {
+    let Ok(front) = front_of(workshop.alloc, finder, run) else {
         return Err(RunFault::Memory);
     };
-    let mut page = Page::new(alloc, run.lines);
-    keep_rounds(
-        rt, alloc, finder, gate, run, name, &mut front, &mut page, store, out,
-    )
+    let mut output = Output {
+        front,
+        page: Page::new(workshop.alloc, run.lines),
+        is_kept: true,
+    };
+    keep_rounds(workshop, finder, run, name, &mut output, store, out)
 }
 
 /// Writes the lines of a run from its first round on, and puts its checkpoints. The first run of a
 /// chain also puts one before the first line.
 fn keep_rounds<R: Threads + Wait + Sync, F: Finder + Sync, G: Gate + Sync, S: Store, O: Sink>(
-    rt: &R,
-    alloc: Global,
+    workshop: &Workshop<'_, R, G>,
     finder: &mut F,
-    gate: &G,
     run: &Run,
     name: &str,
-    front: &mut Front,
-    page: &mut Page,
+    output: &mut Output,
     store: &mut S,
     out: &mut O,
 ) -> Result<Finish, RunFault>
     requires request { F.request finder.old ≡ run.now.portion.request }
     requires valid { IsValid run.now.portion.request }
-    requires lines { run.now.lines ≤ 1000000000000000000 }
     requires first { run.now.number ≡ 1 → start_of run.now ≡ first_start run.now.portion }
-    requires workers { (1 ≤ run.now.pace.workers) × (run.now.pace.workers ≤ 64) }
-    requires round { 1 ≤ run.now.pace.round }
-    requires begun { IsStarted (start_of run.now) front.old }
-    requires empty { IsEmpty page.old }
-    requires count { page.old.count ≡ run.now.lines }
-    requires bytes { page.old.bytes ≡ 0 }
+    requires begun { IsStarted (start_of run.now) output.old.front }
+    requires empty { IsEmpty output.old.page }
+    requires count { output.old.page.count ≡ run.now.lines }
+    requires bytes { output.old.page.bytes ≡ 0 }
     ensures request { F.request finder.new ≡ F.request finder.old }
     ensures run { HasRun (start_of run.now) run.now.pace.round run.now.pause
         (O.held out.old) (O.held out.new)
@@ -118,20 +112,32 @@ fn keep_rounds<R: Threads + Wait + Sync, F: Finder + Sync, G: Gate + Sync, S: St
     ensures sink_sure { O.sure out.old ≡ true → StaysSure SinkFailed
         (O.faults out.old) (O.faults out.new) (O.sure out.new) result }
 {
-    save_first(alloc, run, name, front, page, store)?;
+    save_first(
+        workshop.alloc,
+        run,
+        name,
+        &output.front,
+        &output.page,
+        store,
+    )?;
     let limit = run.limit();
-    let mut is_here = true;
-    while let Ok(more) = do_kept_round(rt, alloc, finder, gate, run.pace, front) {
+    output.is_kept = true;
+    while let Ok(more) = do_kept_round(workshop, finder, run.pace, &mut output.front) {
         if !more {
-            if !is_here {
-                save(alloc, run, name, front, page, store)?;
+            if !output.is_kept {
+                save(
+                    workshop.alloc,
+                    run,
+                    name,
+                    &output.front,
+                    &output.page,
+                    store,
+                )?;
             }
             return Ok(Finish::Whole);
         }
-        match keep_round(
-            rt, alloc, run, name, limit, is_here, front, page, store, out,
-        )? {
-            Step::Next(here) => is_here = here,
+        match keep_round(workshop, run, name, limit, output, store, out)? {
+            Step::Next(here) => output.is_kept = here,
             Step::Ended(finish) => return Ok(finish),
         }
     }
@@ -141,31 +147,26 @@ fn keep_rounds<R: Threads + Wait + Sync, F: Finder + Sync, G: Gate + Sync, S: St
 /// Writes the lines of a round that is done. If the name does not have the checkpoint of where the
 /// front stands, it is put before the next line. It is put after the last line of the round too, if
 /// the front then stands at a job of the portion or at the end, and a further line may be written.
-fn keep_round<R: Threads + Sync, S: Store, O: Sink>(
-    rt: &R,
-    alloc: Global,
+fn keep_round<R: Threads + Sync, G, S: Store, O: Sink>(
+    workshop: &Workshop<'_, R, G>,
     run: &Run,
     name: &str,
     limit: Limit,
-    is_here: bool,
-    front: &mut Front,
-    page: &mut Page,
+    output: &mut Output,
     store: &mut S,
     out: &mut O,
 ) -> Result<Step, RunFault>
-    requires lines { run.now.lines ≤ 1000000000000000000 }
     requires limit { IsLimit run.now.lines run.now.pause limit }
-    requires threads { 1 ≤ run.now.pace.workers }
-    requires room { page.old.count ≤ limit.last }
-    requires mid { IsSomeMid (start_of run.now) is_here (O.held out.old) page.old front.old }
+    requires room { output.old.page.count ≤ limit.last }
+    requires mid { IsSomeMid (start_of run.now) output.old.is_kept (O.held out.old) output.old.page output.old.front }
     ensures leaves { (w : Way) (tells : Bool) (before start : Option (List ℕ))
         → w.start ≡ start_of run.now → (tells ≡ true → S.tells store.old ≡ true)
-        → IsMid w tells is_here start before (S.held store.old name.now)
-        (O.held out.old) page.old front.old → HasWork (start_of run.now)
+        → IsMid w tells output.old.is_kept start before (S.held store.old name.now)
+        (O.held out.old) output.old.page output.old.front → HasWork (start_of run.now)
         → Leaves (start_of run.now) w.most run.now.pause tells start before
-        (S.held store.new name.now) (O.held out.new) page.new front.new result }
-    ensures waiting { IfOk result (λ step. StillWait step front.old front.new) }
-    ensures room { IfOk result (IsWithin page.new limit.last) }
+        (S.held store.new name.now) (O.held out.new) output.new.page output.new.front result }
+    ensures waiting { IfOk result (λ step. StillWait step output.old.front output.new.front) }
+    ensures room { IfOk result (IsWithin output.new.page limit.last) }
     ensures others { S.tells store.old ≡ true → (S.tells store.new ≡ true)
         × SameOthers name.now (S.held store.old) (S.held store.new) }
     ensures store_cause { HasCause StoreFailed (S.faults store.old) (S.faults store.new) result }
@@ -175,12 +176,13 @@ fn keep_round<R: Threads + Sync, S: Store, O: Sink>(
     ensures sink_sure { O.sure out.old ≡ true → StaysSure SinkFailed
         (O.faults out.old) (O.faults out.new) (O.sure out.new) result }
 {
-    if is_here {
-        return write_kept(rt, alloc, run, name, limit, front, page, store, out);
+    if output.is_kept {
+        return write_kept(workshop, run, name, limit, output, store, out);
     }
-    match keep_member(alloc, run, name, limit, front, page, store)? {
+    let Output { front, page, .. } = output;
+    match keep_member(workshop.alloc, run, name, limit, front, page, store)? {
         Some(step) => Ok(step),
-        None => write_kept(rt, alloc, run, name, limit, front, page, store, out),
+        None => write_kept(workshop, run, name, limit, output, store, out),
     }
 }
 
@@ -188,30 +190,26 @@ fn keep_round<R: Threads + Sync, S: Store, O: Sink>(
 /// stands. It puts further checkpoints among the lines. It puts one after the last line of the
 /// round, if the front then stands at a job of the portion or at the end, and a further line may be
 /// written.
-fn write_kept<R: Threads + Sync, S: Store, O: Sink>(
-    rt: &R,
-    alloc: Global,
+fn write_kept<R: Threads + Sync, G, S: Store, O: Sink>(
+    workshop: &Workshop<'_, R, G>,
     run: &Run,
     name: &str,
     limit: Limit,
-    front: &mut Front,
-    page: &mut Page,
+    output: &mut Output,
     store: &mut S,
     out: &mut O,
 ) -> Result<Step, RunFault>
-    requires lines { run.now.lines ≤ 1000000000000000000 }
     requires limit { IsLimit run.now.lines run.now.pause limit }
-    requires threads { 1 ≤ run.now.pace.workers }
-    requires room { page.old.count ≤ limit.last }
-    requires mid { IsSomeMid (start_of run.now) true (O.held out.old) page.old front.old }
+    requires room { output.old.page.count ≤ limit.last }
+    requires mid { IsSomeMid (start_of run.now) true (O.held out.old) output.old.page output.old.front }
     ensures leaves { (w : Way) (tells : Bool) (before start : Option (List ℕ))
         → w.start ≡ start_of run.now → (tells ≡ true → S.tells store.old ≡ true)
         → IsMid w tells true start before (S.held store.old name.now)
-        (O.held out.old) page.old front.old → HasWork (start_of run.now)
+        (O.held out.old) output.old.page output.old.front → HasWork (start_of run.now)
         → Leaves (start_of run.now) w.most run.now.pause tells start before
-        (S.held store.new name.now) (O.held out.new) page.new front.new result }
-    ensures waiting { IfOk result (λ step. StillWait step front.old front.new) }
-    ensures room { IfOk result (IsWithin page.new limit.last) }
+        (S.held store.new name.now) (O.held out.new) output.new.page output.new.front result }
+    ensures waiting { IfOk result (λ step. StillWait step output.old.front output.new.front) }
+    ensures room { IfOk result (IsWithin output.new.page limit.last) }
     ensures others { S.tells store.old ≡ true → (S.tells store.new ≡ true)
         × SameOthers name.now (S.held store.old) (S.held store.new) }
     ensures store_cause { HasCause StoreFailed (S.faults store.old) (S.faults store.new) result }
@@ -222,7 +220,7 @@ fn write_kept<R: Threads + Sync, S: Store, O: Sink>(
         (O.faults out.old) (O.faults out.new) (O.sure out.new) result }
 {
     loop {
-        match write_part(rt, alloc, run, name, limit, front, page, store, out)? {
+        match write_part(workshop, run, name, limit, output, store, out)? {
             Some(step) => return Ok(step),
             None => {}
         }
@@ -232,34 +230,30 @@ fn write_kept<R: Threads + Sync, S: Store, O: Sink>(
 /// Writes the next lines of a round that is done, where the name has the checkpoint of where the
 /// front stands. If more lines of the round are left, it puts the checkpoint of the next member,
 /// and returns nothing.
-fn write_part<R: Threads + Sync, S: Store, O: Sink>(
-    rt: &R,
-    alloc: Global,
+fn write_part<R: Threads + Sync, G, S: Store, O: Sink>(
+    workshop: &Workshop<'_, R, G>,
     run: &Run,
     name: &str,
     limit: Limit,
-    front: &mut Front,
-    page: &mut Page,
+    output: &mut Output,
     store: &mut S,
     out: &mut O,
 ) -> Result<Option<Step>, RunFault>
-    requires lines { run.now.lines ≤ 1000000000000000000 }
     requires limit { IsLimit run.now.lines run.now.pause limit }
-    requires threads { 1 ≤ run.now.pace.workers }
-    requires room { page.old.count ≤ limit.last }
-    requires mid { IsSomeMid (start_of run.now) true (O.held out.old) page.old front.old }
+    requires room { output.old.page.count ≤ limit.last }
+    requires mid { IsSomeMid (start_of run.now) true (O.held out.old) output.old.page output.old.front }
     ensures leaves { (w : Way) (tells : Bool) (before start : Option (List ℕ))
         → w.start ≡ start_of run.now → (tells ≡ true → S.tells store.old ≡ true)
         → IsMid w tells true start before (S.held store.old name.now)
-        (O.held out.old) page.old front.old → HasWork (start_of run.now)
+        (O.held out.old) output.old.page output.old.front → HasWork (start_of run.now)
         → LeavesMember w run.now.pause tells start before
-        (S.held store.new name.now) (O.held out.new) page.new front.new result }
+        (S.held store.new name.now) (O.held out.new) output.new.page output.new.front result }
     ensures waiting { IfOk result (λ step. MatchOption step
-        (open_jobs front.new.entries ≡ open_jobs front.old.entries)
-        (λ step. StillWait step front.old front.new)) }
+        (open_jobs output.new.front.entries ≡ open_jobs output.old.front.entries)
+        (λ step. StillWait step output.old.front output.new.front)) }
     ensures room { IfOk result (λ step. MatchOption step
-        ((page.old.count < page.new.count) × (page.new.count ≤ limit.last))
-        (IsWithin page.new limit.last)) }
+        ((output.old.page.count < output.new.page.count) × (output.new.page.count ≤ limit.last))
+        (IsWithin output.new.page limit.last)) }
     ensures others { S.tells store.old ≡ true → (S.tells store.new ≡ true)
         × SameOthers name.now (S.held store.old) (S.held store.new) }
     ensures store_cause { HasCause StoreFailed (S.faults store.old) (S.faults store.new) result }
@@ -269,9 +263,11 @@ fn write_part<R: Threads + Sync, S: Store, O: Sink>(
     ensures sink_sure { O.sure out.old ≡ true → StaysSure SinkFailed
         (O.faults out.old) (O.faults out.new) (O.sure out.new) result }
 {
+    let alloc = workshop.alloc;
+    let Output { front, page, .. } = output;
     let before = page.count;
     let last = limit.last.min(before + LINES_A_CHECKPOINT);
-    if !write_round(rt, run.pace.workers, last, front, page, out)? {
+    if !write_round(workshop.rt, run.pace.workers(), last, front, page, out)? {
         if last == limit.last {
             let finish = end_full(alloc, run, name, limit, front, page, store)?;
             return Ok(Some(Step::Ended(finish)));
@@ -298,7 +294,7 @@ fn keep_member<S: Store>(
     store: &mut S,
 ) -> Result<Option<Step>, RunFault>
     requires limit { IsLimit run.now.lines run.now.pause limit }
-    requires lines { front.old.lines ≤ 1000000000000000000 }
+    requires lines { front.old.lines ≤ most_lines }
     requires room { page.now.count ≤ limit.last }
     requires done { AreDoneThenOpen front.old.entries }
     ensures leaves { (w : Way) (tells : Bool) (before start now : Option (List ℕ))
@@ -375,7 +371,7 @@ fn write_round<R: Threads + Sync, O: Sink>(
     out: &mut O,
 ) -> Result<bool, RunFault>
     requires threads { 1 ≤ threads }
-    requires last { last ≤ 1000000000000000000 }
+    requires last { last ≤ most_lines }
     requires room { page.old.count ≤ last }
     requires any { IsAny (O.held out.old) page.old front.old }
     ensures all { IfOk result (λ all. OnTrue all
@@ -409,7 +405,7 @@ fn write_and_flush<R: Threads + Sync, O: Sink>(
     out: &mut O,
 ) -> Result<bool, SinkFault>
     requires threads { 1 ≤ threads }
-    requires last { last ≤ 1000000000000000000 }
+    requires last { last ≤ most_lines }
     requires room { page.old.count ≤ last }
     requires any { IsAny (O.held out.old) page.old front.old }
     ensures all { IfOk result (λ all. OnTrue all

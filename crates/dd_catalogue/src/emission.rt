@@ -12,6 +12,7 @@ ghost use Rattle.dd_pages.specs.Rounds.{AreOpen, AreDoneThenOpen};
 ghost use Rattle.dd_catalogue.specs.Steps.{IsAtNext, IsPastEmpty};
 ghost use Rattle.dd_catalogue.specs.Ways.{GoesOn, FillsUp};
 ghost use Rattle.dd_catalogue.specs.Outs.{IsAny, WritesPart};
+ghost use Rattle.dd_pages.specs.MostLines.{most_lines};
 
 use crate::rounds::count_at_front;
 use dd_front::{Event, Front, Members};
@@ -35,7 +36,7 @@ fn next_list(front: &mut Front) -> Members
 /// Takes the entries off the front that are done and have no member to emit, and brings the front
 /// to the next member. Returns false if there is none. It fails only if an allocation fails.
 pub fn reach_member(front: &mut Front) -> Result<bool, Memory>
-    requires lines { front.old.lines ≤ 1000000000000000000 }
+    requires lines { front.old.lines ≤ most_lines }
     requires done { AreDoneThenOpen front.old.entries }
     ensures reached { IfOk result (λ more. MatchBool more
         (IsAtNext front.old front.new) (IsPastEmpty front.old front.new)) }
@@ -62,7 +63,7 @@ pub fn write_done<R: Threads + Sync, O: Sink>(
     out: &mut O,
 ) -> Result<bool, SinkFault>
     requires threads { 1 ≤ threads }
-    requires last { last ≤ 1000000000000000000 }
+    requires last { last ≤ most_lines }
     requires room { page.old.count ≤ last }
     requires any { IsAny (O.held out.old) page.old front.old }
     ensures all { IfOk result (λ all. OnTrue all
@@ -99,7 +100,7 @@ fn write_last<R: Threads + Sync, O: Sink>(
     out: &mut O,
 ) -> Result<(), SinkFault>
     requires threads { 1 ≤ threads }
-    requires room { page.old.count + count ≤ 1000000000000000000 }
+    requires room { page.old.count + count ≤ most_lines }
     requires more { MayPart front.old count }
     requires any { IsAny (O.held out.old) page.old front.old }
     ensures full { OnOk result (FillsUp (O.held out.old) (O.held out.new) page.old page.new

@@ -17,7 +17,7 @@
 //!   which much may be, and steal from each other. A sweep does what they leave (`run_round`).
 //! - **One worker** does the jobs in order, with no board, no lock and no deque. The jobs stay in
 //!   their entries (`do_round_alone`). If no checkpoint is kept, a round has at most four of them,
-//!   so that few members are held.
+//!   or 32 if few classes are allowed, so that few members are held.
 //! - **A worker that finds no open job and none to steal** waits as long as another one is
 //!   splitting a job, and a moment longer, and then ends. It ends at once if no job is out.
 //!
@@ -51,10 +51,13 @@
 mod catalogue;
 mod chain;
 mod emission;
+mod output;
 mod parts;
 mod resumed_jobs;
 mod rounds;
 mod step;
+mod workshop;
 
 pub use catalogue::write_catalogue;
 pub use chain::write_run;
+pub use workshop::Workshop;

@@ -57,7 +57,7 @@ fn numbers_of_small(request: &Request, size: u32) -> u64 {
 }
 
 /// Returns whether a request allows only few classes of tiles or of vertices.
-fn allows_few_classes(request: &Request) -> bool {
+pub fn allows_few_classes(request: &Request) -> bool {
     let is_few = |most| most != 0 && most <= FEW_CLASSES;
     is_few(request.tiles) || is_few(request.vertices)
 }

@@ -13,11 +13,13 @@ ghost use Rattle.dd_pages.specs.Rounds.{IsRoundDone, IsAtEnd};
 ghost use Rattle.dd_catalogue.specs.Works.{IsStarted, IsLongAsWhole};
 ghost use Rattle.dd_catalogue.specs.Splits.{IsReady, IsGroupDone};
 
-use crate::parts::{split_large, weight_of};
+use crate::parts::{allows_few_classes, split_large, weight_of};
 use crate::resumed_jobs::parts_from;
+use crate::workshop::Workshop;
 use dd_front::{Entry, Finder, Front, State};
-use dd_model::{Job, Memory, Position};
-use dd_pages::{Pace, Run};
+use dd_jobs::Pace;
+use dd_model::{Job, Memory, Position, Request};
+use dd_pages::Run;
 use dd_ports::Gate;
 use dd_steal::{find_each, run_round};
 use std::alloc::Global;
@@ -31,6 +33,9 @@ const WORKERS_A_JOB: u32 = 8;
 /// How many jobs one worker does before what it found is written: few, so that few members are held
 /// at once, and what is written is still near.
 const JOBS_ALONE: u32 = 4;
+
+/// How many if only few classes are allowed: then few members are under any job.
+const JOBS_ALONE_OF_FEW_CLASSES: u32 = 32;
 
 /// How much the jobs of a round weigh together at most, so that a round holds few members.
 const ROUND_WEIGHT: u64 = 64;
@@ -76,6 +81,17 @@ pub fn front_of<F: Finder>(alloc: Global, finder: &mut F, run: &Run) -> Result<F
     )
 }
 
+/// Returns how many jobs one worker does at most before what it found is written.
+fn jobs_alone(request: &Request) -> u32
+    ensures { 1 ≤ result }
+{
+    if allows_few_classes(request) {
+        JOBS_ALONE_OF_FEW_CLASSES
+    } else {
+        JOBS_ALONE
+    }
+}
+
 /// Returns how many of the first entries go into a round: at least 1, at most `most`, and as many
 /// as weigh together no more than a round may.
 fn few_ahead(front: &Front, most: u32) -> u32
@@ -110,10 +126,9 @@ fn pace_without_empty_jobs<F: Finder>(
     requires jobs { AllByRecursion (λ e. IsJobOf (F.request finder.old) e.job) entries.now }
     ensures request { F.request finder.new ≡ F.request finder.old }
     ensures workers { IfOk result (λ longer. longer.workers ≡ pace.workers) }
-    ensures round { IfOk result (λ longer. 1 ≤ longer.round) }
 {
     let request = finder.request();
-    let mut left = pace.round;
+    let mut left = pace.round();
     let mut heavy = LONG_ROUND_WEIGHT;
     let mut round = 0_u32;
     for entry in entries {
@@ -127,10 +142,7 @@ fn pace_without_empty_jobs<F: Finder>(
         }
         round = round.saturating_add(1);
     }
-    Ok(Pace {
-        workers: pace.workers,
-        round: round.max(1),
-    })
+    Ok(pace.with_round(round))
 }
 
 /// Does the next round of a front whose run keeps no checkpoint, and returns whether there was
@@ -138,15 +150,11 @@ fn pace_without_empty_jobs<F: Finder>(
 /// are several workers, jobs under which nothing is are not counted. It fails only if an allocation
 /// fails.
 pub fn do_long_round<R: Threads + Wait + Sync, F: Finder + Sync, G: Gate + Sync>(
-    rt: &R,
-    alloc: Global,
+    workshop: &Workshop<'_, R, G>,
     finder: &mut F,
-    gate: &G,
     pace: Pace,
     front: &mut Front,
 ) -> Result<bool, Memory>
-    requires workers { (1 ≤ pace.workers) × (pace.workers ≤ 64) }
-    requires round { 1 ≤ pace.round }
     requires valid { IsValid (F.request finder.old) }
     requires ready { IsReady (F.request finder.old) front.old }
     ensures request { F.request finder.new ≡ F.request finder.old }
@@ -154,30 +162,24 @@ pub fn do_long_round<R: Threads + Wait + Sync, F: Finder + Sync, G: Gate + Sync>
         ((most : ℕ) × IsGroupDone (F.request finder.old) most front.old front.new)
         (front.old.entries ≡ [])) }
 {
-    split_large(alloc, finder, front)?;
-    if pace.workers == 1 {
-        let few = Pace {
-            workers: 1,
-            round: few_ahead(front, pace.round.min(JOBS_ALONE)),
-        };
-        return do_round(rt, alloc, finder, gate, few, front);
+    split_large(workshop.alloc, finder, front)?;
+    if pace.workers() == 1 {
+        let most = jobs_alone(&front.request());
+        let few = pace.with_round(few_ahead(front, pace.round().min(most)));
+        return do_round(workshop, finder, few, front);
     }
-    let longer = pace_without_empty_jobs(alloc, finder, pace, front.entries())?;
-    do_round(rt, alloc, finder, gate, longer, front)
+    let longer = pace_without_empty_jobs(workshop.alloc, finder, pace, front.entries())?;
+    do_round(workshop, finder, longer, front)
 }
 
 /// Does the next round of a front whose run keeps checkpoints, and returns whether there was one. A
 /// large job is done in parts. It fails only if an allocation fails.
 pub fn do_kept_round<R: Threads + Wait + Sync, F: Finder + Sync, G: Gate + Sync>(
-    rt: &R,
-    alloc: Global,
+    workshop: &Workshop<'_, R, G>,
     finder: &mut F,
-    gate: &G,
     pace: Pace,
     front: &mut Front,
 ) -> Result<bool, Memory>
-    requires workers { (1 ≤ pace.workers) × (pace.workers ≤ 64) }
-    requires round { 1 ≤ pace.round }
     requires valid { IsValid (F.request finder.old) }
     requires ready { IsReady (F.request finder.old) front.old }
     ensures request { F.request finder.new ≡ F.request finder.old }
@@ -185,12 +187,9 @@ pub fn do_kept_round<R: Threads + Wait + Sync, F: Finder + Sync, G: Gate + Sync>
         (IsGroupDone (F.request finder.old) pace.round front.old front.new)
         (IsAtEnd front.old front.new)) }
 {
-    split_large(alloc, finder, front)?;
-    let few = Pace {
-        workers: pace.workers,
-        round: few_ahead(front, pace.round),
-    };
-    do_round(rt, alloc, finder, gate, few, front)
+    split_large(workshop.alloc, finder, front)?;
+    let few = pace.with_round(few_ahead(front, pace.round()));
+    do_round(workshop, finder, few, front)
 }
 
 /// Returns whether a front stands at a job with as many numbers as those of an opening, or at the
@@ -237,15 +236,11 @@ fn do_round_alone<F: Finder, G: Gate>(
 /// Does the next round of a front, and returns whether there was one. It fails only if an
 /// allocation fails, and the front is then as before.
 pub fn do_round<R: Threads + Wait + Sync, F: Finder + Sync, G: Gate + Sync>(
-    rt: &R,
-    alloc: Global,
+    workshop: &Workshop<'_, R, G>,
     finder: &mut F,
-    gate: &G,
     pace: Pace,
     front: &mut Front,
 ) -> Result<bool, Memory>
-    requires workers { (1 ≤ pace.workers) × (pace.workers ≤ 64) }
-    requires round { 1 ≤ pace.round }
     requires valid { IsValid (F.request finder.old) }
     requires ready { IsReady (F.request finder.old) front.old }
     ensures request { F.request finder.new ≡ F.request finder.old }
@@ -253,15 +248,16 @@ pub fn do_round<R: Threads + Wait + Sync, F: Finder + Sync, G: Gate + Sync>(
         (IsAtEnd front.old front.new)) }
     ensures same { OnErr result (front.new ≡ front.old) }
 {
-    if pace.workers == 1 {
-        return do_round_alone(alloc, finder, gate, pace.round, front);
+    if pace.workers() == 1 {
+        return do_round_alone(workshop.alloc, finder, workshop.gate, pace.round(), front);
     }
-    let jobs = front.first(pace.round)?;
+    let jobs = front.first(pace.round())?;
     if jobs.is_empty() {
         return Ok(false);
     }
-    let workers = useful_workers(pace.workers, jobs.len());
-    let entries = run_round(rt, alloc, finder, gate, jobs, workers)?;
+    let workers = useful_workers(pace.workers(), jobs.len());
+    let Workshop { rt, alloc, gate } = workshop;
+    let entries = run_round(*rt, *alloc, finder, *gate, jobs, workers)?;
     front.absorb(entries)?;
     Ok(true)
 }

@@ -18,7 +18,7 @@ use Rattle.dd_check.specs.Calls.{Begin, Resume}
 use Rattle.dd_check.specs.ChainStarts.{Start, StartsAt}
 use Rattle.dd_check.proofs.LinesUpTo.{joined_between}
 use Rattle.dd_check.proofs.Lone.{none_asked}
-use Rattle.dd_pages.specs.Runs.{most_lines}
+use Rattle.dd_pages.specs.MostLines.{most_lines}
 use Rattle.dd_tasks.specs.Arguments.{AreRefused}
 use Rattle.dd_tasks.specs.Beginnings.{BeginsAt}
 use Rattle.dd_suite.specs.Chains.{ProgramCall, call_of}

@@ -1,5 +1,5 @@
 -- Where words keep a checkpoint under a name, the words that go on from it are taken.
-use Rattle.std.proofs.Common.{ℕ, List, [], ◌∷◌, Option, Some, None, inl, refl}
+use Rattle.std.proofs.Common.{ℕ, arith, List, [], ◌∷◌, Option, Some, None, inl, refl}
 use Rattle.dd_model.specs.declared.requests.Request.{Request}
 use Rattle.dd_words.specs.Given.{Given}
 use Rattle.dd_words.specs.Grammar.{IsSaid, IsCommand}
@@ -7,6 +7,7 @@ use Rattle.dd_words.specs.Layout.{IsPlain, argument, nothing}
 use Rattle.dd_words.specs.Values.{IsName}
 use Rattle.dd_words.specs.declared.commands.Command.TheVariants as command
 use Rattle.dd_jobs.specs.Portions.{whole}
+use Rattle.dd_jobs.specs.declared.pace.Pace.{Pace}
 use Rattle.dd_check.specs.declared.kinds.Kind.TheVariants.{Catalogues}
 use Rattle.dd_check.specs.Calls.{Begin, Resume}
 use Rattle.dd_tasks.specs.Words.{Order, AskForRun}
@@ -24,13 +25,17 @@ plain [] is = absurd is
 plain (byte ∷ bytes) is = is
 
 -- a name under which a checkpoint is kept is a name
-kept_name : (xs : List (List ℕ)) (given : List Given) (q : Request) (workers round : ℕ) (pause : Option ℕ) (name : List ℕ)
-    → IsSaid (command.Catalogue q workers round pause (Some name)) xs given → IsName name
-kept_name [] given q workers round pause name is = absurd is
-kept_name (x ∷ []) given q workers round pause name is = is.checkpoint_is.1
-kept_name (x ∷ y ∷ xs) given q workers round pause name is = absurd is
+kept_name : (xs : List (List ℕ)) (given : List Given) (q : Request) (pace : Pace) (pause : Option ℕ) (name : List ℕ)
+    → IsSaid (command.Catalogue q pace pause (Some name)) xs given → IsName name
+kept_name [] given q pace pause name is = absurd is
+kept_name (x ∷ []) given q pace pause name is = is.checkpoint_is.1
+kept_name (x ∷ y ∷ xs) given q pace pause name is = absurd is
 
-resumed : (name : List ℕ) → IsName name → IsCommand (resume_words name) (command.Resume name 1 64 None)
+-- one worker and 64 jobs in a round
+common_pace : Pace
+common_pace = record { workers = 1; round = 64; some_workers = omega arith; few_workers = omega arith; some_jobs = omega arith }
+
+resumed : (name : List ℕ) → IsName name → IsCommand (resume_words name) (command.Resume name common_pace None)
 resumed name is = record {
   rest = name ∷ [];
   arguments = name ∷ [];
@@ -44,4 +49,4 @@ resumed name is = record {
 pub resume_asked : (words : List (List ℕ)) (name : List ℕ) → AskToKeep words name → AskForRun (resume_words name) (resume_order name)
 resume_asked words name asked =
     let c = asked.run.command in
-    record { workers = 1; command = resumed name (kept_name c.arguments c.settings asked.request asked.run.workers asked.round asked.pause name c.said) }
+    record { pace = common_pace; round_is = refl; command = resumed name (kept_name c.arguments c.settings asked.request asked.run.pace asked.pause name c.said) }

@@ -80,7 +80,7 @@ resumed name from to (old ∷ olds) (new ∷ news) (p ∷ calls) asked runs =
     (record { task = at.task_is; before = at.before_is }, subst (λ h. AreResumed Catalogues name h (map call_of calls)) (sym at.after_is) (resumed name runs.0 to olds news calls asked runs.2))
 
 pub request_valid : (words : List (List ℕ)) (name : List ℕ) (asked : AskToKeep words name) → IsValid asked.request
-request_valid words name asked = valid words asked.request asked.run.workers asked.round asked.pause (Some name) asked.run.command
+request_valid words name asked = valid words asked.request asked.run.pace asked.pause (Some name) asked.run.command
 
 none_held : (shard : Option Shard) (c : Checkpoint) → Holds shard None c → ⊥
 none_held shard c is = let e = is.held_is in absurd (cc)

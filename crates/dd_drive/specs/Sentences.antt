@@ -12,7 +12,7 @@ use Rattle.dd_ports.specs.declared.memory_sink.MemorySink.{MemorySink}
 use Rattle.dd_check.specs.declared.checkpoint.Checkpoint.{Checkpoint}
 use Rattle.dd_check.specs.Checks.{IsCheckText, AreCountsInRange}
 use Rattle.dd_check.specs.ChainOutcomes.{IsFront}
-use Rattle.dd_pages.specs.Runs.{most_lines}
+use Rattle.dd_pages.specs.MostLines.{most_lines}
 use Rattle.dd_tasks.specs.Cuts.{Pauses}
 use Rattle.dd_tasks.specs.Words.{AskFor}
 use Rattle.dd_drive.specs.Runs.{Kept}

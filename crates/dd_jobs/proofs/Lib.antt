@@ -9,3 +9,4 @@ mod AlikeSizes
 mod ShardJobs
 pub mod PortionLaws
 pub mod ShardLaws
+pub mod PaceLaws

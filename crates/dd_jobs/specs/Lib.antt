@@ -6,3 +6,4 @@ pub mod FirstVisit
 pub mod ShardNumbers
 pub mod Shards
 pub mod Portions
+pub mod Paces

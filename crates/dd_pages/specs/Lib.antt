@@ -1,4 +1,5 @@
 pub mod Texts
+pub mod MostLines
 pub mod Parts
 pub mod Pages
 pub mod Rounds

@@ -9,7 +9,8 @@ use Rattle.dd_pages.specs.declared.fault.RunFault.{RunFault}
 use Rattle.dd_pages.specs.declared.finish.Finish.{Finish}
 use Rattle.dd_pages.specs.declared.finish.Finish.TheVariants.{Whole, Paused, CutShort}
 use Rattle.dd_pages.specs.Outputs.{IsOutput}
-use Rattle.dd_pages.specs.Runs.{IsPause, most_lines}
+use Rattle.dd_pages.specs.MostLines.{most_lines}
+use Rattle.dd_pages.specs.Runs.{IsPause}
 use Rattle.dd_pages.specs.Saves.{IsOfRound}
 
 -- the name holds what it held

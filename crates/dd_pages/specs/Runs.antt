@@ -5,14 +5,11 @@ use Rattle.dd_model.specs.declared.jobs.Position.TheVariants.{End}
 use Rattle.dd_check.specs.Between.{AreLinesBetween}
 use Rattle.dd_check.specs.ChainPuts.{IsNextMember}
 use Rattle.dd_check.specs.ChainStarts.{Start}
+use Rattle.dd_pages.specs.MostLines.{most_lines}
 use Rattle.dd_pages.specs.declared.finish.Finish.{Finish}
 use Rattle.dd_pages.specs.declared.finish.Finish.TheVariants.{Whole, Paused, CutShort}
 use Rattle.dd_pages.specs.declared.limit.Limit.{Limit}
 use Rattle.dd_pages.specs.declared.run.Run.{Run}
-
--- the number of the last line that is written
-abbrev pub most_lines : ℕ
-most_lines = 1000000000000000000
 
 -- where a run begins
 abbrev pub start_of : Run → Start

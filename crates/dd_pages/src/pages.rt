@@ -3,6 +3,7 @@ ghost use Rattle.dd_ports.specs.declared.sink.SinkFault.TheVariants.{Failed};
 ghost use Rattle.dd_ports.specs.Causes.{HasCause, StaysSure};
 ghost use Rattle.dd_ports.specs.Grows.{GrowsByPrefix};
 ghost use Rattle.dd_pages.specs.Texts.{joined};
+ghost use Rattle.dd_pages.specs.MostLines.{most_lines};
 
 use crate::lines::lines_by;
 use dd_front::Members;
@@ -106,8 +107,7 @@ impl Page {
         if self.buffer.len() < FULL {
             return Ok(());
         }
-        self.write(out)?;
-        Ok(())
+        self.write(out)
     }
 
     /// Puts a text behind what is collected, and writes where that is enough.
@@ -126,8 +126,7 @@ impl Page {
         let Ok(()) = put_behind(&mut self.buffer, text) else {
             return Err(SinkFault::Memory);
         };
-        self.write_if_full(out)?;
-        Ok(())
+        self.write_if_full(out)
     }
 
     /// Puts texts behind what is collected, one after the other, and writes each time that is
@@ -207,7 +206,7 @@ impl Page {
     /// Lets members wait for their lines, behind all others. If memory runs out, the page is of no
     /// further use.
     fn wait(&mut self, members: Members) -> Result<(), Memory>
-        requires few { self.old.count + length members ≤ 1000000000000000000 }
+        requires few { self.old.count + length members ≤ most_lines }
         ensures lines { OnOk result
             ((held : Option (List ℕ)) → AddsAll held held self.old self.new members) }
         ensures count { OnOk result (self.new.count ≡ self.old.count + length members) }
@@ -223,7 +222,7 @@ impl Page {
     /// there are enough. After an error the page is of no further use.
     fn add_part<O: Sink>(&mut self, part: &Symbols<'_>, out: &mut O) -> Result<(), SinkFault>
         requires waiting { self.old.waiting ≡ [] }
-        requires few { self.old.count + length part.now ≤ 1000000000000000000 }
+        requires few { self.old.count + length part.now ≤ most_lines }
         ensures all { OnOk result
             (AddsAll (O.held out.old) (O.held out.new) self.old self.new part.now) }
         ensures waiting { OnOk result (self.new.waiting ≡ []) }
@@ -246,7 +245,7 @@ impl Page {
     /// lines are collected at a time.
     fn add_list<O: Sink>(&mut self, list: Symbols<'_>, out: &mut O) -> Result<(), SinkFault>
         requires waiting { self.old.waiting ≡ [] }
-        requires few { self.old.count + length list ≤ 1000000000000000000 }
+        requires few { self.old.count + length list ≤ most_lines }
         ensures all { OnOk result
             (AddsAll (O.held out.old) (O.held out.new) self.old self.new list.entry) }
         ensures waiting { OnOk result (self.new.waiting ≡ []) }
@@ -272,7 +271,7 @@ impl Page {
         members: &Members,
         out: &mut O,
     ) -> Result<(), SinkFault>
-        requires few { self.old.count + length members.now ≤ 1000000000000000000 }
+        requires few { self.old.count + length members.now ≤ most_lines }
         ensures all { OnOk result
             (AddsAll (O.held out.old) (O.held out.new) self.old self.new members.now) }
         ensures count { OnOk result (self.new.count ≡ self.old.count + length members.now) }
@@ -299,7 +298,7 @@ impl Page {
         out: &mut O,
     ) -> Result<(), SinkFault>
         requires threads { 1 ≤ threads }
-        requires few { self.old.count + length members ≤ 1000000000000000000 }
+        requires few { self.old.count + length members ≤ most_lines }
         ensures all { OnOk result
             (AddsAll (O.held out.old) (O.held out.new) self.old self.new members) }
         ensures count { OnOk result (self.new.count ≡ self.old.count + length members) }
@@ -317,7 +316,6 @@ impl Page {
         if self.waits < BATCH {
             return Ok(());
         }
-        self.make(rt, threads, out)?;
-        Ok(())
+        self.make(rt, threads, out)
     }
 }

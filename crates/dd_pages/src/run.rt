@@ -1,8 +1,8 @@
 ghost use Rattle.std.specs.Prelude.{◌≡◌, ◌≤◌, IfOk};
+ghost use Rattle.dd_pages.specs.MostLines.{most_lines};
 
 use crate::limit::{Limit, MOST_LINES};
-use crate::pace::Pace;
-use dd_jobs::Portion;
+use dd_jobs::{Pace, Portion};
 use dd_model::{Job, Memory, Position, Prefix};
 use std::alloc::Global;
 
@@ -21,6 +21,7 @@ pub struct Run {
     pub pace: Pace,
     /// After how many lines it is to pause.
     pub pause: Option<u32>,
+    ghost few_lines: { lines ≤ most_lines },
 }
 
 impl Run {
@@ -54,7 +55,6 @@ impl Run {
 
     /// How far its lines may go.
     pub fn limit(&self) -> Limit
-        requires { self.now.lines ≤ 1000000000000000000 }
         ensures { IsLimit self.now.lines self.now.pause result }
     {
         match self.pause {

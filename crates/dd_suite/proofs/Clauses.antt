@@ -11,7 +11,8 @@ use Rattle.dd_ports.specs.declared.sink.SinkFault.TheVariants.{Failed, Memory as
 use Rattle.dd_check.specs.declared.kinds.Kind.{Kind}
 use Rattle.dd_check.specs.Calls.{Begin, Resume}
 use Rattle.dd_check.specs.ChainStarts.{Start}
-use Rattle.dd_pages.specs.Runs.{most_lines, WritesRest}
+use Rattle.dd_pages.specs.MostLines.{most_lines}
+use Rattle.dd_pages.specs.Runs.{WritesRest}
 use Rattle.dd_tasks.specs.declared.ending.Ending.{Ending}
 use Rattle.dd_tasks.specs.declared.ending.Ending.TheVariants as ending
 use Rattle.dd_tasks.specs.declared.status.Status.{Status}
@@ -67,7 +68,7 @@ module _ (words : List (List ℕ)) (end : Ending) (before : Before) (after : Aft
   whole (of_run order asked (inr stops)) h = let f : IsStopped Done = subst IsStopped h stops.not_run.stopped in absurd f
 
   call : IsOutcome words end before after → (order : Order) → AskForRun words order → IsCallOf order (status_of end) before after
-  call (untaken e none left) order asked = absurd (none (run_command order.task asked.workers order.round order.pause, asked.command))
+  call (untaken e none left) order asked = absurd (none (run_command order.task asked.pace order.pause, asked.command))
   call (unread e left) order asked = inr (record { stopped = subst (λ x. IsStopped (status_of x)) (sym e) tt; nothing = left.nothing; same = left.same })
   call (on_file command name named ends) order asked = absurd (not_both words order command name asked named)
   call (of_exercise start count is ends) order asked = absurd (run_or_exercise words order start count asked is)
@@ -102,7 +103,7 @@ module _ (words : List (List ℕ)) (end : Ending) (before : Before) (after : Aft
   not_taken (on_file command name asked ends) h = absurd (h (file_command command name, asked))
   not_taken (of_exercise start count asked ends) h = absurd (h (_, asked))
   not_taken (of_merge names asked ends) h = absurd (h (_, asked))
-  not_taken (of_run order asked o) h = absurd (h (run_command order.task asked.workers order.round order.pause, asked.command))
+  not_taken (of_run order asked o) h = absurd (h (run_command order.task asked.pace order.pause, asked.command))
 
   pub refused : IsOutcome words end before after → status_of end ≡ Refused → AreRefused words before.tells before.held
   refused (untaken e none left) h = let f = other end ending.Usage Refused e h in absurd (cc)

@@ -172,7 +172,7 @@ module _ (words : List (List ℕ)) (round : ℕ) (pause : Option ℕ) (state : S
       (same_held (name_of task) before.held after.held (stops.same told))
   task_meets (Begin q None) asked (inl ran) =
       let same = same_output before.written after.written ran.runs.output output known ran.runs.is_output.appended wrote in
-      lone_meets q pause ran.start state ran.result before.written after.written output (lone_run words q asked.workers round pause asked.command) ran.status_is ran.begins
+      lone_meets q pause ran.start state ran.result before.written after.written output (lone_run words q asked.pace pause asked.command) ran.status_is ran.begins
       (subst (IsOutput ran.start pause before.written after.written ran.result) same ran.runs.is_output)
   task_meets (Begin q (Some name)) asked (inl ran) =
       let run = ran.runs.run in

@@ -15,7 +15,7 @@ use Rattle.dd_check.specs.ChainStarts.{Start, first_start, next_start}
 use Rattle.dd_pages.specs.declared.fault.RunFault.{RunFault}
 use Rattle.dd_pages.specs.declared.fault.RunFault.TheVariants as fault
 use Rattle.dd_pages.specs.declared.finish.Finish.{Finish}
-use Rattle.dd_pages.specs.declared.pace.Pace.{Pace}
+use Rattle.dd_jobs.specs.declared.pace.Pace.{Pace}
 use Rattle.dd_pages.specs.declared.run.Run.{Run}
 use Rattle.dd_pages.specs.Outputs.{IsOutput}
 use Rattle.dd_pages.specs.Runs.{start_of, IsPause}

@@ -56,7 +56,7 @@ module _ (words : List (List ℕ)) (order : Order) (before : Before) (after : Af
   ran_known state ran bytes (inr (inr (inl (told, file)))) = absurd (not_both words order file.command file.name asked file.asked)
   ran_known state ran bytes (inr (inr (inr (inl (told, is))))) = absurd (run_or_merge words order is.names asked is.asked)
   ran_known state ran bytes (inr (inr (inr (inr (inl is))))) = absurd (run_or_exercise words order is.start is.count asked is.asked)
-  ran_known state ran bytes (inr (inr (inr (inr (inr none))))) = absurd (none.0 (run_command order.task asked.workers order.round order.pause, asked.command))
+  ran_known state ran bytes (inr (inr (inr (inr (inr none))))) = absurd (none.0 (run_command order.task asked.pace order.pause, asked.command))
 
   pub ran_whole : (state : Status) → HasRunAs order state before after → state ≡ status.Done → AppendsOutput words before.tells before.held before.written after.written
   ran_whole state ran e =

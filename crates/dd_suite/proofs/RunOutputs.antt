@@ -12,7 +12,8 @@ use Rattle.dd_check.specs.Calls.{Task, Begin, Resume}
 use Rattle.dd_check.specs.ChainStarts.{Start, first_start}
 use Rattle.dd_check.proofs.LinesUpTo.{whole_text, whole_members}
 use Rattle.dd_pages.specs.Outputs.{IsOutput}
-use Rattle.dd_pages.specs.Runs.{most_lines, Finishes, WritesRest}
+use Rattle.dd_pages.specs.MostLines.{most_lines}
+use Rattle.dd_pages.specs.Runs.{Finishes, WritesRest}
 use Rattle.dd_pages.specs.declared.fault.RunFault.{RunFault}
 use Rattle.dd_pages.specs.declared.finish.Finish.{Finish}
 use Rattle.dd_pages.specs.declared.finish.Finish.TheVariants as finish

@@ -11,9 +11,7 @@ use Rattle.dd_tasks.specs.declared.ending.Ending.TheVariants.{Done, Usage, Refus
 use Rattle.dd_tasks.specs.Beginnings.{HoldsCheck}
 use Rattle.dd_tasks.specs.Merges.{IsFetchedFront}
 use Rattle.dd_tasks.specs.Outcomes.{IsReadStop, IsHeldStop}
-
-other_kind : Catalogues ≡ Shards → ⊥
-other_kind e = cc
+use Rattle.dd_check.proofs.ChainParts.{other_kind}
 
 pub front_check : (tells : Bool) (held : Option (List ℕ)) (front : List ℕ) (shard : Option Shard) (c : Checkpoint) → IsFetchedFront tells held 8192 front → kind_of shard ≡ Shards
     → IsAcceptedText shard front c → HoldsCheck shard tells held c

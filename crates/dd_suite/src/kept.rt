@@ -7,30 +7,25 @@ ghost use Rattle.dd_pages.specs.Runs.{start_of, IsPause};
 ghost use Rattle.dd_tasks.specs.Outcomes.{IsRunOutcome, EndsRunFrom};
 
 use dd_branch::Search;
-use dd_catalogue::write_run;
-use dd_jobs::Portion;
-use dd_pages::{Pace, Run};
+use dd_catalogue::{Workshop, write_run};
+use dd_jobs::{Pace, Portion};
+use dd_pages::Run;
 use dd_ports::{Gate, Sink, Store};
 use dd_tasks::Ending;
-use std::alloc::Global;
 use std::sync::Wait;
 use std::thread::Threads;
 
 /// Writes a catalogue or a shard by a run that keeps its checkpoint under a name.
 pub fn write_kept<R: Threads + Wait + Sync, S: Store, G: Gate + Sync, O: Sink>(
-    rt: &R,
-    alloc: Global,
+    workshop: &Workshop<'_, R, G>,
     portion: &Portion,
     name: &str,
     pace: Pace,
     pause: Option<u32>,
-    gate: &G,
     store: &mut S,
     out: &mut O,
 ) -> Ending
     requires valid { IsValid portion.now.request }
-    requires workers { (1 ≤ pace.workers) × (pace.workers ≤ 64) }
-    requires round { 1 ≤ pace.round }
     ensures outcome { IsRunOutcome
         (record {
           task = Begin portion.now (Some name.now);
@@ -59,28 +54,23 @@ pub fn write_kept<R: Threads + Wait + Sync, S: Store, G: Gate + Sync, O: Sink>(
     ensures sink_sure { O.sure out.old ≡ true
         → (O.faults out.new ≡ O.faults out.old) × (result ≡ Ending.SinkFault → ⊥) }
 {
-    let Ok(run) = Run::first(alloc, *portion, pace, pause) else {
+    let Ok(run) = Run::first(workshop.alloc, *portion, pace, pause) else {
         return Ending::Memory;
     };
-    keep_run(rt, alloc, &run, name, gate, store, out)
+    keep_run(workshop, &run, name, store, out)
 }
 
 /// Writes the lines of a run that keeps its checkpoint under a name.
 pub fn keep_run<R: Threads + Wait + Sync, S: Store, G: Gate + Sync, O: Sink>(
-    rt: &R,
-    alloc: Global,
+    workshop: &Workshop<'_, R, G>,
     run: &Run,
     name: &str,
-    gate: &G,
     store: &mut S,
     out: &mut O,
 ) -> Ending
     requires valid { IsValid run.now.portion.request }
     requires position { IsPosition run.now.at }
-    requires lines { run.now.lines ≤ 1000000000000000000 }
     requires first { run.now.number ≡ 1 → start_of run.now ≡ first_start run.now.portion }
-    requires workers { (1 ≤ run.now.pace.workers) × (run.now.pace.workers ≤ 64) }
-    requires round { 1 ≤ run.now.pace.round }
     ensures run { EndsRunFrom
         (start_of run.now) name.now run.now.pace.round run.now.pause
         result
@@ -106,7 +96,7 @@ pub fn keep_run<R: Threads + Wait + Sync, S: Store, G: Gate + Sync, O: Sink>(
         → (O.faults out.new ≡ O.faults out.old) × (result ≡ Ending.SinkFault → ⊥) }
 {
     let mut search = Search::new(&run.portion.request);
-    let ended = write_run(rt, alloc, &mut search, gate, run, name, store, out);
+    let ended = write_run(workshop, &mut search, run, name, store, out);
     Ending::of_run(ended, last_before_pause(run))
 }
 

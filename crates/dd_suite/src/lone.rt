@@ -3,38 +3,33 @@ ghost use Rattle.dd_model.specs.Request.{IsValid};
 ghost use Rattle.dd_tasks.specs.Lone.{IsLoneEnding, run_result};
 
 use dd_branch::Search;
-use dd_catalogue::write_catalogue;
-use dd_jobs::Portion;
-use dd_pages::{Finish, Pace, Run, RunFault};
+use dd_catalogue::{Workshop, write_catalogue};
+use dd_jobs::{Pace, Portion};
+use dd_pages::{Finish, Run, RunFault};
 use dd_ports::{Gate, Sink, SinkFault};
 use dd_tasks::Ending;
-use std::alloc::Global;
 use std::sync::Wait;
 use std::thread::Threads;
 
 /// Writes a catalogue or a shard without a checkpoint.
 pub fn write_lone<R: Threads + Wait + Sync, G: Gate + Sync, O: Sink>(
-    rt: &R,
-    alloc: Global,
+    workshop: &Workshop<'_, R, G>,
     portion: &Portion,
     pace: Pace,
-    gate: &G,
     out: &mut O,
 ) -> Ending
     requires valid { IsValid portion.now.request }
-    requires workers { (1 ≤ pace.workers) × (pace.workers ≤ 64) }
-    requires round { 1 ≤ pace.round }
     ensures ending { IsLoneEnding result portion.now (O.held out.old) (O.held out.new)
         (O.faults out.old) (O.faults out.new) }
     ensures count { O.faults out.old ≤ O.faults out.new }
     ensures sure { O.sure out.old ≡ true
         → (O.faults out.new ≡ O.faults out.old) × (result ≡ Ending.SinkFault → ⊥) }
 {
-    let Ok(run) = Run::first(alloc, *portion, pace, None) else {
+    let Ok(run) = Run::first(workshop.alloc, *portion, pace, None) else {
         return Ending::Memory;
     };
     let mut search = Search::new(&portion.request);
-    let ended = write_catalogue(rt, alloc, &mut search, gate, &run, out);
+    let ended = write_catalogue(workshop, &mut search, &run, out);
     // It does not pause, so that no line is told.
     Ending::of_run(as_run(ended), 0)
 }

@@ -7,11 +7,13 @@ ghost use Rattle.dd_check.specs.ChainStarts.{next_start};
 ghost use Rattle.dd_pages.specs.Runs.{start_of};
 ghost use Rattle.dd_tasks.specs.Beginnings.{HoldsCheck};
 ghost use Rattle.dd_tasks.specs.Outcomes.{IsRunOutcome, IsReadStop, IsHeldStop};
+ghost use Rattle.dd_pages.specs.MostLines.{most_lines};
 
 use crate::kept::keep_run;
+use dd_catalogue::Workshop;
 use dd_check::{CheckFault, Checkpoint, Kind, ShardFault, read_checkpoint, read_shard};
-use dd_jobs::{Portion, Shard};
-use dd_pages::{Pace, Run};
+use dd_jobs::{Pace, Portion, Shard};
+use dd_pages::Run;
 use dd_ports::{Gate, Sink, Store, StoreFault};
 use dd_tasks::{Ending, fetch_all, fetch_front};
 use std::alloc::Global;
@@ -136,18 +138,14 @@ fn shard_of(alloc: Global, bytes: &[u8]) -> Result<Saved, Ending>
 /// Resumes from the checkpoint of a name, of a catalogue or of a shard, by a run with the next
 /// number.
 pub fn resume<R: Threads + Wait + Sync, S: Store, G: Gate + Sync, O: Sink>(
-    rt: &R,
-    alloc: Global,
+    workshop: &Workshop<'_, R, G>,
     kind: Kind,
     name: &str,
     pace: Pace,
     pause: Option<u32>,
-    gate: &G,
     store: &mut S,
     out: &mut O,
 ) -> Ending
-    requires workers { (1 ≤ pace.workers) × (pace.workers ≤ 64) }
-    requires round { 1 ≤ pace.round }
     ensures outcome { IsRunOutcome
         (record { task = Resume kind name.now; round = pace.round; pause = pause })
         result
@@ -172,18 +170,18 @@ pub fn resume<R: Threads + Wait + Sync, S: Store, G: Gate + Sync, O: Sink>(
     ensures sink_sure { O.sure out.old ≡ true
         → (O.faults out.new ≡ O.faults out.old) × (result ≡ Ending.SinkFault → ⊥) }
 {
-    let saved = match fetch_check(alloc, kind, name, store) {
+    let saved = match fetch_check(workshop.alloc, kind, name, store) {
         Ok(saved) => saved,
         Err(ending) => return ending,
     };
     let run = next_run(saved.check, saved.shard, pace, pause);
-    keep_run(rt, alloc, &run, name, gate, store, out)
+    keep_run(workshop, &run, name, store, out)
 }
 
 /// The run after that of a checkpoint, of a catalogue or of the shard if there is one.
 fn next_run(check: Checkpoint, shard: Option<Shard>, pace: Pace, pause: Option<u32>) -> Run
     requires run { (1 ≤ check.run) × (check.run ≤ 999999999) }
-    requires lines { check.lines ≤ 1000000000000000000 }
+    requires lines { check.lines ≤ most_lines }
     ensures start { start_of result ≡ next_start shard check }
     ensures pace { result.pace ≡ pace }
     ensures pause { result.pause ≡ pause }

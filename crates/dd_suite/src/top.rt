@@ -8,7 +8,7 @@ ghost use Rattle.dd_model.specs.Symbol.{Symbol};
 ghost use Rattle.dd_jobs.specs.declared.portions.Portion.{Portion};
 ghost use Rattle.dd_jobs.specs.Portions.{ArePortionMembers};
 ghost use Rattle.dd_check.specs.declared.kinds.Kind.{Kind};
-ghost use Rattle.dd_pages.specs.Runs.{most_lines};
+ghost use Rattle.dd_pages.specs.MostLines.{most_lines};
 ghost use Rattle.dd_tasks.specs.Words.{Order, AskForRun, AskFor, AskToResume, NameFile, AreTaken};
 ghost use Rattle.dd_tasks.specs.Beginnings.{HoldsSomeCheck};
 ghost use Rattle.dd_tasks.specs.Runs.{IsCallOf};
@@ -25,6 +25,7 @@ use crate::exercise::write_exercise;
 use crate::kept::write_kept;
 use crate::lone::write_lone;
 use crate::resume::resume;
+use dd_catalogue::Workshop;
 use dd_model::Memory;
 use dd_ports::{Gate, Sink, Store};
 use dd_tasks::{Ending, Status, Task, read_task, tell, write_file, write_merge};
@@ -146,19 +147,17 @@ pub fn run<R: Threads + Wait + Sync, S: Store, O: Sink, E: Sink, G: Gate + Sync>
         }) }
     ensures err_count { E.faults err.old ≤ E.faults err.new }
 {
-    let ending = perform(rt, alloc, words, store, out, gate);
+    let ending = perform(&Workshop { rt, alloc, gate }, words, store, out);
     let _ = tell(alloc, ending, err);
     ending.status()
 }
 
 /// Does what the words ask for.
 fn perform<R: Threads + Wait + Sync, S: Store, O: Sink, G: Gate + Sync>(
-    rt: &R,
-    alloc: Global,
+    workshop: &Workshop<'_, R, G>,
     words: &[RcStr],
     store: &mut S,
     out: &mut O,
-    gate: &G,
 ) -> Ending
     ensures outcome { IsOutcome (map rc_str_bytes words.now)
         result
@@ -184,47 +183,28 @@ fn perform<R: Threads + Wait + Sync, S: Store, O: Sink, G: Gate + Sync>(
     ensures sink_sure { O.sure out.old ≡ true
         → (O.faults out.new ≡ O.faults out.old) × (result ≡ Ending.SinkFault → ⊥) }
 {
+    let alloc = workshop.alloc;
     let task = match read_task(alloc, words) {
         Ok(Some(task)) => task,
         Ok(None) => return Ending::Usage,
         Err(Memory) => return Ending::Memory,
     };
     match task {
-        Task::Alone(portion, pace) => write_lone(rt, alloc, &portion, pace, gate, out),
+        Task::Alone(portion, pace) => write_lone(workshop, &portion, pace, out),
         Task::Kept {
             portion,
             name,
             pace,
             pause,
-        } => write_kept(
-            rt,
-            alloc,
-            &portion,
-            name.as_str(),
-            pace,
-            pause,
-            gate,
-            store,
-            out,
-        ),
+        } => write_kept(workshop, &portion, name.as_str(), pace, pause, store, out),
         Task::Resume {
             kind,
             name,
             pace,
             pause,
-        } => resume(
-            rt,
-            alloc,
-            kind,
-            name.as_str(),
-            pace,
-            pause,
-            gate,
-            store,
-            out,
-        ),
+        } => resume(workshop, kind, name.as_str(), pace, pause, store, out),
         Task::OnFile(command, name) => write_file(alloc, command, name.as_str(), store, out),
-        Task::Merge(names) => write_merge(rt, alloc, names.as_slice(), store, out),
+        Task::Merge(names) => write_merge(workshop.rt, alloc, names.as_slice(), store, out),
         Task::Exercise { start, count } => write_exercise(alloc, start, count, out),
     }
 }

@@ -5,7 +5,7 @@ use Rattle.dd_model.specs.Request.{IsValid}
 use Rattle.dd_words.specs.Grammar.{IsCommand, IsExercise, OnTwo}
 use Rattle.dd_words.specs.Values.{Text}
 use Rattle.dd_words.proofs.ReadCommands.{one_command}
-use Rattle.dd_words.proofs.Validity.{IsPace, IsAskedWell, catalogue_well, shard_well, resume_pace, resume_shard_pace}
+use Rattle.dd_words.proofs.Validity.{IsAskedWell, catalogue_well, shard_well}
 use Rattle.dd_words.specs.declared.commands.Command.{Command}
 use Rattle.dd_words.specs.declared.commands.Command.TheVariants.{Catalogue, Resume, Shard as ShardOf, ResumeShard, File, Apply, Merge, Exercise, Draw as Drawing}
 use Rattle.dd_words.specs.declared.commands.FileKind.{FileKind}
@@ -19,7 +19,7 @@ use Rattle.dd_check.specs.Calls.{Task as ChainTask, Begin, Resume as Next}
 use Rattle.dd_commands.specs.declared.commands.FileCommand.{FileCommand}
 use Rattle.dd_commands.specs.declared.commands.FileCommand.TheVariants.{Symbols, Info, Sheets, Draw}
 use Rattle.dd_commands.specs.declared.commands.SymbolCommand.TheVariants.{Lines, Canon, Minimal, Dual, Oriented, Torus, Derived, Applied}
-use Rattle.dd_pages.specs.declared.pace.Pace.{Pace}
+use Rattle.dd_jobs.specs.declared.pace.Pace.{Pace}
 use Rattle.dd_tasks.specs.declared.task.Task.{Task}
 use Rattle.dd_tasks.specs.declared.task.Task.TheVariants as task
 use Rattle.dd_tasks.specs.Words.{Order, begin_command, resume_command, run_command, AskForRun, file_command, IsOnFile, AskToExercise, AreTaken}
@@ -65,28 +65,34 @@ same_asked p q e =
 
 -- the run that a command asks for, and nothing for other commands
 pub order_of : Command → Option Order
-order_of (Catalogue q workers round pause name) = Some (record { task = Begin (whole q) name; round = round; pause = pause })
-order_of (ShardOf shard q workers round pause name) = Some (record { task = Begin (record { request = q; shard = Some shard }) name; round = round; pause = pause })
-order_of (Resume name workers round pause) = Some (record { task = Next Catalogues name; round = round; pause = pause })
-order_of (ResumeShard name workers round pause) = Some (record { task = Next Shards name; round = round; pause = pause })
+order_of (Catalogue q pace pause name) = Some (record { task = Begin (whole q) name; round = pace.round; pause = pause })
+order_of (ShardOf shard q pace pause name) = Some (record { task = Begin (record { request = q; shard = Some shard }) name; round = pace.round; pause = pause })
+order_of (Resume name pace pause) = Some (record { task = Next Catalogues name; round = pace.round; pause = pause })
+order_of (ResumeShard name pace pause) = Some (record { task = Next Shards name; round = pace.round; pause = pause })
 order_of other = None
 
-begun_order : (shard : Option Shard) (q : Request) (name : Option (List ℕ)) (workers round : ℕ) (pause : Option ℕ)
-    → order_of (begin_command shard q name workers round pause) ≡ Some (record { task = Begin (record { request = q; shard = shard }) name; round = round; pause = pause })
+begun_order : (shard : Option Shard) (q : Request) (name : Option (List ℕ)) (pace : Pace) (pause : Option ℕ)
+    → order_of (begin_command shard q name pace pause) ≡ Some (record { task = Begin (record { request = q; shard = shard }) name; round = pace.round; pause = pause })
 unfolding order_of
-begun_order None q name workers round pause = refl
-begun_order (Some shard) q name workers round pause = refl
+begun_order None q name pace pause = refl
+begun_order (Some shard) q name pace pause = refl
 
-resumed_order : (kind : Kind) (name : List ℕ) (workers round : ℕ) (pause : Option ℕ)
-    → order_of (resume_command kind name workers round pause) ≡ Some (record { task = Next kind name; round = round; pause = pause })
+resumed_order : (kind : Kind) (name : List ℕ) (pace : Pace) (pause : Option ℕ)
+    → order_of (resume_command kind name pace pause) ≡ Some (record { task = Next kind name; round = pace.round; pause = pause })
 unfolding order_of
-resumed_order Catalogues name workers round pause = refl
-resumed_order Shards name workers round pause = refl
+resumed_order Catalogues name pace pause = refl
+resumed_order Shards name pace pause = refl
 
 -- the command of a run asks for the run
-pub order_told : (task : ChainTask) (workers round : ℕ) (pause : Option ℕ) → order_of (run_command task workers round pause) ≡ Some (record { task = task; round = round; pause = pause })
-order_told (Begin p name) workers round pause = begun_order p.shard p.request name workers round pause
-order_told (Next kind name) workers round pause = resumed_order kind name workers round pause
+pub order_told : (task : ChainTask) (pace : Pace) (pause : Option ℕ) → order_of (run_command task pace pause) ≡ Some (record { task = task; round = pace.round; pause = pause })
+order_told (Begin p name) pace pause = begun_order p.shard p.request name pace pause
+order_told (Next kind name) pace pause = resumed_order kind name pace pause
+
+abbrev with_round : ChainTask → Option ℕ → ℕ → Option Order
+with_round task pause round = Some (record { task = task; round = round; pause = pause })
+
+asked_order : (words : List (List ℕ)) (order : Order) (asked : AskForRun words order) → order_of (run_command order.task asked.pace order.pause) ≡ Some order
+asked_order words order asked = order_told order.task asked.pace order.pause ∙ ap (with_round order.task order.pause) asked.round_is
 
 no_order : (k : FileCommand) (name : List ℕ) → order_of (file_command k name) ≡ None
 unfolding order_of
@@ -111,12 +117,12 @@ none_some a e = cc
 pub one_order : (words : List (List ℕ)) (a b : Order) → AskForRun words a → AskForRun words b → a ≡ b
 one_order words a b h i =
     same_some a b
-    (sym (order_told a.task h.workers a.round a.pause) ∙ ap order_of (one_command words _ _ h.command i.command) ∙ order_told b.task i.workers b.round b.pause)
+    (sym (asked_order words a h) ∙ ap order_of (one_command words _ _ h.command i.command) ∙ asked_order words b i)
 
 -- no words are those of a run and of a command on a file
 pub not_both : (words : List (List ℕ)) (order : Order) (k : FileCommand) (name : List ℕ) → AskForRun words order → IsOnFile words k name → ⊥
 not_both words order k name a b =
-    none_some order (sym (order_told order.task a.workers order.round order.pause) ∙ ap order_of (one_command words _ _ a.command b) ∙ no_order k name)
+    none_some order (sym (asked_order words order a) ∙ ap order_of (one_command words _ _ a.command b) ∙ no_order k name)
 
 pub same_command : (words : List (List ℕ)) (k l : FileCommand) (a b : List ℕ) → IsOnFile words k a → IsOnFile words l b → (k ≡ l) × (a ≡ b)
 same_command words k l a b h i =
@@ -126,13 +132,13 @@ same_command words k l a b h i =
 pub run_or_merge : (words : List (List ℕ)) (order : Order) (names : List (List ℕ)) → AskForRun words order → AskToMerge words names → ⊥
 unfolding order_of
 run_or_merge words order names a b =
-    none_some order (sym (order_told order.task a.workers order.round order.pause) ∙ ap order_of (one_command words _ _ a.command b))
+    none_some order (sym (asked_order words order a) ∙ ap order_of (one_command words _ _ a.command b))
 
 -- those of an exercise are neither
 pub run_or_exercise : (words : List (List ℕ)) (order : Order) (start count : ℕ) → AskForRun words order → AskToExercise words start count → ⊥
 unfolding order_of
 run_or_exercise words order start count a b =
-    none_some order (sym (order_told order.task a.workers order.round order.pause) ∙ ap order_of (one_command words _ _ a.command b))
+    none_some order (sym (asked_order words order a) ∙ ap order_of (one_command words _ _ a.command b))
 
 none_asked : (a : FileCommand × List ℕ) → Some a ≡ None → ⊥
 none_asked a e = cc
@@ -187,48 +193,38 @@ asked_of words o t u h e f =
 pub file_asked : (words : List (List ℕ)) (k : FileCommand) (name : List ℕ) → AskForTask words (task.OnFile k name) → IsOnFile words k name
 file_asked words k name is = subst (IsCommand words) is.task_is is.asked
 
--- a run with its request or name, and the pace of its task
-pub record AsksForRun (words : List (List ℕ)) (order : Order) (pace : Pace) : Type 0 where
-  pub order_asked : AskForRun words order
-  pub in_range : IsPace pace.workers pace.round
-
--- the command that begins a portion asks for a valid request, at a pace in range
+-- the command that begins a portion asks for a valid request
 pub record IsBegunWell (words : List (List ℕ)) (p : Portion) (name : Option (List ℕ)) (pace : Pace) (pause : Option ℕ) : Type 0 where
   pub valid : IsValid p.request
-  pub asked : AsksForRun words (record { task = Begin p name; round = pace.round; pause = pause }) pace
+  pub asked : AskForRun words (record { task = Begin p name; round = pace.round; pause = pause })
 
-begun_command : (words : List (List ℕ)) (shard : Option Shard) (q : Request) (name : Option (List ℕ)) (workers round : ℕ) (pause : Option ℕ)
-    → IsCommand words (begin_command shard q name workers round pause) → IsAskedWell q workers round pause name
-begun_command words None q name workers round pause is = catalogue_well words q workers round pause name is
-begun_command words (Some shard) q name workers round pause is = shard_well words shard q workers round pause name is
+begun_command : (words : List (List ℕ)) (shard : Option Shard) (q : Request) (name : Option (List ℕ)) (pace : Pace) (pause : Option ℕ)
+    → IsCommand words (begin_command shard q name pace pause) → IsAskedWell q pause name
+begun_command words None q name pace pause is = catalogue_well words q pace pause name is
+begun_command words (Some shard) q name pace pause is = shard_well words shard q pace pause name is
 
 begun_well : (words : List (List ℕ)) (p : Portion) (name : Option (List ℕ)) (pace : Pace) (pause : Option ℕ)
-    → IsCommand words (begin_command p.shard p.request name pace.workers pace.round pause) → IsBegunWell words p name pace pause
+    → IsCommand words (begin_command p.shard p.request name pace pause) → IsBegunWell words p name pace pause
 begun_well words p name pace pause is =
-    let well = begun_command words p.shard p.request name pace.workers pace.round pause is in
-    record { valid = well.valid; asked = record { order_asked = record { workers = pace.workers; command = is }; in_range = well.pace } }
+    let well = begun_command words p.shard p.request name pace pause is in
+    record { valid = well.valid; asked = record { pace = pace; round_is = refl; command = is } }
 
 -- without a name there is no pause
-pub lone_run : (words : List (List ℕ)) (p : Portion) (workers round : ℕ) (pause : Option ℕ) → IsCommand words (run_command (Begin p None) workers round pause) → pause ≡ None
-lone_run words p workers round pause is = (begun_command words p.shard p.request None workers round pause is).lone refl
+pub lone_run : (words : List (List ℕ)) (p : Portion) (pace : Pace) (pause : Option ℕ) → IsCommand words (run_command (Begin p None) pace pause) → pause ≡ None
+lone_run words p pace pause is = (begun_command words p.shard p.request None pace pause is).lone refl
 
 pub lone_asked : (words : List (List ℕ)) (p : Portion) (pace : Pace) → AskForTask words (task.Alone p pace) → IsBegunWell words p None pace None
 lone_asked words p pace is =
-    let own : IsCommand words (begin_command p.shard p.request None pace.workers pace.round is.task_is.0) = subst (IsCommand words) is.task_is.1 is.asked in
-    subst (IsBegunWell words p None pace) (lone_run words p pace.workers pace.round is.task_is.0 own) (begun_well words p None pace is.task_is.0 own)
+    let own : IsCommand words (begin_command p.shard p.request None pace is.task_is.0) = subst (IsCommand words) is.task_is.1 is.asked in
+    subst (IsBegunWell words p None pace) (lone_run words p pace is.task_is.0 own) (begun_well words p None pace is.task_is.0 own)
 
 pub kept_asked : (words : List (List ℕ)) (p : Portion) (name : List ℕ) (pace : Pace) (pause : Option ℕ) → AskForTask words (task.Kept p name pace pause) → IsBegunWell words p (Some name) pace pause
 kept_asked words p name pace pause is = begun_well words p (Some name) pace pause (subst (IsCommand words) is.task_is is.asked)
 
-resumed_pace : (words : List (List ℕ)) (kind : Kind) (name : List ℕ) (workers round : ℕ) (pause : Option ℕ) → IsCommand words (resume_command kind name workers round pause) → IsPace workers round
-resumed_pace words Catalogues name workers round pause is = resume_pace words name workers round pause is
-resumed_pace words Shards name workers round pause is = resume_shard_pace words name workers round pause is
-
 pub resume_asked : (words : List (List ℕ)) (kind : Kind) (name : List ℕ) (pace : Pace) (pause : Option ℕ) → AskForTask words (task.Resume kind name pace pause)
-    → AsksForRun words (record { task = Next kind name; round = pace.round; pause = pause }) pace
+    → AskForRun words (record { task = Next kind name; round = pace.round; pause = pause })
 resume_asked words kind name pace pause is =
-    let own : IsCommand words (resume_command kind name pace.workers pace.round pause) = subst (IsCommand words) is.task_is is.asked in
-    record { order_asked = record { workers = pace.workers; command = own }; in_range = resumed_pace words kind name pace.workers pace.round pause own }
+    record { pace = pace; round_is = refl; command = subst (IsCommand words) is.task_is is.asked }
 
 pub exercise_asked : (words : List (List ℕ)) (start count : ℕ) → AskForTask words (task.Exercise start count) → AskToExercise words start count
 exercise_asked words start count is = subst (IsCommand words) is.task_is is.asked

@@ -9,7 +9,7 @@ use Rattle.dd_check.specs.Between.{AreLinesBetween}
 use Rattle.dd_check.specs.declared.kinds.Kind.{Kind}
 use Rattle.dd_check.specs.ChainStarts.{Start}
 use Rattle.dd_commands.specs.declared.commands.FileCommand.{FileCommand}
-use Rattle.dd_pages.specs.Runs.{most_lines}
+use Rattle.dd_pages.specs.MostLines.{most_lines}
 use Rattle.dd_exercise.specs.Exercise.{IsExerciseText}
 use Rattle.dd_tasks.specs.Beginnings.{BeginsNext}
 use Rattle.dd_tasks.specs.Held.{IsTextOfHeld}

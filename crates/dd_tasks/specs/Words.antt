@@ -1,10 +1,11 @@
 -- Which words the program takes, and what they ask for.
-use Rattle.std.specs.Prelude.{ℕ, List, Option, None, Some}
+use Rattle.std.specs.Prelude.{◌≡◌, ℕ, List, Option, None, Some}
 use Rattle.dd_model.specs.declared.requests.Request.{Request}
 use Rattle.dd_words.specs.Grammar.{IsCommand}
 use Rattle.dd_words.specs.declared.commands.Command.{Command}
 use Rattle.dd_words.specs.declared.commands.Command.TheVariants as command
 use Rattle.dd_words.specs.declared.commands.FileKind.TheVariants as kind
+use Rattle.dd_jobs.specs.declared.pace.Pace.{Pace}
 use Rattle.dd_jobs.specs.declared.shards.Shard.{Shard}
 use Rattle.dd_jobs.specs.declared.portions.Portion.{Portion}
 use Rattle.dd_check.specs.declared.kinds.Kind.{Kind}
@@ -22,24 +23,25 @@ pub record Order : Type 0 where
   pub pause : Option ℕ
 
 -- the command that begins a catalogue, or the shard if there is one
-abbrev pub begin_command : Option Shard → Request → Option (List ℕ) → ℕ → ℕ → Option ℕ → Command
-begin_command None q name workers round pause = command.Catalogue q workers round pause name
-begin_command (Some shard) q name workers round pause = command.Shard shard q workers round pause name
+abbrev pub begin_command : Option Shard → Request → Option (List ℕ) → Pace → Option ℕ → Command
+begin_command None q name pace pause = command.Catalogue q pace pause name
+begin_command (Some shard) q name pace pause = command.Shard shard q pace pause name
 
 -- the command that goes on from a text of this kind
-abbrev pub resume_command : Kind → List ℕ → ℕ → ℕ → Option ℕ → Command
-resume_command Catalogues name workers round pause = command.Resume name workers round pause
-resume_command Shards name workers round pause = command.ResumeShard name workers round pause
+abbrev pub resume_command : Kind → List ℕ → Pace → Option ℕ → Command
+resume_command Catalogues name pace pause = command.Resume name pace pause
+resume_command Shards name pace pause = command.ResumeShard name pace pause
 
 -- the command with this task
-abbrev pub run_command : Task → ℕ → ℕ → Option ℕ → Command
-run_command (Begin p name) workers round pause = begin_command p.shard p.request name workers round pause
-run_command (Resume kind name) workers round pause = resume_command kind name workers round pause
+abbrev pub run_command : Task → Pace → Option ℕ → Command
+run_command (Begin p name) pace pause = begin_command p.shard p.request name pace pause
+run_command (Resume kind name) pace pause = resume_command kind name pace pause
 
 -- the words of a run, with any number of workers
 pub record AskForRun (words : List (List ℕ)) (order : Order) : Type 0 where
-  pub workers : ℕ
-  pub command : IsCommand words (run_command order.task workers order.round order.pause)
+  pub pace : Pace
+  pub round_is : pace.round ≡ order.round
+  pub command : IsCommand words (run_command order.task pace order.pause)
 
 -- the words of a catalogue or of a shard, with a name for its checkpoint or without one
 pub record AskFor (words : List (List ℕ)) (p : Portion) : Type 0 where

@@ -1,7 +1,6 @@
 use dd_check::Kind;
 use dd_commands::FileCommand;
-use dd_jobs::Portion;
-use dd_pages::Pace;
+use dd_jobs::{Pace, Portion};
 use dd_words::{Name, Names};
 
 /// What the program does.

@@ -8,9 +8,8 @@ ghost use Rattle.dd_tasks.specs.Commands.{IsBegunBy, IsTaskOf, AskForTask};
 use crate::task::Task;
 use dd_check::Kind;
 use dd_commands::{FileCommand, SymbolCommand};
-use dd_jobs::Portion;
+use dd_jobs::{Pace, Portion};
 use dd_model::Memory;
-use dd_pages::Pace;
 use dd_words::{Command, FileKind, Name, WordsFault, read_words};
 use std::alloc::Global;
 use std::rc::RcStr;
@@ -34,46 +33,34 @@ fn task_of(command: Command) -> Task
     match command {
         Command::Catalogue {
             request,
-            workers,
-            round,
+            pace,
             pause,
             checkpoint,
         } => {
             let portion = Portion::whole(request);
-            task_for(portion, Pace { workers, round }, pause, checkpoint)
+            task_for(portion, pace, pause, checkpoint)
         }
         Command::Shard {
             shard,
             request,
-            workers,
-            round,
+            pace,
             pause,
             checkpoint,
         } => {
             let shard = Some(shard);
             let portion = Portion { request, shard };
-            task_for(portion, Pace { workers, round }, pause, checkpoint)
+            task_for(portion, pace, pause, checkpoint)
         }
-        Command::Resume {
-            name,
-            workers,
-            round,
-            pause,
-        } => Task::Resume {
+        Command::Resume { name, pace, pause } => Task::Resume {
             kind: Kind::Catalogues,
             name,
-            pace: Pace { workers, round },
+            pace,
             pause,
         },
-        Command::ResumeShard {
-            name,
-            workers,
-            round,
-            pause,
-        } => Task::Resume {
+        Command::ResumeShard { name, pace, pause } => Task::Resume {
             kind: Kind::Shards,
             name,
-            pace: Pace { workers, round },
+            pace,
             pause,
         },
         Command::File { kind, file } => Task::OnFile(command_of(kind), file),

@@ -26,16 +26,16 @@ fn an_empty_name_is_not_taken(rt: HostRuntime) {
 /// A catalogue that takes days to write.
 #[test]
 fn the_largest_catalogue_is_taken(rt: HostRuntime) {
-    let told = read(&rt, rt.alloc(), &["catalogue", "36"]);
-    assert!(rt;
-        matches!(
-            told,
-            Ok(Command::Catalogue {
-                workers: 1,
-                round: 64,
+    let pace = match read(&rt, rt.alloc(), &["catalogue", "36"]) {
+        Ok(
+            Command::Catalogue {
+                pace,
                 pause: None,
                 ..
-            })
-        )
-    );
+            },
+        ) => Some(pace),
+        _ => None,
+    };
+    let pace = pace.expect(&rt, "a catalogue that does not pause");
+    assert_eq!(rt; (pace.workers(), pace.round()), (1, 64));
 }

@@ -252,20 +252,20 @@ merge_places (w ∷ ws) rows k low few free = (
 )
 
 said_places : (d : Command) (xs : List Text) (gs : List Given) → IsSaid d xs gs → Placed (rules_for (verb_of d)) [] 1 xs
-said_places (command.Catalogue q workers round pause checkpoint) (n ∷ []) gs h = (first_there verb.Catalogue, refl, tt)
-said_places (command.Catalogue q workers round pause checkpoint) [] gs h = tt
-said_places (command.Catalogue q workers round pause checkpoint) (n ∷ m ∷ ns) gs h = elim h [ ]
-said_places (command.Resume name workers round pause) (n ∷ []) gs h = (first_there verb.Resume, refl, tt)
-said_places (command.Resume name workers round pause) [] gs h = tt
-said_places (command.Resume name workers round pause) (n ∷ m ∷ ns) gs h = elim h [ ]
-said_places (command.Shard shard q workers round pause checkpoint) (i ∷ m ∷ n ∷ []) gs h = (first_there verb.Shard, refl, (shard_second, refl, (shard_third, refl, tt)))
-said_places (command.Shard shard q workers round pause checkpoint) [] gs h = tt
-said_places (command.Shard shard q workers round pause checkpoint) (i ∷ []) gs h = elim h [ ]
-said_places (command.Shard shard q workers round pause checkpoint) (i ∷ m ∷ []) gs h = elim h [ ]
-said_places (command.Shard shard q workers round pause checkpoint) (i ∷ m ∷ n ∷ o ∷ ns) gs h = elim h [ ]
-said_places (command.ResumeShard name workers round pause) (n ∷ []) gs h = (first_there verb.ResumeShard, refl, tt)
-said_places (command.ResumeShard name workers round pause) [] gs h = tt
-said_places (command.ResumeShard name workers round pause) (n ∷ m ∷ ns) gs h = elim h [ ]
+said_places (command.Catalogue q pace pause checkpoint) (n ∷ []) gs h = (first_there verb.Catalogue, refl, tt)
+said_places (command.Catalogue q pace pause checkpoint) [] gs h = tt
+said_places (command.Catalogue q pace pause checkpoint) (n ∷ m ∷ ns) gs h = elim h [ ]
+said_places (command.Resume name pace pause) (n ∷ []) gs h = (first_there verb.Resume, refl, tt)
+said_places (command.Resume name pace pause) [] gs h = tt
+said_places (command.Resume name pace pause) (n ∷ m ∷ ns) gs h = elim h [ ]
+said_places (command.Shard shard q pace pause checkpoint) (i ∷ m ∷ n ∷ []) gs h = (first_there verb.Shard, refl, (shard_second, refl, (shard_third, refl, tt)))
+said_places (command.Shard shard q pace pause checkpoint) [] gs h = tt
+said_places (command.Shard shard q pace pause checkpoint) (i ∷ []) gs h = elim h [ ]
+said_places (command.Shard shard q pace pause checkpoint) (i ∷ m ∷ []) gs h = elim h [ ]
+said_places (command.Shard shard q pace pause checkpoint) (i ∷ m ∷ n ∷ o ∷ ns) gs h = elim h [ ]
+said_places (command.ResumeShard name pace pause) (n ∷ []) gs h = (first_there verb.ResumeShard, refl, tt)
+said_places (command.ResumeShard name pace pause) [] gs h = tt
+said_places (command.ResumeShard name pace pause) (n ∷ m ∷ ns) gs h = elim h [ ]
 said_places (command.Draw file frame) (n ∷ []) gs h = (first_there verb.Draw, refl, tt)
 said_places (command.Draw file frame) [] gs h = tt
 said_places (command.Draw file frame) (n ∷ m ∷ ns) gs h = elim h [ ]

@@ -20,6 +20,7 @@ use Rattle.dd_words.proofs.Told.{same_setting}
 use Rattle.dd_words.proofs.OneValue.{not_both, same_value}
 use Rattle.dd_words.proofs.ClapRows.{same_word, value_in}
 use Rattle.dd_words.proofs.ClapReads.{picked}
+use Rattle.dd_jobs.specs.declared.pace.Pace.{Pace}
 use Rattle.std.proofs.lemmas.Option.{same_Some}
 
 same_given : (g : Given) (s : Setting) (x : Text) → g.setting ≡ s → g.value ≡ x → g ≡ record { setting = s; value = x }
@@ -163,10 +164,10 @@ module _ (gs hs : List Given) (m : SameValues gs hs) where
   set s least a (inl h) = inl (record { word = h.word; alone = m.lacks least h.alone; has = m.has s h.word h.has; is_set = h.is_set })
   set s least a (inr h) = inr (record { first = h.first; alone = m.lacks s h.alone; is_first = number_or least 1 36 3 h.first h.is_first; is_set = h.is_set })
 
-  run : (workers round : ℕ) (pause : Option ℕ) → IsRun gs workers round pause → IsRun hs workers round pause
-  run workers round pause h = record {
-    workers_are = number_or Workers 1 64 1 workers h.workers_are;
-    round_is = number_or Round 1 4096 64 round h.round_is;
+  run : (pace : Pace) (pause : Option ℕ) → IsRun gs pace pause → IsRun hs pace pause
+  run pace pause h = record {
+    workers_are = number_or Workers 1 64 1 pace.workers h.workers_are;
+    round_is = number_or Round 1 4096 64 pace.round h.round_is;
     pause_is = number_if Pause 1 1000000000 pause h.pause_is;
   }
 
@@ -184,31 +185,31 @@ module _ (gs hs : List Given) (m : SameValues gs hs) where
   framed f (inl h) = inl (m.lacks Cell h.0, h.1)
   framed f (inr h) = inr (record { word = h.word; has = m.has Cell h.word h.has; is = h.is })
 
-  catalogue : (n : Text) (q : Request) (workers round : ℕ) (pause : Option ℕ) (checkpoint : Option Text) → IsCatalogue n gs q workers round pause checkpoint
-      → IsCatalogue n hs q workers round pause checkpoint
-  catalogue n q workers round pause checkpoint h = record {
+  catalogue : (n : Text) (q : Request) (pace : Pace) (pause : Option ℕ) (checkpoint : Option Text) → IsCatalogue n gs q pace pause checkpoint
+      → IsCatalogue n hs q pace pause checkpoint
+  catalogue n q pace pause checkpoint h = record {
     request = requested n q h.request;
-    run = run workers round pause h.run;
+    run = run pace pause h.run;
     checkpoint_is = name_if Checkpoint checkpoint h.checkpoint_is;
     resumable = h.resumable;
   }
 
   pub said : (c : Command) (xs : List Text) → IsSaid c xs gs → IsSaid c xs hs
-  said (command.Catalogue q workers round pause checkpoint) (n ∷ []) h = catalogue n q workers round pause checkpoint h
-  said (command.Shard shard q workers round pause checkpoint) (i ∷ m ∷ n ∷ []) h = record { shard_is = h.shard_is; catalogue = catalogue n q workers round pause checkpoint h.catalogue }
-  said (command.Shard shard q workers round pause checkpoint) [] h = elim h [ ]
-  said (command.Shard shard q workers round pause checkpoint) (i ∷ []) h = elim h [ ]
-  said (command.Shard shard q workers round pause checkpoint) (i ∷ m ∷ []) h = elim h [ ]
-  said (command.Shard shard q workers round pause checkpoint) (i ∷ m ∷ n ∷ x ∷ xs) h = elim h [ ]
-  said (command.ResumeShard name workers round pause) (word ∷ []) h = record { same = h.same; is_name = h.is_name; run = run workers round pause h.run }
-  said (command.ResumeShard name workers round pause) [] h = elim h [ ]
-  said (command.ResumeShard name workers round pause) (word ∷ x ∷ xs) h = elim h [ ]
-  said (command.Resume name workers round pause) (word ∷ []) h = record { same = h.same; is_name = h.is_name; run = run workers round pause h.run }
+  said (command.Catalogue q pace pause checkpoint) (n ∷ []) h = catalogue n q pace pause checkpoint h
+  said (command.Shard shard q pace pause checkpoint) (i ∷ m ∷ n ∷ []) h = record { shard_is = h.shard_is; catalogue = catalogue n q pace pause checkpoint h.catalogue }
+  said (command.Shard shard q pace pause checkpoint) [] h = elim h [ ]
+  said (command.Shard shard q pace pause checkpoint) (i ∷ []) h = elim h [ ]
+  said (command.Shard shard q pace pause checkpoint) (i ∷ m ∷ []) h = elim h [ ]
+  said (command.Shard shard q pace pause checkpoint) (i ∷ m ∷ n ∷ x ∷ xs) h = elim h [ ]
+  said (command.ResumeShard name pace pause) (word ∷ []) h = record { same = h.same; is_name = h.is_name; run = run pace pause h.run }
+  said (command.ResumeShard name pace pause) [] h = elim h [ ]
+  said (command.ResumeShard name pace pause) (word ∷ x ∷ xs) h = elim h [ ]
+  said (command.Resume name pace pause) (word ∷ []) h = record { same = h.same; is_name = h.is_name; run = run pace pause h.run }
   said (command.Draw file frame) (word ∷ []) h = record { same = h.same; is_name = h.is_name; frame_is = framed frame h.frame_is }
-  said (command.Catalogue q workers round pause checkpoint) [] h = elim h [ ]
-  said (command.Catalogue q workers round pause checkpoint) (n ∷ x ∷ xs) h = elim h [ ]
-  said (command.Resume name workers round pause) [] h = elim h [ ]
-  said (command.Resume name workers round pause) (word ∷ x ∷ xs) h = elim h [ ]
+  said (command.Catalogue q pace pause checkpoint) [] h = elim h [ ]
+  said (command.Catalogue q pace pause checkpoint) (n ∷ x ∷ xs) h = elim h [ ]
+  said (command.Resume name pace pause) [] h = elim h [ ]
+  said (command.Resume name pace pause) (word ∷ x ∷ xs) h = elim h [ ]
   said (command.Draw file frame) [] h = elim h [ ]
   said (command.Draw file frame) (word ∷ x ∷ xs) h = elim h [ ]
   said (command.Exercise start count) xs h = h

@@ -23,6 +23,7 @@ use Rattle.dd_words.specs.SettingNames.{is_of_catalogue, is_of_run, has_setting,
 use Rattle.dd_words.specs.Grammar.{IsRun, IsCatalogue, IsSaid}
 use Rattle.dd_words.specs.GivenValues.{IsNumberOr, IsNumberIfGiven, IsNameIfGiven, IsSet, IsFramed, IsShapeWord}
 use Rattle.dd_words.specs.FirstWords.{verb_of}
+use Rattle.dd_jobs.specs.declared.pace.Pace.{Pace}
 use Rattle.dd_words.proofs.OneValue.{not_both, same_value, only_number}
 
 digit_is_no_dash : (b : ℕ) → IsAsciiDigit b → b ≢ 45
@@ -101,52 +102,52 @@ module _ (gs : List Given) (single : AreSingle gs) where
   cell_plain f x (inl h) has = absurd (not_both gs Cell x has h.0)
   cell_plain f x (inr h) has = subst IsPlain (same_value gs Cell h.word x single h.has has) (frame_plain h.word f h.is)
 
-  run_plain : (s : Setting) (workers round : ℕ) (pause : Option ℕ) (x : Text) → IsRun gs workers round pause → is_of_run s ≡ true → Has gs s x → IsPlain x
-  run_plain Workers workers round pause x h o has = or_plain Workers 1 64 1 workers x h.workers_are has
-  run_plain Round workers round pause x h o has = or_plain Round 1 4096 64 round x h.round_is has
-  run_plain Pause workers round pause x h o has = if_plain Pause 1 1000000000 pause x h.pause_is has
-  run_plain Tiles workers round pause x h o has = absurd (cc)
-  run_plain Vertices workers round pause x h o has = absurd (cc)
-  run_plain LeastFace workers round pause x h o has = absurd (cc)
-  run_plain LeastDegree workers round pause x h o has = absurd (cc)
-  run_plain Faces workers round pause x h o has = absurd (cc)
-  run_plain Degrees workers round pause x h o has = absurd (cc)
-  run_plain Minimal workers round pause x h o has = absurd (cc)
-  run_plain Checkpoint workers round pause x h o has = absurd (cc)
-  run_plain Cell workers round pause x h o has = absurd (cc)
+  run_plain : (s : Setting) (pace : Pace) (pause : Option ℕ) (x : Text) → IsRun gs pace pause → is_of_run s ≡ true → Has gs s x → IsPlain x
+  run_plain Workers pace pause x h o has = or_plain Workers 1 64 1 pace.workers x h.workers_are has
+  run_plain Round pace pause x h o has = or_plain Round 1 4096 64 pace.round x h.round_is has
+  run_plain Pause pace pause x h o has = if_plain Pause 1 1000000000 pause x h.pause_is has
+  run_plain Tiles pace pause x h o has = absurd (cc)
+  run_plain Vertices pace pause x h o has = absurd (cc)
+  run_plain LeastFace pace pause x h o has = absurd (cc)
+  run_plain LeastDegree pace pause x h o has = absurd (cc)
+  run_plain Faces pace pause x h o has = absurd (cc)
+  run_plain Degrees pace pause x h o has = absurd (cc)
+  run_plain Minimal pace pause x h o has = absurd (cc)
+  run_plain Checkpoint pace pause x h o has = absurd (cc)
+  run_plain Cell pace pause x h o has = absurd (cc)
 
   -- the value of each setting of a catalogue
-  catalogue_plain : (n : Text) (q : Request) (workers round : ℕ) (pause : Option ℕ) (checkpoint : Option Text) → IsCatalogue n gs q workers round pause checkpoint → (s : Setting) (x : Text)
+  catalogue_plain : (n : Text) (q : Request) (pace : Pace) (pause : Option ℕ) (checkpoint : Option Text) → IsCatalogue n gs q pace pause checkpoint → (s : Setting) (x : Text)
       → is_of_catalogue s ≡ true → has_value s ≡ true → Has gs s x → IsPlain x
-  catalogue_plain n q workers round pause checkpoint h Tiles x o v has = or_plain Tiles 1 36 0 q.tiles x h.request.tiles has
-  catalogue_plain n q workers round pause checkpoint h Vertices x o v has = or_plain Vertices 1 36 0 q.vertices x h.request.vertices has
-  catalogue_plain n q workers round pause checkpoint h LeastFace x o v has = least_plain Faces LeastFace q.faces x h.request.faces has
-  catalogue_plain n q workers round pause checkpoint h LeastDegree x o v has = least_plain Degrees LeastDegree q.degrees x h.request.degrees has
-  catalogue_plain n q workers round pause checkpoint h Faces x o v has = items_plain Faces LeastFace q.faces x h.request.faces has
-  catalogue_plain n q workers round pause checkpoint h Degrees x o v has = items_plain Degrees LeastDegree q.degrees x h.request.degrees has
-  catalogue_plain n q workers round pause checkpoint h Minimal x o v has = absurd (cc)
-  catalogue_plain n q workers round pause checkpoint h Workers x o v has = run_plain Workers workers round pause x h.run refl has
-  catalogue_plain n q workers round pause checkpoint h Round x o v has = run_plain Round workers round pause x h.run refl has
-  catalogue_plain n q workers round pause checkpoint h Pause x o v has = run_plain Pause workers round pause x h.run refl has
-  catalogue_plain n q workers round pause checkpoint h Checkpoint x o v has = name_if_plain Checkpoint checkpoint x h.checkpoint_is has
-  catalogue_plain n q workers round pause checkpoint h Cell x o v has = absurd (cc)
+  catalogue_plain n q pace pause checkpoint h Tiles x o v has = or_plain Tiles 1 36 0 q.tiles x h.request.tiles has
+  catalogue_plain n q pace pause checkpoint h Vertices x o v has = or_plain Vertices 1 36 0 q.vertices x h.request.vertices has
+  catalogue_plain n q pace pause checkpoint h LeastFace x o v has = least_plain Faces LeastFace q.faces x h.request.faces has
+  catalogue_plain n q pace pause checkpoint h LeastDegree x o v has = least_plain Degrees LeastDegree q.degrees x h.request.degrees has
+  catalogue_plain n q pace pause checkpoint h Faces x o v has = items_plain Faces LeastFace q.faces x h.request.faces has
+  catalogue_plain n q pace pause checkpoint h Degrees x o v has = items_plain Degrees LeastDegree q.degrees x h.request.degrees has
+  catalogue_plain n q pace pause checkpoint h Minimal x o v has = absurd (cc)
+  catalogue_plain n q pace pause checkpoint h Workers x o v has = run_plain Workers pace pause x h.run refl has
+  catalogue_plain n q pace pause checkpoint h Round x o v has = run_plain Round pace pause x h.run refl has
+  catalogue_plain n q pace pause checkpoint h Pause x o v has = run_plain Pause pace pause x h.run refl has
+  catalogue_plain n q pace pause checkpoint h Checkpoint x o v has = name_if_plain Checkpoint checkpoint x h.checkpoint_is has
+  catalogue_plain n q pace pause checkpoint h Cell x o v has = absurd (cc)
 
   -- the value of each setting
   pub value_plain : (c : Command) (xs : List Text) → IsSaid c xs gs → (s : Setting) (x : Text) → has_setting (verb_of c) s ≡ true → has_value s ≡ true → Has gs s x → IsPlain x
-  value_plain (command.Catalogue q workers round pause checkpoint) (n ∷ []) h s x o v has = catalogue_plain n q workers round pause checkpoint h s x o v has
-  value_plain (command.Catalogue q workers round pause checkpoint) [] h s x o v has = elim h [ ]
-  value_plain (command.Catalogue q workers round pause checkpoint) (n ∷ m ∷ ns) h s x o v has = elim h [ ]
-  value_plain (command.Resume name workers round pause) (word ∷ []) h s x o v has = run_plain s workers round pause x h.run o has
-  value_plain (command.Resume name workers round pause) [] h s x o v has = elim h [ ]
-  value_plain (command.Resume name workers round pause) (n ∷ m ∷ ns) h s x o v has = elim h [ ]
-  value_plain (command.Shard shard q workers round pause checkpoint) (i ∷ m ∷ n ∷ []) h s x o v has = catalogue_plain n q workers round pause checkpoint h.catalogue s x o v has
-  value_plain (command.Shard shard q workers round pause checkpoint) [] h s x o v has = elim h [ ]
-  value_plain (command.Shard shard q workers round pause checkpoint) (i ∷ []) h s x o v has = elim h [ ]
-  value_plain (command.Shard shard q workers round pause checkpoint) (i ∷ m ∷ []) h s x o v has = elim h [ ]
-  value_plain (command.Shard shard q workers round pause checkpoint) (i ∷ m ∷ n ∷ l ∷ ns) h s x o v has = elim h [ ]
-  value_plain (command.ResumeShard name workers round pause) (word ∷ []) h s x o v has = run_plain s workers round pause x h.run o has
-  value_plain (command.ResumeShard name workers round pause) [] h s x o v has = elim h [ ]
-  value_plain (command.ResumeShard name workers round pause) (n ∷ m ∷ ns) h s x o v has = elim h [ ]
+  value_plain (command.Catalogue q pace pause checkpoint) (n ∷ []) h s x o v has = catalogue_plain n q pace pause checkpoint h s x o v has
+  value_plain (command.Catalogue q pace pause checkpoint) [] h s x o v has = elim h [ ]
+  value_plain (command.Catalogue q pace pause checkpoint) (n ∷ m ∷ ns) h s x o v has = elim h [ ]
+  value_plain (command.Resume name pace pause) (word ∷ []) h s x o v has = run_plain s pace pause x h.run o has
+  value_plain (command.Resume name pace pause) [] h s x o v has = elim h [ ]
+  value_plain (command.Resume name pace pause) (n ∷ m ∷ ns) h s x o v has = elim h [ ]
+  value_plain (command.Shard shard q pace pause checkpoint) (i ∷ m ∷ n ∷ []) h s x o v has = catalogue_plain n q pace pause checkpoint h.catalogue s x o v has
+  value_plain (command.Shard shard q pace pause checkpoint) [] h s x o v has = elim h [ ]
+  value_plain (command.Shard shard q pace pause checkpoint) (i ∷ []) h s x o v has = elim h [ ]
+  value_plain (command.Shard shard q pace pause checkpoint) (i ∷ m ∷ []) h s x o v has = elim h [ ]
+  value_plain (command.Shard shard q pace pause checkpoint) (i ∷ m ∷ n ∷ l ∷ ns) h s x o v has = elim h [ ]
+  value_plain (command.ResumeShard name pace pause) (word ∷ []) h s x o v has = run_plain s pace pause x h.run o has
+  value_plain (command.ResumeShard name pace pause) [] h s x o v has = elim h [ ]
+  value_plain (command.ResumeShard name pace pause) (n ∷ m ∷ ns) h s x o v has = elim h [ ]
   value_plain (command.Draw file frame) (word ∷ []) h Tiles x o v has = absurd (cc)
   value_plain (command.Draw file frame) (word ∷ []) h Vertices x o v has = absurd (cc)
   value_plain (command.Draw file frame) (word ∷ []) h LeastFace x o v has = absurd (cc)
@@ -172,21 +173,21 @@ names_plain (w ∷ ws) all = (name_plain w all.0, names_plain ws all.1)
 
 -- the arguments
 pub argument_plain : (c : Command) (xs : List Text) (gs : List Given) → IsSaid c xs gs → AllByRecursion IsPlain xs
-argument_plain (command.Catalogue q workers round pause checkpoint) (n ∷ []) gs h = (number_plain n q.chambers h.request.chambers.number, tt)
-argument_plain (command.Catalogue q workers round pause checkpoint) [] gs h = tt
-argument_plain (command.Catalogue q workers round pause checkpoint) (n ∷ m ∷ ns) gs h = elim h [ ]
-argument_plain (command.Resume name workers round pause) (word ∷ []) gs h = (name_plain word (subst IsName (sym h.same) h.is_name), tt)
-argument_plain (command.Resume name workers round pause) [] gs h = tt
-argument_plain (command.Resume name workers round pause) (n ∷ m ∷ ns) gs h = elim h [ ]
-argument_plain (command.Shard shard q workers round pause checkpoint) (i ∷ m ∷ n ∷ []) gs h =
+argument_plain (command.Catalogue q pace pause checkpoint) (n ∷ []) gs h = (number_plain n q.chambers h.request.chambers.number, tt)
+argument_plain (command.Catalogue q pace pause checkpoint) [] gs h = tt
+argument_plain (command.Catalogue q pace pause checkpoint) (n ∷ m ∷ ns) gs h = elim h [ ]
+argument_plain (command.Resume name pace pause) (word ∷ []) gs h = (name_plain word (subst IsName (sym h.same) h.is_name), tt)
+argument_plain (command.Resume name pace pause) [] gs h = tt
+argument_plain (command.Resume name pace pause) (n ∷ m ∷ ns) gs h = elim h [ ]
+argument_plain (command.Shard shard q pace pause checkpoint) (i ∷ m ∷ n ∷ []) gs h =
     (number_plain i shard.index h.shard_is.index.number, (number_plain m shard.count h.shard_is.count.number, (number_plain n q.chambers h.catalogue.request.chambers.number, tt)))
-argument_plain (command.Shard shard q workers round pause checkpoint) [] gs h = tt
-argument_plain (command.Shard shard q workers round pause checkpoint) (i ∷ []) gs h = elim h [ ]
-argument_plain (command.Shard shard q workers round pause checkpoint) (i ∷ m ∷ []) gs h = elim h [ ]
-argument_plain (command.Shard shard q workers round pause checkpoint) (i ∷ m ∷ n ∷ o ∷ ns) gs h = elim h [ ]
-argument_plain (command.ResumeShard name workers round pause) (word ∷ []) gs h = (name_plain word (subst IsName (sym h.same) h.is_name), tt)
-argument_plain (command.ResumeShard name workers round pause) [] gs h = tt
-argument_plain (command.ResumeShard name workers round pause) (n ∷ m ∷ ns) gs h = elim h [ ]
+argument_plain (command.Shard shard q pace pause checkpoint) [] gs h = tt
+argument_plain (command.Shard shard q pace pause checkpoint) (i ∷ []) gs h = elim h [ ]
+argument_plain (command.Shard shard q pace pause checkpoint) (i ∷ m ∷ []) gs h = elim h [ ]
+argument_plain (command.Shard shard q pace pause checkpoint) (i ∷ m ∷ n ∷ o ∷ ns) gs h = elim h [ ]
+argument_plain (command.ResumeShard name pace pause) (word ∷ []) gs h = (name_plain word (subst IsName (sym h.same) h.is_name), tt)
+argument_plain (command.ResumeShard name pace pause) [] gs h = tt
+argument_plain (command.ResumeShard name pace pause) (n ∷ m ∷ ns) gs h = elim h [ ]
 argument_plain (command.Draw file frame) (word ∷ []) gs h = (name_plain word (subst IsName (sym h.same) h.is_name), tt)
 argument_plain (command.Draw file frame) [] gs h = tt
 argument_plain (command.Draw file frame) (n ∷ m ∷ ns) gs h = elim h [ ]

@@ -4,7 +4,9 @@ use Rattle.std.specs.Prelude.{IsSome, is_some}
 use Rattle.std.proofs.lemmas.List.{length-map, map_more}
 use Rattle.dd_model.specs.declared.requests.Request.{Request}
 use Rattle.dd_model.proofs.Lists.{cons_head, cons_tail}
+use Rattle.dd_jobs.specs.declared.pace.Pace.{Pace}
 use Rattle.dd_jobs.specs.declared.shards.Shard.{Shard}
+use Rattle.dd_jobs.proofs.PaceLaws.{same_pace}
 use Rattle.dd_jobs.proofs.ShardLaws.{same_shard}
 use Rattle.dd_opword.specs.declared.words.OpWord.{OpWord}
 use Rattle.dd_opword.proofs.SpelledWords.{one_op_word}
@@ -20,7 +22,7 @@ use Rattle.dd_words.specs.Values.{Text, IsName}
 use Rattle.dd_words.specs.Layout.{IsLaid}
 use Rattle.dd_words.specs.Given.{Given, AreSingle}
 use Rattle.dd_words.specs.Laying.{texts}
-use Rattle.dd_words.specs.Grammar.{IsCatalogue, IsSharded, IsResumed, IsDrawn, AreMerged, IsOnFile, IsRequested, IsSaid, IsCommand, OnOne, OnTwo, OnThree}
+use Rattle.dd_words.specs.Grammar.{IsRun, IsCatalogue, IsSharded, IsResumed, IsDrawn, AreMerged, IsOnFile, IsRequested, IsSaid, IsCommand, OnOne, OnTwo, OnThree}
 use Rattle.dd_words.specs.GivenValues.{IsNumberIfGiven, IsNameIfGiven}
 use Rattle.dd_words.specs.FirstWords.{first_word, verb_of}
 use Rattle.dd_words.specs.Reading.{IsReadAs}
@@ -99,10 +101,10 @@ three_only (x ∷ y ∷ z ∷ []) P h = refl
 three_only (x ∷ y ∷ z ∷ w ∷ xs) P h = absurd h
 
 counted : (c : Command) (xs : List Text) (ss : List Given) → IsSaid c xs ss → HasCount (verb_of c) (length xs)
-counted (command.Catalogue q workers round pause checkpoint) xs ss h = one_only xs _ h
-counted (command.Resume name workers round pause) xs ss h = one_only xs _ h
-counted (command.Shard shard q workers round pause checkpoint) xs ss h = three_only xs _ h
-counted (command.ResumeShard name workers round pause) xs ss h = one_only xs _ h
+counted (command.Catalogue q pace pause checkpoint) xs ss h = one_only xs _ h
+counted (command.Resume name pace pause) xs ss h = one_only xs _ h
+counted (command.Shard shard q pace pause checkpoint) xs ss h = three_only xs _ h
+counted (command.ResumeShard name pace pause) xs ss h = one_only xs _ h
 counted (command.Draw file frame) xs ss h = one_only xs _ h
 counted (command.Exercise start count) xs ss h = two_only xs _ h
 counted (command.Apply word file) xs ss h = two_only xs _ h
@@ -117,31 +119,31 @@ pub read_as : (v : Verb) (xs ys : List Text) (ss : List Given) (c : Command) →
 read_as v xs ys ss c e is said = record { verb_is = is; said = subst (λ zs. IsSaid c zs ss) (sym e) said }
 
 pub no_catalogue : (xs : List Text) (ss : List Given) (w : Text) → xs ≡ w ∷ []
-    → ((q : Request) (workers round : ℕ) (pause : Option ℕ) (checkpoint : Option Text) → IsCatalogue w ss q workers round pause checkpoint → ⊥)
+    → ((q : Request) (pace : Pace) (pause : Option ℕ) (checkpoint : Option Text) → IsCatalogue w ss q pace pause checkpoint → ⊥)
     → (c : Command) → IsReadAs verb.Catalogue xs ss c → ⊥
-no_catalogue xs ss w e none (command.Catalogue q workers round pause checkpoint) h =
-    none q workers round pause checkpoint (subst (λ ys. IsSaid (command.Catalogue q workers round pause checkpoint) ys ss) e h.said)
+no_catalogue xs ss w e none (command.Catalogue q pace pause checkpoint) h =
+    none q pace pause checkpoint (subst (λ ys. IsSaid (command.Catalogue q pace pause checkpoint) ys ss) e h.said)
 no_catalogue xs ss w e none other h = let same = h.verb_is in absurd (cc)
 
 pub no_resume : (xs : List Text) (ss : List Given) (w : Text) → xs ≡ w ∷ []
-    → ((name : Text) (workers round : ℕ) (pause : Option ℕ) → IsResumed w ss name workers round pause → ⊥)
+    → ((name : Text) (pace : Pace) (pause : Option ℕ) → IsResumed w ss name pace pause → ⊥)
     → (c : Command) → IsReadAs verb.Resume xs ss c → ⊥
-no_resume xs ss w e none (command.Resume name workers round pause) h =
-    none name workers round pause (subst (λ ys. IsSaid (command.Resume name workers round pause) ys ss) e h.said)
+no_resume xs ss w e none (command.Resume name pace pause) h =
+    none name pace pause (subst (λ ys. IsSaid (command.Resume name pace pause) ys ss) e h.said)
 no_resume xs ss w e none other h = let same = h.verb_is in absurd (cc)
 
 pub no_shard : (xs : List Text) (ss : List Given) (i m n : Text) → xs ≡ i ∷ m ∷ n ∷ []
-    → ((shard : Shard) (q : Request) (workers round : ℕ) (pause : Option ℕ) (checkpoint : Option Text) → IsSharded i m n ss shard q workers round pause checkpoint → ⊥)
+    → ((shard : Shard) (q : Request) (pace : Pace) (pause : Option ℕ) (checkpoint : Option Text) → IsSharded i m n ss shard q pace pause checkpoint → ⊥)
     → (c : Command) → IsReadAs verb.Shard xs ss c → ⊥
-no_shard xs ss i m n e none (command.Shard shard q workers round pause checkpoint) h =
-    none shard q workers round pause checkpoint (subst (λ ys. IsSaid (command.Shard shard q workers round pause checkpoint) ys ss) e h.said)
+no_shard xs ss i m n e none (command.Shard shard q pace pause checkpoint) h =
+    none shard q pace pause checkpoint (subst (λ ys. IsSaid (command.Shard shard q pace pause checkpoint) ys ss) e h.said)
 no_shard xs ss i m n e none other h = let same = h.verb_is in absurd (cc)
 
 pub no_resumed_shard : (xs : List Text) (ss : List Given) (w : Text) → xs ≡ w ∷ []
-    → ((name : Text) (workers round : ℕ) (pause : Option ℕ) → IsResumed w ss name workers round pause → ⊥)
+    → ((name : Text) (pace : Pace) (pause : Option ℕ) → IsResumed w ss name pace pause → ⊥)
     → (c : Command) → IsReadAs verb.ResumeShard xs ss c → ⊥
-no_resumed_shard xs ss w e none (command.ResumeShard name workers round pause) h =
-    none name workers round pause (subst (λ ys. IsSaid (command.ResumeShard name workers round pause) ys ss) e h.said)
+no_resumed_shard xs ss w e none (command.ResumeShard name pace pause) h =
+    none name pace pause (subst (λ ys. IsSaid (command.ResumeShard name pace pause) ys ss) e h.said)
 no_resumed_shard xs ss w e none other h = let same = h.verb_is in absurd (cc)
 
 pub no_drawing : (xs : List Text) (ss : List Given) (w : Text) → xs ≡ w ∷ []
@@ -182,8 +184,8 @@ none_told (Some x) none e f h = absurd (cc)
 -- no pause without a checkpoint
 pub no_checkpoint : (ss : List Given) (w : Text) (pause : Option ℕ) (checkpoint : Option Text) → AreSingle ss → IsNumberIfGiven ss Pause 1 1000000000 pause
     → IsNameIfGiven ss Checkpoint checkpoint → IsSome pause → (IsSome checkpoint → ⊥)
-    → (q : Request) (workers round : ℕ) (p : Option ℕ) (k : Option Text) → IsCatalogue w ss q workers round p k → ⊥
-no_checkpoint ss w pause checkpoint single a b some none q workers round p k h =
+    → (q : Request) (pace : Pace) (p : Option ℕ) (k : Option Text) → IsCatalogue w ss q pace p k → ⊥
+no_checkpoint ss w pause checkpoint single a b some none q pace p k h =
     let pause_is : pause ≡ p = one_given ss Pause 1 1000000000 pause p single a h.run.pause_is in
     let checkpoint_is : k ≡ checkpoint = one_name ss Checkpoint k checkpoint single h.checkpoint_is b in
     none (subst IsSome checkpoint_is (h.resumable (subst IsSome pause_is some)))
@@ -219,75 +221,75 @@ one_request w ss p q single a b = λ i. record {
   minimal = one_flag ss _ p.minimal q.minimal a.minimal b.minimal i;
 }
 
+one_pace : (ss : List Given) (v w : Pace) (o m : Option ℕ) → AreSingle ss → IsRun ss v o → IsRun ss w m → v ≡ w
+one_pace ss v w o m single a b =
+    same_pace v w (one_number ss _ 1 64 1 v.workers w.workers single a.workers_are b.workers_are) (one_number ss _ 1 4096 64 v.round w.round single a.round_is b.round_is)
+
 -- what a catalogue and a shard have in common
-pub record AreSame (p q : Request) (w r u s : ℕ) (o m : Option ℕ) (k j : Option Text) : Type 0 where
+pub record AreSame (p q : Request) (v w : Pace) (o m : Option ℕ) (k j : Option Text) : Type 0 where
   pub request : p ≡ q
-  pub workers : w ≡ u
-  pub round : r ≡ s
+  pub pace : v ≡ w
   pub pause : o ≡ m
   pub checkpoint : k ≡ j
 
-one_asked : (x : Text) (ss : List Given) (p q : Request) (w r u s : ℕ) (o m : Option ℕ) (k j : Option Text) → AreSingle ss → IsCatalogue x ss p w r o k → IsCatalogue x ss q u s m j
-    → AreSame p q w r u s o m k j
-one_asked x ss p q w r u s o m k j single a b = record {
+one_asked : (x : Text) (ss : List Given) (p q : Request) (v w : Pace) (o m : Option ℕ) (k j : Option Text) → AreSingle ss → IsCatalogue x ss p v o k → IsCatalogue x ss q w m j
+    → AreSame p q v w o m k j
+one_asked x ss p q v w o m k j single a b = record {
   request = one_request x ss p q single a.request b.request;
-  workers = one_number ss _ 1 64 1 w u single a.run.workers_are b.run.workers_are;
-  round = one_number ss _ 1 4096 64 r s single a.run.round_is b.run.round_is;
+  pace = one_pace ss v w o m single a.run b.run;
   pause = one_given ss _ 1 1000000000 o m single a.run.pause_is b.run.pause_is;
   checkpoint = one_name ss _ k j single a.checkpoint_is b.checkpoint_is;
 }
 
-one_catalogue : (xs : List Text) (ss : List Given) (p q : Request) (w r u s : ℕ) (o m : Option ℕ) (k j : Option Text) → AreSingle ss
-    → IsSaid (command.Catalogue p w r o k) xs ss → IsSaid (command.Catalogue q u s m j) xs ss → command.Catalogue p w r o k ≡ command.Catalogue q u s m j
-one_catalogue (x ∷ []) ss p q w r u s o m k j single a b =
-    let e = one_asked x ss p q w r u s o m k j single a b in
-    λ i. command.Catalogue (e.request i) (e.workers i) (e.round i) (e.pause i) (e.checkpoint i)
-one_catalogue [] ss p q w r u s o m k j single a b = absurd a
-one_catalogue (x ∷ y ∷ xs) ss p q w r u s o m k j single a b = absurd a
+one_catalogue : (xs : List Text) (ss : List Given) (p q : Request) (v w : Pace) (o m : Option ℕ) (k j : Option Text) → AreSingle ss
+    → IsSaid (command.Catalogue p v o k) xs ss → IsSaid (command.Catalogue q w m j) xs ss → command.Catalogue p v o k ≡ command.Catalogue q w m j
+one_catalogue (x ∷ []) ss p q v w o m k j single a b =
+    let e = one_asked x ss p q v w o m k j single a b in
+    λ i. command.Catalogue (e.request i) (e.pace i) (e.pause i) (e.checkpoint i)
+one_catalogue [] ss p q v w o m k j single a b = absurd a
+one_catalogue (x ∷ y ∷ xs) ss p q v w o m k j single a b = absurd a
 
-one_shard : (xs : List Text) (ss : List Given) (f g : Shard) (p q : Request) (w r u s : ℕ) (o m : Option ℕ) (k j : Option Text) → AreSingle ss
-    → IsSaid (command.Shard f p w r o k) xs ss → IsSaid (command.Shard g q u s m j) xs ss → command.Shard f p w r o k ≡ command.Shard g q u s m j
-one_shard (x ∷ y ∷ z ∷ []) ss f g p q w r u s o m k j single a b =
+one_shard : (xs : List Text) (ss : List Given) (f g : Shard) (p q : Request) (v w : Pace) (o m : Option ℕ) (k j : Option Text) → AreSingle ss
+    → IsSaid (command.Shard f p v o k) xs ss → IsSaid (command.Shard g q w m j) xs ss → command.Shard f p v o k ≡ command.Shard g q w m j
+one_shard (x ∷ y ∷ z ∷ []) ss f g p q v w o m k j single a b =
     let index = one_number_in 1 8 x f.index g.index a.shard_is.index b.shard_is.index in
     let count = one_number_in 1 8 y f.count g.count a.shard_is.count b.shard_is.count in
     let shard = same_shard f g index count in
-    let e = one_asked z ss p q w r u s o m k j single a.catalogue b.catalogue in
-    λ i. command.Shard (shard i) (e.request i) (e.workers i) (e.round i) (e.pause i) (e.checkpoint i)
-one_shard [] ss f g p q w r u s o m k j single a b = absurd a
-one_shard (x ∷ []) ss f g p q w r u s o m k j single a b = absurd a
-one_shard (x ∷ y ∷ []) ss f g p q w r u s o m k j single a b = absurd a
-one_shard (x ∷ y ∷ z ∷ v ∷ xs) ss f g p q w r u s o m k j single a b = absurd a
+    let e = one_asked z ss p q v w o m k j single a.catalogue b.catalogue in
+    λ i. command.Shard (shard i) (e.request i) (e.pace i) (e.pause i) (e.checkpoint i)
+one_shard [] ss f g p q v w o m k j single a b = absurd a
+one_shard (x ∷ []) ss f g p q v w o m k j single a b = absurd a
+one_shard (x ∷ y ∷ []) ss f g p q v w o m k j single a b = absurd a
+one_shard (x ∷ y ∷ z ∷ more ∷ xs) ss f g p q v w o m k j single a b = absurd a
 
 -- what a catalogue and a shard that are resumed have in common
-pub record AreResumedSame (n k : Text) (w r u s : ℕ) (o m : Option ℕ) : Type 0 where
+pub record AreResumedSame (n k : Text) (v w : Pace) (o m : Option ℕ) : Type 0 where
   pub name : n ≡ k
-  pub workers : w ≡ u
-  pub round : r ≡ s
+  pub pace : v ≡ w
   pub pause : o ≡ m
 
-one_resumed : (x : Text) (ss : List Given) (n k : Text) (w r u s : ℕ) (o m : Option ℕ) → AreSingle ss → IsResumed x ss n w r o → IsResumed x ss k u s m → AreResumedSame n k w r u s o m
-one_resumed x ss n k w r u s o m single a b = record {
+one_resumed : (x : Text) (ss : List Given) (n k : Text) (v w : Pace) (o m : Option ℕ) → AreSingle ss → IsResumed x ss n v o → IsResumed x ss k w m → AreResumedSame n k v w o m
+one_resumed x ss n k v w o m single a b = record {
   name = sym a.same ∙ b.same;
-  workers = one_number ss _ 1 64 1 w u single a.run.workers_are b.run.workers_are;
-  round = one_number ss _ 1 4096 64 r s single a.run.round_is b.run.round_is;
+  pace = one_pace ss v w o m single a.run b.run;
   pause = one_given ss _ 1 1000000000 o m single a.run.pause_is b.run.pause_is;
 }
 
-one_resume : (xs : List Text) (ss : List Given) (n k : Text) (w r u s : ℕ) (o m : Option ℕ) → AreSingle ss
-    → IsSaid (command.Resume n w r o) xs ss → IsSaid (command.Resume k u s m) xs ss → command.Resume n w r o ≡ command.Resume k u s m
-one_resume (x ∷ []) ss n k w r u s o m single a b =
-    let e = one_resumed x ss n k w r u s o m single a b in
-    λ i. command.Resume (e.name i) (e.workers i) (e.round i) (e.pause i)
-one_resume [] ss n k w r u s o m single a b = absurd a
-one_resume (x ∷ y ∷ xs) ss n k w r u s o m single a b = absurd a
+one_resume : (xs : List Text) (ss : List Given) (n k : Text) (v w : Pace) (o m : Option ℕ) → AreSingle ss
+    → IsSaid (command.Resume n v o) xs ss → IsSaid (command.Resume k w m) xs ss → command.Resume n v o ≡ command.Resume k w m
+one_resume (x ∷ []) ss n k v w o m single a b =
+    let e = one_resumed x ss n k v w o m single a b in
+    λ i. command.Resume (e.name i) (e.pace i) (e.pause i)
+one_resume [] ss n k v w o m single a b = absurd a
+one_resume (x ∷ y ∷ xs) ss n k v w o m single a b = absurd a
 
-one_resumed_shard : (xs : List Text) (ss : List Given) (n k : Text) (w r u s : ℕ) (o m : Option ℕ) → AreSingle ss
-    → IsSaid (command.ResumeShard n w r o) xs ss → IsSaid (command.ResumeShard k u s m) xs ss → command.ResumeShard n w r o ≡ command.ResumeShard k u s m
-one_resumed_shard (x ∷ []) ss n k w r u s o m single a b =
-    let e = one_resumed x ss n k w r u s o m single a b in
-    λ i. command.ResumeShard (e.name i) (e.workers i) (e.round i) (e.pause i)
-one_resumed_shard [] ss n k w r u s o m single a b = absurd a
-one_resumed_shard (x ∷ y ∷ xs) ss n k w r u s o m single a b = absurd a
+one_resumed_shard : (xs : List Text) (ss : List Given) (n k : Text) (v w : Pace) (o m : Option ℕ) → AreSingle ss
+    → IsSaid (command.ResumeShard n v o) xs ss → IsSaid (command.ResumeShard k w m) xs ss → command.ResumeShard n v o ≡ command.ResumeShard k w m
+one_resumed_shard (x ∷ []) ss n k v w o m single a b =
+    let e = one_resumed x ss n k v w o m single a b in
+    λ i. command.ResumeShard (e.name i) (e.pace i) (e.pause i)
+one_resumed_shard [] ss n k v w o m single a b = absurd a
+one_resumed_shard (x ∷ y ∷ xs) ss n k v w o m single a b = absurd a
 
 one_drawing : (xs : List Text) (ss : List Given) (f k : Text) (g j : Option Frame) → AreSingle ss
     → IsSaid (command.Draw f g) xs ss → IsSaid (command.Draw k j) xs ss → command.Draw f g ≡ command.Draw k j
@@ -333,10 +335,10 @@ same_kind : (g j : FileKind) → verb.File g ≡ verb.File j → g ≡ j
 same_kind g j e = cc
 
 one_said : (xs : List Text) (ss : List Given) (c d : Command) → AreSingle ss → verb_of c ≡ verb_of d → IsSaid c xs ss → IsSaid d xs ss → c ≡ d
-one_said xs ss (command.Catalogue p w r o k) (command.Catalogue q u s m j) single e a b = one_catalogue xs ss p q w r u s o m k j single a b
-one_said xs ss (command.Resume n w r o) (command.Resume k u s m) single e a b = one_resume xs ss n k w r u s o m single a b
-one_said xs ss (command.Shard f p w r o k) (command.Shard g q u s m j) single e a b = one_shard xs ss f g p q w r u s o m k j single a b
-one_said xs ss (command.ResumeShard n w r o) (command.ResumeShard k u s m) single e a b = one_resumed_shard xs ss n k w r u s o m single a b
+one_said xs ss (command.Catalogue p v o k) (command.Catalogue q w m j) single e a b = one_catalogue xs ss p q v w o m k j single a b
+one_said xs ss (command.Resume n v o) (command.Resume k w m) single e a b = one_resume xs ss n k v w o m single a b
+one_said xs ss (command.Shard f p v o k) (command.Shard g q w m j) single e a b = one_shard xs ss f g p q v w o m k j single a b
+one_said xs ss (command.ResumeShard n v o) (command.ResumeShard k w m) single e a b = one_resumed_shard xs ss n k v w o m single a b
 one_said xs ss (command.Draw f g) (command.Draw k j) single e a b = one_drawing xs ss f k g j single a b
 one_said xs ss (command.Exercise s n) (command.Exercise t m) single e a b = one_exercise xs ss s n t m a b
 one_said xs ss (command.Apply w f) (command.Apply v k) single e a b = one_application xs ss w v f k a b

@@ -6,11 +6,12 @@ use Rattle.dd_model.specs.Request.{IsValid, HasNumber}
 use Rattle.dd_model.specs.declared.allowed.Allowed.{Allowed}
 use Rattle.dd_model.specs.declared.requests.Request.{Request}
 use Rattle.dd_words.specs.declared.settings.Setting.{Setting}
+use Rattle.dd_jobs.specs.declared.pace.Pace.{Pace}
 use Rattle.dd_jobs.specs.declared.shards.Shard.{Shard}
-use Rattle.dd_words.specs.declared.commands.Command.TheVariants.{Catalogue, Resume, Shard as ShardOf, ResumeShard}
+use Rattle.dd_words.specs.declared.commands.Command.TheVariants.{Catalogue, Shard as ShardOf}
 use Rattle.dd_words.specs.Values.{Text, AsksForNumbers, IsCovered, items_of}
 use Rattle.dd_words.specs.Given.{Given}
-use Rattle.dd_words.specs.Grammar.{IsRun, IsCatalogue, IsResumed, OnOne, IsSaid, IsCommand}
+use Rattle.dd_words.specs.Grammar.{IsCatalogue, IsSaid, IsCommand}
 use Rattle.dd_words.specs.GivenValues.{IsNumberOr, IsSet}
 use Rattle.dd_words.proofs.OneValue.{least_range}
 
@@ -48,8 +49,8 @@ at_most : (ss : List Given) (s : Setting) (n : ℕ) → IsNumberOr ss s 1 36 0 n
 at_most ss s n (inl h) = let e = h.1 in omega arith
 at_most ss s n (inr h) = h.number.to
 
-asked_valid : (n : Text) (ss : List Given) (q : Request) (workers round : ℕ) (pause : Option ℕ) (checkpoint : Option Text) → IsCatalogue n ss q workers round pause checkpoint → IsValid q
-asked_valid n ss q workers round pause checkpoint h = record {
+asked_valid : (n : Text) (ss : List Given) (q : Request) (pace : Pace) (pause : Option ℕ) (checkpoint : Option Text) → IsCatalogue n ss q pace pause checkpoint → IsValid q
+asked_valid n ss q pace pause checkpoint h = record {
   chambers = (h.request.chambers.from, h.request.chambers.to);
   tiles = at_most ss _ q.tiles h.request.tiles;
   vertices = at_most ss _ q.vertices h.request.vertices;
@@ -57,69 +58,44 @@ asked_valid n ss q workers round pause checkpoint h = record {
   degrees = has_number ss _ _ q.degrees h.request.degrees;
 }
 
--- how many workers there are, and jobs in a round
-pub record IsPace (workers round : ℕ) : Type 0 where
-  pub workers_are : (1 ≤ workers) × (workers ≤ 64)
-  pub round_is : (1 ≤ round) × (round ≤ 4096)
-
-run_pace : (ss : List Given) (workers round : ℕ) (pause : Option ℕ) → IsRun ss workers round pause → IsPace workers round
-run_pace ss workers round pause h = record {
-  workers_are = in_range ss _ 1 64 1 workers (omega arith) (omega arith) h.workers_are;
-  round_is = in_range ss _ 1 4096 64 round (omega arith) (omega arith) h.round_is;
-}
-
-asked_pause : (n : Text) (ss : List Given) (q : Request) (workers round : ℕ) (pause : Option ℕ) → IsCatalogue n ss q workers round pause None → pause ≡ None
-asked_pause n ss q workers round None h = refl
-asked_pause n ss q workers round (Some lines) h = let e = h.resumable refl in absurd (cc)
+asked_pause : (n : Text) (ss : List Given) (q : Request) (pace : Pace) (pause : Option ℕ) → IsCatalogue n ss q pace pause None → pause ≡ None
+asked_pause n ss q pace None h = refl
+asked_pause n ss q pace (Some lines) h = let e = h.resumable refl in absurd (cc)
 
 -- what the words of a catalogue or of a shard say of their request
-pub record IsAskedWell (q : Request) (workers round : ℕ) (pause : Option ℕ) (checkpoint : Option Text) : Type 0 where
+pub record IsAskedWell (q : Request) (pause : Option ℕ) (checkpoint : Option Text) : Type 0 where
   pub valid : IsValid q
-  pub pace : IsPace workers round
   pub lone : checkpoint ≡ None → pause ≡ None
 
-asked_well : (n : Text) (ss : List Given) (q : Request) (workers round : ℕ) (pause : Option ℕ) (checkpoint : Option Text) → IsCatalogue n ss q workers round pause checkpoint
-    → IsAskedWell q workers round pause checkpoint
-asked_well n ss q workers round pause checkpoint h = record {
-  valid = asked_valid n ss q workers round pause checkpoint h;
-  pace = run_pace ss workers round pause h.run;
-  lone = λ none. asked_pause n ss q workers round pause (subst (λ k. IsCatalogue n ss q workers round pause k) none h);
+asked_well : (n : Text) (ss : List Given) (q : Request) (pace : Pace) (pause : Option ℕ) (checkpoint : Option Text) → IsCatalogue n ss q pace pause checkpoint
+    → IsAskedWell q pause checkpoint
+asked_well n ss q pace pause checkpoint h = record {
+  valid = asked_valid n ss q pace pause checkpoint h;
+  lone = λ none. asked_pause n ss q pace pause (subst (λ k. IsCatalogue n ss q pace pause k) none h);
 }
 
-catalogue_said : (xs : List Text) (ss : List Given) (q : Request) (workers round : ℕ) (pause : Option ℕ) (checkpoint : Option Text)
-    → IsSaid (Catalogue q workers round pause checkpoint) xs ss → IsAskedWell q workers round pause checkpoint
-catalogue_said (x ∷ []) ss q workers round pause checkpoint h = asked_well x ss q workers round pause checkpoint h
-catalogue_said [] ss q workers round pause checkpoint h = absurd h
-catalogue_said (x ∷ y ∷ xs) ss q workers round pause checkpoint h = absurd h
+catalogue_said : (xs : List Text) (ss : List Given) (q : Request) (pace : Pace) (pause : Option ℕ) (checkpoint : Option Text)
+    → IsSaid (Catalogue q pace pause checkpoint) xs ss → IsAskedWell q pause checkpoint
+catalogue_said (x ∷ []) ss q pace pause checkpoint h = asked_well x ss q pace pause checkpoint h
+catalogue_said [] ss q pace pause checkpoint h = absurd h
+catalogue_said (x ∷ y ∷ xs) ss q pace pause checkpoint h = absurd h
 
-shard_said : (xs : List Text) (ss : List Given) (shard : Shard) (q : Request) (workers round : ℕ) (pause : Option ℕ) (checkpoint : Option Text)
-    → IsSaid (ShardOf shard q workers round pause checkpoint) xs ss → IsAskedWell q workers round pause checkpoint
-shard_said (x ∷ y ∷ z ∷ []) ss shard q workers round pause checkpoint h = asked_well z ss q workers round pause checkpoint h.catalogue
-shard_said [] ss shard q workers round pause checkpoint h = absurd h
-shard_said (x ∷ []) ss shard q workers round pause checkpoint h = absurd h
-shard_said (x ∷ y ∷ []) ss shard q workers round pause checkpoint h = absurd h
-shard_said (x ∷ y ∷ z ∷ v ∷ xs) ss shard q workers round pause checkpoint h = absurd h
+shard_said : (xs : List Text) (ss : List Given) (shard : Shard) (q : Request) (pace : Pace) (pause : Option ℕ) (checkpoint : Option Text)
+    → IsSaid (ShardOf shard q pace pause checkpoint) xs ss → IsAskedWell q pause checkpoint
+shard_said (x ∷ y ∷ z ∷ []) ss shard q pace pause checkpoint h = asked_well z ss q pace pause checkpoint h.catalogue
+shard_said [] ss shard q pace pause checkpoint h = absurd h
+shard_said (x ∷ []) ss shard q pace pause checkpoint h = absurd h
+shard_said (x ∷ y ∷ []) ss shard q pace pause checkpoint h = absurd h
+shard_said (x ∷ y ∷ z ∷ v ∷ xs) ss shard q pace pause checkpoint h = absurd h
 
-pub catalogue_well : (words : List Text) (q : Request) (workers round : ℕ) (pause : Option ℕ) (checkpoint : Option Text)
-    → IsCommand words (Catalogue q workers round pause checkpoint) → IsAskedWell q workers round pause checkpoint
-catalogue_well words q workers round pause checkpoint h = catalogue_said h.arguments h.settings q workers round pause checkpoint h.said
+pub catalogue_well : (words : List Text) (q : Request) (pace : Pace) (pause : Option ℕ) (checkpoint : Option Text)
+    → IsCommand words (Catalogue q pace pause checkpoint) → IsAskedWell q pause checkpoint
+catalogue_well words q pace pause checkpoint h = catalogue_said h.arguments h.settings q pace pause checkpoint h.said
 
-pub shard_well : (words : List Text) (shard : Shard) (q : Request) (workers round : ℕ) (pause : Option ℕ) (checkpoint : Option Text)
-    → IsCommand words (ShardOf shard q workers round pause checkpoint) → IsAskedWell q workers round pause checkpoint
-shard_well words shard q workers round pause checkpoint h = shard_said h.arguments h.settings shard q workers round pause checkpoint h.said
+pub shard_well : (words : List Text) (shard : Shard) (q : Request) (pace : Pace) (pause : Option ℕ) (checkpoint : Option Text)
+    → IsCommand words (ShardOf shard q pace pause checkpoint) → IsAskedWell q pause checkpoint
+shard_well words shard q pace pause checkpoint h = shard_said h.arguments h.settings shard q pace pause checkpoint h.said
 
-pub valid : (words : List Text) (q : Request) (workers round : ℕ) (pause : Option ℕ) (checkpoint : Option Text)
-    → IsCommand words (Catalogue q workers round pause checkpoint) → IsValid q
-valid words q workers round pause checkpoint h = (catalogue_well words q workers round pause checkpoint h).valid
-
-resumed_said : (xs : List Text) (ss : List Given) (name : Text) (workers round : ℕ) (pause : Option ℕ) → OnOne xs (λ word. IsResumed word ss name workers round pause) → IsPace workers round
-resumed_said (x ∷ []) ss name workers round pause h = run_pace ss workers round pause h.run
-resumed_said [] ss name workers round pause h = absurd h
-resumed_said (x ∷ y ∷ xs) ss name workers round pause h = absurd h
-
--- the pace of a catalogue, and of a shard, that is resumed
-pub resume_pace : (words : List Text) (name : Text) (workers round : ℕ) (pause : Option ℕ) → IsCommand words (Resume name workers round pause) → IsPace workers round
-resume_pace words name workers round pause h = resumed_said h.arguments h.settings name workers round pause h.said
-
-pub resume_shard_pace : (words : List Text) (name : Text) (workers round : ℕ) (pause : Option ℕ) → IsCommand words (ResumeShard name workers round pause) → IsPace workers round
-resume_shard_pace words name workers round pause h = resumed_said h.arguments h.settings name workers round pause h.said
+pub valid : (words : List Text) (q : Request) (pace : Pace) (pause : Option ℕ) (checkpoint : Option Text)
+    → IsCommand words (Catalogue q pace pause checkpoint) → IsValid q
+valid words q pace pause checkpoint h = (catalogue_well words q pace pause checkpoint h).valid

@@ -42,10 +42,10 @@ first_word (verb.File kind) = word_of_kind kind
 
 -- what a command does, without its values
 abbrev pub verb_of : Command → Verb
-verb_of (command.Catalogue request workers round pause checkpoint) = verb.Catalogue
-verb_of (command.Resume name workers round pause) = verb.Resume
-verb_of (command.Shard shard request workers round pause checkpoint) = verb.Shard
-verb_of (command.ResumeShard name workers round pause) = verb.ResumeShard
+verb_of (command.Catalogue request pace pause checkpoint) = verb.Catalogue
+verb_of (command.Resume name pace pause) = verb.Resume
+verb_of (command.Shard shard request pace pause checkpoint) = verb.Shard
+verb_of (command.ResumeShard name pace pause) = verb.ResumeShard
 verb_of (command.Draw file frame) = verb.Draw
 verb_of (command.Exercise start count) = verb.Exercise
 verb_of (command.Apply word file) = verb.Apply

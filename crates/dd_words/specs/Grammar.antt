@@ -2,6 +2,7 @@
 use Rattle.std.specs.Prelude.{◌≡◌, ℕ, ◌≤◌, List, [], ◌∷◌, length, Option, IsSome}
 use Rattle.std.specs.List.{AllByRecursion}
 use Rattle.dd_model.specs.declared.requests.Request.{Request}
+use Rattle.dd_jobs.specs.declared.pace.Pace.{Pace}
 use Rattle.dd_jobs.specs.declared.shards.Shard.{Shard}
 use Rattle.dd_words.specs.declared.settings.Setting.TheVariants.{Tiles, Vertices, LeastFace, LeastDegree, Faces, Degrees, Minimal, Workers, Round, Pause, Checkpoint}
 use Rattle.dd_model.specs.declared.frame.Frame.{Frame}
@@ -15,10 +16,10 @@ use Rattle.dd_words.specs.Given.{Given, AreSingle}
 use Rattle.dd_words.specs.FirstWords.{first_word, verb_of}
 use Rattle.dd_words.specs.GivenValues.{IsNumberOr, IsNumberIfGiven, IsNameIfGiven, IsFlagIfGiven, IsSet, IsFramed}
 
--- workers and jobs in a round
-pub record IsRun (settings : List Given) (workers round : ℕ) (pause : Option ℕ) : Type 0 where
-  pub workers_are : IsNumberOr settings Workers 1 64 1 workers
-  pub round_is : IsNumberOr settings Round 1 4096 64 round
+-- the pace of a catalogue, and after how many lines it is to pause
+pub record IsRun (settings : List Given) (pace : Pace) (pause : Option ℕ) : Type 0 where
+  pub workers_are : IsNumberOr settings Workers 1 64 1 pace.workers
+  pub round_is : IsNumberOr settings Round 1 4096 64 pace.round
   pub pause_is : IsNumberIfGiven settings Pause 1 1000000000 pause
 
 -- the argument and the settings ask for this request
@@ -31,22 +32,22 @@ pub record IsRequested (n : Text) (settings : List Given) (q : Request) : Type 0
   pub minimal : IsFlagIfGiven settings Minimal q.minimal
 
 -- the argument and the settings of a catalogue; it pauses only where a checkpoint is named
-pub record IsCatalogue (n : Text) (settings : List Given) (q : Request) (workers round : ℕ) (pause : Option ℕ) (checkpoint : Option Text) : Type 0 where
+pub record IsCatalogue (n : Text) (settings : List Given) (q : Request) (pace : Pace) (pause : Option ℕ) (checkpoint : Option Text) : Type 0 where
   pub request : IsRequested n settings q
-  pub run : IsRun settings workers round pause
+  pub run : IsRun settings pace pause
   pub checkpoint_is : IsNameIfGiven settings Checkpoint checkpoint
   pub resumable : IsSome pause → IsSome checkpoint
 
 -- the argument and the settings of a catalogue that is taken up again
-pub record IsResumed (word : Text) (settings : List Given) (name : Text) (workers round : ℕ) (pause : Option ℕ) : Type 0 where
+pub record IsResumed (word : Text) (settings : List Given) (name : Text) (pace : Pace) (pause : Option ℕ) : Type 0 where
   pub same : word ≡ name
   pub is_name : IsName name
-  pub run : IsRun settings workers round pause
+  pub run : IsRun settings pace pause
 
 -- no catalogue has the argument and the settings
 abbrev pub HasNoCatalogue : Text → List Given → Type 0
 HasNoCatalogue n settings =
-    (q : Request) (workers round : ℕ) (pause : Option ℕ) (checkpoint : Option Text) → IsCatalogue n settings q workers round pause checkpoint → ⊥
+    (q : Request) (pace : Pace) (pause : Option ℕ) (checkpoint : Option Text) → IsCatalogue n settings q pace pause checkpoint → ⊥
 
 -- two words that are the numbers of a shard
 pub record IsShardOf (first second : Text) (shard : Shard) : Type 0 where
@@ -54,9 +55,9 @@ pub record IsShardOf (first second : Text) (shard : Shard) : Type 0 where
   pub count : IsNumberIn 1 8 second shard.count
 
 -- the arguments and the settings of a shard of a catalogue
-pub record IsSharded (first second n : Text) (settings : List Given) (shard : Shard) (q : Request) (workers round : ℕ) (pause : Option ℕ) (checkpoint : Option Text) : Type 0 where
+pub record IsSharded (first second n : Text) (settings : List Given) (shard : Shard) (q : Request) (pace : Pace) (pause : Option ℕ) (checkpoint : Option Text) : Type 0 where
   pub shard_is : IsShardOf first second shard
-  pub catalogue : IsCatalogue n settings q workers round pause checkpoint
+  pub catalogue : IsCatalogue n settings q pace pause checkpoint
 
 -- the argument and the settings of a drawing
 pub record IsDrawn (word : Text) (settings : List Given) (file : Text) (frame : Option Frame) : Type 0 where
@@ -104,12 +105,12 @@ OnThree _ P = ⊥
 
 -- the arguments and the settings say what the command has
 abbrev pub IsSaid : Command → List Text → List Given → Type 0
-IsSaid (command.Catalogue q workers round pause checkpoint) arguments settings =
-    OnOne arguments (λ n. IsCatalogue n settings q workers round pause checkpoint)
-IsSaid (command.Resume name workers round pause) arguments settings = OnOne arguments (λ word. IsResumed word settings name workers round pause)
-IsSaid (command.Shard shard q workers round pause checkpoint) arguments settings =
-    OnThree arguments (λ first second n. IsSharded first second n settings shard q workers round pause checkpoint)
-IsSaid (command.ResumeShard name workers round pause) arguments settings = OnOne arguments (λ word. IsResumed word settings name workers round pause)
+IsSaid (command.Catalogue q pace pause checkpoint) arguments settings =
+    OnOne arguments (λ n. IsCatalogue n settings q pace pause checkpoint)
+IsSaid (command.Resume name pace pause) arguments settings = OnOne arguments (λ word. IsResumed word settings name pace pause)
+IsSaid (command.Shard shard q pace pause checkpoint) arguments settings =
+    OnThree arguments (λ first second n. IsSharded first second n settings shard q pace pause checkpoint)
+IsSaid (command.ResumeShard name pace pause) arguments settings = OnOne arguments (λ word. IsResumed word settings name pace pause)
 IsSaid (command.Draw file frame) arguments settings = OnOne arguments (λ word. IsDrawn word settings file frame)
 IsSaid (command.Exercise start count) arguments settings = OnTwo arguments (λ first second. IsExercise first second start count)
 IsSaid (command.Apply word file) arguments settings = OnTwo arguments (λ first second. IsApplied first second word file)

@@ -13,7 +13,7 @@ use crate::fault::WordsFault;
 use crate::given::{frame_of, name_if_given, read_name, read_names};
 use crate::layouts::lay_out;
 use crate::names::Name;
-use crate::requests::{Run, read_request, read_run};
+use crate::requests::{RunSettings, read_request, read_run};
 use crate::settings::{Given, Setting};
 use crate::values::read_number_in;
 use crate::verbs::Verb;
@@ -107,8 +107,7 @@ fn read_catalogue(
     let asked = read_asked(alloc, chambers, settings)?;
     Ok(Command::Catalogue {
         request: asked.request,
-        workers: asked.run.workers,
-        round: asked.run.round,
+        pace: asked.run.pace,
         pause: asked.run.pause,
         checkpoint: asked.checkpoint,
     })
@@ -136,8 +135,7 @@ fn read_shard(
     Ok(Command::Shard {
         shard,
         request: asked.request,
-        workers: asked.run.workers,
-        round: asked.run.round,
+        pace: asked.run.pace,
         pause: asked.run.pause,
         checkpoint: asked.checkpoint,
     })
@@ -158,7 +156,7 @@ fn shard_of(index: &str, count: &str) -> Option<Shard>
 #[derive(Drop)]
 struct Asked {
     request: Request,
-    run: Run,
+    run: RunSettings,
     checkpoint: Option<Name>,
 }
 
@@ -166,7 +164,7 @@ struct Asked {
 fn read_asked(alloc: Global, chambers: &str, settings: &[Given<'_>]) -> Result<Asked, WordsFault>
     requires { AreSingle (map given_of settings.now) }
     ensures asked { IfOk result (λ asked. IsCatalogue chambers.now (map given_of settings.now)
-        asked.request asked.run.workers asked.run.round asked.run.pause asked.checkpoint) }
+        asked.request asked.run.pace asked.run.pause asked.checkpoint) }
     ensures not_taken { result ≡ Err WordsFault.NotTaken
         → HasNoCatalogue chambers.now (map given_of settings.now) }
 {
@@ -207,8 +205,7 @@ fn read_resume(
     };
     Ok(Command::Resume {
         name: read_name(alloc, name)?,
-        workers: run.workers,
-        round: run.round,
+        pace: run.pace,
         pause: run.pause,
     })
 }
@@ -233,8 +230,7 @@ fn read_resumed_shard(
     };
     Ok(Command::ResumeShard {
         name: read_name(alloc, name)?,
-        workers: run.workers,
-        round: run.round,
+        pace: run.pace,
         pause: run.pause,
     })
 }

@@ -1,5 +1,5 @@
 use crate::names::{Name, Names};
-use dd_jobs::Shard;
+use dd_jobs::{Pace, Shard};
 use dd_model::{Frame, Request};
 use dd_opword::OpWord;
 use dd_template::Operation;
@@ -34,10 +34,8 @@ pub enum Command {
     Catalogue {
         /// Which symbols are asked for.
         request: Request,
-        /// The number of workers, 1 to 64.
-        workers: u32,
-        /// The number of jobs in a round, 1 to 4096.
-        round: u32,
+        /// By how many workers, and with how many jobs in a round, 1 to 4096.
+        pace: Pace,
         /// The number of lines before a pause.
         pause: Option<u32>,
         /// The name under which the checkpoint is kept.
@@ -47,10 +45,8 @@ pub enum Command {
     Resume {
         /// The checkpoint.
         name: Name,
-        /// The number of workers, 1 to 64.
-        workers: u32,
-        /// The number of jobs in a round, 1 to 4096.
-        round: u32,
+        /// By how many workers, and with how many jobs in a round, 1 to 4096.
+        pace: Pace,
         /// The number of lines before the next pause.
         pause: Option<u32>,
     },
@@ -60,10 +56,8 @@ pub enum Command {
         shard: Shard,
         /// Which symbols are asked for.
         request: Request,
-        /// The number of workers, 1 to 64.
-        workers: u32,
-        /// The number of jobs in a round, 1 to 4096.
-        round: u32,
+        /// By how many workers, and with how many jobs in a round, 1 to 4096.
+        pace: Pace,
         /// The number of lines before a pause.
         pause: Option<u32>,
         /// The name under which the checkpoint is kept.
@@ -73,10 +67,8 @@ pub enum Command {
     ResumeShard {
         /// The name of the checkpoint.
         name: Name,
-        /// The number of workers, 1 to 64.
-        workers: u32,
-        /// The number of jobs in a round, 1 to 4096.
-        round: u32,
+        /// By how many workers, and with how many jobs in a round, 1 to 4096.
+        pace: Pace,
         /// The number of lines before the next pause.
         pause: Option<u32>,
     },

@@ -1,5 +1,6 @@
 ghost use Rattle.std.specs.Prelude.{ℕ, Option, map, IfSome, IfNone};
 ghost use Rattle.dd_model.specs.declared.requests.Request.{Request};
+ghost use Rattle.dd_jobs.specs.declared.pace.Pace.{Pace as Numbers};
 ghost use Rattle.dd_words.specs.Given.{AreSingle};
 ghost use Rattle.dd_words.specs.Settings.{given_of};
 ghost use Rattle.dd_words.specs.Grammar.{IsRequested, IsRun};
@@ -7,16 +8,15 @@ ghost use Rattle.dd_words.specs.Grammar.{IsRequested, IsRun};
 use crate::given::{flag_if_given, number_if_given, number_or, set_of};
 use crate::settings::{Given, Setting};
 use crate::values::read_number_in;
+use dd_jobs::Pace;
 use dd_model::Request;
 
 /// How a catalogue is run.
 #[derive(Clone, Copy)]
-pub struct Run {
-    /// The number of workers.
-    pub workers: u32,
-    /// The number of jobs in a round.
-    pub round: u32,
-    /// The number of lines before a pause.
+pub struct RunSettings {
+    /// By how many workers, and with how many jobs in a round.
+    pub pace: Pace,
+    /// After how many lines it pauses.
     pub pause: Option<u32>,
 }
 
@@ -44,19 +44,16 @@ pub fn read_request(chambers: &str, settings: &[Given<'_>]) -> Option<Request>
 }
 
 /// How the settings ask a catalogue to be run.
-pub fn read_run(settings: &[Given<'_>]) -> Option<Run>
+pub fn read_run(settings: &[Given<'_>]) -> Option<RunSettings>
     requires { AreSingle (map given_of settings.now) }
     ensures some { IfSome result (λ run.
-        IsRun (map given_of settings.now) run.workers run.round run.pause) }
-    ensures none { IfNone result ((workers round : ℕ) (pause : Option ℕ)
-        → IsRun (map given_of settings.now) workers round pause → ⊥) }
+        IsRun (map given_of settings.now) run.pace run.pause) }
+    ensures none { IfNone result ((pace : Numbers) (pause : Option ℕ)
+        → IsRun (map given_of settings.now) pace pause → ⊥) }
 {
     let workers = number_or(settings, Setting::Workers, 1, 64, 1)?;
     let round = number_or(settings, Setting::Round, 1, 4096, 64)?;
     let pause = number_if_given(settings, Setting::Pause, 1, 1_000_000_000)?;
-    Some(Run {
-        workers,
-        round,
-        pause,
-    })
+    let pace = Pace::new(workers, round)?;
+    Some(RunSettings { pace, pause })
 }

@@ -17,7 +17,7 @@ pub loop-more-init : goal.loop-more-init
 loop-more-init g c =
     let s = start_of c.args.run.now in
     let begun = c.requires.begun in
-    let above = limit_above c.args.run.now.lines c.args.run.now.pause c.limit-limit.result c.limit-limit.ensures c.requires.lines in (
+    let above = limit_above c.args.run.now.lines c.args.run.now.pause c.limit-limit.result c.limit-limit.ensures c.args.run.now.few_lines in (
       (begun.jobs, plain_begun s (g.O.Sink.held c.args.out.now) c.args.page.now c.args.front.now begun c.requires.empty c.requires.count c.requires.bytes),
       begun_open s c.args.front.now begun,
       omega (arith, above, c.requires.count),

@@ -10,8 +10,8 @@ use Rattle.dd_catalogue.proofs.chain.keep_rounds.Given as goal
 -- name changed, and the finder is for the same request
 abbrev pub invariant-loop-more : goal.invariant-loop-more
 invariant-loop-more g l = record {
-  head : IsHead (start_of l.fn.run) l.fn.run.pace.round (g.S.Store.tells l.fn.store) l.is_here (g.O.Sink.held l.fn.out) (g.S.Store.held l.fn.store l.fn.name) (g.S.Store.held l.store l.fn.name) (g.O.Sink.held l.out) l.page l.front;
-  low : l.page.count ≤ l.limit.last;
+  head : IsHead (start_of l.fn.run) l.fn.run.pace.round (g.S.Store.tells l.fn.store) l.output.is_kept (g.O.Sink.held l.fn.out) (g.S.Store.held l.fn.store l.fn.name) (g.S.Store.held l.store l.fn.name) (g.O.Sink.held l.out) l.output.page l.output.front;
+  low : l.output.page.count ≤ l.limit.last;
   store_faults : g.S.Store.faults l.fn.store ≤ g.S.Store.faults l.store;
   store_sure : g.S.Store.sure l.fn.store ≡ true → (g.S.Store.sure l.store ≡ true) × (g.S.Store.faults l.store ≡ g.S.Store.faults l.fn.store);
   others : g.S.Store.tells l.fn.store ≡ true → (g.S.Store.tells l.store ≡ true) × SameOthers l.fn.name (g.S.Store.held l.fn.store) (g.S.Store.held l.store);
@@ -21,4 +21,4 @@ invariant-loop-more g l = record {
 }
 
 abbrev pub decreases-loop-more : goal.decreases-loop-more
-decreases-loop-more g l = weighed (open_jobs l.front.entries)
+decreases-loop-more g l = weighed (open_jobs l.output.front.entries)

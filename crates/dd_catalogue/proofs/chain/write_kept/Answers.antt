@@ -43,8 +43,8 @@ returns-in-Some-clause-leaves g c w tells before start same still mid work =
     let now = g.O.Sink.held c.write_part.new.out in
     let leaves = c.in_ok-step.ensures.leaves here.way tells before start (here.start_is ∙ same) (λ told. (i.others (still told)).0) here.mid work in
     let got = rw c.in-Some.is at leaves in
-    let page = c.write_part.new.page in
-    let front = c.write_part.new.front in
+    let page = c.write_part.new.output.page in
+    let front = c.write_part.new.output.front in
     subst (λ n. Leaves s n pause tells start before after now page front (Ok c.in-Some.step)) here.most_is
     (subst (λ x. Leaves x here.way.most pause tells start before after now page front (Ok c.in-Some.step)) (here.start_is ∙ same) got)
 
@@ -59,7 +59,7 @@ loop-step-preserved g c =
     let some = i.some in
     let held = g.S.Store.held c.loop-step.store c.args.name.now in
     let now = g.O.Sink.held c.loop-step.out in
-    let any = untold some.way some.tells true some.old some.before some.held now c.loop-step.page c.loop-step.front some.mid held in
+    let any = untold some.way some.tells true some.old some.before some.held now c.loop-step.output.page c.loop-step.output.front some.mid held in
     let next = rw c.in-None.is at (c.in_ok-step.ensures.leaves some.way false some.before some.old some.start_is (λ never. cc) any some.work) in
     record {
       goes = λ w tells before start same still mid work.

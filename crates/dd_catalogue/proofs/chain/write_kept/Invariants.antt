@@ -13,11 +13,11 @@ abbrev pub invariant-loop-step : goal.invariant-loop-step
 invariant-loop-step g l = record {
   goes :
       (w : Way) (tells : Bool) (before start : Option (List ℕ)) → w.start ≡ start_of l.fn.run → (tells ≡ true → g.S.Store.tells l.initial.store ≡ true)
-      → IsMid w tells true start before (g.S.Store.held l.initial.store l.fn.name) (g.O.Sink.held l.initial.out) l.initial.page l.initial.front → HasWork (start_of l.fn.run)
-      → GoesOnHere w tells start before (g.S.Store.held l.store l.fn.name) (g.O.Sink.held l.out) l.page l.front;
-  some : IsSomeMid (start_of l.fn.run) true (g.O.Sink.held l.out) l.page l.front;
-  waiting : open_jobs l.front.entries ≡ open_jobs l.initial.front.entries;
-  low : l.page.count ≤ l.fn.limit.last;
+      → IsMid w tells true start before (g.S.Store.held l.initial.store l.fn.name) (g.O.Sink.held l.initial.out) l.initial.output.page l.initial.output.front → HasWork (start_of l.fn.run)
+      → GoesOnHere w tells start before (g.S.Store.held l.store l.fn.name) (g.O.Sink.held l.out) l.output.page l.output.front;
+  some : IsSomeMid (start_of l.fn.run) true (g.O.Sink.held l.out) l.output.page l.output.front;
+  waiting : open_jobs l.output.front.entries ≡ open_jobs l.initial.output.front.entries;
+  low : l.output.page.count ≤ l.fn.limit.last;
   store_faults : g.S.Store.faults l.initial.store ≤ g.S.Store.faults l.store;
   store_sure : g.S.Store.sure l.initial.store ≡ true → (g.S.Store.sure l.store ≡ true) × (g.S.Store.faults l.store ≡ g.S.Store.faults l.initial.store);
   others : g.S.Store.tells l.initial.store ≡ true → (g.S.Store.tells l.store ≡ true) × SameOthers l.fn.name (g.S.Store.held l.initial.store) (g.S.Store.held l.store);
@@ -26,4 +26,4 @@ invariant-loop-step g l = record {
 }
 
 abbrev pub decreases-loop-step : goal.decreases-loop-step
-decreases-loop-step g l = l.fn.limit.last - l.page.count
+decreases-loop-step g l = l.fn.limit.last - l.output.page.count

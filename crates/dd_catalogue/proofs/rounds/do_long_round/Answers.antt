@@ -14,10 +14,10 @@ pace_without_empty_jobs-requires-clause-jobs g c =
     let jobs = subst (λ r. AllByRecursion (IsJobOf r) (jobs_of c.split_large.new.front.entries)) (sym c.split_large.ensures.request) c.in_ok-split_large.ensures.ready.jobs in
     subst (λ (es : List Entry). AllByRecursion (λ e. IsJobOf q e.job) es) (sym c.entries.ensures) (each_job (IsJobOf q) c.split_large.new.front.entries jobs)
 
-pub returns-then-pace-eq1-clause-round : goal.returns-then-pace-eq1-clause-round
-returns-then-pace-eq1-clause-round g c =
+pub returns-then-workers-eq1-clause-round : goal.returns-then-workers-eq1-clause-round
+returns-then-workers-eq1-clause-round g c =
     IfOk-weaker c.do_round.result _ _
-    (λ more round. group_after (g.F.Finder.request c.args.finder.now) c.args.front.now c.split_large.new.front c.do_round.new.front c.few_ahead.result more c.in_ok-split_large.ensures.refined round)
+    (λ more round. group_after (g.F.Finder.request c.args.finder.now) c.args.front.now c.split_large.new.front c.do_round.new.front c.with_round-few.result.round more c.in_ok-split_large.ensures.refined round)
     c.do_round.ensures.round
 
 pub returns-clause-round : goal.returns-clause-round

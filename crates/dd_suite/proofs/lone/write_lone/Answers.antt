@@ -2,7 +2,6 @@ use Rattle.std.proofs.Common.{◌≤◌, sym, ap, ◌∙◌, subst, arith}
 use Rattle.dd_model.specs.Request.{IsValid}
 use Rattle.dd_model.specs.Position.{IsPosition}
 use Rattle.dd_check.specs.ChainStarts.{Start}
-use Rattle.dd_pages.specs.declared.pace.Pace.{Pace}
 use Rattle.dd_tasks.specs.Endings.{run_ending}
 use Rattle.dd_suite.proofs.RunCalls.{lone_ends, lone_sink, lone_none}
 use Rattle.dd_suite.proofs.lone.write_lone.Goals as goal
@@ -15,15 +14,6 @@ write_catalogue-ended-requires-clause-valid g c κs within = subst IsValid (sym 
 
 pub write_catalogue-ended-requires-clause-position : goal.write_catalogue-ended-requires-clause-position
 write_catalogue-ended-requires-clause-position g c κs within = subst IsPosition (sym (ap (λ (s : Start). s.at) c.in-Ok.ensures.start)) (omega arith)
-
-pub write_catalogue-ended-requires-clause-lines : goal.write_catalogue-ended-requires-clause-lines
-write_catalogue-ended-requires-clause-lines g c κs within = let none = ap (λ (s : Start). s.lines) c.in-Ok.ensures.start in omega (arith, none)
-
-pub write_catalogue-ended-requires-clause-workers : goal.write_catalogue-ended-requires-clause-workers
-write_catalogue-ended-requires-clause-workers g c κs within = subst (λ (p : Pace). (1 ≤ p.workers) × (p.workers ≤ 64)) (sym c.in-Ok.ensures.pace) c.requires.workers
-
-pub write_catalogue-ended-requires-clause-round : goal.write_catalogue-ended-requires-clause-round
-write_catalogue-ended-requires-clause-round g c κs within = subst (λ (p : Pace). 1 ≤ p.round) (sym c.in-Ok.ensures.pace) c.requires.round
 
 pub returns-clause-ending : goal.returns-clause-ending
 returns-clause-ending g c =

@@ -2,7 +2,6 @@ use Rattle.std.proofs.Common.{◌≤◌, sym, ap, subst, arith}
 use Rattle.dd_model.specs.Request.{IsValid}
 use Rattle.dd_model.specs.Position.{IsPosition}
 use Rattle.dd_check.specs.ChainStarts.{Start, next_start}
-use Rattle.dd_pages.specs.declared.pace.Pace.{Pace}
 use Rattle.dd_pages.specs.Runs.{start_of}
 use Rattle.dd_check.specs.Calls.{Resume}
 use Rattle.dd_tasks.specs.Outcomes.{IsRunOutcome}
@@ -35,14 +34,6 @@ keep_run-requires-clause-position g c κs within =
     let saved = saved_check c.in-Ok.saved.shard holds.bytes c.in-Ok.saved.check holds.accepted in
     subst IsPosition (sym (ap (λ (s : Start). s.at) c.next_run-run.ensures.start)) (check_position saved.0 c.in-Ok.saved.check saved.1)
 
-pub keep_run-requires-clause-lines : goal.keep_run-requires-clause-lines
-keep_run-requires-clause-lines g c κs within =
-    let holds = c.in-Ok.ensures.check.1 in
-    let saved = saved_check c.in-Ok.saved.shard holds.bytes c.in-Ok.saved.check holds.accepted in
-    let few = (check_counts saved.0 c.in-Ok.saved.check saved.1).lines.1 in
-    let same = ap (λ (s : Start). s.lines) c.next_run-run.ensures.start in
-    omega (arith, few, same)
-
 pub keep_run-requires-clause-first : goal.keep_run-requires-clause-first
 keep_run-requires-clause-first g c κs within one =
     let holds = c.in-Ok.ensures.check.1 in
@@ -50,12 +41,6 @@ keep_run-requires-clause-first g c κs within one =
     let some = (check_counts saved.0 c.in-Ok.saved.check saved.1).run.0 in
     let same = ap (λ (s : Start). s.number) c.next_run-run.ensures.start in
     absurd (omega (arith, some, same, one))
-
-pub keep_run-requires-clause-workers : goal.keep_run-requires-clause-workers
-keep_run-requires-clause-workers g c κs within = subst (λ (p : Pace). (1 ≤ p.workers) × (p.workers ≤ 64)) (sym c.next_run-run.ensures.pace) c.requires.workers
-
-pub keep_run-requires-clause-round : goal.keep_run-requires-clause-round
-keep_run-requires-clause-round g c κs within = subst (λ (p : Pace). 1 ≤ p.round) (sym c.next_run-run.ensures.pace) c.requires.round
 
 pub returns-clause-outcome : goal.returns-clause-outcome
 returns-clause-outcome g c =

@@ -19,40 +19,10 @@ write_lone-requires-clause-valid g c κs within =
     let words = map rc_str_bytes c.args.words.now in
     (lone_asked words c.in-Alone.portion c.in-Alone.pace (asked_of words c.in-Ok-Some.field-0 c.in-Ok-Some.task (Alone c.in-Alone.portion c.in-Alone.pace) c.in-Ok-Some.ensures c.in-Ok-Some.field-0-is c.in-Alone.is)).valid
 
-pub write_lone-requires-clause-workers : goal.write_lone-requires-clause-workers
-write_lone-requires-clause-workers g c κs within =
-    let words = map rc_str_bytes c.args.words.now in
-    (lone_asked words c.in-Alone.portion c.in-Alone.pace (asked_of words c.in-Ok-Some.field-0 c.in-Ok-Some.task (Alone c.in-Alone.portion c.in-Alone.pace) c.in-Ok-Some.ensures c.in-Ok-Some.field-0-is c.in-Alone.is)).asked.in_range.workers_are
-
-pub write_lone-requires-clause-round : goal.write_lone-requires-clause-round
-write_lone-requires-clause-round g c κs within =
-    let words = map rc_str_bytes c.args.words.now in
-    (lone_asked words c.in-Alone.portion c.in-Alone.pace (asked_of words c.in-Ok-Some.field-0 c.in-Ok-Some.task (Alone c.in-Alone.portion c.in-Alone.pace) c.in-Ok-Some.ensures c.in-Ok-Some.field-0-is c.in-Alone.is)).asked.in_range.round_is.0
-
 pub write_kept-requires-clause-valid : goal.write_kept-requires-clause-valid
 write_kept-requires-clause-valid g c κs within =
     let words = map rc_str_bytes c.args.words.now in
     (kept_asked words c.in-Kept.portion c.in-Kept.name c.in-Kept.pace c.in-Kept.pause (asked_of words c.in-Ok-Some.field-0 c.in-Ok-Some.task (Kept c.in-Kept.portion c.in-Kept.name c.in-Kept.pace c.in-Kept.pause) c.in-Ok-Some.ensures c.in-Ok-Some.field-0-is c.in-Kept.is)).valid
-
-pub write_kept-requires-clause-workers : goal.write_kept-requires-clause-workers
-write_kept-requires-clause-workers g c κs within =
-    let words = map rc_str_bytes c.args.words.now in
-    (kept_asked words c.in-Kept.portion c.in-Kept.name c.in-Kept.pace c.in-Kept.pause (asked_of words c.in-Ok-Some.field-0 c.in-Ok-Some.task (Kept c.in-Kept.portion c.in-Kept.name c.in-Kept.pace c.in-Kept.pause) c.in-Ok-Some.ensures c.in-Ok-Some.field-0-is c.in-Kept.is)).asked.in_range.workers_are
-
-pub write_kept-requires-clause-round : goal.write_kept-requires-clause-round
-write_kept-requires-clause-round g c κs within =
-    let words = map rc_str_bytes c.args.words.now in
-    (kept_asked words c.in-Kept.portion c.in-Kept.name c.in-Kept.pace c.in-Kept.pause (asked_of words c.in-Ok-Some.field-0 c.in-Ok-Some.task (Kept c.in-Kept.portion c.in-Kept.name c.in-Kept.pace c.in-Kept.pause) c.in-Ok-Some.ensures c.in-Ok-Some.field-0-is c.in-Kept.is)).asked.in_range.round_is.0
-
-pub resume-requires-clause-workers : goal.resume-requires-clause-workers
-resume-requires-clause-workers g c κs within =
-    let words = map rc_str_bytes c.args.words.now in
-    (resume_asked words c.in-Resume.kind c.in-Resume.name c.in-Resume.pace c.in-Resume.pause (asked_of words c.in-Ok-Some.field-0 c.in-Ok-Some.task (Resume c.in-Resume.kind c.in-Resume.name c.in-Resume.pace c.in-Resume.pause) c.in-Ok-Some.ensures c.in-Ok-Some.field-0-is c.in-Resume.is)).in_range.workers_are
-
-pub resume-requires-clause-round : goal.resume-requires-clause-round
-resume-requires-clause-round g c κs within =
-    let words = map rc_str_bytes c.args.words.now in
-    (resume_asked words c.in-Resume.kind c.in-Resume.name c.in-Resume.pace c.in-Resume.pause (asked_of words c.in-Ok-Some.field-0 c.in-Ok-Some.task (Resume c.in-Resume.kind c.in-Resume.name c.in-Resume.pace c.in-Resume.pause) c.in-Ok-Some.ensures c.in-Ok-Some.field-0-is c.in-Resume.is)).in_range.round_is.0
 
 pub returns-in-Alone-clause-outcome : goal.returns-in-Alone-clause-outcome
 returns-in-Alone-clause-outcome g c =
@@ -73,7 +43,7 @@ returns-in-Alone-clause-outcome g c =
       written = g.O.Sink.held c.write_lone.new.out;
       sink_faults = g.O.Sink.faults c.write_lone.new.out;
     } in
-    of_run (record { task = Begin q None; round = pace.round; pause = None }) asked.asked.order_asked
+    of_run (record { task = Begin q None; round = pace.round; pause = None }) asked.asked
     (lone_outcome q pace.round c.write_lone.result before after c.write_lone.ensures.ending (λ told other. refl))
 
 pub returns-in-Kept-clause-outcome : goal.returns-in-Kept-clause-outcome
@@ -97,7 +67,7 @@ returns-in-Kept-clause-outcome g c =
       written = g.O.Sink.held c.write_kept.new.out;
       sink_faults = g.O.Sink.faults c.write_kept.new.out;
     } in
-    of_run (record { task = Begin q (Some name); round = pace.round; pause = pause }) asked.asked.order_asked
+    of_run (record { task = Begin q (Some name); round = pace.round; pause = pause }) asked.asked
     (subst (λ (n : List ℕ). IsRunOutcome (record { task = Begin q (Some n); round = pace.round; pause = pause }) c.write_kept.result before after) c.as_str.ensures c.write_kept.ensures.outcome)
 
 pub returns-in-Resume-clause-outcome : goal.returns-in-Resume-clause-outcome
@@ -121,7 +91,7 @@ returns-in-Resume-clause-outcome g c =
       written = g.O.Sink.held c.resume.new.out;
       sink_faults = g.O.Sink.faults c.resume.new.out;
     } in
-    of_run (record { task = Next kind name; round = pace.round; pause = pause }) asked.order_asked
+    of_run (record { task = Next kind name; round = pace.round; pause = pause }) asked
     (subst (λ (n : List ℕ). IsRunOutcome (record { task = Next kind n; round = pace.round; pause = pause }) c.resume.result before after) c.as_str-in-Resume.ensures c.resume.ensures.outcome)
 
 pub returns-in-Resume-clause-store_sure : goal.returns-in-Resume-clause-store_sure
@@ -134,7 +104,7 @@ returns-in-Resume-clause-store_sure g c sure held =
     let asked = resume_asked words kind name pace pause (asked_of words c.in-Ok-Some.field-0 c.in-Ok-Some.task (Resume kind name pace pause) c.in-Ok-Some.ensures c.in-Ok-Some.field-0-is c.in-Resume.is) in
     c.resume.ensures.store_sure sure
     (subst (λ n. IsSome (g.S.Store.held c.args.store.now n)) (sym c.as_str-in-Resume.ensures)
-    (held.check kind name (record { round = pace.round; pause = pause; run = asked.order_asked })))
+    (held.check kind name (record { round = pace.round; pause = pause; run = asked })))
 
 pub returns-in-OnFile-clause-outcome : goal.returns-in-OnFile-clause-outcome
 returns-in-OnFile-clause-outcome g c =

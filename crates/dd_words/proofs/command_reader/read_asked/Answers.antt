@@ -4,10 +4,10 @@ use Rattle.dd_words.proofs.ReadCommands.{no_checkpoint, some_told, none_told}
 use Rattle.dd_words.proofs.command_reader.read_asked.Goals as goal
 
 pub returns-in_default-clause-not_taken : goal.returns-in_default-clause-not_taken
-returns-in_default-clause-not_taken c _ q workers round pause checkpoint h = c.in_default.ensures.none q h.request
+returns-in_default-clause-not_taken c _ q pace pause checkpoint h = c.in_default.ensures.none q h.request
 
 pub returns-in_default-read_run-clause-not_taken : goal.returns-in_default-read_run-clause-not_taken
-returns-in_default-read_run-clause-not_taken c _ q workers round pause checkpoint h = c.in_default-read_run.ensures.none workers round pause h.run
+returns-in_default-read_run-clause-not_taken c _ q pace pause checkpoint h = c.in_default-read_run.ensures.none pace pause h.run
 
 pub returns-then-is_none-clause-not_taken : goal.returns-then-is_none-clause-not_taken
 returns-then-is_none-clause-not_taken c _ =

@@ -12,12 +12,12 @@ pub returns-in_default-read_run-clause-not_taken : goal.returns-in_default-read_
 returns-in_default-read_run-clause-not_taken c _ =
     let one = some_one_text c.args.arguments.now c.in-len1.len_at_least c.in-len1.len_below in
     no_resume (texts c.args.arguments.now) (map given_of c.args.settings.now) one.text one.is
-    (λ name workers round pause h. c.in_default-read_run.ensures.none workers round pause h.run)
+    (λ name pace pause h. c.in_default-read_run.ensures.none pace pause h.run)
 
 pub returns-in_err-read_name-clause-not_taken : goal.returns-in_err-read_name-clause-not_taken
 returns-in_err-read_name-clause-not_taken c failed =
     no_resume (texts c.args.arguments.now) (map given_of c.args.settings.now) _ (one_text c.args.arguments.now _ c.in-len1.len_at_least c.in-len1.len_below)
-    (λ name workers round pause h. c.in_err-read_name.ensures.not_taken (ap Err (same_fault c.from_residual.result c.in_err-read_name.field-0.0 c.from_residual.ensures.1 failed)) (subst IsName (sym h.same) h.is_name))
+    (λ name pace pause h. c.in_err-read_name.ensures.not_taken (ap Err (same_fault c.from_residual.result c.in_err-read_name.field-0.0 c.from_residual.ensures.1 failed)) (subst IsName (sym h.same) h.is_name))
 
 pub returns-clause-command : goal.returns-clause-command
 returns-clause-command c =

@@ -11,14 +11,14 @@ pub returns-in_default-shard_of-clause-not_taken : goal.returns-in_default-shard
 returns-in_default-shard_of-clause-not_taken c _ =
     let all = two_and_third c.args.arguments.now _ _ c.in-len3.len_at_least c.in-len3.len_below in
     no_shard (texts c.args.arguments.now) (map given_of c.args.settings.now) _ _ all.0 all.1
-    (λ shard q workers round pause checkpoint h. c.in_default-shard_of.ensures.none shard h.shard_is)
+    (λ shard q pace pause checkpoint h. c.in_default-shard_of.ensures.none shard h.shard_is)
 
 pub returns-in_err-asked-clause-not_taken : goal.returns-in_err-asked-clause-not_taken
 returns-in_err-asked-clause-not_taken c failed =
     let all = two_before_third c.args.arguments.now _ c.in-len3.len_at_least c.in-len3.len_below in
     no_shard (texts c.args.arguments.now) (map given_of c.args.settings.now) all.0 all.1 _ all.2
-    (λ shard q workers round pause checkpoint h.
-    c.in_err-asked.ensures.not_taken (ap Err (same_fault c.from_residual.result c.in_err-asked.field-0.0 c.from_residual.ensures.1 failed)) q workers round pause checkpoint h.catalogue)
+    (λ shard q pace pause checkpoint h.
+    c.in_err-asked.ensures.not_taken (ap Err (same_fault c.from_residual.result c.in_err-asked.field-0.0 c.from_residual.ensures.1 failed)) q pace pause checkpoint h.catalogue)
 
 pub returns-clause-command : goal.returns-clause-command
 returns-clause-command c =

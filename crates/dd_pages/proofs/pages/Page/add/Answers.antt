@@ -12,8 +12,5 @@ returns-then-self-lt-BATCH-clause-front g c k base start ss has =
     let held = g.O.Sink.held c.args.out.now in
     front_of_more k base start held ss c.args.members (front_kept k base start held c.args.self.now ss has)
 
-pub returns-in_err-make-clause-front : goal.returns-in_err-make-clause-front
-returns-in_err-make-clause-front g c k base start ss has = c.make.ensures.front k base start (ss ++ c.args.members) (c.in-Ok.ensures.lines (g.O.Sink.held c.args.out.now) k base start ss has)
-
 pub returns-clause-front : goal.returns-clause-front
 returns-clause-front g c k base start ss has = c.make.ensures.front k base start (ss ++ c.args.members) (c.in-Ok.ensures.lines (g.O.Sink.held c.args.out.now) k base start ss has)
