@@ -26,6 +26,7 @@ use Rattle.dd_model.proofs.Turns.{least_turns_unique}
 use Rattle.dd_model.proofs.WantedDegrees.{by_value}
 use Rattle.dd_exercise.specs.Seeds.{AsksForTwoChambers, AreSeeds}
 use Rattle.dd_exercise.proofs.TwoChambers.{flip, two, period, at_both, mirror, AreDegrees, two_symbol, two_connected, two_joined, two_least, two_not_least, two_shape, turns_tile, turns_vertex, joined}
+use Rattle.dd_canon.proofs.OrderLemmas.{less_of}
 
 -- ## Tests
 
@@ -354,14 +355,9 @@ abbrev is_row : List Symbol → Bool
 is_row [] = true
 is_row (s ∷ ss) = list_all (λ t. is_lt (code_cmp s t)) ss && is_row ss
 
-below : (o : Ordering) → is_lt o ≡ true → o ≡ Less
-below Less e = refl
-below Equal e = absurd (cc)
-below Greater e = absurd (cc)
-
 all_below : (s : Symbol) (ss : List Symbol) → list_all (λ t. is_lt (code_cmp s t)) ss ≡ true → AllByRecursion (IsBelow s) ss
 all_below s [] e = tt
-all_below s (t ∷ ss) e = let b = both (is_lt (code_cmp s t)) (list_all (λ u. is_lt (code_cmp s u)) ss) e in (below (code_cmp s t) b.0, all_below s ss b.1)
+all_below s (t ∷ ss) e = let b = both (is_lt (code_cmp s t)) (list_all (λ u. is_lt (code_cmp s u)) ss) e in (less_of (code_cmp s t) b.0, all_below s ss b.1)
 
 row_ascending : (ss : List Symbol) → is_row ss ≡ true → IsAscending ss
 row_ascending [] e = tt
