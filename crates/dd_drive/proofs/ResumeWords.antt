@@ -32,7 +32,7 @@ kept_name (x ∷ []) given q pace pause name is = is.checkpoint_is.1
 kept_name (x ∷ y ∷ xs) given q pace pause name is = absurd is
 
 -- one worker and 64 jobs in a round
-common_pace : Pace
+abbrev common_pace : Pace
 common_pace = record { workers = 1; round = 64; some_workers = omega arith; few_workers = omega arith; some_jobs = omega arith }
 
 resumed : (name : List ℕ) → IsName name → IsCommand (resume_words name) (command.Resume name common_pace None)
