@@ -12,26 +12,26 @@ use Rattle.dd_model.specs.Wanted.{IsMember}
 use Rattle.dd_model.specs.Jobs.{IsMemberUnder, AreMembersUnder}
 use Rattle.dd_model.specs.declared.requests.Request.{Request}
 use Rattle.dd_model.specs.declared.jobs.Job.{Job}
-use Rattle.dd_jobs.specs.Under.{IsUnder, HasNothingUnder, AreUnder, Appends}
-use Rattle.dd_partial_table.specs.Table.{IsBareTable, IsTableOf, told}
-use Rattle.dd_partial_table.specs.Rows.{partial_of, depth_of, unwound, HasNumberAt}
-use Rattle.dd_partial_table.specs.Stem.{Any, IsStem, HasAbsorbed, prefix_of, size_of, cut_to, shortened}
-use Rattle.dd_partial_table.proofs.Absorbing.{absorbed_under}
-use Rattle.dd_partial_table.proofs.Stems.{any_under}
-use Rattle.dd_jobs.proofs.Places.{code_at}
-use Rattle.dd_partial_table.proofs.Prefixes.{none_under, shortened as shortened_under}
-use Rattle.dd_partial_table.specs.declared.rows.Rows.{Rows}
-use Rattle.dd_partial_table.specs.declared.stem.Stem.{Stem}
-use Rattle.dd_partial_table.proofs.Follows.{member_orderly}
-use Rattle.dd_partial_table.proofs.TableFronts.{front_same, front_begins}
-use Rattle.dd_partial_table.proofs.TableLemmas.{table_of_told}
+use Rattle.dd_opening_jobs.specs.Under.{IsUnder, HasNothingUnder, AreUnder, Appends}
+use Rattle.dd_branch_tables.specs.Table.{IsBareTable, IsTableOf, told}
+use Rattle.dd_branch_tables.specs.Rows.{partial_of, depth_of, unwound, HasNumberAt}
+use Rattle.dd_branch_tables.specs.Stem.{Any, IsStem, HasAbsorbed, prefix_of, size_of, cut_to, shortened}
+use Rattle.dd_branch_tables.proofs.Absorbing.{absorbed_under}
+use Rattle.dd_branch_tables.proofs.Stems.{any_under}
+use Rattle.dd_opening_jobs.proofs.Places.{code_at}
+use Rattle.dd_branch_tables.proofs.Prefixes.{none_under, shortened as shortened_under}
+use Rattle.dd_branch_tables.specs.declared.rows.Rows.{Rows}
+use Rattle.dd_branch_tables.specs.declared.stem.Stem.{Stem}
+use Rattle.dd_branch_tables.proofs.Follows.{member_orderly}
+use Rattle.dd_branch_tables.proofs.TableFronts.{front_same, front_begins}
+use Rattle.dd_branch_tables.proofs.TableLemmas.{table_of_told}
 use Rattle.dd_symbol.specs.Images.{of_rows}
 use Rattle.dd_model.specs.Involutions.{HaveSameInvolutions}
-use Rattle.dd_degrees.specs.Members.{AreMembersWith}
-use Rattle.dd_bounds.specs.Shares.{IsSought}
-use Rattle.dd_bounds.specs.Kept.{AreKept, with_sides}
-use Rattle.dd_bounds.specs.declared.sides.Sides.{Sides}
-use Rattle.dd_bounds.proofs.EndGrowth.{kept_of_longer}
+use Rattle.dd_branch_degrees.specs.Members.{AreMembersWith}
+use Rattle.dd_branch_bounds.specs.Shares.{IsSought}
+use Rattle.dd_branch_bounds.specs.Kept.{AreKept, with_sides}
+use Rattle.dd_branch_bounds.specs.declared.sides.Sides.{Sides}
+use Rattle.dd_branch_bounds.proofs.EndGrowth.{kept_of_longer}
 use Rattle.dd_branch.specs.Descent.{Descending, IsDescent, HasDescended, with_level, with_paths, without_last, shorter}
 use Rattle.dd_branch.specs.declared.level.Level.{Level}
 

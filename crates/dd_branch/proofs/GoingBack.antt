@@ -5,10 +5,10 @@ use Rattle.std.proofs.lemmas.Option.{slice_get-get_or}
 use Rattle.std.specs.List.{slice_get}
 use Rattle.std.specs.declared.option.Option.{Option}
 use Rattle.std.specs.declared.option.Option.TheVariants.{None, Some}
-use Rattle.dd_partial_table.specs.Rows.{depth_of, popped, unwind}
-use Rattle.dd_partial_table.specs.Stem.{prefix_of, size_of}
-use Rattle.dd_partial_table.specs.declared.rows.Rows.{Rows}
-use Rattle.dd_bounds.specs.Kept.{no_sides}
+use Rattle.dd_branch_tables.specs.Rows.{depth_of, popped, unwind}
+use Rattle.dd_branch_tables.specs.Stem.{prefix_of, size_of}
+use Rattle.dd_branch_tables.specs.declared.rows.Rows.{Rows}
+use Rattle.dd_branch_bounds.specs.Kept.{no_sides}
 use Rattle.dd_branch.specs.Descent.{Descending, GoesBack, IsDescent, gone_back, shorter, without_last}
 use Rattle.dd_branch.specs.Levels.{level_of}
 use Rattle.dd_branch.specs.declared.level.Level.{Level}

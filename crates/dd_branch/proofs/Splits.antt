@@ -9,10 +9,10 @@ use Rattle.dd_model.specs.declared.requests.Request.{Request}
 use Rattle.dd_model.specs.declared.jobs.Job.{Job}
 use Rattle.dd_model.specs.Code.{code}
 use Rattle.dd_model.proofs.Ascending.{begins_less}
-use Rattle.dd_jobs.specs.Under.{HasNothingUnder}
-use Rattle.dd_partial_table.specs.Stem.{Any, prefix_of, size_of}
-use Rattle.dd_partial_table.proofs.Follows.{member_orderly}
-use Rattle.dd_partial_table.proofs.Stems.{any_under}
+use Rattle.dd_opening_jobs.specs.Under.{HasNothingUnder}
+use Rattle.dd_branch_tables.specs.Stem.{Any, prefix_of, size_of}
+use Rattle.dd_branch_tables.proofs.Follows.{member_orderly}
+use Rattle.dd_branch_tables.proofs.Stems.{any_under}
 use Rattle.dd_branch.specs.Descent.{Descending, IsDescent}
 use Rattle.dd_branch.proofs.Descents.{dead_job, no_member_of_job}
 

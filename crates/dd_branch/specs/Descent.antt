@@ -6,12 +6,12 @@ use Rattle.std.specs.declared.option.Option.TheVariants.{None, Some}
 use Rattle.dd_model.specs.Request.{IsValid}
 use Rattle.dd_model.specs.Wanted.{IsMember}
 use Rattle.dd_model.specs.declared.requests.Request.{Request}
-use Rattle.dd_partial_table.specs.Rows.{partial_of}
-use Rattle.dd_partial_table.specs.Search.{GoesOn}
-use Rattle.dd_partial_table.specs.Stem.{IsStem, prefix_of, size_of, cut_to}
-use Rattle.dd_partial_table.specs.declared.stem.Stem.{Stem}
-use Rattle.dd_bounds.specs.Kept.{Shares, AreKept, with_sides}
-use Rattle.dd_bounds.specs.declared.sides.Sides.{Sides}
+use Rattle.dd_branch_tables.specs.Rows.{partial_of}
+use Rattle.dd_branch_tables.specs.Search.{GoesOn}
+use Rattle.dd_branch_tables.specs.Stem.{IsStem, prefix_of, size_of, cut_to}
+use Rattle.dd_branch_tables.specs.declared.stem.Stem.{Stem}
+use Rattle.dd_branch_bounds.specs.Kept.{Shares, AreKept, with_sides}
+use Rattle.dd_branch_bounds.specs.declared.sides.Sides.{Sides}
 use Rattle.dd_branch.specs.declared.level.Level.{Level}
 
 -- what is asked, how far the search has come, the shares of its table, and what each number put in

@@ -3,8 +3,8 @@ use Rattle.std.specs.Prelude.{ℕ, ◌≤◌, ◌<◌, List, Vec, length, vec_ca
 use Rattle.std.specs.Global.{Global}
 use Rattle.std.specs.declared.option.Option.{Option}
 use Rattle.std.specs.declared.option.Option.TheVariants.{None, Some}
-use Rattle.dd_bounds.specs.Kept.{no_sides}
-use Rattle.dd_bounds.specs.declared.sides.Sides.{Sides}
+use Rattle.dd_branch_bounds.specs.Kept.{no_sides}
+use Rattle.dd_branch_bounds.specs.declared.sides.Sides.{Sides}
 use Rattle.dd_branch.specs.declared.level.Level.{Level}
 
 -- the levels before the one where a search stands, and the paths of its table

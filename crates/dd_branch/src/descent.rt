@@ -4,17 +4,17 @@ ghost use Rattle.dd_model.specs.Request.{IsValid};
 ghost use Rattle.dd_model.specs.Wanted.{IsMember};
 ghost use Rattle.dd_model.specs.Jobs.{AreExtensions};
 ghost use Rattle.dd_model.specs.Lists.{Begins};
-ghost use Rattle.dd_jobs.specs.Under.{AreUnder, Appends, HasNothingUnder};
-ghost use Rattle.dd_partial_table.specs.Stem.{HasAbsorbed, IsStem};
+ghost use Rattle.dd_opening_jobs.specs.Under.{AreUnder, Appends, HasNothingUnder};
+ghost use Rattle.dd_branch_tables.specs.Stem.{HasAbsorbed, IsStem};
 
 use crate::levels::Levels;
-use dd_bounds::{PathShares, Sides, parity_rules_out};
-use dd_degrees::{add_tied, with_places};
-use dd_jobs::{can_follow, child};
-use dd_model::{Job, Memory, Prefix, Request};
-use dd_partial_table::{
+use dd_branch_bounds::{PathShares, Sides, parity_rules_out};
+use dd_branch_degrees::{add_tied, with_places};
+use dd_branch_tables::{
     ChamberSet, CollectingSearch, PrefixSearch, Starts, Stem, find, involutions, ties,
 };
+use dd_model::{Job, Memory, Prefix, Request};
+use dd_opening_jobs::{can_follow, child};
 use dd_symbol_list::SymbolList;
 use std::alloc::Global;
 use std::marker::Model;
@@ -59,10 +59,10 @@ fn absorb(stem: &mut Stem, with_known: bool)
 }
 
 impl Descent {
-    ghost use Rattle.dd_partial_table.specs.Rows.{IsReady, depth_of};
-    ghost use Rattle.dd_partial_table.specs.Stem.{prefix_of, size_of};
+    ghost use Rattle.dd_branch_tables.specs.Rows.{IsReady, depth_of};
+    ghost use Rattle.dd_branch_tables.specs.Stem.{prefix_of, size_of};
     ghost use Rattle.dd_branch.specs.Descent.{IsDescent, HasDescended, GoesBack, shorter, with_paths};
-    ghost use Rattle.dd_bounds.specs.declared.sides.Sides.{Sides};
+    ghost use Rattle.dd_branch_bounds.specs.declared.sides.Sides.{Sides};
 
     /// The search from the empty prefix, with the shares that the request allows to tables of the
     /// size.
@@ -366,7 +366,7 @@ impl Descent {
 }
 
 impl PrefixSearch for Descent {
-    ghost use Rattle.dd_partial_table.specs.Stem.{prefix_of, size_of};
+    ghost use Rattle.dd_branch_tables.specs.Stem.{prefix_of, size_of};
     ghost use Rattle.dd_branch.specs.Descent.{IsDescent, shorter};
 
     ghost request = { λ d. d.request };

@@ -1,4 +1,4 @@
-use dd_bounds::Sides;
+use dd_branch_bounds::Sides;
 
 /// A step of a search: the paths of the table there, and how much there was before the next number
 /// was put in. That is counted in numbers of the prefix, images in the table, and moves of starts.

@@ -2,14 +2,14 @@ ghost use Rattle.std.specs.Prelude.{◌≡◌, ◌-◌, ◌≤◌, ◌<◌, [], 
 ghost use Rattle.std.specs.List.{slice_get};
 ghost use Rattle.std.specs.declared.option.Option.TheVariants.{Some};
 ghost use Rattle.dd_model.specs.Symbol.{Symbol as Tiling};
-ghost use Rattle.dd_partial_table.specs.Rows.{partial_of, IsReady};
-ghost use Rattle.dd_bounds.specs.Shares.{IsSought};
-ghost use Rattle.dd_bounds.specs.Kept.{AreSides};
+ghost use Rattle.dd_branch_tables.specs.Rows.{partial_of, IsReady};
+ghost use Rattle.dd_branch_bounds.specs.Shares.{IsSought};
+ghost use Rattle.dd_branch_bounds.specs.Kept.{AreSides};
 
 use crate::level::Level;
-use dd_bounds::{PathShares, Sides};
+use dd_branch_bounds::{PathShares, Sides};
+use dd_branch_tables::Rows;
 use dd_model::Memory;
-use dd_partial_table::Rows;
 use std::alloc::Global;
 use std::marker::Model;
 

@@ -2,13 +2,13 @@
 //!
 //! The search fills in a code number by number, always trying the smallest number first, so members
 //! appear in ascending order. For each job a `Descent` has the numbers of the job's prefix put in.
-//! `find` and `advance` of dd_partial_table are the one search for whatever is looked for: a loop
+//! `find` and `advance` of dd_branch_tables are the one search for whatever is looked for: a loop
 //! over levels, each with the numbers that are still to be tried at its prefix. `find` collects,
 //! and the walk over tables stops at each.
 //!
 //! 1. *Which numbers can come next?* The image must be a chamber without an image, up to the first
 //!    that was not met. `Stem::candidates` returns the set of these, from the bits of `Rows`. `Sides`
-//!    (dd_bounds) removes the numbers after which the shares of all chambers would be too small, or
+//!    (dd_branch_bounds) removes the numbers after which the shares of all chambers would be too small, or
 //!    after which there would be more cells than the request allows (`sieve`). It looks only at the
 //!    ends of the paths that a number joins, and at a census of the cells that are whole. Asking
 //!    for all numbers at once lets what is the same for each be computed once, and what is left out
@@ -45,7 +45,7 @@ mod level;
 mod levels;
 mod search;
 
-pub use dd_degrees::{add_members_of, members_of};
+pub use dd_branch_degrees::{add_members_of, members_of};
 pub use descent::Descent;
 pub use laws::{
     a_front_emits_the_first_members, flat_symbols_have_small_shares,

@@ -8,7 +8,7 @@ use Rattle.dd_model.specs.Symbol.{Symbol, IsTable, IsSymbol, IsChamber, item}
 use Rattle.dd_model.specs.Connected.{Connected}
 use Rattle.dd_model.specs.Isomorphic.{IsIsomorphism, Isomorphic}
 use Rattle.dd_model.specs.Code.{code_cmp, count_from, Least, IsLeastForm}
-use Rattle.dd_forest.specs.Parts.{IsLevel}
+use Rattle.dd_union_find.specs.Parts.{IsLevel}
 use Rattle.dd_model.proofs.Bijections.{after}
 use Rattle.dd_model.proofs.Codes.{code_cmp_total, same_from_code_cmp}
 use Rattle.dd_model.proofs.CountFrom.{item-count_from}

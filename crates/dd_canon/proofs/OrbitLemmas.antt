@@ -10,7 +10,7 @@ use Rattle.dd_model.specs.Connected.{Connected}
 use Rattle.dd_model.specs.Isomorphic.{IsIsomorphism}
 use Rattle.dd_model.specs.Code.{code_cmp}
 use Rattle.dd_model.specs.FirstVisit.{IsNumberedFrom}
-use Rattle.dd_forest.specs.Parts.{AreInOnePart, AreJoinedAt, AreJoinedAlong}
+use Rattle.dd_union_find.specs.Parts.{AreInOnePart, AreJoinedAt, AreJoinedAlong}
 use Rattle.dd_model.proofs.Bijections.{after, item-after}
 use Rattle.dd_model.proofs.Codes.{code_cmp_total, same_from_code_cmp}
 use Rattle.dd_model.proofs.Isomorphisms.{inverse_isomorphism, IsIsomorphism-after}

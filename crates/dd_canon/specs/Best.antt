@@ -2,7 +2,7 @@
 use Rattle.std.specs.Prelude.{◌≡◌, ℕ, ◌+◌, List, length}
 use Rattle.dd_model.specs.Symbol.{Symbol, IsTable, IsChamber, item}
 use Rattle.dd_model.specs.Isomorphic.{IsIsomorphism}
-use Rattle.dd_forest.specs.Parts.{IsLevel}
+use Rattle.dd_union_find.specs.Parts.{IsLevel}
 use Rattle.dd_canon.specs.Standing.{IsReady, IsWhole, IsBestTo}
 use Rattle.dd_canon.specs.declared.best_numbering.BestNumbering.{BestNumbering}
 

@@ -8,9 +8,9 @@ ghost use Rattle.dd_canon.specs.Best.{IsBestNumbering};
 
 use crate::steps::Steps;
 use crate::visits::Visit;
-use dd_forest::Forest;
 use dd_model::Memory;
 use dd_symbol::Connected;
+use dd_union_find::Forest;
 use std::alloc::Global;
 use std::mem::swap;
 use std::sync::ledger::Ledger;

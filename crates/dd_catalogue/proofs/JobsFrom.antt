@@ -13,11 +13,11 @@ use Rattle.dd_model.proofs.Lists.{Contains-none, Contains-cases, each_of}
 use Rattle.dd_model.proofs.Pairs.{ArePairs, part_pairs, pairs_ascending_jobs, pairs_apart}
 use Rattle.dd_model.proofs.Positions.{under_wholly_before}
 use Rattle.dd_model.proofs.Without.{without_all, without_first, without_kept, without_pairs, without_there}
-use Rattle.dd_jobs.specs.declared.portions.Portion.{Portion}
-use Rattle.dd_jobs.specs.Portions.{IsPortionJob, IsPortionOpening, IsPortionMember}
-use Rattle.dd_jobs.proofs.PortionLaws.{portion_apart, portion_jobs, portion_covers}
+use Rattle.dd_opening_jobs.specs.declared.portions.Portion.{Portion}
+use Rattle.dd_opening_jobs.specs.Portions.{IsPortionJob, IsPortionOpening, IsPortionMember}
+use Rattle.dd_opening_jobs.proofs.PortionLaws.{portion_apart, portion_jobs, portion_covers}
 use Rattle.dd_board.specs.Desk.{AreJobsOf}
-use Rattle.dd_pages.specs.Rounds.{AreJobsFrom}
+use Rattle.dd_pages_and_checkpoints.specs.Rounds.{AreJobsFrom}
 
 pub opening_pairs : (q : Portion) (jobs : List Job) → IsPortionOpening q jobs → ArePairs IsPartBelow jobs
 opening_pairs q jobs is = part_pairs jobs is.ascending (portion_apart q jobs is)

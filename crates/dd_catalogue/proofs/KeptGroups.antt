@@ -14,17 +14,17 @@ use Rattle.dd_front.proofs.Standing.{stands_once}
 use Rattle.dd_check.specs.ChainPuts.{IsStop}
 use Rattle.dd_check.specs.Clauses.{HasWork}
 use Rattle.dd_check.specs.ChainStarts.{Start}
-use Rattle.dd_pages.specs.Pages.{IsEmpty}
-use Rattle.dd_pages.specs.Rounds.{AreOpen}
-use Rattle.dd_pages.specs.MostLines.{most_lines}
-use Rattle.dd_pages.specs.Runs.{IsLimit}
-use Rattle.dd_pages.specs.Names.{HasRun}
-use Rattle.dd_pages.specs.Saves.{HoldsCheckAt, Saves, IsOfRound}
-use Rattle.dd_pages.specs.declared.fault.RunFault.{RunFault}
-use Rattle.dd_pages.specs.declared.finish.Finish.{Finish}
-use Rattle.dd_pages.specs.declared.finish.Finish.TheVariants.{Whole, Paused, CutShort}
-use Rattle.dd_pages.specs.declared.limit.Limit.{Limit}
-use Rattle.dd_pages.specs.declared.pages.Page.{Page}
+use Rattle.dd_pages_and_checkpoints.specs.Pages.{IsEmpty}
+use Rattle.dd_pages_and_checkpoints.specs.Rounds.{AreOpen}
+use Rattle.dd_pages_and_checkpoints.specs.MostLines.{most_lines}
+use Rattle.dd_pages_and_checkpoints.specs.Runs.{IsLimit}
+use Rattle.dd_pages_and_checkpoints.specs.Names.{HasRun}
+use Rattle.dd_pages_and_checkpoints.specs.Saves.{HoldsCheckAt, Saves, IsOfRound}
+use Rattle.dd_pages_and_checkpoints.specs.declared.fault.RunFault.{RunFault}
+use Rattle.dd_pages_and_checkpoints.specs.declared.finish.Finish.{Finish}
+use Rattle.dd_pages_and_checkpoints.specs.declared.finish.Finish.TheVariants.{Whole, Paused, CutShort}
+use Rattle.dd_pages_and_checkpoints.specs.declared.limit.Limit.{Limit}
+use Rattle.dd_pages_and_checkpoints.specs.declared.pages.Page.{Page}
 use Rattle.dd_catalogue.specs.Works.{AreWork, IsLongAsWhole}
 use Rattle.dd_catalogue.specs.Splits.{IsSplit, IsGroupDone}
 use Rattle.dd_catalogue.specs.Ways.{Way, IsUnderWay, IsFull}

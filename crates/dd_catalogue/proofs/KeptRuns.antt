@@ -19,26 +19,26 @@ use Rattle.dd_front.specs.Step.{at_symbol}
 use Rattle.dd_front.proofs.Absorbing.{all_back}
 use Rattle.dd_front.proofs.Entries.{jobs_opened}
 use Rattle.dd_front.proofs.Standing.{stands_once, stands_somewhere}
-use Rattle.dd_jobs.specs.declared.portions.Portion.{Portion}
-use Rattle.dd_jobs.specs.Portions.{IsPortionJob}
-use Rattle.dd_jobs.proofs.PortionLaws.{portion_job}
+use Rattle.dd_opening_jobs.specs.declared.portions.Portion.{Portion}
+use Rattle.dd_opening_jobs.specs.Portions.{IsPortionJob}
+use Rattle.dd_opening_jobs.proofs.PortionLaws.{portion_job}
 use Rattle.dd_check.specs.declared.checkpoint.Checkpoint.{Checkpoint}
 use Rattle.dd_ports.proofs.Growth.{Appends_trans}
 use Rattle.dd_check.specs.Between.{AreLinesBetween}
 use Rattle.dd_check.specs.Clauses.{HasWork}
 use Rattle.dd_check.specs.ChainPuts.{IsPut, IsStop, IsNextMember}
 use Rattle.dd_check.specs.ChainStarts.{Start, first_start}
-use Rattle.dd_pages.specs.Pages.{IsEmpty}
-use Rattle.dd_pages.specs.Rounds.{AreJobsFrom, AreOpen}
-use Rattle.dd_pages.specs.MostLines.{most_lines}
-use Rattle.dd_pages.specs.Runs.{IsLimit, IsPause, IsBeforePause, Finishes}
-use Rattle.dd_pages.specs.declared.finish.Finish.TheVariants.{Whole, Paused, CutShort}
-use Rattle.dd_pages.specs.declared.limit.Limit.{Limit}
-use Rattle.dd_pages.specs.Saves.{HoldsCheckAt, Saves, SavesFirst, IsOfRound}
-use Rattle.dd_pages.specs.Names.{KeepsName, PutsCheck, PutsAtEnd, PutsAtPause, PutsBeforeLast, LeavesName, FinishesName, HasRun}
-use Rattle.dd_pages.specs.declared.fault.RunFault.{RunFault}
-use Rattle.dd_pages.specs.declared.finish.Finish.{Finish}
-use Rattle.dd_pages.specs.declared.pages.Page.{Page}
+use Rattle.dd_pages_and_checkpoints.specs.Pages.{IsEmpty}
+use Rattle.dd_pages_and_checkpoints.specs.Rounds.{AreJobsFrom, AreOpen}
+use Rattle.dd_pages_and_checkpoints.specs.MostLines.{most_lines}
+use Rattle.dd_pages_and_checkpoints.specs.Runs.{IsLimit, IsPause, IsBeforePause, Finishes}
+use Rattle.dd_pages_and_checkpoints.specs.declared.finish.Finish.TheVariants.{Whole, Paused, CutShort}
+use Rattle.dd_pages_and_checkpoints.specs.declared.limit.Limit.{Limit}
+use Rattle.dd_pages_and_checkpoints.specs.Saves.{HoldsCheckAt, Saves, SavesFirst, IsOfRound}
+use Rattle.dd_pages_and_checkpoints.specs.Names.{KeepsName, PutsCheck, PutsAtEnd, PutsAtPause, PutsBeforeLast, LeavesName, FinishesName, HasRun}
+use Rattle.dd_pages_and_checkpoints.specs.declared.fault.RunFault.{RunFault}
+use Rattle.dd_pages_and_checkpoints.specs.declared.finish.Finish.{Finish}
+use Rattle.dd_pages_and_checkpoints.specs.declared.pages.Page.{Page}
 use Rattle.dd_catalogue.specs.Works.{AreWork, IsStarted}
 use Rattle.dd_catalogue.specs.Ways.{Way, IsUnderWay, IsFull}
 use Rattle.dd_catalogue.specs.Outs.{IsPartOut}

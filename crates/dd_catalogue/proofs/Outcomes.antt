@@ -10,9 +10,9 @@ use Rattle.dd_model.specs.Lists.{Begins}
 use Rattle.dd_model.specs.Position.{IsBefore}
 use Rattle.dd_model.specs.Text.{AreLines}
 use Rattle.dd_model.specs.Joined.{IsUnderOne}
-use Rattle.dd_jobs.specs.declared.portions.Portion.{Portion}
-use Rattle.dd_jobs.specs.Portions.{IsPortionMember, IsPortionText}
-use Rattle.dd_jobs.proofs.PortionLaws.{portion_member, portion_symbol}
+use Rattle.dd_opening_jobs.specs.declared.portions.Portion.{Portion}
+use Rattle.dd_opening_jobs.specs.Portions.{IsPortionMember, IsPortionText}
+use Rattle.dd_opening_jobs.proofs.PortionLaws.{portion_member, portion_symbol}
 use Rattle.dd_model.specs.declared.jobs.Job.{Job}
 use Rattle.dd_model.specs.declared.jobs.Position.{Position}
 use Rattle.dd_model.specs.declared.jobs.Position.TheVariants.{End}
@@ -31,15 +31,15 @@ use Rattle.dd_ports.proofs.Growth.{Appends_trans}
 use Rattle.dd_check.specs.Between.{AreMembersBetween, AreLinesBetween, IsNoEarlier}
 use Rattle.dd_check.specs.ChainStarts.{Start}
 use Rattle.dd_check.proofs.ChainRests.{text_is_rest}
-use Rattle.dd_pages.specs.Pages.{HasLines, IsEmpty, IsFrontOut}
-use Rattle.dd_pages.proofs.PageLemmas.{all_written}
+use Rattle.dd_pages_and_checkpoints.specs.Pages.{HasLines, IsEmpty, IsFrontOut}
+use Rattle.dd_pages_and_checkpoints.proofs.PageLemmas.{all_written}
 use Rattle.dd_catalogue.specs.Ways.{Way, IsFull}
 use Rattle.dd_catalogue.specs.Outs.{IsPartOut}
-use Rattle.dd_pages.specs.Runs.{IsPause, IsBeforePause, IsLimit, WritesRest, WritesUpTo, Finishes}
-use Rattle.dd_pages.specs.Outputs.{IsShown}
-use Rattle.dd_pages.specs.declared.finish.Finish.TheVariants.{Paused, CutShort}
-use Rattle.dd_pages.specs.declared.limit.Limit.{Limit}
-use Rattle.dd_pages.specs.declared.pages.Page.{Page}
+use Rattle.dd_pages_and_checkpoints.specs.Runs.{IsPause, IsBeforePause, IsLimit, WritesRest, WritesUpTo, Finishes}
+use Rattle.dd_pages_and_checkpoints.specs.Outputs.{IsShown}
+use Rattle.dd_pages_and_checkpoints.specs.declared.finish.Finish.TheVariants.{Paused, CutShort}
+use Rattle.dd_pages_and_checkpoints.specs.declared.limit.Limit.{Limit}
+use Rattle.dd_pages_and_checkpoints.specs.declared.pages.Page.{Page}
 use Rattle.dd_catalogue.specs.Works.{AreWork, CoverRest}
 use Rattle.dd_catalogue.proofs.Working.{work_member}
 

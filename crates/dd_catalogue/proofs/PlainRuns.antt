@@ -10,9 +10,9 @@ use Rattle.dd_front.specs.Rounds.{open_jobs}
 use Rattle.dd_front.proofs.Absorbing.{all_back}
 use Rattle.dd_board.specs.Desk.{AreJobsOf}
 use Rattle.dd_check.specs.ChainStarts.{Start}
-use Rattle.dd_pages.specs.Pages.{HasLines, IsEmpty}
-use Rattle.dd_pages.specs.Rounds.{AreOpen, IsRoundDone, IsAtEnd}
-use Rattle.dd_pages.specs.declared.pages.Page.{Page}
+use Rattle.dd_pages_and_checkpoints.specs.Pages.{HasLines, IsEmpty}
+use Rattle.dd_pages_and_checkpoints.specs.Rounds.{AreOpen, IsRoundDone, IsAtEnd}
+use Rattle.dd_pages_and_checkpoints.specs.declared.pages.Page.{Page}
 use Rattle.dd_catalogue.specs.Works.{IsStarted}
 use Rattle.dd_catalogue.specs.Splits.{IsSplit, IsRefined, IsGroupDone, AreSplits}
 use Rattle.dd_catalogue.specs.Ways.{Way, HasEmitted, IsUnderWay}

@@ -16,7 +16,7 @@ use Rattle.dd_front.specs.Joining.{IsDone, done_with, done_first}
 use Rattle.dd_front.specs.Machine.{Machine, entry_of, open_entries, jobs_of}
 use Rattle.dd_front.specs.Rounds.{open_jobs, job_if_open}
 use Rattle.dd_front.proofs.Absorbing.{all_front, all_back, absorbed_jobs}
-use Rattle.dd_pages.specs.Rounds.{AreOpen, AreDoneThenOpen, IsRoundDone}
+use Rattle.dd_pages_and_checkpoints.specs.Rounds.{AreOpen, AreDoneThenOpen, IsRoundDone}
 
 pub open_all : (es : List Entry) → AreOpen es → AreDoneThenOpen es
 open_all [] opens = tt

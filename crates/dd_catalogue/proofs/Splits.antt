@@ -24,7 +24,7 @@ use Rattle.dd_front.proofs.Events.{held_next}
 use Rattle.dd_front.proofs.Replaced.{state_at, split_at}
 use Rattle.dd_front.proofs.Splitting.{child_extends, children_pairs}
 use Rattle.dd_board.specs.Desk.{AreJobsOf}
-use Rattle.dd_pages.specs.Rounds.{AreOpen}
+use Rattle.dd_pages_and_checkpoints.specs.Rounds.{AreOpen}
 use Rattle.dd_catalogue.specs.Splits.{IsNoLonger, IsReady, IsSplit, AreSplits, IsRefined}
 use Rattle.dd_catalogue.proofs.RoundEntries.{opened_open}
 use Rattle.dd_catalogue.proofs.Working.{children_jobs, child_stays}

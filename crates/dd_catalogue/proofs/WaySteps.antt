@@ -38,15 +38,15 @@ use Rattle.dd_front.proofs.Holding.{held_first}
 use Rattle.dd_front.proofs.Standing.{under_extended}
 use Rattle.dd_board.specs.Desk.{AreJobsOf}
 use Rattle.dd_check.specs.ChainStarts.{Start}
-use Rattle.dd_pages.specs.Pages.{IsEmpty, AddsAll, KeepsLines, WritesFront, WritesFrontOf}
-use Rattle.dd_pages.specs.Rounds.{AreOpen, AreDoneThenOpen, IsRoundDone}
+use Rattle.dd_pages_and_checkpoints.specs.Pages.{IsEmpty, AddsAll, KeepsLines, WritesFront, WritesFrontOf}
+use Rattle.dd_pages_and_checkpoints.specs.Rounds.{AreOpen, AreDoneThenOpen, IsRoundDone}
 use Rattle.dd_catalogue.specs.Works.{IsPartOfOne, IsStarted}
 use Rattle.dd_catalogue.specs.Splits.{IsReady, IsSplit}
 use Rattle.dd_catalogue.specs.Ways.{Way, AreRecent, AreOfRound, HasEmitted, EmitsMore, IsUnderWay, IsFull, GoesOn, FillsUp}
 use Rattle.dd_catalogue.specs.Outs.{IsPartOut, IsAny, WritesPart}
-use Rattle.dd_pages.specs.declared.pages.Page.{Page}
+use Rattle.dd_pages_and_checkpoints.specs.declared.pages.Page.{Page}
 use Rattle.dd_catalogue.proofs.Working.{work_member, children_jobs}
-use Rattle.dd_pages.proofs.PageLemmas.{front_kept}
+use Rattle.dd_pages_and_checkpoints.proofs.PageLemmas.{front_kept}
 use Rattle.dd_catalogue.proofs.RoundEntries.{open_all, opened_open, opens_back, open_behind, round_jobs, round_entries, done_in_round}
 
 pub appends_nothing : (old : Option (List ℕ)) → Appends old old []

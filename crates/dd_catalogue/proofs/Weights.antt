@@ -10,7 +10,7 @@ use Rattle.dd_model.proofs.Lists.{all_from_members}
 use Rattle.dd_front.specs.Machine.{Machine, jobs_of}
 use Rattle.dd_front.specs.Rounds.{open_jobs}
 use Rattle.dd_board.specs.Desk.{AreJobsOf}
-use Rattle.dd_pages.specs.Rounds.{AreOpen, IsRoundDone}
+use Rattle.dd_pages_and_checkpoints.specs.Rounds.{AreOpen, IsRoundDone}
 use Rattle.dd_catalogue.specs.Splits.{IsSplit}
 use Rattle.dd_catalogue.proofs.RoundEntries.{waiting_all, after_round, length_jobs}
 

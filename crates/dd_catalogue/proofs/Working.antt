@@ -28,11 +28,11 @@ use Rattle.dd_front.specs.Machine.{StandsAt, jobs_of}
 use Rattle.dd_front.proofs.Absorbing.{all_back}
 use Rattle.dd_front.proofs.Splitting.{child_extends, children_pairs}
 use Rattle.dd_front.proofs.Standing.{under_extended}
-use Rattle.dd_jobs.specs.declared.portions.Portion.{Portion}
-use Rattle.dd_jobs.specs.Portions.{IsPortionJob, IsPortionMember}
-use Rattle.dd_jobs.proofs.PortionLaws.{portion_job, under_portion}
+use Rattle.dd_opening_jobs.specs.declared.portions.Portion.{Portion}
+use Rattle.dd_opening_jobs.specs.Portions.{IsPortionJob, IsPortionMember}
+use Rattle.dd_opening_jobs.proofs.PortionLaws.{portion_job, under_portion}
 use Rattle.dd_board.specs.Desk.{AreJobsOf}
-use Rattle.dd_pages.specs.Rounds.{AreJobsFrom}
+use Rattle.dd_pages_and_checkpoints.specs.Rounds.{AreJobsFrom}
 use Rattle.dd_catalogue.specs.Works.{IsPartOfOne, HasPart, AreWork, CoverRest, IsStarting, IsLongAsWhole}
 use Rattle.dd_catalogue.specs.Splits.{IsNoLonger}
 use Rattle.dd_catalogue.proofs.JobsFrom.{from_ascending, from_apart, from_jobs, from_opening, from_pairs, one_first, opening_pairs}

@@ -10,11 +10,11 @@ use Rattle.dd_check.specs.declared.checkpoint.Checkpoint.{Checkpoint}
 use Rattle.dd_check.specs.Clauses.{HasWork}
 use Rattle.dd_check.specs.ChainPuts.{IsPut}
 use Rattle.dd_check.specs.ChainStarts.{Start}
-use Rattle.dd_pages.specs.Pages.{IsEmpty}
-use Rattle.dd_pages.specs.Rounds.{AreOpen}
-use Rattle.dd_pages.specs.MostLines.{most_lines}
-use Rattle.dd_pages.specs.Saves.{IsOfRound}
-use Rattle.dd_pages.specs.declared.pages.Page.{Page}
+use Rattle.dd_pages_and_checkpoints.specs.Pages.{IsEmpty}
+use Rattle.dd_pages_and_checkpoints.specs.Rounds.{AreOpen}
+use Rattle.dd_pages_and_checkpoints.specs.MostLines.{most_lines}
+use Rattle.dd_pages_and_checkpoints.specs.Saves.{IsOfRound}
+use Rattle.dd_pages_and_checkpoints.specs.declared.pages.Page.{Page}
 use Rattle.dd_catalogue.specs.Ways.{Way, IsUnderWay}
 use Rattle.dd_catalogue.specs.Works.{AreWork}
 

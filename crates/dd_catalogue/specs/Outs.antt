@@ -3,8 +3,8 @@ use Rattle.std.specs.Prelude.{ℕ, List, Option}
 use Rattle.dd_model.specs.Symbol.{Symbol}
 use Rattle.dd_front.specs.Held.{IsHeld}
 use Rattle.dd_front.specs.Machine.{Machine}
-use Rattle.dd_pages.specs.Pages.{IsFrontOut}
-use Rattle.dd_pages.specs.declared.pages.Page.{Page}
+use Rattle.dd_pages_and_checkpoints.specs.Pages.{IsFrontOut}
+use Rattle.dd_pages_and_checkpoints.specs.declared.pages.Page.{Page}
 use Rattle.dd_catalogue.specs.Works.{AreWork, CoverRest}
 use Rattle.dd_catalogue.specs.Ways.{Way, AreRecent, IsUnderWay}
 

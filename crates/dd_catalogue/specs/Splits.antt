@@ -14,7 +14,7 @@ use Rattle.dd_front.specs.Held.{IsHeld}
 use Rattle.dd_front.specs.Machine.{Machine, StandsAt, jobs_of}
 use Rattle.dd_front.specs.Numbers.{AreNumbered}
 use Rattle.dd_board.specs.Desk.{AreJobsOf}
-use Rattle.dd_pages.specs.Rounds.{AreOpen, IsRoundDone}
+use Rattle.dd_pages_and_checkpoints.specs.Rounds.{AreOpen, IsRoundDone}
 
 -- a machine that can do a round of a request: its jobs are of it, ascending and apart, and all wait
 pub record IsReady (q : Request) (f : Machine) : Type 0 where

@@ -5,10 +5,10 @@ use Rattle.dd_front.specs.Rounds.{open_jobs}
 use Rattle.dd_front.specs.Step.{Emits, EmitsPart}
 use Rattle.dd_check.specs.Clauses.{HasWork}
 use Rattle.dd_check.specs.ChainStarts.{Start}
-use Rattle.dd_pages.specs.Rounds.{AreOpen}
-use Rattle.dd_pages.specs.Names.{HasRun}
-use Rattle.dd_pages.specs.declared.fault.RunFault.{RunFault}
-use Rattle.dd_pages.specs.declared.pages.Page.{Page}
+use Rattle.dd_pages_and_checkpoints.specs.Rounds.{AreOpen}
+use Rattle.dd_pages_and_checkpoints.specs.Names.{HasRun}
+use Rattle.dd_pages_and_checkpoints.specs.declared.fault.RunFault.{RunFault}
+use Rattle.dd_pages_and_checkpoints.specs.declared.pages.Page.{Page}
 use Rattle.dd_catalogue.specs.Ways.{Way}
 use Rattle.dd_catalogue.specs.declared.step.Step.{Step}
 use Rattle.dd_catalogue.specs.declared.step.Step.TheVariants.{Next, Ended}

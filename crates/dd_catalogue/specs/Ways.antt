@@ -4,7 +4,7 @@ use Rattle.std.specs.List.{AllByRecursion, Contains}
 use Rattle.dd_model.specs.Symbol.{Symbol}
 use Rattle.dd_model.specs.Position.{IsBefore, IsWhollyBefore}
 use Rattle.dd_model.specs.Joined.{IsUnderOne}
-use Rattle.dd_jobs.specs.Portions.{IsPortionMember}
+use Rattle.dd_opening_jobs.specs.Portions.{IsPortionMember}
 use Rattle.dd_model.specs.declared.jobs.Job.{Job}
 use Rattle.dd_model.specs.declared.jobs.Position.{Position}
 use Rattle.dd_front.specs.declared.entry.Entry.{Entry}
@@ -14,9 +14,9 @@ use Rattle.dd_front.specs.Machine.{Machine, StandsAt, jobs_of}
 use Rattle.dd_front.specs.Rounds.{open_jobs}
 use Rattle.dd_front.specs.Step.{at_symbol}
 use Rattle.dd_check.specs.ChainStarts.{Start}
-use Rattle.dd_pages.specs.Pages.{HasLines}
-use Rattle.dd_pages.specs.declared.pages.Page.{Page}
-use Rattle.dd_pages.specs.Rounds.{AreOpen, AreDoneThenOpen}
+use Rattle.dd_pages_and_checkpoints.specs.Pages.{HasLines}
+use Rattle.dd_pages_and_checkpoints.specs.declared.pages.Page.{Page}
+use Rattle.dd_pages_and_checkpoints.specs.Rounds.{AreOpen, AreDoneThenOpen}
 use Rattle.dd_board.specs.Desk.{AreJobsOf}
 use Rattle.dd_catalogue.specs.Works.{AreWork, CoverRest, IsPartOfOne}
 

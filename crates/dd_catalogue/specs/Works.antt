@@ -8,13 +8,13 @@ use Rattle.dd_model.specs.Joined.{IsUnderOne}
 use Rattle.dd_model.specs.declared.jobs.Job.{Job}
 use Rattle.dd_model.specs.declared.jobs.Position.{Position}
 use Rattle.dd_model.specs.declared.jobs.Position.TheVariants.{At, End}
-use Rattle.dd_jobs.specs.declared.portions.Portion.{Portion}
-use Rattle.dd_jobs.specs.Portions.{IsPortionMember}
+use Rattle.dd_opening_jobs.specs.declared.portions.Portion.{Portion}
+use Rattle.dd_opening_jobs.specs.Portions.{IsPortionMember}
 use Rattle.dd_front.specs.Absorbed.{Extends}
 use Rattle.dd_front.specs.Machine.{Machine, IsOpened}
 use Rattle.dd_board.specs.Desk.{AreJobsOf}
 use Rattle.dd_check.specs.ChainStarts.{Start}
-use Rattle.dd_pages.specs.Rounds.{AreJobsFrom}
+use Rattle.dd_pages_and_checkpoints.specs.Rounds.{AreJobsFrom}
 
 -- the job is a part of one of these, or one of them
 pub record IsPartOfOne (jobs : List Job) (part : Job) : Type 0 where

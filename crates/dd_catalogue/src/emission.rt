@@ -8,16 +8,16 @@ ghost use Rattle.dd_front.specs.Allowed.{HasFirst, MayPart};
 ghost use Rattle.dd_front.specs.Rounds.{open_jobs};
 ghost use Rattle.dd_front.specs.Room.{HasRoom, HasRoomToEmit};
 ghost use Rattle.dd_front.specs.Step.{Emits, EmitsPart};
-ghost use Rattle.dd_pages.specs.Rounds.{AreOpen, AreDoneThenOpen};
+ghost use Rattle.dd_pages_and_checkpoints.specs.Rounds.{AreOpen, AreDoneThenOpen};
 ghost use Rattle.dd_catalogue.specs.Steps.{IsAtNext, IsPastEmpty};
 ghost use Rattle.dd_catalogue.specs.Ways.{GoesOn, FillsUp};
 ghost use Rattle.dd_catalogue.specs.Outs.{IsAny, WritesPart};
-ghost use Rattle.dd_pages.specs.MostLines.{most_lines};
+ghost use Rattle.dd_pages_and_checkpoints.specs.MostLines.{most_lines};
 
 use crate::rounds::count_at_front;
 use dd_front::{Event, Front, Members};
 use dd_model::Memory;
-use dd_pages::Page;
+use dd_pages_and_checkpoints::Page;
 use dd_ports::{Sink, SinkFault};
 use std::thread::Threads;
 

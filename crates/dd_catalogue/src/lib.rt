@@ -1,7 +1,7 @@
 //! The writing of a catalogue: runs from a position on, their rounds on workers, and the
 //! checkpoints that runs keep.
 //!
-//! A run of a catalogue (`Run` of dd_pages) has a beginning: a position, and the number of lines
+//! A run of a catalogue (`Run` of dd_pages_and_checkpoints) has a beginning: a position, and the number of lines
 //! before it. It opens a front with the opening's jobs that are not wholly before the position.
 //! While one is open, the first ones are done in a round.
 //!

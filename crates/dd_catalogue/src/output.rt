@@ -1,5 +1,5 @@
 use dd_front::Front;
-use dd_pages::Page;
+use dd_pages_and_checkpoints::Page;
 
 /// Where a run that writes lines stands.
 #[derive(Drop)]

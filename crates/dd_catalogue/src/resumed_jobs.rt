@@ -6,7 +6,7 @@ use crate::parts::is_large;
 use crate::rounds::jobs_from;
 use dd_front::Finder;
 use dd_model::{Job, Memory};
-use dd_pages::Run;
+use dd_pages_and_checkpoints::Run;
 use std::alloc::Global;
 
 /// A job with this many numbers has a whole table, and is small.

@@ -1,4 +1,4 @@
-use dd_pages::Finish;
+use dd_pages_and_checkpoints::Finish;
 
 /// What follows a round.
 pub enum Step {

@@ -8,8 +8,8 @@ use Rattle.dd_model.specs.Small.{IsSmallSymbol}
 use Rattle.dd_model.proofs.LinesDetermined.{line_determines}
 use Rattle.dd_model.proofs.Lists.{Contains-none, Contains-head, Contains-later, Contains-cases}
 use Rattle.dd_model.proofs.Texts.{lines_unique}
-use Rattle.dd_commands.specs.Totals.{is_among, first_seen}
-use Rattle.dd_commands.proofs.TotalsLemmas.{by_test, same_name, equal_to_itself}
+use Rattle.dd_file_commands.specs.Totals.{is_among, first_seen}
+use Rattle.dd_file_commands.proofs.TotalsLemmas.{by_test, same_name, equal_to_itself}
 use Rattle.dd_exercise.specs.Counting.{AreNew}
 
 -- the lines of symbols, each as if it were the first

@@ -8,12 +8,12 @@ use Rattle.dd_model.specs.Isomorphic.{IsIsomorphism}
 use Rattle.dd_model.specs.Reading.{IsReadable}
 use Rattle.dd_model.proofs.Isomorphisms.{Isomorphic-trans}
 use Rattle.dd_covers.proofs.TorusCovers.{torus_above}
-use Rattle.dd_commands.specs.declared.commands.SymbolCommand.{SymbolCommand}
-use Rattle.dd_commands.specs.declared.commands.SymbolCommand.TheVariants as command
-use Rattle.dd_commands.specs.Made.{IsMade}
-use Rattle.dd_commands.specs.Totals.{totals_of}
-use Rattle.dd_commands.proofs.InfoLemmas.{group_once}
-use Rattle.dd_commands.proofs.MadeOnce.{cover_table, made_once}
+use Rattle.dd_file_commands.specs.declared.commands.SymbolCommand.{SymbolCommand}
+use Rattle.dd_file_commands.specs.declared.commands.SymbolCommand.TheVariants as command
+use Rattle.dd_file_commands.specs.Made.{IsMade}
+use Rattle.dd_file_commands.specs.Totals.{totals_of}
+use Rattle.dd_file_commands.proofs.InfoLemmas.{group_once}
+use Rattle.dd_file_commands.proofs.MadeOnce.{cover_table, made_once}
 use Rattle.dd_exercise.specs.declared.coverings.Covering.{Covering}
 use Rattle.dd_exercise.specs.declared.coverings.Covering.TheVariants as covering
 use Rattle.dd_exercise.specs.Choices.{change_at, changed, covering_at, IsCoverBy}

@@ -6,9 +6,9 @@ use Rattle.std.proofs.lemmas.List.Sums.{sum_by-append}
 use Rattle.dd_model.specs.Symbol.{Symbol}
 use Rattle.dd_model.specs.Line.{IsLine}
 use Rattle.dd_model.specs.Small.{IsSmallSymbol}
-use Rattle.dd_commands.specs.Info.{IsGroup}
-use Rattle.dd_commands.specs.Totals.{counted, counted_in, first_seen, times, totals_of}
-use Rattle.dd_commands.proofs.TotalsLemmas.{totals_few, totals_more}
+use Rattle.dd_file_commands.specs.Info.{IsGroup}
+use Rattle.dd_file_commands.specs.Totals.{counted, counted_in, first_seen, times, totals_of}
+use Rattle.dd_file_commands.proofs.TotalsLemmas.{totals_few, totals_more}
 use Rattle.dd_exercise.specs.declared.tallies.Tally.{Tally}
 use Rattle.dd_exercise.specs.Counting.{AreDifferent, AreGroups}
 use Rattle.dd_exercise.specs.Exercise.{tally_text, IsExerciseText}

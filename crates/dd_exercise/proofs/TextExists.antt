@@ -7,8 +7,8 @@ use Rattle.dd_model.proofs.Lists.{Contains-none, Contains-head, Contains-later, 
 use Rattle.dd_name.specs.Name.{name_text}
 use Rattle.dd_quotient.proofs.Deciding.{decide_same}
 use Rattle.dd_quotient.proofs.Members.{decide_same_symbol}
-use Rattle.dd_commands.specs.Info.{IsGroup}
-use Rattle.dd_commands.specs.Totals.{totals_of}
+use Rattle.dd_file_commands.specs.Info.{IsGroup}
+use Rattle.dd_file_commands.specs.Totals.{totals_of}
 use Rattle.dd_exercise.specs.Counting.{AreNew, AreGroups}
 use Rattle.dd_exercise.specs.Exercise.{tally_text, IsExerciseText}
 use Rattle.dd_exercise.proofs.ItemsExist.{items_exist}

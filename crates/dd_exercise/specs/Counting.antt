@@ -2,7 +2,7 @@
 use Rattle.std.specs.Prelude.{◌≡◌, ◌⊎◌, ℕ, ◌+◌, List, [], ◌∷◌}
 use Rattle.std.specs.List.{Contains}
 use Rattle.dd_model.specs.Symbol.{Symbol}
-use Rattle.dd_commands.specs.Info.{IsGroup}
+use Rattle.dd_file_commands.specs.Info.{IsGroup}
 
 -- n symbols of the list stand neither before their place in it nor among those that came before the list
 abbrev pub AreNew : List Symbol → List Symbol → ℕ → Type 0

@@ -2,7 +2,7 @@
 use Rattle.std.specs.Prelude.{◌≡◌, ℕ, List, ◌++◌, length, codes, decimal}
 use Rattle.std.specs.List.{flat_map, sum_by}
 use Rattle.dd_model.specs.Symbol.{Symbol}
-use Rattle.dd_commands.specs.Totals.{total_text, totals_of}
+use Rattle.dd_file_commands.specs.Totals.{total_text, totals_of}
 use Rattle.dd_exercise.specs.Seeds.{AreSeeds}
 use Rattle.dd_exercise.specs.Items.{AreItems}
 use Rattle.dd_exercise.specs.Counting.{AreDifferent, AreGroups}

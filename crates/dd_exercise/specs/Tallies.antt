@@ -3,8 +3,8 @@ use Rattle.std.specs.Prelude.{◌≡◌, ℕ, ◌+◌, ◌<◌, List}
 use Rattle.std.specs.List.{AllByRecursion}
 use Rattle.dd_model.specs.Symbol.{Symbol}
 use Rattle.dd_model.specs.Line.{IsLine}
-use Rattle.dd_commands.specs.Info.{IsGroup}
-use Rattle.dd_commands.specs.Totals.{counted, counted_in}
+use Rattle.dd_file_commands.specs.Info.{IsGroup}
+use Rattle.dd_file_commands.specs.Totals.{counted, counted_in}
 use Rattle.dd_exercise.specs.declared.tallies.Tally.{Tally}
 
 -- no count comes near its end

@@ -1,6 +1,6 @@
 ghost use Rattle.std.specs.Prelude.{◌≡◌, ◌≤◌, ℕ, List, length};
 ghost use Rattle.dd_model.specs.Symbol.{Symbol, IsSymbol};
-ghost use Rattle.dd_commands.specs.Info.{IsGroup};
+ghost use Rattle.dd_file_commands.specs.Info.{IsGroup};
 ghost use Rattle.dd_exercise.specs.Exercise.{IsExerciseText};
 ghost use Rattle.dd_exercise.specs.Items.{IsItem};
 ghost use Rattle.dd_exercise.specs.Seeds.{AreSeeds};

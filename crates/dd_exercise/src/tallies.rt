@@ -1,10 +1,10 @@
 ghost use Rattle.std.specs.Prelude.{◌≡◌, ◌++◌, [], length, IfOk, OnOk};
 ghost use Rattle.dd_model.specs.Line.{IsLine};
-ghost use Rattle.dd_commands.specs.Totals.{counted_in};
+ghost use Rattle.dd_file_commands.specs.Totals.{counted_in};
 ghost use Rattle.dd_exercise.specs.Tallies.{IsShort, CountsOne};
 ghost use Rattle.dd_exercise.specs.Exercise.{tally_text};
 
-use dd_commands::{Totals, group_of};
+use dd_file_commands::{Totals, group_of};
 use dd_model::Memory;
 use dd_symbol::Connected;
 use dd_text::put_line;

@@ -5,8 +5,8 @@ use Rattle.dd_model.specs.declared.pair.Pair.{Pair}
 use Rattle.dd_model.specs.Symbol.{Symbol, AreInvolutions, IsChamber, op}
 use Rattle.dd_model.specs.Cell.{InCell, IsLeastOfCell}
 use Rattle.dd_symbol.specs.Images.{of_rows}
-use Rattle.dd_jobs.specs.Places.{place}
-use Rattle.dd_partial_table.proofs.TableFronts.{rows_at}
+use Rattle.dd_opening_jobs.specs.Places.{place}
+use Rattle.dd_branch_tables.proofs.TableFronts.{rows_at}
 
 -- what stands at the place of a chamber is its image
 pub read_image : (n : ℕ) (images : List ℕ) (i : Index) (d at result : ℕ) → 1 ≤ d → d ≤ n → at ≡ place i d → result ≡ get_or images at 0 → result ≡ op (of_rows n images) i d

@@ -13,12 +13,12 @@ use Rattle.dd_model.specs.Symbol.{Symbol, AreInvolutions}
 use Rattle.dd_model.specs.Wanted.{AtMost}
 use Rattle.dd_model.proofs.SameInvolutions.{same-sym, involutions-same}
 use Rattle.dd_symbol.specs.Images.{of_rows}
-use Rattle.dd_partial_table.specs.Table.{IsTableOf, HasLeastTable}
-use Rattle.dd_partial_table.specs.Walk.{HasNoneLeft}
+use Rattle.dd_branch_tables.specs.Table.{IsTableOf, HasLeastTable}
+use Rattle.dd_branch_tables.specs.Walk.{HasNoneLeft}
 use Rattle.dd_invol.specs.NextTable.{HasSought, IsAhead}
-use Rattle.dd_partial_table.proofs.BareTables.{at_most_alike}
-use Rattle.dd_partial_table.proofs.TableFronts.{told_same}
-use Rattle.dd_partial_table.proofs.WalkLemmas.{front_is, next_read, none_sought}
+use Rattle.dd_branch_tables.proofs.BareTables.{at_most_alike}
+use Rattle.dd_branch_tables.proofs.TableFronts.{told_same}
+use Rattle.dd_branch_tables.proofs.WalkLemmas.{front_is, next_read, none_sought}
 
 module _ (n : ℕ) (numbers : List ℕ) (whole : length numbers ≡ 3 * n) where
   -- the numbers are the images of the table

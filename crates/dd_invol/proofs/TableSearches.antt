@@ -13,18 +13,18 @@ use Rattle.dd_model.specs.Code.{code, all_images, IsBelow}
 use Rattle.dd_model.specs.Symbol.{Symbol}
 use Rattle.dd_model.proofs.LeastForms.{not_above}
 use Rattle.dd_model.proofs.Orders.{list_not_below_itself, not_below_itself, not_below_both}
-use Rattle.dd_partial_table.specs.Levels.{IsLeft, IsLeftAt}
-use Rattle.dd_jobs.specs.Under.{IsUnder, HasNothingUnder}
-use Rattle.dd_partial_table.specs.declared.level.Level.{Level}
+use Rattle.dd_branch_tables.specs.Levels.{IsLeft, IsLeftAt}
+use Rattle.dd_opening_jobs.specs.Under.{IsUnder, HasNothingUnder}
+use Rattle.dd_branch_tables.specs.declared.level.Level.{Level}
 use Rattle.dd_invol.specs.Growth.{Growing, size_at, prefix_at, taken_back}
 use Rattle.dd_invol.specs.NextTable.{IsAhead, IsSoughtAt, here}
-use Rattle.dd_partial_table.specs.Stem.{Any, IsStem}
+use Rattle.dd_branch_tables.specs.Stem.{Any, IsStem}
 use Rattle.dd_invol.specs.TableSearch.{IsAtLevel, IsLeftTo, IsComing, IsSearched}
-use Rattle.dd_partial_table.specs.Walk.{IsListed, IsPast, IsReached, IsSought, HasNoneLeft}
+use Rattle.dd_branch_tables.specs.Walk.{IsListed, IsPast, IsReached, IsSought, HasNoneLeft}
 use Rattle.dd_invol.specs.declared.table_search.TableSearch.{TableSearch}
 use Rattle.dd_invol.proofs.SoughtStems.{ahead_here}
-use Rattle.dd_partial_table.proofs.WalkLemmas.{front_is, listed_under, none_past, only_read}
-use Rattle.dd_partial_table.proofs.WalkOrder.{below_by_images, length-front, own_begins, some_past, three, turned_round}
+use Rattle.dd_branch_tables.proofs.WalkLemmas.{front_is, listed_under, none_past, only_read}
+use Rattle.dd_branch_tables.proofs.WalkOrder.{below_by_images, length-front, own_begins, some_past, three, turned_round}
 
 -- The search has gone on to a whole prefix: what was left is under it, or still left and comes after it.
 pub record HasGoneOn (from : Growing) (levels : List Level) (to : Growing) (others : List Level) : Type 0 where

@@ -7,12 +7,12 @@ use Rattle.dd_model.specs.Code.{code, all_images}
 use Rattle.dd_model.specs.Lists.{Begins}
 use Rattle.dd_model.specs.Symbol.{Symbol, IsSymbol}
 use Rattle.dd_model.proofs.Codes.{length-flat_images}
-use Rattle.dd_partial_table.specs.Table.{IsUnbranched, IsTableOf, HasNoTable}
-use Rattle.dd_partial_table.specs.Walk.{IsListed, IsNext, IsReached}
+use Rattle.dd_branch_tables.specs.Table.{IsUnbranched, IsTableOf, HasNoTable}
+use Rattle.dd_branch_tables.specs.Walk.{IsListed, IsNext, IsReached}
 use Rattle.dd_invol.specs.NextTable.{IsAhead}
-use Rattle.dd_partial_table.proofs.TableFronts.{front_same}
-use Rattle.dd_partial_table.proofs.Unbranched.{unbranched_unique}
-use Rattle.dd_partial_table.proofs.WalkOrder.{own_begins}
+use Rattle.dd_branch_tables.proofs.TableFronts.{front_same}
+use Rattle.dd_branch_tables.proofs.Unbranched.{unbranched_unique}
+use Rattle.dd_branch_tables.proofs.WalkOrder.{own_begins}
 
 -- tables of branching values 1 with the same images are one
 one_by_images : (s t : Symbol) (images : List ℕ) → IsSymbol s → IsSymbol t → IsUnbranched s → IsUnbranched t → s.size ≡ t.size → length images ≡ 3 * t.size → Begins images (code s) → Begins images (code t)

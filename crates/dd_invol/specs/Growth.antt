@@ -1,8 +1,8 @@
 -- A search for tables.
 use Rattle.std.specs.Prelude.{ℕ, List}
 use Rattle.dd_model.specs.declared.requests.Request.{Request}
-use Rattle.dd_partial_table.specs.Stem.{prefix_of, size_of, shortened}
-use Rattle.dd_partial_table.specs.declared.stem.Stem.{Stem}
+use Rattle.dd_branch_tables.specs.Stem.{prefix_of, size_of, shortened}
+use Rattle.dd_branch_tables.specs.declared.stem.Stem.{Stem}
 
 -- what is asked, and how far the search has come
 pub record Growing : Type 0 where

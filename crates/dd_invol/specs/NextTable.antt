@@ -4,10 +4,10 @@ use Rattle.dd_model.specs.Symbol.{Symbol}
 use Rattle.dd_model.specs.Code.{all_images}
 use Rattle.dd_model.specs.declared.requests.Request.{Request}
 use Rattle.dd_model.specs.declared.jobs.Job.{Job}
-use Rattle.dd_partial_table.specs.Stem.{prefix_of, size_of}
-use Rattle.dd_partial_table.specs.Table.{IsTableOf}
-use Rattle.dd_partial_table.specs.Walk.{IsSought, IsNext}
-use Rattle.dd_partial_table.specs.declared.stem.Stem.{Stem}
+use Rattle.dd_branch_tables.specs.Stem.{prefix_of, size_of}
+use Rattle.dd_branch_tables.specs.Table.{IsTableOf}
+use Rattle.dd_branch_tables.specs.Walk.{IsSought, IsNext}
+use Rattle.dd_branch_tables.specs.declared.stem.Stem.{Stem}
 
 -- the images of the first of the listed tables past some numbers
 pub record IsAhead (q : Request) (job : Job) (numbers images : List ℕ) : Type 0 where

@@ -3,14 +3,14 @@ use Rattle.std.specs.Prelude.{◌≡◌, ◌⊎◌, ℕ, ◌*◌, List}
 use Rattle.dd_model.specs.Symbol.{Symbol}
 use Rattle.dd_model.specs.declared.requests.Request.{Request}
 use Rattle.dd_model.specs.declared.jobs.Job.{Job}
-use Rattle.dd_partial_table.specs.Levels.{IsAt, IsLeftAt}
-use Rattle.dd_jobs.specs.Under.{IsUnder}
-use Rattle.dd_partial_table.specs.declared.level.Level.{Level}
+use Rattle.dd_branch_tables.specs.Levels.{IsAt, IsLeftAt}
+use Rattle.dd_opening_jobs.specs.Under.{IsUnder}
+use Rattle.dd_branch_tables.specs.declared.level.Level.{Level}
 use Rattle.dd_invol.specs.Growth.{Growing, asked_of, size_at, prefix_at, taken_back}
-use Rattle.dd_partial_table.specs.Rows.{depth_of}
-use Rattle.dd_partial_table.specs.Stem.{Any, IsStem}
+use Rattle.dd_branch_tables.specs.Rows.{depth_of}
+use Rattle.dd_branch_tables.specs.Stem.{Any, IsStem}
 use Rattle.dd_invol.specs.NextTable.{IsAhead}
-use Rattle.dd_partial_table.specs.Walk.{IsListed, IsPast, IsWalk}
+use Rattle.dd_branch_tables.specs.Walk.{IsListed, IsPast, IsWalk}
 use Rattle.dd_invol.specs.declared.table_search.TableSearch.{TableSearch}
 
 -- a search for tables stands at the last of its levels

@@ -6,8 +6,8 @@ ghost use Rattle.dd_model.specs.Cell.{IsLeastOfCell, AreCells};
 ghost use Rattle.dd_model.specs.Wanted.{AtMost};
 ghost use Rattle.dd_symbol.specs.Images.{of_rows};
 
+use dd_branch_tables::place_of;
 use dd_model::{Index, Pair};
-use dd_partial_table::place_of;
 
 /// The image of a chamber.
 fn image_of(size: u8, images: &[u8], i: Index, chamber: u8) -> u8

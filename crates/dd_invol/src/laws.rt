@@ -6,9 +6,9 @@ ghost use Rattle.dd_model.specs.Code.{code, Least};
 ghost use Rattle.dd_model.specs.declared.jobs.Job.{Job};
 ghost use Rattle.dd_model.specs.declared.requests.Request.{Request};
 ghost use Rattle.dd_model.specs.Jobs.{IsMemberUnder};
-ghost use Rattle.dd_jobs.specs.Opening.{IsOpeningJob, IsCoveredBy};
+ghost use Rattle.dd_opening_jobs.specs.Opening.{IsOpeningJob, IsCoveredBy};
 ghost use Rattle.dd_model.specs.Involutions.{HaveSameInvolutions};
-ghost use Rattle.dd_partial_table.specs.Walk.{IsListed, HasTable};
+ghost use Rattle.dd_branch_tables.specs.Walk.{IsListed, HasTable};
 
 /// The code of each connected least symbol begins with exactly one prefix of the opening.
 pub fn each_least_code_begins_with_one_job()

@@ -4,8 +4,8 @@ ghost use Rattle.dd_model.specs.Symbol.{AreInvolutions};
 ghost use Rattle.dd_model.specs.Wanted.{AtMost};
 ghost use Rattle.dd_model.specs.declared.pair.Pair.TheVariants.{Tile, Vertex};
 ghost use Rattle.dd_symbol.specs.Images.{of_rows};
-ghost use Rattle.dd_partial_table.specs.Stem.{IsStem, prefix_of, size_of};
-ghost use Rattle.dd_partial_table.specs.Walk.{HasNoneLeft};
+ghost use Rattle.dd_branch_tables.specs.Stem.{IsStem, prefix_of, size_of};
+ghost use Rattle.dd_branch_tables.specs.Walk.{HasNoneLeft};
 ghost use Rattle.dd_invol.specs.NextTable.{HasSought, IsSoughtAt, here};
 
 use crate::cells::has_at_most;

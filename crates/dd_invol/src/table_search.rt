@@ -2,8 +2,8 @@ ghost use Rattle.std.specs.Prelude.{◌≡◌, ◌⊎◌, ◌≤◌, ◌*◌, []
 ghost use Rattle.std.specs.Bool.{OnTrue, OnFalse};
 ghost use Rattle.dd_model.specs.declared.jobs.Job.{Job as Beginning};
 ghost use Rattle.dd_model.specs.declared.requests.Request.{Request as Asked};
-ghost use Rattle.dd_partial_table.specs.Stem.{IsStem, prefix_of, size_of};
-ghost use Rattle.dd_partial_table.specs.Walk.{HasNoneLeft};
+ghost use Rattle.dd_branch_tables.specs.Stem.{IsStem, prefix_of, size_of};
+ghost use Rattle.dd_branch_tables.specs.Walk.{HasNoneLeft};
 ghost use Rattle.dd_invol.specs.NextTable.{IsAhead, here};
 ghost use Rattle.dd_invol.specs.TableSearch.{IsAtLevel, IsComing};
 
@@ -11,8 +11,8 @@ use crate::next_table::images_here;
 use crate::splits::stem_of;
 use crate::tables::Tables;
 use arrayvec::ArrayVec;
+use dd_branch_tables::{Levels, PrefixSearch, Visit, advance, begin, go_back};
 use dd_model::{Job, Request};
-use dd_partial_table::{Levels, PrefixSearch, Visit, advance, begin, go_back};
 
 /// A search that comes to the tables under a job one after the other, and the images of the table
 /// to which it came last, none before the first one. It stands at the last of its levels.

@@ -1,9 +1,9 @@
 ghost use Rattle.std.specs.Prelude.{◌≡◌, ◌*◌, ◌≤◌, [], length};
 ghost use Rattle.std.specs.Bool.{OnTrue, OnFalse};
-ghost use Rattle.dd_jobs.specs.Under.{HasNothingUnder};
+ghost use Rattle.dd_opening_jobs.specs.Under.{HasNothingUnder};
 
+use dd_branch_tables::{ChamberSet, PrefixSearch, Stem, Visit, is_least};
 use dd_model::Request;
-use dd_partial_table::{ChamberSet, PrefixSearch, Stem, Visit, is_least};
 use std::marker::Model;
 
 /// A search for tables of one size, of which nothing but leastness is asked: a stem that grows and
@@ -24,9 +24,9 @@ impl Model for Tables {
 }
 
 impl Tables {
-    ghost use Rattle.dd_partial_table.specs.Rows.{depth_of};
-    ghost use Rattle.dd_partial_table.specs.Stem.{Any, IsStem, prefix_of, size_of};
-    ghost use Rattle.dd_partial_table.specs.Table.{HasLeastTable};
+    ghost use Rattle.dd_branch_tables.specs.Rows.{depth_of};
+    ghost use Rattle.dd_branch_tables.specs.Stem.{Any, IsStem, prefix_of, size_of};
+    ghost use Rattle.dd_branch_tables.specs.Table.{HasLeastTable};
     ghost use Rattle.dd_invol.specs.Growth.{asked_of, size_at, prefix_at, taken_back};
 
     /// The search from the empty prefix.
@@ -92,8 +92,8 @@ impl Tables {
 }
 
 impl PrefixSearch for Tables {
-    ghost use Rattle.dd_partial_table.specs.Rows.{depth_of};
-    ghost use Rattle.dd_partial_table.specs.Stem.{Any, IsStem};
+    ghost use Rattle.dd_branch_tables.specs.Rows.{depth_of};
+    ghost use Rattle.dd_branch_tables.specs.Stem.{Any, IsStem};
     ghost use Rattle.dd_invol.specs.Growth.{asked_of, size_at, prefix_at, taken_back};
 
     ghost request = { λ t. asked_of t };

@@ -3,12 +3,12 @@ ghost use Rattle.std.specs.Prelude.{◌≡◌, ◌≢◌, [], IfOk, IfSome, IfNo
 ghost use Rattle.dd_model.specs.Code.{all_images};
 ghost use Rattle.dd_model.specs.Request.{IsValid};
 ghost use Rattle.dd_model.specs.Jobs.{IsJobOf};
-ghost use Rattle.dd_partial_table.specs.Walk.{IsListed, IsNext, HasNoneLeft, AreListed};
+ghost use Rattle.dd_branch_tables.specs.Walk.{IsListed, IsNext, HasNoneLeft, AreListed};
 
 use crate::next_table::kept;
 use crate::table_search::TableSearch;
 use arrayvec::ArrayVec;
-use dd_degrees::Table;
+use dd_branch_degrees::Table;
 use dd_model::{Job, Memory, Request};
 use std::alloc::Global;
 use std::marker::Model;
@@ -32,7 +32,7 @@ pub struct Walk {
 }
 
 impl Model for Walk {
-    ghost use Rattle.dd_partial_table.specs.Walk.{Walking};
+    ghost use Rattle.dd_branch_tables.specs.Walk.{Walking};
 
     ghost Value = { Walking };
 
@@ -44,7 +44,7 @@ impl Model for Walk {
 }
 
 impl Walk {
-    ghost use Rattle.dd_partial_table.specs.Walk.{after, HasAdvanced, IsReached, StandsAt};
+    ghost use Rattle.dd_branch_tables.specs.Walk.{after, HasAdvanced, IsReached, StandsAt};
 
     /// The walk that has come to no table yet.
     pub fn start(alloc: Global, request: &Request, job: &Job) -> Result<Walk, Memory>

@@ -15,7 +15,7 @@ use Rattle.dd_cells.proofs.CellSums.{has_roots}
 use Rattle.dd_covers.proofs.Nodes.{root_beside}
 use Rattle.dd_symbol.proofs.CellMarks.{least_for_unique}
 use Rattle.dd_lattice.specs.Edges.{IsOfCells, AreCellsJoined, IsForestTo}
-use Rattle.dd_forest.specs.Parts.{IsFalling, IsLevel, AreInOnePart, AreJoinedAt}
+use Rattle.dd_union_find.specs.Parts.{IsFalling, IsLevel, AreInOnePart, AreJoinedAt}
 
 -- ## Values of cells
 

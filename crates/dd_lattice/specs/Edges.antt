@@ -9,7 +9,7 @@ use Rattle.dd_model.specs.declared.pair.Pair.{Pair}
 use Rattle.dd_model.specs.declared.pair.Pair.TheVariants.{Tile, Vertex, Edge}
 use Rattle.dd_symbol.specs.Cells.{IsLeastFor}
 use Rattle.dd_covers.specs.Ends.{Holds}
-use Rattle.dd_forest.specs.Parts.{IsFalling, IsLevel}
+use Rattle.dd_union_find.specs.Parts.{IsFalling, IsLevel}
 use Rattle.dd_lattice.specs.declared.kinds.EdgeKind.{EdgeKind}
 use Rattle.dd_lattice.specs.declared.kinds.EdgeKind.TheVariants.{Tree, Crossing, Left}
 

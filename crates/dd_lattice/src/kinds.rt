@@ -6,11 +6,11 @@ ghost use Rattle.dd_model.specs.Small.{IsSmallSymbol};
 ghost use Rattle.dd_model.specs.declared.pair.Pair.TheVariants.{Edge};
 ghost use Rattle.dd_symbol.specs.Cells.{IsLeastFor};
 ghost use Rattle.dd_lattice.specs.Edges.{IsKindOf, AreKindsOf, AreVerticesTo, AreTilesTo};
-ghost use Rattle.dd_forest.specs.Parts.{IsFalling, AreInOnePart, AreJoinedAt};
+ghost use Rattle.dd_union_find.specs.Parts.{IsFalling, AreInOnePart, AreJoinedAt};
 
-use dd_forest::Forest;
 use dd_model::{Index, Memory, Pair};
 use dd_symbol::{Connected, Symbol};
+use dd_union_find::Forest;
 use std::alloc::Global;
 
 /// What an edge is in a net.

@@ -3,8 +3,8 @@ use Rattle.std.specs.Prelude.{◌≡◌, ℕ, ◌+◌, Option, Some, None, Resul
 use Rattle.dd_model.specs.declared.memory.Memory.{Memory as OutOfMemory}
 use Rattle.dd_front.specs.declared.naming.Naming.{Ghosts}
 use Rattle.dd_board.specs.declared.seat.Seat.{Seat}
-use Rattle.dd_deques.specs.declared.hand.Hand.{Hand}
-use Rattle.dd_deques.specs.Hands.{hand_pushed, hand_popped, hand_stolen}
+use Rattle.dd_steal_deques.specs.declared.hand.Hand.{Hand}
+use Rattle.dd_steal_deques.specs.Hands.{hand_pushed, hand_popped, hand_stolen}
 use Rattle.dd_steal.specs.declared.ended.Ended.{Ended}
 use Rattle.dd_steal.specs.declared.ended.Ended.TheVariants.{Idle, Memory}
 

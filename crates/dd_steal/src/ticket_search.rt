@@ -1,11 +1,11 @@
 ghost use Rattle.std.specs.Prelude.{◌≡◌, ◌<◌, ◌≤◌, ◌+◌, Option, IfOk, IsNone, true};
-ghost use Rattle.dd_deques.specs.Hands.{hand_pushed, hand_popped, hand_stolen, hand_passes, hand_place, HasAllOfHand};
+ghost use Rattle.dd_steal_deques.specs.Hands.{hand_pushed, hand_popped, hand_stolen, hand_passes, hand_place, HasAllOfHand};
 ghost use Rattle.dd_steal.specs.Worker.{IsLeftWith, held_by, held_after};
 
 use dd_board::{Board, Seat};
-use dd_deques::Hand;
 use dd_front::{Naming, Taken, Ticket};
 use dd_model::Memory;
+use dd_steal_deques::Hand;
 use std::hint;
 use std::sync::Wait;
 use std::sync::ledger::Ledger;

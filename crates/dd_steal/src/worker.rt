@@ -1,5 +1,5 @@
 ghost use Rattle.std.specs.Prelude.{◌≡◌, ◌⊎◌, ◌*◌, ◌<◌, IfErr, MatchOption, MatchResult, length};
-ghost use Rattle.dd_deques.specs.Hands.{hand_passes, hand_place, HasAllOfHand};
+ghost use Rattle.dd_steal_deques.specs.Hands.{hand_passes, hand_place, HasAllOfHand};
 ghost use Rattle.dd_board.specs.Ledgers.{Counts, CountsFinish};
 ghost use Rattle.dd_steal.specs.Worker.{IsLeftWith, IsIdle, held_at_end};
 
@@ -7,9 +7,9 @@ use crate::choice::{is_to_split, is_worth_a_split};
 use crate::ended::Ended;
 use crate::ticket_search::next_ticket;
 use dd_board::{Board, Seat};
-use dd_deques::Hand;
 use dd_front::{Finder, Naming, Ticket};
 use dd_ports::Gate;
+use dd_steal_deques::Hand;
 use std::alloc::Global;
 use std::sync::Wait;
 use std::sync::ledger::Ledger;

@@ -2,8 +2,8 @@
 use Rattle.std.proofs.Common.{◌≡◌, ◌⊎◌, ◌≤◌, ℕ, List, [], true, Result, Ok, Err, IsErrOf, length, inl, inr, refl, sym, ap, ◌∙◌, subst}
 use Rattle.std.specs.Prelude.{OnOk}
 use Rattle.dd_model.specs.Symbol.{Symbol}
-use Rattle.dd_jobs.specs.declared.portions.Portion.{Portion}
-use Rattle.dd_jobs.specs.Portions.{ArePortionMembers}
+use Rattle.dd_opening_jobs.specs.declared.portions.Portion.{Portion}
+use Rattle.dd_opening_jobs.specs.Portions.{ArePortionMembers}
 use Rattle.dd_ports.specs.Causes.{Rose}
 use Rattle.dd_ports.specs.Grows.{GrowsByPrefix}
 use Rattle.dd_ports.specs.declared.sink.SinkFault.{SinkFault as WriteFault}
@@ -11,28 +11,28 @@ use Rattle.dd_ports.specs.declared.sink.SinkFault.TheVariants.{Failed, Memory as
 use Rattle.dd_check.specs.declared.kinds.Kind.{Kind}
 use Rattle.dd_check.specs.Calls.{Begin, Resume}
 use Rattle.dd_check.specs.ChainStarts.{Start}
-use Rattle.dd_pages.specs.MostLines.{most_lines}
-use Rattle.dd_pages.specs.Runs.{WritesRest}
-use Rattle.dd_tasks.specs.declared.ending.Ending.{Ending}
-use Rattle.dd_tasks.specs.declared.ending.Ending.TheVariants as ending
-use Rattle.dd_tasks.specs.declared.status.Status.{Status}
-use Rattle.dd_tasks.specs.declared.status.Status.TheVariants.{Done, Usage, Refused, Paused, StoreFault, SinkFault, Memory, TooManyLines}
-use Rattle.dd_tasks.specs.Arguments.{AreRefused, IsFileAccepted, IsCheckAccepted, KeepUnder, SameButKept}
-use Rattle.dd_tasks.specs.Beginnings.{HoldsSomeCheck}
-use Rattle.dd_tasks.specs.Cuts.{Pauses, CutsShort, IsEndOfOwn}
-use Rattle.dd_tasks.specs.Endings.{status_of}
-use Rattle.dd_tasks.specs.Messages.{IsItsCause}
-use Rattle.dd_tasks.specs.Outside.{Before, After, WritesNothing, KeepsNames}
-use Rattle.dd_tasks.specs.Output.{AppendsOutput, IsKnownOutput, IsFileOutput}
-use Rattle.dd_tasks.specs.Runs.{IsStopped, IsCallOf}
-use Rattle.dd_tasks.specs.Stops.{IsOutcome, untaken, unread, on_file, of_merge, of_exercise, of_run}
-use Rattle.dd_tasks.specs.Words.{Order, run_command, file_command, AskForRun, AskFor, AskToResume, NameFile, AreTaken}
+use Rattle.dd_pages_and_checkpoints.specs.MostLines.{most_lines}
+use Rattle.dd_pages_and_checkpoints.specs.Runs.{WritesRest}
+use Rattle.dd_suite_tasks.specs.declared.ending.Ending.{Ending}
+use Rattle.dd_suite_tasks.specs.declared.ending.Ending.TheVariants as ending
+use Rattle.dd_suite_tasks.specs.declared.status.Status.{Status}
+use Rattle.dd_suite_tasks.specs.declared.status.Status.TheVariants.{Done, Usage, Refused, Paused, StoreFault, SinkFault, Memory, TooManyLines}
+use Rattle.dd_suite_tasks.specs.Arguments.{AreRefused, IsFileAccepted, IsCheckAccepted, KeepUnder, SameButKept}
+use Rattle.dd_suite_tasks.specs.Beginnings.{HoldsSomeCheck}
+use Rattle.dd_suite_tasks.specs.Cuts.{Pauses, CutsShort, IsEndOfOwn}
+use Rattle.dd_suite_tasks.specs.Endings.{status_of}
+use Rattle.dd_suite_tasks.specs.Messages.{IsItsCause}
+use Rattle.dd_suite_tasks.specs.Outside.{Before, After, WritesNothing, KeepsNames}
+use Rattle.dd_suite_tasks.specs.Output.{AppendsOutput, IsKnownOutput, IsFileOutput}
+use Rattle.dd_suite_tasks.specs.Runs.{IsStopped, IsCallOf}
+use Rattle.dd_suite_tasks.specs.Stops.{IsOutcome, untaken, unread, on_file, of_merge, of_exercise, of_run}
+use Rattle.dd_suite_tasks.specs.Words.{Order, run_command, file_command, AskForRun, AskFor, AskToResume, NameFile, AreTaken}
 use Rattle.dd_suite.proofs.ExerciseOutcomes.{exercise_known, exercise_whole, exercise_complete, exercise_told, exercise_sink, exercise_never}
-use Rattle.dd_tasks.specs.Merges.{AskToMerge, IsMergeOfHeld}
-use Rattle.dd_tasks.specs.MergeEndings.{IsMergeAccepted}
+use Rattle.dd_suite_tasks.specs.Merges.{AskToMerge, IsMergeOfHeld}
+use Rattle.dd_suite_tasks.specs.MergeEndings.{IsMergeAccepted}
 use Rattle.dd_suite.proofs.MergeOutcomes.{merge_known, merge_whole, merge_nothing, merge_refused, merge_quiet, merge_complete, merge_told, merge_store, merge_sink, merge_never}
 use Rattle.dd_suite.proofs.FileOutcomes.{file_known, file_whole, file_nothing, file_refused, file_quiet, file_complete, file_told, file_store, file_sink, file_usage, file_ends}
-use Rattle.dd_tasks.proofs.Requests.{one_order, one_merge, not_both, run_or_merge, file_or_merge, run_or_exercise, file_or_exercise, merge_or_exercise}
+use Rattle.dd_suite_tasks.proofs.Requests.{one_order, one_merge, not_both, run_or_merge, file_or_merge, run_or_exercise, file_or_exercise, merge_or_exercise}
 use Rattle.dd_suite.proofs.RunEndings.{done_ending, usage_ending, store_ending, sink_ending, whole_result}
 use Rattle.dd_suite.proofs.RunOutcomes.{ran_known, ran_whole, ran_pauses, ran_cuts, ran_store, ran_quiet, ran_told, ran_complete}
 use Rattle.dd_suite.proofs.RunOutcomes.{stop_refused, stop_complete, stop_told, run_usage, run_store, run_sink, stop_usage, stop_store, stop_sink}

@@ -3,18 +3,18 @@ use Rattle.std.proofs.Common.{◌≡◌, ◌⊎◌, ℕ, List, inl, inr, refl, s
 use Rattle.dd_ports.specs.Causes.{Rose}
 use Rattle.dd_ports.specs.Grows.{GrowsByPrefix}
 use Rattle.dd_exercise.specs.Exercise.{IsExerciseText}
-use Rattle.dd_tasks.specs.declared.ending.Ending.{Ending}
-use Rattle.dd_tasks.specs.declared.ending.Ending.TheVariants.{Done, Usage, Refused, RefusedSymbol, RefusedCheck, RefusedMerge, Paused, StoreFault, SinkFault, Memory, TooManyLines}
-use Rattle.dd_tasks.specs.declared.status.Status.{Status}
-use Rattle.dd_tasks.specs.declared.status.Status.TheVariants as status
-use Rattle.dd_tasks.specs.Cuts.{IsEndOfOwn}
-use Rattle.dd_tasks.specs.Endings.{status_of}
-use Rattle.dd_tasks.specs.Messages.{IsItsCause}
-use Rattle.dd_tasks.specs.Outside.{Before, After}
-use Rattle.dd_tasks.specs.Output.{AppendsOutput, IsKnownOutput}
-use Rattle.dd_tasks.specs.Stops.{IsWriteEnding, EndsExercise}
-use Rattle.dd_tasks.specs.Words.{AskToExercise}
-use Rattle.dd_tasks.proofs.Requests.{one_exercise, run_or_exercise, file_or_exercise, merge_or_exercise}
+use Rattle.dd_suite_tasks.specs.declared.ending.Ending.{Ending}
+use Rattle.dd_suite_tasks.specs.declared.ending.Ending.TheVariants.{Done, Usage, Refused, RefusedSymbol, RefusedCheck, RefusedMerge, Paused, StoreFault, SinkFault, Memory, TooManyLines}
+use Rattle.dd_suite_tasks.specs.declared.status.Status.{Status}
+use Rattle.dd_suite_tasks.specs.declared.status.Status.TheVariants as status
+use Rattle.dd_suite_tasks.specs.Cuts.{IsEndOfOwn}
+use Rattle.dd_suite_tasks.specs.Endings.{status_of}
+use Rattle.dd_suite_tasks.specs.Messages.{IsItsCause}
+use Rattle.dd_suite_tasks.specs.Outside.{Before, After}
+use Rattle.dd_suite_tasks.specs.Output.{AppendsOutput, IsKnownOutput}
+use Rattle.dd_suite_tasks.specs.Stops.{IsWriteEnding, EndsExercise}
+use Rattle.dd_suite_tasks.specs.Words.{AskToExercise}
+use Rattle.dd_suite_tasks.proofs.Requests.{one_exercise, run_or_exercise, file_or_exercise, merge_or_exercise}
 
 module _ (words : List (List ℕ)) (start count : ℕ) (before : Before) (after : After) (asked : AskToExercise words start count) where
   pub exercise_known : (ending : Ending) → EndsExercise start count ending before after → (bytes : List ℕ) → IsKnownOutput words before.tells before.held bytes

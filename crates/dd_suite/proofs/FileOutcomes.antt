@@ -4,22 +4,22 @@ use Rattle.dd_model.specs.Reading.{Reads}
 use Rattle.dd_model.proofs.ReadingRows.{reads_once}
 use Rattle.dd_ports.specs.Causes.{Rose}
 use Rattle.dd_ports.specs.Grows.{GrowsByPrefix}
-use Rattle.dd_commands.specs.declared.commands.FileCommand.{FileCommand}
-use Rattle.dd_commands.specs.Files.{IsRefusalOf}
-use Rattle.dd_tasks.specs.declared.ending.Ending.{Ending}
-use Rattle.dd_tasks.specs.declared.ending.Ending.TheVariants.{Done, Usage, Refused, RefusedSymbol, RefusedCheck, RefusedMerge, Paused, StoreFault, SinkFault, Memory, TooManyLines}
-use Rattle.dd_tasks.specs.declared.status.Status.TheVariants as status
-use Rattle.dd_tasks.specs.Outside.{Before, After, WritesNothing}
-use Rattle.dd_tasks.specs.Words.{file_command, IsOnFile}
-use Rattle.dd_tasks.specs.Held.{IsTextOfHeld}
-use Rattle.dd_tasks.specs.Stops.{WritesPart, HasFileCause, EndsOnFile}
-use Rattle.dd_tasks.specs.Output.{AppendsOutput, IsFileOutput, IsKnownOutput}
-use Rattle.dd_tasks.specs.Arguments.{AreRefused, IsFileAccepted}
-use Rattle.dd_tasks.specs.Cuts.{IsEndOfOwn}
-use Rattle.dd_tasks.specs.Endings.{status_of}
-use Rattle.dd_tasks.specs.Messages.{IsItsCause}
-use Rattle.dd_tasks.proofs.HeldTexts.{some_injective}
-use Rattle.dd_tasks.proofs.Requests.{not_both, same_command, file_or_merge, file_or_exercise}
+use Rattle.dd_file_commands.specs.declared.commands.FileCommand.{FileCommand}
+use Rattle.dd_file_commands.specs.Files.{IsRefusalOf}
+use Rattle.dd_suite_tasks.specs.declared.ending.Ending.{Ending}
+use Rattle.dd_suite_tasks.specs.declared.ending.Ending.TheVariants.{Done, Usage, Refused, RefusedSymbol, RefusedCheck, RefusedMerge, Paused, StoreFault, SinkFault, Memory, TooManyLines}
+use Rattle.dd_suite_tasks.specs.declared.status.Status.TheVariants as status
+use Rattle.dd_suite_tasks.specs.Outside.{Before, After, WritesNothing}
+use Rattle.dd_suite_tasks.specs.Words.{file_command, IsOnFile}
+use Rattle.dd_suite_tasks.specs.Held.{IsTextOfHeld}
+use Rattle.dd_suite_tasks.specs.Stops.{WritesPart, HasFileCause, EndsOnFile}
+use Rattle.dd_suite_tasks.specs.Output.{AppendsOutput, IsFileOutput, IsKnownOutput}
+use Rattle.dd_suite_tasks.specs.Arguments.{AreRefused, IsFileAccepted}
+use Rattle.dd_suite_tasks.specs.Cuts.{IsEndOfOwn}
+use Rattle.dd_suite_tasks.specs.Endings.{status_of}
+use Rattle.dd_suite_tasks.specs.Messages.{IsItsCause}
+use Rattle.dd_suite_tasks.proofs.HeldTexts.{some_injective}
+use Rattle.dd_suite_tasks.proofs.Requests.{not_both, same_command, file_or_merge, file_or_exercise}
 
 module _ (words : List (List ℕ)) (command : FileCommand) (name : List ℕ) (before : Before) (after : After) (asked : IsOnFile words command name) where
   pub file_known : (ending : Ending) → EndsOnFile command name ending before after → (bytes : List ℕ) → IsKnownOutput words before.tells before.held bytes

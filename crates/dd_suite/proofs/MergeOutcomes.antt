@@ -2,22 +2,22 @@
 use Rattle.std.proofs.Common.{◌≡◌, ◌⊎◌, ℕ, List, inl, inr, refl, sym, subst}
 use Rattle.dd_ports.specs.Causes.{Rose}
 use Rattle.dd_ports.specs.Grows.{GrowsByPrefix}
-use Rattle.dd_commands.specs.Merges.{IsMergeRefusal}
-use Rattle.dd_commands.proofs.MergedTexts.{refused_without_merge}
-use Rattle.dd_tasks.specs.declared.ending.Ending.{Ending}
-use Rattle.dd_tasks.specs.declared.ending.Ending.TheVariants.{Done, Usage, Refused, RefusedSymbol, RefusedCheck, RefusedMerge, Paused, StoreFault, SinkFault, Memory, TooManyLines}
-use Rattle.dd_tasks.specs.declared.status.Status.{Status}
-use Rattle.dd_tasks.specs.declared.status.Status.TheVariants as status
-use Rattle.dd_tasks.specs.Arguments.{AreRefused}
-use Rattle.dd_tasks.specs.Cuts.{IsEndOfOwn}
-use Rattle.dd_tasks.specs.Endings.{status_of}
-use Rattle.dd_tasks.specs.MergeEndings.{EndsMerge, IsMergeOutput, IsMergeAccepted}
-use Rattle.dd_tasks.specs.Merges.{AskToMerge, IsMergeOfHeld, AreAllFetched, WritesMergePart, HasMergeCause}
-use Rattle.dd_tasks.specs.Messages.{IsItsCause}
-use Rattle.dd_tasks.specs.Outside.{Before, After, WritesNothing}
-use Rattle.dd_tasks.specs.Output.{AppendsOutput, IsKnownOutput}
-use Rattle.dd_tasks.proofs.MergedOfHeld.{fetched_once}
-use Rattle.dd_tasks.proofs.Requests.{run_or_merge, file_or_merge, one_merge, merge_or_exercise}
+use Rattle.dd_file_commands.specs.Merges.{IsMergeRefusal}
+use Rattle.dd_file_commands.proofs.MergedTexts.{refused_without_merge}
+use Rattle.dd_suite_tasks.specs.declared.ending.Ending.{Ending}
+use Rattle.dd_suite_tasks.specs.declared.ending.Ending.TheVariants.{Done, Usage, Refused, RefusedSymbol, RefusedCheck, RefusedMerge, Paused, StoreFault, SinkFault, Memory, TooManyLines}
+use Rattle.dd_suite_tasks.specs.declared.status.Status.{Status}
+use Rattle.dd_suite_tasks.specs.declared.status.Status.TheVariants as status
+use Rattle.dd_suite_tasks.specs.Arguments.{AreRefused}
+use Rattle.dd_suite_tasks.specs.Cuts.{IsEndOfOwn}
+use Rattle.dd_suite_tasks.specs.Endings.{status_of}
+use Rattle.dd_suite_tasks.specs.MergeEndings.{EndsMerge, IsMergeOutput, IsMergeAccepted}
+use Rattle.dd_suite_tasks.specs.Merges.{AskToMerge, IsMergeOfHeld, AreAllFetched, WritesMergePart, HasMergeCause}
+use Rattle.dd_suite_tasks.specs.Messages.{IsItsCause}
+use Rattle.dd_suite_tasks.specs.Outside.{Before, After, WritesNothing}
+use Rattle.dd_suite_tasks.specs.Output.{AppendsOutput, IsKnownOutput}
+use Rattle.dd_suite_tasks.proofs.MergedOfHeld.{fetched_once}
+use Rattle.dd_suite_tasks.proofs.Requests.{run_or_merge, file_or_merge, one_merge, merge_or_exercise}
 
 module _ (words : List (List ℕ)) (names : List (List ℕ)) (before : Before) (after : After) (asked : AskToMerge words names) where
   pub merge_known : (ending : Ending) → EndsMerge names ending before after → (bytes : List ℕ) → IsKnownOutput words before.tells before.held bytes

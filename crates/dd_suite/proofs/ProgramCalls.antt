@@ -4,27 +4,27 @@ use Rattle.std.proofs.lemmas.List.{append_cancel_left}
 use Rattle.std.specs.Io.KnownBytes.{Appends}
 use Rattle.std.specs.List.{AllByRecursion}
 use Rattle.dd_model.specs.Lists.{Begins}
-use Rattle.dd_jobs.specs.declared.portions.Portion.{Portion}
-use Rattle.dd_jobs.specs.Portions.{IsPortionText}
+use Rattle.dd_opening_jobs.specs.declared.portions.Portion.{Portion}
+use Rattle.dd_opening_jobs.specs.Portions.{IsPortionText}
 use Rattle.dd_check.specs.Calls.{Task, Begin, Resume, Call, Done, Paused}
 use Rattle.dd_check.specs.Clauses.{MeetsClauses, HasWorked, HasWork}
 use Rattle.dd_check.specs.ChainStarts.{Start, first_start, Starts}
 use Rattle.dd_check.specs.ChainPuts.{Puts}
 use Rattle.dd_check.proofs.ChainParts.{starts_once}
-use Rattle.dd_pages.specs.declared.fault.RunFault.{RunFault}
-use Rattle.dd_pages.specs.declared.finish.Finish.{Finish}
-use Rattle.dd_pages.specs.declared.finish.Finish.TheVariants as finish
-use Rattle.dd_pages.specs.Outputs.{IsOutput}
-use Rattle.dd_pages.specs.Runs.{Finishes, WritesRest, WritesUpToPause}
-use Rattle.dd_pages.specs.Names.{LeavesName, PutsCheck, PutsAtEnd, PutsAtPause, FinishesName}
-use Rattle.dd_tasks.proofs.Requests.{lone_run}
-use Rattle.dd_tasks.specs.declared.status.Status.{Status}
-use Rattle.dd_tasks.specs.declared.status.Status.TheVariants as status
-use Rattle.dd_tasks.specs.Beginnings.{BeginsAt}
+use Rattle.dd_pages_and_checkpoints.specs.declared.fault.RunFault.{RunFault}
+use Rattle.dd_pages_and_checkpoints.specs.declared.finish.Finish.{Finish}
+use Rattle.dd_pages_and_checkpoints.specs.declared.finish.Finish.TheVariants as finish
+use Rattle.dd_pages_and_checkpoints.specs.Outputs.{IsOutput}
+use Rattle.dd_pages_and_checkpoints.specs.Runs.{Finishes, WritesRest, WritesUpToPause}
+use Rattle.dd_pages_and_checkpoints.specs.Names.{LeavesName, PutsCheck, PutsAtEnd, PutsAtPause, FinishesName}
+use Rattle.dd_suite_tasks.proofs.Requests.{lone_run}
+use Rattle.dd_suite_tasks.specs.declared.status.Status.{Status}
+use Rattle.dd_suite_tasks.specs.declared.status.Status.TheVariants as status
+use Rattle.dd_suite_tasks.specs.Beginnings.{BeginsAt}
 use Rattle.dd_suite.specs.Chains.{ProgramCall, IsProgramCall, chain_ending, held_under, call_of}
-use Rattle.dd_tasks.specs.Outside.{Before, After}
-use Rattle.dd_tasks.specs.Runs.{name_of, run_status, IsStopped, IsCallOf}
-use Rattle.dd_tasks.specs.Words.{AskForRun}
+use Rattle.dd_suite_tasks.specs.Outside.{Before, After}
+use Rattle.dd_suite_tasks.specs.Runs.{name_of, run_status, IsStopped, IsCallOf}
+use Rattle.dd_suite_tasks.specs.Words.{AskForRun}
 use Rattle.dd_suite.proofs.RunEndings.{whole_result, paused_result}
 
 -- ## Endings

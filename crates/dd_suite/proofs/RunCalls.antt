@@ -2,8 +2,8 @@
 use Rattle.std.proofs.Common.{◌≡◌, ◌≤◌, ℕ, List, [], Bool, true, Option, Some, None, Result, Ok, Err, inl, inr, ⊎_elim, refl, sym, ap, ◌∙◌, subst, arith}
 use Rattle.std.proofs.KnownBytes.{Appends-nil}
 use Rattle.std.proofs.lemmas.Bool.{cases_eq}
-use Rattle.dd_jobs.specs.declared.shards.Shard.{Shard}
-use Rattle.dd_jobs.specs.declared.portions.Portion.{Portion}
+use Rattle.dd_opening_jobs.specs.declared.shards.Shard.{Shard}
+use Rattle.dd_opening_jobs.specs.declared.portions.Portion.{Portion}
 use Rattle.dd_ports.specs.Causes.{Rose}
 use Rattle.dd_ports.specs.Texts.{SameTexts, SameOthers}
 use Rattle.dd_ports.specs.declared.sink.SinkFault.{SinkFault as WriteFault}
@@ -12,21 +12,21 @@ use Rattle.dd_check.specs.declared.checkpoint.Checkpoint.{Checkpoint}
 use Rattle.dd_check.specs.declared.kinds.Kind.{Kind}
 use Rattle.dd_check.specs.Calls.{kind_of, Begin, Resume}
 use Rattle.dd_check.specs.ChainStarts.{Start, first_start, next_start}
-use Rattle.dd_pages.specs.declared.fault.RunFault.{RunFault}
-use Rattle.dd_pages.specs.declared.fault.RunFault.TheVariants as fault
-use Rattle.dd_pages.specs.declared.finish.Finish.{Finish}
-use Rattle.dd_jobs.specs.declared.pace.Pace.{Pace}
-use Rattle.dd_pages.specs.declared.run.Run.{Run}
-use Rattle.dd_pages.specs.Outputs.{IsOutput}
-use Rattle.dd_pages.specs.Runs.{start_of, IsPause}
-use Rattle.dd_pages.specs.Names.{HasRun, LeavesName}
-use Rattle.dd_tasks.specs.declared.ending.Ending.{Ending}
-use Rattle.dd_tasks.specs.declared.ending.Ending.TheVariants.{Done, Usage, Refused, RefusedSymbol, RefusedCheck, RefusedMerge, Paused, StoreFault, SinkFault, Memory, TooManyLines}
-use Rattle.dd_tasks.specs.Beginnings.{HoldsCheck}
-use Rattle.dd_tasks.specs.Endings.{run_ending}
-use Rattle.dd_tasks.specs.Lone.{run_result, IsLoneEnding}
-use Rattle.dd_tasks.specs.Outcomes.{IsRunEnding, IsHeldStop, IsRunOutcome, EndsRunFrom}
-use Rattle.dd_tasks.specs.Outside.{Before, After, WritesNothing, KeepsNames}
+use Rattle.dd_pages_and_checkpoints.specs.declared.fault.RunFault.{RunFault}
+use Rattle.dd_pages_and_checkpoints.specs.declared.fault.RunFault.TheVariants as fault
+use Rattle.dd_pages_and_checkpoints.specs.declared.finish.Finish.{Finish}
+use Rattle.dd_opening_jobs.specs.declared.pace.Pace.{Pace}
+use Rattle.dd_pages_and_checkpoints.specs.declared.run.Run.{Run}
+use Rattle.dd_pages_and_checkpoints.specs.Outputs.{IsOutput}
+use Rattle.dd_pages_and_checkpoints.specs.Runs.{start_of, IsPause}
+use Rattle.dd_pages_and_checkpoints.specs.Names.{HasRun, LeavesName}
+use Rattle.dd_suite_tasks.specs.declared.ending.Ending.{Ending}
+use Rattle.dd_suite_tasks.specs.declared.ending.Ending.TheVariants.{Done, Usage, Refused, RefusedSymbol, RefusedCheck, RefusedMerge, Paused, StoreFault, SinkFault, Memory, TooManyLines}
+use Rattle.dd_suite_tasks.specs.Beginnings.{HoldsCheck}
+use Rattle.dd_suite_tasks.specs.Endings.{run_ending}
+use Rattle.dd_suite_tasks.specs.Lone.{run_result, IsLoneEnding}
+use Rattle.dd_suite_tasks.specs.Outcomes.{IsRunEnding, IsHeldStop, IsRunOutcome, EndsRunFrom}
+use Rattle.dd_suite_tasks.specs.Outside.{Before, After, WritesNothing, KeepsNames}
 use Rattle.dd_suite.proofs.RunEndings.{run_told, run_cause, sink_end}
 
 -- ## Runs under a name

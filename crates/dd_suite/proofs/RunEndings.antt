@@ -2,18 +2,18 @@
 use Rattle.std.proofs.Common.{◌≡◌, ℕ, List, Option, Result, Ok, Err, IfOk, refl, sym, ap, ◌∙◌, subst}
 use Rattle.dd_ports.specs.Causes.{Rose}
 use Rattle.dd_check.specs.ChainStarts.{Start}
-use Rattle.dd_pages.specs.declared.fault.RunFault.{RunFault}
-use Rattle.dd_pages.specs.declared.fault.RunFault.TheVariants as fault
-use Rattle.dd_pages.specs.declared.finish.Finish.{Finish}
-use Rattle.dd_pages.specs.declared.finish.Finish.TheVariants as finish
-use Rattle.dd_pages.specs.Runs.{IsPause, Finishes}
-use Rattle.dd_tasks.specs.declared.status.Status.TheVariants as status
-use Rattle.dd_tasks.specs.declared.ending.Ending.{Ending}
-use Rattle.dd_tasks.specs.declared.ending.Ending.TheVariants.{Done, Usage, Refused, RefusedSymbol, RefusedCheck, RefusedMerge, Paused, StoreFault, SinkFault, Memory, TooManyLines}
-use Rattle.dd_tasks.specs.Endings.{status_of, run_ending}
-use Rattle.dd_tasks.specs.Outcomes.{IsRunEnding}
-use Rattle.dd_tasks.specs.Outside.{Before, After}
-use Rattle.dd_tasks.specs.Runs.{run_status}
+use Rattle.dd_pages_and_checkpoints.specs.declared.fault.RunFault.{RunFault}
+use Rattle.dd_pages_and_checkpoints.specs.declared.fault.RunFault.TheVariants as fault
+use Rattle.dd_pages_and_checkpoints.specs.declared.finish.Finish.{Finish}
+use Rattle.dd_pages_and_checkpoints.specs.declared.finish.Finish.TheVariants as finish
+use Rattle.dd_pages_and_checkpoints.specs.Runs.{IsPause, Finishes}
+use Rattle.dd_suite_tasks.specs.declared.status.Status.TheVariants as status
+use Rattle.dd_suite_tasks.specs.declared.ending.Ending.{Ending}
+use Rattle.dd_suite_tasks.specs.declared.ending.Ending.TheVariants.{Done, Usage, Refused, RefusedSymbol, RefusedCheck, RefusedMerge, Paused, StoreFault, SinkFault, Memory, TooManyLines}
+use Rattle.dd_suite_tasks.specs.Endings.{status_of, run_ending}
+use Rattle.dd_suite_tasks.specs.Outcomes.{IsRunEnding}
+use Rattle.dd_suite_tasks.specs.Outside.{Before, After}
+use Rattle.dd_suite_tasks.specs.Runs.{run_status}
 
 -- ## Only one ending has these statuses
 

@@ -5,36 +5,36 @@ use Rattle.dd_ports.specs.Grows.{GrowsByPrefix}
 use Rattle.dd_check.specs.declared.shard_faults.ShardFault.{ShardFault}
 use Rattle.dd_check.specs.ShardFaults.{HasKindFault}
 use Rattle.dd_check.proofs.KindFaults.{no_kind_fault}
-use Rattle.dd_jobs.specs.declared.shards.Shard.{Shard}
+use Rattle.dd_opening_jobs.specs.declared.shards.Shard.{Shard}
 use Rattle.dd_check.specs.declared.checkpoint.Checkpoint.{Checkpoint}
 use Rattle.dd_check.specs.Accepted.{IsCheckpointText}
 use Rattle.dd_check.specs.ShardChecks.{IsAcceptedText}
 use Rattle.dd_check.proofs.Exclusion.{no_fault as never_both}
-use Rattle.dd_jobs.specs.Portions.{IsPortionText}
+use Rattle.dd_opening_jobs.specs.Portions.{IsPortionText}
 use Rattle.dd_check.specs.declared.kinds.Kind.{Kind}
 use Rattle.dd_check.specs.declared.kinds.Kind.TheVariants.{Catalogues, Shards}
 use Rattle.dd_check.specs.Calls.{kind_of, Task, Begin, Resume}
 use Rattle.dd_check.specs.ChainStarts.{Start}
-use Rattle.dd_pages.specs.declared.fault.RunFault.{RunFault}
-use Rattle.dd_pages.specs.declared.fault.RunFault.TheVariants as fault
-use Rattle.dd_pages.specs.declared.finish.Finish.{Finish}
-use Rattle.dd_pages.specs.Runs.{Finishes}
-use Rattle.dd_tasks.specs.declared.ending.Ending.{Ending}
-use Rattle.dd_tasks.specs.declared.ending.Ending.TheVariants.{Done, Usage, Refused, RefusedSymbol, RefusedCheck, RefusedMerge, Paused, StoreFault, SinkFault, Memory, TooManyLines}
-use Rattle.dd_tasks.specs.declared.status.Status.{Status}
-use Rattle.dd_tasks.specs.declared.status.Status.TheVariants as status
-use Rattle.dd_tasks.specs.Arguments.{AreRefused, IsCheckAccepted, KeepUnder, SameButKept}
-use Rattle.dd_tasks.specs.Beginnings.{NameNoCheck, BeginsAt, IsCheckRefused}
-use Rattle.dd_tasks.specs.Cuts.{Pauses, CutsShort, IsEndOfOwn}
-use Rattle.dd_tasks.specs.Endings.{status_of}
-use Rattle.dd_tasks.specs.Messages.{IsItsCause}
-use Rattle.dd_tasks.specs.Outcomes.{EndsRun, StopsRun, IsRunEnding, IsStopEnding}
-use Rattle.dd_tasks.specs.Output.{AppendsOutput, IsKnownOutput}
-use Rattle.dd_tasks.specs.Outside.{Before, After}
-use Rattle.dd_tasks.specs.Runs.{Runs, HasRunAs, name_of}
-use Rattle.dd_tasks.specs.Words.{Order, run_command, AskForRun}
-use Rattle.dd_tasks.proofs.HeldTexts.{some_injective, one_next}
-use Rattle.dd_tasks.proofs.Requests.{one_order, not_both, run_or_merge, run_or_exercise}
+use Rattle.dd_pages_and_checkpoints.specs.declared.fault.RunFault.{RunFault}
+use Rattle.dd_pages_and_checkpoints.specs.declared.fault.RunFault.TheVariants as fault
+use Rattle.dd_pages_and_checkpoints.specs.declared.finish.Finish.{Finish}
+use Rattle.dd_pages_and_checkpoints.specs.Runs.{Finishes}
+use Rattle.dd_suite_tasks.specs.declared.ending.Ending.{Ending}
+use Rattle.dd_suite_tasks.specs.declared.ending.Ending.TheVariants.{Done, Usage, Refused, RefusedSymbol, RefusedCheck, RefusedMerge, Paused, StoreFault, SinkFault, Memory, TooManyLines}
+use Rattle.dd_suite_tasks.specs.declared.status.Status.{Status}
+use Rattle.dd_suite_tasks.specs.declared.status.Status.TheVariants as status
+use Rattle.dd_suite_tasks.specs.Arguments.{AreRefused, IsCheckAccepted, KeepUnder, SameButKept}
+use Rattle.dd_suite_tasks.specs.Beginnings.{NameNoCheck, BeginsAt, IsCheckRefused}
+use Rattle.dd_suite_tasks.specs.Cuts.{Pauses, CutsShort, IsEndOfOwn}
+use Rattle.dd_suite_tasks.specs.Endings.{status_of}
+use Rattle.dd_suite_tasks.specs.Messages.{IsItsCause}
+use Rattle.dd_suite_tasks.specs.Outcomes.{EndsRun, StopsRun, IsRunEnding, IsStopEnding}
+use Rattle.dd_suite_tasks.specs.Output.{AppendsOutput, IsKnownOutput}
+use Rattle.dd_suite_tasks.specs.Outside.{Before, After}
+use Rattle.dd_suite_tasks.specs.Runs.{Runs, HasRunAs, name_of}
+use Rattle.dd_suite_tasks.specs.Words.{Order, run_command, AskForRun}
+use Rattle.dd_suite_tasks.proofs.HeldTexts.{some_injective, one_next}
+use Rattle.dd_suite_tasks.proofs.Requests.{one_order, not_both, run_or_merge, run_or_exercise}
 use Rattle.dd_suite.proofs.RunEndings.{whole_result, paused_result, cut_result, store_result, not_refused}
 use Rattle.dd_suite.proofs.RunOutputs.{output_of, front_prefix, whole_of_task, rest_written}
 

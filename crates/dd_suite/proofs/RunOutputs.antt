@@ -3,25 +3,25 @@ use Rattle.std.proofs.Common.{◌≡◌, ℕ, ◌≤◌, List, None, Some, Optio
 use Rattle.std.specs.Io.KnownBytes.{Appends}
 use Rattle.dd_model.specs.Symbol.{Symbol}
 use Rattle.dd_model.specs.Text.{beginning}
-use Rattle.dd_jobs.specs.declared.portions.Portion.{Portion}
-use Rattle.dd_jobs.specs.Portions.{ArePortionMembers, IsPortionText}
-use Rattle.dd_jobs.proofs.PortionLaws.{members_unique}
+use Rattle.dd_opening_jobs.specs.declared.portions.Portion.{Portion}
+use Rattle.dd_opening_jobs.specs.Portions.{ArePortionMembers, IsPortionText}
+use Rattle.dd_opening_jobs.proofs.PortionLaws.{members_unique}
 use Rattle.dd_model.proofs.SmallerPlaces.{begins_is_front}
 use Rattle.dd_ports.specs.Grows.{GrowsByPrefix}
 use Rattle.dd_check.specs.Calls.{Task, Begin, Resume}
 use Rattle.dd_check.specs.ChainStarts.{Start, first_start}
 use Rattle.dd_check.proofs.LinesUpTo.{whole_text, whole_members}
-use Rattle.dd_pages.specs.Outputs.{IsOutput}
-use Rattle.dd_pages.specs.MostLines.{most_lines}
-use Rattle.dd_pages.specs.Runs.{Finishes, WritesRest}
-use Rattle.dd_pages.specs.declared.fault.RunFault.{RunFault}
-use Rattle.dd_pages.specs.declared.finish.Finish.{Finish}
-use Rattle.dd_pages.specs.declared.finish.Finish.TheVariants as finish
-use Rattle.dd_tasks.specs.Beginnings.{BeginsAt}
-use Rattle.dd_tasks.specs.Outside.{Before, After}
-use Rattle.dd_tasks.specs.Output.{AppendsOutput}
-use Rattle.dd_tasks.specs.Runs.{Runs}
-use Rattle.dd_tasks.specs.Words.{AskForRun}
+use Rattle.dd_pages_and_checkpoints.specs.Outputs.{IsOutput}
+use Rattle.dd_pages_and_checkpoints.specs.MostLines.{most_lines}
+use Rattle.dd_pages_and_checkpoints.specs.Runs.{Finishes, WritesRest}
+use Rattle.dd_pages_and_checkpoints.specs.declared.fault.RunFault.{RunFault}
+use Rattle.dd_pages_and_checkpoints.specs.declared.finish.Finish.{Finish}
+use Rattle.dd_pages_and_checkpoints.specs.declared.finish.Finish.TheVariants as finish
+use Rattle.dd_suite_tasks.specs.Beginnings.{BeginsAt}
+use Rattle.dd_suite_tasks.specs.Outside.{Before, After}
+use Rattle.dd_suite_tasks.specs.Output.{AppendsOutput}
+use Rattle.dd_suite_tasks.specs.Runs.{Runs}
+use Rattle.dd_suite_tasks.specs.Words.{AskForRun}
 
 pub output_of : (name : Option (List ℕ)) (s : Start) (round : ℕ) (pause : Option ℕ) (before : Before) (after : After) (r : Result Finish RunFault) → Runs name s round pause before after r
     → (output : List ℕ) × IsOutput s pause before.written after.written r output

@@ -1,16 +1,16 @@
 -- The first bytes of what a name holds do for the whole text of a shard.
 use Rattle.std.proofs.Common.{◌≡◌, ℕ, List, ◌++◌, Option, None, Some, Bool}
-use Rattle.dd_jobs.specs.declared.shards.Shard.{Shard}
+use Rattle.dd_opening_jobs.specs.declared.shards.Shard.{Shard}
 use Rattle.dd_check.specs.declared.checkpoint.Checkpoint.{Checkpoint}
 use Rattle.dd_check.specs.declared.kinds.Kind.TheVariants.{Catalogues, Shards}
 use Rattle.dd_check.specs.Calls.{kind_of}
 use Rattle.dd_check.specs.ShardChecks.{IsAcceptedText}
 use Rattle.dd_check.proofs.KindFaults.{whole_read, whole_faulty}
-use Rattle.dd_tasks.specs.declared.ending.Ending.{Ending}
-use Rattle.dd_tasks.specs.declared.ending.Ending.TheVariants.{Done, Usage, Refused, RefusedSymbol, RefusedCheck, RefusedMerge, Paused, StoreFault, SinkFault, Memory, TooManyLines}
-use Rattle.dd_tasks.specs.Beginnings.{HoldsCheck}
-use Rattle.dd_tasks.specs.Merges.{IsFetchedFront}
-use Rattle.dd_tasks.specs.Outcomes.{IsReadStop, IsHeldStop}
+use Rattle.dd_suite_tasks.specs.declared.ending.Ending.{Ending}
+use Rattle.dd_suite_tasks.specs.declared.ending.Ending.TheVariants.{Done, Usage, Refused, RefusedSymbol, RefusedCheck, RefusedMerge, Paused, StoreFault, SinkFault, Memory, TooManyLines}
+use Rattle.dd_suite_tasks.specs.Beginnings.{HoldsCheck}
+use Rattle.dd_suite_tasks.specs.Merges.{IsFetchedFront}
+use Rattle.dd_suite_tasks.specs.Outcomes.{IsReadStop, IsHeldStop}
 use Rattle.dd_check.proofs.ChainParts.{other_kind}
 
 pub front_check : (tells : Bool) (held : Option (List ℕ)) (front : List ℕ) (shard : Option Shard) (c : Checkpoint) → IsFetchedFront tells held 8192 front → kind_of shard ≡ Shards

@@ -2,11 +2,11 @@
 use Rattle.std.specs.Prelude.{◌≡◌, ℕ, List, Option, None, Some, true, IsSome}
 use Rattle.std.specs.Io.KnownBytes.{Appends}
 use Rattle.dd_check.specs.Calls.{Call, Ending, Done, Paused, Stopped}
-use Rattle.dd_tasks.specs.declared.status.Status.{Status}
-use Rattle.dd_tasks.specs.declared.status.Status.TheVariants as status
-use Rattle.dd_tasks.specs.Outside.{Before, After}
-use Rattle.dd_tasks.specs.Runs.{name_of, IsCallOf}
-use Rattle.dd_tasks.specs.Words.{Order, AskForRun}
+use Rattle.dd_suite_tasks.specs.declared.status.Status.{Status}
+use Rattle.dd_suite_tasks.specs.declared.status.Status.TheVariants as status
+use Rattle.dd_suite_tasks.specs.Outside.{Before, After}
+use Rattle.dd_suite_tasks.specs.Runs.{name_of, IsCallOf}
+use Rattle.dd_suite_tasks.specs.Words.{Order, AskForRun}
 
 -- A call of the program: its words, the run that they ask for, the store and the sink before and after it, its status, and what
 -- it wrote.

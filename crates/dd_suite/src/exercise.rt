@@ -1,11 +1,11 @@
 ghost use Rattle.std.specs.Prelude.{◌≡◌, ◌≤◌, ℕ, List, true};
 ghost use Rattle.dd_ports.specs.Grows.{GrowsByPrefix};
 ghost use Rattle.dd_exercise.specs.Exercise.{IsExerciseText};
-ghost use Rattle.dd_tasks.specs.Stops.{IsWriteEnding, AppendsExercise};
+ghost use Rattle.dd_suite_tasks.specs.Stops.{IsWriteEnding, AppendsExercise};
 
 use dd_model::Memory;
 use dd_ports::Sink;
-use dd_tasks::{Ending, write_text};
+use dd_suite_tasks::{Ending, write_text};
 use std::alloc::Global;
 
 /// Writes the text of an exercise of `count` items from a number on.

@@ -3,15 +3,15 @@ ghost use Rattle.dd_model.specs.Request.{IsValid};
 ghost use Rattle.dd_model.specs.Position.{IsPosition};
 ghost use Rattle.dd_check.specs.Calls.{Begin};
 ghost use Rattle.dd_check.specs.ChainStarts.{first_start};
-ghost use Rattle.dd_pages.specs.Runs.{start_of, IsPause};
-ghost use Rattle.dd_tasks.specs.Outcomes.{IsRunOutcome, EndsRunFrom};
+ghost use Rattle.dd_pages_and_checkpoints.specs.Runs.{start_of, IsPause};
+ghost use Rattle.dd_suite_tasks.specs.Outcomes.{IsRunOutcome, EndsRunFrom};
 
 use dd_branch::Search;
 use dd_catalogue::{Workshop, write_run};
-use dd_jobs::{Pace, Portion};
-use dd_pages::Run;
+use dd_opening_jobs::{Pace, Portion};
+use dd_pages_and_checkpoints::Run;
 use dd_ports::{Gate, Sink, Store};
-use dd_tasks::Ending;
+use dd_suite_tasks::Ending;
 use std::sync::Wait;
 use std::thread::Threads;
 

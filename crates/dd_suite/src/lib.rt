@@ -8,7 +8,7 @@ mod lone;
 mod resume;
 mod top;
 
-pub use dd_tasks::Status;
+pub use dd_suite_tasks::Status;
 pub use laws::{
     a_call_of_the_program_meets_the_clauses, a_finished_chain_of_calls_writes_its_text,
     a_paused_chain_of_calls_writes_the_first_lines,

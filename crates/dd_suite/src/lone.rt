@@ -1,13 +1,13 @@
 ghost use Rattle.std.specs.Prelude.{◌≡◌, ◌≤◌, true};
 ghost use Rattle.dd_model.specs.Request.{IsValid};
-ghost use Rattle.dd_tasks.specs.Lone.{IsLoneEnding, run_result};
+ghost use Rattle.dd_suite_tasks.specs.Lone.{IsLoneEnding, run_result};
 
 use dd_branch::Search;
 use dd_catalogue::{Workshop, write_catalogue};
-use dd_jobs::{Pace, Portion};
-use dd_pages::{Finish, Run, RunFault};
+use dd_opening_jobs::{Pace, Portion};
+use dd_pages_and_checkpoints::{Finish, Run, RunFault};
 use dd_ports::{Gate, Sink, SinkFault};
-use dd_tasks::Ending;
+use dd_suite_tasks::Ending;
 use std::sync::Wait;
 use std::thread::Threads;
 

@@ -22,10 +22,10 @@
 //! - A reader of files has involutions. It calls `build_on`.
 //! - A caller may know that the degrees fit if the involutions commute and are connected. It calls
 //!   `build_fitting`.
-//! - The search has the involutions of a whole stem (`involutions` of dd_partial_table). It calls
+//! - The search has the involutions of a whole stem (`involutions` of dd_branch_tables). It calls
 //!   `from_known_bytes`.
 //! - A caller may have a table (`Table::known`) and the turns of its places. It calls
-//!   `build_known`. `with_places` of dd_degrees counts the turns. It walks each cell once.
+//!   `build_known`. `with_places` of dd_branch_degrees counts the turns. It walks each cell once.
 //! - A caller may have the degrees of a symbol with the same involutions. It calls
 //!   `with_known_degrees`, which copies the images.
 #![tactic(auto)]

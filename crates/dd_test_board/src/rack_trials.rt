@@ -2,13 +2,13 @@ ghost use Rattle.std.specs.Prelude.{◌≡◌, ◌<◌, ◌∷◌, [], length, m
 ghost use Rattle.dd_model.specs.Request.{IsValid};
 ghost use Rattle.dd_model.specs.Jobs.{AreAscendingJobs, AreApart};
 ghost use Rattle.dd_board.specs.Desk.{AreJobsOf};
-ghost use Rattle.dd_deques.specs.Hands.{hand_place};
-ghost use Rattle.dd_deques.specs.Places.{IsRack};
+ghost use Rattle.dd_steal_deques.specs.Hands.{hand_place};
+ghost use Rattle.dd_steal_deques.specs.Places.{IsRack};
 
 use dd_board::Desk;
-use dd_deques::{Hand, Rack, Rest};
 use dd_front::{Naming, Taken, Ticket};
 use dd_model::{Job, Prefix, Request};
+use dd_steal_deques::{Hand, Rack, Rest};
 use std::alloc::Global;
 use std::marker::Brand;
 use std::process::Abort;

@@ -1,7 +1,7 @@
 use crate::pair_gate::PairGate;
 use dd_ports::{SureSink, SureStore};
 use dd_suite::run;
-use dd_tasks::Status;
+use dd_suite_tasks::Status;
 use std::alloc::Global;
 use std::process::Abort;
 use std::rc::RcStr;

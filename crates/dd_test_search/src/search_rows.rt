@@ -2,11 +2,11 @@ ghost use Rattle.std.specs.Prelude.{◌≡◌, ◌≤◌};
 ghost use Rattle.dd_branch.specs.Descent.{IsDescent};
 
 use crate::codes::have_codes;
-use dd_bounds::PathShares;
 use dd_branch::{Descent, Search};
+use dd_branch_bounds::PathShares;
+use dd_branch_tables::PrefixSearch;
 use dd_front::Finder;
 use dd_model::{Job, Prefix, Request};
-use dd_partial_table::PrefixSearch;
 use dd_symbol_list::SymbolList;
 use std::alloc::Global;
 use std::process::Abort;

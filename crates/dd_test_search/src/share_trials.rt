@@ -1,11 +1,11 @@
 ghost use Rattle.std.specs.Prelude.{◌≡◌, ◌*◌, ◌<◌, ◌≤◌};
-ghost use Rattle.dd_partial_table.specs.Rows.{partial_of, IsReady};
-ghost use Rattle.dd_partial_table.specs.Stem.{IsStem};
-ghost use Rattle.dd_bounds.specs.Kept.{AreSides};
+ghost use Rattle.dd_branch_tables.specs.Rows.{partial_of, IsReady};
+ghost use Rattle.dd_branch_tables.specs.Stem.{IsStem};
+ghost use Rattle.dd_branch_bounds.specs.Kept.{AreSides};
 
-use dd_bounds::{PathShares, Sides, parity_rules_out};
+use dd_branch_bounds::{PathShares, Sides, parity_rules_out};
+use dd_branch_tables::{Rows, Stem, Visit};
 use dd_model::{Allowed, Request};
-use dd_partial_table::{Rows, Stem, Visit};
 use std::test::Fail;
 
 /// Returns a request for at most `tiles` classes of tiles, with degrees from a least one on.

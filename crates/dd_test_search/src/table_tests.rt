@@ -1,11 +1,11 @@
 ghost use Rattle.std.specs.Prelude.{◌≡◌};
-ghost use Rattle.dd_partial_table.specs.Stem.{IsStem};
+ghost use Rattle.dd_branch_tables.specs.Stem.{IsStem};
 
-use dd_degrees::Table;
+use dd_branch_degrees::Table;
+use dd_branch_tables::{Stem, Visit};
 use dd_invol::{Walk, children, tables_under};
-use dd_jobs::{is_opening, opening};
 use dd_model::{Allowed, Index, Job, Prefix, Request};
-use dd_partial_table::{Stem, Visit};
+use dd_opening_jobs::{is_opening, opening};
 use std::alloc::Global;
 use std::process::Abort;
 

@@ -2,11 +2,11 @@ ghost use Rattle.std.specs.Prelude.{◌≤◌};
 ghost use Rattle.dd_model.specs.Request.{IsValid};
 ghost use Rattle.dd_model.specs.Jobs.{IsJobOf};
 
+use dd_branch_degrees::{Table, Ties, members_of};
 use dd_canon::tied_starts;
-use dd_degrees::{Table, Ties, members_of};
 use dd_invol::tables_under;
-use dd_jobs::opening;
 use dd_model::{Allowed, Job, Request};
+use dd_opening_jobs::opening;
 use dd_symbol::Connected;
 use dd_symbol_list::SymbolList;
 use std::alloc::Global;

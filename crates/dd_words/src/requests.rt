@@ -1,6 +1,6 @@
 ghost use Rattle.std.specs.Prelude.{ℕ, Option, map, IfSome, IfNone};
 ghost use Rattle.dd_model.specs.declared.requests.Request.{Request};
-ghost use Rattle.dd_jobs.specs.declared.pace.Pace.{Pace as Numbers};
+ghost use Rattle.dd_opening_jobs.specs.declared.pace.Pace.{Pace as Numbers};
 ghost use Rattle.dd_words.specs.Given.{AreSingle};
 ghost use Rattle.dd_words.specs.Settings.{given_of};
 ghost use Rattle.dd_words.specs.Grammar.{IsRequested, IsRun};
@@ -8,8 +8,8 @@ ghost use Rattle.dd_words.specs.Grammar.{IsRequested, IsRun};
 use crate::given::{flag_if_given, number_if_given, number_or, set_of};
 use crate::settings::{Given, Setting};
 use crate::values::read_number_in;
-use dd_jobs::Pace;
 use dd_model::Request;
+use dd_opening_jobs::Pace;
 
 /// How a catalogue is run.
 #[derive(Clone, Copy)]

@@ -6,7 +6,7 @@ use Rattle.dd_front.specs.Machine.{StandsAt}
 use Rattle.dd_front.specs.Rounds.{open_jobs}
 use Rattle.dd_catalogue.specs.Splits.{IsGroupDone}
 use Rattle.dd_catalogue.specs.Ways.{Way}
-use Rattle.dd_pages.specs.Runs.{start_of, Finishes}
+use Rattle.dd_pages_and_checkpoints.specs.Runs.{start_of, Finishes}
 use Rattle.dd_catalogue.proofs.Outcomes.{went_out, lines_between, finish_whole, finish_full, full_lines, limit_above, limit_most}
 use Rattle.dd_catalogue.proofs.PlainRuns.{plain_way, plain_begun, plain_here, plain_group, lighter_group}
 use Rattle.dd_catalogue.proofs.Weights.{weighed}

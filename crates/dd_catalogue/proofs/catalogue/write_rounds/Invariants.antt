@@ -1,9 +1,9 @@
 use Rattle.std.proofs.Common.{◌≡◌, ◌≤◌, true, List}
 use Rattle.dd_model.specs.declared.jobs.Job.{Job}
 use Rattle.dd_front.specs.Rounds.{open_jobs}
-use Rattle.dd_pages.specs.Rounds.{AreOpen}
+use Rattle.dd_pages_and_checkpoints.specs.Rounds.{AreOpen}
 use Rattle.dd_catalogue.specs.Ways.{IsUnderWay}
-use Rattle.dd_pages.specs.Runs.{start_of}
+use Rattle.dd_pages_and_checkpoints.specs.Runs.{start_of}
 use Rattle.dd_catalogue.proofs.Weights.{weighed}
 use Rattle.dd_catalogue.proofs.PlainRuns.{plain_way}
 use Rattle.dd_catalogue.proofs.catalogue.write_rounds.Given as goal

@@ -1,11 +1,11 @@
 use Rattle.std.proofs.Common.{◌≡◌, ◌<◌, false, Err, Ok, sym, subst, rules}
 use Rattle.std.proofs.lemmas.Result.{err_from_is_err_and}
 use Rattle.dd_check.specs.ChainStarts.{Start}
-use Rattle.dd_pages.specs.Runs.{IsLimit}
-use Rattle.dd_pages.specs.Saves.{HoldsCheckAt, Saves}
+use Rattle.dd_pages_and_checkpoints.specs.Runs.{IsLimit}
+use Rattle.dd_pages_and_checkpoints.specs.Saves.{HoldsCheckAt, Saves}
 use Rattle.std.specs.Prelude.{MatchBool}
-use Rattle.dd_pages.specs.declared.finish.Finish.{Finish}
-use Rattle.dd_pages.specs.declared.fault.RunFault.TheVariants.{Memory}
+use Rattle.dd_pages_and_checkpoints.specs.declared.finish.Finish.{Finish}
+use Rattle.dd_pages_and_checkpoints.specs.declared.fault.RunFault.TheVariants.{Memory}
 use Rattle.dd_catalogue.proofs.KeptRuns.{mid_stopped}
 use Rattle.dd_catalogue.proofs.NextMembers.{emptied_waiting, member_full, member_none, member_saved, member_unsaved, next_waiting}
 use Rattle.dd_catalogue.proofs.chain.keep_member.Goals as goal

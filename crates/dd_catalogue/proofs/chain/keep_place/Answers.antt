@@ -1,7 +1,7 @@
 use Rattle.std.proofs.Common.{false, arith}
 use Rattle.std.proofs.lemmas.Result.{err_from_is_err_and}
-use Rattle.dd_pages.specs.Runs.{start_of}
-use Rattle.dd_pages.specs.declared.fault.RunFault.TheVariants.{Memory}
+use Rattle.dd_pages_and_checkpoints.specs.Runs.{start_of}
+use Rattle.dd_pages_and_checkpoints.specs.declared.fault.RunFault.TheVariants.{Memory}
 use Rattle.dd_catalogue.proofs.KeptGroups.{head_saved, head_stopped, head_unsaved}
 use Rattle.dd_catalogue.proofs.chain.keep_place.Goals as goal
 

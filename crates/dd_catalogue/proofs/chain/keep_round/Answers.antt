@@ -1,5 +1,5 @@
 use Rattle.std.proofs.Common.{false, Ok, subst, ◌∙◌}
-use Rattle.dd_pages.specs.Runs.{start_of}
+use Rattle.dd_pages_and_checkpoints.specs.Runs.{start_of}
 use Rattle.dd_catalogue.specs.Kept.{IsMid}
 use Rattle.dd_catalogue.specs.Steps.{Leaves}
 use Rattle.dd_catalogue.proofs.KeptRuns.{untold}

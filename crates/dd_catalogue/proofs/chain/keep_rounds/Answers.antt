@@ -7,10 +7,10 @@ use Rattle.dd_front.specs.Machine.{StandsAt}
 use Rattle.dd_front.specs.Rounds.{open_jobs}
 use Rattle.dd_check.specs.ChainStarts.{Start}
 use Rattle.dd_check.specs.Clauses.{HasWork}
-use Rattle.dd_pages.specs.Names.{HasRun}
-use Rattle.dd_pages.specs.Runs.{start_of}
-use Rattle.dd_pages.specs.Saves.{HoldsCheckAt, Saves}
-use Rattle.dd_pages.specs.declared.fault.RunFault.TheVariants.{Memory}
+use Rattle.dd_pages_and_checkpoints.specs.Names.{HasRun}
+use Rattle.dd_pages_and_checkpoints.specs.Runs.{start_of}
+use Rattle.dd_pages_and_checkpoints.specs.Saves.{HoldsCheckAt, Saves}
+use Rattle.dd_pages_and_checkpoints.specs.declared.fault.RunFault.TheVariants.{Memory}
 use Rattle.dd_catalogue.specs.Kept.{IsHead}
 use Rattle.dd_catalogue.specs.Splits.{IsGroupDone}
 use Rattle.dd_catalogue.proofs.Outcomes.{limit_above}

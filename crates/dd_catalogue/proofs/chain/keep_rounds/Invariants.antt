@@ -1,7 +1,7 @@
 use Rattle.std.proofs.Common.{◌≡◌, ◌≤◌, true}
 use Rattle.dd_front.specs.Rounds.{open_jobs}
 use Rattle.dd_ports.specs.Texts.{SameOthers}
-use Rattle.dd_pages.specs.Runs.{start_of}
+use Rattle.dd_pages_and_checkpoints.specs.Runs.{start_of}
 use Rattle.dd_catalogue.specs.Kept.{IsHead}
 use Rattle.dd_catalogue.proofs.Weights.{weighed}
 use Rattle.dd_catalogue.proofs.chain.keep_rounds.Given as goal

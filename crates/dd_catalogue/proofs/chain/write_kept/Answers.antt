@@ -1,7 +1,7 @@
 use Rattle.std.proofs.Common.{true, false, Err, Ok, ◌∙◌, refl, subst, arith}
 use Rattle.std.proofs.lemmas.Result.{err_from_is_err_and}
-use Rattle.dd_pages.specs.Names.{HasRun}
-use Rattle.dd_pages.specs.Runs.{start_of}
+use Rattle.dd_pages_and_checkpoints.specs.Names.{HasRun}
+use Rattle.dd_pages_and_checkpoints.specs.Runs.{start_of}
 use Rattle.dd_catalogue.specs.Steps.{Leaves}
 use Rattle.dd_catalogue.proofs.KeptRuns.{other_fault, untold}
 use Rattle.dd_catalogue.proofs.chain.write_kept.Goals as goal

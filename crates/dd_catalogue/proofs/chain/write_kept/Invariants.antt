@@ -2,7 +2,7 @@ use Rattle.std.proofs.Common.{◌≡◌, ◌≤◌, ◌-◌, ℕ, Bool, true, Op
 use Rattle.dd_front.specs.Rounds.{open_jobs}
 use Rattle.dd_ports.specs.Texts.{SameOthers}
 use Rattle.dd_check.specs.Clauses.{HasWork}
-use Rattle.dd_pages.specs.Runs.{start_of}
+use Rattle.dd_pages_and_checkpoints.specs.Runs.{start_of}
 use Rattle.dd_catalogue.specs.Ways.{Way}
 use Rattle.dd_catalogue.specs.Kept.{IsMid}
 use Rattle.dd_catalogue.specs.Steps.{GoesOnHere, IsSomeMid}

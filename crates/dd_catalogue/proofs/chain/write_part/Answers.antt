@@ -3,10 +3,10 @@ use Rattle.std.specs.Prelude.{MatchBool}
 use Rattle.std.proofs.lemmas.Result.{err_from_is_err_and}
 use Rattle.dd_check.specs.ChainStarts.{Start}
 use Rattle.dd_check.specs.Clauses.{HasWork}
-use Rattle.dd_pages.specs.declared.finish.Finish.{Finish}
-use Rattle.dd_pages.specs.Names.{HasRun}
-use Rattle.dd_pages.specs.Runs.{IsLimit, start_of}
-use Rattle.dd_pages.specs.Saves.{HoldsCheckAt, Saves}
+use Rattle.dd_pages_and_checkpoints.specs.declared.finish.Finish.{Finish}
+use Rattle.dd_pages_and_checkpoints.specs.Names.{HasRun}
+use Rattle.dd_pages_and_checkpoints.specs.Runs.{IsLimit, start_of}
+use Rattle.dd_pages_and_checkpoints.specs.Saves.{HoldsCheckAt, Saves}
 use Rattle.dd_catalogue.specs.Kept.{IsHead}
 use Rattle.dd_catalogue.specs.Steps.{Leaves}
 use Rattle.dd_catalogue.specs.Ways.{IsFull}

@@ -1,5 +1,5 @@
-use Rattle.dd_pages.specs.declared.fault.RunFault.TheVariants.{Memory}
-use Rattle.dd_pages.specs.Runs.{start_of}
+use Rattle.dd_pages_and_checkpoints.specs.declared.fault.RunFault.TheVariants.{Memory}
+use Rattle.dd_pages_and_checkpoints.specs.Runs.{start_of}
 use Rattle.dd_catalogue.proofs.KeptRuns.{nothing_done}
 use Rattle.dd_catalogue.proofs.chain.write_run.Goals as goal
 

@@ -2,7 +2,7 @@ use Rattle.std.proofs.Common.{suc, List, [], refl, sym, ap, ◌∙◌, subst, ar
 use Rattle.dd_model.specs.Symbol.{Symbol}
 use Rattle.dd_front.specs.Machine.{Machine}
 use Rattle.dd_front.specs.Step.{Emits}
-use Rattle.dd_pages.specs.Rounds.{AreDoneThenOpen}
+use Rattle.dd_pages_and_checkpoints.specs.Rounds.{AreDoneThenOpen}
 use Rattle.dd_catalogue.proofs.FirstLists.{first_there, room_for_first, fewer_emitted}
 use Rattle.dd_catalogue.proofs.RoundEntries.{rest_open}
 use Rattle.dd_catalogue.proofs.WaySteps.{none_on_way, first_done}

@@ -1,5 +1,5 @@
 use Rattle.std.proofs.Common.{◌≡◌, ℕ, length}
-use Rattle.dd_pages.specs.Rounds.{AreDoneThenOpen}
+use Rattle.dd_pages_and_checkpoints.specs.Rounds.{AreDoneThenOpen}
 use Rattle.dd_catalogue.specs.Steps.{AreEmptied}
 use Rattle.dd_catalogue.proofs.emission.reach_member.Given as goal
 

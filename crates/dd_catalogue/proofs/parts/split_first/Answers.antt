@@ -3,7 +3,7 @@ use Rattle.dd_model.specs.declared.jobs.Job.{Job}
 use Rattle.dd_front.specs.Allowed.{MaySplit}
 use Rattle.dd_front.specs.declared.event.Event.TheVariants.{Split}
 use Rattle.dd_front.specs.Step.{IsStep}
-use Rattle.dd_pages.specs.Rounds.{AreOpen}
+use Rattle.dd_pages_and_checkpoints.specs.Rounds.{AreOpen}
 use Rattle.dd_catalogue.proofs.Splits.{first_item, may_split, split_is}
 use Rattle.dd_catalogue.proofs.parts.split_first.Goals as goal
 

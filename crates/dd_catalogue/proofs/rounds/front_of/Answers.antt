@@ -6,8 +6,8 @@ use Rattle.dd_model.proofs.Lists.{all_from_members}
 use Rattle.dd_model.proofs.Without.{without_there}
 use Rattle.dd_front.specs.Machine.{IsOpened}
 use Rattle.std.proofs.lemmas.Result.{IfOk-weaker}
-use Rattle.dd_pages.specs.Rounds.{AreJobsFrom}
-use Rattle.dd_pages.specs.Runs.{start_of}
+use Rattle.dd_pages_and_checkpoints.specs.Rounds.{AreJobsFrom}
+use Rattle.dd_pages_and_checkpoints.specs.Runs.{start_of}
 use Rattle.dd_catalogue.specs.Works.{IsStarted}
 use Rattle.dd_catalogue.proofs.JobsFrom.{from_covers}
 use Rattle.dd_catalogue.proofs.Working.{whole_work}

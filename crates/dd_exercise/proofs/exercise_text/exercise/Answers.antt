@@ -1,7 +1,7 @@
 use Rattle.std.proofs.Common.{◌≡◌, length, subst, arith}
 use Rattle.std.proofs.lemmas.Result.{IfOk-weaker}
 use Rattle.dd_model.specs.Small.{IsSmallSymbol}
-use Rattle.dd_commands.specs.Totals.{counted_in}
+use Rattle.dd_file_commands.specs.Totals.{counted_in}
 use Rattle.dd_exercise.specs.Exercise.{tally_text, IsExerciseText}
 use Rattle.dd_exercise.specs.Items.{IsItem}
 use Rattle.dd_exercise.proofs.TallyLemmas.{IsTold, none_told, told_short, one_more_told, told_text}

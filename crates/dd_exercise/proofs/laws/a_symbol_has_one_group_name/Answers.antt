@@ -1,4 +1,4 @@
-use Rattle.dd_commands.proofs.InfoLemmas.{group_once}
+use Rattle.dd_file_commands.proofs.InfoLemmas.{group_once}
 use Rattle.dd_exercise.proofs.TextExists.{group_exists}
 use Rattle.dd_exercise.proofs.laws.a_symbol_has_one_group_name.Goals as goal
 

@@ -1,4 +1,4 @@
-use Rattle.dd_partial_table.proofs.BareTables.{member_table, member_table_unique}
+use Rattle.dd_branch_tables.proofs.BareTables.{member_table, member_table_unique}
 use Rattle.dd_invol.proofs.laws.each_member_has_one_table.Goals as goal
 
 pub returns-clause-exists : goal.returns-clause-exists

@@ -4,10 +4,10 @@ use Rattle.dd_model.specs.Wanted.{AtMost}
 use Rattle.dd_model.specs.declared.pair.Pair.TheVariants.{Tile, Vertex}
 use Rattle.dd_model.specs.declared.requests.Request.{Request}
 use Rattle.dd_symbol.specs.Images.{of_rows}
-use Rattle.dd_partial_table.specs.Stem.{prefix_of, size_of}
+use Rattle.dd_branch_tables.specs.Stem.{prefix_of, size_of}
 use Rattle.dd_invol.specs.NextTable.{here}
 use Rattle.dd_invol.proofs.SoughtStems.{involutions_of_least, sought_of_least, none_of_least}
-use Rattle.dd_partial_table.proofs.WalkLemmas.{none_listed}
+use Rattle.dd_branch_tables.proofs.WalkLemmas.{none_listed}
 use Rattle.dd_invol.proofs.next_table.is_sought.Goals as goal
 
 pub returns-then-not-is_least-clause-none : goal.returns-then-not-is_least-clause-none

@@ -1,6 +1,6 @@
 use Rattle.std.proofs.Common.{◌+◌}
 use Rattle.dd_invol.specs.Children.{IsStemOf}
-use Rattle.dd_partial_table.proofs.Extensions.{AreExtensionsBelow}
+use Rattle.dd_branch_tables.proofs.Extensions.{AreExtensionsBelow}
 use Rattle.dd_invol.proofs.splits.extensions.Given as goal
 
 abbrev pub invariant-loop-k : goal.invariant-loop-k

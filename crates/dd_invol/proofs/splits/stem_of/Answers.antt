@@ -1,8 +1,8 @@
 use Rattle.std.proofs.Common.{◌≡◌, ◌+◌, ◌++◌, ◌∷◌, [], get_or, take, sym, ap, ◌∙◌, subst, arith}
 use Rattle.std.proofs.lemmas.List.{take_more}
-use Rattle.dd_partial_table.specs.Stem.{Any, prefix_of}
-use Rattle.dd_jobs.specs.Under.{HasNothingUnder}
-use Rattle.dd_partial_table.proofs.Extensions.{none_under_front}
+use Rattle.dd_branch_tables.specs.Stem.{Any, prefix_of}
+use Rattle.dd_opening_jobs.specs.Under.{HasNothingUnder}
+use Rattle.dd_branch_tables.proofs.Extensions.{none_under_front}
 use Rattle.dd_invol.proofs.splits.stem_of.Goals as goal
 
 pub returns-then-not-enter : goal.returns-then-not-enter

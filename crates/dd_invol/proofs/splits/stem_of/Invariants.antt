@@ -1,5 +1,5 @@
 use Rattle.std.proofs.Common.{◌≡◌, take}
-use Rattle.dd_partial_table.specs.Stem.{IsStem, prefix_of, size_of}
+use Rattle.dd_branch_tables.specs.Stem.{IsStem, prefix_of, size_of}
 use Rattle.dd_invol.proofs.splits.stem_of.Given as goal
 
 abbrev pub invariant-loop-number : goal.invariant-loop-number

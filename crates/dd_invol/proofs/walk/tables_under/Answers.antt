@@ -1,8 +1,8 @@
 use Rattle.std.proofs.Common.{◌≡◌, ◌+◌, ◌-◌, ◌*◌, ◌^◌, ◌<◌, [], sym, ap, ◌∙◌, subst, arith}
 use Rattle.dd_model.specs.Code.{all_images}
-use Rattle.dd_partial_table.specs.Walk.{IsNext, HasNoneLeft, after}
-use Rattle.dd_partial_table.proofs.WalkLemmas.{with_some, with_none}
-use Rattle.dd_partial_table.proofs.WalkOrder.{AreGiven, IsStand, given_first, given_more, given_all, stand_first, stand_at, fewer_left, weight, next_here, none_here, if_some}
+use Rattle.dd_branch_tables.specs.Walk.{IsNext, HasNoneLeft, after}
+use Rattle.dd_branch_tables.proofs.WalkLemmas.{with_some, with_none}
+use Rattle.dd_branch_tables.proofs.WalkOrder.{AreGiven, IsStand, given_first, given_more, given_all, stand_first, stand_at, fewer_left, weight, next_here, none_here, if_some}
 use Rattle.dd_invol.proofs.walk.tables_under.Goals as goal
 
 pub loop-tables-init : goal.loop-tables-init

@@ -1,5 +1,5 @@
 use Rattle.std.proofs.Common.{◌≡◌, ◌+◌, ◌-◌, ◌*◌, ◌^◌}
-use Rattle.dd_partial_table.proofs.WalkOrder.{AreGiven, IsStand, weight}
+use Rattle.dd_branch_tables.proofs.WalkOrder.{AreGiven, IsStand, weight}
 use Rattle.dd_invol.proofs.walk.tables_under.Given as goal
 
 abbrev pub invariant-loop-tables : goal.invariant-loop-tables

@@ -2,7 +2,7 @@ use Rattle.std.proofs.Common.{subst}
 use Rattle.std.specs.Bool.{OnTrue, OnFalse}
 use Rattle.dd_model.specs.Symbol.{op}
 use Rattle.dd_symbol.specs.Cells.{IsLeastFor}
-use Rattle.dd_forest.specs.Parts.{AreInOnePart, AreJoinedAt}
+use Rattle.dd_union_find.specs.Parts.{AreInOnePart, AreJoinedAt}
 use Rattle.dd_lattice.proofs.KindLemmas.{one_pair}
 use Rattle.dd_lattice.proofs.kinds.join_cells.Goals as goal
 

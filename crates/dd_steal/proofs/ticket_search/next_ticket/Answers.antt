@@ -1,5 +1,5 @@
 use Rattle.std.proofs.Common.{arith}
-use Rattle.dd_deques.specs.Hands.{hand_popped}
+use Rattle.dd_steal_deques.specs.Hands.{hand_popped}
 use Rattle.dd_steal.proofs.Held.{popped_held}
 use Rattle.dd_steal.proofs.ticket_search.next_ticket.Goals as goal
 

@@ -1,5 +1,5 @@
 use Rattle.std.proofs.Common.{◌≡◌}
-use Rattle.dd_deques.specs.Hands.{hand_pushed, hand_popped, hand_stolen, hand_place}
+use Rattle.dd_steal_deques.specs.Hands.{hand_pushed, hand_popped, hand_stolen, hand_place}
 use Rattle.dd_steal.proofs.ticket_search.steal_one.Given as goal
 
 -- nothing was stolen yet

@@ -1,5 +1,5 @@
 use Rattle.std.proofs.Common.{◌≡◌, ◌≤◌}
-use Rattle.dd_deques.specs.Hands.{hand_place}
+use Rattle.dd_steal_deques.specs.Hands.{hand_place}
 use Rattle.dd_steal.specs.Worker.{IsLeftWith}
 use Rattle.dd_steal.proofs.worker.work.Given as goal
 

@@ -1,5 +1,5 @@
 use Rattle.std.proofs.Common.{sym, ◌∙◌}
-use Rattle.dd_pages.specs.Runs.{start_of}
+use Rattle.dd_pages_and_checkpoints.specs.Runs.{start_of}
 use Rattle.dd_suite.proofs.RunCalls.{ends_from}
 use Rattle.dd_suite.proofs.RunEndings.{store_end, sink_end}
 use Rattle.dd_suite.proofs.kept.keep_run.Goals as goal

@@ -2,7 +2,7 @@ use Rattle.std.proofs.Common.{◌≤◌, sym, ap, ◌∙◌, subst, arith}
 use Rattle.dd_model.specs.Request.{IsValid}
 use Rattle.dd_model.specs.Position.{IsPosition}
 use Rattle.dd_check.specs.ChainStarts.{Start}
-use Rattle.dd_tasks.specs.Endings.{run_ending}
+use Rattle.dd_suite_tasks.specs.Endings.{run_ending}
 use Rattle.dd_suite.proofs.RunCalls.{lone_ends, lone_sink, lone_none}
 use Rattle.dd_suite.proofs.lone.write_lone.Goals as goal
 

@@ -1,6 +1,6 @@
 use Rattle.std.proofs.Common.{sym, subst}
 use Rattle.std.proofs.lemmas.Result.{IfOk-weaker, IfErr-weaker}
-use Rattle.dd_tasks.specs.Merges.{IsFetchedFront}
+use Rattle.dd_suite_tasks.specs.Merges.{IsFetchedFront}
 use Rattle.dd_suite.proofs.ShardFetches.{front_check, front_stop}
 use Rattle.dd_suite.proofs.resume.fetch_shard.Goals as goal
 

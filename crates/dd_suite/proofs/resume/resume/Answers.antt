@@ -2,10 +2,10 @@ use Rattle.std.proofs.Common.{◌≤◌, sym, ap, subst, arith}
 use Rattle.dd_model.specs.Request.{IsValid}
 use Rattle.dd_model.specs.Position.{IsPosition}
 use Rattle.dd_check.specs.ChainStarts.{Start, next_start}
-use Rattle.dd_pages.specs.Runs.{start_of}
+use Rattle.dd_pages_and_checkpoints.specs.Runs.{start_of}
 use Rattle.dd_check.specs.Calls.{Resume}
-use Rattle.dd_tasks.specs.Outcomes.{IsRunOutcome}
-use Rattle.dd_tasks.specs.Outside.{Before, After}
+use Rattle.dd_suite_tasks.specs.Outcomes.{IsRunOutcome}
+use Rattle.dd_suite_tasks.specs.Outside.{Before, After}
 use Rattle.dd_suite.proofs.CheckValues.{check_valid, check_counts, check_position, saved_check}
 use Rattle.dd_suite.proofs.RunCalls.{resumed_outcome, same_run, ends_earlier}
 use Rattle.dd_suite.proofs.resume.resume.Goals as goal

@@ -3,14 +3,14 @@ use Rattle.std.specs.List.{AllByRecursion}
 use Rattle.std.specs.Prelude.{IsSome}
 use Rattle.std.specs.Rc.{rc_str_bytes}
 use Rattle.dd_check.specs.Calls.{Begin, Resume as Next}
-use Rattle.dd_tasks.specs.declared.task.Task.TheVariants.{Alone, Kept, Resume, OnFile, Merge, Exercise}
-use Rattle.dd_tasks.specs.Outcomes.{IsRunOutcome}
-use Rattle.dd_tasks.specs.Outside.{Before, After}
-use Rattle.dd_tasks.specs.Stops.{EndsOnFile, on_file, of_merge, of_exercise, of_run}
-use Rattle.dd_tasks.specs.Merges.{AskToMerge}
-use Rattle.dd_tasks.specs.MergeEndings.{EndsMerge}
-use Rattle.dd_tasks.specs.Words.{IsOnFile, AskToExercise}
-use Rattle.dd_tasks.proofs.Requests.{asked_of, file_asked, lone_asked, kept_asked, resume_asked, merge_asked, few_files, exercise_asked, exercise_range}
+use Rattle.dd_suite_tasks.specs.declared.task.Task.TheVariants.{Alone, Kept, Resume, OnFile, Merge, Exercise}
+use Rattle.dd_suite_tasks.specs.Outcomes.{IsRunOutcome}
+use Rattle.dd_suite_tasks.specs.Outside.{Before, After}
+use Rattle.dd_suite_tasks.specs.Stops.{EndsOnFile, on_file, of_merge, of_exercise, of_run}
+use Rattle.dd_suite_tasks.specs.Merges.{AskToMerge}
+use Rattle.dd_suite_tasks.specs.MergeEndings.{EndsMerge}
+use Rattle.dd_suite_tasks.specs.Words.{IsOnFile, AskToExercise}
+use Rattle.dd_suite_tasks.proofs.Requests.{asked_of, file_asked, lone_asked, kept_asked, resume_asked, merge_asked, few_files, exercise_asked, exercise_range}
 use Rattle.dd_suite.proofs.RunCalls.{lone_outcome}
 use Rattle.dd_suite.proofs.top.perform.Goals as goal
 

@@ -1,7 +1,7 @@
 use Rattle.std.proofs.Common.{◌≡◌, ◌⊎◌, map, sym, ◌∙◌, subst}
 use Rattle.std.specs.Rc.{rc_str_bytes}
-use Rattle.dd_tasks.specs.declared.status.Status.TheVariants.{Usage, Memory}
-use Rattle.dd_tasks.specs.Cuts.{IsEndOfOwn}
+use Rattle.dd_suite_tasks.specs.declared.status.Status.TheVariants.{Usage, Memory}
+use Rattle.dd_suite_tasks.specs.Cuts.{IsEndOfOwn}
 use Rattle.dd_suite.proofs.Clauses.{known, whole, call_as, not_resumed, usage, not_taken, refused, quiet_as, nothing, not_merged, store, store_fault, sink_fault, paused, cut_short, not_cut, complete, told, told_or_short}
 use Rattle.dd_suite.proofs.top.run.Goals as goal
 

@@ -1,7 +1,7 @@
 use Rattle.std.proofs.Common.{subst, sym}
 use Rattle.dd_model.proofs.Lists.{map_set_same}
-use Rattle.dd_deques.specs.Hands.{hand_place}
-use Rattle.dd_deques.specs.Places.{IsRack}
+use Rattle.dd_steal_deques.specs.Hands.{hand_place}
+use Rattle.dd_steal_deques.specs.Places.{IsRack}
 use Rattle.dd_test_board.proofs.rack_trials.steal_by.Goals as goal
 
 pub returns-clause-rack : goal.returns-clause-rack

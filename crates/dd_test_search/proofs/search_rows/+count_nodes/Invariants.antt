@@ -1,5 +1,5 @@
 use Rattle.std.proofs.Common.{◌≡◌, ◌-◌, ◌*◌, ◌<◌, length}
-use Rattle.dd_partial_table.specs.Stem.{prefix_of, size_of}
+use Rattle.dd_branch_tables.specs.Stem.{prefix_of, size_of}
 use Rattle.dd_branch.specs.Descent.{IsDescent}
 use Rattle.dd_test_search.proofs.search_rows.+count_nodes.Given as goal
 

@@ -1,10 +1,10 @@
 use Rattle.std.proofs.Common.{◌≡◌, ◌+◌, length, sym, ap, ◌∙◌, subst, arith}
 use Rattle.std.proofs.lemmas.List.{length_push}
-use Rattle.dd_partial_table.specs.Rows.{partial_of, depth_of}
-use Rattle.dd_partial_table.specs.Stem.{prefix_of, size_of, shortened}
-use Rattle.dd_partial_table.specs.declared.stem.Stem.{Stem}
-use Rattle.dd_bounds.specs.Kept.{AreSides}
-use Rattle.dd_bounds.proofs.EndGrowth.{kept_of_longer}
+use Rattle.dd_branch_tables.specs.Rows.{partial_of, depth_of}
+use Rattle.dd_branch_tables.specs.Stem.{prefix_of, size_of, shortened}
+use Rattle.dd_branch_tables.specs.declared.stem.Stem.{Stem}
+use Rattle.dd_branch_bounds.specs.Kept.{AreSides}
+use Rattle.dd_branch_bounds.proofs.EndGrowth.{kept_of_longer}
 use Rattle.dd_test_search.proofs.share_trials.+count_nodes.Goals as goal
 use Rattle.dd_test_search.proofs.share_trials.+count_nodes.Goals.{then-enter, else-enter}
 

@@ -1,7 +1,7 @@
 use Rattle.std.proofs.Common.{◌≡◌, ◌-◌, ◌*◌, ◌<◌, ◌≤◌, length}
-use Rattle.dd_partial_table.specs.Rows.{partial_of, depth_of}
-use Rattle.dd_partial_table.specs.Stem.{IsStem, prefix_of, size_of}
-use Rattle.dd_bounds.specs.Kept.{AreSides}
+use Rattle.dd_branch_tables.specs.Rows.{partial_of, depth_of}
+use Rattle.dd_branch_tables.specs.Stem.{IsStem, prefix_of, size_of}
+use Rattle.dd_branch_bounds.specs.Kept.{AreSides}
 use Rattle.dd_test_search.proofs.share_trials.+count_nodes.Given as goal
 
 abbrev pub decreases-count_nodes : goal.decreases-count_nodes

@@ -1,5 +1,5 @@
 use Rattle.std.proofs.Common.{sym, ◌∙◌}
-use Rattle.dd_partial_table.specs.Rows.{partial_of}
+use Rattle.dd_branch_tables.specs.Rows.{partial_of}
 use Rattle.dd_test_search.proofs.share_trials.answers_for_pentagons.Goals as goal
 
 pub rules_out-before-requires-clause-kept : goal.rules_out-before-requires-clause-kept

@@ -1,5 +1,5 @@
 use Rattle.std.proofs.Common.{sym, ◌∙◌}
-use Rattle.dd_partial_table.specs.Rows.{partial_of}
+use Rattle.dd_branch_tables.specs.Rows.{partial_of}
 use Rattle.dd_test_search.proofs.share_trials.is_empty_with_a_chain.Goals as goal
 
 pub put-requires-clause-kept : goal.put-requires-clause-kept

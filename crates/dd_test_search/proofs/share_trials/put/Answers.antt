@@ -1,4 +1,4 @@
-use Rattle.dd_bounds.proofs.EndGrowth.{kept_of_longer}
+use Rattle.dd_branch_bounds.proofs.EndGrowth.{kept_of_longer}
 use Rattle.dd_test_search.proofs.share_trials.put.Goals as goal
 
 pub learn-requires-clause-kept : goal.learn-requires-clause-kept

@@ -1,7 +1,7 @@
 use Rattle.std.proofs.Common.{◌≡◌, sym, ap, ◌∙◌, subst, arith}
-use Rattle.dd_partial_table.specs.Rows.{depth_of}
-use Rattle.dd_partial_table.specs.Stem.{shortened}
-use Rattle.dd_partial_table.specs.declared.stem.Stem.{Stem}
+use Rattle.dd_branch_tables.specs.Rows.{depth_of}
+use Rattle.dd_branch_tables.specs.Stem.{shortened}
+use Rattle.dd_branch_tables.specs.declared.stem.Stem.{Stem}
 use Rattle.dd_test_search.proofs.table_tests.+count_whole.Goals as goal
 use Rattle.dd_test_search.proofs.table_tests.+count_whole.Goals.{then-enter, else-enter}
 

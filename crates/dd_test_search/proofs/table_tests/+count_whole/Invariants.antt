@@ -1,6 +1,6 @@
 use Rattle.std.proofs.Common.{◌≡◌, ◌-◌, ◌*◌, ◌<◌, ◌≤◌, length}
-use Rattle.dd_partial_table.specs.Rows.{depth_of}
-use Rattle.dd_partial_table.specs.Stem.{IsStem, prefix_of, size_of}
+use Rattle.dd_branch_tables.specs.Rows.{depth_of}
+use Rattle.dd_branch_tables.specs.Stem.{IsStem, prefix_of, size_of}
 use Rattle.dd_test_search.proofs.table_tests.+count_whole.Given as goal
 
 abbrev pub decreases-count_whole : goal.decreases-count_whole

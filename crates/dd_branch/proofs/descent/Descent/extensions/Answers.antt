@@ -1,6 +1,6 @@
 use Rattle.std.proofs.Common.{◌≡◌, ◌+◌, ◌++◌, ◌∷◌, [], refl, sym, ap, ◌∙◌, subst, arith}
 use Rattle.dd_model.specs.Jobs.{AreExtensions}
-use Rattle.dd_partial_table.proofs.Extensions.{AreExtensionsBelow, extensions_first, extensions_more, extensions_skip, extensions_all}
+use Rattle.dd_branch_tables.proofs.Extensions.{AreExtensionsBelow, extensions_first, extensions_more, extensions_skip, extensions_all}
 use Rattle.dd_branch.specs.Descent.{GoesBack}
 use Rattle.dd_branch.proofs.Descents.{dead_job}
 use Rattle.dd_branch.proofs.GoingBack.{is_descent}

@@ -1,5 +1,5 @@
 use Rattle.std.proofs.Common.{◌+◌}
-use Rattle.dd_partial_table.proofs.Extensions.{AreExtensionsBelow}
+use Rattle.dd_branch_tables.proofs.Extensions.{AreExtensionsBelow}
 use Rattle.dd_branch.specs.Descent.{GoesBack}
 use Rattle.dd_branch.proofs.Splits.{HasReached}
 use Rattle.dd_branch.proofs.descent.Descent.extensions.Given as goal

@@ -3,7 +3,7 @@ use Rattle.std.proofs.lemmas.Bool.Decides.{Decides-eqb}
 use Rattle.std.proofs.lemmas.Slice.Eq.{starts_is}
 use Rattle.dd_model.specs.Lists.{Begins}
 use Rattle.dd_model.proofs.SmallerPlaces.{begins_by_test}
-use Rattle.dd_partial_table.specs.Stem.{prefix_of, size_of}
+use Rattle.dd_branch_tables.specs.Stem.{prefix_of, size_of}
 use Rattle.dd_branch.specs.Descent.{Descending, GoesBack}
 use Rattle.dd_branch.proofs.GoingBack.{fewer_levels, goes_back_shorter, has_levels, is_descent, same_request, same_size}
 use Rattle.dd_branch.proofs.descent.Descent.go_back.Goals as goal

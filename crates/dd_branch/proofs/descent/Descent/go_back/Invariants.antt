@@ -1,5 +1,5 @@
 use Rattle.std.proofs.Common.{◌≡◌, length}
-use Rattle.dd_partial_table.specs.Stem.{size_of}
+use Rattle.dd_branch_tables.specs.Stem.{size_of}
 use Rattle.dd_branch.specs.Descent.{GoesBack}
 use Rattle.dd_branch.proofs.descent.Descent.go_back.Given as goal
 

@@ -1,8 +1,8 @@
 use Rattle.std.proofs.Common.{◌≡◌, IsTrue, false, sym, ap, subst}
 use Rattle.dd_model.specs.Wanted.{IsMember}
-use Rattle.dd_jobs.specs.FirstVisit.{CanFollow}
-use Rattle.dd_partial_table.specs.Stem.{prefix_of, size_of}
-use Rattle.dd_partial_table.proofs.Extensions.{none_cannot}
+use Rattle.dd_opening_jobs.specs.FirstVisit.{CanFollow}
+use Rattle.dd_branch_tables.specs.Stem.{prefix_of, size_of}
+use Rattle.dd_branch_tables.proofs.Extensions.{none_cannot}
 use Rattle.dd_branch.specs.Descent.{Descending}
 use Rattle.dd_branch.proofs.Splits.{none_where_no_table}
 use Rattle.dd_branch.proofs.descent.Descent.may_grow.Goals as goal

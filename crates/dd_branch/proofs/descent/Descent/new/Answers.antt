@@ -1,6 +1,6 @@
 use Rattle.std.proofs.Common.{length, sym, ap, ◌∙◌, subst, arith}
-use Rattle.dd_partial_table.specs.Rows.{partial_of}
-use Rattle.dd_bounds.specs.Kept.{AreSides}
+use Rattle.dd_branch_tables.specs.Rows.{partial_of}
+use Rattle.dd_branch_bounds.specs.Kept.{AreSides}
 use Rattle.dd_branch.proofs.descent.Descent.new.Goals as goal
 
 pub returns-clause-descent : goal.returns-clause-descent

@@ -1,9 +1,9 @@
 use Rattle.std.proofs.Common.{◌≡◌, ◌+◌, List, [], ◌∷◌, ◌++◌, length, length-append, refl, sym, ap, ◌∙◌, subst, arith}
 use Rattle.dd_model.specs.Wanted.{IsMember}
-use Rattle.dd_partial_table.specs.Rows.{depth_of}
-use Rattle.dd_partial_table.specs.Stem.{prefix_of, size_of}
-use Rattle.dd_jobs.specs.Under.{HasNothingUnder}
-use Rattle.dd_bounds.specs.Kept.{with_sides}
+use Rattle.dd_branch_tables.specs.Rows.{depth_of}
+use Rattle.dd_branch_tables.specs.Stem.{prefix_of, size_of}
+use Rattle.dd_opening_jobs.specs.Under.{HasNothingUnder}
+use Rattle.dd_branch_bounds.specs.Kept.{with_sides}
 use Rattle.dd_branch.specs.Descent.{Descending, IsDescent, HasDescended, shorter}
 use Rattle.dd_branch.specs.declared.level.Level.{Level}
 use Rattle.dd_branch.proofs.Descents.{IsPut, IsLevelOf, goes_back, has_descended, none_absorbed, put_descent}

@@ -1,5 +1,5 @@
 use Rattle.std.proofs.Common.{◌≡◌, take}
-use Rattle.dd_partial_table.specs.Stem.{prefix_of, size_of}
+use Rattle.dd_branch_tables.specs.Stem.{prefix_of, size_of}
 use Rattle.dd_branch.specs.Descent.{GoesBack}
 use Rattle.dd_branch.proofs.descent.Descent.reach.Given as goal
 

@@ -1,6 +1,6 @@
 use Rattle.std.proofs.Common.{◌++◌, ◌∷◌, [], length, vec_len, sym, ap, ◌∙◌, subst}
 use Rattle.dd_model.specs.Jobs.{AreChildren}
-use Rattle.dd_partial_table.proofs.Extensions.{some_children, no_items, no_length, some_length}
+use Rattle.dd_branch_tables.proofs.Extensions.{some_children, no_items, no_length, some_length}
 use Rattle.dd_branch.proofs.Splits.{dead_child}
 use Rattle.dd_branch.proofs.search.SearchFinder.split.Goals as goal
 use Rattle.dd_branch.proofs.search.SearchFinder.split.Goals.{then-is_empty+in_ok-child+in_ok-push, else-is_empty}

@@ -1,6 +1,6 @@
 use Rattle.std.proofs.Common.{refl, sym, subst}
 use Rattle.dd_invol.specs.NextTable.{IsAhead}
-use Rattle.dd_partial_table.specs.Walk.{IsPast}
+use Rattle.dd_branch_tables.specs.Walk.{IsPast}
 use Rattle.dd_invol.specs.declared.table_search.TableSearch.{TableSearch}
 use Rattle.dd_invol.proofs.TableSearches.{HasGoneOn, HasGoneBack, gone_back, came_by, came_ahead, came_to, ended}
 use Rattle.dd_invol.proofs.table_search.TableSearch.seek.Goals as goal

@@ -1,4 +1,4 @@
-use Rattle.dd_partial_table.specs.Levels.{weight}
+use Rattle.dd_branch_tables.specs.Levels.{weight}
 use Rattle.dd_invol.proofs.TableSearches.{IsSeeking}
 use Rattle.dd_invol.proofs.table_search.TableSearch.seek.Given as goal
 

@@ -1,7 +1,7 @@
 use Rattle.std.proofs.Common.{◌≡◌, ◌⊎◌, sym, ◌∙◌, subst}
 use Rattle.dd_model.specs.Code.{all_images}
 use Rattle.dd_invol.specs.NextTable.{IsAhead}
-use Rattle.dd_partial_table.specs.Walk.{HasAdvanced, Walking}
+use Rattle.dd_branch_tables.specs.Walk.{HasAdvanced, Walking}
 use Rattle.dd_invol.proofs.TableSearches.{still_searched, stood}
 use Rattle.dd_invol.proofs.WalkTables.{ahead_some}
 use Rattle.dd_invol.proofs.walk.Walk.advance.Goals as goal

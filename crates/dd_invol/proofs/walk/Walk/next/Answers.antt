@@ -1,6 +1,6 @@
 use Rattle.std.proofs.Common.{◌≡◌, ◌⊎◌, sym, ◌∙◌, subst}
 use Rattle.dd_invol.specs.NextTable.{IsAhead}
-use Rattle.dd_partial_table.specs.Walk.{IsNext, Walking}
+use Rattle.dd_branch_tables.specs.Walk.{IsNext, Walking}
 use Rattle.dd_invol.proofs.TableSearches.{still_searched, ahead_searched, reached, stood}
 use Rattle.dd_invol.proofs.WalkTables.{ahead_some, next_of_images}
 use Rattle.dd_invol.proofs.walk.Walk.next.Goals as goal

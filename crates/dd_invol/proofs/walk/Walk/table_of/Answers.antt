@@ -1,8 +1,8 @@
 use Rattle.std.proofs.Common.{◌*◌, sym, ap, ◌∙◌, subst}
 use Rattle.dd_model.specs.Code.{all_images}
-use Rattle.dd_partial_table.specs.Table.{HasNoTable, IsTableOf}
-use Rattle.dd_partial_table.specs.Walk.{IsListed, Walking}
-use Rattle.dd_partial_table.proofs.WalkLemmas.{with_some, with_none}
+use Rattle.dd_branch_tables.specs.Table.{HasNoTable, IsTableOf}
+use Rattle.dd_branch_tables.specs.Walk.{IsListed, Walking}
+use Rattle.dd_branch_tables.proofs.WalkLemmas.{with_some, with_none}
 use Rattle.dd_invol.proofs.WalkTables.{reached_whole, read_reached, some_reached}
 use Rattle.dd_invol.proofs.walk.Walk.table_of.Goals as goal
 

@@ -1,5 +1,0 @@
-use Rattle.dd_bounds.proofs.PassingTables.{total_bounds}
-use Rattle.dd_bounds.proofs.end_laws.the_total_of_the_ends_bounds_the_shares.Goals as goal
-
-pub returns : goal.returns
-returns c = total_bounds

@@ -1,0 +1,72 @@
+-- What is told at the least chamber of a cell is told at the others.
+use Rattle.std.proofs.Common.{◌≡◌, ℕ, ◌+◌, ◌-◌, ◌*◌, ◌/◌, ◌<◌, ◌≤◌, List, [], ◌∷◌, length, slice_index_or, sym, ap, ◌∙◌, subst, inr, ⊎_elim, arith}
+use Rattle.std.proofs.lemmas.Bool.{cases_lt}
+use Rattle.std.proofs.lemmas.List.{get_or_append_left, get_or_push, length_push}
+use Rattle.dd_model.specs.declared.allowed.Allowed.{Allowed}
+use Rattle.dd_model.specs.declared.pair.Pair.{Pair}
+use Rattle.dd_model.specs.Symbol.{Symbol, AreInvolutions, IsChamber}
+use Rattle.dd_model.proofs.CellWalks.{in_cell-sym}
+use Rattle.dd_model.proofs.Words.{act_within}
+use Rattle.dd_cells.specs.Cells.{IsSmallerInCell}
+use Rattle.dd_cells.proofs.ShapesInCell.{shape_beside}
+use Rattle.dd_branch_degrees.specs.Place.{AreBounds, HasPlaceOf, HasPlaces, IsPlaceOf}
+use Rattle.dd_branch_degrees.specs.declared.places.Place.{Place}
+
+-- a smaller chamber of a cell is a chamber
+pub smaller_chamber : (t : Symbol) → AreInvolutions t → (p : Pair) (d e : ℕ) → IsChamber t d → IsSmallerInCell t p d e → IsChamber t e
+smaller_chamber t inv p d e h is = subst (IsChamber t) is.in_cell.leads (act_within t inv is.in_cell.word d h)
+
+bounds_beside : (set : Allowed) (y : Place) → y.sides ≡ 0 → y.most ≡ 0 → AreBounds set y
+bounds_beside set y none most = record {
+  most = λ m choice. subst (λ n. n * (12 / choice.value) ≤ y.most) (sym none) (omega arith);
+  sides = omega arith;
+  most_small = omega arith;
+}
+
+pub place_beside : (t : Symbol) → AreInvolutions t → (set : Allowed) (p : Pair) (first d e : ℕ) (x y : Place) → IsChamber t d → IsSmallerInCell t p d e → IsPlaceOf t set p first e x
+    → y.root ≡ x.root → y.turns ≡ x.turns → y.sides ≡ 0 → y.most ≡ 0 → IsPlaceOf t set p first d y
+place_beside t inv set p first d e x y h is place root turns none most =
+    let near = smaller_chamber t inv p d e h is in
+    let at = place.is_shape.least in
+    let below : place.shape.least ≤ e = at.is_least.1 e (in_cell-sym t inv p e place.shape.least near at.in_cell) in
+    let smaller = is.smaller in
+    record {
+      shape = place.shape;
+      is_shape = shape_beside t inv p d e place.shape h is.in_cell place.is_shape;
+      root = ap (λ n. n + 1) root ∙ place.root;
+      turns = turns ∙ place.turns;
+      few = subst (λ n. n ≤ 36) (sym turns) place.few;
+      sides = inr ((λ same. absurd (omega arith)), none);
+      shares = λ some. absurd (omega (arith, some, none));
+      bounds = bounds_beside set y none most;
+    }
+
+-- what is told at a smaller chamber, where those of all smaller ones stand from a place on
+pub told_before : (t : Symbol) (set : Allowed) (p : Pair) (first d e : ℕ) (places : List Place) (x : Place) → 1 ≤ e → e < d
+    → ((k : ℕ) (y : Place) → k + 1 < d → IsPlaceOf t set p first (k + 1) (slice_index_or places (first + k) y)) → IsPlaceOf t set p first e (slice_index_or places (first + e - 1) x)
+told_before t set p first d e places x low high all =
+    let back : e - 1 + 1 ≡ e = omega arith in
+    let at : first + (e - 1) ≡ first + e - 1 = omega arith in
+    subst (λ n. IsPlaceOf t set p first n (slice_index_or places (first + e - 1) x)) back
+    (subst (λ n. IsPlaceOf t set p first (e - 1 + 1) (slice_index_or places n x)) at (all (e - 1) x (omega arith)))
+
+-- one place more
+pub placed_more : (t : Symbol) (set : Allowed) (p : Pair) (old : List Place) (m : ℕ) (now new : List Place) → HasPlaces t set p old m now → HasPlaceOf t set p (length old) (m + 1) now new → HasPlaces t set p old (m + 1) new
+placed_more t set p old m now new has more =
+    let y = more.place in
+    let long : length new ≡ length now + 1 = ap length more.added ∙ length_push now y in
+    let longer = has.longer in
+    record {
+      longer = omega (arith, long, longer);
+      kept = λ j x low. ap (λ xs. slice_index_or xs j x) more.added ∙ get_or_append_left now (y ∷ []) x j (omega (arith, low, longer)) ∙ has.kept j x low;
+      each = λ k x low. ⊎_elim
+          (λ early.
+          let same : slice_index_or new (length old + k) x ≡ slice_index_or now (length old + k) x = ap (λ xs. slice_index_or xs (length old + k) x) more.added ∙ get_or_append_left now (y ∷ []) x (length old + k) (omega (arith, early, longer)) in
+          subst (IsPlaceOf t set p (length old) (k + 1)) (sym same) (has.each k x early))
+          (λ late.
+          let here : m ≡ k = omega (arith, low, late) in
+          let at : length now ≡ length old + k = omega (arith, here, longer) in
+          let last : slice_index_or new (length old + k) x ≡ y = ap (λ xs. slice_index_or xs (length old + k) x) more.added ∙ get_or_push now y x (length old + k) at in
+          subst (IsPlaceOf t set p (length old) (k + 1)) (sym last) (subst (λ n. IsPlaceOf t set p (length old) (n + 1) y) here more.is))
+          (cases_lt k m);
+    }

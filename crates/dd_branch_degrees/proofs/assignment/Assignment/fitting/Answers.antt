@@ -1,0 +1,59 @@
+use Rattle.std.proofs.Common.{◌≡◌, ℕ, ◌+◌, ◌-◌, ◌*◌, ◌/◌, ◌≤◌, ◌<◌, refl, sym, ap, ◌∙◌, subst, arith}
+use Rattle.std.specs.Int.{bit_at}
+use Rattle.dd_branch_degrees.specs.Assignment.{next_place, spent_by, told}
+use Rattle.dd_branch_degrees.specs.Rests.{HasRest}
+use Rattle.dd_branch_degrees.specs.declared.places.Place.{Place}
+use Rattle.dd_branch_degrees.proofs.Advancing.{budget_of_member, least_after, rests_small, share_allowed}
+use Rattle.dd_branch_degrees.proofs.assignment.Assignment.fitting.Goals as goal
+use Rattle.dd_branch_degrees.proofs.assignment.Assignment.fitting.Goals.{After-len}
+
+inside : (c : After-len) → c.len.result + 1 < 73
+inside c =
+    let len = c.len.ensures.value in
+    let room = c.requires.room in
+    let small = c.requires.ready.table.small in
+    omega (arith, len, room, small)
+
+pub fitting-requires-clause-least : goal.fitting-requires-clause-least
+fitting-requires-clause-least c = let low = inside c in let all = c.requires.ready.rests.least_numbers in omega (arith, low, all)
+
+pub fitting-requires-clause-most : goal.fitting-requires-clause-most
+fitting-requires-clause-most c = let low = inside c in let all = c.requires.ready.rests.most_numbers in omega (arith, low, all)
+
+pub fitting-requires-clause-surplus : goal.fitting-requires-clause-surplus
+fitting-requires-clause-surplus c = let low = inside c in let all = c.requires.ready.rests.surplus_numbers in omega (arith, low, all)
+
+pub fitting-requires-clause-small : goal.fitting-requires-clause-small
+fitting-requires-clause-small c =
+    let len = c.len.ensures.value in
+    let room = c.requires.room in
+    let small = c.requires.ready.table.small in
+    let budget = c.requires.budget in
+    let rest = (rests_small c.args.self.now c.requires.ready (c.len.result + 1) (omega (arith, len, room))).1 in
+    omega (arith, rest, budget, small)
+
+pub returns : goal.returns
+returns c =
+    let a = c.args.self.now in
+    let x = next_place a in
+    let left = c.args.left in
+    let later = c.len.result + 1 in
+    let at : told a + 1 ≡ later = let e = c.len.ensures.value in omega (arith, e) in
+    let shares = ap (λ (y : Place). y.shares) c.next_place-shares.ensures in
+    record {
+      within = λ e told_. let is = c.fitting.ensures.within e told_ in (ap (λ n. bit_at n e) (sym shares) ∙ is.0, is.1);
+      all = λ s under v e next beyond.
+          let meets = budget_of_member a v (spent_by a + x.sides * (12 / v)) c.requires.ready c.requires.room refl s under next in
+          let before = least_after a c.requires.ready c.requires.room in
+          let budget = c.requires.budget in
+          let room = meets.room in
+          let enough = meets.enough in
+          let rest : ℕ = left - e in
+          let fits : e ≤ left = omega (arith, room, before, budget, beyond) in
+          let has : HasRest a.rests (told a + 1) rest = record {
+            most = omega (arith, enough, before, budget, beyond, fits);
+            told = λ f mirror. meets.surplus rest f (omega (arith, before, budget, beyond, fits)) mirror;
+          } in
+          let bit = share_allowed a v e c.requires.ready c.requires.room c.requires.root s under next beyond in
+          c.fitting.ensures.all e rest (omega (arith, fits)) (ap (λ n. bit_at n e) shares ∙ bit) (subst (λ j. HasRest a.rests j rest) at has);
+    }

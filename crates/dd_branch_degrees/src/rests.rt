@@ -1,0 +1,87 @@
+ghost use Rattle.std.specs.Prelude.{◌≡◌, ℕ, ◌+◌, ◌≤◌, ◌<◌, length, slice_index, slice_index_or};
+ghost use Rattle.std.specs.Int.{bit_at};
+ghost use Rattle.dd_branch_degrees.specs.Rests.{AreRests, HasRest, HasSurplusWith};
+ghost use Rattle.dd_branch_degrees.specs.declared.places.Place.{Place as Known};
+
+use crate::places::Place;
+
+/// What the degrees from each place on have of the budget together, whatever they will be.
+#[derive(Drop)]
+pub(crate) struct Rests {
+    /// At each place, the sum of `most` of it and of the later places.
+    pub(crate) most: [u16; 73],
+    /// At each place, what it and the later places have at least: 2 for each side, that with the
+    /// branching value 6.
+    pub(crate) least: [u16; 73],
+    /// At each place, what it and the later places may take beyond that, as bits from the top on:
+    /// the bit of 0 is the highest. 64 and more is not kept.
+    pub(crate) surplus: [u64; 73],
+}
+
+/// What the degrees from a place on may have beyond their least, by what the later ones may have.
+fn surplus_with(place: &Place, later: u64) -> u64
+    ensures { HasSurplusWith place.now later result }
+{
+    if place.sides == 0 {
+        return later;
+    }
+    let mut all = 0;
+    let mut shares = u64::from(place.shares);
+    while shares != 0 {
+        all |= later >> shares.trailing_zeros();
+        shares &= shares - 1;
+    }
+    all
+}
+
+impl Rests {
+    /// The sums over some places.
+    pub(crate) fn of(places: &[Place]) -> Rests
+        requires few { length places.now ≤ 72 }
+        requires most { (j : ℕ) (x : Known) → j < length places.now
+            → (slice_index_or places.now j x).most ≤ 24 }
+        requires sides { (j : ℕ) (x : Known) → j < length places.now
+            → (slice_index_or places.now j x).sides ≤ 2 }
+        ensures { AreRests places.now result }
+    {
+        let mut most = [0; 73];
+        let mut least = [0; 73];
+        let mut surplus = [0; 73];
+        let mut place = places.len();
+        surplus[place] = 1 << 63;
+        while place > 0 {
+            place -= 1;
+            most[place] = most[place + 1] + u16::from(places[place].most);
+            least[place] = least[place + 1] + u16::from(2 * places[place].sides);
+            surplus[place] = surplus_with(&places[place], surplus[place + 1]);
+        }
+        Rests {
+            most,
+            least,
+            surplus,
+        }
+    }
+
+    /// Returns those of the shares of a place, as bits, that leave to the later places what these
+    /// may take, if `left` is left for all. From 64 on that is not kept, and the most that they may
+    /// take decides.
+    pub(crate) fn fitting(&self, later: usize, shares: u32, left: u16) -> u64
+        requires least { later < length self.now.least }
+        requires most { later < length self.now.most }
+        requires surplus { later < length self.now.surplus }
+        requires small { left + slice_index self.now.least later ≤ 4096 }
+        ensures within { (e : ℕ) → bit_at result e ≡ 1 → (bit_at shares e ≡ 1) × (e ≤ left) }
+        ensures all { (e rest : ℕ) → e + rest ≡ left → bit_at shares e ≡ 1
+            → HasRest self.now later rest → bit_at result e ≡ 1 }
+    {
+        let shares = u64::from(shares);
+        if left < 64 {
+            return shares & (self.surplus[later] >> (63 - left));
+        }
+        let short = (left + self.least[later]).saturating_sub(self.most[later]);
+        if short > 31 {
+            return 0;
+        }
+        shares >> short << short
+    }
+}

@@ -1,0 +1,114 @@
+ghost use Rattle.std.specs.Prelude.{◌≡◌, ◌⊎◌, ◌↔◌, ◌*◌, ◌≤◌, ◌<◌, [], length};
+ghost use Rattle.std.specs.Bool.{OnTrue, OnFalse};
+ghost use Rattle.dd_model.specs.Symbol.{Symbol as Tiling};
+ghost use Rattle.dd_model.specs.Code.{IsBelow};
+ghost use Rattle.dd_opening_jobs.specs.Under.{IsUnder};
+ghost use Rattle.dd_branch_tables.specs.Levels.{IsAt, IsBeyond, IsLeft, IsLeftAt, first_at, first_of, weight};
+
+use crate::level::Level;
+use crate::levels::Levels;
+use crate::prefix_search::PrefixSearch;
+
+/// The levels of a search that begins where it stands: all under its prefix is left to be tried.
+pub fn begin<T: PrefixSearch>(search: &T) -> Levels
+    requires valid { T.valid search.now }
+    requires room { length (T.prefix search.now) < T.end (T.size search.now) }
+    requires end { T.end (T.size search.now) ≤ 5 * T.size search.now }
+    ensures at { IsAt T.request T.wanted T.size T.prefix T.end T.depth T.undone T.valid
+        search.now result }
+    ensures left { (s : Tiling) → IsUnder (T.wanted (T.request search.now)) (T.size search.now)
+        (T.prefix search.now) s ↔ IsLeftAt T.prefix T.undone (T.wanted (T.request search.now))
+        (T.size search.now) search.now result s }
+    ensures first { first_at T.undone search.now result ≡ search.now }
+{
+    let mut levels = Levels::none();
+    levels.push(Level {
+        mark: search.mark(),
+        left: search.candidates(),
+    });
+    levels
+}
+
+/// Moves from the last level to the next whole prefix under which something may be. Returns false
+/// if nothing is left, and the search is then where it began. It takes no memory.
+pub fn advance<T: PrefixSearch>(search: &mut T, levels: &mut Levels) -> bool
+    requires valid { T.valid search.old }
+    requires at { IsAt T.request T.wanted T.size T.prefix T.end T.depth T.undone T.valid
+        search.old levels.old }
+    requires end { T.end (T.size search.old) ≤ 5 * T.size search.old }
+    ensures valid { T.valid search.new }
+    ensures request { T.request search.new ≡ T.request search.old }
+    ensures size { T.size search.new ≡ T.size search.old }
+    ensures whole { OnTrue result
+        (length (T.prefix search.new) ≡ T.end (T.size search.old)) }
+    ensures beyond { OnTrue result (IsBeyond T.request T.wanted T.size T.prefix T.end T.depth
+        T.undone T.valid search.new levels.new) }
+    ensures first { OnTrue result (first_of T.undone search.new levels.new
+        ≡ first_at T.undone search.old levels.old) }
+    ensures left { OnTrue result ((s : Tiling)
+        → IsLeftAt T.prefix T.undone (T.wanted (T.request search.old)) (T.size search.old)
+        search.old levels.old s
+        ↔ (IsUnder (T.wanted (T.request search.old)) (T.size search.old) (T.prefix search.new) s
+        ⊎ IsLeft T.prefix T.undone (T.wanted (T.request search.old)) (T.size search.old)
+        search.new levels.new s)) }
+    ensures order { OnTrue result ((s t : Tiling)
+        → IsUnder (T.wanted (T.request search.old)) (T.size search.old) (T.prefix search.new) s
+        → IsLeft T.prefix T.undone (T.wanted (T.request search.old)) (T.size search.old)
+        search.new levels.new t → IsBelow s t) }
+    ensures lighter { OnTrue result (weight levels.new < weight levels.old) }
+    ensures none { OnFalse result ((s : Tiling)
+        → IsLeftAt T.prefix T.undone (T.wanted (T.request search.old)) (T.size search.old)
+        search.old levels.old s → ⊥) }
+    ensures back { OnFalse result (search.new ≡ first_at T.undone search.old levels.old) }
+    ensures empty { OnFalse result (levels.new ≡ []) }
+{
+    let Some(mut level) = levels.pop() else {
+        return false;
+    };
+    loop {
+        let Some(number) = level.left.take_first() else {
+            let Some(before) = levels.pop() else {
+                return false;
+            };
+            search.leave(before.mark);
+            level = before;
+            continue;
+        };
+        if search.enter(number) {
+            let is_whole = search.is_whole();
+            levels.push(level);
+            if is_whole {
+                return true;
+            }
+            level = Level {
+                mark: search.mark(),
+                left: search.candidates(),
+            };
+        }
+    }
+}
+
+/// Goes back to the last level.
+pub fn go_back<T: PrefixSearch>(search: &mut T, levels: &mut Levels)
+    requires valid { T.valid search.old }
+    requires beyond { IsBeyond T.request T.wanted T.size T.prefix T.end T.depth T.undone T.valid
+        search.old levels.old }
+    ensures valid { T.valid search.new }
+    ensures request { T.request search.new ≡ T.request search.old }
+    ensures size { T.size search.new ≡ T.size search.old }
+    ensures levels { levels.new ≡ levels.old }
+    ensures at { IsAt T.request T.wanted T.size T.prefix T.end T.depth T.undone T.valid
+        search.new levels.old }
+    ensures first { first_at T.undone search.new levels.old
+        ≡ first_of T.undone search.old levels.old }
+    ensures left { (s : Tiling)
+        → IsLeft T.prefix T.undone (T.wanted (T.request search.old)) (T.size search.old)
+        search.old levels.old s
+        ↔ IsLeftAt T.prefix T.undone (T.wanted (T.request search.old)) (T.size search.old)
+        search.new levels.old s }
+{
+    if let Some(level) = levels.pop() {
+        search.leave(level.mark);
+        levels.push(level);
+    }
+}

@@ -1,7 +1,0 @@
-use Rattle.dd_degrees.specs.Place.{AreTurnsUpTo}
-use Rattle.dd_degrees.proofs.places.turns_of.Given as goal
-
-abbrev pub invariant-loop-place : goal.invariant-loop-place
-invariant-loop-place l = record {
-  turns : AreTurnsUpTo l.places l.place-index l.turns.items;
-}

@@ -1,6 +1,0 @@
-use Rattle.std.proofs.Common.{◌+◌, sym, ap}
-use Rattle.dd_deques.proofs.Rules.{gives}
-use Rattle.dd_deques.proofs.owner.Owner.push.Goals as goal
-
-pub push_as-requires-clause-pushes : goal.push_as-requires-clause-pushes
-push_as-requires-clause-pushes g c = gives (λ s. s.number) _ _ _ c.args.self.now.owns (ap (λ k. k + 1) (sym c.args.self.now.count))

@@ -1,9 +1,0 @@
-use Rattle.std.specs.Prelude.{map}
-use Rattle.std.specs.Rc.{rc_str_bytes}
-use Rattle.dd_drive.specs.Runs.{kept_of}
-use Rattle.dd_drive.proofs.Going.{Going}
-use Rattle.dd_drive.proofs.driver.make_runs.Given as goal
-
-abbrev pub invariant-loop-k : goal.invariant-loop-k
-invariant-loop-k g l =
-    Going (map rc_str_bytes l.words) l.name (kept_of l.initial.store) (kept_of l.store) l.initial.sinks l.sinks l.k (map rc_str_bytes l.said) l.number l.joined.items

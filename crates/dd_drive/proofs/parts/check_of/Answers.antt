@@ -1,5 +1,0 @@
-use Rattle.dd_drive.proofs.PartLemmas.{no_check}
-use Rattle.dd_drive.proofs.parts.check_of.Goals as goal
-
-pub returns-in_default : goal.returns-in_default
-returns-in_default c = no_check c.args.text.now c.in-Err.fault (c.in-Err.ensures.fault c.in_default.not-Memory)

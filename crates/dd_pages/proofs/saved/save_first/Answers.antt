@@ -1,5 +1,0 @@
-use Rattle.std.proofs.Common.{rules}
-use Rattle.dd_pages.proofs.saved.save_first.Goals as goal
-
-pub returns-clause-saves : goal.returns-clause-saves
-returns-clause-saves g c = search rules

@@ -1,4 +1,0 @@
-use Rattle.dd_partial_table.proofs.stem.Stem.is_beaten.Goals as goal
-
-pub returns-in-Smaller : goal.returns-in-Smaller
-returns-in-Smaller c _ = c.standing.ensures c.in-Smaller.is

@@ -1,6 +1,0 @@
-use Rattle.std.proofs.Common.{refl}
-use Rattle.dd_partial_table.proofs.Traversing.{numbered_of, visit_none}
-use Rattle.dd_partial_table.proofs.traversal.Visit.new.Goals as goal
-
-pub invariant_of-result : goal.invariant_of-result
-invariant_of-result c = record { are_numbered = numbered_of _ _ (visit_none 36 _ _ c.new-order.ensures refl) }

@@ -1,5 +1,0 @@
-use Rattle.dd_partial_table.proofs.LeastStems.{AreNotSmallerTo}
-use Rattle.dd_partial_table.proofs.whole_stems.is_least.Given as goal
-
-abbrev pub invariant-loop-k : goal.invariant-loop-k
-invariant-loop-k l = AreNotSmallerTo l.stem l.k

@@ -1,7 +1,0 @@
-use Rattle.dd_partial_table.specs.Rows.{partial_of}
-use Rattle.dd_partial_table.specs.Stem.{prefix_of}
-use Rattle.dd_partial_table.proofs.WholeStems.{AreOpenTo}
-use Rattle.dd_partial_table.proofs.whole_stems.ties.Given as goal
-
-abbrev pub invariant-loop-k : goal.invariant-loop-k
-invariant-loop-k l = AreOpenTo (partial_of l.stem.rows) (prefix_of l.stem) l.k l.ties.items

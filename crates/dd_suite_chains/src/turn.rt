@@ -1,0 +1,10 @@
+use dd_suite_tasks::Status;
+
+/// What comes after a run of a chain.
+#[derive(Clone, Copy)]
+pub enum Turn {
+    /// Nothing: the last run ended so.
+    Last(Status),
+    /// A run that resumes from the name, and its number, if it can begin.
+    Next(Option<u64>),
+}
