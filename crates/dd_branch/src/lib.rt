@@ -7,13 +7,13 @@
 //! and the walk over tables stops at each.
 //!
 //! 1. *Which numbers can come next?* The image must be a chamber without an image, up to the first
-//!    that was not met. `Stem::candidates` returns the set of these, from the bits of `Rows`. `Sides`
-//!    (dd_branch_bounds) removes the numbers after which the shares of all chambers would be too small, or
-//!    after which there would be more cells than the request allows (`sieve`). It looks only at the
-//!    ends of the paths that a number joins, and at a census of the cells that are whole. Asking
-//!    for all numbers at once lets what is the same for each be computed once, and what is left out
-//!    leaves nothing to be taken back. A path of all chambers of a table of odd size is known to be
-//!    a chain, so its share is that of a chain.
+//!    that was not met. `Stem::candidates` returns the set of these, from the bits of `Rows`.
+//!    `Sides` (dd_branch_bounds) removes the numbers after which the shares of all chambers would
+//!    be too small, or after which there would be more cells than the request allows (`sieve`). It
+//!    looks only at the ends of the paths that a number joins, and at a census of the cells that
+//!    are whole. Asking for all numbers at once lets what is the same for each be computed once,
+//!    and what is left out leaves nothing to be taken back. A path of all chambers of a table of
+//!    odd size is known to be a chain, so its share is that of a chain.
 //! 2. *Put one in.* Each number, from the least on, is put into the table in place, with what
 //!    commuting forces. An involution leads back, so an image and its way back are put in and taken
 //!    out at once.

@@ -173,8 +173,8 @@ impl Finder for Search {
     fn split(&mut self, alloc: Global, job: &Job) -> Result<Vec<Job>, Memory> {
         let mut jobs = self.extensions(alloc, job)?;
         if jobs.is_empty() {
-            // Nothing is under any of them, and the list of children may not be empty. The number 0,
-            // which no code has, lets a worker tell this one.
+            // Nothing is under any of them, and the list of children may not be empty. By the
+            // number 0, which no code has, a worker recognizes this one.
             jobs.push(child(alloc, job, 0)?)?;
         }
         Ok(jobs)

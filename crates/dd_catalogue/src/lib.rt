@@ -1,9 +1,9 @@
 //! The writing of a catalogue: runs from a position on, their rounds on workers, and the
 //! checkpoints that runs keep.
 //!
-//! A run of a catalogue (`Run` of dd_pages_and_checkpoints) has a beginning: a position, and the number of lines
-//! before it. It opens a front with the opening's jobs that are not wholly before the position.
-//! While one is open, the first ones are done in a round.
+//! A run of a catalogue (`Run` of dd_pages_and_checkpoints) has a beginning: a position, and the
+//! number of lines before it. It opens a front with the opening's jobs that are not wholly before
+//! the position. While one is open, the first ones are done in a round.
 //!
 //! - **Large jobs are done in parts.** A large job at the front becomes its children, and these
 //!   theirs, until the first one is small (`split_large`). A round ends before it has too much

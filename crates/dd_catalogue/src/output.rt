@@ -8,6 +8,6 @@ pub struct Output {
     pub front: Front,
     /// The lines on their way.
     pub page: Page,
-    /// Whether the name of the run has the checkpoint of where the front stands.
+    /// True if the name of the run has the checkpoint of where the front stands.
     pub is_kept: bool,
 }

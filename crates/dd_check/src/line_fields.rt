@@ -106,7 +106,7 @@ pub(crate) fn set_at(
     Ok(set_of(items))
 }
 
-/// Returns what a line tells of a position, which may be out of range.
+/// Returns the position of a line as its words say it. It may be out of range.
 fn told_place(alloc: Global, lines: &[&[u8]], line: u32) -> Result<Place, CheckFault>
     requires { 1 ≤ line }
     ensures told { IfOk result

@@ -1,5 +1,5 @@
-//! First-visit prefixes of codes, the jobs with which the search for a catalogue begins, and the pace
-//! at which they are done.
+//! First-visit prefixes of codes, the jobs with which the search for a catalogue begins, and the
+//! pace at which they are done.
 #![tactic(auto)]
 
 mod laws;

@@ -1,7 +1,7 @@
 ghost use Rattle.std.specs.Prelude.{◌≡◌, ◌≤◌, max, MatchOption};
 
-/// How a catalogue is worked at: by how many workers, 1 to 64, and with how many jobs in a round, at
-/// least 1.
+/// How a catalogue is worked at: by how many workers, 1 to 64, and with how many jobs in a round,
+/// at least 1.
 #[derive(Clone, Copy)]
 pub struct Pace {
     workers: u32,
@@ -14,7 +14,8 @@ pub struct Pace {
 impl Pace {
     ghost use Rattle.dd_opening_jobs.specs.Paces.{ArePaceNumbers, IsPace};
 
-    /// Returns the pace of `workers` workers and `round` jobs in a round, and None if there is none.
+    /// Returns the pace of `workers` workers and `round` jobs in a round, and None if there is
+    /// none.
     pub fn new(workers: u32, round: u32) -> Option<Pace>
         ensures { MatchOption result (¬ ArePaceNumbers workers round)
             (λ pace. IsPace pace workers round) }

@@ -61,8 +61,8 @@ fn add_tiles(
     requires ascending { IsAscending list.old.items }
     ensures { OnOk result (Adds q.now (HasTiles (tried trial)) list.old.items list.new.items) }
 {
-    // Each number of turns up to three divides 6, so without a symbol with these tiles and degrees of 6
-    // at the vertices there is none with these tiles at all.
+    // Each number of turns up to three divides 6, so without a symbol with these tiles and degrees
+    // of 6 at the vertices there is none with these tiles at all.
     let with_sixes = Trial {
         m12: SIXES,
         ..trial
@@ -87,7 +87,8 @@ fn add_images(
     requires ascending { IsAscending list.old.items }
     ensures { OnOk result (Adds q.now (HasImages (tried trial)) list.old.items list.new.items) }
 {
-    // In the same way, without a symbol whose degrees are all 6 there is none with these involutions.
+    // In the same way, without a symbol whose degrees are all 6 there is none with these
+    // involutions.
     let with_sixes = Trial {
         m01: SIXES,
         m12: SIXES,

@@ -53,8 +53,8 @@ pub fn run<R: Threads + Wait + Sync, S: Store, O: Sink, E: Sink, G: Gate + Sync>
         → AppendsOutput (map rc_str_bytes words.now) (S.tells store.old)
         (S.held store.old) (O.held out.old) (O.held out.new) }
 
-    // A call with words of a run is a run from where it has to begin, which leaves a checkpoint where it has a name for it;
-    // else it wrote nothing and changed nothing.
+    // A call with words of a run is a run from where it has to begin, which leaves a checkpoint if
+    // it has a name for it. Else it wrote nothing and changed nothing.
     ensures call { (order : Order) → AskForRun (map rc_str_bytes words.now) order
         → IsCallOf order
         result
@@ -81,8 +81,8 @@ pub fn run<R: Threads + Wait + Sync, S: Store, O: Sink, E: Sink, G: Gate + Sync>
     ensures not_taken { (¬ AreTaken (map rc_str_bytes words.now))
         → (result ≡ Status.Usage) ⊎ (result ≡ Status.Memory) }
 
-    // A refused command has written nothing, nor has one whose file has no text, whatever the status. Without a name for
-    // checkpoints a fault of the store comes before anything is written.
+    // A refused command has written nothing, nor has one whose file has no text, whatever the
+    // status. Without a name for checkpoints a fault of the store comes before anything is written.
     ensures refused { result ≡ Status.Refused
         → AreRefused (map rc_str_bytes words.now) (S.tells store.old) (S.held store.old) }
     ensures quiet { (result ≡ Status.Refused) ⊎ ((result ≡ Status.StoreFault)
@@ -109,8 +109,9 @@ pub fn run<R: Threads + Wait + Sync, S: Store, O: Sink, E: Sink, G: Gate + Sync>
     ensures sink_sure { O.sure out.old ≡ true
         → (O.faults out.new ≡ O.faults out.old) × (result ≡ Status.SinkFault → ⊥) }
 
-    // A run pauses only where there are more lines than it is to write, and is cut short only where it has lines of numbers over
-    // ten to the 18th; those before went out. After Done it has neither.
+    // A run pauses only if there are more lines than it is to write. It is cut short only if it has
+    // lines of numbers over ten to the 18th, and then the lines before went out. After Done it has
+    // neither.
     ensures paused { result ≡ Status.Paused
         → Pauses (map rc_str_bytes words.now) (S.tells store.old) (S.held store.old)
         (O.held out.old) (O.held out.new) }
@@ -121,8 +122,8 @@ pub fn run<R: Threads + Wait + Sync, S: Store, O: Sink, E: Sink, G: Gate + Sync>
         → AskFor (map rc_str_bytes words.now) p → ArePortionMembers p members
         → length members ≤ most_lines }
 
-    // Taken words end as Done, as paused or as cut short where the file, the checkpoint or the files of a merge are accepted and no
-    // count rose, unless memory is wanting.
+    // Taken words end as Done, as paused or as cut short if the file, the checkpoint or the files
+    // of a merge are accepted and no count of faults increased, unless it is out of memory.
     ensures complete { AreTaken (map rc_str_bytes words.now)
         → IsFileAccepted (map rc_str_bytes words.now) (S.tells store.old) (S.held store.old)
         → IsCheckAccepted (map rc_str_bytes words.now) (S.tells store.old) (S.held store.old)
@@ -131,8 +132,8 @@ pub fn run<R: Threads + Wait + Sync, S: Store, O: Sink, E: Sink, G: Gate + Sync>
         → (¬ Rose (O.faults out.old) (O.faults out.new))
         → IsEndOfOwn result ⊎ (result ≡ Status.Memory) }
 
-    // `err` has the whole line of the ending, or a prefix of it where a write on `err` failed or ran out of memory, or where
-    // there was no memory to make the line of a refusal.
+    // `err` has the whole line of the ending. It has a prefix of it if a write on `err` failed or
+    // ran out of memory, or if there was no memory to make the line of a refusal.
     ensures err { TellsOf result
         (map rc_str_bytes words.now) (S.tells store.old) (S.held store.old)
         (record {

@@ -40,12 +40,12 @@ pub fn drive<R: Threads + Wait + Sync, G: Gate + Sync>(
     requires few { length sinks.old ≤ 1000 }
     ensures drives { IfOk result (Drives (map rc_str_bytes words.now) name.now
         (kept_of store.old) (kept_of store.new) sinks.old sinks.new) }
-    // For want of memory it stops between two runs.
+    // If it is out of memory, it stops between two runs.
     ensures stopped { OnErr result (HaveRun (map rc_str_bytes words.now) name.now
         (kept_of store.old) (kept_of store.new) sinks.old sinks.new) }
 
-    // However often its runs were stopped, they have written a front of the catalogue, and all of it where the last one came to
-    // its end.
+    // However often its runs were stopped, they have written a prefix of the catalogue, and all of
+    // it if the last one came to its end.
     ensures front { IfOk result (λ d. IsItsFront (map rc_str_bytes words.now) d.joined.items) }
     ensures whole { IfOk result (λ d. d.status ≡ status.Done
         → IsItsText (map rc_str_bytes words.now) d.joined.items) }

@@ -40,8 +40,8 @@ fn check_rows<R: Abort>(rt: &R, alloc: Global, search: &mut Search) {
     }
 }
 
-// What a search has put in for one job serves the next: on from a prefix, back to one that begins alike or not at all, again
-// after one under which nothing is, and to another size and back.
+// What a search has put in for one job serves the next: on from a prefix, back to one that begins
+// alike or not at all, again after one under which nothing is, and to another size and back.
 #[test]
 fn one_search_goes_from_job_to_job(rt: HostRuntime) {
     let mut search = Search::new(&Request::up_to(2));

@@ -66,7 +66,8 @@ fn filtered<R: Abort>(rt: &R, alloc: Global, tiles: u32, vertices: u32, minimal:
     lines_of(rt, alloc, &members)
 }
 
-// With any limits the search finds the symbols of three chambers that a plain filter over everything finds.
+// With any limits the search finds the symbols of three chambers that a plain filter over
+// everything finds.
 #[test]
 fn limits(rt: HostRuntime) {
     for (tiles, tiles_word) in &TILES {

@@ -110,7 +110,8 @@ fn writes<R: Threads + Wait + Sync + Abort>(
     joined(rt, alloc, &mut store, faults.write).as_slice() == text
 }
 
-// With every call of the store failed in turn, and every write of the first run, a chain writes what one run writes.
+// With every call of the store failed in turn, and every write of the first run, a chain writes
+// what one run writes.
 #[test]
 fn chains_that_are_stopped(rt: HostRuntime) {
     let whole = written(&rt, rt.alloc(), &["catalogue", "3"]);

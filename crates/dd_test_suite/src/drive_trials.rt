@@ -109,8 +109,9 @@ fn check_drive<R: Threads + Wait + Sync + Abort>(
     assert_eq!(rt; drive.joined.as_slice(), text, "{faults:?}");
 }
 
-// Each call of the store fails in turn. The first one puts the first checkpoint: where it fails and leaves nothing, there is nothing to
-// go on from. The first run makes nine calls, so that the tenth is never made.
+// Each call of the store fails in turn. The first one writes the first checkpoint: if it fails and
+// leaves nothing, there is nothing to resume from. The first run makes nine calls, so the tenth is
+// never made.
 #[test]
 fn a_store_that_fails(rt: HostRuntime) {
     let lines = whole(&rt, rt.alloc());

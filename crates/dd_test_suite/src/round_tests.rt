@@ -54,8 +54,8 @@ fn rounds_of<R: Threads + Wait + Sync + Abort>(rt: &R, alloc: Global, texts: &[&
     rounds_of_words(rt, alloc, &words)
 }
 
-// Two workers that keep no checkpoint pass over the jobs under which nothing is, which are most of them; workers that keep
-// one count each job, and one worker does fewer of them at a time.
+// Two workers that keep no checkpoint pass over the jobs under which nothing is, which are most of
+// them. Workers that keep one count each job, and one worker does fewer of them at a time.
 #[test]
 fn rounds_of_several_workers_are_long(rt: HostRuntime) {
     let alone = ["catalogue", "5", "--round", "16"];
