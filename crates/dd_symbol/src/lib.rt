@@ -32,6 +32,7 @@
 
 mod before;
 mod cells;
+mod code_rows;
 mod code_table;
 mod connected;
 mod construction;
@@ -42,7 +43,6 @@ mod maps;
 mod range_checks;
 mod refusals;
 mod renumbering;
-mod rows;
 mod shapes;
 mod symbol;
 mod symbol_ref;

@@ -1,9 +1,9 @@
 ghost use Rattle.std.specs.Prelude.{◌≡◌, ℕ, ◌≤◌, List, [], ◌∷◌, map, length, IfOk, OnOk};
 
+use crate::code_rows::CodeRows;
 use crate::code_table::CodeTable;
 use crate::involutions::Involutions;
 use crate::maps::item;
-use crate::rows::Rows;
 use dd_model::{Index, Memory, Pair};
 use dd_numbers::Numbers;
 use std::alloc::Global;
@@ -72,7 +72,7 @@ impl Involutions {
         let mut numbers = Numbers::with_room_for(alloc, self.size() as usize)?;
         self.push_images(alloc, &mut numbers, map, back)?;
         Ok(Involutions {
-            rows: Rows {
+            rows: CodeRows {
                 numbers,
                 size: self.size(),
             },

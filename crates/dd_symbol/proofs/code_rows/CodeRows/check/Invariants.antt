@@ -3,7 +3,7 @@ use Rattle.dd_model.specs.declared.index.Index.{Index}
 use Rattle.dd_model.proofs.AllIndices.{index_at_place}
 use Rattle.dd_symbol.specs.Images.{rows_of}
 use Rattle.dd_symbol.specs.Conditions.{IsWithin, IsInvolutive}
-use Rattle.dd_symbol.proofs.rows.Rows.check.Given as goal
+use Rattle.dd_symbol.proofs.code_rows.CodeRows.check.Given as goal
 
 abbrev pub invariant-loop-i : goal.invariant-loop-i
 invariant-loop-i l = (k : ℕ) → k < l.i-index → IsWithin (rows_of l.self) (index_at_place k)

@@ -3,7 +3,7 @@ use Rattle.dd_model.proofs.AllIndices.{none_at_places, more_places, each_index}
 use Rattle.dd_symbol.specs.Images.{rows_of}
 use Rattle.dd_symbol.specs.Conditions.{IsWithin, IsInvolutive}
 use Rattle.dd_symbol.proofs.RefusalLemmas.{index_before}
-use Rattle.dd_symbol.proofs.rows.Rows.check.Goals as goal
+use Rattle.dd_symbol.proofs.code_rows.CodeRows.check.Goals as goal
 
 pub loop-i-init : goal.loop-i-init
 loop-i-init c = none_at_places (IsWithin (rows_of c.args.self.now))

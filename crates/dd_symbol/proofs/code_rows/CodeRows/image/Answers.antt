@@ -1,6 +1,6 @@
 use Rattle.std.proofs.Common.{◌+◌, ◌-◌, ◌*◌, get_or, sym, ap, ◌∙◌}
 use Rattle.dd_symbol.proofs.TableLemmas.{item-row}
-use Rattle.dd_symbol.proofs.rows.Rows.image.Goals as goal
+use Rattle.dd_symbol.proofs.code_rows.CodeRows.image.Goals as goal
 
 pub returns : goal.returns
 returns c =

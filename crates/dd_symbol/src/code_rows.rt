@@ -8,7 +8,7 @@ use std::alloc::Global;
 /// The images of the chambers 1 to n, three for each, of which no more is known than their number.
 /// After them may come degrees.
 #[derive(Drop)]
-pub(crate) struct Rows {
+pub(crate) struct CodeRows {
     pub(crate) numbers: Numbers,
     pub(crate) size: u32,
     ghost length: { 3 * size ≤ length numbers },
@@ -28,20 +28,20 @@ fn row_place(i: Index) -> usize
     }
 }
 
-impl Rows {
+impl CodeRows {
     ghost use Rattle.dd_symbol.specs.Images.{rows_of, of_rows};
     ghost use Rattle.dd_model.specs.Symbol.{IsChamber, op};
 
     /// The rows with these images, s0, s1 and s2 of chamber 1, then those of chamber 2 and so on,
     /// and with room for degrees.
-    pub(crate) fn from_bytes(alloc: Global, images: &[u8], size: u32) -> Result<Rows, Memory>
+    pub(crate) fn from_bytes(alloc: Global, images: &[u8], size: u32) -> Result<CodeRows, Memory>
         requires length { length images.now ≡ 3 * size }
         requires small { size ≤ 16384 }
         ensures { IfOk result (λ rows. rows_of rows ≡ of_rows size images.now) }
     {
         let mut numbers = Numbers::with_room(alloc, 5 * size as usize)?;
         numbers.extend_bytes(images)?;
-        Ok(Rows { numbers, size })
+        Ok(CodeRows { numbers, size })
     }
 
     /// The number of chambers, at most 16,384.

@@ -1,7 +1,7 @@
 use Rattle.std.proofs.Common.{◌++◌, ap, ◌∙◌}
 use Rattle.dd_symbol.specs.Images.{of_code}
 use Rattle.dd_symbol.proofs.TableLemmas.{of_code-of_rows}
-use Rattle.dd_symbol.proofs.rows.Rows.from_bytes.Goals as goal
+use Rattle.dd_symbol.proofs.code_rows.CodeRows.from_bytes.Goals as goal
 
 -- images after no numbers
 pub returns : goal.returns
