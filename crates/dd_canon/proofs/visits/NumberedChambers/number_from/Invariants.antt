@@ -1,7 +1,7 @@
 use Rattle.std.proofs.Common.{◌≡◌, ◌+◌}
 use Rattle.dd_model.specs.Symbol.{item}
 use Rattle.dd_canon.specs.Standing.{IsReady, IsNumbering}
-use Rattle.dd_canon.proofs.visits.Visit.number_from.Given as goal
+use Rattle.dd_canon.proofs.visits.NumberedChambers.number_from.Given as goal
 
 abbrev pub invariant-loop-k : goal.invariant-loop-k
 invariant-loop-k l = record {

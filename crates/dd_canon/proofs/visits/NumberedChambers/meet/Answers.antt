@@ -1,5 +1,5 @@
 use Rattle.dd_canon.proofs.Meetings.{meeting_new}
-use Rattle.dd_canon.proofs.visits.Visit.meet.Goals as goal
+use Rattle.dd_canon.proofs.visits.NumberedChambers.meet.Goals as goal
 
 pub returns-clause-meeting : goal.returns-clause-meeting
 returns-clause-meeting c =

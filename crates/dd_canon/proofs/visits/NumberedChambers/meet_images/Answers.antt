@@ -2,7 +2,7 @@ use Rattle.std.proofs.Common.{◌≤◌, length, get_or, sym, ap, subst}
 use Rattle.dd_model.specs.declared.index.Index.TheVariants.{Zero, One, Two}
 use Rattle.dd_model.specs.Symbol.{IsChamber, item}
 use Rattle.dd_canon.proofs.NumberingLemmas.{numbering_inside, numbering_more, start_stays}
-use Rattle.dd_canon.proofs.visits.Visit.meet_images.Goals as goal
+use Rattle.dd_canon.proofs.visits.NumberedChambers.meet_images.Goals as goal
 
 pub chamber-requires-clause-high : goal.chamber-requires-clause-high
 chamber-requires-clause-high c =

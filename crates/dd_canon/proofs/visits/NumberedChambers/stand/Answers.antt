@@ -7,7 +7,7 @@ use Rattle.dd_canon.proofs.OrderLemmas.{equal_not_greater}
 use Rattle.dd_model.proofs.Orders.{equal_of}
 use Rattle.dd_canon.proofs.VisitLemmas.{begun}
 use Rattle.dd_canon.proofs.StandingLemmas.{AreCompared, rows_decide, not_fallen, m01_decides, m12_decides, whole}
-use Rattle.dd_canon.proofs.visits.Visit.stand.Goals as goal
+use Rattle.dd_canon.proofs.visits.NumberedChambers.stand.Goals as goal
 
 pub rows-rows-requires-clause-traversal : goal.rows-rows-requires-clause-traversal
 rows-rows-requires-clause-traversal g c =

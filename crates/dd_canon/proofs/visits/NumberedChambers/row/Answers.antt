@@ -5,7 +5,7 @@ use Rattle.dd_model.specs.Symbol.{IsChamber, item, op}
 use Rattle.dd_model.specs.FirstVisit.{rows}
 use Rattle.dd_canon.proofs.Traversals.{next_row}
 use Rattle.dd_canon.proofs.VisitLemmas.{fallen_here, image_met, step_on, start_kept, still_inside, row_done}
-use Rattle.dd_canon.proofs.visits.Visit.row.Goals as goal
+use Rattle.dd_canon.proofs.visits.NumberedChambers.row.Goals as goal
 
 pub chamber-requires-clause-high : goal.chamber-requires-clause-high
 chamber-requires-clause-high g c =

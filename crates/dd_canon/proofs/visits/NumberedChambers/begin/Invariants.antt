@@ -1,6 +1,6 @@
 use Rattle.std.proofs.Common.{vec_len}
 use Rattle.dd_canon.specs.Standing.{IsReady}
-use Rattle.dd_canon.proofs.visits.Visit.begin.Given as goal
+use Rattle.dd_canon.proofs.visits.NumberedChambers.begin.Given as goal
 
 abbrev pub invariant-loop-chamber : goal.invariant-loop-chamber
 invariant-loop-chamber l = IsReady l.s l.self

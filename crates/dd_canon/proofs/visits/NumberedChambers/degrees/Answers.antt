@@ -6,7 +6,7 @@ use Rattle.dd_canon.specs.Standing.{degree_list}
 use Rattle.dd_canon.proofs.OrderLemmas.{then_second}
 use Rattle.dd_model.proofs.Orders.{then_first}
 use Rattle.dd_canon.proofs.StandingLemmas.{degree_step, degree_end}
-use Rattle.dd_canon.proofs.visits.Visit.degrees.Goals as goal
+use Rattle.dd_canon.proofs.visits.NumberedChambers.degrees.Goals as goal
 
 pub degree-own-requires : goal.degree-own-requires
 degree-own-requires g c =

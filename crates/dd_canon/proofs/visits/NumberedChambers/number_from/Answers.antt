@@ -2,7 +2,7 @@ use Rattle.std.proofs.Common.{◌≡◌, ap, subst, arith}
 use Rattle.dd_model.specs.Symbol.{item}
 use Rattle.dd_canon.specs.Standing.{IsWhole}
 use Rattle.dd_canon.proofs.NumberingLemmas.{numbering_begun, numbering_whole}
-use Rattle.dd_canon.proofs.visits.Visit.number_from.Goals as goal
+use Rattle.dd_canon.proofs.visits.NumberedChambers.number_from.Goals as goal
 
 pub loop-k-init : goal.loop-k-init
 loop-k-init c = record {

@@ -3,7 +3,7 @@ use Rattle.dd_model.specs.Symbol.{item}
 use Rattle.dd_model.specs.FirstVisit.{rows}
 use Rattle.dd_canon.specs.Traversal.{IsTraversal}
 use Rattle.dd_canon.specs.Standing.{IsReady}
-use Rattle.dd_canon.proofs.visits.Visit.rows.Given as goal
+use Rattle.dd_canon.proofs.visits.NumberedChambers.rows.Given as goal
 
 abbrev pub invariant-loop-k : goal.invariant-loop-k
 invariant-loop-k g l = record {

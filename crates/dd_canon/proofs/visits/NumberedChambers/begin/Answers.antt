@@ -1,7 +1,7 @@
 use Rattle.std.proofs.Common.{◌++◌, ◌∷◌, [], arith}
 use Rattle.dd_canon.specs.Traversal.{IsVisit}
 use Rattle.dd_canon.proofs.Meetings.{left_visit, last_inside}
-use Rattle.dd_canon.proofs.visits.Visit.begin.Goals as goal
+use Rattle.dd_canon.proofs.visits.NumberedChambers.begin.Goals as goal
 
 pub overflow_sub-chamber : goal.overflow_sub-chamber
 overflow_sub-chamber c =

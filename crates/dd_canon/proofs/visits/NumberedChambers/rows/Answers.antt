@@ -4,7 +4,7 @@ use Rattle.dd_model.specs.FirstVisit.{rows}
 use Rattle.dd_canon.specs.Traversal.{IsTraversal}
 use Rattle.dd_canon.specs.Standing.{IsOngoing}
 use Rattle.dd_canon.proofs.VisitLemmas.{fallen_row, going_on, last_row}
-use Rattle.dd_canon.proofs.visits.Visit.rows.Goals as goal
+use Rattle.dd_canon.proofs.visits.NumberedChambers.rows.Goals as goal
 
 pub loop-k-init : goal.loop-k-init
 loop-k-init g c =

@@ -1,7 +1,7 @@
 use Rattle.std.proofs.Common.{◌≡◌, ◌+◌, length, ap, ◌∙◌, arith}
 use Rattle.std.proofs.lemmas.List.{length_push}
 use Rattle.dd_canon.proofs.Meetings.{met_visit}
-use Rattle.dd_canon.proofs.visits.Visit.add.Goals as goal
+use Rattle.dd_canon.proofs.visits.NumberedChambers.add.Goals as goal
 
 pub returns-clause-ready : goal.returns-clause-ready
 returns-clause-ready c =

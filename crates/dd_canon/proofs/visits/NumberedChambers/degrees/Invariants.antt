@@ -4,7 +4,7 @@ use Rattle.std.specs.Cmp.Lexicographic.{slice_cmp}
 use Rattle.dd_model.specs.Symbol.{Symbol}
 use Rattle.dd_canon.specs.Traversal.{IsExtension}
 use Rattle.dd_canon.specs.Standing.{degree_list}
-use Rattle.dd_canon.proofs.visits.Visit.degrees.Given as goal
+use Rattle.dd_canon.proofs.visits.NumberedChambers.degrees.Given as goal
 
 abbrev pub invariant-loop-k : goal.invariant-loop-k
 invariant-loop-k g l = record {
