@@ -4,22 +4,22 @@ use std::marker::Model;
 
 /// The chambers of a cell, ascending.
 #[derive(Drop)]
-pub struct Members {
+pub struct CellChambers {
     chambers: Vec<u32>,
 }
 
-impl Model for Members {
+impl Model for CellChambers {
     ghost Value = { List ℕ };
 
     ghost view = { λ a. a.chambers.items };
 }
 
-impl Members {
+impl CellChambers {
     /// The chambers in this order.
-    pub(crate) fn from_vec(chambers: Vec<u32>) -> Members
+    pub(crate) fn from_vec(chambers: Vec<u32>) -> CellChambers
         ensures { result ≡ chambers.items }
     {
-        Members { chambers }
+        CellChambers { chambers }
     }
 
     /// The chambers in order.
