@@ -35,7 +35,7 @@ pub use checkpoint::Checkpoint;
 pub use checkpoint_reader::read_checkpoint;
 pub use checkpoint_writer::{write_checkpoint, write_shard};
 pub use faults::CheckFault;
-pub use kinds::Kind;
+pub use kinds::ResumeKind;
 pub use shard_faults::ShardFault;
 pub use shard_reader::read_shard;
 pub use text_laws::{
