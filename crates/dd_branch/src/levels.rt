@@ -6,7 +6,7 @@ ghost use Rattle.dd_branch_tables.specs.Rows.{partial_of, IsReady};
 ghost use Rattle.dd_branch_bounds.specs.Shares.{IsSought};
 ghost use Rattle.dd_branch_bounds.specs.Kept.{AreSides};
 
-use crate::level::Level;
+use crate::undo_point::UndoPoint;
 use dd_branch_bounds::{PathShares, Sides};
 use dd_branch_tables::Rows;
 use dd_model::Memory;
@@ -22,7 +22,7 @@ const ROOM: usize = 109;
 /// in its place. So the paths are copied once for each number that is put in.
 #[derive(Drop)]
 pub(crate) struct Levels {
-    levels: Vec<Level>,
+    levels: Vec<UndoPoint>,
     count: usize,
 }
 
@@ -50,7 +50,7 @@ impl Levels {
         ensures sides { IfOk result (λ levels. levels.sides ≡ sides.now) }
     {
         let mut levels = Vec::with_capacity(alloc, ROOM)?;
-        levels.push_reserved(Level {
+        levels.push_reserved(UndoPoint {
             numbers: 0,
             rows: 0,
             sides: *sides,
@@ -74,7 +74,7 @@ impl Levels {
     }
 
     /// The one before.
-    pub(crate) fn last(&self) -> &Level
+    pub(crate) fn last(&self) -> &UndoPoint
         requires { 1 ≤ length self.now.before }
         ensures { slice_get self.now.before (length self.now.before - 1) ≡ Some result.now }
     {
@@ -119,7 +119,7 @@ impl Levels {
     pub(crate) fn drop_last(&mut self)
         requires { 1 ≤ length self.old.before }
         ensures before { self.new.before ≡ take (length self.old.before - 1) self.old.before }
-        ensures sides { (level : Level)
+        ensures sides { (level : UndoPoint)
             → slice_get self.old.before (length self.old.before - 1) ≡ Some level
             → self.new.sides ≡ level.sides }
     {
