@@ -7,7 +7,7 @@ ghost use Rattle.dd_model.specs.Lists.{Begins};
 ghost use Rattle.dd_opening_jobs.specs.Under.{AreUnder, Appends, HasNothingUnder};
 ghost use Rattle.dd_branch_tables.specs.Stem.{HasAbsorbed, IsStem};
 
-use crate::levels::Levels;
+use crate::undo_points::UndoPoints;
 use dd_branch_bounds::{PathShares, Sides, parity_rules_out};
 use dd_branch_degrees::{add_tied, with_places};
 use dd_branch_tables::{
@@ -28,7 +28,7 @@ pub struct Descent {
     request: Request,
     stem: Stem,
     classes: PathShares,
-    levels: Levels,
+    levels: UndoPoints,
     starts: Starts,
 }
 
@@ -82,7 +82,7 @@ impl Descent {
         ensures levels { IfOk result (λ descent. descent.levels ≡ []) }
     {
         let classes = classes.for_size(size);
-        let levels = Levels::new(alloc, &Sides::start(&classes))?;
+        let levels = UndoPoints::new(alloc, &Sides::start(&classes))?;
         Ok(Descent {
             alloc,
             request: *request,

@@ -21,12 +21,12 @@ const ROOM: usize = 109;
 /// is large, so it is read and changed in place. If a level was taken away, the next one is written
 /// in its place. So the paths are copied once for each number that is put in.
 #[derive(Drop)]
-pub(crate) struct Levels {
+pub(crate) struct UndoPoints {
     levels: Vec<UndoPoint>,
     count: usize,
 }
 
-impl Model for Levels {
+impl Model for UndoPoints {
     ghost use Rattle.std.specs.Prelude.{take};
     ghost use Rattle.std.specs.List.{slice_get};
     ghost use Rattle.dd_branch.specs.Levels.{Leveled, HasRoom, sides_of};
@@ -41,11 +41,11 @@ impl Model for Levels {
     ghost invariant = { λ a. HasRoom a.count a.levels };
 }
 
-impl Levels {
+impl UndoPoints {
     ghost use Rattle.dd_branch.specs.Levels.{level_of, Leveled};
 
     /// Only the first level.
-    pub(crate) fn new(alloc: Global, sides: &Sides) -> Result<Levels, Memory>
+    pub(crate) fn new(alloc: Global, sides: &Sides) -> Result<UndoPoints, Memory>
         ensures before { IfOk result (λ levels. levels.before ≡ []) }
         ensures sides { IfOk result (λ levels. levels.sides ≡ sides.now) }
     {
@@ -56,7 +56,7 @@ impl Levels {
             sides: *sides,
             starts: 0,
         });
-        Ok(Levels { levels, count: 0 })
+        Ok(UndoPoints { levels, count: 0 })
     }
 
     /// How many there are before the one where the search stands.

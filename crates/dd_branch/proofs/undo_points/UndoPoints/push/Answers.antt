@@ -1,7 +1,7 @@
 use Rattle.std.proofs.Common.{◌≡◌, ◌+◌, ◌<◌, length, slice_get, take, ap, ◌∙◌, arith}
 use Rattle.dd_branch.specs.Levels.{sides_of}
 use Rattle.dd_branch.proofs.LevelLists.{before_written, sides_written, before_pushed, sides_pushed}
-use Rattle.dd_branch.proofs.levels.Levels.push.Goals as goal
+use Rattle.dd_branch.proofs.undo_points.UndoPoints.push.Goals as goal
 
 pub returns-then-self-len-clause-before : goal.returns-then-self-len-clause-before
 returns-then-self-len-clause-before c =
