@@ -4,9 +4,9 @@
 
 mod chamber_set;
 mod collecting_search;
+mod first_numbers;
 mod level;
 mod levels;
-mod numbers;
 mod prefix_search;
 mod rows;
 mod search_steps;

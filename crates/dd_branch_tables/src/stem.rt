@@ -7,7 +7,7 @@ ghost use Rattle.dd_branch_tables.specs.Rows.{partial_of, depth_of, IsReady};
 ghost use Rattle.dd_opening_jobs.specs.Under.{HasNothingUnder};
 
 use crate::chamber_set::ChamberSet;
-use crate::numbers::Numbers;
+use crate::first_numbers::FirstNumbers;
 use crate::rows::{Rows, index_at};
 use crate::traversal::{Standing, Visit, stand};
 use dd_model::Index;
@@ -17,7 +17,7 @@ use dd_model::Index;
 #[derive(Drop)]
 pub struct Stem {
     rows: Rows,
-    prefix: Numbers,
+    prefix: FirstNumbers,
 }
 
 impl Stem {
@@ -32,7 +32,7 @@ impl Stem {
         ensures empty { prefix_of result ≡ [] }
     {
         let rows = Rows::empty(size);
-        let prefix = Numbers::new();
+        let prefix = FirstNumbers::new();
         Stem { rows, prefix }
     }
 

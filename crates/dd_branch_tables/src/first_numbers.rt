@@ -7,13 +7,13 @@ use std::marker::Model;
 /// The first numbers of a code. A number is put at the end and taken away again in place, and the
 /// greatest of them is known without a look at all.
 #[derive(Drop)]
-pub(crate) struct Numbers {
+pub(crate) struct FirstNumbers {
     numbers: [u8; 108],
     mosts: [u8; 109],
     count: u8,
 }
 
-impl Model for Numbers {
+impl Model for FirstNumbers {
     ghost use Rattle.std.specs.Prelude.{ℕ, List, take};
     ghost use Rattle.dd_branch_tables.specs.Mosts.{AreMosts};
 
@@ -24,12 +24,12 @@ impl Model for Numbers {
     ghost invariant = { λ a. AreMosts a.count a.numbers a.mosts };
 }
 
-impl Numbers {
+impl FirstNumbers {
     /// No numbers.
-    pub(crate) fn new() -> Numbers
+    pub(crate) fn new() -> FirstNumbers
         ensures { result ≡ [] }
     {
-        Numbers {
+        FirstNumbers {
             numbers: [0; 108],
             mosts: [1; 109],
             count: 0,

@@ -2,8 +2,8 @@ use Rattle.std.proofs.Common.{◌≡◌, ◌<◌, ◌≤◌, ◌↔◌, ◌+◌,
 use Rattle.std.proofs.lemmas.Bool.{cases_lt}
 use Rattle.dd_model.specs.FirstVisit.{Grows}
 use Rattle.dd_branch_tables.proofs.MostLemmas.{grows_each}
-use Rattle.dd_branch_tables.proofs.numbers.Numbers.grows.Goals as goal
-use Rattle.dd_branch_tables.proofs.numbers.Numbers.grows.Goals.{then-saturating_sub-self, else-saturating_sub-self}
+use Rattle.dd_branch_tables.proofs.first_numbers.FirstNumbers.grows.Goals as goal
+use Rattle.dd_branch_tables.proofs.first_numbers.FirstNumbers.grows.Goals.{then-saturating_sub-self, else-saturating_sub-self}
 
 false_is_no : IsTrue false → ⊥
 false_is_no f = cc
