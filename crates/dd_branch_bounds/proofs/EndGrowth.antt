@@ -9,11 +9,11 @@ use Rattle.dd_branch_bounds.specs.Kept.{Shares, AreKept}
 use Rattle.dd_branch_bounds.specs.Passing.{Passes}
 use Rattle.dd_branch_bounds.specs.Sides.{IsSide, ends_of}
 use Rattle.dd_branch_bounds.specs.declared.class_shares.ClassShares.{ClassShares}
-use Rattle.dd_branch_bounds.specs.declared.side.Side.{Side}
+use Rattle.dd_branch_bounds.specs.declared.pair_paths.PairPaths.{PairPaths}
 use Rattle.dd_branch_bounds.proofs.PassingTables.{ends_of_fewer}
 
 -- the paths of a pair stay those of each table that it is filled to
-side_of_longer : (old new : Rows) (t : ClassShares) (side : Side) → new.size ≡ old.size → unwound new (depth_of old) ≡ old → IsSide t (partial_of old) side → IsSide t (partial_of new) side
+side_of_longer : (old new : Rows) (t : ClassShares) (side : PairPaths) → new.size ≡ old.size → unwound new (depth_of old) ≡ old → IsSide t (partial_of old) side → IsSide t (partial_of new) side
 side_of_longer old new t side same undone kept =
     let more : (s : Symbol) → Passes (partial_of new) (λ _. true) s → Passes (partial_of old) (λ _. true) s =
     λ s is. record { completes = completes_shorter old new undone s is.completes; passed = is.passed } in

@@ -6,7 +6,7 @@ use Rattle.dd_model.specs.Symbol.{Symbol, op}
 use Rattle.dd_branch_bounds.specs.Sides.{IsSide, IsSideOfSome}
 use Rattle.dd_branch_bounds.specs.declared.link.Link.{Link}
 use Rattle.dd_branch_bounds.specs.declared.path_shares.PathShares.{PathShares}
-use Rattle.dd_branch_bounds.specs.declared.side.Side.{Side}
+use Rattle.dd_branch_bounds.specs.declared.pair_paths.PairPaths.{PairPaths}
 use Rattle.dd_branch_bounds.specs.declared.sides.Sides.{Sides}
 
 -- the paths of the tiles and of the vertices of a partial table
@@ -44,7 +44,7 @@ no_census = record {
 }
 
 -- the sides where there are none
-abbrev pub no_side : Side
+abbrev pub no_side : PairPaths
 no_side = record { ends = []; total = 0; census = no_census }
 
 abbrev pub no_sides : Sides

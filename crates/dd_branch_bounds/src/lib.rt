@@ -16,10 +16,10 @@ mod end;
 mod end_laws;
 mod kept_laws;
 mod link;
+mod pair_paths;
 mod parity;
 mod path_shares;
 mod share_laws;
-mod side;
 mod sides;
 
 pub use degrees::{SHARE_UNIT, least_degree, share_of, share_of_cell};

@@ -15,8 +15,8 @@ ghost use Rattle.dd_branch_bounds.specs.Sides.{AreBounds, KeepsBounds};
 use crate::census::Census;
 use crate::degrees::SHARE_UNIT;
 use crate::link::{Link, index_of};
+use crate::pair_paths::PairPaths;
 use crate::path_shares::PathShares;
-use crate::side::Side;
 use dd_branch_tables::{ChamberSet, Rows};
 use dd_model::{Index, Pair, Request};
 
@@ -27,8 +27,8 @@ use dd_model::{Index, Pair, Request};
 /// number in, so that it can go back; no call allocates.
 #[derive(Clone, Copy, Drop)]
 pub struct Sides {
-    pub(crate) tiles: Side,
-    pub(crate) vertices: Side,
+    pub(crate) tiles: PairPaths,
+    pub(crate) vertices: PairPaths,
 }
 
 impl Sides {
@@ -38,8 +38,8 @@ impl Sides {
             → AreSides classes.now partial result }
     {
         Sides {
-            tiles: Side::start(&classes.tiles),
-            vertices: Side::start(&classes.vertices),
+            tiles: PairPaths::start(&classes.tiles),
+            vertices: PairPaths::start(&classes.vertices),
         }
     }
 

@@ -4,7 +4,7 @@ use Rattle.dd_branch_bounds.specs.Counted.{HasCounted}
 use Rattle.dd_branch_bounds.specs.Passing.{Passes}
 use Rattle.dd_branch_bounds.specs.Sides.{IsJoin}
 use Rattle.dd_branch_bounds.proofs.SideLemmas.{which_pair}
-use Rattle.dd_branch_bounds.proofs.side.Side.limited_with.Goals as goal
+use Rattle.dd_branch_bounds.proofs.pair_paths.PairPaths.limited_with.Goals as goal
 
 pub limited-requires : goal.limited-requires
 limited-requires c = subst (λ p. (p ≡ Tile) ⊎ (p ≡ Vertex)) c.requires.same (which_pair c.args.shares.now)

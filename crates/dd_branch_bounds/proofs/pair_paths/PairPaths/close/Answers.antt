@@ -5,7 +5,7 @@ use Rattle.dd_branch_bounds.proofs.KeptLemmas.{live_end, closed_kept, closed_res
 use Rattle.dd_branch_bounds.proofs.SideLemmas.{right_closed}
 use Rattle.dd_branch_bounds.proofs.SumLemmas.{total_small, weight_within, few_in_path, none_with_weight}
 use Rattle.dd_branch_bounds.proofs.WriteLemmas.{view}
-use Rattle.dd_branch_bounds.proofs.side.Side.close.Goals as goal
+use Rattle.dd_branch_bounds.proofs.pair_paths.PairPaths.close.Goals as goal
 
 pub total_after-self-requires-clause-total : goal.total_after-self-requires-clause-total
 total_after-self-requires-clause-total c = let has = c.requires.some in total_small c.args.shares.now has.partial c.args.self.now has.kept has.small

@@ -19,15 +19,15 @@ use dd_model::Pair;
 /// shares of all chambers. A flag is twice a chamber, and 1 more for the second involution of the
 /// pair. It is an end of a path if its image is not known.
 #[derive(Clone, Copy, Drop)]
-pub(crate) struct Side {
+pub(crate) struct PairPaths {
     ends: [End; 74],
     pub(crate) total: u64,
     pub(crate) census: Census,
 }
 
-impl Side {
+impl PairPaths {
     /// The paths of tables of which nothing is known: each chamber is one.
-    pub(crate) fn start(shares: &ClassShares) -> Side
+    pub(crate) fn start(shares: &ClassShares) -> PairPaths
         ensures { (partial : Tiling) → partial.size ≡ shares.now.size
             → IsSide shares.now partial result }
     {
@@ -43,7 +43,7 @@ impl Side {
             ends[usize::from(flag + 1)] = End { other: flag, class };
         }
         let total = u64::from(size) * shares.weight(class);
-        Side {
+        PairPaths {
             ends,
             total,
             census: Census::none(),

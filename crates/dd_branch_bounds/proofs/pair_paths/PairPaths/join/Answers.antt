@@ -1,7 +1,7 @@
 use Rattle.std.proofs.Common.{true, sym, subst}
 use Rattle.dd_branch_bounds.specs.Passing.{Passes}
 use Rattle.dd_branch_bounds.specs.Sides.{IsJoin}
-use Rattle.dd_branch_bounds.proofs.side.Side.join.Goals as goal
+use Rattle.dd_branch_bounds.proofs.pair_paths.PairPaths.join.Goals as goal
 
 pub returns-then-x-y-clause-dead : goal.returns-then-x-y-clause-dead
 returns-then-x-y-clause-dead c none P join kept s sought =

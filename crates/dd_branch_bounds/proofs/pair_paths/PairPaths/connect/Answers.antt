@@ -7,7 +7,7 @@ use Rattle.dd_branch_bounds.proofs.KeptLemmas.{live_end, connected_kept, connect
 use Rattle.dd_branch_bounds.proofs.SideLemmas.{AreTwoEnds, right_connected}
 use Rattle.dd_branch_bounds.proofs.SumLemmas.{total_small, weights_within, few_chambers, none_with_weight}
 use Rattle.dd_branch_bounds.proofs.WriteLemmas.{view}
-use Rattle.dd_branch_bounds.proofs.side.Side.connect.Goals as goal
+use Rattle.dd_branch_bounds.proofs.pair_paths.PairPaths.connect.Goals as goal
 
 two_live : (t : ClassShares) (xs : List End) (x y : ℕ) (one other : End) → slice_get xs x ≡ Some one → slice_get xs y ≡ Some other → 1 ≤ (view t xs x).chambers → 1 ≤ (view t xs y).chambers
     → (y ≡ x → ⊥) → (y ≡ (view t xs x).other → ⊥) → AreTwoEnds t (view t xs) x one.other one.class.number y other.other other.class.number

@@ -9,7 +9,7 @@ use Rattle.dd_branch_bounds.proofs.CountedLemmas.{counted_none}
 use Rattle.dd_branch_bounds.proofs.PassingTables.{chambers_alone}
 use Rattle.dd_branch_bounds.proofs.StartLemmas.{IsOwn, alone_of_own, others_of_own, own_more, own_none}
 use Rattle.dd_branch_bounds.proofs.WriteLemmas.{view}
-use Rattle.dd_branch_bounds.proofs.side.Side.start.Goals as goal
+use Rattle.dd_branch_bounds.proofs.pair_paths.PairPaths.start.Goals as goal
 
 pub loop-k-init : goal.loop-k-init
 loop-k-init c = record { whole = refl; own = own_none c.args.shares.now c.none-ends.result 74 c.none-ends.ensures }

@@ -7,7 +7,7 @@ use Rattle.dd_branch_bounds.proofs.KeptLemmas.{listed_end, two_ends}
 use Rattle.dd_branch_bounds.proofs.SideLemmas.{IsAnEnd}
 use Rattle.dd_branch_bounds.proofs.SumLemmas.{sum_as_kept, sum_small, sum_capped, sum_closed, sum_connected, total_small, weight_within, weights_within, few_in_path, few_chambers, join_of_none}
 use Rattle.dd_branch_bounds.proofs.WriteLemmas.{view}
-use Rattle.dd_branch_bounds.proofs.side.Side.total_with.Goals as goal
+use Rattle.dd_branch_bounds.proofs.pair_paths.PairPaths.total_with.Goals as goal
 
 one_counted : (t : ClassShares) (xs : List End) (x : ℕ) (e : End) {n : ℕ} → slice_get xs x ≡ Some e → n ≡ e.class.number % 64 → (n ≡ 0 → ⊥) → IsAnEnd t (view t xs) x e.other e.class.number
 one_counted t xs x e listed count some = listed_end t xs x e listed (omega (arith, count, some))
