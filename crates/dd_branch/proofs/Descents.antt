@@ -30,7 +30,7 @@ use Rattle.dd_model.specs.Involutions.{HaveSameInvolutions}
 use Rattle.dd_branch_degrees.specs.Members.{AreMembersWith}
 use Rattle.dd_branch_bounds.specs.Shares.{IsSought}
 use Rattle.dd_branch_bounds.specs.Kept.{AreKept, with_sides}
-use Rattle.dd_branch_bounds.specs.declared.sides.Sides.{Sides}
+use Rattle.dd_branch_bounds.specs.declared.table_paths.TablePaths.{TablePaths}
 use Rattle.dd_branch_bounds.proofs.EndGrowth.{kept_of_longer}
 use Rattle.dd_branch.specs.Descent.{Descending, IsDescent, HasDescended, with_level, with_paths, without_last, shorter}
 use Rattle.dd_branch.specs.declared.undo_point.UndoPoint.{UndoPoint}
@@ -80,7 +80,7 @@ abbrev pub with_stem : Descending → Stem → Descending
 with_stem d stem = record { request = d.request; stem = stem; shares = d.shares; levels = d.levels }
 
 -- whatever paths are joined after a number is put in, the search goes back to what it was
-pub goes_back : (number : ℕ) (old : Descending) (mid stem : Stem) (level : UndoPoint) → IsPut number old.stem mid stem → IsLevelOf old level → (sides : Sides)
+pub goes_back : (number : ℕ) (old : Descending) (mid stem : Stem) (level : UndoPoint) → IsPut number old.stem mid stem → IsLevelOf old level → (sides : TablePaths)
     → shorter (with_paths (with_level (with_stem old stem) level) sides) ≡ old
 goes_back number old mid stem level put is sides =
     let cut : cut_to stem level.numbers level.rows ≡ old.stem = ap (λ k. cut_to stem k level.rows) is.numbers ∙ ap (cut_to stem (length (prefix_of old.stem))) is.rows ∙ cut_back number old.stem mid stem put in

@@ -11,7 +11,7 @@ use Rattle.dd_branch_tables.specs.Search.{GoesOn}
 use Rattle.dd_branch_tables.specs.Stem.{IsStem, prefix_of, size_of, cut_to}
 use Rattle.dd_branch_tables.specs.declared.stem.Stem.{Stem}
 use Rattle.dd_branch_bounds.specs.Kept.{Shares, AreKept, with_sides}
-use Rattle.dd_branch_bounds.specs.declared.sides.Sides.{Sides}
+use Rattle.dd_branch_bounds.specs.declared.table_paths.TablePaths.{TablePaths}
 use Rattle.dd_branch.specs.declared.undo_point.UndoPoint.{UndoPoint}
 
 -- what is asked, how far the search has come, the shares of its table, and what each number put in
@@ -26,7 +26,7 @@ abbrev pub with_level : Descending → UndoPoint → Descending
 with_level d level = record d { levels = d.levels ++ level ∷ [] }
 
 -- the search with other paths of its table
-abbrev pub with_paths : Descending → Sides → Descending
+abbrev pub with_paths : Descending → TablePaths → Descending
 with_paths d sides = record { request = d.request; stem = d.stem; shares = with_sides d.shares sides; levels = d.levels }
 
 -- the search as it was before its last number

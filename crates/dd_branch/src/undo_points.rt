@@ -7,7 +7,7 @@ ghost use Rattle.dd_branch_bounds.specs.Shares.{IsSought};
 ghost use Rattle.dd_branch_bounds.specs.Kept.{AreSides};
 
 use crate::undo_point::UndoPoint;
-use dd_branch_bounds::{PathShares, Sides};
+use dd_branch_bounds::{PathShares, TablePaths};
 use dd_branch_tables::Rows;
 use dd_model::Memory;
 use std::alloc::Global;
@@ -45,7 +45,7 @@ impl UndoPoints {
     ghost use Rattle.dd_branch.specs.Levels.{level_of, Leveled};
 
     /// Only the first level.
-    pub(crate) fn new(alloc: Global, sides: &Sides) -> Result<UndoPoints, Memory>
+    pub(crate) fn new(alloc: Global, sides: &TablePaths) -> Result<UndoPoints, Memory>
         ensures before { IfOk result (λ levels. levels.before ≡ []) }
         ensures sides { IfOk result (λ levels. levels.sides ≡ sides.now) }
     {
@@ -67,7 +67,7 @@ impl UndoPoints {
     }
 
     /// The paths of the table.
-    pub(crate) fn sides(&self) -> &Sides
+    pub(crate) fn sides(&self) -> &TablePaths
         ensures { result.now ≡ self.now.sides }
     {
         &self.levels[self.count].sides

@@ -14,7 +14,7 @@ use Rattle.dd_branch_bounds.specs.Units.{share_unit}
 use Rattle.dd_branch_bounds.specs.declared.class_shares.ClassShares.{ClassShares}
 use Rattle.dd_branch_bounds.specs.declared.path_shares.PathShares.{PathShares}
 use Rattle.dd_branch_bounds.specs.declared.pair_paths.PairPaths.{PairPaths}
-use Rattle.dd_branch_bounds.specs.declared.sides.Sides.{Sides}
+use Rattle.dd_branch_bounds.specs.declared.table_paths.TablePaths.{TablePaths}
 use Rattle.dd_branch_bounds.proofs.FlatBound.{flat_bound}
 use Rattle.dd_branch_bounds.proofs.SumLemmas.{bounds_of_sum, census_as_kept, sum_as_kept, total_small}
 
@@ -49,7 +49,7 @@ none_of_bounds q s size A B wanted is tiles vertices low =
     absurd (omega (arith, bound, low, same))
 
 -- the totals that are kept bound both pairs
-pub bounds_kept : (t : PathShares) (P : Symbol) (sides : Sides) → AreSides t P sides → P.size ≤ 36 → AreBounds t.request P sides.tiles.total sides.vertices.total
+pub bounds_kept : (t : PathShares) (P : Symbol) (sides : TablePaths) → AreSides t P sides → P.size ≤ 36 → AreBounds t.request P sides.tiles.total sides.vertices.total
 bounds_kept t P sides kept small = record {
   tiles_within = total_bounds t.tiles P t.request Tile t.tiles_asked t.tiles_pair sides.tiles kept.tiles;
   vertices_within = total_bounds t.vertices P t.request Vertex t.vertices_asked t.vertices_pair sides.vertices kept.vertices;

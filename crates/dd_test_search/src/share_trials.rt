@@ -3,7 +3,7 @@ ghost use Rattle.dd_branch_tables.specs.Rows.{partial_of, IsReady};
 ghost use Rattle.dd_branch_tables.specs.Stem.{IsStem};
 ghost use Rattle.dd_branch_bounds.specs.Kept.{AreSides};
 
-use dd_branch_bounds::{PathShares, Sides, parity_rules_out};
+use dd_branch_bounds::{PathShares, TablePaths, parity_rules_out};
 use dd_branch_tables::{Rows, Stem, Visit};
 use dd_model::{Allowed, Request};
 use std::test::Fail;
@@ -29,7 +29,7 @@ fn is_empty(tiles: u32, least: u32, size: u8) -> bool
 {
     let rows = Rows::empty(size);
     let classes = PathShares::of(&asked(tiles, least), size);
-    Sides::start(&classes).rules_out(&classes, &rows)
+    TablePaths::start(&classes).rules_out(&classes, &rows)
 }
 
 #[test]
@@ -45,7 +45,7 @@ fn a_tile_has_at_most_twelve_chambers(rt: HostRuntime) -> Result<(), Fail> {
 
 /// Puts a number in at a place of a code, and learns from it; false where that cannot be, or where
 /// a cell is then whole that may have no degree.
-fn put(rows: &mut Rows, classes: &PathShares, sides: &mut Sides, place: u8, number: u8) -> bool
+fn put(rows: &mut Rows, classes: &PathShares, sides: &mut TablePaths, place: u8, number: u8) -> bool
     requires ready { IsReady rows.old }
     requires place { place < 3 * (partial_of rows.old).size }
     requires kept { AreSides classes.now (partial_of rows.old) sides.old }
@@ -66,7 +66,7 @@ fn answers() -> [bool; 6] {
     let empty = Rows::empty(6);
     let mut rows = Rows::empty(6);
     let classes = PathShares::of(&asked(0, 4), 6);
-    let start = Sides::start(&classes);
+    let start = TablePaths::start(&classes);
     let mut sides = start;
     let before = sides.rules_out(&classes, &rows);
     let one = put(&mut rows, &classes, &mut sides, 0, 2);
@@ -105,7 +105,7 @@ fn is_empty_with_a_tile(tiles: u32, least: u32) -> bool
 {
     let mut rows = Rows::empty(3);
     let classes = PathShares::of(&asked(tiles, least), 3);
-    let mut sides = Sides::start(&classes);
+    let mut sides = TablePaths::start(&classes);
     put(&mut rows, &classes, &mut sides, 0, 1)
         && put(&mut rows, &classes, &mut sides, 1, 1)
         && sides.rules_out(&classes, &rows)
@@ -130,7 +130,7 @@ fn answers_for_pentagons() -> [bool; 3] {
     request.faces = faces;
     let mut rows = Rows::empty(20);
     let classes = PathShares::of(&request, 20);
-    let mut sides = Sides::start(&classes);
+    let mut sides = TablePaths::start(&classes);
     let before = sides.rules_out(&classes, &rows);
     let put_in = put(&mut rows, &classes, &mut sides, 0, 2)
         && put(&mut rows, &classes, &mut sides, 1, 1);
@@ -152,7 +152,7 @@ fn is_empty_with_a_chain(size: u8) -> bool
 {
     let mut rows = Rows::empty(size);
     let classes = PathShares::of(&asked(1, 3), size);
-    let mut sides = Sides::start(&classes);
+    let mut sides = TablePaths::start(&classes);
     put(&mut rows, &classes, &mut sides, 0, 1) && sides.rules_out(&classes, &rows)
 }
 
@@ -162,7 +162,7 @@ fn is_refused_with_a_chain(size: u8) -> bool
 {
     let rows = Rows::empty(size);
     let classes = PathShares::of(&asked(1, 3), size);
-    Sides::start(&classes).rules_out_number(&classes, &rows, 0, 1)
+    TablePaths::start(&classes).rules_out_number(&classes, &rows, 0, 1)
 }
 
 #[test]
@@ -192,7 +192,7 @@ fn count_nodes(
     stem: &mut Stem,
     visit: &mut Visit,
     classes: &PathShares,
-    before: &Sides,
+    before: &TablePaths,
     mark: usize,
 ) -> u64
     requires stem { IsStem stem.old }
@@ -235,7 +235,7 @@ fn nodes_of(tiles: u32, least: u32, size: u8) -> u64
     let mut stem = Stem::new(size);
     let mut visit = Visit::new();
     let classes = PathShares::of(&asked(tiles, least), size);
-    let start = Sides::start(&classes);
+    let start = TablePaths::start(&classes);
     count_nodes(&mut stem, &mut visit, &classes, &start, 0)
 }
 

@@ -3,7 +3,7 @@ use Rattle.dd_model.specs.declared.pair.Pair.TheVariants.{Tile, Vertex}
 use Rattle.dd_model.specs.Wanted.{Wanted}
 use Rattle.dd_branch_bounds.specs.Passing.{Passes}
 use Rattle.dd_branch_bounds.proofs.LinkLemmas.{join_of_image}
-use Rattle.dd_branch_bounds.proofs.sides.Sides.limited_with.Goals as goal
+use Rattle.dd_branch_bounds.proofs.table_paths.TablePaths.limited_with.Goals as goal
 
 pub returns-in_default-clause-none : goal.returns-in_default-clause-none
 returns-in_default-clause-none c P test kept image s wanted is =

@@ -5,7 +5,7 @@ use Rattle.dd_branch_bounds.specs.Counted.{HasCounted}
 use Rattle.dd_branch_bounds.specs.Passing.{Passes}
 use Rattle.dd_branch_bounds.specs.Shares.{BoundsReciprocals}
 use Rattle.dd_branch_bounds.proofs.SumLemmas.{bounds_of_sum, census_as_kept, sum_as_kept, total_small}
-use Rattle.dd_branch_bounds.proofs.sides.Sides.rules_out.Goals as goal
+use Rattle.dd_branch_bounds.proofs.table_paths.TablePaths.rules_out.Goals as goal
 
 pub exceed-requires-clause-tile_total : goal.exceed-requires-clause-tile_total
 exceed-requires-clause-tile_total c =

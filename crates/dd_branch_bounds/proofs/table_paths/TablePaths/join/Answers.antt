@@ -9,7 +9,7 @@ use Rattle.dd_branch_bounds.specs.Passing.{Passes}
 use Rattle.dd_branch_bounds.specs.Sides.{IsJoin}
 use Rattle.dd_branch_bounds.specs.declared.link.Link.{Link}
 use Rattle.dd_branch_bounds.proofs.LinkLemmas.{join_of_image}
-use Rattle.dd_branch_bounds.proofs.sides.Sides.join.Goals as goal
+use Rattle.dd_branch_bounds.proofs.table_paths.TablePaths.join.Goals as goal
 
 -- an image of all completions joins its two flags
 joins : (P : Symbol) (p : Pair) (link : Link) (x y side : ℕ) → link.index ≡ letter_of p side → side ≤ 1 → x ≡ 2 * link.chamber + side → y ≡ 2 * link.image + side → IsImage (Completes P) link

@@ -1,5 +1,5 @@
 use Rattle.dd_branch_bounds.proofs.KeptBounds.{none_of_bounds}
-use Rattle.dd_branch_bounds.proofs.sides.exceed.Goals as goal
+use Rattle.dd_branch_bounds.proofs.table_paths.exceed.Goals as goal
 
 pub returns : goal.returns
 returns c small s size wanted tiles vertices tile_total vertex_total =

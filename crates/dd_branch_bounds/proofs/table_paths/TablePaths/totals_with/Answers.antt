@@ -4,7 +4,7 @@ use Rattle.dd_model.specs.Symbol.{first, second}
 use Rattle.dd_branch_bounds.specs.Passing.{Passes}
 use Rattle.dd_branch_bounds.proofs.KeptBounds.{sum_bounds}
 use Rattle.dd_branch_bounds.proofs.LinkLemmas.{join_of_image}
-use Rattle.dd_branch_bounds.proofs.sides.Sides.totals_with.Goals as goal
+use Rattle.dd_branch_bounds.proofs.table_paths.TablePaths.totals_with.Goals as goal
 
 pub returns-in-Zero-clause-tiles : goal.returns-in-Zero-clause-tiles
 returns-in-Zero-clause-tiles c P test kept image =

@@ -1,6 +1,6 @@
 use Rattle.dd_branch_tables.specs.Rows.{partial_of}
 use Rattle.dd_branch_bounds.proofs.FilledLemmas.{filled_image}
-use Rattle.dd_branch_bounds.proofs.sides.Sides.learn.Goals as goal
+use Rattle.dd_branch_bounds.proofs.table_paths.TablePaths.learn.Goals as goal
 
 pub loop-place-preserved : goal.loop-place-preserved
 loop-place-preserved c =

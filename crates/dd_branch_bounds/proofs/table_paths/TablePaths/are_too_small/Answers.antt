@@ -3,7 +3,7 @@ use Rattle.dd_branch_tables.specs.Rows.{partial_of}
 use Rattle.dd_branch_bounds.specs.Units.{share_unit}
 use Rattle.dd_branch_bounds.proofs.LinkLemmas.{none_of_sums}
 use Rattle.dd_branch_bounds.proofs.SumLemmas.{sum_as_kept, total_small}
-use Rattle.dd_branch_bounds.proofs.sides.Sides.are_too_small.Goals as goal
+use Rattle.dd_branch_bounds.proofs.table_paths.TablePaths.are_too_small.Goals as goal
 
 pub is_too_small-requires-clause-tiles : goal.is_too_small-requires-clause-tiles
 is_too_small-requires-clause-tiles c =

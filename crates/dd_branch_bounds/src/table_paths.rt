@@ -26,18 +26,18 @@ use dd_model::{Index, Pair, Request};
 /// search can turn back where their sum is too small. A search copies the paths before it puts a
 /// number in, so that it can go back; no call allocates.
 #[derive(Clone, Copy, Drop)]
-pub struct Sides {
+pub struct TablePaths {
     pub(crate) tiles: PairPaths,
     pub(crate) vertices: PairPaths,
 }
 
-impl Sides {
+impl TablePaths {
     /// Returns the paths of a table of which only the size is known.
-    pub fn start(classes: &PathShares) -> Sides
+    pub fn start(classes: &PathShares) -> TablePaths
         ensures { (partial : Tiling) → partial.size ≡ classes.now.size
             → AreSides classes.now partial result }
     {
-        Sides {
+        TablePaths {
             tiles: PairPaths::start(&classes.tiles),
             vertices: PairPaths::start(&classes.vertices),
         }
