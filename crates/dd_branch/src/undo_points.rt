@@ -8,7 +8,7 @@ ghost use Rattle.dd_branch_bounds.specs.Kept.{AreSides};
 
 use crate::undo_point::UndoPoint;
 use dd_branch_bounds::{PathShares, TablePaths};
-use dd_branch_tables::Rows;
+use dd_branch_tables::PartialTable;
 use dd_model::Memory;
 use std::alloc::Global;
 use std::marker::Model;
@@ -83,7 +83,7 @@ impl UndoPoints {
 
     /// Joins the paths that what was put into the table after a mark joins. True where no wanted
     /// symbol completes the table.
-    pub(crate) fn learn(&mut self, classes: &PathShares, table: &Rows, mark: usize) -> bool
+    pub(crate) fn learn(&mut self, classes: &PathShares, table: &PartialTable, mark: usize) -> bool
         requires ready { IsReady table.now }
         requires kept { AreSides classes.now (partial_of table.now) self.old.sides }
         ensures before { self.new.before ≡ self.old.before }

@@ -17,7 +17,7 @@ use crate::degrees::SHARE_UNIT;
 use crate::link::{Link, index_of};
 use crate::pair_paths::PairPaths;
 use crate::path_shares::PathShares;
-use dd_branch_tables::{ChamberSet, Rows};
+use dd_branch_tables::{ChamberSet, PartialTable};
 use dd_model::{Index, Pair, Request};
 
 /// The paths of both pairs of a table that a search fills, with two shares for each chamber, one
@@ -174,7 +174,7 @@ impl TablePaths {
     /// not change is limited as the request limits it, and only that. Returns None if the pair has
     /// more cells than the request allows.
     #[inline(always)]
-    fn bounds(&self, classes: &PathShares, table: &Rows, place: u8) -> Option<(u64, u64)>
+    fn bounds(&self, classes: &PathShares, table: &PartialTable, place: u8) -> Option<(u64, u64)>
         requires ready { IsReady table.now }
         requires kept { AreSides classes.now (partial_of table.now) self.now }
         ensures none { IfNone result ((s : Tiling)
@@ -212,7 +212,7 @@ impl TablePaths {
     fn is_ruled_out(
         &self,
         classes: &PathShares,
-        table: &Rows,
+        table: &PartialTable,
         place: u8,
         number: u8,
         bounds: (u64, u64),
@@ -246,7 +246,7 @@ impl TablePaths {
     pub fn rules_out_number(
         &self,
         classes: &PathShares,
-        table: &Rows,
+        table: &PartialTable,
         place: u8,
         number: u8,
     ) -> bool
@@ -270,7 +270,7 @@ impl TablePaths {
     fn sieve_by(
         &self,
         classes: &PathShares,
-        table: &Rows,
+        table: &PartialTable,
         place: u8,
         numbers: ChamberSet,
         bounds: (u64, u64),
@@ -301,7 +301,7 @@ impl TablePaths {
     fn sieve_with_limits(
         &self,
         classes: &PathShares,
-        table: &Rows,
+        table: &PartialTable,
         place: u8,
         numbers: ChamberSet,
     ) -> ChamberSet
@@ -323,7 +323,7 @@ impl TablePaths {
     pub fn sieve(
         &self,
         classes: &PathShares,
-        table: &Rows,
+        table: &PartialTable,
         place: u8,
         numbers: ChamberSet,
     ) -> ChamberSet
@@ -344,7 +344,7 @@ impl TablePaths {
     /// Joins the paths that what was put into the table after a mark joins. True where a cell is
     /// then whole to which the request allows no degree, so that no wanted symbol completes the
     /// table.
-    pub fn learn(&mut self, classes: &PathShares, table: &Rows, mark: usize) -> bool
+    pub fn learn(&mut self, classes: &PathShares, table: &PartialTable, mark: usize) -> bool
         requires ready { IsReady table.now }
         requires kept { AreSides classes.now (partial_of table.now) self.old }
         ensures kept { AreSides classes.now (partial_of table.now) self.new }
@@ -362,7 +362,7 @@ impl TablePaths {
 
     /// Returns whether the totals are too small.
     #[inline(always)]
-    fn are_too_small(&self, classes: &PathShares, table: &Rows) -> bool
+    fn are_too_small(&self, classes: &PathShares, table: &PartialTable) -> bool
         requires ready { IsReady table.now }
         requires kept { AreSides classes.now (partial_of table.now) self.now }
         ensures { IsTrue result → (s : Tiling)
@@ -375,7 +375,7 @@ impl TablePaths {
     /// small, where the limits of the request are looked at, too, or there are more cells than
     /// these allow.
     #[inline(always)]
-    pub fn rules_out(&self, classes: &PathShares, table: &Rows) -> bool
+    pub fn rules_out(&self, classes: &PathShares, table: &PartialTable) -> bool
         requires ready { IsReady table.now }
         requires kept { AreSides classes.now (partial_of table.now) self.now }
         ensures { IsTrue result → (s : Tiling)

@@ -9,7 +9,7 @@ use Rattle.dd_branch_tables.specs.Rows.{partial_of, unwound, Commutes}
 use Rattle.dd_branch_tables.proofs.Commuting.{commuting_beside, commuting_round, ready_leads_back}
 use Rattle.dd_branch_tables.proofs.RowsLemmas.{learns_both, undone_after}
 use Rattle.dd_branch_tables.proofs.Filling.{image_inside, learns_from, still_known}
-use Rattle.dd_branch_tables.proofs.rows.Rows.put.Goals as goal
+use Rattle.dd_branch_tables.proofs.partial_table.PartialTable.put.Goals as goal
 
 pub returns-then-number-eq0-clause-clash : goal.returns-then-number-eq0-clause-clash
 returns-then-number-eq0-clause-clash c s full has =

@@ -6,7 +6,7 @@ use Rattle.dd_branch_tables.specs.Commuting.{CommutesAt, KeepsCommuting}
 use Rattle.dd_branch_tables.specs.Rows.{partial_of, Learns, Excludes, Commutes}
 use Rattle.dd_branch_tables.proofs.Commuting.{IsFilled, KnowsRound, filled_by, two_filled, two_filled_at, zero_filled, zero_filled_at}
 use Rattle.dd_branch_tables.proofs.Filling.{learns_from, excludes_from, on_true_from, on_false_from, KnowsBoth, forced_zero, forced_two, chamber_too}
-use Rattle.dd_branch_tables.proofs.rows.Rows.fill.Goals as goal
+use Rattle.dd_branch_tables.proofs.partial_table.PartialTable.fill.Goals as goal
 
 pub returns-then-opposite-ne0-clause-learnt : goal.returns-then-opposite-ne0-clause-learnt
 returns-then-opposite-ne0-clause-learnt c =

@@ -3,13 +3,13 @@ use Rattle.std.specs.Int.Bits.{bit_xor}
 use Rattle.dd_model.specs.Symbol.{op}
 use Rattle.dd_opening_jobs.specs.Places.{back_of, bits_of}
 use Rattle.dd_branch_tables.specs.Rows.{partial_of}
-use Rattle.dd_branch_tables.specs.declared.rows.Rows.{Rows}
+use Rattle.dd_branch_tables.specs.declared.partial_table.PartialTable.{PartialTable}
 use Rattle.dd_opening_jobs.proofs.Places.{chamber_of_place}
 use Rattle.dd_branch_tables.proofs.RowsLemmas.{IsPut, HasBoth, back_is_place, flipped_by, known_excludes, put_learns, put_ready, put_told, room_left, told_at}
 use Rattle.dd_branch_tables.proofs.Commuting.{put_others}
 use Rattle.dd_branch_tables.proofs.Filling.{at_place, back_again, chamber_too, from_place, learns_from}
-use Rattle.dd_branch_tables.proofs.rows.Rows.join.Goals as goal
-use Rattle.dd_branch_tables.proofs.rows.Rows.join.Goals.{then-known-ne0-via-then-known-ne0, then-known-ne0-via-else-known-ne0+then-self-back-ne0}
+use Rattle.dd_branch_tables.proofs.partial_table.PartialTable.join.Goals as goal
+use Rattle.dd_branch_tables.proofs.partial_table.PartialTable.join.Goals.{then-known-ne0-via-then-known-ne0, then-known-ne0-via-else-known-ne0+then-self-back-ne0}
 
 pub returns-then-known-image-clause-told : goal.returns-then-known-image-clause-told
 returns-then-known-image-clause-told c =
@@ -42,7 +42,7 @@ pub push-requires : goal.push-requires
 push-requires c =
     (omega arith, room_left c.args.self.now c.place_of-place.result c.requires.ready c.place_of-place.ensures.inside c.if-known-ne0.false)
 
-abbrev rows_after : goal.After-push → Rows
+abbrev rows_after : goal.After-push → PartialTable
 rows_after c = record {
   size = c.args.self.now.size;
   numbers = set (set c.args.self.now.numbers c.place_of-place.result c.args.image) c.place_of-back.result c.args.chamber;

@@ -1,6 +1,6 @@
 use Rattle.std.proofs.Common.{◌-◌, ◌<◌, get_or, sym, ap, ◌∙◌, arith}
 use Rattle.dd_branch_tables.proofs.RowsLemmas.{op_partial}
-use Rattle.dd_branch_tables.proofs.rows.Rows.known.Goals as goal
+use Rattle.dd_branch_tables.proofs.partial_table.PartialTable.known.Goals as goal
 
 pub returns-clause-image : goal.returns-clause-image
 returns-clause-image c =

@@ -1,6 +1,6 @@
 use Rattle.std.proofs.Common.{◌≡◌}
 use Rattle.dd_branch_tables.specs.Rows.{depth_of, unwound, IsReady}
-use Rattle.dd_branch_tables.proofs.rows.Rows.undo.Given as goal
+use Rattle.dd_branch_tables.proofs.partial_table.PartialTable.undo.Given as goal
 
 abbrev pub invariant-loop-self : goal.invariant-loop-self
 invariant-loop-self l = record {

@@ -1,7 +1,7 @@
 use Rattle.std.proofs.Common.{get_or, sym, ap, ◌∙◌, arith}
 use Rattle.std.specs.Int.{bit_at}
 use Rattle.dd_branch_tables.proofs.RowsLemmas.{no_bit_has_image}
-use Rattle.dd_branch_tables.proofs.rows.Rows.free_to.Goals as goal
+use Rattle.dd_branch_tables.proofs.partial_table.PartialTable.free_to.Goals as goal
 
 pub returns-clause-taken : goal.returns-clause-taken
 returns-clause-taken c d low high none =

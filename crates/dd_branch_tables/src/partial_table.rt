@@ -62,20 +62,20 @@ fn bits_of(chamber: u8, image: u8) -> u64
 /// - one of each two places that were filled at once, since an involution leads back. They are in
 ///   order, so that both can be cleared again.
 #[derive(Drop)]
-pub struct Rows {
+pub struct PartialTable {
     size: u8,
     numbers: [u8; 108],
     free: [u64; 3],
     trail: ArrayVec<u8, 108>,
 }
 
-impl Rows {
+impl PartialTable {
     ghost use Rattle.dd_branch_tables.specs.Chambers.{bit_of};
     ghost use Rattle.dd_branch_tables.specs.Rows.{partial_of, depth_of, unwound, IsReady, HasNumberAt, Learns, Excludes, Commutes};
     ghost use Rattle.dd_branch_tables.specs.Commuting.{CommutesAt, IsCommuting, KeepsCommuting, KeepsOthers};
 
     /// Rows in which nothing is known.
-    pub fn empty(size: u8) -> Rows
+    pub fn empty(size: u8) -> PartialTable
         requires { (1 ≤ size) × (size ≤ 36) }
         ensures ready { IsReady result }
         ensures size { (partial_of result).size ≡ size }
@@ -84,7 +84,7 @@ impl Rows {
     {
         let trail = ArrayVec::new();
         let numbers = [0; 108];
-        Rows {
+        PartialTable {
             size,
             numbers,
             free: [u64::MAX; 3],

@@ -1,6 +1,6 @@
 use Rattle.std.proofs.Common.{◌<◌, length, refl, ◌∙◌, arith}
 use Rattle.dd_branch_tables.proofs.RowsLemmas.{cleared_by, flipped_by, popped_from, popped_ready, unwound_less}
-use Rattle.dd_branch_tables.proofs.rows.Rows.undo.Goals as goal
+use Rattle.dd_branch_tables.proofs.partial_table.PartialTable.undo.Goals as goal
 
 pub loop-self-preserved-in-Some : goal.loop-self-preserved-in-Some
 loop-self-preserved-in-Some c =
