@@ -20,7 +20,7 @@ use Rattle.dd_branch_tables.proofs.Absorbing.{absorbed_under}
 use Rattle.dd_branch_tables.proofs.Stems.{any_under}
 use Rattle.dd_opening_jobs.proofs.Places.{code_at}
 use Rattle.dd_branch_tables.proofs.Prefixes.{none_under, shortened as shortened_under}
-use Rattle.dd_branch_tables.specs.declared.rows.Rows.{Rows}
+use Rattle.dd_branch_tables.specs.declared.partial_table.PartialTable.{PartialTable}
 use Rattle.dd_branch_tables.specs.declared.stem.Stem.{Stem}
 use Rattle.dd_branch_tables.proofs.Follows.{member_orderly}
 use Rattle.dd_branch_tables.proofs.TableFronts.{front_same, front_begins}
@@ -30,17 +30,17 @@ use Rattle.dd_model.specs.Involutions.{HaveSameInvolutions}
 use Rattle.dd_branch_degrees.specs.Members.{AreMembersWith}
 use Rattle.dd_branch_bounds.specs.Shares.{IsSought}
 use Rattle.dd_branch_bounds.specs.Kept.{AreKept, with_sides}
-use Rattle.dd_branch_bounds.specs.declared.sides.Sides.{Sides}
+use Rattle.dd_branch_bounds.specs.declared.table_paths.TablePaths.{TablePaths}
 use Rattle.dd_branch_bounds.proofs.EndGrowth.{kept_of_longer}
 use Rattle.dd_branch.specs.Descent.{Descending, IsDescent, HasDescended, with_level, with_paths, without_last, shorter}
-use Rattle.dd_branch.specs.declared.level.Level.{Level}
+use Rattle.dd_branch.specs.declared.undo_point.UndoPoint.{UndoPoint}
 
 -- the search with what it had at a level
-abbrev pub at_level : Descending → Level → Descending
+abbrev pub at_level : Descending → UndoPoint → Descending
 at_level d level = record { request = d.request; stem = cut_to d.stem level.numbers level.rows; shares = with_sides d.shares level.sides; levels = d.levels }
 
 -- the search without its last level is what it was at that level
-pub shorter_levelled : (d : Descending) (level : Level) → shorter (with_level d level) ≡ at_level d level
+pub shorter_levelled : (d : Descending) (level : UndoPoint) → shorter (with_level d level) ≡ at_level d level
 shorter_levelled d level =
     let levels = d.levels ++ level ∷ [] in
     let size : length levels ≡ length d.levels + 1 = length-append d.levels (level ∷ []) in
@@ -70,7 +70,7 @@ cut_back number old mid new put =
     λ i. record { rows = rows i; prefix = front i }
 
 -- the level tells how much the search has
-pub record IsLevelOf (d : Descending) (level : Level) : Type 0 where
+pub record IsLevelOf (d : Descending) (level : UndoPoint) : Type 0 where
   pub numbers : level.numbers ≡ length (prefix_of d.stem)
   pub rows : level.rows ≡ depth_of d.stem.rows
   pub sides : level.sides ≡ d.shares.sides
@@ -80,7 +80,7 @@ abbrev pub with_stem : Descending → Stem → Descending
 with_stem d stem = record { request = d.request; stem = stem; shares = d.shares; levels = d.levels }
 
 -- whatever paths are joined after a number is put in, the search goes back to what it was
-pub goes_back : (number : ℕ) (old : Descending) (mid stem : Stem) (level : Level) → IsPut number old.stem mid stem → IsLevelOf old level → (sides : Sides)
+pub goes_back : (number : ℕ) (old : Descending) (mid stem : Stem) (level : UndoPoint) → IsPut number old.stem mid stem → IsLevelOf old level → (sides : TablePaths)
     → shorter (with_paths (with_level (with_stem old stem) level) sides) ≡ old
 goes_back number old mid stem level put is sides =
     let cut : cut_to stem level.numbers level.rows ≡ old.stem = ap (λ k. cut_to stem k level.rows) is.numbers ∙ ap (cut_to stem (length (prefix_of old.stem))) is.rows ∙ cut_back number old.stem mid stem put in
@@ -88,7 +88,7 @@ goes_back number old mid stem level put is sides =
     shorter_levelled (with_paths (with_stem old stem) sides) level ∙ (λ i. record { request = old.request; stem = cut i; shares = with_sides old.shares (paths i); levels = old.levels })
 
 -- the search with a number put in
-pub put_descent : (number : ℕ) (old : Descending) (mid stem : Stem) (levels : List Level) → IsDescent old → IsPut number old.stem mid stem → length levels ≤ length old.levels + 1
+pub put_descent : (number : ℕ) (old : Descending) (mid stem : Stem) (levels : List UndoPoint) → IsDescent old → IsPut number old.stem mid stem → length levels ≤ length old.levels + 1
     → IsDescent (record { request = old.request; stem = stem; shares = old.shares; levels = levels })
 put_descent number old mid stem levels is put few =
     let count : length (prefix_of mid) ≡ length (prefix_of old.stem) + 1 = ap length put.longer ∙ length-append (prefix_of old.stem) (number ∷ []) in
@@ -153,7 +153,7 @@ none_absorbed W number old mid new put none =
     λ s under. four s (any_under W (size_of old) (prefix_of old ++ number ∷ []) s under)
 
 -- where no symbol with a number at the next place is sought, no member is under the prefix with it
-pub none_with_number : (d : Descending) (rows : Rows) (t number : ℕ) → IsDescent d → rows ≡ d.stem.rows → t ≡ length (prefix_of d.stem) → length (prefix_of d.stem) < 3 * size_of d.stem
+pub none_with_number : (d : Descending) (rows : PartialTable) (t number : ℕ) → IsDescent d → rows ≡ d.stem.rows → t ≡ length (prefix_of d.stem) → length (prefix_of d.stem) < 3 * size_of d.stem
     → ((s : Symbol) → IsSought d.shares.classes.request (partial_of rows) s → HasNumberAt t number s → ⊥) → HasNothingUnder (IsMember d.request) (size_of d.stem) (prefix_of d.stem ++ number ∷ [])
 none_with_number d rows t number is same at low none s under =
     let q = d.request in

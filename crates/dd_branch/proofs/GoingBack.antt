@@ -7,13 +7,13 @@ use Rattle.std.specs.declared.option.Option.{Option}
 use Rattle.std.specs.declared.option.Option.TheVariants.{None, Some}
 use Rattle.dd_branch_tables.specs.Rows.{depth_of, popped, unwind}
 use Rattle.dd_branch_tables.specs.Stem.{prefix_of, size_of}
-use Rattle.dd_branch_tables.specs.declared.rows.Rows.{Rows}
+use Rattle.dd_branch_tables.specs.declared.partial_table.PartialTable.{PartialTable}
 use Rattle.dd_branch_bounds.specs.Kept.{no_sides}
 use Rattle.dd_branch.specs.Descent.{Descending, GoesBack, IsDescent, gone_back, shorter, without_last}
 use Rattle.dd_branch.specs.Levels.{level_of}
-use Rattle.dd_branch.specs.declared.level.Level.{Level}
+use Rattle.dd_branch.specs.declared.undo_point.UndoPoint.{UndoPoint}
 
-no_level : Level
+no_level : UndoPoint
 no_level = level_of 0 0 no_sides 0
 
 -- the last level is taken away, if there is one
@@ -26,16 +26,16 @@ fewer_levels d some =
     omega (arith, left, count)
 
 -- going back changes neither what is asked
-pub same_request : (o : Option Level) (d : Descending) → (without_last o d).request ≡ d.request
+pub same_request : (o : Option UndoPoint) (d : Descending) → (without_last o d).request ≡ d.request
 same_request None d = refl
 same_request (Some level) d = refl
 
-unwind_size : (k : ℕ) (r : Rows) → (unwind k r).size ≡ r.size
+unwind_size : (k : ℕ) (r : PartialTable) → (unwind k r).size ≡ r.size
 unwind_size zero r = refl
 unwind_size (suc k) r = unwind_size k (popped r)
 
 -- nor the size
-pub same_size : (o : Option Level) (d : Descending) → size_of (without_last o d).stem ≡ size_of d.stem
+pub same_size : (o : Option UndoPoint) (d : Descending) → size_of (without_last o d).stem ≡ size_of d.stem
 same_size None d = refl
 same_size (Some level) d = unwind_size (depth_of d.stem.rows - level.rows) d.stem.rows
 

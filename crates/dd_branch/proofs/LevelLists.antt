@@ -4,29 +4,29 @@ use Rattle.std.proofs.lemmas.List.{take-append-le, take-set, take_more_set, get_
 use Rattle.std.proofs.lemmas.Option.{slice_get-get_or}
 use Rattle.std.proofs.Math.Seq.{get_or-append_seam}
 use Rattle.dd_branch.specs.Levels.{Leveled, level_of, sides_of}
-use Rattle.dd_branch.specs.declared.level.Level.{Level}
+use Rattle.dd_branch.specs.declared.undo_point.UndoPoint.{UndoPoint}
 
 -- what is told of levels, where so many are before the one where the search stands
-abbrev pub leveled : List Level → ℕ → Leveled
+abbrev pub leveled : List UndoPoint → ℕ → Leveled
 leveled xs n = record { before = take n xs; sides = sides_of (slice_get xs n) }
 
 -- what is read where a level was written
-read_back : (xs : List Level) (n : ℕ) (level : Level) → n < length xs → slice_get (set xs n level) n ≡ Some level
+read_back : (xs : List UndoPoint) (n : ℕ) (level : UndoPoint) → n < length xs → slice_get (set xs n level) n ≡ Some level
 read_back xs n level inside =
     let long = length-set xs n level in
     slice_get-get_or (set xs n level) n level (omega (arith, long, inside)) ∙ ap Some (get_or-set_same xs n level level inside)
 
-module _ (l : Leveled) (xs : List Level) (n numbers rows starts : ℕ) (was next : Level) (is : leveled xs n ≡ l) (inside : n < length xs) (read : was ≡ get_or xs n was)
+module _ (l : Leveled) (xs : List UndoPoint) (n numbers rows starts : ℕ) (was next : UndoPoint) (is : leveled xs n ≡ l) (inside : n < length xs) (read : was ≡ get_or xs n was)
     (copied : next ≡ get_or (set xs n (level_of numbers rows was.sides starts)) n next) where
-  here : Level
+  here : UndoPoint
   here = level_of numbers rows was.sides starts
 
   paths : sides_of (slice_get xs n) ≡ was.sides
-  paths = ap sides_of (slice_get-get_or xs n was inside) ∙ ap (λ (e : Level). e.sides) (sym read)
+  paths = ap sides_of (slice_get-get_or xs n was inside) ∙ ap (λ (e : UndoPoint). e.sides) (sym read)
 
   sides : next.sides ≡ l.sides
   unfolding here
-  sides = ap (λ (e : Level). e.sides) (copied ∙ get_or-set_same xs n here next inside) ∙ sym paths ∙ ap (λ (m : Leveled). m.sides) is
+  sides = ap (λ (e : UndoPoint). e.sides) (copied ∙ get_or-set_same xs n here next inside) ∙ sym paths ∙ ap (λ (m : Leveled). m.sides) is
 
   before : take (n + 1) (set xs n here) ≡ l.before ++ level_of numbers rows l.sides starts ∷ []
   unfolding here

@@ -11,26 +11,26 @@ use Rattle.dd_branch_tables.specs.Search.{GoesOn}
 use Rattle.dd_branch_tables.specs.Stem.{IsStem, prefix_of, size_of, cut_to}
 use Rattle.dd_branch_tables.specs.declared.stem.Stem.{Stem}
 use Rattle.dd_branch_bounds.specs.Kept.{Shares, AreKept, with_sides}
-use Rattle.dd_branch_bounds.specs.declared.sides.Sides.{Sides}
-use Rattle.dd_branch.specs.declared.level.Level.{Level}
+use Rattle.dd_branch_bounds.specs.declared.table_paths.TablePaths.{TablePaths}
+use Rattle.dd_branch.specs.declared.undo_point.UndoPoint.{UndoPoint}
 
 -- what is asked, how far the search has come, the shares of its table, and what each number put in
 pub record Descending : Type 0 where
   pub request : Request
   pub stem : Stem
   pub shares : Shares
-  pub levels : List Level
+  pub levels : List UndoPoint
 
 -- the search with a level more
-abbrev pub with_level : Descending → Level → Descending
+abbrev pub with_level : Descending → UndoPoint → Descending
 with_level d level = record d { levels = d.levels ++ level ∷ [] }
 
 -- the search with other paths of its table
-abbrev pub with_paths : Descending → Sides → Descending
+abbrev pub with_paths : Descending → TablePaths → Descending
 with_paths d sides = record { request = d.request; stem = d.stem; shares = with_sides d.shares sides; levels = d.levels }
 
 -- the search as it was before its last number
-abbrev pub without_last : Option Level → Descending → Descending
+abbrev pub without_last : Option UndoPoint → Descending → Descending
 without_last None d = d
 without_last (Some level) d = record {
   request = d.request;

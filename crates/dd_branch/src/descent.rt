@@ -7,8 +7,8 @@ ghost use Rattle.dd_model.specs.Lists.{Begins};
 ghost use Rattle.dd_opening_jobs.specs.Under.{AreUnder, Appends, HasNothingUnder};
 ghost use Rattle.dd_branch_tables.specs.Stem.{HasAbsorbed, IsStem};
 
-use crate::levels::Levels;
-use dd_branch_bounds::{PathShares, Sides, parity_rules_out};
+use crate::undo_points::UndoPoints;
+use dd_branch_bounds::{PathShares, TablePaths, parity_rules_out};
 use dd_branch_degrees::{add_tied, with_places};
 use dd_branch_tables::{
     ChamberSet, CollectingSearch, PrefixSearch, Starts, Stem, find, involutions, ties,
@@ -28,7 +28,7 @@ pub struct Descent {
     request: Request,
     stem: Stem,
     classes: PathShares,
-    levels: Levels,
+    levels: UndoPoints,
     starts: Starts,
 }
 
@@ -62,7 +62,7 @@ impl Descent {
     ghost use Rattle.dd_branch_tables.specs.Rows.{IsReady, depth_of};
     ghost use Rattle.dd_branch_tables.specs.Stem.{prefix_of, size_of};
     ghost use Rattle.dd_branch.specs.Descent.{IsDescent, HasDescended, GoesBack, shorter, with_paths};
-    ghost use Rattle.dd_branch_bounds.specs.declared.sides.Sides.{Sides};
+    ghost use Rattle.dd_branch_bounds.specs.declared.table_paths.TablePaths.{TablePaths};
 
     /// The search from the empty prefix, with the shares that the request allows to tables of the
     /// size.
@@ -82,7 +82,7 @@ impl Descent {
         ensures levels { IfOk result (λ descent. descent.levels ≡ []) }
     {
         let classes = classes.for_size(size);
-        let levels = Levels::new(alloc, &Sides::start(&classes))?;
+        let levels = UndoPoints::new(alloc, &TablePaths::start(&classes))?;
         Ok(Descent {
             alloc,
             request: *request,
@@ -137,7 +137,7 @@ impl Descent {
         ensures alone { OnTrue result (IsFalse with_known
             → prefix_of self.new.stem ≡ prefix_of self.old.stem ++ number ∷ []) }
         ensures some { OnTrue result (1 ≤ length self.new.levels) }
-        ensures undone { OnTrue result ((sides : Sides)
+        ensures undone { OnTrue result ((sides : TablePaths)
             → shorter (with_paths self.new sides) ≡ self.old) }
         ensures same { OnFalse result (self.new ≡ self.old) }
         ensures dead { OnFalse result

@@ -41,9 +41,9 @@
 
 mod descent;
 mod laws;
-mod level;
-mod levels;
 mod search;
+mod undo_point;
+mod undo_points;
 
 pub use dd_branch_degrees::{add_members_of, members_of};
 pub use descent::Descent;

@@ -13,8 +13,8 @@ use Rattle.dd_branch_bounds.specs.Sides.{AreBounds, IsSide, IsSumOf, KeepsBounds
 use Rattle.dd_branch_bounds.specs.Units.{share_unit}
 use Rattle.dd_branch_bounds.specs.declared.class_shares.ClassShares.{ClassShares}
 use Rattle.dd_branch_bounds.specs.declared.path_shares.PathShares.{PathShares}
-use Rattle.dd_branch_bounds.specs.declared.side.Side.{Side}
-use Rattle.dd_branch_bounds.specs.declared.sides.Sides.{Sides}
+use Rattle.dd_branch_bounds.specs.declared.pair_paths.PairPaths.{PairPaths}
+use Rattle.dd_branch_bounds.specs.declared.table_paths.TablePaths.{TablePaths}
 use Rattle.dd_branch_bounds.proofs.FlatBound.{flat_bound}
 use Rattle.dd_branch_bounds.proofs.SumLemmas.{bounds_of_sum, census_as_kept, sum_as_kept, total_small}
 
@@ -29,14 +29,14 @@ module _ (t : ClassShares) (P : Symbol) (q : Request) (p : Pair) (asked : t.requ
       (bounds_of_sum t P test total sum s (wanted_there s wanted) is)
 
   -- so does the sum that is kept
-  pub total_bounds : (side : Side) → IsSide t P side → IsTotal q P p share_unit side.total
+  pub total_bounds : (side : PairPaths) → IsSide t P side → IsTotal q P p share_unit side.total
   total_bounds side kept s sought =
       subst (λ r. BoundsReciprocals s r side.total) pair
       (bounds_of_sum t P (λ _. true) side.total (sum_as_kept t P side kept (λ _. true)) s (wanted_there s sought.wanted)
       (record { completes = sought.completes; passed = refl }))
 
   -- what the census counts that is kept
-  pub census_counts : (side : Side) → IsSide t P side → (s : Symbol) → IsSought q P s → HasCounted s p side.census
+  pub census_counts : (side : PairPaths) → IsSide t P side → (s : Symbol) → IsSought q P s → HasCounted s p side.census
   census_counts side kept s sought =
       subst (λ r. HasCounted s r side.census) pair
       (census_as_kept t P side kept (λ _. true) s (wanted_there s sought.wanted) (record { completes = sought.completes; passed = refl }))
@@ -49,7 +49,7 @@ none_of_bounds q s size A B wanted is tiles vertices low =
     absurd (omega (arith, bound, low, same))
 
 -- the totals that are kept bound both pairs
-pub bounds_kept : (t : PathShares) (P : Symbol) (sides : Sides) → AreSides t P sides → P.size ≤ 36 → AreBounds t.request P sides.tiles.total sides.vertices.total
+pub bounds_kept : (t : PathShares) (P : Symbol) (sides : TablePaths) → AreSides t P sides → P.size ≤ 36 → AreBounds t.request P sides.tiles.total sides.vertices.total
 bounds_kept t P sides kept small = record {
   tiles_within = total_bounds t.tiles P t.request Tile t.tiles_asked t.tiles_pair sides.tiles kept.tiles;
   vertices_within = total_bounds t.vertices P t.request Vertex t.vertices_asked t.vertices_pair sides.vertices kept.vertices;

@@ -18,7 +18,7 @@ use Rattle.dd_branch_bounds.specs.PathEnd.{PathEnd, weight}
 use Rattle.dd_branch_bounds.specs.Sides.{IsCensusOf, IsSide, IsSumOf, IsJoin, path_end, class_weight, ends_of}
 use Rattle.dd_branch_bounds.specs.declared.census.Census.{Census}
 use Rattle.dd_branch_bounds.specs.declared.class_shares.ClassShares.{ClassShares}
-use Rattle.dd_branch_bounds.specs.declared.side.Side.{Side}
+use Rattle.dd_branch_bounds.specs.declared.pair_paths.PairPaths.{PairPaths}
 use Rattle.dd_branch_bounds.proofs.CountedLemmas.{counted_stays}
 use Rattle.dd_branch_bounds.proofs.CountedSides.{capped_census, closed_census, joined_census}
 use Rattle.dd_branch_bounds.proofs.EndTotals.{bounds_of_ends}
@@ -57,7 +57,7 @@ pub bounds_of_sum : (t : ClassShares) (P : Symbol) (test : Symbol → Bool) (tot
     → (s : Symbol) → Wanted t.request s → Passes P test s → BoundsReciprocals s t.pair total
 bounds_of_sum t P test total sum s wanted is = bounds_of_ends t.request (Passes P test) P.size t.pair sum.ends total (which_pair t) sum.are s is.completes.size (wanted, is)
 
-module _ (t : ClassShares) (P : Symbol) (side : Side) (kept : IsSide t P side) where
+module _ (t : ClassShares) (P : Symbol) (side : PairPaths) (kept : IsSide t P side) where
   -- what holds in all completions holds in those that pass a test
   pub passing : (test : Symbol → Bool) → AreEndsOf t.request P test t.pair (ends_of t side) side.total
   passing test = ends_of_fewer t.request P P (λ _. true) test t.pair (ends_of t side) side.total refl (λ s is. record { completes = is.completes; passed = refl }) kept.ends

@@ -6,25 +6,25 @@ use Rattle.dd_model.specs.Symbol.{Symbol, op}
 use Rattle.dd_branch_bounds.specs.Sides.{IsSide, IsSideOfSome}
 use Rattle.dd_branch_bounds.specs.declared.link.Link.{Link}
 use Rattle.dd_branch_bounds.specs.declared.path_shares.PathShares.{PathShares}
-use Rattle.dd_branch_bounds.specs.declared.side.Side.{Side}
-use Rattle.dd_branch_bounds.specs.declared.sides.Sides.{Sides}
+use Rattle.dd_branch_bounds.specs.declared.pair_paths.PairPaths.{PairPaths}
+use Rattle.dd_branch_bounds.specs.declared.table_paths.TablePaths.{TablePaths}
 
 -- the paths of the tiles and of the vertices of a partial table
-pub record AreSides (classes : PathShares) (partial : Symbol) (sides : Sides) : Type 0 where
+pub record AreSides (classes : PathShares) (partial : Symbol) (sides : TablePaths) : Type 0 where
   pub tiles : IsSide classes.tiles partial sides.tiles
   pub vertices : IsSide classes.vertices partial sides.vertices
 
 -- what a search keeps: the shares that a request allows to paths, and the paths of its table
 pub record Shares : Type 0 where
   pub classes : PathShares
-  pub sides : Sides
+  pub sides : TablePaths
 
 -- the paths that a search keeps are those of a partial table
 abbrev pub AreKept : Symbol → Shares → Type 0
 AreKept partial shares = AreSides shares.classes partial shares.sides
 
 -- the same of some tables that are not too large
-pub record AreSidesOfSome (classes : PathShares) (sides : Sides) : Type 0 where
+pub record AreSidesOfSome (classes : PathShares) (sides : TablePaths) : Type 0 where
   pub tiles : IsSideOfSome classes.tiles sides.tiles
   pub vertices : IsSideOfSome classes.vertices sides.vertices
 
@@ -44,14 +44,14 @@ no_census = record {
 }
 
 -- the sides where there are none
-abbrev pub no_side : Side
+abbrev pub no_side : PairPaths
 no_side = record { ends = []; total = 0; census = no_census }
 
-abbrev pub no_sides : Sides
+abbrev pub no_sides : TablePaths
 no_sides = record { tiles = no_side; vertices = no_side }
 
 -- the shares with other paths
-abbrev pub with_sides : Shares → Sides → Shares
+abbrev pub with_sides : Shares → TablePaths → Shares
 with_sides shares sides = record { classes = shares.classes; sides = sides }
 
 -- an image is that of all of some tables

@@ -18,7 +18,7 @@ use Rattle.dd_branch_bounds.specs.Units.{share_unit}
 use Rattle.dd_branch_bounds.specs.declared.census.Census.{Census}
 use Rattle.dd_branch_bounds.specs.declared.class_shares.ClassShares.{ClassShares}
 use Rattle.dd_branch_bounds.specs.declared.end.End.{End}
-use Rattle.dd_branch_bounds.specs.declared.side.Side.{Side}
+use Rattle.dd_branch_bounds.specs.declared.pair_paths.PairPaths.{PairPaths}
 
 -- an end of a path of a class, with the other one
 abbrev pub path_end : ClassShares → ℕ → ℕ → PathEnd
@@ -34,18 +34,18 @@ end_of t None = path_end t 0 0
 end_of t (Some e) = path_end t e.other e.class.number
 
 -- the ends of all paths
-abbrev pub ends_of : ClassShares → Side → ℕ → PathEnd
+abbrev pub ends_of : ClassShares → PairPaths → ℕ → PathEnd
 ends_of t side x = end_of t (slice_get side.ends x)
 
 -- the ends of the paths of a pair in all completions of a partial table, whose size is that of the shares, the sum of all, and a census of the wanted ones
-pub record IsSide (t : ClassShares) (partial : Symbol) (side : Side) : Type 0 where
+pub record IsSide (t : ClassShares) (partial : Symbol) (side : PairPaths) : Type 0 where
   pub sized : t.size ≡ partial.size
   pub ends : AreEndsOf t.request partial (λ _. true) t.pair (ends_of t side) side.total
   pub others : HaveOthers (ends_of t side)
   pub counted : (s : Symbol) → Wanted t.request s → Completes partial s → AreCounted s t.pair (ends_of t side) side.census
 
 -- the same in all completions of some table that is not too large
-pub record IsSideOfSome (t : ClassShares) (side : Side) : Type 0 where
+pub record IsSideOfSome (t : ClassShares) (side : PairPaths) : Type 0 where
   pub partial : Symbol
   pub small : partial.size ≤ 36
   pub kept : IsSide t partial side

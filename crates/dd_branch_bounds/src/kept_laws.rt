@@ -5,7 +5,7 @@ ghost use Rattle.dd_model.specs.declared.pair.Pair.{Pair};
 ghost use Rattle.dd_model.specs.declared.pair.Pair.TheVariants.{Tile, Vertex};
 ghost use Rattle.dd_model.specs.declared.requests.Request.{Request};
 ghost use Rattle.dd_branch_tables.specs.Rows.{partial_of, depth_of, unwound};
-ghost use Rattle.dd_branch_tables.specs.declared.rows.Rows.{Rows};
+ghost use Rattle.dd_branch_tables.specs.declared.partial_table.PartialTable.{PartialTable};
 ghost use Rattle.dd_branch_bounds.specs.Census.{HasRoom};
 ghost use Rattle.dd_branch_bounds.specs.Counted.{HasCounted};
 ghost use Rattle.dd_branch_bounds.specs.Kept.{Shares, AreKept};
@@ -13,7 +13,7 @@ ghost use Rattle.dd_branch_bounds.specs.declared.census.Census.{Census};
 
 /// The shares of a table are shares of each table that it is filled to.
 pub fn shares_stay_while_a_table_is_filled()
-    ensures { (old new : Rows) (shares : Shares) → new.size ≡ old.size
+    ensures { (old new : PartialTable) (shares : Shares) → new.size ≡ old.size
         → unwound new (depth_of old) ≡ old
         → AreKept (partial_of old) shares → AreKept (partial_of new) shares }
 {}

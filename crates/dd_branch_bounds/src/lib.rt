@@ -16,11 +16,11 @@ mod end;
 mod end_laws;
 mod kept_laws;
 mod link;
+mod pair_paths;
 mod parity;
 mod path_shares;
 mod share_laws;
-mod side;
-mod sides;
+mod table_paths;
 
 pub use degrees::{SHARE_UNIT, least_degree, share_of, share_of_cell};
 pub use end_laws::{
@@ -35,4 +35,4 @@ pub use share_laws::{
     a_cell_has_at_most_two_chambers_for_each_turn, each_cell_adds_at_most_two,
     fixed_flags_halve_a_cell, flat_symbols_have_large_shares, odd_tables_have_fixed_chambers,
 };
-pub use sides::Sides;
+pub use table_paths::TablePaths;

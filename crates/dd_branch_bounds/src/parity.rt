@@ -4,12 +4,12 @@ ghost use Rattle.dd_model.specs.Partial.{Completes};
 ghost use Rattle.dd_model.specs.FirstVisit.{LeastTable};
 ghost use Rattle.dd_branch_tables.specs.Rows.{partial_of, IsReady};
 
-use dd_branch_tables::Rows;
+use dd_branch_tables::PartialTable;
 use dd_model::Index;
 
 /// Returns whether it is sure that no least table completes the table: its size is odd, and s0
 /// moves chamber 1.
-pub fn parity_rules_out(table: &Rows) -> bool
+pub fn parity_rules_out(table: &PartialTable) -> bool
     requires { IsReady table.now }
     ensures { IsTrue result → (s : Tiling) → Completes (partial_of table.now) s → ¬ LeastTable s }
 {

@@ -18,7 +18,7 @@ use Rattle.dd_branch_degrees.specs.Choice.{HasBranching, HasShares, IsChoice}
 use Rattle.dd_branch_degrees.specs.Assignment.{IsAssignment, IsAtRoot, IsMemberUnder, IsTold, degree_at, next_place, prefix_of, shortened, spent_by, told}
 use Rattle.dd_branch_degrees.specs.Entered.{HasBudget, HasEntered, HasForced}
 use Rattle.dd_branch_degrees.specs.declared.assignment.Assignment.{Assignment}
-use Rattle.dd_branch_degrees.specs.declared.places.Place.{Place}
+use Rattle.dd_branch_degrees.specs.declared.places.DegreeSlot.{DegreeSlot}
 use Rattle.dd_branch_degrees.proofs.Assigned.{length-prefix, next_degree, same_of_under, told_degree}
 use Rattle.dd_branch_degrees.proofs.Budgets.{AllAreChosen, flat_if_spent, spent_as_told, spent_at_least, spent_at_most, spent_next, spent_same}
 use Rattle.dd_branch_degrees.proofs.Chosen.{IsSound, all_bounded, constant_at, sound_places, wanted_chosen}
@@ -32,7 +32,7 @@ with_list a xs = record { alloc = a.alloc; request = a.request; table = a.table;
 abbrev pub with_degree : Assignment → ℕ → Assignment
 with_degree a m = with_list a (a.degrees.items ++ m ∷ [])
 
-pub sound_next : (a : Assignment) → IsAssignment a → (j : ℕ) (x : Place) → j < 2 * a.table.size → IsSound j (get_or a.places.items j x)
+pub sound_next : (a : Assignment) → IsAssignment a → (j : ℕ) (x : DegreeSlot) → j < 2 * a.table.size → IsSound j (get_or a.places.items j x)
 sound_next a is = sound_places a.request a.table a.places.items is.table.symbol.table.involutions is.places
 
 below : (k n : ℕ) → k ≤ n → k ≢ n → k < n
@@ -67,7 +67,7 @@ rests_small a is j low =
     (omega (arith, most, few, low), omega (arith, least, few, low))
 
 -- what is told stays told
-pub more_told : (a : Assignment) (m : ℕ) → IsAssignment a → told a < 2 * a.table.size → ((x : Place) → IsTold a.request a.table.size (a.degrees.items ++ m ∷ []) (told a) (get_or a.places.items (told a) x)) → IsAssignment (with_degree a m)
+pub more_told : (a : Assignment) (m : ℕ) → IsAssignment a → told a < 2 * a.table.size → ((x : DegreeSlot) → IsTold a.request a.table.size (a.degrees.items ++ m ∷ []) (told a) (get_or a.places.items (told a) x)) → IsAssignment (with_degree a m)
 more_told a m is room last =
     let ds = a.degrees.items in
     let long : length (ds ++ m ∷ []) ≡ told a + 1 = length_push ds m in
@@ -105,7 +105,7 @@ forced_told a m is room other copied =
     let x' = get_or a.places.items (told a) x in
     let count = is.places.count in
     let same : x' ≡ next_place a = get_or_default a.places.items (told a) x no_place (omega (arith, count, room)) in
-    let root : x'.root ≡ (next_place a).root = ap (λ (p : Place). p.root) same in
+    let root : x'.root ≡ (next_place a).root = ap (λ (p : DegreeSlot). p.root) same in
     let earlier = (sound_next a is (told a) x room).earlier in
     let strict : x'.root < told a = below x'.root (told a) earlier (λ e. other (sym root ∙ e)) in
     record {
@@ -122,8 +122,8 @@ chosen_told a m is room at_root tile vertex =
     let x' = get_or a.places.items (told a) x in
     let count = is.places.count in
     let same : x' ≡ next_place a = get_or_default a.places.items (told a) x no_place (omega (arith, count, room)) in
-    let root : x'.root ≡ told a = ap (λ (p : Place). p.root) same ∙ at_root room in
-    let turns : (next_place a).turns ≡ x'.turns = ap (λ (p : Place). p.turns) (sym same) in
+    let root : x'.root ≡ told a = ap (λ (p : DegreeSlot). p.root) same ∙ at_root room in
+    let turns : (next_place a).turns ≡ x'.turns = ap (λ (p : DegreeSlot). p.turns) (sym same) in
     let here : get_or (ds ++ m ∷ []) (told a) 0 ≡ m = get_or_push ds m 0 (told a) refl in
     record {
       same = ap (λ j. get_or (ds ++ m ∷ []) j 0) (sym root);
@@ -262,7 +262,7 @@ pub least_after : (a : Assignment) → IsAssignment a → told a < 2 * a.table.s
 least_after a is room = let count = is.places.count in is.rests.each_least (told a) no_place (omega (arith, room, count))
 
 -- the degree that a place has with a share
-abbrev pub IsDegreeWith : Place → ℕ → ℕ → Type 0
+abbrev pub IsDegreeWith : DegreeSlot → ℕ → ℕ → Type 0
 IsDegreeWith x e m = (v : ℕ) → IsCrystallographic v → e + 2 * x.sides ≡ x.sides * (12 / v) → m ≡ v * x.turns
 
 -- its part is the share, beyond the least

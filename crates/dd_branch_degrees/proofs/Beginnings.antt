@@ -29,7 +29,7 @@ use Rattle.dd_branch_degrees.specs.Members.{AreMembersWith}
 use Rattle.dd_branch_degrees.specs.Place.{ArePlaces, HasPlaces, IsPlaceOf}
 use Rattle.dd_branch_degrees.specs.Rests.{AreRests}
 use Rattle.dd_branch_degrees.specs.declared.assignment.Assignment.{Assignment}
-use Rattle.dd_branch_degrees.specs.declared.places.Place.{Place}
+use Rattle.dd_branch_degrees.specs.declared.places.DegreeSlot.{DegreeSlot}
 use Rattle.dd_branch_degrees.proofs.Advancing.{sound_next}
 use Rattle.dd_branch_degrees.proofs.Assigned.{length-front, same_of_under}
 use Rattle.dd_branch_degrees.proofs.Chosen.{limits_of_wanted}
@@ -44,7 +44,7 @@ few_turns_of s inv p d c h small shape =
     omega (arith, few, small)
 
 -- the places of the tiles, and then those of the vertices
-pub both_places : (q : Request) (t : Symbol) (none mid new : List Place) → none ≡ [] → HasPlaces t q.faces Tile none t.size mid → HasPlaces t q.degrees Vertex mid t.size new → ArePlaces q t new
+pub both_places : (q : Request) (t : Symbol) (none mid new : List DegreeSlot) → none ≡ [] → HasPlaces t q.faces Tile none t.size mid → HasPlaces t q.degrees Vertex mid t.size new → ArePlaces q t new
 both_places q t none mid new empty tiles vertices =
     let long = tiles.longer in
     let both = vertices.longer in

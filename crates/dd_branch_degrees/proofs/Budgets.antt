@@ -24,13 +24,13 @@ use Rattle.dd_branch_degrees.specs.Budget.{no_place, twelfths, spent}
 use Rattle.dd_branch_degrees.specs.Choice.{IsChoice}
 use Rattle.dd_branch_degrees.specs.Place.{IsPlaceOf, sides_of}
 use Rattle.dd_branch_degrees.specs.Rests.{AreRests}
-use Rattle.dd_branch_degrees.specs.declared.places.Place.{Place}
+use Rattle.dd_branch_degrees.specs.declared.places.DegreeSlot.{DegreeSlot}
 use Rattle.dd_branch_degrees.specs.declared.rests.Rests.{Rests}
 use Rattle.dd_branch_degrees.proofs.Choices.{divides_twelve, part_at_most}
 
 -- ## Sums of parts
 
-pub spent_same : (places : List Place) (f g : ℕ → ℕ) (k : ℕ) → ((j : ℕ) → j < k → f j ≡ g j) → spent places f 0 k ≡ spent places g 0 k
+pub spent_same : (places : List DegreeSlot) (f g : ℕ → ℕ) (k : ℕ) → ((j : ℕ) → j < k → f j ≡ g j) → spent places f 0 k ≡ spent places g 0 k
 spent_same places f g zero same = refl
 spent_same places f g (suc k) same =
     let before = spent_same places f g k (λ j low. same j (omega (arith, low))) in
@@ -38,10 +38,10 @@ spent_same places f g (suc k) same =
     omega (arith, before, here)
 
 -- the part of the next place
-pub spent_next : (places : List Place) (f : ℕ → ℕ) (k : ℕ) → spent places f 0 (suc k) ≡ spent places f 0 k + twelfths (get_or places k no_place) (f k)
+pub spent_next : (places : List DegreeSlot) (f : ℕ → ℕ) (k : ℕ) → spent places f 0 (suc k) ≡ spent places f 0 k + twelfths (get_or places k no_place) (f k)
 spent_next places f k = let e : 0 + k ≡ k = omega arith in ap (λ j. spent places f 0 k + twelfths (get_or places j no_place) (f j)) e
 
-spent_more : (places : List Place) (f : ℕ → ℕ) (a b : ℕ) → spent places f 0 (a + b) ≡ spent places f 0 a + spent places f a b
+spent_more : (places : List DegreeSlot) (f : ℕ → ℕ) (a b : ℕ) → spent places f 0 (a + b) ≡ spent places f 0 a + spent places f a b
 spent_more places f a zero = let e : a + 0 ≡ a = omega arith in let same = ap (spent places f 0) e in omega (arith, same)
 spent_more places f a (suc b) =
     let e : a + suc b ≡ suc (a + b) = omega arith in
@@ -51,7 +51,7 @@ spent_more places f a (suc b) =
     omega (arith, same, before, next)
 
 -- the part of a choice
-pub part_of_choice : (set : Allowed) (x : Place) (m : ℕ) → 1 ≤ x.turns → (c : IsChoice set x.turns m) → twelfths x m ≡ x.sides * (12 / c.value)
+pub part_of_choice : (set : Allowed) (x : DegreeSlot) (m : ℕ) → 1 ≤ x.turns → (c : IsChoice set x.turns m) → twelfths x m ≡ x.sides * (12 / c.value)
 part_of_choice set x m some c =
     let quotient : m / x.turns ≡ c.value = quotient_is c.value x.turns m some (sym c.product) in
     ap (λ v. x.sides * (12 / v)) quotient
@@ -59,7 +59,7 @@ part_of_choice set x m some c =
 -- ## One pair
 
 -- what a place tells, of a symbol with the involutions of the table
-pub shape_at : (t s : Symbol) → HaveSameInvolutions t s → (p : Pair) (set : Allowed) (first d : ℕ) (x : Place) → (place : IsPlaceOf t set p first d x) → IsShapeOf s p d place.shape
+pub shape_at : (t s : Symbol) → HaveSameInvolutions t s → (p : Pair) (set : Allowed) (first d : ℕ) (x : DegreeSlot) → (place : IsPlaceOf t set p first d x) → IsShapeOf s p d place.shape
 shape_at t s same p set first d x place = shape-same t s same p d place.shape place.is_shape
 
 -- the sum over a cell
@@ -74,12 +74,12 @@ sum_of_cell s is p set d m r shape members h of_shape turns at c are =
     by_kind Cycle b cycle = cycle_sum s is p d c.value 12 members h b cycle are (divides_twelve c.value c.crystallographic)
 
 -- the places of a pair, and the degrees that stand there
-pub record AreChosen (t s : Symbol) (p : Pair) (set : Allowed) (first : ℕ) (places : List Place) : Type 0 where
+pub record AreChosen (t s : Symbol) (p : Pair) (set : Allowed) (first : ℕ) (places : List DegreeSlot) : Type 0 where
   pub place : (k j : ℕ) → j ≡ first + k → k < s.size → IsPlaceOf t set p first (k + 1) (get_or places j no_place)
   pub choice : (k j : ℕ) → j ≡ first + k → k < s.size → IsChoice set (get_or places j no_place).turns (degree_at s j)
   pub degree : (k j : ℕ) → j ≡ first + k → k < s.size → degree_at s j ≡ degree s p (k + 1)
 
-partial_sum : (t s : Symbol) → IsSymbol s → HaveSameInvolutions t s → (p : Pair) (set : Allowed) (first : ℕ) (places : List Place) → AreChosen t s p set first places
+partial_sum : (t s : Symbol) → IsSymbol s → HaveSameInvolutions t s → (p : Pair) (set : Allowed) (first : ℕ) (places : List DegreeSlot) → AreChosen t s p set first places
     → (k : ℕ) → k ≤ s.size → IsPartialSum s p 12 k (spent places (degree_at s) first k)
 partial_sum t s is same p set first places all zero low = no_sum s p 12
 partial_sum t s is same p set first places all (suc k) low =
@@ -118,11 +118,11 @@ partial_sum t s is same p set first places all (suc k) low =
 -- ## All degrees
 
 -- the degrees of a symbol at all places
-pub record AllAreChosen (q : Request) (t s : Symbol) (places : List Place) : Type 0 where
+pub record AllAreChosen (q : Request) (t s : Symbol) (places : List DegreeSlot) : Type 0 where
   pub tiles : AreChosen t s Tile q.faces 0 places
   pub vertices : AreChosen t s Vertex q.degrees s.size places
 
-pub flat_if_spent : (q : Request) (t s : Symbol) (places : List Place) → IsSymbol s → HaveSameInvolutions t s → AllAreChosen q t s places
+pub flat_if_spent : (q : Request) (t s : Symbol) (places : List DegreeSlot) → IsSymbol s → HaveSameInvolutions t s → AllAreChosen q t s places
     → (spent places (degree_at s) 0 (2 * t.size) ≡ 6 * t.size) ↔ Flat s
 flat_if_spent q t s places is same all =
     let n = s.size in
@@ -144,23 +144,23 @@ flat_if_spent q t s places is same all =
 -- ## What is left
 
 -- a part that is a share of a place, beyond the least
-pub record HasPart (x : Place) (part : ℕ) : Type 0 where
+pub record HasPart (x : DegreeSlot) (part : ℕ) : Type 0 where
   pub share : ℕ
   pub is : part ≡ share + 2 * x.sides
   pub none : x.sides ≡ 0 → share ≡ 0
   pub allowed : 1 ≤ x.sides → bit_at x.shares share ≡ 1
 
 -- each part is one of its place, and no more than the most
-pub record AreBounded (places : List Place) (f : ℕ → ℕ) : Type 0 where
+pub record AreBounded (places : List DegreeSlot) (f : ℕ → ℕ) : Type 0 where
   pub most : (j : ℕ) → j < length places → twelfths (get_or places j no_place) (f j) ≤ (get_or places j no_place).most
   pub parts : (j : ℕ) → j < length places → HasPart (get_or places j no_place) (twelfths (get_or places j no_place) (f j))
 
-least_part : (x : Place) (part : ℕ) → HasPart x part → 2 * x.sides ≤ part
+least_part : (x : DegreeSlot) (part : ℕ) → HasPart x part → 2 * x.sides ≤ part
 least_part x part has =
     let is = has.is in
     omega (arith, is)
 
-pub spent_at_most : (places : List Place) (rests : Rests) (f : ℕ → ℕ) → AreRests places rests → AreBounded places f → (d k : ℕ) → k + d ≡ length places
+pub spent_at_most : (places : List DegreeSlot) (rests : Rests) (f : ℕ → ℕ) → AreRests places rests → AreBounded places f → (d k : ℕ) → k + d ≡ length places
     → spent places f 0 (length places) ≤ spent places f 0 k + get_or rests.most k 0
 spent_at_most places rests f are bounded zero k end =
     let at : k ≡ length places = omega (arith, end) in
@@ -175,7 +175,7 @@ spent_at_most places rests f are bounded (suc d) k end =
     let next = spent_next places f k in
     omega (arith, rest, each, one, same, next)
 
-pub spent_at_least : (places : List Place) (rests : Rests) (f : ℕ → ℕ) → AreRests places rests → AreBounded places f → (d k : ℕ) → k + d ≡ length places
+pub spent_at_least : (places : List DegreeSlot) (rests : Rests) (f : ℕ → ℕ) → AreRests places rests → AreBounded places f → (d k : ℕ) → k + d ≡ length places
     → spent places f 0 k + get_or rests.least k 0 ≤ spent places f 0 (length places)
 spent_at_least places rests f are bounded zero k end =
     let at : k ≡ length places = omega (arith, end) in
@@ -192,7 +192,7 @@ spent_at_least places rests f are bounded (suc d) k end =
     omega (arith, rest, each, one, same, next)
 
 -- what is spent beyond the least from a place on is one of the bits
-pub spent_as_told : (places : List Place) (rests : Rests) (f : ℕ → ℕ) → AreRests places rests → AreBounded places f → (d k e p : ℕ) → k + d ≡ length places
+pub spent_as_told : (places : List DegreeSlot) (rests : Rests) (f : ℕ → ℕ) → AreRests places rests → AreBounded places f → (d k e p : ℕ) → k + d ≡ length places
     → spent places f 0 k + get_or rests.least k 0 + e ≡ spent places f 0 (length places) → p + e ≡ 63 → bit_at (get_or rests.surplus k 0) p ≡ 1
 spent_as_told places rests f are bounded zero k e p end whole mirror =
     let at : k ≡ length places = omega (arith, end) in

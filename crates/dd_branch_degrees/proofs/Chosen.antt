@@ -31,7 +31,7 @@ use Rattle.dd_branch_degrees.specs.Choice.{IsChoice}
 use Rattle.dd_symbol.specs.declared.kind.Kind.{Kind}
 use Rattle.dd_symbol.specs.declared.kind.Kind.TheVariants.{Cycle, Chain}
 use Rattle.dd_branch_degrees.specs.Place.{ArePlaces, IsPlaceOf, sides_of}
-use Rattle.dd_branch_degrees.specs.declared.places.Place.{Place}
+use Rattle.dd_branch_degrees.specs.declared.places.DegreeSlot.{DegreeSlot}
 use Rattle.dd_branch_degrees.proofs.Budgets.{AreBounded, AreChosen, AllAreChosen, HasPart, part_of_choice, shape_at}
 use Rattle.dd_branch_degrees.proofs.Choices.{share_exists, share_told, value_of}
 
@@ -50,12 +50,12 @@ vertex_at s is k j at =
 
 -- ## Places
 
-pub tile_place : (q : Request) (t : Symbol) (places : List Place) → ArePlaces q t places → (n k j : ℕ) → n ≡ t.size → j ≡ 0 + k → k < n → IsPlaceOf t q.faces Tile 0 (k + 1) (get_or places j no_place)
+pub tile_place : (q : Request) (t : Symbol) (places : List DegreeSlot) → ArePlaces q t places → (n k j : ℕ) → n ≡ t.size → j ≡ 0 + k → k < n → IsPlaceOf t q.faces Tile 0 (k + 1) (get_or places j no_place)
 tile_place q t places are n k j size at low =
     let e : k ≡ j = omega (arith, at) in
     subst (λ i. IsPlaceOf t q.faces Tile 0 (k + 1) (get_or places i no_place)) e (are.tiles k no_place (omega (arith, low, size)))
 
-pub vertex_place : (q : Request) (t : Symbol) (places : List Place) → ArePlaces q t places → (n k j : ℕ) → n ≡ t.size → j ≡ n + k → k < n → IsPlaceOf t q.degrees Vertex n (k + 1) (get_or places j no_place)
+pub vertex_place : (q : Request) (t : Symbol) (places : List DegreeSlot) → ArePlaces q t places → (n k j : ℕ) → n ≡ t.size → j ≡ n + k → k < n → IsPlaceOf t q.degrees Vertex n (k + 1) (get_or places j no_place)
 vertex_place q t places are n k j size at low =
     let e : t.size + k ≡ j = omega (arith, at, size) in
     subst (λ m. IsPlaceOf t q.degrees Vertex m (k + 1) (get_or places j no_place)) (sym size)
@@ -64,7 +64,7 @@ vertex_place q t places are n k j size at low =
 -- ## Members
 
 -- the degree of a symbol is a choice, where it is in the set and its branching value is one of flat symbols
-choice_at : (t s : Symbol) (set : Allowed) (p : Pair) (first d m : ℕ) (x : Place) → IsSymbol s → HaveSameInvolutions t s → IsPlaceOf t set p first d x → IsChamber s d → m ≡ degree s p d
+choice_at : (t s : Symbol) (set : Allowed) (p : Pair) (first d m : ℕ) (x : DegreeSlot) → IsSymbol s → HaveSameInvolutions t s → IsPlaceOf t set p first d x → IsChamber s d → m ≡ degree s p d
     → IsIn set (degree s p d) → ((v : ℕ) → IsBranching s p d v → IsCrystallographic v) → IsChoice set x.turns m
 choice_at t s set p first d m x is same place h at allowed crystallographic =
     let b = branching_exists s is p d h in
@@ -81,7 +81,7 @@ chamber_after : (s : Symbol) (k : ℕ) → k < s.size → IsChamber s (k + 1)
 chamber_after s k low = (omega arith, omega (arith, low))
 
 -- the degrees of what is wanted
-pub wanted_chosen : (q : Request) (t s : Symbol) (places : List Place) → ArePlaces q t places → Wanted q s → HaveSameInvolutions t s → AllAreChosen q t s places
+pub wanted_chosen : (q : Request) (t s : Symbol) (places : List DegreeSlot) → ArePlaces q t places → Wanted q s → HaveSameInvolutions t s → AllAreChosen q t s places
 wanted_chosen q t s places are wanted same =
     let is = wanted.symbol in
     let size = same.size in
@@ -102,7 +102,7 @@ wanted_chosen q t s places are wanted same =
 
 -- ## Bounds
 
-bounded_at : (t s : Symbol) → HaveSameInvolutions t s → (p : Pair) (set : Allowed) (first : ℕ) (places : List Place) → AreChosen t s p set first places → (k j : ℕ) → j ≡ first + k → k < s.size
+bounded_at : (t s : Symbol) → HaveSameInvolutions t s → (p : Pair) (set : Allowed) (first : ℕ) (places : List DegreeSlot) → AreChosen t s p set first places → (k j : ℕ) → j ≡ first + k → k < s.size
     → (twelfths (get_or places j no_place) (degree_at s j) ≤ (get_or places j no_place).most) × HasPart (get_or places j no_place) (twelfths (get_or places j no_place) (degree_at s j))
 bounded_at t s same p set first places all k j at low =
     let x = get_or places j no_place in
@@ -123,7 +123,7 @@ bounded_at t s same p set first places all k j at low =
     )
 
 -- all parts are within the bounds of their places
-pub all_bounded : (q : Request) (t s : Symbol) (places : List Place) → ArePlaces q t places → HaveSameInvolutions t s → AllAreChosen q t s places → AreBounded places (degree_at s)
+pub all_bounded : (q : Request) (t s : Symbol) (places : List DegreeSlot) → ArePlaces q t places → HaveSameInvolutions t s → AllAreChosen q t s places → AreBounded places (degree_at s)
 all_bounded q t s places are same all = record {
   most = λ j low. (both j low).0;
   parts = λ j low. (both j low).1;
@@ -142,18 +142,18 @@ all_bounded q t s places are same all = record {
 -- ## From choices to a symbol
 
 -- the places of a pair
-abbrev pub ArePlacesOf : Symbol → Allowed → Pair → ℕ → ℕ → List Place → Type 0
+abbrev pub ArePlacesOf : Symbol → Allowed → Pair → ℕ → ℕ → List DegreeSlot → Type 0
 ArePlacesOf t set p first n places = (k j : ℕ) → j ≡ first + k → k < n → IsPlaceOf t set p first (k + 1) (get_or places j no_place)
 
 -- the least chamber of the cell has its own place
-record HasRoot (first n : ℕ) (places : List Place) (x : Place) : Type 0 where
+record HasRoot (first n : ℕ) (places : List DegreeSlot) (x : DegreeSlot) : Type 0 where
   k : ℕ
   at : x.root ≡ first + k
   inside : k < n
   own : (get_or places x.root no_place).root ≡ first + k
   turns : (get_or places x.root no_place).turns ≡ x.turns
 
-root_place : (t : Symbol) → AreInvolutions t → (p : Pair) (set : Allowed) (first : ℕ) (places : List Place) → ArePlacesOf t set p first t.size places → (k j : ℕ) → j ≡ first + k → k < t.size → HasRoot first t.size places (get_or places j no_place)
+root_place : (t : Symbol) → AreInvolutions t → (p : Pair) (set : Allowed) (first : ℕ) (places : List DegreeSlot) → ArePlacesOf t set p first t.size places → (k j : ℕ) → j ≡ first + k → k < t.size → HasRoot first t.size places (get_or places j no_place)
 root_place t inv p set first places are k j at low =
     let x = get_or places j no_place in
     let place = are k j at low in
@@ -177,12 +177,12 @@ root_place t inv p set first places are k j at low =
     }
 
 -- What is told of degrees f: each is that of the least chamber of its cell, and there it is a choice.
-pub record AreToldOf (set : Allowed) (first n : ℕ) (places : List Place) (f : ℕ → ℕ) : Type 0 where
+pub record AreToldOf (set : Allowed) (first n : ℕ) (places : List DegreeSlot) (f : ℕ → ℕ) : Type 0 where
   pub same : (k j : ℕ) → j ≡ first + k → k < n → f j ≡ f (get_or places j no_place).root
   pub choice : (k j : ℕ) → j ≡ first + k → k < n → (get_or places j no_place).root ≡ j → IsChoice set (get_or places j no_place).turns (f j)
 
 -- then each is a choice
-pub choice_everywhere : (t : Symbol) → AreInvolutions t → (p : Pair) (set : Allowed) (first : ℕ) (places : List Place) (f : ℕ → ℕ) → ArePlacesOf t set p first t.size places
+pub choice_everywhere : (t : Symbol) → AreInvolutions t → (p : Pair) (set : Allowed) (first : ℕ) (places : List DegreeSlot) (f : ℕ → ℕ) → ArePlacesOf t set p first t.size places
     → AreToldOf set first t.size places f → (k j : ℕ) → j ≡ first + k → k < t.size → IsChoice set (get_or places j no_place).turns (f j)
 choice_everywhere t inv p set first places f are told k j at low =
     let x = get_or places j no_place in
@@ -197,7 +197,7 @@ record HasChoice (s : Symbol) (p : Pair) (set : Allowed) (d : ℕ) : Type 0 wher
   choice : IsChoice set r (degree s p d)
   constant : HasDegreeOfCell s p d
 
-has_choice : (t s : Symbol) → AreInvolutions s → HaveSameInvolutions t s → (p : Pair) (set : Allowed) (first : ℕ) (places : List Place) → AreChosen t s p set first places → AreToldOf set first s.size places (degree_at s)
+has_choice : (t s : Symbol) → AreInvolutions s → HaveSameInvolutions t s → (p : Pair) (set : Allowed) (first : ℕ) (places : List DegreeSlot) → AreChosen t s p set first places → AreToldOf set first s.size places (degree_at s)
     → (d : ℕ) → IsChamber s d → HasChoice s p set d
 has_choice t s inv same p set first places all told d h =
     let low = h.0 in
@@ -252,17 +252,17 @@ connected_again t s bare same = record {
 }
 
 -- the degrees of a symbol that is not yet known to be one
-pub record AreDegrees (q : Request) (t s : Symbol) (places : List Place) : Type 0 where
+pub record AreDegrees (q : Request) (t s : Symbol) (places : List DegreeSlot) : Type 0 where
   pub lengths : HaveLengths s
   pub same : HaveSameInvolutions t s
   pub chosen : AllAreChosen q t s places
   pub tiles : AreToldOf q.faces 0 s.size places (degree_at s)
   pub vertices : AreToldOf q.degrees s.size s.size places (degree_at s)
 
-tile_choice : (q : Request) (t s : Symbol) (places : List Place) → IsBareTable t → AreDegrees q t s places → (d : ℕ) → IsChamber s d → HasChoice s Tile q.faces d
+tile_choice : (q : Request) (t s : Symbol) (places : List DegreeSlot) → IsBareTable t → AreDegrees q t s places → (d : ℕ) → IsChamber s d → HasChoice s Tile q.faces d
 tile_choice q t s places bare are = has_choice t s (involutions-same t s are.same bare.symbol.table.involutions) are.same Tile q.faces 0 places are.chosen.tiles are.tiles
 
-vertex_choice : (q : Request) (t s : Symbol) (places : List Place) → IsBareTable t → AreDegrees q t s places → (d : ℕ) → IsChamber s d → HasChoice s Vertex q.degrees d
+vertex_choice : (q : Request) (t s : Symbol) (places : List DegreeSlot) → IsBareTable t → AreDegrees q t s places → (d : ℕ) → IsChamber s d → HasChoice s Vertex q.degrees d
 vertex_choice q t s places bare are = has_choice t s (involutions-same t s are.same bare.symbol.table.involutions) are.same Vertex q.degrees s.size places are.chosen.vertices are.vertices
 
 small_value : (s : Symbol) (p : Pair) (set : Allowed) (d v : ℕ) → HasChoice s p set d → IsBranching s p d v → v ≤ 30
@@ -271,7 +271,7 @@ small_value s p set d v has b =
     let high = (value_of has.choice.value has.choice.crystallographic).high in
     omega (arith, e, high)
 
-pub small_of_degrees : (q : Request) (t s : Symbol) (places : List Place) → IsBareTable t → AreDegrees q t s places → IsSmallSymbol s
+pub small_of_degrees : (q : Request) (t s : Symbol) (places : List DegreeSlot) → IsBareTable t → AreDegrees q t s places → IsSmallSymbol s
 small_of_degrees q t s places bare are =
     let size = are.same.size in
     let few = bare.small in
@@ -293,7 +293,7 @@ limits_of_wanted q t s same wanted = record {
 }
 
 -- Flat, and minimal where that is asked for: then it is wanted.
-pub wanted_of_degrees : (q : Request) (t s : Symbol) (places : List Place) → IsBareTable t → HasLimits q t → AreDegrees q t s places → Flat s → (IsTrue q.minimal → Minimal s) → Wanted q s
+pub wanted_of_degrees : (q : Request) (t s : Symbol) (places : List DegreeSlot) → IsBareTable t → HasLimits q t → AreDegrees q t s places → Flat s → (IsTrue q.minimal → Minimal s) → Wanted q s
 wanted_of_degrees q t s places bare limits are flat minimal =
     let size = are.same.size in
     let tile = tile_choice q t s places bare are in
@@ -315,7 +315,7 @@ wanted_of_degrees q t s places bare limits are flat minimal =
 -- ## Cells
 
 -- a symbol has the degree of the least chamber at each place of the cell
-pub constant_at : (t s : Symbol) → IsSymbol s → HaveSameInvolutions t s → (p : Pair) (set : Allowed) (first : ℕ) (places : List Place) → AreChosen t s p set first places → (k j : ℕ) → j ≡ first + k → k < s.size
+pub constant_at : (t s : Symbol) → IsSymbol s → HaveSameInvolutions t s → (p : Pair) (set : Allowed) (first : ℕ) (places : List DegreeSlot) → AreChosen t s p set first places → (k j : ℕ) → j ≡ first + k → k < s.size
     → degree_at s j ≡ degree_at s (get_or places j no_place).root
 constant_at t s is same p set first places all k j at low =
     let place = all.place k j at low in
@@ -330,7 +330,7 @@ constant_at t s is same p set first places all k j at low =
     all.degree k j at low ∙ sym along ∙ sym (ap (degree s p) back) ∙ sym (all.degree (l - 1) (get_or places j no_place).root there (omega (arith, pos, high)))
 
 -- what a place says by itself
-pub record IsSound (j : ℕ) (x : Place) : Type 0 where
+pub record IsSound (j : ℕ) (x : DegreeSlot) : Type 0 where
   pub earlier : x.root ≤ j
   pub some : 1 ≤ x.turns
   pub few : x.turns ≤ 36
@@ -343,7 +343,7 @@ some_sides : (kind : Kind) → 1 ≤ sides_of kind
 some_sides Cycle = omega arith
 some_sides Chain = omega arith
 
-sound_place : (t : Symbol) → AreInvolutions t → (p : Pair) (set : Allowed) (first k j : ℕ) (x : Place) → j ≡ first + k → IsPlaceOf t set p first (k + 1) x → k < t.size → IsSound j x
+sound_place : (t : Symbol) → AreInvolutions t → (p : Pair) (set : Allowed) (first k j : ℕ) (x : DegreeSlot) → j ≡ first + k → IsPlaceOf t set p first (k + 1) x → k < t.size → IsSound j x
 sound_place t inv p set first k j x at place low =
     let l = place.shape.least in
     let least = place.is_shape.least in
@@ -362,7 +362,7 @@ sound_place t inv p set first k j x at place low =
       leads = λ own. ⊎_elim (λ here. let is = here.1 in let some = some_sides place.shape.kind in omega (arith, is, some)) (λ none. absurd (none.0 (omega (arith, own, root, at)))) place.sides;
     }
 
-pub sound_places : (q : Request) (t : Symbol) (places : List Place) → AreInvolutions t → ArePlaces q t places → (j : ℕ) (x : Place) → j < 2 * t.size → IsSound j (get_or places j x)
+pub sound_places : (q : Request) (t : Symbol) (places : List DegreeSlot) → AreInvolutions t → ArePlaces q t places → (j : ℕ) (x : DegreeSlot) → j < 2 * t.size → IsSound j (get_or places j x)
 sound_places q t places inv are j x low =
     ⊎_elim
     (λ early. sound_place t inv Tile q.faces 0 j j (get_or places j x) (omega arith) (are.tiles j x early) early)

@@ -15,14 +15,14 @@ use Rattle.dd_symbol.specs.declared.kind.Kind.TheVariants.{Cycle, Chain}
 use Rattle.dd_cells.proofs.CountLemmas.{IsCount, none_more, one_more, whole_count}
 use Rattle.dd_branch_degrees.specs.Budget.{cells_to, no_place}
 use Rattle.dd_branch_degrees.specs.Place.{ArePlaces, IsPlaceOf, sides_of}
-use Rattle.dd_branch_degrees.specs.declared.places.Place.{Place}
+use Rattle.dd_branch_degrees.specs.declared.places.DegreeSlot.{DegreeSlot}
 
 has_one : (kind : Kind) → min (sides_of kind) 1 ≡ 1
 has_one Cycle = refl
 has_one Chain = refl
 
 -- one place after another
-counted : (t : Symbol) → AreInvolutions t → (p : Pair) (set : Allowed) (first : ℕ) (places : List Place) → ((k : ℕ) → k < t.size → IsPlaceOf t set p first (k + 1) (get_or places k no_place))
+counted : (t : Symbol) → AreInvolutions t → (p : Pair) (set : Allowed) (first : ℕ) (places : List DegreeSlot) → ((k : ℕ) → k < t.size → IsPlaceOf t set p first (k + 1) (get_or places k no_place))
     → (k : ℕ) → k ≤ t.size → IsCount t p k (cells_to places k)
 counted t inv p set first places are zero low = record { chambers = []; cells = cells_below-start t p; number = refl; small = omega arith }
 counted t inv p set first places are (suc k) low =
@@ -59,7 +59,7 @@ within t inv p cells limit count = (
 )
 
 -- the places of a table tell whether it has no more tiles, and no more vertices
-pub tiles_within : (q : Request) (t : Symbol) (places xs : List Place) (n limit : ℕ) (yes' : Bool) → AreInvolutions t → ArePlaces q t places → n ≡ t.size → xs ≡ take n places
+pub tiles_within : (q : Request) (t : Symbol) (places xs : List DegreeSlot) (n limit : ℕ) (yes' : Bool) → AreInvolutions t → ArePlaces q t places → n ≡ t.size → xs ≡ take n places
     → (IsTrue yes' ↔ ((limit ≡ 0) ⊎ (cells_to xs (length xs) ≤ limit))) → IsTrue yes' ↔ AtMost t Tile limit
 tiles_within q t places xs n limit yes' inv are size front told =
     let count = are.count in
@@ -72,7 +72,7 @@ tiles_within q t places xs n limit yes' inv are size front told =
       (λ most. told.1 (is_within.1 most)),
     )
 
-pub vertices_within : (q : Request) (t : Symbol) (places xs : List Place) (n limit : ℕ) (yes' : Bool) → AreInvolutions t → ArePlaces q t places → n ≡ t.size → xs ≡ drop n places
+pub vertices_within : (q : Request) (t : Symbol) (places xs : List DegreeSlot) (n limit : ℕ) (yes' : Bool) → AreInvolutions t → ArePlaces q t places → n ≡ t.size → xs ≡ drop n places
     → (IsTrue yes' ↔ ((limit ≡ 0) ⊎ (cells_to xs (length xs) ≤ limit))) → IsTrue yes' ↔ AtMost t Vertex limit
 vertices_within q t places xs n limit yes' inv are size back told =
     let count = are.count in

@@ -10,20 +10,20 @@ use Rattle.dd_model.proofs.Words.{act_within}
 use Rattle.dd_cells.specs.Cells.{IsSmallerInCell}
 use Rattle.dd_cells.proofs.ShapesInCell.{shape_beside}
 use Rattle.dd_branch_degrees.specs.Place.{AreBounds, HasPlaceOf, HasPlaces, IsPlaceOf}
-use Rattle.dd_branch_degrees.specs.declared.places.Place.{Place}
+use Rattle.dd_branch_degrees.specs.declared.places.DegreeSlot.{DegreeSlot}
 
 -- a smaller chamber of a cell is a chamber
 pub smaller_chamber : (t : Symbol) → AreInvolutions t → (p : Pair) (d e : ℕ) → IsChamber t d → IsSmallerInCell t p d e → IsChamber t e
 smaller_chamber t inv p d e h is = subst (IsChamber t) is.in_cell.leads (act_within t inv is.in_cell.word d h)
 
-bounds_beside : (set : Allowed) (y : Place) → y.sides ≡ 0 → y.most ≡ 0 → AreBounds set y
+bounds_beside : (set : Allowed) (y : DegreeSlot) → y.sides ≡ 0 → y.most ≡ 0 → AreBounds set y
 bounds_beside set y none most = record {
   most = λ m choice. subst (λ n. n * (12 / choice.value) ≤ y.most) (sym none) (omega arith);
   sides = omega arith;
   most_small = omega arith;
 }
 
-pub place_beside : (t : Symbol) → AreInvolutions t → (set : Allowed) (p : Pair) (first d e : ℕ) (x y : Place) → IsChamber t d → IsSmallerInCell t p d e → IsPlaceOf t set p first e x
+pub place_beside : (t : Symbol) → AreInvolutions t → (set : Allowed) (p : Pair) (first d e : ℕ) (x y : DegreeSlot) → IsChamber t d → IsSmallerInCell t p d e → IsPlaceOf t set p first e x
     → y.root ≡ x.root → y.turns ≡ x.turns → y.sides ≡ 0 → y.most ≡ 0 → IsPlaceOf t set p first d y
 place_beside t inv set p first d e x y h is place root turns none most =
     let near = smaller_chamber t inv p d e h is in
@@ -42,8 +42,8 @@ place_beside t inv set p first d e x y h is place root turns none most =
     }
 
 -- what is told at a smaller chamber, where those of all smaller ones stand from a place on
-pub told_before : (t : Symbol) (set : Allowed) (p : Pair) (first d e : ℕ) (places : List Place) (x : Place) → 1 ≤ e → e < d
-    → ((k : ℕ) (y : Place) → k + 1 < d → IsPlaceOf t set p first (k + 1) (slice_index_or places (first + k) y)) → IsPlaceOf t set p first e (slice_index_or places (first + e - 1) x)
+pub told_before : (t : Symbol) (set : Allowed) (p : Pair) (first d e : ℕ) (places : List DegreeSlot) (x : DegreeSlot) → 1 ≤ e → e < d
+    → ((k : ℕ) (y : DegreeSlot) → k + 1 < d → IsPlaceOf t set p first (k + 1) (slice_index_or places (first + k) y)) → IsPlaceOf t set p first e (slice_index_or places (first + e - 1) x)
 told_before t set p first d e places x low high all =
     let back : e - 1 + 1 ≡ e = omega arith in
     let at : first + (e - 1) ≡ first + e - 1 = omega arith in
@@ -51,7 +51,7 @@ told_before t set p first d e places x low high all =
     (subst (λ n. IsPlaceOf t set p first (e - 1 + 1) (slice_index_or places n x)) at (all (e - 1) x (omega arith)))
 
 -- one place more
-pub placed_more : (t : Symbol) (set : Allowed) (p : Pair) (old : List Place) (m : ℕ) (now new : List Place) → HasPlaces t set p old m now → HasPlaceOf t set p (length old) (m + 1) now new → HasPlaces t set p old (m + 1) new
+pub placed_more : (t : Symbol) (set : Allowed) (p : Pair) (old : List DegreeSlot) (m : ℕ) (now new : List DegreeSlot) → HasPlaces t set p old m now → HasPlaceOf t set p (length old) (m + 1) now new → HasPlaces t set p old (m + 1) new
 placed_more t set p old m now new has more =
     let y = more.place in
     let long : length new ≡ length now + 1 = ap length more.added ∙ length_push now y in

@@ -4,20 +4,20 @@ use Rattle.std.proofs.lemmas.Bool.{cases_lt}
 use Rattle.std.proofs.lemmas.List.{get_or-set_same, get_or-set_other, get_or_default, get_or-replicate}
 use Rattle.std.specs.Int.{bit_at}
 use Rattle.dd_branch_degrees.specs.Rests.{HasSurplusWith}
-use Rattle.dd_branch_degrees.specs.declared.places.Place.{Place}
+use Rattle.dd_branch_degrees.specs.declared.places.DegreeSlot.{DegreeSlot}
 
 pub none_yet : (n : ℕ) → n ≤ 72 → get_or {A = ℕ} (replicate 73 0) n 0 ≡ 0
 none_yet n few = get_or-replicate {A = ℕ} 73 n 0 0 (omega (arith, few))
 
 -- each place from k on adds its share
-abbrev pub AddFrom : (Place → ℕ) → List Place → List ℕ → ℕ → Type 0
-AddFrom f places sums k = (j : ℕ) (x : Place) → k ≤ j → j < length places → get_or sums j 0 ≡ get_or sums (j + 1) 0 + f (get_or places j x)
+abbrev pub AddFrom : (DegreeSlot → ℕ) → List DegreeSlot → List ℕ → ℕ → Type 0
+AddFrom f places sums k = (j : ℕ) (x : DegreeSlot) → k ≤ j → j < length places → get_or sums j 0 ≡ get_or sums (j + 1) 0 + f (get_or places j x)
 
 -- the sums with one more place in front
 abbrev pub with_place : List ℕ → ℕ → ℕ → List ℕ
 with_place sums k y = set sums (k - 1) (get_or sums (k - 1 + 1) 0 + y)
 
-pub one_more : (f : Place → ℕ) (places : List Place) (d : Place) (sums : List ℕ) (k y : ℕ) → y ≡ f (get_or places (k - 1) d) → 0 < k → k ≤ length places → length places < length sums
+pub one_more : (f : DegreeSlot → ℕ) (places : List DegreeSlot) (d : DegreeSlot) (sums : List ℕ) (k y : ℕ) → y ≡ f (get_or places (k - 1) d) → 0 < k → k ≤ length places → length places < length sums
     → AddFrom f places sums k → AddFrom f places (with_place sums k y) (k - 1)
 one_more f places d sums k y is some inside room before j x low high =
     let sum = get_or sums (k - 1 + 1) 0 + y in
@@ -35,13 +35,13 @@ one_more f places d sums k y is some inside room before j x low high =
     omega (arith, here, next, old))
     (cases_lt j k)
 
-pub end_kept : (f : Place → ℕ) (places : List Place) (d : Place) (sums : List ℕ) (k y : ℕ) → y ≡ f (get_or places (k - 1) d) → 0 < k → k ≤ length places → get_or sums (length places) 0 ≡ 0
+pub end_kept : (f : DegreeSlot → ℕ) (places : List DegreeSlot) (d : DegreeSlot) (sums : List ℕ) (k y : ℕ) → y ≡ f (get_or places (k - 1) d) → 0 < k → k ≤ length places → get_or sums (length places) 0 ≡ 0
     → get_or (with_place sums k y) (length places) 0 ≡ 0
 end_kept f places d sums k y is some inside before =
     get_or-set_other sums (k - 1) (length places) (get_or sums (k - 1 + 1) 0 + y) 0 (λ e. omega (arith, e, some, inside)) ∙ before
 
-pub still_small : (f : Place → ℕ) (places : List Place) (d : Place) (sums : List ℕ) (k y : ℕ) → y ≡ f (get_or places (k - 1) d) → 0 < k → k ≤ length places → length places < length sums
-    → ((j : ℕ) (x : Place) → j < length places → f (get_or places j x) ≤ 24) → get_or sums k 0 ≤ (length places - k) * 24
+pub still_small : (f : DegreeSlot → ℕ) (places : List DegreeSlot) (d : DegreeSlot) (sums : List ℕ) (k y : ℕ) → y ≡ f (get_or places (k - 1) d) → 0 < k → k ≤ length places → length places < length sums
+    → ((j : ℕ) (x : DegreeSlot) → j < length places → f (get_or places j x) ≤ 24) → get_or sums k 0 ≤ (length places - k) * 24
     → get_or (with_place sums k y) (k - 1) 0 ≤ (length places - (k - 1)) * 24
 still_small f places d sums k y is some inside room each before =
     let sum = get_or sums (k - 1 + 1) 0 + y in
@@ -53,13 +53,13 @@ still_small f places d sums k y is some inside room each before =
 
 -- ## What there may be beyond the least
 
-pub still_none : (places : List Place) (bits : List ℕ) (k y : ℕ) → 0 < k → k ≤ length places → bit_at (get_or bits (length places) 0) 63 ≡ 1 → bit_at (get_or (set bits (k - 1) y) (length places) 0) 63 ≡ 1
+pub still_none : (places : List DegreeSlot) (bits : List ℕ) (k y : ℕ) → 0 < k → k ≤ length places → bit_at (get_or bits (length places) 0) 63 ≡ 1 → bit_at (get_or (set bits (k - 1) y) (length places) 0) 63 ≡ 1
 still_none places bits k y some inside before = ap (λ n. bit_at n 63) (get_or-set_other bits (k - 1) (length places) y 0 (λ e. omega (arith, e, some, inside))) ∙ before
 
 -- the bits with those of one more place in front
-pub surplus_more : (places : List Place) (d : Place) (bits : List ℕ) (k y : ℕ) → 0 < k → k ≤ length places → length places < length bits → HasSurplusWith (get_or places (k - 1) d) (get_or bits (k - 1 + 1) 0) y
-    → ((j : ℕ) (x : Place) → k ≤ j → j < length places → HasSurplusWith (get_or places j x) (get_or bits (j + 1) 0) (get_or bits j 0))
-    → (j : ℕ) (x : Place) → k - 1 ≤ j → j < length places → HasSurplusWith (get_or places j x) (get_or (set bits (k - 1) y) (j + 1) 0) (get_or (set bits (k - 1) y) j 0)
+pub surplus_more : (places : List DegreeSlot) (d : DegreeSlot) (bits : List ℕ) (k y : ℕ) → 0 < k → k ≤ length places → length places < length bits → HasSurplusWith (get_or places (k - 1) d) (get_or bits (k - 1 + 1) 0) y
+    → ((j : ℕ) (x : DegreeSlot) → k ≤ j → j < length places → HasSurplusWith (get_or places j x) (get_or bits (j + 1) 0) (get_or bits j 0))
+    → (j : ℕ) (x : DegreeSlot) → k - 1 ≤ j → j < length places → HasSurplusWith (get_or places j x) (get_or (set bits (k - 1) y) (j + 1) 0) (get_or (set bits (k - 1) y) j 0)
 surplus_more places d bits k y some inside room here before j x low high =
     let next : get_or (set bits (k - 1) y) (j + 1) 0 ≡ get_or bits (j + 1) 0 = get_or-set_other bits (k - 1) (j + 1) y 0 (λ e. omega (arith, e, low)) in
     ⊎_elim

@@ -14,7 +14,7 @@ use Rattle.dd_branch_degrees.specs.Choice.{IsChoice}
 use Rattle.dd_branch_degrees.specs.Automorphism.{AreAutomorphisms}
 use Rattle.dd_branch_degrees.specs.Place.{ArePlaces}
 use Rattle.dd_branch_degrees.specs.Rests.{AreRests}
-use Rattle.dd_branch_degrees.specs.declared.places.Place.{Place}
+use Rattle.dd_branch_degrees.specs.declared.places.DegreeSlot.{DegreeSlot}
 use Rattle.dd_branch_degrees.specs.declared.assignment.Assignment.{Assignment}
 
 -- the degree at a place, those of the tiles coming first
@@ -51,7 +51,7 @@ abbrev pub spent_by : Assignment → ℕ
 spent_by a = spent a.places.items (λ j. slice_index a.degrees.items j) 0 (told a)
 
 -- the place of the next degree
-abbrev pub next_place : Assignment → Place
+abbrev pub next_place : Assignment → DegreeSlot
 next_place a = slice_index_or a.places.items (told a) no_place
 
 -- a table of which no symbol has more chambers or classes than are asked for
@@ -61,7 +61,7 @@ pub record HasLimits (q : Request) (t : Symbol) : Type 0 where
   pub vertices : AtMost t Vertex q.vertices
 
 -- The degree at a place is that of the least chamber of the cell, and there it is a choice.
-pub record IsTold (q : Request) (n : ℕ) (degrees : List ℕ) (j : ℕ) (x : Place) : Type 0 where
+pub record IsTold (q : Request) (n : ℕ) (degrees : List ℕ) (j : ℕ) (x : DegreeSlot) : Type 0 where
   pub same : slice_index degrees j ≡ slice_index degrees x.root
   pub tile : x.root ≡ j → j < n → IsChoice q.faces x.turns (slice_index degrees j)
   pub vertex : x.root ≡ j → n ≤ j → IsChoice q.degrees x.turns (slice_index degrees j)
@@ -75,7 +75,7 @@ pub record IsAssignment (a : Assignment) : Type 0 where
   pub places : ArePlaces a.request a.table a.places.items
   pub rests : AreRests a.places.items a.rests
   pub short : told a ≤ 2 * a.table.size
-  pub each : (j : ℕ) (x : Place) → j < told a → IsTold a.request a.table.size a.degrees.items j (slice_index_or a.places.items j x)
+  pub each : (j : ℕ) (x : DegreeSlot) → j < told a → IsTold a.request a.table.size a.degrees.items j (slice_index_or a.places.items j x)
 
 -- A list that is longer than it was when the table came ends with a symbol that has the table's involutions.
 abbrev pub HasLast : Assignment → List Symbol → Type 0

@@ -10,7 +10,7 @@ use Rattle.dd_symbol.specs.declared.kind.Kind.{Kind}
 use Rattle.dd_symbol.specs.declared.kind.Kind.TheVariants.{Cycle, Chain}
 use Rattle.dd_symbol.specs.declared.shapes.CellShape.{CellShape}
 use Rattle.dd_branch_degrees.specs.Choice.{HasShares, IsChoice}
-use Rattle.dd_branch_degrees.specs.declared.places.Place.{Place}
+use Rattle.dd_branch_degrees.specs.declared.places.DegreeSlot.{DegreeSlot}
 
 -- how many chambers a cell has for each turn
 abbrev pub sides_of : Kind → ℕ
@@ -22,13 +22,13 @@ abbrev pub HasSides : CellShape → ℕ → ℕ → Type 0
 HasSides shape d sides = ((shape.least ≡ d) × (sides ≡ sides_of shape.kind)) ⊎ ((shape.least ≢ d) × (sides ≡ 0))
 
 -- bounds of the parts of all degrees that may stand at a place
-pub record AreBounds (set : Allowed) (x : Place) : Type 0 where
+pub record AreBounds (set : Allowed) (x : DegreeSlot) : Type 0 where
   pub most : (m : ℕ) (c : IsChoice set x.turns m) → x.sides * (12 / c.value) ≤ x.most
   pub sides : x.sides ≤ 2
   pub most_small : x.most ≤ x.sides * 12
 
 -- What is said of the degree of a pair at a chamber d. Chamber 1 has the place that is handed in.
-pub record IsPlaceOf (t : Symbol) (set : Allowed) (p : Pair) (first d : ℕ) (x : Place) : Type 0 where
+pub record IsPlaceOf (t : Symbol) (set : Allowed) (p : Pair) (first d : ℕ) (x : DegreeSlot) : Type 0 where
   pub shape : CellShape
   pub is_shape : IsShapeOf t p d shape
   pub root : x.root + 1 ≡ first + shape.least
@@ -39,28 +39,28 @@ pub record IsPlaceOf (t : Symbol) (set : Allowed) (p : Pair) (first d : ℕ) (x 
   pub bounds : AreBounds set x
 
 -- The place of a chamber was added to a list.
-pub record HasPlaceOf (t : Symbol) (set : Allowed) (p : Pair) (first d : ℕ) (old new : List Place) : Type 0 where
-  pub place : Place
+pub record HasPlaceOf (t : Symbol) (set : Allowed) (p : Pair) (first d : ℕ) (old new : List DegreeSlot) : Type 0 where
+  pub place : DegreeSlot
   pub added : new ≡ old ++ place ∷ []
   pub is : IsPlaceOf t set p first d place
 
 -- A pair's places were added to a list, those of the first m chambers.
-pub record HasPlaces (t : Symbol) (set : Allowed) (p : Pair) (old : List Place) (m : ℕ) (new : List Place) : Type 0 where
+pub record HasPlaces (t : Symbol) (set : Allowed) (p : Pair) (old : List DegreeSlot) (m : ℕ) (new : List DegreeSlot) : Type 0 where
   pub longer : length new ≡ length old + m
-  pub kept : (j : ℕ) (x : Place) → j < length old → slice_index_or new j x ≡ slice_index_or old j x
-  pub each : (k : ℕ) (x : Place) → k < m → IsPlaceOf t set p (length old) (k + 1) (slice_index_or new (length old + k) x)
+  pub kept : (j : ℕ) (x : DegreeSlot) → j < length old → slice_index_or new j x ≡ slice_index_or old j x
+  pub each : (k : ℕ) (x : DegreeSlot) → k < m → IsPlaceOf t set p (length old) (k + 1) (slice_index_or new (length old + k) x)
 
 -- the numbers of turns of the first m places
-pub record AreTurnsUpTo (places : List Place) (m : ℕ) (turns : List ℕ) : Type 0 where
+pub record AreTurnsUpTo (places : List DegreeSlot) (m : ℕ) (turns : List ℕ) : Type 0 where
   pub count : length turns ≡ m
-  pub each : (j : ℕ) (x : Place) → j < m → slice_index turns j ≡ (slice_index_or places j x).turns
+  pub each : (j : ℕ) (x : DegreeSlot) → j < m → slice_index turns j ≡ (slice_index_or places j x).turns
 
 -- those of all
-abbrev pub AreTurns : List Place → List ℕ → Type 0
+abbrev pub AreTurns : List DegreeSlot → List ℕ → Type 0
 AreTurns places turns = AreTurnsUpTo places (length places) turns
 
 -- the places of all tiles, and then those of all vertices
-pub record ArePlaces (q : Request) (t : Symbol) (places : List Place) : Type 0 where
+pub record ArePlaces (q : Request) (t : Symbol) (places : List DegreeSlot) : Type 0 where
   pub count : length places ≡ 2 * t.size
-  pub tiles : (k : ℕ) (x : Place) → k < t.size → IsPlaceOf t q.faces Tile 0 (k + 1) (slice_index_or places k x)
-  pub vertices : (k : ℕ) (x : Place) → k < t.size → IsPlaceOf t q.degrees Vertex t.size (k + 1) (slice_index_or places (t.size + k) x)
+  pub tiles : (k : ℕ) (x : DegreeSlot) → k < t.size → IsPlaceOf t q.faces Tile 0 (k + 1) (slice_index_or places k x)
+  pub vertices : (k : ℕ) (x : DegreeSlot) → k < t.size → IsPlaceOf t q.degrees Vertex t.size (k + 1) (slice_index_or places (t.size + k) x)

@@ -17,7 +17,7 @@ ghost use Rattle.dd_branch_degrees.specs.Automorphism.{AreAutomorphisms};
 ghost use Rattle.dd_branch_degrees.specs.Entered.{AreFitting, HasBudget, HasEntered, HasForced, HasTold};
 
 use crate::minimality::is_minimal;
-use crate::places::Place;
+use crate::places::DegreeSlot;
 use crate::rests::Rests;
 use crate::ties::Ties;
 use arrayvec::ArrayVec;
@@ -38,7 +38,7 @@ pub(crate) struct Assignment {
     /// The starts from which the table is numbered as it stands: leastness is decided under these.
     ties: Ties,
     /// What the table decides of each degree.
-    pub(crate) places: ArrayVec<Place, 72>,
+    pub(crate) places: ArrayVec<DegreeSlot, 72>,
     /// What the degrees from each place on will have of the budget.
     rests: Rests,
     /// The degrees that are set.
@@ -53,7 +53,7 @@ impl Assignment {
         alloc: Global,
         table: Connected,
         ties: Ties,
-        places: ArrayVec<Place, 72>,
+        places: ArrayVec<DegreeSlot, 72>,
         q: &Request,
         first: usize,
     ) -> Assignment
@@ -91,7 +91,7 @@ impl Assignment {
     }
 
     /// What is known of the next degree.
-    pub(crate) fn next_place(&self) -> Place
+    pub(crate) fn next_place(&self) -> DegreeSlot
         requires ready { IsAssignment self.now }
         requires room { told self.now < 2 * self.now.table.size }
         ensures { result ≡ next_place self.now }

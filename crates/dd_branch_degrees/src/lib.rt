@@ -16,7 +16,7 @@
 //!
 //! - **What is handed down** is what the remaining cells have to take beyond their least, which is
 //!   2 for each side. What a branching number takes beyond that is its share. The shares that a
-//!   cell may have are bits of a word (`Place`).
+//!   cell may have are bits of a word (`DegreeSlot`).
 //! - **What later cells can spend** beyond their least is kept as bits too, for amounts below 64.
 //!   Each cell has one set, made once a table from the last cell to the first (`Rests`). So one
 //!   shift and one AND give all shares that fit. This is exact near the end, where most assignments
@@ -48,6 +48,6 @@ mod ties;
 
 pub use automorphisms::Automorphism;
 pub use members::{add_members_of, add_tied, members_of, with_places};
-pub use places::Place;
+pub use places::DegreeSlot;
 pub use table::Table;
 pub use ties::Ties;

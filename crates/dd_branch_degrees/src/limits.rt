@@ -3,12 +3,12 @@ ghost use Rattle.dd_branch_degrees.specs.Assignment.{HasLimits};
 ghost use Rattle.dd_branch_degrees.specs.Budget.{cells_to};
 ghost use Rattle.dd_branch_degrees.specs.Place.{ArePlaces};
 
-use crate::places::Place;
+use crate::places::DegreeSlot;
 use dd_model::Request;
 use dd_symbol::Connected;
 
 /// Returns how many cells some places have: each cell has sides at one of them.
-fn count_cells(places: &[Place]) -> u32
+fn count_cells(places: &[DegreeSlot]) -> u32
     requires { length places.now ≤ 72 }
     ensures { result ≡ cells_to places.now (length places.now) }
 {
@@ -20,7 +20,7 @@ fn count_cells(places: &[Place]) -> u32
 }
 
 /// Returns whether some places have at most `limit` cells, where 0 sets no limit.
-fn tell_at_most(places: &[Place], limit: u32) -> bool
+fn tell_at_most(places: &[DegreeSlot], limit: u32) -> bool
     requires { length places.now ≤ 72 }
     ensures { IsTrue result
         ↔ ((limit ≡ 0) ⊎ (cells_to places.now (length places.now) ≤ limit)) }
@@ -31,7 +31,7 @@ fn tell_at_most(places: &[Place], limit: u32) -> bool
 /// Returns whether a table has no more chambers and classes than a request asks for. Each symbol
 /// with its involutions has the same numbers. The places of its degrees give the classes too, and
 /// no cell is walked.
-pub(crate) fn has_limits(t: &Connected, places: &[Place], q: &Request) -> bool
+pub(crate) fn has_limits(t: &Connected, places: &[DegreeSlot], q: &Request) -> bool
     requires small { t.now.size ≤ 36 }
     requires places { ArePlaces q.now t.now places.now }
     ensures { IsTrue result ↔ HasLimits q.now t.now }

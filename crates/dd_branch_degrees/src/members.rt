@@ -9,7 +9,7 @@ ghost use Rattle.dd_branch_degrees.specs.Place.{ArePlaces};
 
 use crate::assignment::Assignment;
 use crate::limits::has_limits;
-use crate::places::{Place, all_places, turns_of};
+use crate::places::{DegreeSlot, all_places, turns_of};
 use crate::table::Table;
 use crate::ties::Ties;
 use arrayvec::ArrayVec;
@@ -25,7 +25,7 @@ use std::alloc::Global;
 pub fn with_places(
     involutions: Involutions,
     q: &Request,
-) -> Result<(Table, ArrayVec<Place, 72>), Memory>
+) -> Result<(Table, ArrayVec<DegreeSlot, 72>), Memory>
     requires { AreOfTable involutions }
     ensures table { IfOk result (λ both. IsBareTable both.0) }
     ensures same { IfOk result (λ both. HaveSameInvolutions involutions both.0) }
@@ -45,7 +45,7 @@ pub fn add_tied(
     alloc: Global,
     t: Table,
     ties: Vec<u32>,
-    places: ArrayVec<Place, 72>,
+    places: ArrayVec<DegreeSlot, 72>,
     q: &Request,
     list: &mut SymbolList,
 ) -> Result<(), Memory>

@@ -6,7 +6,7 @@ ghost use Rattle.dd_symbol.specs.Images.{AreThreeInvolutions};
 ghost use Rattle.dd_model.specs.Wanted.{IsCrystallographic};
 ghost use Rattle.dd_branch_degrees.specs.Choice.{HasBranching, HasShares};
 ghost use Rattle.dd_branch_degrees.specs.Place.{ArePlaces, AreTurns, HasPlaceOf, HasPlaces, HasSides, IsPlaceOf};
-ghost use Rattle.dd_branch_degrees.specs.declared.places.Place.{Place as Known};
+ghost use Rattle.dd_branch_degrees.specs.declared.places.DegreeSlot.{DegreeSlot as Known};
 
 use arrayvec::ArrayVec;
 use dd_model::{Allowed, Pair, Request};
@@ -15,7 +15,7 @@ use dd_symbol::{CellShape, Involutions, Kind};
 /// What a table decides of one degree. The degrees of a table have places, those of the tiles at
 /// the chambers 1 to n first, and then those of the vertices. The budget is counted in twelfths.
 #[derive(Clone, Copy, Default, Drop)]
-pub struct Place {
+pub struct DegreeSlot {
     /// The place of the least chamber of the cell.
     pub(crate) root: u8,
     /// The least positive number of turns that fixes a chamber of the cell.
@@ -29,7 +29,7 @@ pub struct Place {
     pub(crate) shares: u32,
 }
 
-impl Place {
+impl DegreeSlot {
     /// The degree that has so much of the budget beyond its least.
     pub(crate) fn degree_with(&self, share: u8) -> u8
         requires sides { (1 ≤ self.now.sides) × (self.now.sides ≤ 2) }
@@ -105,7 +105,7 @@ fn most_part(shares: u32, sides: u8) -> u8
 
 /// Returns what a table decides of the degree of a pair at a chamber whose cell is walked, if
 /// chamber 1 has the place `first`.
-fn place_of(table: &Involutions, set: &Allowed, pair: Pair, first: u8, chamber: u32) -> Place
+fn place_of(table: &Involutions, set: &Allowed, pair: Pair, first: u8, chamber: u32) -> DegreeSlot
     requires three { AreThreeInvolutions table.now }
     requires small { table.now.size ≤ 36 }
     requires first { first ≤ 36 }
@@ -116,7 +116,7 @@ fn place_of(table: &Involutions, set: &Allowed, pair: Pair, first: u8, chamber: 
     let turns = shape.r as u8;
     let sides = sides_of(&shape, chamber);
     let shares = shares_of(set, turns, sides);
-    Place {
+    DegreeSlot {
         root: first + (shape.least - 1) as u8,
         turns,
         sides,
@@ -126,13 +126,13 @@ fn place_of(table: &Involutions, set: &Allowed, pair: Pair, first: u8, chamber: 
 }
 
 /// Returns the place of another chamber of the cell, which takes nothing of the budget.
-fn beside(place: &Place) -> Place
+fn beside(place: &DegreeSlot) -> DegreeSlot
     ensures root { result.root ≡ place.now.root }
     ensures turns { result.turns ≡ place.now.turns }
     ensures sides { result.sides ≡ 0 }
     ensures most { result.most ≡ 0 }
 {
-    Place {
+    DegreeSlot {
         root: place.root,
         turns: place.turns,
         sides: 0,
@@ -161,7 +161,7 @@ fn smaller_neighbor(table: &Involutions, pair: Pair, chamber: u32) -> Option<u32
 /// Adds what a table decides of the degree of a pair at a chamber, if the degrees of the smaller
 /// chambers are at the places from `first` on. It walks a cell only if no neighbor is smaller.
 fn add_place(
-    places: &mut ArrayVec<Place, 72>,
+    places: &mut ArrayVec<DegreeSlot, 72>,
     table: &Involutions,
     set: &Allowed,
     pair: Pair,
@@ -187,7 +187,7 @@ fn add_place(
 }
 
 /// Adds the places of a pair, one for each chamber.
-fn add_places(places: &mut ArrayVec<Place, 72>, table: &Involutions, set: &Allowed, pair: Pair)
+fn add_places(places: &mut ArrayVec<DegreeSlot, 72>, table: &Involutions, set: &Allowed, pair: Pair)
     requires small { table.now.size ≤ 36 }
     requires room { length places.old.items ≤ 36 }
     ensures { HasPlaces table.now set.now pair places.old.items table.now.size places.new.items }
@@ -199,7 +199,7 @@ fn add_places(places: &mut ArrayVec<Place, 72>, table: &Involutions, set: &Allow
 }
 
 /// Returns what a table decides of its degrees. It reads only the involutions.
-pub(crate) fn all_places(table: &Involutions, q: &Request) -> ArrayVec<Place, 72>
+pub(crate) fn all_places(table: &Involutions, q: &Request) -> ArrayVec<DegreeSlot, 72>
     requires { table.now.size ≤ 36 }
     ensures { ArePlaces q.now table.now result.items }
 {
@@ -210,7 +210,7 @@ pub(crate) fn all_places(table: &Involutions, q: &Request) -> ArrayVec<Place, 72
 }
 
 /// The least positive numbers of turns of some places.
-pub(crate) fn turns_of(places: &[Place]) -> ArrayVec<u8, 72>
+pub(crate) fn turns_of(places: &[DegreeSlot]) -> ArrayVec<u8, 72>
     requires { length places.now ≤ 72 }
     ensures { AreTurns places.now result.items }
 {

@@ -1,9 +1,9 @@
 ghost use Rattle.std.specs.Prelude.{◌≡◌, ℕ, ◌+◌, ◌≤◌, ◌<◌, length, slice_index, slice_index_or};
 ghost use Rattle.std.specs.Int.{bit_at};
 ghost use Rattle.dd_branch_degrees.specs.Rests.{AreRests, HasRest, HasSurplusWith};
-ghost use Rattle.dd_branch_degrees.specs.declared.places.Place.{Place as Known};
+ghost use Rattle.dd_branch_degrees.specs.declared.places.DegreeSlot.{DegreeSlot as Known};
 
-use crate::places::Place;
+use crate::places::DegreeSlot;
 
 /// What the degrees from each place on have of the budget together, whatever they will be.
 #[derive(Drop)]
@@ -19,7 +19,7 @@ pub(crate) struct Rests {
 }
 
 /// What the degrees from a place on may have beyond their least, by what the later ones may have.
-fn surplus_with(place: &Place, later: u64) -> u64
+fn surplus_with(place: &DegreeSlot, later: u64) -> u64
     ensures { HasSurplusWith place.now later result }
 {
     if place.sides == 0 {
@@ -36,7 +36,7 @@ fn surplus_with(place: &Place, later: u64) -> u64
 
 impl Rests {
     /// The sums over some places.
-    pub(crate) fn of(places: &[Place]) -> Rests
+    pub(crate) fn of(places: &[DegreeSlot]) -> Rests
         requires few { length places.now ≤ 72 }
         requires most { (j : ℕ) (x : Known) → j < length places.now
             → (slice_index_or places.now j x).most ≤ 24 }

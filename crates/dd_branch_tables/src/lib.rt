@@ -4,11 +4,11 @@
 
 mod chamber_set;
 mod collecting_search;
+mod first_numbers;
 mod level;
 mod levels;
-mod numbers;
+mod partial_table;
 mod prefix_search;
-mod rows;
 mod search_steps;
 mod sleepers;
 mod starts;
@@ -20,8 +20,8 @@ pub use chamber_set::ChamberSet;
 pub use collecting_search::{CollectingSearch, find};
 pub use level::Level;
 pub use levels::Levels;
+pub use partial_table::{PartialTable, place_of};
 pub use prefix_search::PrefixSearch;
-pub use rows::{Rows, place_of};
 pub use search_steps::{advance, begin, go_back};
 pub use starts::Starts;
 pub use stem::Stem;

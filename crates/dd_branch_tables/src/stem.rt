@@ -7,8 +7,8 @@ ghost use Rattle.dd_branch_tables.specs.Rows.{partial_of, depth_of, IsReady};
 ghost use Rattle.dd_opening_jobs.specs.Under.{HasNothingUnder};
 
 use crate::chamber_set::ChamberSet;
-use crate::numbers::Numbers;
-use crate::rows::{Rows, index_at};
+use crate::first_numbers::FirstNumbers;
+use crate::partial_table::{PartialTable, index_at};
 use crate::traversal::{Standing, Visit, stand};
 use dd_model::Index;
 
@@ -16,8 +16,8 @@ use dd_model::Index;
 /// number is put at its end and taken away again in place, and no call allocates.
 #[derive(Drop)]
 pub struct Stem {
-    rows: Rows,
-    prefix: Numbers,
+    rows: PartialTable,
+    prefix: FirstNumbers,
 }
 
 impl Stem {
@@ -31,8 +31,8 @@ impl Stem {
         ensures size { size_of result ≡ size }
         ensures empty { prefix_of result ≡ [] }
     {
-        let rows = Rows::empty(size);
-        let prefix = Numbers::new();
+        let rows = PartialTable::empty(size);
+        let prefix = FirstNumbers::new();
         Stem { rows, prefix }
     }
 
@@ -51,7 +51,7 @@ impl Stem {
     }
 
     /// The table, as far as it is known.
-    pub fn rows(&self) -> &Rows
+    pub fn rows(&self) -> &PartialTable
         ensures { result.now ≡ self.now.rows }
     {
         &self.rows

@@ -7,7 +7,7 @@ ghost use Rattle.dd_branch_tables.specs.Passed.{IsPassed};
 ghost use Rattle.dd_branch_tables.specs.Rows.{partial_of, IsReady};
 ghost use Rattle.dd_branch_tables.specs.Visit.{AreNumbered};
 
-use crate::rows::Rows;
+use crate::partial_table::PartialTable;
 use crate::sleepers::NOWHERE;
 use arrayvec::ArrayVec;
 
@@ -82,7 +82,7 @@ pub enum Standing {
 /// The three images of a chamber, a row, stand side by side from its first place on. A search calls
 /// this for each start at each number that it puts in, so it is inlined.
 #[inline(always)]
-pub fn stand(rows: &Rows, prefix: &[u8], start: u8, visit: &mut Visit) -> Standing
+pub fn stand(rows: &PartialTable, prefix: &[u8], start: u8, visit: &mut Visit) -> Standing
     requires ready { IsReady rows.now }
     requires start { (1 ≤ start) × (start ≤ (partial_of rows.now).size) }
     requires short { length prefix.now ≤ 3 * (partial_of rows.now).size }

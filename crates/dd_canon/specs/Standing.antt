@@ -13,10 +13,10 @@ use Rattle.dd_model.specs.Code.{code_cmp, chambers}
 use Rattle.dd_model.specs.FirstVisit.{rows, IsNumberedFrom}
 use Rattle.dd_canon.specs.Traversal.{IsVisit, IsMeeting, IsTraversal}
 use Rattle.dd_symbol.specs.Maps.{AreInverse}
-use Rattle.dd_canon.specs.declared.visits.Visit.{Visit}
+use Rattle.dd_canon.specs.declared.visits.NumberedChambers.{NumberedChambers}
 
 -- the lists of a visit to a connected symbol, with room for all its chambers
-pub record IsReady (s : Symbol) (v : Visit) : Type 0 where
+pub record IsReady (s : Symbol) (v : NumberedChambers) : Type 0 where
   pub symbol : IsSmallSymbol s
   pub connected : Connected s
   pub visit : IsVisit s.size v.order.items v.number.items

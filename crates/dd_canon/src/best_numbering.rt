@@ -7,7 +7,7 @@ ghost use Rattle.dd_model.specs.Isomorphic.{IsIsomorphism};
 ghost use Rattle.dd_canon.specs.Best.{IsBestNumbering};
 
 use crate::steps::Steps;
-use crate::visits::Visit;
+use crate::visits::NumberedChambers;
 use dd_model::Memory;
 use dd_symbol::Connected;
 use dd_union_find::Forest;
@@ -25,11 +25,11 @@ use std::sync::ledger::Ledger;
 #[derive(Drop)]
 pub(crate) struct BestNumbering {
     /// The numbers of the first visits from the best start.
-    pub home: Visit,
+    pub home: NumberedChambers,
     /// The symbol in these numbers.
     pub form: Connected,
     /// The first visits from another start.
-    there: Visit,
+    there: NumberedChambers,
     /// The chambers, joined along automorphisms. Node 0 is no chamber.
     orbits: Forest,
 }
@@ -41,8 +41,8 @@ impl BestNumbering {
     pub(crate) fn new(alloc: Global, s: &Connected) -> Result<BestNumbering, Memory>
         ensures { IfOk result (λ best. IsBestNumbering s.now 1 best) }
     {
-        let mut home = Visit::new(alloc, s)?;
-        let there = Visit::new(alloc, s)?;
+        let mut home = NumberedChambers::new(alloc, s)?;
+        let there = NumberedChambers::new(alloc, s)?;
         home.number_from(s, 1);
         let form = s.renumber(alloc, &home.number)?;
         let orbits = Forest::new(alloc, s.symbol().size() + 1)?;

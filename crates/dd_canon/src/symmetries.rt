@@ -3,7 +3,7 @@ ghost use Rattle.dd_model.specs.Symbol.{IsChamber};
 
 use crate::isomorphisms::joined;
 use crate::steps::Steps;
-use crate::visits::Visit;
+use crate::visits::NumberedChambers;
 use dd_model::{Map, Memory};
 use dd_symbol::Connected;
 use std::alloc::Global;
@@ -16,11 +16,11 @@ use std::sync::ledger::{Blank, Ledger};
 #[derive(Drop)]
 pub struct Symmetries {
     /// The numbers of the first visits from chamber 1.
-    home: Visit,
+    home: NumberedChambers,
     /// The symbol in these numbers.
     form: Connected,
     /// The first visits from another chamber.
-    there: Visit,
+    there: NumberedChambers,
 }
 
 impl Symmetries {
@@ -30,8 +30,8 @@ impl Symmetries {
     pub fn new(alloc: Global, s: &Connected) -> Result<Symmetries, Memory>
         ensures { IfOk result (λ all. AreSymmetriesOf s.now all) }
     {
-        let mut home = Visit::new(alloc, s)?;
-        let there = Visit::new(alloc, s)?;
+        let mut home = NumberedChambers::new(alloc, s)?;
+        let there = NumberedChambers::new(alloc, s)?;
         home.number_from(s, 1);
         let form = s.renumber(alloc, &home.number)?;
         Ok(Symmetries { home, form, there })

@@ -6,7 +6,7 @@ ghost use Rattle.dd_model.specs.Code.{Least};
 ghost use Rattle.dd_canon.specs.Ties.{AreTies, IsLeastFrom};
 
 use crate::steps::Steps;
-use crate::visits::Visit;
+use crate::visits::NumberedChambers;
 use dd_model::Memory;
 use dd_symbol::Connected;
 use std::alloc::Global;
@@ -39,7 +39,7 @@ fn ties_by<L: Ledger>(
         MatchOption found (Least s.now → ⊥) (λ ties. AreTies s.now ties.items)) }
 {
     let mut steps = Steps::<L>::begin(blank);
-    let mut visit = Visit::new(alloc, s)?;
+    let mut visit = NumberedChambers::new(alloc, s)?;
     let mut ties = Vec::new(alloc);
     for k in 0..s.symbol().size() {
         let order = visit.stand(s, k + 1, s, &mut steps);
@@ -74,7 +74,7 @@ fn is_least_by<L: Ledger>(
     ensures { IfOk result (λ least. IsTrue least ↔ IsLeastFrom s.now starts.now) }
 {
     let mut steps = Steps::<L>::begin(blank);
-    let mut visit = Visit::new(alloc, s)?;
+    let mut visit = NumberedChambers::new(alloc, s)?;
     for k in 0..starts.len() {
         let order = visit.stand(s, starts[k], s, &mut steps);
         if order.is_lt() {

@@ -16,22 +16,22 @@ use std::sync::ledger::Ledger;
 /// Chambers in the order of their numbers, and the number of each chamber, 0 where it has none.
 /// The two lists are taken once, and serve for one start after another.
 #[derive(Drop)]
-pub(crate) struct Visit {
+pub(crate) struct NumberedChambers {
     pub order: Vec<u32>,
     pub number: Vec<u32>,
 }
 
-impl Visit {
+impl NumberedChambers {
     ghost use Rattle.dd_canon.specs.Standing.{IsReady, IsMetAndCompared, IsStanding, IsOngoing, IsNumbering, IsWhole, degree_list};
 
     /// Room for the chambers of a symbol, of which none has a number.
-    pub(crate) fn new(alloc: Global, s: &Connected) -> Result<Visit, Memory>
+    pub(crate) fn new(alloc: Global, s: &Connected) -> Result<NumberedChambers, Memory>
         ensures { IfOk result (λ visit. IsReady s.now visit) }
     {
         let size = s.symbol().size() as usize;
         let number = vec![in alloc; 0u32; size]?;
         let order = Vec::with_capacity(alloc, size)?;
-        Ok(Visit { order, number })
+        Ok(NumberedChambers { order, number })
     }
 
     /// The chamber with number k.

@@ -10,8 +10,8 @@ use Rattle.dd_pages_and_checkpoints.specs.Names.{HasRun}
 use Rattle.dd_pages_and_checkpoints.specs.declared.fault.RunFault.{RunFault}
 use Rattle.dd_pages_and_checkpoints.specs.declared.pages.Page.{Page}
 use Rattle.dd_catalogue.specs.Ways.{Way}
-use Rattle.dd_catalogue.specs.declared.step.Step.{Step}
-use Rattle.dd_catalogue.specs.declared.step.Step.TheVariants.{Next, Ended}
+use Rattle.dd_catalogue.specs.declared.after_round.AfterRound.{AfterRound}
+use Rattle.dd_catalogue.specs.declared.after_round.AfterRound.TheVariants.{Next, Ended}
 use Rattle.dd_catalogue.specs.Kept.{IsMid, IsHead}
 
 -- some entries left that have no member to emit
@@ -33,7 +33,7 @@ pub record IsAtNext (f g : Machine) : Type 0 where
   pub part : EmitsPart ready 0 g []
 
 -- what a step of a run leaves: it goes on, or it has come to an end
-abbrev pub Leaves : Start → ℕ → Option ℕ → Bool → Option (List ℕ) → Option (List ℕ) → Option (List ℕ) → Option (List ℕ) → Page → Machine → Result Step RunFault → Type 0
+abbrev pub Leaves : Start → ℕ → Option ℕ → Bool → Option (List ℕ) → Option (List ℕ) → Option (List ℕ) → Option (List ℕ) → Page → Machine → Result AfterRound RunFault → Type 0
 Leaves s most pause tells old before held now page f (Ok (Next here)) = IsHead s most tells here old before held now page f
 Leaves s most pause tells old before held now page f (Ok (Ended finish)) = HasRun s most pause old now tells before held (Ok finish)
 Leaves s most pause tells old before held now page f (Err fault) = HasRun s most pause old now tells before held (Err fault)
@@ -45,7 +45,7 @@ pub record GoesOnHere (w : Way) (tells : Bool) (old before held now : Option (Li
   pub most_is : way.most ≡ w.most
   pub mid : IsMid way tells true old before held now page f
 
-abbrev pub LeavesMember : Way → Option ℕ → Bool → Option (List ℕ) → Option (List ℕ) → Option (List ℕ) → Option (List ℕ) → Page → Machine → Result (Option Step) RunFault → Type 0
+abbrev pub LeavesMember : Way → Option ℕ → Bool → Option (List ℕ) → Option (List ℕ) → Option (List ℕ) → Option (List ℕ) → Page → Machine → Result (Option AfterRound) RunFault → Type 0
 LeavesMember w pause tells old before held now page f (Ok None) = GoesOnHere w tells old before held now page f
 LeavesMember w pause tells old before held now page f (Ok (Some step)) = Leaves w.start w.most pause tells old before held now page f (Ok step)
 LeavesMember w pause tells old before held now page f (Err fault) = Leaves w.start w.most pause tells old before held now page f (Err fault)
@@ -62,15 +62,15 @@ pub record IsSomeMid (s : Start) (here : Bool) (now : Option (List ℕ)) (page :
   pub mid : IsMid way tells here old before held now page f
 
 -- where a run goes on, as many jobs wait as before
-abbrev pub StillWait : Step → Machine → Machine → Type 0
+abbrev pub StillWait : AfterRound → Machine → Machine → Type 0
 StillWait (Next here) f g = open_jobs g.entries ≡ open_jobs f.entries
 StillWait (Ended finish) f g = Unit {0}
 
-abbrev pub IsNextStep : Step → Type 0
+abbrev pub IsNextStep : AfterRound → Type 0
 IsNextStep (Next here) = Unit {0}
 IsNextStep (Ended finish) = ⊥
 
 -- where a run goes on, no line came after the last one
-abbrev pub IsWithin : Page → ℕ → Step → Type 0
+abbrev pub IsWithin : Page → ℕ → AfterRound → Type 0
 IsWithin page last (Next here) = page.count ≤ last
 IsWithin page last (Ended finish) = Unit {0}

@@ -24,10 +24,10 @@ ghost use Rattle.dd_catalogue.specs.Kept.{IsHead, IsMid};
 ghost use Rattle.dd_catalogue.specs.Steps.{IsSomeMid, IsNextStep, Leaves, LeavesMember, StillWait, IsWithin};
 ghost use Rattle.dd_pages_and_checkpoints.specs.MostLines.{most_lines};
 
+use crate::after_round::AfterRound;
 use crate::emission::{reach_member, write_done};
 use crate::output::Output;
 use crate::rounds::{do_kept_round, front_of, stands_at_job};
-use crate::step::Step;
 use crate::workshop::Workshop;
 use dd_front::{Finder, Front};
 use dd_pages_and_checkpoints::{Finish, Limit, MOST_LINES, Page, Run, RunFault, save, save_first};
@@ -137,8 +137,8 @@ fn keep_rounds<R: Threads + Wait + Sync, F: Finder + Sync, G: Gate + Sync, S: St
             return Ok(Finish::Whole);
         }
         match keep_round(workshop, run, name, limit, output, store, out)? {
-            Step::Next(here) => output.is_kept = here,
-            Step::Ended(finish) => return Ok(finish),
+            AfterRound::Next(here) => output.is_kept = here,
+            AfterRound::Ended(finish) => return Ok(finish),
         }
     }
     Err(RunFault::Memory)
@@ -155,7 +155,7 @@ fn keep_round<R: Threads + Sync, G, S: Store, O: Sink>(
     output: &mut Output,
     store: &mut S,
     out: &mut O,
-) -> Result<Step, RunFault>
+) -> Result<AfterRound, RunFault>
     requires limit { IsLimit run.now.lines run.now.pause limit }
     requires room { output.old.page.count ≤ limit.last }
     requires mid { IsSomeMid (start_of run.now) output.old.is_kept (O.held out.old) output.old.page output.old.front }
@@ -198,7 +198,7 @@ fn write_kept<R: Threads + Sync, G, S: Store, O: Sink>(
     output: &mut Output,
     store: &mut S,
     out: &mut O,
-) -> Result<Step, RunFault>
+) -> Result<AfterRound, RunFault>
     requires limit { IsLimit run.now.lines run.now.pause limit }
     requires room { output.old.page.count ≤ limit.last }
     requires mid { IsSomeMid (start_of run.now) true (O.held out.old) output.old.page output.old.front }
@@ -238,7 +238,7 @@ fn write_part<R: Threads + Sync, G, S: Store, O: Sink>(
     output: &mut Output,
     store: &mut S,
     out: &mut O,
-) -> Result<Option<Step>, RunFault>
+) -> Result<Option<AfterRound>, RunFault>
     requires limit { IsLimit run.now.lines run.now.pause limit }
     requires room { output.old.page.count ≤ limit.last }
     requires mid { IsSomeMid (start_of run.now) true (O.held out.old) output.old.page output.old.front }
@@ -270,13 +270,13 @@ fn write_part<R: Threads + Sync, G, S: Store, O: Sink>(
     if !write_round(workshop.rt, run.pace.workers(), last, front, page, out)? {
         if last == limit.last {
             let finish = end_full(alloc, run, name, limit, front, page, store)?;
-            return Ok(Some(Step::Ended(finish)));
+            return Ok(Some(AfterRound::Ended(finish)));
         }
         save(alloc, run, name, front, page, store)?;
         return Ok(None);
     }
     if page.count == before {
-        return Ok(Some(Step::Next(false)));
+        return Ok(Some(AfterRound::Next(false)));
     }
     let step = keep_place(alloc, run, name, front, page, store)?;
     Ok(Some(step))
@@ -292,7 +292,7 @@ fn keep_member<S: Store>(
     front: &mut Front,
     page: &Page,
     store: &mut S,
-) -> Result<Option<Step>, RunFault>
+) -> Result<Option<AfterRound>, RunFault>
     requires limit { IsLimit run.now.lines run.now.pause limit }
     requires lines { front.old.lines ≤ most_lines }
     requires room { page.now.count ≤ limit.last }
@@ -314,11 +314,11 @@ fn keep_member<S: Store>(
         return Err(RunFault::Memory);
     };
     if !more {
-        return Ok(Some(Step::Next(false)));
+        return Ok(Some(AfterRound::Next(false)));
     }
     if page.count == limit.last {
         let finish = end_full(alloc, run, name, limit, front, page, store)?;
-        return Ok(Some(Step::Ended(finish)));
+        return Ok(Some(AfterRound::Ended(finish)));
     }
     save(alloc, run, name, front, page, store)?;
     Ok(None)
@@ -333,7 +333,7 @@ fn keep_place<S: Store>(
     front: &Front,
     page: &Page,
     store: &mut S,
-) -> Result<Step, RunFault>
+) -> Result<AfterRound, RunFault>
     ensures leaves { (most : ℕ) (tells : Bool) (before start now : Option (List ℕ))
         → (tells ≡ true → S.tells store.old ≡ true)
         → IsHead (start_of run.now) most tells false start before
@@ -349,7 +349,7 @@ fn keep_place<S: Store>(
         (S.faults store.old) (S.faults store.new) (S.sure store.new) result }
 {
     if page.count >= MOST_LINES {
-        return Ok(Step::Next(false));
+        return Ok(AfterRound::Next(false));
     }
     let Ok(is_place) = stands_at_job(front) else {
         return Err(RunFault::Memory);
@@ -357,7 +357,7 @@ fn keep_place<S: Store>(
     if is_place {
         save(alloc, run, name, front, page, store)?;
     }
-    Ok(Step::Next(is_place))
+    Ok(AfterRound::Next(is_place))
 }
 
 /// Writes the lines of a round that is done. Where there is a line after the last one that may be

@@ -48,6 +48,7 @@
 //! round brings back.
 #![tactic(auto)]
 
+mod after_round;
 mod catalogue;
 mod chain;
 mod emission;
@@ -55,7 +56,6 @@ mod output;
 mod parts;
 mod resumed_jobs;
 mod rounds;
-mod step;
 mod workshop;
 
 pub use catalogue::write_catalogue;

@@ -1,4 +1,4 @@
-use crate::members::Members;
+use crate::cell_chambers::CellChambers;
 use dd_symbol::Kind;
 
 /// A tile, a vertex or an edge of the tiling, up to symmetry.
@@ -13,5 +13,5 @@ pub struct Cell {
     /// The branching value: the degree divided by `r`.
     pub v: u32,
     /// All of its chambers.
-    pub members: Members,
+    pub members: CellChambers,
 }

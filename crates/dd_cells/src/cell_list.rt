@@ -4,13 +4,19 @@ ghost use Rattle.dd_model.specs.Cell.{IsLeastTurns, IsLeastOfCell};
 ghost use Rattle.dd_cells.specs.Cells.{AreMembers, IsCellOf, AreCellsOf};
 
 use crate::cell::Cell;
-use crate::members::Members;
+use crate::cell_chambers::CellChambers;
 use dd_model::{Memory, Pair};
 use dd_symbol::{CellShape, Connected};
 use std::alloc::Global;
 
 /// The chambers of the cell of a chamber, which are met within r turns.
-fn walked(alloc: Global, s: &Connected, pair: Pair, chamber: u32, r: u32) -> Result<Members, Memory>
+fn walked(
+    alloc: Global,
+    s: &Connected,
+    pair: Pair,
+    chamber: u32,
+    r: u32,
+) -> Result<CellChambers, Memory>
     requires chamber { IsChamber s.now chamber }
     requires turns { IsLeastTurns s.now pair chamber r }
     ensures { IfOk result (λ members. AreMembers s.now pair chamber members) }
@@ -26,7 +32,7 @@ fn walked(alloc: Global, s: &Connected, pair: Pair, chamber: u32, r: u32) -> Res
     }
     chambers.sort_unstable();
     chambers.dedup();
-    Ok(Members::from_vec(chambers))
+    Ok(CellChambers::from_vec(chambers))
 }
 
 /// The cell of its least chamber.

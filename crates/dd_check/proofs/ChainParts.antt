@@ -13,8 +13,8 @@ use Rattle.dd_check.specs.Ranges.{IsInRange}
 use Rattle.dd_check.specs.ShardChecks.{IsShardPlace, IsShardCheckpoint, IsSavedText, IsAcceptedText}
 use Rattle.dd_check.proofs.Exclusion.{one_checkpoint}
 use Rattle.dd_check.proofs.ShardTexts.{one_shard_text, shard_reads_or_not}
-use Rattle.dd_check.specs.declared.kinds.Kind.{Kind}
-use Rattle.dd_check.specs.declared.kinds.Kind.TheVariants.{Catalogues, Shards}
+use Rattle.dd_check.specs.declared.kinds.ResumeKind.{ResumeKind}
+use Rattle.dd_check.specs.declared.kinds.ResumeKind.TheVariants.{Catalogues, Shards}
 use Rattle.dd_check.specs.Calls.{kind_of, Task, Begin, Resume, Call}
 use Rattle.dd_check.specs.ChainStarts.{Holds, HoldsKind, Start, first_start, next_start, StartsNext, Starts, StartsAt}
 use Rattle.dd_check.specs.ChainPuts.{DoCountsFit, IsStop, HasPut}
@@ -61,7 +61,7 @@ starts_next call name shard c e holds =
     subst (λ t. Starts t call.before (next_start shard c)) (sym e) (record { held = record { shard = shard; kind_is = refl; check = c; holds = holds }; start_is = refl })
 
 -- a call that is to go on from nothing begins nowhere
-pub starts_nowhere : (call : Call) (kind : Kind) (name : Text) → call.task ≡ Resume kind name → (HoldsKind kind call.before → ⊥) → (s : Start) → StartsAt call s → ⊥
+pub starts_nowhere : (call : Call) (kind : ResumeKind) (name : Text) → call.task ≡ Resume kind name → (HoldsKind kind call.before → ⊥) → (s : Start) → StartsAt call s → ⊥
 starts_nowhere call kind name e none s h = let r : Starts (Resume kind name) call.before s = subst (λ t. Starts t call.before s) e h in none r.held
 
 -- what a call goes on from that goes on from a catalogue's text

@@ -11,7 +11,7 @@ use Rattle.dd_check.specs.Accepted.{IsCheckpointText}
 use Rattle.dd_check.specs.ShardChecks.{IsAcceptedText}
 use Rattle.dd_opening_jobs.proofs.ShardLaws.{same_shard}
 use Rattle.dd_check.specs.Texts.{Text}
-use Rattle.dd_check.specs.declared.kinds.Kind.{Kind}
+use Rattle.dd_check.specs.declared.kinds.ResumeKind.{ResumeKind}
 use Rattle.dd_check.specs.Calls.{kind_of, Begin, Resume, Call}
 use Rattle.dd_check.specs.ChainStarts.{Holds, HoldsKind, Start, first_start, next_start, StartsAt}
 use Rattle.dd_check.specs.ChainPuts.{Puts}
@@ -20,7 +20,7 @@ use Rattle.dd_check.specs.Chains.{kind_of_task, AreResumed, AreLater, IsChain, H
 use Rattle.dd_check.proofs.ChainParts.{one_held, one_start, start_kind, leaves_none, starts_first, starts_next, starts_nowhere, put_held}
 
 -- the name holds a checkpoint text of the kind, or none
-abbrev IsKnown : Kind → Option Text → Type 0
+abbrev IsKnown : ResumeKind → Option Text → Type 0
 IsKnown kind held = HoldsKind kind held ⊎ (HoldsKind kind held → ⊥)
 
 valid_text : (text : Text) (c : Checkpoint) → IsCheckpointText text c → IsValid c.request
@@ -70,7 +70,7 @@ known_put call s valid starts puts =
     (put_held call puts.start puts.check (subst (λ z. IsValid z.portion.request) (sym same) valid) puts.put)
 
 -- after a call that goes on it is known what the name holds, and there is a part
-known_after : (kind : Kind) (name : Text) (call : Call) → call.task ≡ Resume kind name → MeetsClauses call → IsKnown kind call.before → IsKnown kind call.after × ((part : Text) × IsPart call part)
+known_after : (kind : ResumeKind) (name : Text) (call : Call) → call.task ≡ Resume kind name → MeetsClauses call → IsKnown kind call.before → IsKnown kind call.after × ((part : Text) × IsPart call part)
 known_after kind name call task meets (inl h) =
     let starts = starts_next call name h.shard h.check (task ∙ ap (λ k. Resume k name) (sym h.kind_is)) h.holds in
     let known : IsKnown (kind_of h.shard) call.after =
@@ -88,7 +88,7 @@ known_after kind name call task meets (inr never) =
     meets.held in
     (known, no_part call (λ d l. nowhere l.start l.starts))
 
-found_later : (kind : Kind) (name : Text) (held : Option Text) (call : Call) (calls : List Call) → IsKnown kind held → AreResumed kind name held (call ∷ calls) → AllByRecursion MeetsClauses (call ∷ calls)
+found_later : (kind : ResumeKind) (name : Text) (held : Option Text) (call : Call) (calls : List Call) → IsKnown kind held → AreResumed kind name held (call ∷ calls) → AllByRecursion MeetsClauses (call ∷ calls)
     → (bytes : Text) × IsJoined (call ∷ calls) bytes
 found_later kind name held call [] known resumed meets = (call.output, refl)
 found_later kind name held call (next ∷ calls) known resumed meets =

@@ -6,8 +6,8 @@ use Rattle.std.proofs.Math.Seq.{take-length}
 use Rattle.std.specs.Borrow.{Bor}
 use Rattle.dd_model.specs.declared.jobs.Position.{Position}
 use Rattle.dd_model.specs.declared.jobs.Position.TheVariants.{At as AtJob, End as NoJob}
-use Rattle.dd_check.specs.declared.places.Place.{Place}
-use Rattle.dd_check.specs.declared.places.Place.TheVariants.{At, End}
+use Rattle.dd_check.specs.declared.raw_position.RawPosition.{RawPosition}
+use Rattle.dd_check.specs.declared.raw_position.RawPosition.TheVariants.{At, End}
 use Rattle.dd_check.specs.Texts.{Text, texts}
 use Rattle.dd_check.specs.Rows.{IsPlaceRow}
 use Rattle.dd_check.specs.Told.{IsWhatTellsEnd, IsWhatTellsJob, IsWhatTellsPlace}
@@ -40,7 +40,7 @@ no_numbers : (prefix : List ℕ) → prefix ≢ [] → map decimal prefix ≡ []
 no_numbers [] some e = some refl
 no_numbers (n ∷ ns) some e = (cc)
 
-end_told : (r : Option Place) (words : List Text) (word : Text) → words ≡ codes "at" ∷ word ∷ [] → IsWhatTellsEnd word r → IsWhatTellsPlace words r
+end_told : (r : Option RawPosition) (words : List Text) (word : Text) → words ≡ codes "at" ∷ word ∷ [] → IsWhatTellsEnd word r → IsWhatTellsPlace words r
 end_told None words word e h = none
   where
     none : (at : Position) → IsPlaceRow words at → ⊥
@@ -52,7 +52,7 @@ end_told (Some (At n numbers)) words word e h = absurd (other h.0)
     other : At n numbers ≡ End → ⊥
     other f = (cc)
 
-job_told : (r : Option Place) (words : List Text) (first : Text) (rest : List Text) → words ≡ codes "at" ∷ first ∷ rest → rest ≢ [] → IsWhatTellsJob first rest r → IsWhatTellsPlace words r
+job_told : (r : Option RawPosition) (words : List Text) (first : Text) (rest : List Text) → words ≡ codes "at" ∷ first ∷ rest → rest ≢ [] → IsWhatTellsJob first rest r → IsWhatTellsPlace words r
 job_told None words first rest e some h = none
   where
     none : (at : Position) → IsPlaceRow words at → ⊥
@@ -69,13 +69,13 @@ job_told (Some (At n numbers)) words first rest e some h = record {
   short = record { size = h.0.short; numbers = h.1.1 };
 }
 
-pub place_end : (r : Option Place) (ws : List (Bor Text)) (d0 d1 : Bor Text) → 2 ≤ length ws → (get_or ws 0 d0).now ≡ codes "at" → true ≡ (length (rest_of ws) == 0)
+pub place_end : (r : Option RawPosition) (ws : List (Bor Text)) (d0 d1 : Bor Text) → 2 ≤ length ws → (get_or ws 0 d0).now ≡ codes "at" → true ≡ (length (rest_of ws) == 0)
     → IsWhatTellsEnd (get_or ws 1 d1).now r → IsWhatTellsPlace (texts ws) r
 place_end r ws d0 d1 low at empty h =
     end_told r (texts ws) (get_or ws 1 d1).now
     (first_two ws d0 d1 low ∙ ap (λ w. w ∷ (get_or ws 1 d1).now ∷ texts (rest_of ws)) at ∙ ap (λ rest. codes "at" ∷ (get_or ws 1 d1).now ∷ rest) (empty_rest (rest_of ws) empty)) h
 
-pub place_job : (r : Option Place) (ws : List (Bor Text)) (d0 d1 : Bor Text) → 2 ≤ length ws → (get_or ws 0 d0).now ≡ codes "at" → false ≡ (length (rest_of ws) == 0)
+pub place_job : (r : Option RawPosition) (ws : List (Bor Text)) (d0 d1 : Bor Text) → 2 ≤ length ws → (get_or ws 0 d0).now ≡ codes "at" → false ≡ (length (rest_of ws) == 0)
     → IsWhatTellsJob (get_or ws 1 d1).now (texts (rest_of ws)) r → IsWhatTellsPlace (texts ws) r
 place_job r ws d0 d1 low at some h =
     job_told r (texts ws) (get_or ws 1 d1).now (texts (rest_of ws))

@@ -4,12 +4,12 @@ use Rattle.dd_model.specs.declared.requests.Request.{Request}
 use Rattle.dd_opening_jobs.specs.declared.shards.Shard.{Shard}
 use Rattle.dd_opening_jobs.specs.declared.portions.Portion.{Portion}
 use Rattle.dd_opening_jobs.specs.Portions.{whole}
-use Rattle.dd_check.specs.declared.kinds.Kind.{Kind}
-use Rattle.dd_check.specs.declared.kinds.Kind.TheVariants.{Catalogues, Shards}
+use Rattle.dd_check.specs.declared.kinds.ResumeKind.{ResumeKind}
+use Rattle.dd_check.specs.declared.kinds.ResumeKind.TheVariants.{Catalogues, Shards}
 use Rattle.dd_check.specs.Texts.{Text}
 
 -- which texts the runs of a catalogue go on from, and those of the shard if there is one
-abbrev pub kind_of : Option Shard → Kind
+abbrev pub kind_of : Option Shard → ResumeKind
 kind_of None = Catalogues
 kind_of (Some shard) = Shards
 
@@ -17,7 +17,7 @@ kind_of (Some shard) = Shards
 -- the checkpoint of a name.
 pub data Task : Type 0 where
   Begin : Portion → Option Text → Task
-  Resume : Kind → Text → Task
+  Resume : ResumeKind → Text → Task
 
 -- how a call ended, as far as a chain asks: it wrote all that was left, it paused, or it stopped for any other cause
 pub data Ending : Type 0 where

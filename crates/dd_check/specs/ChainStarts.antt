@@ -7,7 +7,7 @@ use Rattle.dd_opening_jobs.specs.declared.portions.Portion.{Portion}
 use Rattle.dd_check.specs.declared.checkpoint.Checkpoint.{Checkpoint}
 use Rattle.dd_check.specs.Texts.{Text}
 use Rattle.dd_check.specs.ShardChecks.{IsAcceptedText}
-use Rattle.dd_check.specs.declared.kinds.Kind.{Kind}
+use Rattle.dd_check.specs.declared.kinds.ResumeKind.{ResumeKind}
 use Rattle.dd_check.specs.Calls.{kind_of, Task, Begin, Resume, Call}
 
 -- a name holds a checkpoint text of these values, whoever wrote it: one of a catalogue, or of the shard if there is one
@@ -17,7 +17,7 @@ pub record Holds (shard : Option Shard) (held : Option Text) (c : Checkpoint) : 
   pub accepted : IsAcceptedText shard text c
 
 -- a name holds a checkpoint text of this kind
-pub record HoldsKind (kind : Kind) (held : Option Text) : Type 0 where
+pub record HoldsKind (kind : ResumeKind) (held : Option Text) : Type 0 where
   pub shard : Option Shard
   pub kind_is : kind_of shard ≡ kind
   pub check : Checkpoint
@@ -38,7 +38,7 @@ abbrev pub next_start : Option Shard → Checkpoint → Start
 next_start shard c = record { number = c.run + 1; portion = record { request = c.request; shard = shard }; at = c.at; lines = c.lines }
 
 -- the call goes on from the text that the name holds
-pub record StartsNext (kind : Kind) (before : Option Text) (start : Start) : Type 0 where
+pub record StartsNext (kind : ResumeKind) (before : Option Text) (start : Start) : Type 0 where
   pub held : HoldsKind kind before
   pub start_is : start ≡ next_start held.shard held.check
 

@@ -4,23 +4,23 @@ use Rattle.dd_model.specs.Request.{IsValid}
 use Rattle.dd_opening_jobs.specs.declared.portions.Portion.{Portion}
 use Rattle.dd_check.specs.declared.checkpoint.Checkpoint.{Checkpoint}
 use Rattle.dd_check.specs.Texts.{Text}
-use Rattle.dd_check.specs.declared.kinds.Kind.{Kind}
+use Rattle.dd_check.specs.declared.kinds.ResumeKind.{ResumeKind}
 use Rattle.dd_check.specs.Calls.{kind_of, Task, Begin, Resume, Ending, Call}
 use Rattle.dd_check.specs.ChainStarts.{Holds, HoldsKind, Start, StartsAt}
 use Rattle.dd_check.specs.Clauses.{HasWorked}
 
 -- the call goes on under the name from what it holds
-pub record IsResumed (kind : Kind) (name : Text) (held : Option Text) (call : Call) : Type 0 where
+pub record IsResumed (kind : ResumeKind) (name : Text) (held : Option Text) (call : Call) : Type 0 where
   pub task : call.task ≡ Resume kind name
   pub before : call.before ≡ held
 
 -- each call goes on from what the one before left
-abbrev pub AreResumed : Kind → Text → Option Text → List Call → Type 0
+abbrev pub AreResumed : ResumeKind → Text → Option Text → List Call → Type 0
 AreResumed kind name held [] = Unit {0}
 AreResumed kind name held (call ∷ calls) = IsResumed kind name held call × AreResumed kind name call.after calls
 
 -- the calls after the first; a first call without a name is a chain by itself
-abbrev pub AreLater : Kind → Option Text → Option Text → List Call → Type 0
+abbrev pub AreLater : ResumeKind → Option Text → Option Text → List Call → Type 0
 AreLater kind None held calls = calls ≡ []
 AreLater kind (Some name) held calls = AreResumed kind name held calls
 
@@ -35,7 +35,7 @@ IsChain p name [] = ⊥
 IsChain p name (call ∷ calls) = IsChainFrom p name call calls
 
 -- the texts that a call leaves and the next one goes on from
-abbrev pub kind_of_task : Task → Kind
+abbrev pub kind_of_task : Task → ResumeKind
 kind_of_task (Begin p name) = kind_of p.shard
 kind_of_task (Resume kind name) = kind
 

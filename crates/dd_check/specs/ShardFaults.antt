@@ -3,8 +3,8 @@ use Rattle.std.specs.Prelude.{◌≡◌, ◌++◌, ℕ, ◌+◌, List, codes}
 use Rattle.dd_opening_jobs.specs.declared.shards.Shard.{Shard}
 use Rattle.dd_check.specs.declared.checkpoint.Checkpoint.{Checkpoint}
 use Rattle.dd_check.specs.declared.faults.CheckFault.{CheckFault}
-use Rattle.dd_check.specs.declared.kinds.Kind.{Kind}
-use Rattle.dd_check.specs.declared.kinds.Kind.TheVariants.{Catalogues, Shards}
+use Rattle.dd_check.specs.declared.kinds.ResumeKind.{ResumeKind}
+use Rattle.dd_check.specs.declared.kinds.ResumeKind.TheVariants.{Catalogues, Shards}
 use Rattle.dd_check.specs.declared.shard_faults.ShardFault.{ShardFault}
 use Rattle.dd_check.specs.declared.shard_faults.ShardFault.TheVariants.{First, Check, Other, Memory}
 use Rattle.dd_check.specs.Texts.{Text}
@@ -50,7 +50,7 @@ HasShardFault text Other = IsOfOtherShard text
 HasShardFault text Memory = ⊥
 
 -- the text has the fault, as one that runs of the kind go on from
-abbrev pub HasKindFault : Kind → Text → ShardFault → Type 0
+abbrev pub HasKindFault : ResumeKind → Text → ShardFault → Type 0
 HasKindFault Catalogues text (Check fault) = HasFault text fault
 HasKindFault Catalogues text fault = ⊥
 HasKindFault Shards text fault = HasShardFault text fault

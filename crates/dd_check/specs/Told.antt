@@ -8,8 +8,8 @@ use Rattle.dd_model.specs.declared.jobs.Position.TheVariants.{At as AtJob, End a
 use Rattle.dd_check.specs.declared.items.Item.{Item}
 use Rattle.dd_check.specs.declared.limits.Limits.{Limits}
 use Rattle.dd_check.specs.declared.limits.OldLimits.{OldLimits}
-use Rattle.dd_check.specs.declared.places.Place.{Place}
-use Rattle.dd_check.specs.declared.places.Place.TheVariants.{At, End}
+use Rattle.dd_check.specs.declared.raw_position.RawPosition.{RawPosition}
+use Rattle.dd_check.specs.declared.raw_position.RawPosition.TheVariants.{At, End}
 use Rattle.dd_check.specs.Texts.{Text}
 use Rattle.dd_check.specs.Numerals.{IsShort, IsNumeral}
 use Rattle.dd_check.specs.Sets.{ends_of, item_text, set_text}
@@ -66,15 +66,15 @@ abbrev pub IsWhatTellsNumbers : List Text → Option (Vec ℕ Global) → Type 0
 IsWhatTellsNumbers words told = MatchOption told ((numbers : List ℕ) → AreNumerals words numbers → ⊥) (λ numbers. AreNumerals words numbers.items)
 
 -- the position with these numbers
-abbrev pub position_of : Place → Position
+abbrev pub position_of : RawPosition → Position
 position_of End = NoJob
 position_of (At size numbers) = AtJob (record { size = size; prefix = numbers.items })
 
-abbrev pub IsWhatTellsPlace : List Text → Option Place → Type 0
+abbrev pub IsWhatTellsPlace : List Text → Option RawPosition → Type 0
 IsWhatTellsPlace words told = MatchOption told ((at : Position) → IsPlaceRow words at → ⊥) (λ place. IsPlaceRow words (position_of place))
 
 -- a word that says that the position is the end
-abbrev pub IsWhatTellsEnd : Text → Option Place → Type 0
+abbrev pub IsWhatTellsEnd : Text → Option RawPosition → Type 0
 IsWhatTellsEnd word told = MatchOption told (word ≡ codes "end" → ⊥) (λ place. (place ≡ End) × (word ≡ codes "end"))
 
 -- words that are a size and numbers
@@ -82,14 +82,14 @@ pub record AreJobWords (size : Text) (rest : List Text) (job : Job) : Type 0 whe
   pub size_is : IsNumeral size job.size
   pub numbers_are : AreNumerals rest job.prefix
 
-abbrev pub IsJobPlace : Text → List Text → Place → Type 0
+abbrev pub IsJobPlace : Text → List Text → RawPosition → Type 0
 IsJobPlace size rest End = ⊥
 IsJobPlace size rest (At n numbers) = IsNumeral size n × AreNumerals rest numbers.items
 
-abbrev pub IsWhatTellsJob : Text → List Text → Option Place → Type 0
+abbrev pub IsWhatTellsJob : Text → List Text → Option RawPosition → Type 0
 IsWhatTellsJob size rest told = MatchOption told ((job : Job) → AreJobWords size rest job → ⊥) (IsJobPlace size rest)
 
 -- the numbers fit in those of a position
-abbrev pub IsSmallPlace : Place → Type 0
+abbrev pub IsSmallPlace : RawPosition → Type 0
 IsSmallPlace End = Unit {0}
 IsSmallPlace (At size numbers) = (size ≤ 36) × ((t : ℕ) → t < length numbers.items → slice_index numbers.items t ≤ 216)

@@ -1,6 +1,6 @@
 /// Which kind of texts a run resumes from.
 #[derive(Clone, Copy)]
-pub enum Kind {
+pub enum ResumeKind {
     /// Texts of catalogues.
     Catalogues,
     /// Texts of shards.

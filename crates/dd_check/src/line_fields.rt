@@ -11,9 +11,9 @@ use crate::faults::CheckFault;
 use crate::limits::{Limits, OldLimits};
 use crate::lines::words_at;
 use crate::place_rows::place_row;
-use crate::places::Place;
 use crate::positions::position;
 use crate::ranges::{are_limits, are_old_limits, is_from_to, is_in_old_range, is_in_range};
+use crate::raw_position::RawPosition;
 use crate::rows::{limits_row, number_row, old_limits_row};
 use crate::sets::{are_items, set_of, set_row};
 use dd_model::{Allowed, Position};
@@ -107,7 +107,7 @@ pub(crate) fn set_at(
 }
 
 /// Returns the position of a line as its words say it. It may be out of range.
-fn told_place(alloc: Global, lines: &[&[u8]], line: u32) -> Result<Place, CheckFault>
+fn told_place(alloc: Global, lines: &[&[u8]], line: u32) -> Result<RawPosition, CheckFault>
     requires { 1 ≤ line }
     ensures told { IfOk result
         (λ place. Tells IsPlaceRow (texts lines.now) line (position_of place)) }

@@ -1,22 +1,22 @@
 ghost use Rattle.std.specs.Prelude.{◌≡◌, ◌<◌, ◌≤◌, ℕ, IfOk, length, slice_index};
 ghost use Rattle.dd_check.specs.Told.{position_of, IsSmallPlace};
 
-use crate::places::Place;
+use crate::raw_position::RawPosition;
 use dd_model::{Job, Memory, Position, Prefix};
 use std::alloc::Global;
 
 /// Returns the position that a text gives.
-pub(crate) fn position(alloc: Global, place: &Place) -> Result<Position, Memory>
+pub(crate) fn position(alloc: Global, place: &RawPosition) -> Result<Position, Memory>
     requires { IsSmallPlace place.now }
     ensures { IfOk result (λ at. at ≡ position_of place.now) }
 {
     match place {
-        Place::At(size, numbers) => {
+        RawPosition::At(size, numbers) => {
             let size = *size as u32;
             let prefix = prefix_of(alloc, numbers)?;
             Ok(Position::At(Job { size, prefix }))
         }
-        Place::End => Ok(Position::End),
+        RawPosition::End => Ok(Position::End),
     }
 }
 

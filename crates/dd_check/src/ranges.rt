@@ -4,7 +4,7 @@ ghost use Rattle.dd_check.specs.Ranges.{IsInRange, IsInOldRange};
 ghost use Rattle.dd_check.specs.Told.{position_of};
 
 use crate::limits::{Limits, OldLimits};
-use crate::places::Place;
+use crate::raw_position::RawPosition;
 
 /// Returns whether the numbers of a request are in range.
 pub(crate) fn are_limits(limits: &Limits) -> bool
@@ -32,29 +32,29 @@ pub(crate) fn is_from_to(low: u64, high: u64, number: u64) -> bool
 }
 
 /// Returns whether a position is in range: at most 180 numbers, images and then degrees.
-pub(crate) fn is_in_range(chambers: u64, place: &Place) -> bool
+pub(crate) fn is_in_range(chambers: u64, place: &RawPosition) -> bool
     requires { chambers ≤ 36 }
     ensures { IsTrue result ↔ IsInRange chambers (position_of place.now) }
 {
     match place {
-        Place::At(size, numbers) => {
+        RawPosition::At(size, numbers) => {
             is_from_to(1, chambers, *size)
                 && numbers.len() <= 180
                 && are_images_and_degrees(*size, numbers)
         }
-        Place::End => true,
+        RawPosition::End => true,
     }
 }
 
 /// Returns whether a position of version 1 is in range: at most 108 numbers, which are images.
-pub(crate) fn is_in_old_range(chambers: u64, place: &Place) -> bool
+pub(crate) fn is_in_old_range(chambers: u64, place: &RawPosition) -> bool
     ensures { IsTrue result ↔ IsInOldRange chambers (position_of place.now) }
 {
     match place {
-        Place::At(size, numbers) => {
+        RawPosition::At(size, numbers) => {
             is_from_to(1, chambers, *size) && numbers.len() <= 108 && are_images(*size, numbers)
         }
-        Place::End => true,
+        RawPosition::End => true,
     }
 }
 

@@ -31,7 +31,7 @@ use Rattle.dd_lattice.proofs.TreeCounts.{tree_chosen, tree_not_chosen}
 use Rattle.dd_gram.specs.Loops.{IsLoop, IsWalkTo}
 use Rattle.dd_gram.specs.Spreading.{flag, IsStill, IsOver, IsStep, IsNewStep, AreLevel, IsLedTo, IsReached, AreSteps, AreWholeSteps}
 use Rattle.dd_gram.specs.Walks.{sum_along}
-use Rattle.dd_gram.specs.declared.step.Step.{Step}
+use Rattle.dd_gram.specs.declared.back_step.BackStep.{BackStep}
 use Rattle.dd_gram.proofs.WalkLemmas.{walk_on, sum_along-append}
 
 -- ## Values of vertices that are equal at the ends of edges without a shift
@@ -82,7 +82,7 @@ pub one_more : {A : Type 0} (es : List A) (q k : ℕ) (e x : A) → q ≡ k → 
 one_more es q k e x at inside here = get_or_default es q e x inside ∙ ap (λ j. get_or es j x) at ∙ sym here
 
 -- the edge of a chamber, ahead or back
-pub step_is : (t : Symbol) (net : Net) (is : IsNet t net) → AreInvolutions t → (edges : List ℕ) → AreCells t Edge edges → (k : ℕ) (e : NetEdge) (ahead : Bool) (s : Step) → k < length edges
+pub step_is : (t : Symbol) (net : Net) (is : IsNet t net) → AreInvolutions t → (edges : List ℕ) → AreCells t Edge edges → (k : ℕ) (e : NetEdge) (ahead : Bool) (s : BackStep) → k < length edges
     → get_or net.edges.items k e ≡ e → IsStill e → IsOver t e (get_or edges k 0) ahead s → IsStep t net is s
 step_is t net is inv edges cells k e ahead s inside here still over =
     let same = cells_unique t Edge edges is.edges cells is.are_edges in
@@ -109,26 +109,26 @@ step_is t net is inv edges cells k e ahead s inside here still over =
     ]) over
 
 -- one that is new
-pub new_step : (t : Symbol) (net : Net) → AreInvolutions t → (edges : List ℕ) → AreCells t Edge edges → (met : List Bool) (k : ℕ) (e : NetEdge) (ahead other : Bool) (s : Step) → k < length edges
+pub new_step : (t : Symbol) (net : Net) → AreInvolutions t → (edges : List ℕ) → AreCells t Edge edges → (met : List Bool) (k : ℕ) (e : NetEdge) (ahead other : Bool) (s : BackStep) → k < length edges
     → get_or net.edges.items k e ≡ e → IsStill e → IsNetVertex net e.from → IsNetVertex net e.to → ahead ≡ flag met e.from → other ≡ flag met e.to → (ahead ≡ other → ⊥) → IsOver t e (get_or edges k 0) ahead s → IsNewStep t net met s
 new_step t net involutions edges cells met k e true true s inside here still hf ht from to off over = absurd (off refl)
 new_step t net involutions edges cells met k e false false s inside here still hf ht from to off over = absurd (off refl)
 new_step t net involutions edges cells met k e true false s inside here still hf ht from to off over = record {
   step = λ is. step_is t net is involutions edges cells k e true s inside here still over;
-  from = subst (λ (x : Step). IsNetVertex net x.from) (sym over) hf;
-  to = subst (λ (x : Step). IsNetVertex net x.to) (sym over) ht;
-  was_met = ap (λ (x : Step). flag met x.from) over ∙ sym from;
-  new = ap (λ (x : Step). flag met x.to) over ∙ sym to;
+  from = subst (λ (x : BackStep). IsNetVertex net x.from) (sym over) hf;
+  to = subst (λ (x : BackStep). IsNetVertex net x.to) (sym over) ht;
+  was_met = ap (λ (x : BackStep). flag met x.from) over ∙ sym from;
+  new = ap (λ (x : BackStep). flag met x.to) over ∙ sym to;
 }
 new_step t net involutions edges cells met k e false true s inside here still hf ht from to off over = record {
   step = λ is. step_is t net is involutions edges cells k e false s inside here still over;
-  from = subst (λ (x : Step). IsNetVertex net x.from) (sym over) ht;
-  to = subst (λ (x : Step). IsNetVertex net x.to) (sym over) hf;
-  was_met = ap (λ (x : Step). flag met x.from) over ∙ sym to;
-  new = ap (λ (x : Step). flag met x.to) over ∙ sym from;
+  from = subst (λ (x : BackStep). IsNetVertex net x.from) (sym over) ht;
+  to = subst (λ (x : BackStep). IsNetVertex net x.to) (sym over) hf;
+  was_met = ap (λ (x : BackStep). flag met x.from) over ∙ sym to;
+  new = ap (λ (x : BackStep). flag met x.to) over ∙ sym from;
 }
 
-led_more : (xs : List Step) (x : Step) (j k v : ℕ) → j ≤ k → IsLedTo xs j v → IsLedTo (xs ++ x ∷ []) k v
+led_more : (xs : List BackStep) (x : BackStep) (j k v : ℕ) → j ≤ k → IsLedTo xs j v → IsLedTo (xs ++ x ∷ []) k v
 led_more xs x j k v less led =
     let low = led.early in
     let inside = led.inside in
@@ -137,25 +137,25 @@ led_more xs x j k v less led =
       place = led.place;
       early = omega arith;
       inside = omega arith;
-      leads = λ s. ap (λ (y : Step). y.to) (get_or_append_left xs (x ∷ []) s led.place inside) ∙ led.leads s;
+      leads = λ s. ap (λ (y : BackStep). y.to) (get_or_append_left xs (x ∷ []) s led.place inside) ∙ led.leads s;
     }
 
-pub reached_more : (root : ℕ) (xs : List Step) (x : Step) (j k v : ℕ) → j ≤ k → IsReached root xs j v → IsReached root (xs ++ x ∷ []) k v
+pub reached_more : (root : ℕ) (xs : List BackStep) (x : BackStep) (j k v : ℕ) → j ≤ k → IsReached root xs j v → IsReached root (xs ++ x ∷ []) k v
 reached_more root xs x j k v less reached = ⊎_elim (λ own. inl own) (λ led. inr (led_more xs x j k v less led)) reached
 
 -- vertices that are met, and the steps to them
-pub record IsSpread (t : Symbol) (net : Net) (root : ℕ) (met : List Bool) (steps : List Step) : Type 0 where
+pub record IsSpread (t : Symbol) (net : Net) (root : ℕ) (met : List Bool) (steps : List BackStep) : Type 0 where
   pub many : length met ≡ net.vertices
   pub are : AreSteps t net root steps
   pub own : flag met root ≡ true
   pub told : (v : ℕ) → IsNetVertex net v → flag met v ≡ true → IsReached root steps (length steps) v
   pub count : count_by is_set met ≡ length steps + 1
 
-module _ (t : Symbol) (net : Net) (root : ℕ) (met : List Bool) (steps : List Step) (spread : IsSpread t net root met steps) (step : Step) (new : IsNewStep t net met step) where
+module _ (t : Symbol) (net : Net) (root : ℕ) (met : List Bool) (steps : List BackStep) (spread : IsSpread t net root met steps) (step : BackStep) (new : IsNewStep t net met step) where
   abbrev met' : List Bool
   met' = set met (step.to - 1) true
 
-  abbrev steps' : List Step
+  abbrev steps' : List BackStep
   steps' = steps ++ step ∷ []
 
   abbrev n : ℕ
@@ -179,7 +179,7 @@ module _ (t : Symbol) (net : Net) (root : ℕ) (met : List Bool) (steps : List S
       let all = counted in
       omega arith
 
-  at_place : (P : ℕ → Step → Type 0) → ((k : ℕ) (e : Step) → k < n → P k (get_or steps k e)) → P n step → (k : ℕ) (e : Step) → k < length steps' → P k (get_or steps' k e)
+  at_place : (P : ℕ → BackStep → Type 0) → ((k : ℕ) (e : BackStep) → k < n → P k (get_or steps k e)) → P n step → (k : ℕ) (e : BackStep) → k < length steps' → P k (get_or steps' k e)
   at_place P before last k e low =
       let many = length_push steps step in
       ⊎_elim
@@ -203,7 +203,7 @@ module _ (t : Symbol) (net : Net) (root : ℕ) (met : List Bool) (steps : List S
     told = λ v hv yes_.
         let many = length_push steps step in
         ⊎_elim
-        (λ same. inr (record { place = n; early = omega arith; inside = omega arith; leads = λ s. ap (λ (y : Step). y.to) (get_or_push steps step s n refl) ∙ sym same }))
+        (λ same. inr (record { place = n; early = omega arith; inside = omega arith; leads = λ s. ap (λ (y : BackStep). y.to) (get_or_push steps step s n refl) ∙ sym same }))
         (λ off. reached_more root steps step n (length steps') v (omega arith) (spread.told v hv (sym (flag_other v hv off) ∙ yes_)))
         (cases_eq v step.to);
     count = counted;
@@ -219,14 +219,14 @@ none_counted zero = refl
 none_counted (suc n) = let sum = sum_by-cons (λ (b : Bool). cond (is_set b) 1 0) false (replicate n false) in let rest = none_counted n in omega arith
 
 -- the first vertex alone is met
-pub spread_start : (t : Symbol) (net : Net) (root : ℕ) (items : List Bool) (steps : List Step) → IsNetVertex net root → items ≡ replicate net.vertices false → steps ≡ [] → IsSpread t net root (set items (root - 1) true) steps
+pub spread_start : (t : Symbol) (net : Net) (root : ℕ) (items : List Bool) (steps : List BackStep) → IsNetVertex net root → items ≡ replicate net.vertices false → steps ≡ [] → IsSpread t net root (set items (root - 1) true) steps
 spread_start t net root items steps h is nothing =
     let size : length items ≡ net.vertices = ap length is ∙ length-replicate net.vertices false in
     let low = h.0 in
     let high = h.1 in
     let inside : root - 1 < length items = omega arith in
     let flag_none = λ (v : ℕ). ap (λ xs. flag xs v) is ∙ none_set net.vertices (v - 1) in
-    let empty : length steps ≡ 0 = ap (λ (xs : List Step). length xs) nothing in
+    let empty : length steps ≡ 0 = ap (λ (xs : List BackStep). length xs) nothing in
     record {
       many = length-set items (root - 1) true ∙ size;
       are = record {
@@ -247,7 +247,7 @@ spread_start t net root items steps h is nothing =
     not_both false yes_ no_ = cc
 
 -- nothing is left to be met
-pub spread_whole : (t : Symbol) → IsTorus t → (net : Net) → IsNet t net → (root : ℕ) (met : List Bool) (steps : List Step) → IsNetVertex net root → IsSpread t net root met steps → AreLevel net met → AreWholeSteps t net root steps
+pub spread_whole : (t : Symbol) → IsTorus t → (net : Net) → IsNet t net → (root : ℕ) (met : List Bool) (steps : List BackStep) → IsNetVertex net root → IsSpread t net root met steps → AreLevel net met → AreWholeSteps t net root steps
 spread_whole t torus net is root met steps hr spread level = record {
   are = spread.are;
   all = λ v hv.
@@ -262,7 +262,7 @@ spread_whole t torus net is root met steps hr spread level = record {
 -- ## The way back
 
 -- by the last of some steps, or by those before
-last_or_before : (root : ℕ) (steps : List Step) (m v : ℕ) (x : Step) → get_or steps m x ≡ x → IsReached root steps (m + 1) v → (x.to ≡ v → ⊥) → IsReached root steps m v
+last_or_before : (root : ℕ) (steps : List BackStep) (m v : ℕ) (x : BackStep) → get_or steps m x ≡ x → IsReached root steps (m + 1) v → (x.to ≡ v → ⊥) → IsReached root steps m v
 last_or_before root steps m v x at reached off =
     ⊎_elim
     (λ own. inl own)
@@ -270,7 +270,7 @@ last_or_before root steps m v x at reached off =
     let low = led.early in
     ⊎_elim
     (λ less. inr (record { place = led.place; early = less; inside = led.inside; leads = led.leads }))
-    (λ rest. let e : led.place ≡ m = omega arith in absurd (off (ap (λ (y : Step). y.to) (sym at) ∙ ap (λ k. (get_or steps k x).to) (sym e) ∙ led.leads x)))
+    (λ rest. let e : led.place ≡ m = omega arith in absurd (off (ap (λ (y : BackStep). y.to) (sym at) ∙ ap (λ k. (get_or steps k x).to) (sym e) ∙ led.leads x)))
     (cases_lt led.place m))
     reached
 
@@ -278,14 +278,14 @@ in_one_vertex : (t : Symbol) → AreInvolutions t → (vertices : List ℕ) (a b
 in_one_vertex t inv vertices a b v hb one two = in_cell-trans t Vertex a (item vertices v) b one.least.in_cell (in_cell-sym t inv Vertex b (item vertices v) hb two.least.in_cell)
 
 -- The walk from the vertex of d has the total shift (u, v), and has come back by all steps but the first m of them.
-pub record IsOnWay (t : Symbol) (net : Net) (is : IsNet t net) (root : ℕ) (steps : List Step) (d : ℕ) (u v : ℤ) (m : ℕ) (walk : List ℕ) (place : ℕ) : Type 0 where
+pub record IsOnWay (t : Symbol) (net : Net) (is : IsNet t net) (root : ℕ) (steps : List BackStep) (d : ℕ) (u v : ℤ) (m : ℕ) (walk : List ℕ) (place : ℕ) : Type 0 where
   pub reached : IsReached root steps m place
   pub goes : IsWalkTo t net is d walk place
   pub along_x : sum_along is.first walk ≡ u
   pub along_y : sum_along is.second walk ≡ v
 
-module _ (t : Symbol) (net : Net) (is : IsNet t net) (inv : AreInvolutions t) (root : ℕ) (steps : List Step) (are : AreSteps t net root steps) (d : ℕ) (u v : ℤ) (m : ℕ) (inside : m < length steps) (walk : List ℕ) (place : ℕ)
-    (way : IsOnWay t net is root steps d u v (m + 1) walk place) (x : Step) (at : get_or steps m x ≡ x) where
+module _ (t : Symbol) (net : Net) (is : IsNet t net) (inv : AreInvolutions t) (root : ℕ) (steps : List BackStep) (are : AreSteps t net root steps) (d : ℕ) (u v : ℤ) (m : ℕ) (inside : m < length steps) (walk : List ℕ) (place : ℕ)
+    (way : IsOnWay t net is root steps d u v (m + 1) walk place) (x : BackStep) (at : get_or steps m x ≡ x) where
   pub elsewhere : (x.to ≡ place → ⊥) → IsOnWay t net is root steps d u v m walk place
   elsewhere off = record {
     reached = last_or_before root steps m place x at way.reached off;
@@ -297,7 +297,7 @@ module _ (t : Symbol) (net : Net) (is : IsNet t net) (inv : AreInvolutions t) (r
   pub back : x.to ≡ place → IsOnWay t net is root steps d u v m (walk ++ x.back ∷ []) x.from
   back here =
       let step : IsStep t net is x = subst (IsStep t net is) at (are.each is m x inside) in
-      let from : IsReached root steps m x.from = subst (λ (y : Step). IsReached root steps m y.from) at (are.from m x inside) in
+      let from : IsReached root steps m x.from = subst (λ (y : BackStep). IsReached root steps m y.from) at (are.from m x inside) in
       record {
         reached = from;
         goes = λ b hb number_b.
@@ -308,7 +308,7 @@ module _ (t : Symbol) (net : Net) (is : IsNet t net) (inv : AreInvolutions t) (r
       }
 
 -- the edge alone
-pub way_start : (t : Symbol) (net : Net) (is : IsNet t net) → AreInvolutions t → (edges : List ℕ) → AreCells t Edge edges → (root : ℕ) (steps : List Step) → AreWholeSteps t net root steps → (k : ℕ) (e : NetEdge) → k < length edges
+pub way_start : (t : Symbol) (net : Net) (is : IsNet t net) → AreInvolutions t → (edges : List ℕ) → AreCells t Edge edges → (root : ℕ) (steps : List BackStep) → AreWholeSteps t net root steps → (k : ℕ) (e : NetEdge) → k < length edges
     → IsNetVertex net (get_or net.edges.items k e).to
     → IsOnWay t net is root steps (get_or edges k 0) (get_or net.edges.items k e).x (get_or net.edges.items k e).y (length steps) (get_or edges k 0 ∷ []) (get_or net.edges.items k e).to
 way_start t net is inv edges cells root steps whole k e inside hv =
@@ -329,7 +329,7 @@ way_start t net is inv edges cells root steps whole k e inside hv =
     }
 
 pub way_begun : (t : Symbol) (net : Net) (is : IsNet t net) → AreInvolutions t → (edges : List ℕ) → AreCells t Edge edges → (k : ℕ) (e x : NetEdge) → k < length edges → IsNetVertex net (get_or net.edges.items k e).to
-    → get_or net.edges.items k e ≡ x → (steps : List Step) → AreWholeSteps t net x.from steps → (m : ℕ) → m ≡ length steps → (walk : List ℕ) → walk ≡ get_or edges k 0 ∷ []
+    → get_or net.edges.items k e ≡ x → (steps : List BackStep) → AreWholeSteps t net x.from steps → (m : ℕ) → m ≡ length steps → (walk : List ℕ) → walk ≡ get_or edges k 0 ∷ []
     → IsOnWay t net is (get_or net.edges.items k e).from steps (get_or edges k 0) (get_or net.edges.items k e).x (get_or net.edges.items k e).y m walk x.to
 way_begun t net is inv edges cells k e x inside hv same steps whole m many walk alone =
     let y = get_or net.edges.items k e in
@@ -340,7 +340,7 @@ way_begun t net is inv edges cells k e x inside hv same steps whole m many walk 
     subst (λ (z : NetEdge). IsOnWay t net is y.from steps d y.x y.y m walk z.to) same (subst (λ ws. IsOnWay t net is y.from steps d y.x y.y m ws y.to) (sym alone) at_m)
 
 -- and the whole walk, which is closed
-pub way_end : (t : Symbol) (net : Net) (is : IsNet t net) (edges : List ℕ) → AreCells t Edge edges → (steps : List Step) (k : ℕ) (e : NetEdge) (u v : ℤ) (walk : List ℕ) (place : ℕ) → k < length edges
+pub way_end : (t : Symbol) (net : Net) (is : IsNet t net) (edges : List ℕ) → AreCells t Edge edges → (steps : List BackStep) (k : ℕ) (e : NetEdge) (u v : ℤ) (walk : List ℕ) (place : ℕ) → k < length edges
     → IsOnWay t net is (get_or net.edges.items k e).from steps (get_or edges k 0) u v 0 walk place → IsLoop t net is walk u v
 way_end t net is edges cells steps k e u v walk place inside way =
     let same = cells_unique t Edge edges is.edges cells is.are_edges in

@@ -1,6 +1,7 @@
 //! Symmetries of tori: what they do to shifts, and the shape of a cell that they keep.
 #![tactic(auto)]
 
+mod back_step;
 mod basis;
 mod carried;
 mod edge_numbers;
@@ -11,7 +12,6 @@ mod laws;
 mod loops;
 mod matrices;
 mod spread;
-mod step;
 
 pub use carried::carry;
 pub use forms::{Gram, Matrix};

@@ -8,8 +8,8 @@ ghost use Rattle.dd_lattice.specs.declared.net_edge.NetEdge.{NetEdge};
 ghost use Rattle.dd_gram.specs.Loops.{IsLoop, HasEdgeWith};
 ghost use Rattle.dd_gram.specs.Spreading.{AreWholeSteps, IsReached};
 
+use crate::back_step::BackStep;
 use crate::spread::steps_from;
-use crate::step::Step;
 use dd_lattice::{Net, NetEdge};
 use dd_model::Memory;
 use dd_symbol::Connected;

@@ -8,7 +8,7 @@ ghost use Rattle.dd_lattice.specs.NetOf.{IsNet};
 ghost use Rattle.dd_lattice.specs.Nets.{IsConnectedNet, IsNetVertex};
 ghost use Rattle.dd_gram.specs.Spreading.{flag, IsStill, IsNewStep, AreLevel, AreWholeSteps, IsOver};
 
-use crate::step::Step;
+use crate::back_step::BackStep;
 use dd_lattice::{Net, NetEdge};
 use dd_model::{Index, Memory};
 use dd_symbol::{Connected, Symbol};
@@ -31,18 +31,18 @@ fn is_met(met: &[bool], vertex: u32) -> bool
 }
 
 /// The step along the edge of a chamber: as the chamber passes it, or the other way.
-fn step_over(symbol: &Symbol, edge: NetEdge, chamber: u32, ahead: bool) -> Step
+fn step_over(symbol: &Symbol, edge: NetEdge, chamber: u32, ahead: bool) -> BackStep
     requires { IsChamber symbol.now chamber }
     ensures { IsOver symbol.now edge chamber ahead result }
 {
     if ahead {
-        Step {
+        BackStep {
             back: symbol.op(Index::Zero, chamber),
             from: edge.from,
             to: edge.to,
         }
     } else {
-        Step {
+        BackStep {
             back: chamber,
             from: edge.to,
             to: edge.from,
@@ -51,7 +51,7 @@ fn step_over(symbol: &Symbol, edge: NetEdge, chamber: u32, ahead: bool) -> Step
 }
 
 /// A step from a vertex that is met to one that is not, along the first edge that allows one.
-fn next_step(symbol: &Symbol, net: &Net, edges: &[u32], met: &[bool]) -> Option<Step>
+fn next_step(symbol: &Symbol, net: &Net, edges: &[u32], met: &[bool]) -> Option<BackStep>
     requires torus { IsTorus symbol.now }
     requires net { IsNet symbol.now net.now }
     requires connected { IsConnectedNet net.now }
@@ -80,7 +80,7 @@ pub(crate) fn steps_from(
     net: &Net,
     edges: &[u32],
     root: u32,
-) -> Result<Vec<Step>, Memory>
+) -> Result<Vec<BackStep>, Memory>
     requires torus { IsTorus t.now }
     requires net { IsNet t.now net.now }
     requires connected { IsConnectedNet net.now }

@@ -6,8 +6,8 @@ use Rattle.dd_model.specs.declared.pair.Pair.{Pair}
 use Rattle.dd_model.specs.declared.pair.Pair.TheVariants.{Tile, Vertex}
 use Rattle.dd_template.specs.declared.tables.Degree.{Degree}
 use Rattle.dd_template.specs.declared.tables.Degree.TheVariants.{OfTile, OfVertex, Fixed}
-use Rattle.dd_template.specs.declared.tables.Kind.{Kind}
-use Rattle.dd_template.specs.declared.tables.Kind.TheVariants as kind
+use Rattle.dd_template.specs.declared.tables.MultipleOf.{MultipleOf}
+use Rattle.dd_template.specs.declared.tables.MultipleOf.TheVariants as kind
 use Rattle.dd_template.specs.Table.{Table, IsPart, entry}
 use Rattle.dd_template.specs.Entries.{entries}
 use Rattle.dd_template.specs.Lawful.{IsLawful}
@@ -63,7 +63,7 @@ product_of_fractions u c d a b e some more first second both =
     eq_of_mul-eq-mul_left (c * d) positive (u * e) (b * a) (left ∙ sym right)
 
 -- what stands for a fraction of the outer table with no inner one
-abbrev pub alone : Kind → ℕ
+abbrev pub alone : MultipleOf → ℕ
 alone kind.Tile = 0
 alone kind.Vertex = 0
 alone kind.Neither = curvature_unit
@@ -86,7 +86,7 @@ nothing : (u n : ℕ) → u * 0 ≡ 0 * n
 nothing u n = omega arith
 
 -- c times an entry has its fraction divided by c
-share-times : (k : Kind) (c : ℕ) (e : Degree) → 1 ≤ c → IsFactor 64 c e → curvature_unit * share k (times c e) ≡ share k e * (curvature_unit / c)
+share-times : (k : MultipleOf) (c : ℕ) (e : Degree) → 1 ≤ c → IsFactor 64 c e → curvature_unit * share k (times c e) ≡ share k e * (curvature_unit / c)
 share-times kind.Tile c (OfTile d) some f = fraction c d some f.0 f.1
 share-times kind.Tile c (OfVertex d) some f = nothing curvature_unit (curvature_unit / c)
 share-times kind.Tile c (Fixed m) some f = nothing curvature_unit (curvature_unit / c)
@@ -113,12 +113,12 @@ weigh u v w n m e = omega arith
 weigh_second : (u v w n m : ℕ) → n ≡ v * m → n ≡ u * 0 + v * m + w * 0
 weigh_second u v w n m e = omega arith
 
-weigh_fixed : (k : Kind) (u v m : ℕ) → curvature_unit * share k (Fixed m) ≡ u * 0 + v * 0 + alone k * (curvature_unit / m)
+weigh_fixed : (k : MultipleOf) (u v m : ℕ) → curvature_unit * share k (Fixed m) ≡ u * 0 + v * 0 + alone k * (curvature_unit / m)
 weigh_fixed kind.Tile u v m = omega arith
 weigh_fixed kind.Vertex u v m = omega arith
 weigh_fixed kind.Neither u v m = omega arith
 
-share-composed : (inner : Table) (k : Kind) (y : ℕ) (e : Degree) → IsOver inner y e
+share-composed : (inner : Table) (k : MultipleOf) (y : ℕ) (e : Degree) → IsOver inner y e
     → curvature_unit * share k (composed_degree inner y e) ≡ weighed (share k (entry inner.face y)) (share k (entry inner.degree y)) (alone k) e
 share-composed inner k y (OfTile c) over =
     weigh (share k (entry inner.face y)) (share k (entry inner.degree y)) (alone k) (curvature_unit * share k (times c (entry inner.face y))) (curvature_unit / c)
@@ -131,17 +131,17 @@ share-composed inner k y (Fixed m) over = weigh_fixed k (share k (entry inner.fa
 -- ## Sums
 
 -- the fractions of a list of entries
-abbrev fractions : Kind → Table → Pair → ℕ
+abbrev fractions : MultipleOf → Table → Pair → ℕ
 fractions k t p = total (λ x. share k (entry (entries t p) x)) 0 t.parts
 
-fractions-sum : (k : Kind) (t : Table) (p : Pair) → length (entries t p) ≡ t.parts → sum_by (share k) (entries t p) ≡ fractions k t p
+fractions-sum : (k : MultipleOf) (t : Table) (p : Pair) → length (entries t p) ≡ t.parts → sum_by (share k) (entries t p) ≡ fractions k t p
 fractions-sum k t p long = sum_by-total (share k) (entries t p) (Fixed 0) ∙ ap (total (λ x. share k (entry (entries t p) x)) 0) long
 
 -- the fractions of the entries over an inner part
-abbrev fractions_over : Kind → Table → Table → Pair → ℕ → ℕ
+abbrev fractions_over : MultipleOf → Table → Table → Pair → ℕ → ℕ
 fractions_over k outer inner p y = total (λ x. share k (composed_degree inner y (entry (entries outer p) x))) 0 outer.parts
 
-entries_sum : (k : Kind) (outer inner : Table) (p : Pair)
+entries_sum : (k : MultipleOf) (outer inner : Table) (p : Pair)
     → sum_by (share k) (composed_entries outer inner p) ≡ total (fractions_over k outer inner p) 0 inner.parts
 entries_sum k outer inner p =
     let f : ℕ → ℕ → Degree = λ y x. composed_degree inner y (entry (entries outer p) x) in
@@ -160,7 +160,7 @@ entries_sum k outer inner p =
 abbrev pub AreOver : Table → Table → Pair → Type 0
 AreOver outer inner p = (y x : ℕ) → IsPart inner y → IsPart outer x → IsOver inner y (entry (entries outer p) x)
 
-over_sum : (k : Kind) (outer inner : Table) (p : Pair) → AreOver outer inner p → (y : ℕ) → IsPart inner y
+over_sum : (k : MultipleOf) (outer inner : Table) (p : Pair) → AreOver outer inner p → (y : ℕ) → IsPart inner y
     → curvature_unit * fractions_over k outer inner p y
     ≡ share k (entry inner.face y) * fractions kind.Tile outer p + share k (entry inner.degree y) * fractions kind.Vertex outer p + alone k * fractions kind.Neither outer p
 over_sum k outer inner p over y h =
@@ -185,7 +185,7 @@ total-sum f g b zero = refl
 total-sum f g b (suc n) = let rest = total-sum f g (b + 1) n in omega arith
 
 -- the sum over all parts, without the common unit
-pub sum_over : (k : Kind) (outer inner : Table) → IsLawful outer → IsLawful inner → AreOver outer inner Tile → AreOver outer inner Vertex
+pub sum_over : (k : MultipleOf) (outer inner : Table) → IsLawful outer → IsLawful inner → AreOver outer inner Tile → AreOver outer inner Vertex
     → curvature_unit * (sum_by (share k) (composed outer inner).face + sum_by (share k) (composed outer inner).degree)
     ≡ curvature_unit * (sum_by (share k) inner.face + sum_by (share k) inner.degree)
     + inner.parts * (alone k * (sum_by (share kind.Neither) outer.face + sum_by (share kind.Neither) outer.degree))

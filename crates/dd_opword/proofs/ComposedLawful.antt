@@ -10,8 +10,8 @@ use Rattle.dd_model.specs.declared.pair.Pair.TheVariants.{Tile, Vertex}
 use Rattle.dd_model.proofs.Numbers.{positive_product}
 use Rattle.dd_template.specs.declared.tables.Degree.{Degree}
 use Rattle.dd_template.specs.declared.tables.Degree.TheVariants.{OfTile, OfVertex, Fixed}
-use Rattle.dd_template.specs.declared.tables.Kind.{Kind}
-use Rattle.dd_template.specs.declared.tables.Kind.TheVariants as kind
+use Rattle.dd_template.specs.declared.tables.MultipleOf.{MultipleOf}
+use Rattle.dd_template.specs.declared.tables.MultipleOf.TheVariants as kind
 use Rattle.dd_template.specs.Table.{Table, IsPart, moves, move, entry}
 use Rattle.dd_template.specs.Entries.{entries, Fits, AllFit}
 use Rattle.dd_template.specs.Lawful.{IsLawful}
@@ -94,7 +94,7 @@ fixed_sum u a b (suc n) (suc k) s some more inner outer sum =
     let whole : n * u + suc n * (k * u) ≡ (n + suc n * k) * u = grind arith in
     doubled ∙ ap (λ m. m + suc n * (2 * b)) first ∙ ap (λ m. n * u + m) product ∙ whole ∙ ap (λ m. m * u) (sym size)
 
-sum_of : (k : Kind) (outer inner : Table) → GoTogether outer inner
+sum_of : (k : MultipleOf) (outer inner : Table) → GoTogether outer inner
     → curvature_unit * (sum_by (share k) (composed outer inner).face + sum_by (share k) (composed outer inner).degree)
     ≡ curvature_unit * (sum_by (share k) inner.face + sum_by (share k) inner.degree)
     + inner.parts * (alone k * (sum_by (share kind.Neither) outer.face + sum_by (share kind.Neither) outer.degree))
@@ -109,9 +109,9 @@ keeps_curvature outer inner go =
     let all = composed outer inner in
     let keeps = lawful.entries.curvature in
     let inner_keeps = inner_lawful.entries.curvature in
-    let none : Kind → ℕ = λ k. sum_by (share k) inner.face + sum_by (share k) inner.degree in
+    let none : MultipleOf → ℕ = λ k. sum_by (share k) inner.face + sum_by (share k) inner.degree in
     let rest = sum_by (share kind.Neither) outer.face + sum_by (share kind.Neither) outer.degree in
-    let whole : Kind → ℕ = λ k. sum_by (share k) all.face + sum_by (share k) all.degree in
+    let whole : MultipleOf → ℕ = λ k. sum_by (share k) all.face + sum_by (share k) all.degree in
     let some : 1 ≤ curvature_unit = omega arith in
     record {
       tiles = without_unit curvature_unit (whole kind.Tile) (none kind.Tile) inner.parts rest some (sum_of kind.Tile outer inner go) ∙ inner_keeps.tiles;

@@ -11,21 +11,21 @@ use Rattle.dd_model.specs.declared.memory.Memory.{Memory}
 use Rattle.dd_model.proofs.Texts.{joined_lines}
 use Rattle.dd_pages_and_checkpoints.specs.Parts.{members_of, AreNumbered, AreParts}
 use Rattle.dd_pages_and_checkpoints.specs.Texts.{bytes_of, joined}
-use Rattle.dd_pages_and_checkpoints.specs.declared.part.Part.{Part}
+use Rattle.dd_pages_and_checkpoints.specs.declared.numbered_members.NumberedMembers.{NumberedMembers}
 
 -- ## Cutting
 
 -- What is left of these symbols, and then the parts that were taken off the end, of which the latest is the first, are all of them.
-pub record IsCut (k : ℕ) (all left : List Symbol) (parts : List Part) : Type 0 where
+pub record IsCut (k : ℕ) (all left : List Symbol) (parts : List NumberedMembers) : Type 0 where
   pub numbered : AreNumbered (k + length left) (reverse parts)
   pub whole : all ≡ left ++ flat_map members_of (reverse parts)
 
-pub none_cut : (k : ℕ) (all left : List Symbol) (parts : List Part) → left ≡ all → parts ≡ [] → IsCut k all left parts
+pub none_cut : (k : ℕ) (all left : List Symbol) (parts : List NumberedMembers) → left ≡ all → parts ≡ [] → IsCut k all left parts
 none_cut k all left parts same none =
     let start : IsCut k all left [] = record { numbered = tt; whole = sym (append-nil left ∙ same) } in
     subst (IsCut k all left) (sym none) start
 
-pub one_cut : (k : ℕ) (all left front : List Symbol) (part : Part) (parts now : List Part) → left ≡ front ++ members_of part → part.before ≡ k + length front → now ≡ parts ++ part ∷ []
+pub one_cut : (k : ℕ) (all left front : List Symbol) (part : NumberedMembers) (parts now : List NumberedMembers) → left ≡ front ++ members_of part → part.before ≡ k + length front → now ≡ parts ++ part ∷ []
     → IsCut k all left parts → IsCut k all front now
 one_cut k all left front part parts now split before more cut =
     let behind : reverse now ≡ part ∷ reverse parts = ap reverse more ∙ reverse-append parts (part ∷ []) in
@@ -37,7 +37,7 @@ one_cut k all left front part parts now split before more cut =
           ∙ ap (λ ps. front ++ flat_map members_of ps) (sym behind);
     }
 
-pub all_cut : (k : ℕ) (all left : List Symbol) (part : Part) (parts now turned : List Part) → members_of part ≡ left → part.before ≡ k → now ≡ parts ++ part ∷ [] → turned ≡ reverse now
+pub all_cut : (k : ℕ) (all left : List Symbol) (part : NumberedMembers) (parts now turned : List NumberedMembers) → members_of part ≡ left → part.before ≡ k → now ≡ parts ++ part ∷ [] → turned ≡ reverse now
     → IsCut k all left parts → AreParts k all turned
 all_cut k all left part parts now turned same before more is cut =
     let last = one_cut k all left [] part parts now (sym same) (omega (arith, before)) more cut in
@@ -46,26 +46,26 @@ all_cut k all left part parts now turned same before more is cut =
 -- ## Making
 
 -- each result is, where it is Ok, the lines of the part at its place
-abbrev pub AreMade : List Part → List (Result (Vec ℕ Global) Memory) → Type 0
+abbrev pub AreMade : List NumberedMembers → List (Result (Vec ℕ Global) Memory) → Type 0
 AreMade [] [] = ⊤
 AreMade [] (result ∷ results) = ⊥
 AreMade (part ∷ parts) [] = ⊥
 AreMade (part ∷ parts) (result ∷ results) = IfOk result (λ text. AreLines part.before (members_of part) (bytes_of text)) × AreMade parts results
 
 -- What makes a result of a part.
-pub record IsMadeOf (parts : List Part) (i : ℕ) (result : Result (Vec ℕ Global) Memory) : Type 0 where
-  pub part : Part
-  pub is : (d : Part) → slice_index_or parts i d ≡ part
+pub record IsMadeOf (parts : List NumberedMembers) (i : ℕ) (result : Result (Vec ℕ Global) Memory) : Type 0 where
+  pub part : NumberedMembers
+  pub is : (d : NumberedMembers) → slice_index_or parts i d ≡ part
   pub lines : IfOk result (λ text. AreLines part.before (members_of part) (bytes_of text))
 
-pub all_made_of : (parts : List Part) (results : List (Result (Vec ℕ Global) Memory)) → length results ≡ length parts
+pub all_made_of : (parts : List NumberedMembers) (results : List (Result (Vec ℕ Global) Memory)) → length results ≡ length parts
     → ((i : ℕ) (d : Result (Vec ℕ Global) Memory) → i < length parts → IsMadeOf parts i (slice_index_or results i d)) → AreMade parts results
 all_made_of [] [] size each = tt
 all_made_of [] (result ∷ results) size each = absurd (omega arith)
 all_made_of (part ∷ parts) [] size each = absurd (omega arith)
 all_made_of (part ∷ parts) (result ∷ results) size each =
     let first = each 0 result (omega arith) in (
-      subst (λ (p : Part). IfOk result (λ text. AreLines p.before (members_of p) (bytes_of text))) (sym (first.is part)) first.lines,
+      subst (λ (p : NumberedMembers). IfOk result (λ text. AreLines p.before (members_of p) (bytes_of text))) (sym (first.is part)) first.lines,
       all_made_of parts results (omega arith) (λ i d low.
           let next = each (suc i) d (omega arith) in
           record { part = next.part; is = λ e. next.is e; lines = next.lines }),
@@ -85,14 +85,14 @@ few_bytes k (s ∷ ss) text lines =
 -- Of these symbols the texts are the lines of all but those of the parts whose results are left.
 pub record AreJoined (k : ℕ) (all : List Symbol) (left : List (Result (Vec ℕ Global) Memory)) (texts : List (Vec ℕ Global)) : Type 0 where
   pub done : List Symbol
-  pub parts : List Part
+  pub parts : List NumberedMembers
   pub whole : all ≡ done ++ flat_map members_of parts
   pub numbered : AreNumbered (k + length done) parts
   pub made : AreMade parts left
   pub lines : AreLines k done (joined texts)
   pub few : length (joined texts) ≤ 2 ^ 63 * length done
 
-pub none_joined : (k : ℕ) (all : List Symbol) (parts : List Part) (left : List (Result (Vec ℕ Global) Memory)) (texts : List (Vec ℕ Global)) → AreParts k all parts → AreMade parts left → texts ≡ []
+pub none_joined : (k : ℕ) (all : List Symbol) (parts : List NumberedMembers) (left : List (Result (Vec ℕ Global) Memory)) (texts : List (Vec ℕ Global)) → AreParts k all parts → AreMade parts left → texts ≡ []
     → AreJoined k all left texts
 none_joined k all parts left texts are made none = record {
   done = [];
@@ -105,7 +105,7 @@ none_joined k all parts left texts are made none = record {
 }
 
 -- the lines of the next part were put behind the others
-part_joined : (k : ℕ) (all done : List Symbol) (part : Part) (parts : List Part) (text : Vec ℕ Global) (left : List (Result (Vec ℕ Global) Memory)) (texts now : List (Vec ℕ Global))
+part_joined : (k : ℕ) (all done : List Symbol) (part : NumberedMembers) (parts : List NumberedMembers) (text : Vec ℕ Global) (left : List (Result (Vec ℕ Global) Memory)) (texts now : List (Vec ℕ Global))
     → all ≡ done ++ flat_map members_of (part ∷ parts) → AreNumbered (k + length done) (part ∷ parts) → AreMade (part ∷ parts) (Ok text ∷ left) → now ≡ texts ++ text ∷ [] → AreLines k done (joined texts)
     → length (joined texts) ≤ 2 ^ 63 * length done → AreJoined k all left now
 part_joined k all done part parts text left texts now whole numbered made more lines few =
@@ -126,7 +126,7 @@ part_joined k all done part parts text left texts now whole numbered made more l
           omega (arith, few, size, long, own);
     }
 
-joined_at : (k : ℕ) (all done : List Symbol) (parts : List Part) (text : Vec ℕ Global) (left : List (Result (Vec ℕ Global) Memory)) (texts now : List (Vec ℕ Global))
+joined_at : (k : ℕ) (all done : List Symbol) (parts : List NumberedMembers) (text : Vec ℕ Global) (left : List (Result (Vec ℕ Global) Memory)) (texts now : List (Vec ℕ Global))
     → all ≡ done ++ flat_map members_of parts → AreNumbered (k + length done) parts → AreMade parts (Ok text ∷ left) → now ≡ texts ++ text ∷ [] → AreLines k done (joined texts)
     → length (joined texts) ≤ 2 ^ 63 * length done → AreJoined k all left now
 joined_at k all done [] text left texts now whole numbered made more lines few = absurd made
@@ -137,7 +137,7 @@ pub one_joined : (k : ℕ) (all : List Symbol) (text : Vec ℕ Global) (left lat
 one_joined k all text left later texts now next more are = joined_at k all are.done are.parts text later texts now are.whole are.numbered (subst (AreMade are.parts) next are.made) more are.lines are.few
 
 -- no result is left
-all_done : (k : ℕ) (all done : List Symbol) (parts : List Part) (text : List ℕ) → all ≡ done ++ flat_map members_of parts → AreMade parts [] → AreLines k done text → AreLines k all text
+all_done : (k : ℕ) (all done : List Symbol) (parts : List NumberedMembers) (text : List ℕ) → all ≡ done ++ flat_map members_of parts → AreMade parts [] → AreLines k done text → AreLines k all text
 all_done k all done [] text whole made lines = subst (λ ts. AreLines k ts text) (sym (whole ∙ append-nil done)) lines
 all_done k all done (part ∷ parts) text whole made lines = absurd made
 
@@ -145,7 +145,7 @@ pub all_joined : (k : ℕ) (all : List Symbol) (left : List (Result (Vec ℕ Glo
 all_joined k all left texts none are = all_done k all are.done are.parts (joined texts) are.whole (subst (AreMade are.parts) none are.made) are.lines
 
 -- and they are no longer than so many lines may be
-all_few : (all done : List Symbol) (parts : List Part) (n : ℕ) → all ≡ done ++ flat_map members_of parts → AreMade parts [] → n ≤ 2 ^ 63 * length done → n ≤ 2 ^ 63 * length all
+all_few : (all done : List Symbol) (parts : List NumberedMembers) (n : ℕ) → all ≡ done ++ flat_map members_of parts → AreMade parts [] → n ≤ 2 ^ 63 * length done → n ≤ 2 ^ 63 * length all
 all_few all done [] n whole made few = let size = ap length (whole ∙ append-nil done) in omega (arith, few, size)
 all_few all done (part ∷ parts) n whole made few = absurd made
 

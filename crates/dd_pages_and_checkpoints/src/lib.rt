@@ -6,8 +6,8 @@ mod fault;
 mod finish;
 mod limit;
 mod lines;
+mod numbered_members;
 mod pages;
-mod part;
 mod run;
 mod saved;
 

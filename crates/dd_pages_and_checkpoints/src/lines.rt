@@ -3,7 +3,7 @@ ghost use Rattle.dd_model.specs.Text.{AreLines};
 ghost use Rattle.dd_pages_and_checkpoints.specs.Texts.{joined};
 ghost use Rattle.dd_pages_and_checkpoints.specs.Parts.{AreParts};
 
-use crate::part::Part;
+use crate::numbered_members::NumberedMembers;
 use dd_front::Members;
 use dd_model::Memory;
 use dd_text::put_list;
@@ -34,7 +34,7 @@ fn room_for(members: &Members) -> usize {
 }
 
 /// The lines of a part. Its members are given back here, by the thread that has just read them.
-fn lines_of(part: Part) -> Result<Vec<u8>, Memory>
+fn lines_of(part: NumberedMembers) -> Result<Vec<u8>, Memory>
     ensures { IfOk result (λ lines. AreLines part.before part.members lines.items) }
 {
     let room = room_for(&part.members);
@@ -49,7 +49,7 @@ fn lines_of(part: Part) -> Result<Vec<u8>, Memory>
 
 /// Cuts members into parts of `size` members. The first part may be shorter. They are taken off the
 /// end.
-fn parts_of(size: usize, before: u64, mut members: Members) -> Result<Vec<Part>, Memory>
+fn parts_of(size: usize, before: u64, mut members: Members) -> Result<Vec<NumberedMembers>, Memory>
     requires size { 1 ≤ size }
     requires few { before + length members < 2 ^ 64 }
     ensures { IfOk result (λ parts. AreParts before members parts.items) }
@@ -60,12 +60,12 @@ fn parts_of(size: usize, before: u64, mut members: Members) -> Result<Vec<Part>,
         let mut part = members.share()?;
         part.skip(kept);
         members.keep(kept);
-        parts.push(Part {
+        parts.push(NumberedMembers {
             before: before + kept as u64,
             members: part,
         })?;
     }
-    parts.push(Part { before, members })?;
+    parts.push(NumberedMembers { before, members })?;
     parts.reverse();
     Ok(parts)
 }

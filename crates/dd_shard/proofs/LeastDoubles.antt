@@ -8,13 +8,13 @@ use Rattle.dd_model.proofs.Options.{some_same}
 use Rattle.dd_shard.specs.Merging.{IsNoLater}
 use Rattle.dd_shard.specs.Doubles.{HasDouble, AreApartBelow, IsLeastDouble, IsPlaceOf, IsNotAfter, IsEarliest}
 use Rattle.dd_shard.specs.declared.member.Member.{Member}
-use Rattle.dd_shard.specs.declared.member.Place.{Place}
+use Rattle.dd_shard.specs.declared.member.ListPlace.{ListPlace}
 
 -- what the loop keeps
-abbrev pub IsLeast : List Member → ℕ → Option Place → Type 0
+abbrev pub IsLeast : List Member → ℕ → Option ListPlace → Type 0
 IsLeast ms high least = MatchOption least (AreApartBelow ms high) (IsLeastDouble ms high)
 
-no_later_trans : (p q r : Place) → IsNotAfter p q → IsNotAfter q r → IsNotAfter p r
+no_later_trans : (p q r : ListPlace) → IsNotAfter p q → IsNotAfter q r → IsNotAfter p r
 no_later_trans p q r (inl a) (inl b) = inl (omega arith)
 no_later_trans p q r (inl a) (inr b) = inl (let e = b.0 in omega arith)
 no_later_trans p q r (inr a) (inl b) = inl (let e = a.0 in omega arith)
@@ -26,7 +26,7 @@ last_pair : (ms : List Member) (high : ℕ) (P : ℕ → Member → Type 0) → 
 last_pair ms high P before here k d low =
     ⊎_elim (λ less. before k d (omega arith)) (λ more. let same : high ≡ k = omega arith in subst (λ j. P j d) same (here d)) (cases_lt k high)
 
-pub apart_more : (ms : List Member) (high : ℕ) (least : Option Place) → IsLeast ms (suc high) least → ((d : Member) → HasDouble ms high d → ⊥) → IsLeast ms (suc (suc high)) least
+pub apart_more : (ms : List Member) (high : ℕ) (least : Option ListPlace) → IsLeast ms (suc high) least → ((d : Member) → HasDouble ms high d → ⊥) → IsLeast ms (suc (suc high)) least
 apart_more ms high None apart here = last_pair ms high (λ k d. HasDouble ms k d → ⊥) apart here
 apart_more ms high (Some p) is here = record {
   at = is.at;
@@ -36,10 +36,10 @@ apart_more ms high (Some p) is here = record {
   least = last_pair ms high (λ k d. HasDouble ms k d → IsNoLater p.file p.number (get_or ms (suc k) d).file (get_or ms (suc k) d).number) is.least (λ d double. absurd (here d double));
 }
 
-abbrev place_of : Member → Place
+abbrev place_of : Member → ListPlace
 place_of m = record { file = m.file; number = m.number }
 
-double_more_from : (ms : List Member) (high : ℕ) (least : Option Place) (p q : Place) (m : Member) → IsLeast ms (suc high) least → suc high < length ms
+double_more_from : (ms : List Member) (high : ℕ) (least : Option ListPlace) (p q : ListPlace) (m : Member) → IsLeast ms (suc high) least → suc high < length ms
     → ((d : Member) → (get_or ms high d).symbol ≡ (get_or ms (suc high) d).symbol) → ((d : Member) → get_or ms (suc high) d ≡ m) → IsPlaceOf m p → IsEarliest least p q
     → IsLeast ms (suc (suc high)) (Some q)
 double_more_from ms high least p q m is within same here place first = go least is first.one first.old
@@ -55,14 +55,14 @@ double_more_from ms high least p q m is within same here place first = go least 
       at = high;
       within = within;
       same = same;
-      is = λ d. (ap (λ (x : Member). x.file) (here d) ∙ place.0 ∙ ap (λ (x : Place). x.file) (sym e), ap (λ (x : Member). x.number) (here d) ∙ place.1 ∙ ap (λ (x : Place). x.number) (sym e));
+      is = λ d. (ap (λ (x : Member). x.file) (here d) ∙ place.0 ∙ ap (λ (x : ListPlace). x.file) (sym e), ap (λ (x : Member). x.number) (here d) ∙ place.1 ∙ ap (λ (x : ListPlace). x.number) (sym e));
       least = last_pair ms high (λ k d. HasDouble ms k d → IsNoLater q.file q.number (get_or ms (suc k) d).file (get_or ms (suc k) d).number) before (λ d double. at_last d);
     }
 
-    none_some : (r : Place) → None ≡ Some r → ⊥
+    none_some : (r : ListPlace) → None ≡ Some r → ⊥
     none_some r e = cc
 
-    go : (o : Option Place) → IsLeast ms (suc high) o → (o ≡ Some q) ⊎ (q ≡ p) → ((r : Place) → o ≡ Some r → IsNotAfter q r) → IsLeastDouble ms (suc (suc high)) q
+    go : (o : Option ListPlace) → IsLeast ms (suc high) o → (o ≡ Some q) ⊎ (q ≡ p) → ((r : ListPlace) → o ≡ Some r → IsNotAfter q r) → IsLeastDouble ms (suc (suc high)) q
     go None apart (inl e) old = absurd (none_some q e)
     go None apart (inr e) old = own e (λ k d low double. absurd (apart k d low double))
     go (Some r) is (inr e) old = own e (λ k d low double.
@@ -89,7 +89,7 @@ neighbors ms k a b P low from is it holds d =
     let other : b ≡ get_or ms (suc (k - 1)) d = it ∙ get_or_default ms k b d low ∙ ap (λ j. get_or ms j d) next in
     subst (P (get_or ms (k - 1) d)) other (subst (λ m. P m b) one holds)
 
-pub apart_here : (ms : List Member) (k : ℕ) (a b : Member) (least : Option Place) → k < length ms → 1 ≤ k → a ≡ get_or ms (k - 1) a → b ≡ get_or ms k b
+pub apart_here : (ms : List Member) (k : ℕ) (a b : Member) (least : Option ListPlace) → k < length ms → 1 ≤ k → a ≡ get_or ms (k - 1) a → b ≡ get_or ms k b
     → (code_cmp a.symbol b.symbol ≡ Equal → ⊥) → IsLeast ms k least → IsLeast ms (k + 1) least
 apart_here ms k a b least low from is it none h =
     let now : k ≡ suc (k - 1) = omega arith in
@@ -98,7 +98,7 @@ apart_here ms k a b least low from is it none h =
     (apart_more ms (k - 1) least (subst (λ j. IsLeast ms j least) now h)
     (neighbors ms k a b (λ x y. code_cmp x.symbol y.symbol ≡ Equal → ⊥) low from is it none))
 
-pub double_here : (ms : List Member) (k : ℕ) (a b : Member) (least : Option Place) (p q : Place) → k < length ms → 1 ≤ k → a ≡ get_or ms (k - 1) a → b ≡ get_or ms k b
+pub double_here : (ms : List Member) (k : ℕ) (a b : Member) (least : Option ListPlace) (p q : ListPlace) → k < length ms → 1 ≤ k → a ≡ get_or ms (k - 1) a → b ≡ get_or ms k b
     → a.symbol ≡ b.symbol → IsPlaceOf b p → IsEarliest least p q → IsLeast ms k least → IsLeast ms (k + 1) (Some q)
 double_here ms k a b least p q low from is it same place first h =
     let now : k ≡ suc (k - 1) = omega arith in
@@ -108,6 +108,6 @@ double_here ms k a b least p q low from is it same place first h =
     (neighbors ms k a b (λ x y. x.symbol ≡ y.symbol) low from is it same)
     (neighbors ms k a b (λ x y. y ≡ b) low from is it refl) place first)
 
-pub least_whole : (ms : List Member) (k : ℕ) (least : Option Place) → length ms ≤ k → IsLeast ms k least → IsLeast ms (length ms) least
+pub least_whole : (ms : List Member) (k : ℕ) (least : Option ListPlace) → length ms ≤ k → IsLeast ms k least → IsLeast ms (length ms) least
 least_whole ms k None all h = λ j d low. h j d (omega arith)
 least_whole ms k (Some p) all h = record { at = h.at; within = h.within; same = h.same; is = h.is; least = λ j d low. h.least j d (omega arith) }

@@ -22,7 +22,7 @@ use Rattle.dd_shard.specs.Merging.{IsNth, IsDoubled, IsFirst, IsNoLater, IsInSom
 use Rattle.dd_shard.specs.Members.{tagged, by_code}
 use Rattle.dd_shard.specs.Doubles.{HasDouble, AreApartBelow, IsLeastDouble}
 use Rattle.dd_shard.specs.declared.member.Member.{Member}
-use Rattle.dd_shard.specs.declared.member.Place.{Place}
+use Rattle.dd_shard.specs.declared.member.ListPlace.{ListPlace}
 use Rattle.dd_shard.proofs.AscendingLists.{ascending_more}
 use Rattle.dd_shard.proofs.KeptPairs.{pairs_filtered, kept_pair}
 use Rattle.dd_shard.proofs.TaggedMembers.{Precedes, pairs_tagged, at_place, from_place, some_place, in_some}
@@ -134,7 +134,7 @@ module _ (lists : List (List Symbol)) (ms : List Member) (up : AllByRecursion Is
         there = record { list = place.list; is_list = place.is_list; is_symbol = subst (IsNth place.list a.number) same place.is_symbol };
       }
 
-  pub first_double : (p : Place) → IsLeastDouble ms (length ms) p → IsFirst (IsDoubled lists) p.file p.number
+  pub first_double : (p : ListPlace) → IsLeastDouble ms (length ms) p → IsFirst (IsDoubled lists) p.file p.number
   first_double p least = record {
     holds = go;
     first = λ other m double.

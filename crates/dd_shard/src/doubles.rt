@@ -4,11 +4,11 @@ ghost use Rattle.dd_model.specs.Code.{code_cmp};
 ghost use Rattle.dd_shard.specs.Doubles.{AreApartBelow, IsLeastDouble, IsEarliest, IsPlaceOf};
 ghost use Rattle.dd_shard.specs.Doubles.{IsNotAfter};
 
-use crate::member::{Member, Place};
+use crate::member::{ListPlace, Member};
 use dd_symbol::cmp_code;
 
 /// Returns the least place of a member that has the symbol of the member before it.
-pub(crate) fn least_double(members: &[Member]) -> Option<Place>
+pub(crate) fn least_double(members: &[Member]) -> Option<ListPlace>
     ensures { MatchOption result
         (AreApartBelow members.now (length members.now))
         (IsLeastDouble members.now (length members.now)) }
@@ -31,7 +31,7 @@ fn are_equal(a: &Member, b: &Member) -> bool
 }
 
 /// Returns the earlier of a place and of one that there may be.
-fn earliest(least: Option<Place>, place: Place) -> Place
+fn earliest(least: Option<ListPlace>, place: ListPlace) -> ListPlace
     ensures { IsEarliest least place result }
 {
     match least {
@@ -42,19 +42,19 @@ fn earliest(least: Option<Place>, place: Place) -> Place
 
 impl Member {
     /// Returns where the symbol was.
-    fn place(&self) -> Place
+    fn place(&self) -> ListPlace
         ensures { IsPlaceOf self.now result }
     {
-        Place {
+        ListPlace {
             file: self.file,
             number: self.number,
         }
     }
 }
 
-impl Place {
+impl ListPlace {
     /// Returns whether the place is not after another. Lists count before symbols.
-    fn is_not_after(self, other: Place) -> bool
+    fn is_not_after(self, other: ListPlace) -> bool
         ensures { IsTrue result ↔ IsNotAfter self other }
     {
         self.file < other.file || self.file == other.file && self.number <= other.number

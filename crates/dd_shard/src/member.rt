@@ -13,7 +13,7 @@ pub(crate) struct Member {
 
 /// The number of a list, and of a symbol in the list, both counted from 1.
 #[derive(Debug, Clone, Copy, PartialEq, Eq)]
-pub(crate) struct Place {
+pub(crate) struct ListPlace {
     /// The number of the list.
     pub file: u32,
     /// The number of the symbol.

@@ -6,7 +6,7 @@ ghost use Rattle.dd_board.specs.Desk.{AreJobsOf};
 ghost use Rattle.dd_steal.specs.Rounds.{IsLedgerOf};
 
 use crate::alone::do_alone;
-use crate::crew::{Member, crew_of, seats_of};
+use crate::crew::{CrewMember, crew_of, seats_of};
 use crate::last_sweep::sweep;
 use crate::worker::work;
 use dd_board::{Blanks, Board, Desk, Seat};
@@ -101,7 +101,7 @@ fn open_round<N: Naming, K: Ledger, L: Ledger, S: Ledger, D: Ledger, B: Ledger>(
 ) -> Result<
     (
         Board<N, K, L, S, D, B>,
-        Vec<Member<Seat<K, L, S, D, B>, Hand<N>>>,
+        Vec<CrewMember<Seat<K, L, S, D, B>, Hand<N>>>,
     ),
     Memory,
 >
@@ -143,7 +143,7 @@ fn work_at_once<
     finder: &F,
     gate: &G,
     board: &Board<N, K, L, S, D, B>,
-    crew: &mut [Member<Seat<K, L, S, D, B>, Hand<N>>],
+    crew: &mut [CrewMember<Seat<K, L, S, D, B>, Hand<N>>],
 )
     requires request { F.request finder.now ≡ N.request }
     requires some { 0 < length crew.old }
@@ -154,7 +154,7 @@ fn work_at_once<
         rt,
         crew,
         workers,
-        &|_, member: &mut Member<Seat<K, L, S, D, B>, Hand<N>>|
+        &|_, member: &mut CrewMember<Seat<K, L, S, D, B>, Hand<N>>|
             requires { F.request finder.now ≡ N.request }
         {
             let mut own = finder.fork();
@@ -183,7 +183,7 @@ fn close_round<N: Naming, K: Ledger, L: Ledger, S: Ledger, D: Ledger, B: Ledger,
     alloc: Global,
     finder: &mut F,
     board: Board<N, K, L, S, D, B>,
-    crew: Vec<Member<Seat<K, L, S, D, B>, Hand<N>>>,
+    crew: Vec<CrewMember<Seat<K, L, S, D, B>, Hand<N>>>,
 ) -> Result<Vec<Entry>, Memory>
     requires request { F.request finder.old ≡ N.request }
     requires some { 0 < length crew.items }

@@ -8,7 +8,7 @@ use Rattle.dd_ports.specs.Causes.{Rose}
 use Rattle.dd_ports.specs.Grows.{GrowsByPrefix}
 use Rattle.dd_ports.specs.declared.sink.SinkFault.{SinkFault as WriteFault}
 use Rattle.dd_ports.specs.declared.sink.SinkFault.TheVariants.{Failed, Memory as NoRoom}
-use Rattle.dd_check.specs.declared.kinds.Kind.{Kind}
+use Rattle.dd_check.specs.declared.kinds.ResumeKind.{ResumeKind}
 use Rattle.dd_check.specs.Calls.{Begin, Resume}
 use Rattle.dd_check.specs.ChainStarts.{Start}
 use Rattle.dd_pages_and_checkpoints.specs.MostLines.{most_lines}
@@ -80,7 +80,7 @@ module _ (words : List (List ℕ)) (end : Ending) (before : Before) (after : Aft
   call_as outcome state e order asked = subst (λ s. IsCallOf order s before after) (sym e) (call outcome order asked)
 
   -- words that go on from no checkpoint text write nothing, and leave every name as it was
-  pub not_resumed : IsOutcome words end before after → (kind : Kind) (name : List ℕ) → AskToResume words kind name → (HoldsSomeCheck kind before.tells (before.held name) → ⊥)
+  pub not_resumed : IsOutcome words end before after → (kind : ResumeKind) (name : List ℕ) → AskToResume words kind name → (HoldsSomeCheck kind before.tells (before.held name) → ⊥)
       → WritesNothing before after × KeepsNames before after
   not_resumed outcome kind name asked none = go (call outcome (record { task = Resume kind name; round = asked.round; pause = asked.pause }) asked.run)
     where

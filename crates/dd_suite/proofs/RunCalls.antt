@@ -9,7 +9,7 @@ use Rattle.dd_ports.specs.Texts.{SameTexts, SameOthers}
 use Rattle.dd_ports.specs.declared.sink.SinkFault.{SinkFault as WriteFault}
 use Rattle.dd_ports.specs.declared.sink.SinkFault.TheVariants as sink
 use Rattle.dd_check.specs.declared.checkpoint.Checkpoint.{Checkpoint}
-use Rattle.dd_check.specs.declared.kinds.Kind.{Kind}
+use Rattle.dd_check.specs.declared.kinds.ResumeKind.{ResumeKind}
 use Rattle.dd_check.specs.Calls.{kind_of, Begin, Resume}
 use Rattle.dd_check.specs.ChainStarts.{Start, first_start, next_start}
 use Rattle.dd_pages_and_checkpoints.specs.declared.fault.RunFault.{RunFault}
@@ -112,7 +112,7 @@ module _ (s : Start) (name : List ℕ) (round : ℕ) (pause : Option ℕ) (befor
 
 -- ## Calls that never began to run
 
-pub stopped_outcome : (kind : Kind) (ending : Ending) (name : List ℕ) (round : ℕ) (pause : Option ℕ) (before : Before) (after : After)
+pub stopped_outcome : (kind : ResumeKind) (ending : Ending) (name : List ℕ) (round : ℕ) (pause : Option ℕ) (before : Before) (after : After)
     → IsHeldStop kind ending before.tells (before.held name) before.store_faults after.store_faults → WritesNothing before after → KeepsNames before after
     → IsRunOutcome (record { task = Resume kind name; round = round; pause = pause }) ending before after
 stopped_outcome kind Done name round pause before after c nothing same = absurd c

@@ -11,8 +11,8 @@ use Rattle.dd_check.specs.Accepted.{IsCheckpointText}
 use Rattle.dd_check.specs.ShardChecks.{IsAcceptedText}
 use Rattle.dd_check.proofs.Exclusion.{no_fault as never_both}
 use Rattle.dd_opening_jobs.specs.Portions.{IsPortionText}
-use Rattle.dd_check.specs.declared.kinds.Kind.{Kind}
-use Rattle.dd_check.specs.declared.kinds.Kind.TheVariants.{Catalogues, Shards}
+use Rattle.dd_check.specs.declared.kinds.ResumeKind.{ResumeKind}
+use Rattle.dd_check.specs.declared.kinds.ResumeKind.TheVariants.{Catalogues, Shards}
 use Rattle.dd_check.specs.Calls.{kind_of, Task, Begin, Resume}
 use Rattle.dd_check.specs.ChainStarts.{Start}
 use Rattle.dd_pages_and_checkpoints.specs.declared.fault.RunFault.{RunFault}

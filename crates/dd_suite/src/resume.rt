@@ -1,5 +1,5 @@
 ghost use Rattle.std.specs.Prelude.{◌≡◌, ◌≤◌, IfOk, IfErr, IsSome, true};
-ghost use Rattle.dd_check.specs.declared.kinds.Kind.TheVariants.{Catalogues, Shards};
+ghost use Rattle.dd_check.specs.declared.kinds.ResumeKind.TheVariants.{Catalogues, Shards};
 ghost use Rattle.dd_check.specs.Calls.{kind_of, Resume};
 ghost use Rattle.dd_ports.specs.Texts.{SameTexts};
 ghost use Rattle.dd_check.specs.ShardChecks.{IsAcceptedText};
@@ -11,7 +11,7 @@ ghost use Rattle.dd_pages_and_checkpoints.specs.MostLines.{most_lines};
 
 use crate::kept::keep_run;
 use dd_catalogue::Workshop;
-use dd_check::{CheckFault, Checkpoint, Kind, ShardFault, read_checkpoint, read_shard};
+use dd_check::{CheckFault, Checkpoint, ResumeKind, ShardFault, read_checkpoint, read_shard};
 use dd_opening_jobs::{Pace, Portion, Shard};
 use dd_pages_and_checkpoints::Run;
 use dd_ports::{Gate, Sink, Store, StoreFault};
@@ -36,7 +36,7 @@ struct Saved {
 /// The checkpoint whose text of a kind a name holds, and its shard.
 fn fetch_check<S: Store>(
     alloc: Global,
-    kind: Kind,
+    kind: ResumeKind,
     name: &str,
     store: &mut S,
 ) -> Result<Saved, Ending>
@@ -54,8 +54,8 @@ fn fetch_check<S: Store>(
         × IfErr result (λ ending. ending ≡ Ending.StoreFault → ⊥) }
 {
     match kind {
-        Kind::Catalogues => fetch_catalogue(alloc, name, store),
-        Kind::Shards => fetch_shard(alloc, name, store),
+        ResumeKind::Catalogues => fetch_catalogue(alloc, name, store),
+        ResumeKind::Shards => fetch_shard(alloc, name, store),
     }
 }
 
@@ -139,7 +139,7 @@ fn shard_of(alloc: Global, bytes: &[u8]) -> Result<Saved, Ending>
 /// number.
 pub fn resume<R: Threads + Wait + Sync, S: Store, G: Gate + Sync, O: Sink>(
     workshop: &Workshop<'_, R, G>,
-    kind: Kind,
+    kind: ResumeKind,
     name: &str,
     pace: Pace,
     pause: Option<u32>,

@@ -7,7 +7,7 @@ ghost use Rattle.dd_ports.specs.Texts.{SameTexts};
 ghost use Rattle.dd_model.specs.Symbol.{Symbol};
 ghost use Rattle.dd_opening_jobs.specs.declared.portions.Portion.{Portion};
 ghost use Rattle.dd_opening_jobs.specs.Portions.{ArePortionMembers};
-ghost use Rattle.dd_check.specs.declared.kinds.Kind.{Kind};
+ghost use Rattle.dd_check.specs.declared.kinds.ResumeKind.{ResumeKind};
 ghost use Rattle.dd_pages_and_checkpoints.specs.MostLines.{most_lines};
 ghost use Rattle.dd_suite_tasks.specs.Words.{Order, AskForRun, AskFor, AskToResume, NameFile, AreTaken};
 ghost use Rattle.dd_suite_tasks.specs.Beginnings.{HoldsSomeCheck};
@@ -71,7 +71,7 @@ pub fn run<R: Threads + Wait + Sync, S: Store, O: Sink, E: Sink, G: Gate + Sync>
           written = O.held out.new;
           sink_faults = O.faults out.new;
         }) }
-    ensures not_resumed { (kind : Kind) (name : List ℕ)
+    ensures not_resumed { (kind : ResumeKind) (name : List ℕ)
         → AskToResume (map rc_str_bytes words.now) kind name
         → (HoldsSomeCheck kind (S.tells store.old) (S.held store.old name) → ⊥)
         → Appends (O.held out.old) (O.held out.new) []

@@ -11,8 +11,8 @@ use Rattle.dd_ports.specs.Sinks.{memory_sink_held}
 use Rattle.dd_ports.specs.declared.memory_sink.MemorySink.{MemorySink}
 use Rattle.dd_check.specs.Between.{AreLinesBetween}
 use Rattle.dd_opening_jobs.specs.Portions.{whole}
-use Rattle.dd_check.specs.declared.kinds.Kind.{Kind}
-use Rattle.dd_check.specs.declared.kinds.Kind.TheVariants.{Catalogues}
+use Rattle.dd_check.specs.declared.kinds.ResumeKind.{ResumeKind}
+use Rattle.dd_check.specs.declared.kinds.ResumeKind.TheVariants.{Catalogues}
 use Rattle.dd_check.specs.ShardFaults.{HasKindFault}
 use Rattle.dd_check.specs.Calls.{Begin, Resume}
 use Rattle.dd_check.specs.ChainStarts.{Start, StartsAt}
@@ -76,10 +76,10 @@ module _ (words : List (List ℕ)) (from to : Kept) (old new : MemorySink) (p : 
 
 -- ## Calls that go on from the name
 
-same_task : (kind : Kind) (a b : List ℕ) → Resume kind a ≡ Resume Catalogues b → (kind ≡ Catalogues) × (a ≡ b)
+same_task : (kind : ResumeKind) (a b : List ℕ) → Resume kind a ≡ Resume Catalogues b → (kind ≡ Catalogues) × (a ≡ b)
 same_task kind a b e = (cc, cc)
 
-other_task : (q : Request) (n : Option (List ℕ)) (kind : Kind) (name : List ℕ) → Begin (whole q) n ≡ Resume kind name → ⊥
+other_task : (q : Request) (n : Option (List ℕ)) (kind : ResumeKind) (name : List ℕ) → Begin (whole q) n ≡ Resume kind name → ⊥
 other_task q n kind name e = cc
 
 module _ (name : List ℕ) (asked : AskForRun (resume_words name) (resume_order name)) (from to : Kept) (old new : MemorySink) (p : ProgramCall) (is : IsRun (resume_words name) from to old new p) where

@@ -5,7 +5,7 @@ use Rattle.dd_file_commands.specs.declared.commands.FileCommand.{FileCommand}
 use Rattle.dd_file_commands.specs.Files.{IsFileText}
 use Rattle.dd_file_commands.proofs.FileTexts.{file_text_unique}
 use Rattle.dd_check.specs.ShardChecks.{IsAcceptedText}
-use Rattle.dd_check.specs.declared.kinds.Kind.{Kind}
+use Rattle.dd_check.specs.declared.kinds.ResumeKind.{ResumeKind}
 use Rattle.dd_check.specs.ChainStarts.{Start, next_start}
 use Rattle.dd_check.proofs.ChainParts.{one_accepted}
 use Rattle.dd_suite_tasks.specs.Beginnings.{BeginsNext}
@@ -27,7 +27,7 @@ prefix_of_each_file command tells held old new mine text told is grown other =
     subst (GrowsByPrefix old new) (held_text_unique command tells held mine text told is other) grown
 
 -- a run that goes on from what a name holds begins at one place
-pub one_next : (kind : Kind) (tells : Bool) (held : Option (List ℕ)) (s t : Start) → tells ≡ true → BeginsNext kind tells held s → BeginsNext kind tells held t → s ≡ t
+pub one_next : (kind : ResumeKind) (tells : Bool) (held : Option (List ℕ)) (s t : Start) → tells ≡ true → BeginsNext kind tells held s → BeginsNext kind tells held t → s ≡ t
 one_next kind tells held s t told x y =
     let a = x.held_is in
     let b = y.held_is in

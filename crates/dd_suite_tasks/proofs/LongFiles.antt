@@ -1,7 +1,7 @@
 -- A name that holds more bytes than are fetched.
 use Rattle.std.proofs.Common.{◌≡◌, ℕ, List, [], ◌∷◌, ◌++◌, ◌+◌, ◌<◌, length, Bool, true, false, Option, Some, refl, arith, length-append}
 use Rattle.dd_check.specs.declared.faults.CheckFault.TheVariants as check
-use Rattle.dd_check.specs.declared.kinds.Kind.TheVariants.{Catalogues}
+use Rattle.dd_check.specs.declared.kinds.ResumeKind.TheVariants.{Catalogues}
 use Rattle.dd_check.specs.declared.shard_faults.ShardFault.TheVariants.{Check}
 use Rattle.dd_text.specs.declared.faults.FileFault.{FileFault}
 use Rattle.dd_text.specs.declared.faults.Why.TheVariants.{Long}

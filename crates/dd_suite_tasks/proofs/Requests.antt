@@ -13,8 +13,8 @@ use Rattle.dd_words.specs.declared.commands.FileKind.TheVariants as kind
 use Rattle.dd_opening_jobs.specs.declared.shards.Shard.{Shard}
 use Rattle.dd_opening_jobs.specs.declared.portions.Portion.{Portion}
 use Rattle.dd_opening_jobs.specs.Portions.{whole}
-use Rattle.dd_check.specs.declared.kinds.Kind.{Kind}
-use Rattle.dd_check.specs.declared.kinds.Kind.TheVariants.{Catalogues, Shards}
+use Rattle.dd_check.specs.declared.kinds.ResumeKind.{ResumeKind}
+use Rattle.dd_check.specs.declared.kinds.ResumeKind.TheVariants.{Catalogues, Shards}
 use Rattle.dd_check.specs.Calls.{Task as ChainTask, Begin, Resume as Next}
 use Rattle.dd_file_commands.specs.declared.commands.FileCommand.{FileCommand}
 use Rattle.dd_file_commands.specs.declared.commands.FileCommand.TheVariants.{Symbols, Info, Sheets, Draw}
@@ -77,7 +77,7 @@ unfolding order_of
 begun_order None q name pace pause = refl
 begun_order (Some shard) q name pace pause = refl
 
-resumed_order : (kind : Kind) (name : List ℕ) (pace : Pace) (pause : Option ℕ)
+resumed_order : (kind : ResumeKind) (name : List ℕ) (pace : Pace) (pause : Option ℕ)
     → order_of (resume_command kind name pace pause) ≡ Some (record { task = Next kind name; round = pace.round; pause = pause })
 unfolding order_of
 resumed_order Catalogues name pace pause = refl
@@ -221,7 +221,7 @@ lone_asked words p pace is =
 pub kept_asked : (words : List (List ℕ)) (p : Portion) (name : List ℕ) (pace : Pace) (pause : Option ℕ) → AskForTask words (task.Kept p name pace pause) → IsBegunWell words p (Some name) pace pause
 kept_asked words p name pace pause is = begun_well words p (Some name) pace pause (subst (IsCommand words) is.task_is is.asked)
 
-pub resume_asked : (words : List (List ℕ)) (kind : Kind) (name : List ℕ) (pace : Pace) (pause : Option ℕ) → AskForTask words (task.Resume kind name pace pause)
+pub resume_asked : (words : List (List ℕ)) (kind : ResumeKind) (name : List ℕ) (pace : Pace) (pause : Option ℕ) → AskForTask words (task.Resume kind name pace pause)
     → AskForRun words (record { task = Next kind name; round = pace.round; pause = pause })
 resume_asked words kind name pace pause is =
     record { pace = pace; round_is = refl; command = subst (IsCommand words) is.task_is is.asked }

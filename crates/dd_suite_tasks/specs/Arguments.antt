@@ -3,7 +3,7 @@ use Rattle.std.specs.Prelude.{◌≡◌, ◌⊎◌, ℕ, List, Option, Some, Boo
 use Rattle.dd_model.specs.Symbol.{Symbol}
 use Rattle.dd_model.specs.Reading.{Reads}
 use Rattle.dd_check.specs.declared.shard_faults.ShardFault.{ShardFault}
-use Rattle.dd_check.specs.declared.kinds.Kind.{Kind}
+use Rattle.dd_check.specs.declared.kinds.ResumeKind.{ResumeKind}
 use Rattle.dd_check.specs.ChainStarts.{HoldsKind}
 use Rattle.dd_text.specs.declared.faults.FileFault.{FileFault}
 use Rattle.dd_file_commands.specs.declared.commands.FileCommand.{FileCommand}
@@ -41,7 +41,7 @@ AreRefused words tells held =
 -- the store holds the file that the words name, if they name one, the name that they go on from, and the files that they merge
 pub record AreHeld (words : List (List ℕ)) (tells : Bool) (held : List ℕ → Option (List ℕ)) : Type 0 where
   pub file : (command : FileCommand) (name : List ℕ) → IsOnFile words command name → IsSome (held name)
-  pub check : (kind : Kind) (name : List ℕ) → AskToResume words kind name → IsSome (held name)
+  pub check : (kind : ResumeKind) (name : List ℕ) → AskToResume words kind name → IsSome (held name)
   pub merged : AreMergedHeld words tells held
 
 -- the symbols of a file that a name holds, of each of which a command makes something
@@ -58,7 +58,7 @@ IsFileAccepted words tells held = (command : FileCommand) (name : List ℕ) → 
 
 -- the name that the words go on from, if they do, holds a checkpoint text of their kind
 abbrev pub IsCheckAccepted : List (List ℕ) → Bool → (List ℕ → Option (List ℕ)) → Type 0
-IsCheckAccepted words tells held = (kind : Kind) (name : List ℕ) → AskToResume words kind name → (tells ≡ true) × HoldsKind kind (held name)
+IsCheckAccepted words tells held = (kind : ResumeKind) (name : List ℕ) → AskToResume words kind name → (tells ≡ true) × HoldsKind kind (held name)
 
 -- the words keep a checkpoint under the name
 pub record KeepUnder (words : List (List ℕ)) (name : List ℕ) : Type 0 where

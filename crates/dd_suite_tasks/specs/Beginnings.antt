@@ -5,7 +5,7 @@ use Rattle.dd_check.specs.declared.checkpoint.Checkpoint.{Checkpoint}
 use Rattle.dd_check.specs.declared.shard_faults.ShardFault.{ShardFault}
 use Rattle.dd_check.specs.ShardChecks.{IsAcceptedText}
 use Rattle.dd_check.specs.ShardFaults.{HasKindFault}
-use Rattle.dd_check.specs.declared.kinds.Kind.{Kind}
+use Rattle.dd_check.specs.declared.kinds.ResumeKind.{ResumeKind}
 use Rattle.dd_check.specs.Calls.{kind_of, Task, Begin, Resume}
 use Rattle.dd_check.specs.ChainStarts.{Start, first_start, next_start}
 use Rattle.dd_suite_tasks.specs.Held.{AreFetched}
@@ -18,20 +18,20 @@ pub record HoldsCheck (shard : Option Shard) (tells : Bool) (held : Option (List
   pub accepted : IsAcceptedText shard bytes c
 
 -- a name holds a checkpoint text of this kind
-pub record HoldsSomeCheck (kind : Kind) (tells : Bool) (held : Option (List ℕ)) : Type 0 where
+pub record HoldsSomeCheck (kind : ResumeKind) (tells : Bool) (held : Option (List ℕ)) : Type 0 where
   pub shard : Option Shard
   pub kind_is : kind_of shard ≡ kind
   pub check : Checkpoint
   pub holds : HoldsCheck shard tells held check
 
 -- a name holds a text with this fault, which is no checkpoint text of the kind
-pub record HoldsNoCheck (kind : Kind) (tells : Bool) (held : Option (List ℕ)) (fault : ShardFault) : Type 0 where
+pub record HoldsNoCheck (kind : ResumeKind) (tells : Bool) (held : Option (List ℕ)) (fault : ShardFault) : Type 0 where
   pub bytes : List ℕ
   pub fetched : AreFetched tells held bytes
   pub faulty : HasKindFault kind bytes fault
 
 -- the run after the one of a checkpoint text that a name holds
-pub record BeginsNext (kind : Kind) (tells : Bool) (held : Option (List ℕ)) (start : Start) : Type 0 where
+pub record BeginsNext (kind : ResumeKind) (tells : Bool) (held : Option (List ℕ)) (start : Start) : Type 0 where
   pub held_is : HoldsSomeCheck kind tells held
   pub start_is : start ≡ next_start held_is.shard held_is.check
 
@@ -47,7 +47,7 @@ IsCheckRefused (Resume kind name) tells held fault = HoldsNoCheck kind tells (he
 
 -- the words go on from such a name
 pub record NameNoCheck (words : List (List ℕ)) (tells : Bool) (held : List ℕ → Option (List ℕ)) (fault : ShardFault) : Type 0 where
-  pub kind : Kind
+  pub kind : ResumeKind
   pub name : List ℕ
   pub asked : AskToResume words kind name
   pub holds : HoldsNoCheck kind tells (held name) fault

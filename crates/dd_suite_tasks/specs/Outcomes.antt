@@ -1,7 +1,7 @@
 -- Why a run ended, and why a call with its words never began to run.
 use Rattle.std.specs.Prelude.{◌≡◌, ◌⊎◌, ℕ, List, Option, Result, Bool}
 use Rattle.dd_ports.specs.Causes.{Rose}
-use Rattle.dd_check.specs.declared.kinds.Kind.{Kind}
+use Rattle.dd_check.specs.declared.kinds.ResumeKind.{ResumeKind}
 use Rattle.dd_check.specs.ShardFaults.{HasKindFault}
 use Rattle.dd_check.specs.Calls.{Task}
 use Rattle.dd_check.specs.ChainStarts.{Start}
@@ -34,13 +34,13 @@ IsStopEnding Memory task before after = Unit {0}
 IsStopEnding ending task before after = ⊥
 
 -- the bytes have this fault, as a text of the kind, or memory is wanting
-abbrev pub IsReadStop : Kind → List ℕ → Ending → Type 0
+abbrev pub IsReadStop : ResumeKind → List ℕ → Ending → Type 0
 IsReadStop kind bytes (RefusedCheck fault) = HasKindFault kind bytes fault
 IsReadStop kind bytes Memory = Unit {0}
 IsReadStop kind bytes ending = ⊥
 
 -- a name holds bytes with this fault, as a text of the kind, or a fetch failed and was counted, or memory is wanting
-abbrev pub IsHeldStop : Kind → Ending → Bool → Option (List ℕ) → ℕ → ℕ → Type 0
+abbrev pub IsHeldStop : ResumeKind → Ending → Bool → Option (List ℕ) → ℕ → ℕ → Type 0
 IsHeldStop kind (RefusedCheck fault) tells held before now = HoldsNoCheck kind tells held fault
 IsHeldStop kind StoreFault tells held before now = Rose before now
 IsHeldStop kind Memory tells held before now = Unit {0}

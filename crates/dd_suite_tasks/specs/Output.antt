@@ -6,7 +6,7 @@ use Rattle.dd_model.specs.declared.jobs.Position.TheVariants.{End}
 use Rattle.dd_opening_jobs.specs.declared.portions.Portion.{Portion}
 use Rattle.dd_opening_jobs.specs.Portions.{IsPortionText}
 use Rattle.dd_check.specs.Between.{AreLinesBetween}
-use Rattle.dd_check.specs.declared.kinds.Kind.{Kind}
+use Rattle.dd_check.specs.declared.kinds.ResumeKind.{ResumeKind}
 use Rattle.dd_check.specs.ChainStarts.{Start}
 use Rattle.dd_file_commands.specs.declared.commands.FileCommand.{FileCommand}
 use Rattle.dd_pages_and_checkpoints.specs.MostLines.{most_lines}
@@ -24,7 +24,7 @@ pub record IsBegunText (words : List (List ℕ)) (bytes : List ℕ) : Type 0 whe
 
 -- the text from where the checkpoint says that the words go on from
 pub record IsResumedText (words : List (List ℕ)) (tells : Bool) (held : List ℕ → Option (List ℕ)) (bytes : List ℕ) : Type 0 where
-  pub kind : Kind
+  pub kind : ResumeKind
   pub name : List ℕ
   pub asked : AskToResume words kind name
   pub start : Start
@@ -33,7 +33,7 @@ pub record IsResumedText (words : List (List ℕ)) (tells : Bool) (held : List �
 
 -- the lines of all members from there to the end
 pub record AreResumedLines (words : List (List ℕ)) (tells : Bool) (held : List ℕ → Option (List ℕ)) (bytes : List ℕ) : Type 0 where
-  pub kind : Kind
+  pub kind : ResumeKind
   pub name : List ℕ
   pub asked : AskToResume words kind name
   pub start : Start

@@ -8,8 +8,8 @@ use Rattle.dd_words.specs.declared.commands.FileKind.TheVariants as kind
 use Rattle.dd_opening_jobs.specs.declared.pace.Pace.{Pace}
 use Rattle.dd_opening_jobs.specs.declared.shards.Shard.{Shard}
 use Rattle.dd_opening_jobs.specs.declared.portions.Portion.{Portion}
-use Rattle.dd_check.specs.declared.kinds.Kind.{Kind}
-use Rattle.dd_check.specs.declared.kinds.Kind.TheVariants.{Catalogues, Shards}
+use Rattle.dd_check.specs.declared.kinds.ResumeKind.{ResumeKind}
+use Rattle.dd_check.specs.declared.kinds.ResumeKind.TheVariants.{Catalogues, Shards}
 use Rattle.dd_check.specs.Calls.{Task, Begin, Resume}
 use Rattle.dd_file_commands.specs.declared.commands.FileCommand.{FileCommand}
 use Rattle.dd_file_commands.specs.declared.commands.FileCommand.TheVariants.{Symbols, Info, Sheets, Draw}
@@ -28,7 +28,7 @@ begin_command None q name pace pause = command.Catalogue q pace pause name
 begin_command (Some shard) q name pace pause = command.Shard shard q pace pause name
 
 -- the command that goes on from a text of this kind
-abbrev pub resume_command : Kind → List ℕ → Pace → Option ℕ → Command
+abbrev pub resume_command : ResumeKind → List ℕ → Pace → Option ℕ → Command
 resume_command Catalogues name pace pause = command.Resume name pace pause
 resume_command Shards name pace pause = command.ResumeShard name pace pause
 
@@ -51,7 +51,7 @@ pub record AskFor (words : List (List ℕ)) (p : Portion) : Type 0 where
   pub run : AskForRun words (record { task = Begin p name; round = round; pause = pause })
 
 -- the words that go on from the checkpoint of a name
-pub record AskToResume (words : List (List ℕ)) (kind : Kind) (name : List ℕ) : Type 0 where
+pub record AskToResume (words : List (List ℕ)) (kind : ResumeKind) (name : List ℕ) : Type 0 where
   pub round : ℕ
   pub pause : Option ℕ
   pub run : AskForRun words (record { task = Resume kind name; round = round; pause = pause })

@@ -1,4 +1,4 @@
-use dd_check::Kind;
+use dd_check::ResumeKind;
 use dd_file_commands::FileCommand;
 use dd_opening_jobs::{Pace, Portion};
 use dd_words::{Name, Names};
@@ -18,7 +18,7 @@ pub enum Task {
     },
     /// Resuming from the checkpoint of a name, of a catalogue or of a shard, in the same way.
     Resume {
-        kind: Kind,
+        kind: ResumeKind,
         name: Name,
         pace: Pace,
         pause: Option<u32>,

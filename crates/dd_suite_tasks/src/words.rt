@@ -6,7 +6,7 @@ ghost use Rattle.dd_words.specs.declared.commands.Command.{Command};
 ghost use Rattle.dd_suite_tasks.specs.Commands.{IsBegunBy, IsTaskOf, AskForTask};
 
 use crate::task::Task;
-use dd_check::Kind;
+use dd_check::ResumeKind;
 use dd_file_commands::{FileCommand, SymbolCommand};
 use dd_model::Memory;
 use dd_opening_jobs::{Pace, Portion};
@@ -52,13 +52,13 @@ fn task_of(command: Command) -> Task
             task_for(portion, pace, pause, checkpoint)
         }
         Command::Resume { name, pace, pause } => Task::Resume {
-            kind: Kind::Catalogues,
+            kind: ResumeKind::Catalogues,
             name,
             pace,
             pause,
         },
         Command::ResumeShard { name, pace, pause } => Task::Resume {
-            kind: Kind::Shards,
+            kind: ResumeKind::Shards,
             name,
             pace,
             pause,

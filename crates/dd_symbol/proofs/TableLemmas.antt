@@ -12,7 +12,7 @@ use Rattle.dd_model.proofs.CountFrom.{length-count_from, get_or-count_from}
 use Rattle.dd_model.proofs.Codes.{same_items, length-flat_images}
 use Rattle.dd_symbol.specs.Images.{column, of_rows, of_code, with_degrees, AreThreeInvolutions}
 use Rattle.dd_symbol.specs.Table.{symbol_of}
-use Rattle.dd_symbol.specs.declared.table.Table.{Table}
+use Rattle.dd_symbol.specs.declared.code_table.CodeTable.{CodeTable}
 use Rattle.dd_model.specs.Involutions.{HaveSameInvolutions}
 use Rattle.dd_model.proofs.SameInvolutions.{involutions-same}
 use Rattle.dd_model.proofs.Transport.{HaveLengths}
@@ -57,7 +57,7 @@ lengths n xs i = elim i as (λ j. length (operation (of_rows n xs) j) ≡ n) [
 pub with_same : (s : Symbol) (m01 m12 : List ℕ) → HaveSameInvolutions s (with_degrees s m01 m12)
 with_same s m01 m12 = record { size = refl; s0 = refl; s1 = refl; s2 = refl }
 
-pub table_lengths : (t : Table) → HaveLengths (symbol_of t)
+pub table_lengths : (t : CodeTable) → HaveLengths (symbol_of t)
 table_lengths t = record {
   lengths = t.three.lengths;
   m01_length = t.tiles;
@@ -65,7 +65,7 @@ table_lengths t = record {
 }
 
 -- how long the code is
-pub length-code_of : (t : Table) → length (code (symbol_of t)) ≡ 5 * t.involutions.size
+pub length-code_of : (t : CodeTable) → length (code (symbol_of t)) ≡ 5 * t.involutions.size
 length-code_of t =
     let s = symbol_of t in
     let images = length-flat_images s 1 s.size in

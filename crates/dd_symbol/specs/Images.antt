@@ -3,7 +3,7 @@ use Rattle.std.specs.Prelude.{◌≡◌, ℕ, ◌+◌, ◌*◌, ◌≤◌, List,
 use Rattle.dd_model.specs.declared.index.Index.{Index}
 use Rattle.dd_model.specs.Symbol.{Symbol, AreInvolutions, operation}
 use Rattle.dd_model.specs.Code.{count_from}
-use Rattle.dd_symbol.specs.declared.rows.Rows.{Rows}
+use Rattle.dd_symbol.specs.declared.code_rows.CodeRows.{CodeRows}
 
 -- the images under one involution in rows of three: every third number from place i on, n of them
 unfoldable pub column : List ℕ → ℕ → ℕ → List ℕ
@@ -22,7 +22,7 @@ abbrev pub of_code : ℕ → List ℕ → Symbol
 of_code n xs = with_degrees (of_rows n xs) (take n (drop (3 * n) xs)) (drop (3 * n + n) xs)
 
 -- what rows say of a tiling
-abbrev pub rows_of : Rows → Symbol
+abbrev pub rows_of : CodeRows → Symbol
 rows_of r = of_code r.size r.numbers
 
 -- three involutions of at most 16,384 chambers, an image of each chamber in each list

@@ -2,10 +2,10 @@ ghost use Rattle.std.specs.Prelude.{◌↔◌, IsTrue};
 ghost use Rattle.dd_model.specs.Code.{code};
 ghost use Rattle.dd_model.specs.Lists.{IsSmallerWhereTheyDiffer};
 
-use crate::table::Table;
+use crate::code_table::CodeTable;
 use dd_model::Position;
 
-impl Table {
+impl CodeTable {
     ghost use Rattle.dd_symbol.specs.Table.{symbol_of};
     ghost use Rattle.dd_model.specs.Position.{IsBefore};
 

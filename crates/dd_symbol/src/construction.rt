@@ -5,15 +5,15 @@ ghost use Rattle.dd_symbol.specs.Conditions.{AreConnected};
 ghost use Rattle.dd_symbol.specs.Refusals.{IsRefused, IsFault};
 ghost use Rattle.dd_model.specs.Small.{IsSmallSymbol};
 
+use crate::code_table::CodeTable;
 use crate::connected::Connected;
 use crate::involutions::Involutions;
 use crate::refusals::Refusal;
 use crate::symbol::Symbol;
-use crate::table::Table;
 use dd_model::Memory;
 use std::alloc::Global;
 
-impl Table {
+impl CodeTable {
     ghost use Rattle.dd_symbol.specs.Table.{symbol_of};
     ghost use Rattle.dd_model.specs.Connected.{Connected as AllReached};
 
@@ -59,7 +59,7 @@ pub fn build_on(
     if involutions.size() == 0 {
         return Err(Refusal::Empty);
     }
-    let table = Table {
+    let table = CodeTable {
         involutions: involutions.followed_by(alloc, &m01, &m12)?,
     };
     table.check(alloc)?;
@@ -84,7 +84,7 @@ pub fn build_fitting(
         (IsConnectedSymbol (with_degrees involutions m01.items m12.items) → ⊥)
         (IsBuilt (with_degrees involutions m01.items m12.items))) }
 {
-    let table = Table {
+    let table = CodeTable {
         involutions: involutions.followed_by(alloc, &m01, &m12)?,
     };
     match table.check_involutions(alloc) {
@@ -102,7 +102,7 @@ pub fn build_known(involutions: Involutions, m01: &[u8], m12: &[u8]) -> Result<C
     requires { IsConnectedSymbol (with_degrees involutions m01.now m12.now) }
     ensures { IfOk result (λ it. it ≡ with_degrees involutions m01.now m12.now) }
 {
-    let table = Table {
+    let table = CodeTable {
         involutions: involutions.followed_by_bytes(m01, m12)?,
     };
     Ok(Connected::from_symbol(Symbol::from_table(table)))

@@ -1,15 +1,15 @@
 ghost use Rattle.std.specs.Prelude.{ℕ, ◌<◌, ◌≤◌, OnOk, IfErr};
 
+use crate::code_table::CodeTable;
 use crate::maps::item;
 use crate::refusals::Refusal;
-use crate::table::Table;
 use dd_model::Pair;
 use std::alloc::Global;
 
 /// The largest branching value of a symbol that is taken.
 const LARGEST_BRANCHING: u32 = 30;
 
-impl Table {
+impl CodeTable {
     ghost use Rattle.dd_symbol.specs.Table.{symbol_of};
     ghost use Rattle.dd_symbol.specs.Cells.{AreLeast};
     ghost use Rattle.dd_symbol.specs.Refusals.{IsFault};

@@ -3,8 +3,8 @@ ghost use Rattle.dd_symbol.specs.Building.{listed};
 ghost use Rattle.dd_symbol.specs.Rows.{HasRows};
 ghost use Rattle.dd_model.specs.Symbol.{op};
 
+use crate::code_rows::CodeRows;
 use crate::refusals::Refusal;
-use crate::rows::Rows;
 use dd_model::{Code, Index, Memory, Pair};
 use dd_numbers::Numbers;
 use std::alloc::Global;
@@ -16,7 +16,7 @@ use std::marker::Model;
 /// follow.
 #[derive(Drop)]
 pub struct Involutions {
-    pub(crate) rows: Rows,
+    pub(crate) rows: CodeRows,
 }
 
 impl Model for Involutions {
@@ -66,7 +66,7 @@ impl Involutions {
         ensures { IfOk result (λ found. MatchOption found
             (AreInvolutions (of_rows size images.now) → ⊥) (λ it. it ≡ of_rows size images.now)) }
     {
-        let rows = Rows::from_bytes(alloc, images, size)?;
+        let rows = CodeRows::from_bytes(alloc, images, size)?;
         match rows.check() {
             Ok(()) => Ok(Some(Involutions { rows })),
             Err(_) => Ok(None),
@@ -81,7 +81,7 @@ impl Involutions {
         ensures { IfOk result (λ it. it ≡ of_rows size images.now) }
     {
         Ok(Involutions {
-            rows: Rows::from_bytes(alloc, images, size)?,
+            rows: CodeRows::from_bytes(alloc, images, size)?,
         })
     }
 
@@ -100,7 +100,7 @@ impl Involutions {
     {
         let numbers = interleaved(alloc, s0, s1, s2)?;
         let size = s0.len() as u32;
-        let rows = Rows { numbers, size };
+        let rows = CodeRows { numbers, size };
         rows.check()?;
         Ok(Involutions { rows })
     }
@@ -121,7 +121,7 @@ impl Involutions {
         let numbers = interleaved(alloc, s0, s1, s2)?;
         let size = s0.len() as u32;
         Ok(Involutions {
-            rows: Rows { numbers, size },
+            rows: CodeRows { numbers, size },
         })
     }
 
@@ -182,7 +182,7 @@ impl Involutions {
         ensures { IfOk result (λ copy. copy ≡ self.now) }
     {
         Ok(Involutions {
-            rows: Rows {
+            rows: CodeRows {
                 numbers: self.rows.numbers.try_copy(alloc)?,
                 size: self.rows.size,
             },
@@ -199,12 +199,12 @@ impl Involutions {
         requires tiles { length m01.now ≡ self.size }
         ensures { IfOk result (λ it. it ≡ with_degrees self m01.now m12.now) }
     {
-        let Rows { mut numbers, size } = self.rows;
+        let CodeRows { mut numbers, size } = self.rows;
         numbers.truncate(3 * size as usize);
         numbers.extend(alloc, m01)?;
         numbers.extend(alloc, m12)?;
         Ok(Involutions {
-            rows: Rows { numbers, size },
+            rows: CodeRows { numbers, size },
         })
     }
 
@@ -213,12 +213,12 @@ impl Involutions {
         requires tiles { length m01.now ≡ self.size }
         ensures { IfOk result (λ it. it ≡ with_degrees self m01.now m12.now) }
     {
-        let Rows { mut numbers, size } = self.rows;
+        let CodeRows { mut numbers, size } = self.rows;
         numbers.truncate(3 * size as usize);
         numbers.extend_bytes(m01)?;
         numbers.extend_bytes(m12)?;
         Ok(Involutions {
-            rows: Rows { numbers, size },
+            rows: CodeRows { numbers, size },
         })
     }
 
@@ -234,7 +234,7 @@ impl Involutions {
     {
         let images = 3 * self.rows.size as usize;
         Ok(Involutions {
-            rows: Rows {
+            rows: CodeRows {
                 numbers: self.rows.numbers.front_with(alloc, images, m01, m12)?,
                 size: self.rows.size,
             },

@@ -8,7 +8,7 @@
 //!   larger symbol has one vector.
 //! - **`Involutions`** is such a list whose images are known to be involutions of the chambers 1 to
 //!   n, so no function of it has that as a requirement. If nothing follows the images, its degrees
-//!   are empty. A `Table` has as many degrees as chambers.
+//!   are empty. A `CodeTable` has as many degrees as chambers.
 //! - **Reading.** The code and the order read the list as it is. `Symbol::images` gives the three
 //!   images of a chamber at once. A reader that reads a symbol over and over, such as a traversal
 //!   from each start, has it lent (`SymbolRef`). The traversal then asks once whether it is kept in
@@ -32,6 +32,8 @@
 
 mod before;
 mod cells;
+mod code_rows;
+mod code_table;
 mod connected;
 mod construction;
 mod degrees;
@@ -41,11 +43,9 @@ mod maps;
 mod range_checks;
 mod refusals;
 mod renumbering;
-mod rows;
 mod shapes;
 mod symbol;
 mod symbol_ref;
-mod table;
 mod walk;
 
 pub use connected::Connected;

@@ -1,10 +1,10 @@
 ghost use Rattle.std.specs.Prelude.{OnOk, IfErr};
 
+use crate::code_rows::CodeRows;
 use crate::refusals::Refusal;
-use crate::rows::Rows;
 use dd_model::Index;
 
-impl Rows {
+impl CodeRows {
     ghost use Rattle.dd_symbol.specs.Images.{rows_of};
     ghost use Rattle.dd_symbol.specs.Refusals.{IsRowsFault};
     ghost use Rattle.dd_symbol.specs.Causes.{IndexBefore};

@@ -1,9 +1,9 @@
 ghost use Rattle.std.specs.Prelude.{◌≡◌, ℕ, ◌≤◌, List, [], ◌∷◌, map, length, IfOk, OnOk};
 
+use crate::code_rows::CodeRows;
+use crate::code_table::CodeTable;
 use crate::involutions::Involutions;
 use crate::maps::item;
-use crate::rows::Rows;
-use crate::table::Table;
 use dd_model::{Index, Memory, Pair};
 use dd_numbers::Numbers;
 use std::alloc::Global;
@@ -72,7 +72,7 @@ impl Involutions {
         let mut numbers = Numbers::with_room_for(alloc, self.size() as usize)?;
         self.push_images(alloc, &mut numbers, map, back)?;
         Ok(Involutions {
-            rows: Rows {
+            rows: CodeRows {
                 numbers,
                 size: self.size(),
             },
@@ -80,7 +80,7 @@ impl Involutions {
     }
 }
 
-impl Table {
+impl CodeTable {
     ghost use Rattle.dd_symbol.specs.Table.{symbol_of};
     ghost use Rattle.dd_symbol.specs.Maps.{AreInverse};
     ghost use Rattle.dd_model.specs.Symbol.{IsChamber, degree, item};
@@ -108,7 +108,7 @@ impl Table {
         alloc: Global,
         map: &[u32],
         back: &[u32],
-    ) -> Result<Table, Memory>
+    ) -> Result<CodeTable, Memory>
         requires maps { AreInverse (symbol_of self.now).size map.now back.now }
         ensures { IfOk result (λ table.
             IsIsomorphism (symbol_of self.now) (symbol_of table) map.now) }
@@ -116,7 +116,7 @@ impl Table {
         let involutions = self.involutions.renumbered(alloc, map, back)?;
         let m01 = self.degrees_in(alloc, Pair::Tile, back)?;
         let m12 = self.degrees_in(alloc, Pair::Vertex, back)?;
-        Ok(Table {
+        Ok(CodeTable {
             involutions: involutions.followed_by(alloc, &m01, &m12)?,
         })
     }

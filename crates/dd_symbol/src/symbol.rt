@@ -2,11 +2,11 @@ ghost use Rattle.std.specs.Prelude.{◌≡◌, ◌≤◌, ◌<◌, ◌↔◌, If
 ghost use Rattle.dd_model.specs.Isomorphic.{IsBijection, IsIsomorphism};
 ghost use Rattle.dd_model.specs.Code.{code_cmp};
 
+use crate::code_table::CodeTable;
 use crate::involutions::Involutions;
 use crate::maps::inverse;
 use crate::shapes::CellShape;
 use crate::symbol_ref::SymbolRef;
-use crate::table::Table;
 use dd_model::{Code, Index, Memory, Pair, Position};
 use std::alloc::Global;
 use std::cmp::Ordering;
@@ -15,7 +15,7 @@ use std::marker::Model;
 /// A symbol of at most 16,384 chambers with branching values of at most 30.
 #[derive(Drop)]
 pub struct Symbol {
-    table: Table,
+    table: CodeTable,
 }
 
 impl Model for Symbol {
@@ -43,7 +43,7 @@ impl Symbol {
     ghost use Rattle.dd_model.specs.Small.{IsSmallSymbol};
 
     /// The symbol of a table.
-    pub(crate) fn from_table(table: Table) -> Self
+    pub(crate) fn from_table(table: CodeTable) -> Self
         requires { IsSmallSymbol (symbol_of table) }
         ensures { result ≡ symbol_of table }
     {
@@ -171,7 +171,7 @@ impl Symbol {
     {
         let involutions = self.table.involutions.copy_with(alloc, m01, m12)?;
         Ok(Symbol {
-            table: Table { involutions },
+            table: CodeTable { involutions },
         })
     }
 

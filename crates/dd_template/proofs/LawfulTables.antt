@@ -16,7 +16,7 @@ use Rattle.dd_template.specs.Reduced.{carried}
 use Rattle.dd_template.specs.Moves.{LeadsBack, IsUndone, AreUndone, Commute}
 use Rattle.dd_template.specs.Connecting.{IsSilent, IsJoined, AreJoined, IsUsed, AreUsed}
 use Rattle.dd_template.specs.Entries.{entries, GoesBy, GoWithin, IsApart, IsTurned, Fits, IsConstant, AreConstant, AllFit}
-use Rattle.dd_template.specs.declared.tables.Kind.TheVariants as kind
+use Rattle.dd_template.specs.declared.tables.MultipleOf.TheVariants as kind
 use Rattle.dd_template.specs.Shares.{KeepsCurvature, share, curvature_unit}
 use Rattle.std.specs.List.{sum_by}
 use Rattle.dd_template.specs.Lawful.{HaveParts, HaveMoves, HaveEntries, IsLawful}

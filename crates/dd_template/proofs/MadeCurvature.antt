@@ -9,7 +9,7 @@ use Rattle.dd_model.specs.declared.pair.Pair.TheVariants.{Tile, Vertex}
 use Rattle.dd_model.proofs.AllDegrees.{all_degrees_positive}
 use Rattle.dd_template.specs.declared.tables.Degree.{Degree}
 use Rattle.dd_template.specs.declared.tables.Degree.TheVariants.{OfTile, OfVertex, Fixed}
-use Rattle.dd_template.specs.declared.tables.Kind.TheVariants as kind
+use Rattle.dd_template.specs.declared.tables.MultipleOf.TheVariants as kind
 use Rattle.dd_template.specs.Table.{Table, IsPart, entry}
 use Rattle.dd_template.specs.Made.{chamber_of, degree_of, degree_from, made, made_degrees}
 use Rattle.dd_template.specs.Kept.{HaveSameCurvature}

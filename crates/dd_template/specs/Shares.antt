@@ -3,8 +3,8 @@ use Rattle.std.specs.Prelude.{◌≡◌, ℕ, ◌+◌, ◌-◌, ◌*◌, ◌/◌
 use Rattle.std.specs.List.{sum_by}
 use Rattle.dd_template.specs.declared.tables.Degree.{Degree}
 use Rattle.dd_template.specs.declared.tables.Degree.TheVariants.{OfTile, OfVertex, Fixed}
-use Rattle.dd_template.specs.declared.tables.Kind.{Kind}
-use Rattle.dd_template.specs.declared.tables.Kind.TheVariants as kind
+use Rattle.dd_template.specs.declared.tables.MultipleOf.{MultipleOf}
+use Rattle.dd_template.specs.declared.tables.MultipleOf.TheVariants as kind
 use Rattle.dd_template.specs.Table.{Table}
 
 -- The least common multiple of 1 to 64. The fractions 1/c of a lawful table are counted in such parts of 1.
@@ -12,7 +12,7 @@ abbrev pub curvature_unit : ℕ
 curvature_unit = 1182266884102822267511361600
 
 -- 1/c for an entry of one kind, and 0 for the others
-abbrev pub share : Kind → Degree → ℕ
+abbrev pub share : MultipleOf → Degree → ℕ
 share kind.Tile (OfTile c) = curvature_unit / c
 share kind.Tile (OfVertex c) = 0
 share kind.Tile (Fixed m) = 0

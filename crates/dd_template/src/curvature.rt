@@ -2,7 +2,7 @@ ghost use Rattle.std.specs.Prelude.{◌≡◌, ℕ, ◌≤◌, ◌*◌, ◌/◌,
 ghost use Rattle.std.specs.List.{sum_by};
 ghost use Rattle.dd_template.specs.Shares.{share, curvature_unit};
 
-use crate::tables::{Degree, Kind, Template};
+use crate::tables::{Degree, MultipleOf, Template};
 use dd_model::Pair;
 
 /// The number of parts into which 1 is cut when curvature is counted. It is the least common
@@ -21,14 +21,14 @@ fn parts_of_whole(number: u32) -> u128
 }
 
 /// What an entry adds to the sum of a kind.
-fn share_of(kind: Kind, entry: Degree) -> u128
+fn share_of(kind: MultipleOf, entry: Degree) -> u128
     ensures share { result ≡ share kind entry }
     ensures small { result ≤ curvature_unit }
 {
     match (kind, entry) {
-        (Kind::Tile, Degree::OfTile(number)) => parts_of_whole(number),
-        (Kind::Vertex, Degree::OfVertex(number)) => parts_of_whole(number),
-        (Kind::Neither, Degree::Fixed(number)) => parts_of_whole(number),
+        (MultipleOf::Tile, Degree::OfTile(number)) => parts_of_whole(number),
+        (MultipleOf::Vertex, Degree::OfVertex(number)) => parts_of_whole(number),
+        (MultipleOf::Neither, Degree::Fixed(number)) => parts_of_whole(number),
         _ => 0,
     }
 }
@@ -39,7 +39,7 @@ impl<const K: usize> Template<K> {
     ghost use Rattle.dd_template.specs.Entries.{entries};
 
     /// The sum of a kind over the entries that belong to the tiles or to the vertices.
-    fn total(&self, pair: Pair, kind: Kind) -> u128
+    fn total(&self, pair: Pair, kind: MultipleOf) -> u128
         requires few { K ≤ 64 }
         requires entries { length (entries (table_of self.now) pair) ≡ K }
         ensures total { result ≡ sum_by (share kind) (entries (table_of self.now) pair) }
@@ -58,10 +58,12 @@ impl<const K: usize> Template<K> {
         requires few { K ≤ 64 }
         ensures { IsTrue result ↔ KeepsCurvature (table_of self.now) }
     {
-        let tiles = self.total(Pair::Tile, Kind::Tile) + self.total(Pair::Vertex, Kind::Tile);
-        let vertices = self.total(Pair::Tile, Kind::Vertex)
-            + self.total(Pair::Vertex, Kind::Vertex);
-        let fixed = self.total(Pair::Tile, Kind::Neither) + self.total(Pair::Vertex, Kind::Neither);
+        let tiles = self.total(Pair::Tile, MultipleOf::Tile)
+            + self.total(Pair::Vertex, MultipleOf::Tile);
+        let vertices = self.total(Pair::Tile, MultipleOf::Vertex)
+            + self.total(Pair::Vertex, MultipleOf::Vertex);
+        let fixed = self.total(Pair::Tile, MultipleOf::Neither)
+            + self.total(Pair::Vertex, MultipleOf::Neither);
         tiles == CURVATURE_UNIT
             && vertices == CURVATURE_UNIT
             && 2 * fixed == (K - 1) as u128 * CURVATURE_UNIT

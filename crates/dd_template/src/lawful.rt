@@ -7,7 +7,7 @@ use dd_model::{Index, Pair};
 
 /// Where a walk from a part has come to, and the reduced word of its moves.
 #[derive(Drop)]
-pub(crate) struct Walk {
+pub(crate) struct WalkEnd {
     pub(crate) part: usize,
     pub(crate) word: Letters,
 }
@@ -88,7 +88,7 @@ impl<const K: usize> Template<K> {
     }
 
     /// Returns where `turns` turns of a pair lead.
-    pub(crate) fn turned(&self, pair: Pair, part: usize, turns: usize) -> Walk
+    pub(crate) fn turned(&self, pair: Pair, part: usize, turns: usize) -> WalkEnd
         requires undone { AreUndone (table_of self.now) }
         requires part { part < K }
         requires turns { turns ≤ 64 }
@@ -107,7 +107,7 @@ impl<const K: usize> Template<K> {
             place = next.to;
             left -= 1;
         }
-        Walk { part: place, word }
+        WalkEnd { part: place, word }
     }
 
     /// Returns whether `turns` turns of a pair lead a part back to itself with a word that reduces

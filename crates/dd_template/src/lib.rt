@@ -30,4 +30,4 @@ pub use made_laws::{
 };
 pub use named::tables_have_names;
 pub use operations::{Operation, operations_are_lawful};
-pub use tables::{Degree, Kind, Move, Template};
+pub use tables::{Degree, Move, MultipleOf, Template};

@@ -22,7 +22,7 @@ pub enum Degree {
 
 /// The degree of the chamber of which a degree is a multiple.
 #[derive(Debug, Clone, Copy, PartialEq, Eq)]
-pub enum Kind {
+pub enum MultipleOf {
     /// The degree m01.
     Tile,
     /// The degree m12.

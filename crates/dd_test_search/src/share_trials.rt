@@ -3,8 +3,8 @@ ghost use Rattle.dd_branch_tables.specs.Rows.{partial_of, IsReady};
 ghost use Rattle.dd_branch_tables.specs.Stem.{IsStem};
 ghost use Rattle.dd_branch_bounds.specs.Kept.{AreSides};
 
-use dd_branch_bounds::{PathShares, Sides, parity_rules_out};
-use dd_branch_tables::{Rows, Stem, Visit};
+use dd_branch_bounds::{PathShares, TablePaths, parity_rules_out};
+use dd_branch_tables::{PartialTable, Stem, Visit};
 use dd_model::{Allowed, Request};
 use std::test::Fail;
 
@@ -27,9 +27,9 @@ fn is_empty(tiles: u32, least: u32, size: u8) -> bool
     requires least { (1 ≤ least) × (least ≤ 36) }
     requires size { (1 ≤ size) × (size ≤ 36) }
 {
-    let rows = Rows::empty(size);
+    let rows = PartialTable::empty(size);
     let classes = PathShares::of(&asked(tiles, least), size);
-    Sides::start(&classes).rules_out(&classes, &rows)
+    TablePaths::start(&classes).rules_out(&classes, &rows)
 }
 
 #[test]
@@ -45,7 +45,13 @@ fn a_tile_has_at_most_twelve_chambers(rt: HostRuntime) -> Result<(), Fail> {
 
 /// Puts a number in at a place of a code, and learns from it; false where that cannot be, or where
 /// a cell is then whole that may have no degree.
-fn put(rows: &mut Rows, classes: &PathShares, sides: &mut Sides, place: u8, number: u8) -> bool
+fn put(
+    rows: &mut PartialTable,
+    classes: &PathShares,
+    sides: &mut TablePaths,
+    place: u8,
+    number: u8,
+) -> bool
     requires ready { IsReady rows.old }
     requires place { place < 3 * (partial_of rows.old).size }
     requires kept { AreSides classes.now (partial_of rows.old) sides.old }
@@ -63,10 +69,10 @@ fn put(rows: &mut Rows, classes: &PathShares, sides: &mut Sides, place: u8, numb
 /// Answers for a chain of five chambers: before it is put in, while it is open, for the number that
 /// closes it, and when it is closed. The last answers are for the paths that there were before.
 fn answers() -> [bool; 6] {
-    let empty = Rows::empty(6);
-    let mut rows = Rows::empty(6);
+    let empty = PartialTable::empty(6);
+    let mut rows = PartialTable::empty(6);
     let classes = PathShares::of(&asked(0, 4), 6);
-    let start = Sides::start(&classes);
+    let start = TablePaths::start(&classes);
     let mut sides = start;
     let before = sides.rules_out(&classes, &rows);
     let one = put(&mut rows, &classes, &mut sides, 0, 2);
@@ -103,9 +109,9 @@ fn a_long_chain_exceeds(rt: HostRuntime) -> Result<(), Fail> {
 fn is_empty_with_a_tile(tiles: u32, least: u32) -> bool
     requires { (1 ≤ least) × (least ≤ 36) }
 {
-    let mut rows = Rows::empty(3);
+    let mut rows = PartialTable::empty(3);
     let classes = PathShares::of(&asked(tiles, least), 3);
-    let mut sides = Sides::start(&classes);
+    let mut sides = TablePaths::start(&classes);
     put(&mut rows, &classes, &mut sides, 0, 1)
         && put(&mut rows, &classes, &mut sides, 1, 1)
         && sides.rules_out(&classes, &rows)
@@ -128,9 +134,9 @@ fn answers_for_pentagons() -> [bool; 3] {
     faces.add(5);
     let mut request = asked(0, 3);
     request.faces = faces;
-    let mut rows = Rows::empty(20);
+    let mut rows = PartialTable::empty(20);
     let classes = PathShares::of(&request, 20);
-    let mut sides = Sides::start(&classes);
+    let mut sides = TablePaths::start(&classes);
     let before = sides.rules_out(&classes, &rows);
     let put_in = put(&mut rows, &classes, &mut sides, 0, 2)
         && put(&mut rows, &classes, &mut sides, 1, 1);
@@ -150,9 +156,9 @@ fn a_whole_tile_has_an_allowed_degree(rt: HostRuntime) -> Result<(), Fail> {
 fn is_empty_with_a_chain(size: u8) -> bool
     requires { (1 ≤ size) × (size ≤ 36) }
 {
-    let mut rows = Rows::empty(size);
+    let mut rows = PartialTable::empty(size);
     let classes = PathShares::of(&asked(1, 3), size);
-    let mut sides = Sides::start(&classes);
+    let mut sides = TablePaths::start(&classes);
     put(&mut rows, &classes, &mut sides, 0, 1) && sides.rules_out(&classes, &rows)
 }
 
@@ -160,9 +166,9 @@ fn is_empty_with_a_chain(size: u8) -> bool
 fn is_refused_with_a_chain(size: u8) -> bool
     requires { (1 ≤ size) × (size ≤ 36) }
 {
-    let rows = Rows::empty(size);
+    let rows = PartialTable::empty(size);
     let classes = PathShares::of(&asked(1, 3), size);
-    Sides::start(&classes).rules_out_number(&classes, &rows, 0, 1)
+    TablePaths::start(&classes).rules_out_number(&classes, &rows, 0, 1)
 }
 
 #[test]
@@ -176,8 +182,8 @@ fn a_tile_with_a_fixed_chamber_has_at_most_six(rt: HostRuntime) -> Result<(), Fa
 
 #[test]
 fn odd_sizes_have_fixed_chambers(rt: HostRuntime) -> Result<(), Fail> {
-    let mut odd = Rows::empty(3);
-    let mut even = Rows::empty(4);
+    let mut odd = PartialTable::empty(3);
+    let mut even = PartialTable::empty(4);
     assert!(rt; !parity_rules_out(&odd));
     assert!(rt; odd.put(0, 2));
     assert!(rt; even.put(0, 2));
@@ -192,7 +198,7 @@ fn count_nodes(
     stem: &mut Stem,
     visit: &mut Visit,
     classes: &PathShares,
-    before: &Sides,
+    before: &TablePaths,
     mark: usize,
 ) -> u64
     requires stem { IsStem stem.old }
@@ -235,7 +241,7 @@ fn nodes_of(tiles: u32, least: u32, size: u8) -> u64
     let mut stem = Stem::new(size);
     let mut visit = Visit::new();
     let classes = PathShares::of(&asked(tiles, least), size);
-    let start = Sides::start(&classes);
+    let start = TablePaths::start(&classes);
     count_nodes(&mut stem, &mut visit, &classes, &start, 0)
 }
 

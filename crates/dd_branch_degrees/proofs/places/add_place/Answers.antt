@@ -1,7 +1,7 @@
 use Rattle.std.proofs.Common.{ℕ, ◌+◌, ◌-◌, ◌<◌, List, length, slice_index_or, sym, ap, subst, arith}
 use Rattle.dd_branch_degrees.specs.Budget.{no_place}
 use Rattle.dd_branch_degrees.specs.Place.{IsPlaceOf}
-use Rattle.dd_branch_degrees.specs.declared.places.Place.{Place}
+use Rattle.dd_branch_degrees.specs.declared.places.DegreeSlot.{DegreeSlot}
 use Rattle.dd_branch_degrees.proofs.PlacesInCell.{place_beside, smaller_chamber, told_before}
 use Rattle.dd_branch_degrees.proofs.places.add_place.Goals as goal
 
@@ -28,7 +28,7 @@ returns-in-Some c =
     let near = smaller_chamber c.args.table.now c.requires.three.involutions c.args.pair c.args.chamber c.in-Some.smaller c.requires.chamber is in
     let e = c.in-Some.smaller in
     let xs = c.as_slice.result.now in
-    let before = subst (λ (ys : List Place). (k : ℕ) (x : Place) → k + 1 < c.args.chamber → IsPlaceOf c.args.table.now c.args.set.now c.args.pair c.args.first (k + 1) (slice_index_or ys (c.args.first + k) x))
+    let before = subst (λ (ys : List DegreeSlot). (k : ℕ) (x : DegreeSlot) → k + 1 < c.args.chamber → IsPlaceOf c.args.table.now c.args.set.now c.args.pair c.args.first (k + 1) (slice_index_or ys (c.args.first + k) x))
     (sym c.as_slice.ensures.value) c.requires.places in
     record {
       place = c.beside-place.result;

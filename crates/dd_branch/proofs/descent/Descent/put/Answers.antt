@@ -5,7 +5,7 @@ use Rattle.dd_branch_tables.specs.Stem.{prefix_of, size_of}
 use Rattle.dd_opening_jobs.specs.Under.{HasNothingUnder}
 use Rattle.dd_branch_bounds.specs.Kept.{with_sides}
 use Rattle.dd_branch.specs.Descent.{Descending, IsDescent, HasDescended, shorter}
-use Rattle.dd_branch.specs.declared.level.Level.{Level}
+use Rattle.dd_branch.specs.declared.undo_point.UndoPoint.{UndoPoint}
 use Rattle.dd_branch.proofs.Descents.{IsPut, IsLevelOf, goes_back, has_descended, none_absorbed, put_descent}
 use Rattle.dd_branch.proofs.Splits.{none_where_no_table}
 use Rattle.dd_branch.proofs.descent.Descent.put.Goals as goal
@@ -35,7 +35,7 @@ returns-clause-alive c =
 pub returns-clause-undone : goal.returns-clause-undone
 returns-clause-undone c sides =
     let old : Descending = record { request = c.self.inside.request; stem = c.self.inside.stem; shares = record { classes = c.self.inside.classes; sides = c.self.inside.levels.sides }; levels = c.self.inside.levels.before } in
-    let level : Level = record { numbers = c.args.numbers; rows = c.args.rows; sides = old.shares.sides; starts = c.mark-starts.result } in
+    let level : UndoPoint = record { numbers = c.args.numbers; rows = c.args.rows; sides = old.shares.sides; starts = c.mark-starts.result } in
     let told = c.if-not-put.ensures in
     let put : IsPut c.args.number old.stem c.put.new.self c.absorb.new.stem = record { size = told.size; longer = told.longer; undone = told.undone; stem = c.absorb.ensures.stem; absorbed = c.absorb.ensures.absorbed } in
     let is : IsLevelOf old level = record {
@@ -43,14 +43,14 @@ returns-clause-undone c sides =
       rows = c.requires.rows ∙ ap (λ (d : Descending). depth_of d.stem.rows) (sym c.self.view_is);
       sides = refl;
     } in
-    let pushed = ap (λ (levels : List Level). shorter (record { request = old.request; stem = c.absorb.new.stem; shares = with_sides old.shares sides; levels = levels })) c.push.ensures.before in
+    let pushed = ap (λ (levels : List UndoPoint). shorter (record { request = old.request; stem = c.absorb.new.stem; shares = with_sides old.shares sides; levels = levels })) c.push.ensures.before in
     pushed ∙ goes_back c.args.number old c.put.new.self c.absorb.new.stem level put is sides ∙ c.self.view_is
 
 pub returns-clause-descent : goal.returns-clause-descent
 returns-clause-descent c =
     let old : Descending = record { request = c.self.inside.request; stem = c.self.inside.stem; shares = record { classes = c.self.inside.classes; sides = c.self.inside.levels.sides }; levels = c.self.inside.levels.before } in
     let is : IsDescent old = subst IsDescent (sym c.self.view_is) c.requires.descent in
-    let level : Level = record { numbers = c.args.numbers; rows = c.args.rows; sides = old.shares.sides; starts = c.mark-starts.result } in
+    let level : UndoPoint = record { numbers = c.args.numbers; rows = c.args.rows; sides = old.shares.sides; starts = c.mark-starts.result } in
     let told = c.if-not-put.ensures in
     let put : IsPut c.args.number old.stem c.put.new.self c.absorb.new.stem = record { size = told.size; longer = told.longer; undone = told.undone; stem = c.absorb.ensures.stem; absorbed = c.absorb.ensures.absorbed } in
     let levels = c.push.new.self.before in

@@ -10,7 +10,7 @@ use Rattle.dd_branch_degrees.specs.Budget.{no_place}
 use Rattle.dd_branch_degrees.specs.Choice.{HasBranching, IsChoice}
 use Rattle.dd_branch_degrees.specs.Entered.{HasEntered}
 use Rattle.dd_branch_degrees.specs.declared.assignment.Assignment.{Assignment}
-use Rattle.dd_branch_degrees.specs.declared.places.Place.{Place}
+use Rattle.dd_branch_degrees.specs.declared.places.DegreeSlot.{DegreeSlot}
 use Rattle.dd_branch_degrees.proofs.Advancing.{IsDegreeWith, budget_more, found_entered, part_of_degree, some_sides, sound_next, tile_choice, vertex_choice, with_list}
 use Rattle.dd_branch_degrees.proofs.Bits.{bit_left, highest_set}
 use Rattle.dd_branch_degrees.proofs.Finishing.{HasTried, all_tried, back_through, found_told, none_at_end, none_tried, share_fits, share_tried, whole_here}
@@ -23,20 +23,20 @@ loop-fitting-init t c = record { same = refl; left_over = λ e there. there; las
 pub degree_with-requires-clause-sides : goal.degree_with-requires-clause-sides
 degree_with-requires-clause-sides t c =
     let a = c.args.self.now in
-    subst (λ (x : Place). (1 ≤ x.sides) × (x.sides ≤ 2)) (sym c.next_place-place.ensures)
+    subst (λ (x : DegreeSlot). (1 ≤ x.sides) × (x.sides ≤ 2)) (sym c.next_place-place.ensures)
     (some_sides a c.requires.ready c.requires.room c.requires.root, (sound_next a c.requires.ready (told a) no_place c.requires.room).sides)
 
 pub degree_with-requires-clause-turns : goal.degree_with-requires-clause-turns
 degree_with-requires-clause-turns t c =
     let a = c.args.self.now in
-    subst (λ (x : Place). x.turns ≤ 36) (sym c.next_place-place.ensures) (sound_next a c.requires.ready (told a) no_place c.requires.room).few
+    subst (λ (x : DegreeSlot). x.turns ≤ 36) (sym c.next_place-place.ensures) (sound_next a c.requires.ready (told a) no_place c.requires.room).few
 
 pub degree_with-requires-clause-share : goal.degree_with-requires-clause-share
 degree_with-requires-clause-share t c =
     let k = c.ilog2-share.result in
     let there = c.loop-fitting.invariant.left_over k (highest_set c.loop-fitting.fitting k c.ilog2-share.ensures.power_le c.ilog2-share.ensures.next_power_gt) in
     let fits = share_fits c.args.self.now c.args.left c.args.fitting k c.requires.ready c.requires.room c.requires.root c.requires.fitting there in
-    subst (λ (x : Place). HasBranching x.sides k) (sym c.next_place-place.ensures) fits.branching
+    subst (λ (x : DegreeSlot). HasBranching x.sides k) (sym c.next_place-place.ensures) fits.branching
 
 pub enter-requires-clause-tile : goal.enter-requires-clause-tile
 enter-requires-clause-tile t c =
@@ -45,7 +45,7 @@ enter-requires-clause-tile t c =
     let m = c.degree_with.result in
     let there = c.loop-fitting.invariant.left_over k (highest_set c.loop-fitting.fitting k c.ilog2-share.ensures.power_le c.ilog2-share.ensures.next_power_gt) in
     let fits = share_fits a c.args.left c.args.fitting k c.requires.ready c.requires.room c.requires.root c.requires.fitting there in
-    let with = subst (λ (x : Place). IsDegreeWith x k m) c.next_place-place.ensures c.degree_with.ensures in
+    let with = subst (λ (x : DegreeSlot). IsDegreeWith x k m) c.next_place-place.ensures c.degree_with.ensures in
     subst (λ (y : Assignment). told y < y.table.size → IsChoice y.request.faces (next_place y).turns m) (sym c.loop-fitting.invariant.same)
     (tile_choice a k m c.requires.ready c.requires.room c.requires.root fits.told_ with)
 
@@ -56,7 +56,7 @@ enter-requires-clause-vertex t c =
     let m = c.degree_with.result in
     let there = c.loop-fitting.invariant.left_over k (highest_set c.loop-fitting.fitting k c.ilog2-share.ensures.power_le c.ilog2-share.ensures.next_power_gt) in
     let fits = share_fits a c.args.left c.args.fitting k c.requires.ready c.requires.room c.requires.root c.requires.fitting there in
-    let with = subst (λ (x : Place). IsDegreeWith x k m) c.next_place-place.ensures c.degree_with.ensures in
+    let with = subst (λ (x : DegreeSlot). IsDegreeWith x k m) c.next_place-place.ensures c.degree_with.ensures in
     subst (λ (y : Assignment). y.table.size ≤ told y → IsChoice y.request.degrees (next_place y).turns m) (sym c.loop-fitting.invariant.same)
     (vertex_choice a k m c.requires.ready c.requires.room c.requires.root fits.told_ with)
 
@@ -75,7 +75,7 @@ go_down-left-requires-clause-budget t c =
     let m = c.degree_with.result in
     let there = c.loop-fitting.invariant.left_over k (highest_set c.loop-fitting.fitting k c.ilog2-share.ensures.power_le c.ilog2-share.ensures.next_power_gt) in
     let fits = share_fits a c.args.left c.args.fitting k c.requires.ready c.requires.room c.requires.root c.requires.fitting there in
-    let with = subst (λ (x : Place). IsDegreeWith x k m) c.next_place-place.ensures c.degree_with.ensures in
+    let with = subst (λ (x : DegreeSlot). IsDegreeWith x k m) c.next_place-place.ensures c.degree_with.ensures in
     let entered = subst (λ (y : Assignment). HasEntered y m c.enter.new.self) c.loop-fitting.invariant.same c.enter.ensures.entered in
     let part = part_of_degree a k m c.requires.ready c.requires.room fits.branching with in
     let budget = budget_more a c.enter.new.self m c.args.left k c.requires.ready c.requires.room c.requires.budget part entered fits.fits in
@@ -122,7 +122,7 @@ loop-fitting-preserved t c =
     let high = c.ilog2-share.ensures.next_power_gt in
     let there = c.loop-fitting.invariant.left_over k (highest_set n k low high) in
     let fits = share_fits a c.args.left c.args.fitting k c.requires.ready c.requires.room c.requires.root c.requires.fitting there in
-    let with = subst (λ (x : Place). IsDegreeWith x k m) c.next_place-place.ensures c.degree_with.ensures in
+    let with = subst (λ (x : DegreeSlot). IsDegreeWith x k m) c.next_place-place.ensures c.degree_with.ensures in
     let entered = subst (λ (y : Assignment). HasEntered y m b) c.loop-fitting.invariant.same c.enter.ensures.entered in
     let has = fits.branching in
     let through : shortened d (told a) ≡ a = back_through a b d m entered c.go_down-left.ensures.told in

@@ -2,7 +2,7 @@ use Rattle.std.proofs.Common.{◌≡◌, ℕ, ◌+◌, ◌-◌, ◌*◌, ◌/◌
 use Rattle.std.specs.Int.{bit_at}
 use Rattle.dd_branch_degrees.specs.Assignment.{next_place, spent_by, told}
 use Rattle.dd_branch_degrees.specs.Rests.{HasRest}
-use Rattle.dd_branch_degrees.specs.declared.places.Place.{Place}
+use Rattle.dd_branch_degrees.specs.declared.places.DegreeSlot.{DegreeSlot}
 use Rattle.dd_branch_degrees.proofs.Advancing.{budget_of_member, least_after, rests_small, share_allowed}
 use Rattle.dd_branch_degrees.proofs.assignment.Assignment.fitting.Goals as goal
 use Rattle.dd_branch_degrees.proofs.assignment.Assignment.fitting.Goals.{After-len}
@@ -39,7 +39,7 @@ returns c =
     let left = c.args.left in
     let later = c.len.result + 1 in
     let at : told a + 1 ≡ later = let e = c.len.ensures.value in omega (arith, e) in
-    let shares = ap (λ (y : Place). y.shares) c.next_place-shares.ensures in
+    let shares = ap (λ (y : DegreeSlot). y.shares) c.next_place-shares.ensures in
     record {
       within = λ e told_. let is = c.fitting.ensures.within e told_ in (ap (λ n. bit_at n e) (sym shares) ∙ is.0, is.1);
       all = λ s under v e next beyond.

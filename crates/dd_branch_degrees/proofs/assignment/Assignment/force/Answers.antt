@@ -3,7 +3,7 @@ use Rattle.std.proofs.lemmas.List.{length_push}
 use Rattle.dd_branch_degrees.specs.Assignment.{IsAssignment, next_place, told}
 use Rattle.dd_branch_degrees.specs.Entered.{HasForced}
 use Rattle.dd_branch_degrees.specs.Budget.{no_place}
-use Rattle.dd_branch_degrees.specs.declared.places.Place.{Place}
+use Rattle.dd_branch_degrees.specs.declared.places.DegreeSlot.{DegreeSlot}
 use Rattle.dd_branch_degrees.proofs.Advancing.{at_root_at_end, forced_more, forced_none, forced_told, sound_next, with_list}
 use Rattle.dd_branch_degrees.proofs.assignment.Assignment.force.Goals as goal
 use Rattle.dd_branch_degrees.proofs.assignment.Assignment.force.Goals.{In-loop-self, After-push}
@@ -41,18 +41,18 @@ bounds-as_slice-root c =
     let room : told b < 2 * b.table.size = omega (arith, count, test, first, whole) in
     let earlier = (sound_next b c.loop-self.invariant.is (told b) no_place room).earlier in
     let other = c.if-root-len.false in
-    let root = ap (λ (x : Place). x.root) c.next_place-root.ensures in
+    let root = ap (λ (x : DegreeSlot). x.root) c.next_place-root.ensures in
     let slice = ap length c.as_slice.ensures.value in
     let own = c.len-in-loop-self-2.ensures.value in
     omega (arith, earlier, other, root, slice, own)
 
 -- the degree that follows, as it was read
 copied : (c : After-push) → get_or c.as_slice.result.now c.next_place-root.result.root 0 ≡ get_or c.loop-self.self.degrees.items (next_place c.loop-self.self).root 0
-copied c = ap (λ xs. get_or xs c.next_place-root.result.root 0) c.as_slice.ensures.value ∙ ap (λ (x : Place). get_or c.loop-self.self.degrees.items x.root 0) c.next_place-root.ensures
+copied c = ap (λ xs. get_or xs c.next_place-root.result.root 0) c.as_slice.ensures.value ∙ ap (λ (x : DegreeSlot). get_or c.loop-self.self.degrees.items x.root 0) c.next_place-root.ensures
 
 other_root : (c : After-push) → (next_place c.loop-self.self).root ≢ told c.loop-self.self
 other_root c same =
-    let root = ap (λ (x : Place). x.root) c.next_place-root.ensures in
+    let root = ap (λ (x : DegreeSlot). x.root) c.next_place-root.ensures in
     let own = c.len-in-loop-self-2.ensures.value in
     c.if-root-len.false (root ∙ same ∙ sym own)
 

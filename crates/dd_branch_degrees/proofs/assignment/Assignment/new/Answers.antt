@@ -2,13 +2,13 @@ use Rattle.std.proofs.Common.{ℕ, ◌<◌, length, get_or, sym, ap, subst, arit
 use Rattle.dd_branch_degrees.specs.Assignment.{IsAssignment}
 use Rattle.dd_branch_degrees.specs.Rests.{AreRests}
 use Rattle.dd_branch_degrees.specs.declared.assignment.Assignment.{Assignment}
-use Rattle.dd_branch_degrees.specs.declared.places.Place.{Place}
+use Rattle.dd_branch_degrees.specs.declared.places.DegreeSlot.{DegreeSlot}
 use Rattle.dd_branch_degrees.proofs.Beginnings.{at_root_first, begun}
 use Rattle.dd_branch_degrees.proofs.Chosen.{IsSound, sound_places}
 use Rattle.dd_branch_degrees.proofs.assignment.Assignment.new.Goals as goal
 use Rattle.dd_branch_degrees.proofs.assignment.Assignment.new.Goals.{After-as_slice, After-new}
 
-sound : (c : After-as_slice) (j : ℕ) (x : Place) → j < length c.as_slice.result.now → IsSound j (get_or c.as_slice.result.now j x)
+sound : (c : After-as_slice) (j : ℕ) (x : DegreeSlot) → j < length c.as_slice.result.now → IsSound j (get_or c.as_slice.result.now j x)
 sound c j x low =
     let are = c.requires.places in
     let count = are.count in

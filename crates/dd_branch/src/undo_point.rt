@@ -1,0 +1,11 @@
+use dd_branch_bounds::TablePaths;
+
+/// A step of a search: the paths of the table there, and how much there was before the next number
+/// was put in. That is counted in numbers of the prefix, images in the table, and moves of starts.
+#[derive(Clone, Copy, Drop)]
+pub(crate) struct UndoPoint {
+    pub(crate) numbers: usize,
+    pub(crate) rows: usize,
+    pub(crate) sides: TablePaths,
+    pub(crate) starts: usize,
+}

@@ -1,0 +1,12 @@
+use Rattle.std.proofs.Common.{◌≡◌}
+use Rattle.dd_branch_tables.specs.Rows.{depth_of, unwound, IsReady}
+use Rattle.dd_branch_tables.proofs.partial_table.PartialTable.undo.Given as goal
+
+abbrev pub invariant-loop-self : goal.invariant-loop-self
+invariant-loop-self l = record {
+  ready : IsReady l.self;
+  same : unwound l.self l.mark ≡ unwound l.initial.self l.mark;
+}
+
+abbrev pub decreases-loop-self : goal.decreases-loop-self
+decreases-loop-self l = depth_of l.self

@@ -1,7 +1,0 @@
-use Rattle.std.proofs.Common.{ℕ, ◌≤◌}
-use Rattle.dd_model.specs.Symbol.{IsChamber, op}
-use Rattle.dd_symbol.specs.Images.{rows_of}
-use Rattle.dd_symbol.proofs.rows.Rows.check_range.Given as goal
-
-abbrev pub invariant-loop-k : goal.invariant-loop-k
-invariant-loop-k l = (e : ℕ) → IsChamber (rows_of l.self) e → e ≤ l.k → IsChamber (rows_of l.self) (op (rows_of l.self) l.i e)
