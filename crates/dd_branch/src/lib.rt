@@ -7,13 +7,13 @@
 //! and the walk over tables stops at each.
 //!
 //! 1. *Which numbers can come next?* The image must be a chamber without an image, up to the first
-//!    that was not met. `Stem::candidates` returns the set of these, from the bits of `Rows`.
-//!    `Sides` (dd_branch_bounds) removes the numbers after which the shares of all chambers would
-//!    be too small, or after which there would be more cells than the request allows (`sieve`). It
-//!    looks only at the ends of the paths that a number joins, and at a census of the cells that
-//!    are whole. Asking for all numbers at once lets what is the same for each be computed once,
-//!    and what is left out leaves nothing to be taken back. A path of all chambers of a table of
-//!    odd size is known to be a chain, so its share is that of a chain.
+//!    that was not met. `Stem::candidates` returns the set of these, from the bits of
+//!    `PartialTable`. `TablePaths` (dd_branch_bounds) removes the numbers after which the shares of
+//!    all chambers would be too small, or after which there would be more cells than the request
+//!    allows (`sieve`). It looks only at the ends of the paths that a number joins, and at a census
+//!    of the cells that are whole. Asking for all numbers at once lets what is the same for each be
+//!    computed once, and what is left out leaves nothing to be taken back. A path of all chambers
+//!    of a table of odd size is known to be a chain, so its share is that of a chain.
 //! 2. *Put one in.* Each number, from the least on, is put into the table in place, with what
 //!    commuting forces. An involution leads back, so an image and its way back are put in and taken
 //!    out at once.
@@ -22,9 +22,9 @@
 //! 4. *Is the prefix dead?* The paths are joined at their ends, without a walk. The prefix is given
 //!    up in four cases. The total is too small. The size is odd and s0 moves chamber 1. The chamber
 //!    whose image comes next was not met. The traversal from another chamber reads smaller.
-//! 5. *Go on or go back.* What there was before is kept as a level (`Levels`): the numbers of
-//!    numbers and images, and the paths of the table. The paths are copied as a whole to the next
-//!    level and changed there, so going back takes no copy.
+//! 5. *Go on or go back.* What there was before is kept as a level (`UndoPoints`): the numbers
+//!    of numbers and images, and the paths of the table. The paths are copied as a whole to the
+//!    next level and changed there, so going back takes no copy.
 //!
 //! What is cut is proved to have no member under it. Tests that count the numbers put in show that
 //! anything is cut at all. One kind of scratch is read by no clause: the other start chambers sleep

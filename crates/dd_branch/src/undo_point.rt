@@ -1,7 +1,8 @@
 use dd_branch_bounds::TablePaths;
 
-/// A step of a search: the paths of the table there, and how much there was before the next number
-/// was put in. That is counted in numbers of the prefix, images in the table, and moves of starts.
+/// A level of a search, to which it can go back: the paths of the table there, and how much there
+/// was before the next number was put in. That is counted in numbers of the prefix, images in the
+/// table, and moves of starts.
 #[derive(Clone, Copy, Drop)]
 pub(crate) struct UndoPoint {
     pub(crate) numbers: usize,

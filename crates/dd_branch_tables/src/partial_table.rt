@@ -74,7 +74,7 @@ impl PartialTable {
     ghost use Rattle.dd_branch_tables.specs.Rows.{partial_of, depth_of, unwound, IsReady, HasNumberAt, Learns, Excludes, Commutes};
     ghost use Rattle.dd_branch_tables.specs.Commuting.{CommutesAt, IsCommuting, KeepsCommuting, KeepsOthers};
 
-    /// Rows in which nothing is known.
+    /// A table in which nothing is known.
     pub fn empty(size: u8) -> PartialTable
         requires { (1 ≤ size) × (size ≤ 36) }
         ensures ready { IsReady result }
