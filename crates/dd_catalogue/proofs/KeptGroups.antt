@@ -104,7 +104,7 @@ module _ (s : Start) (most : ℕ) (tells here : Bool) (old before held now : Opt
 
         go : (es : List Entry) → group.ready.entries ≡ es → HasWork w.start
         go [] none = let size = ap length none in absurd (omega (arith, size, some))
-        go (e ∷ es) is = job_work group_way now page group.ready e.job ready.under (subst (λ ds. Contains (jobs_of ds) e.job) (sym is) (Contains-head e.job (jobs_of es)))
+        go (e ∷ es) is = job_work group_way now page group.ready e.job head.mid.owed ready.under (subst (λ ds. Contains (jobs_of ds) e.job) (sym is) (Contains-head e.job (jobs_of es)))
 
     pub group_mid : IsMid group_way tells here old before held now page g
     group_mid = record {
@@ -119,6 +119,7 @@ module _ (s : Start) (most : ℕ) (tells here : Bool) (old before held now : Opt
       round_is = head.mid.round_is ∙ ap (take w.most) (sym ready.same);
       kept = head.mid.kept;
       due = inr group_work;
+      owed = head.mid.owed;
     }
 
   -- ## Between two rounds

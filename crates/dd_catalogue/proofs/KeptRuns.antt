@@ -47,7 +47,7 @@ use Rattle.dd_catalogue.proofs.JobsFrom.{from_opening}
 use Rattle.dd_catalogue.proofs.Outcomes.{WentOut, went_out, held_between, lines_between, shown_earlier, finish_whole, finish_full, full_lines}
 use Rattle.dd_catalogue.proofs.RoundEntries.{done_early}
 use Rattle.dd_catalogue.proofs.WaySteps.{appends_nothing, way_first, way_part, full_part, begun_open}
-use Rattle.dd_catalogue.proofs.Working.{IsRoundStop, work_left, taken_part}
+use Rattle.dd_catalogue.proofs.Working.{IsRoundStop, begun_of, work_left, taken_part}
 
 -- a run with a job has work
 has_work : (s : Start) (jobs : List Job) (c : Job) → AreWork s.portion s.at jobs → Contains jobs c → HasWork s
@@ -59,8 +59,8 @@ has_work s jobs c work there =
       left = (without_there (IsWhollyBefore s.at) work.from.opening work.whole of.job work.from.left of.listed).1;
     }
 
-pub job_work : (w : Way) (now : Option (List ℕ)) (page : Page) (f : Machine) (c : Job) → IsUnderWay w now page f → Contains (jobs_of f.entries) c → HasWork w.start
-job_work w now page f c way there = let own = way.emitted.held.go_on.extend c there in has_work w.start w.jobs own.0 way.emitted.work own.1
+pub job_work : (w : Way) (now : Option (List ℕ)) (page : Page) (f : Machine) (c : Job) → ((job : Job) → Contains w.jobs job → HasWork w.start) → IsUnderWay w now page f → Contains (jobs_of f.entries) c → HasWork w.start
+job_work w now page f c owed way there = let own = way.emitted.held.go_on.extend c there in owed own.0 own.1
 
 -- a run may stop between two rounds
 pub round_stop : (q : Portion) (p : Position) → IsRoundStop q p → IsStop q p
@@ -261,6 +261,7 @@ module _ (w : Way) (tells here : Bool) (old before held now : Option (List ℕ))
     round_is = mid.round_is;
     kept = λ told. let check = saves told in kept_here after check (stop_of after check stands stop) low due stands;
     due = inl refl;
+    owed = mid.owed;
   }
 
   -- and where it could not be put
@@ -455,6 +456,7 @@ module _ (w : Way) (now : Option (List ℕ)) (page : Page) (h : Machine) (way : 
       round_is = refl;
       kept = kept;
       due = inr due;
+      owed = λ c there. due;
     }
 
 -- a run whose store is not said to tell
@@ -471,6 +473,7 @@ untold w tells here old before held now page f mid other = record {
   round_is = mid.round_is;
   kept = λ never. cc;
   due = mid.due;
+  owed = mid.owed;
 }
 
 -- what was kept, with more of the round written since
@@ -544,7 +547,7 @@ module _ (s : Start) (most : ℕ) (some : 1 ≤ most) (old before held : Option 
   first_mid tells p work kept = record {
     appended = appends_nothing old;
     known_is = refl;
-    under = way_first s old page f p most (take most work.whole) begun empty count bytes;
+    under = way_first s old page f p most (take most work.whole) (begun_of s f begun) empty count bytes;
     empty = empty;
     settled = bytes;
     some = some;
@@ -553,6 +556,7 @@ module _ (s : Start) (most : ℕ) (some : 1 ≤ most) (old before held : Option 
     round_is = refl;
     kept = kept;
     due = inl refl;
+    owed = λ c there. has_work s begun.jobs c begun.starting.work there;
   }
 
   -- its work from where it stands
@@ -650,7 +654,7 @@ module _ (s : Start) (most : ℕ) (some : 1 ≤ most) (old before held : Option 
         most_is = refl;
         mid = first_mid tells p work kept;
         ahead_is = sym listed;
-        opens = begun_open s f begun;
+        opens = begun_open s f (begun_of s f begun);
         stands = λ away. cc;
         ended = ended;
       }

@@ -3,6 +3,7 @@ pub mod JobsFrom
 pub mod Working
 pub mod Splits
 pub mod Weights
+pub mod WholeSizes
 pub mod WaySteps
 pub mod PlainRuns
 pub mod Members

@@ -40,13 +40,12 @@ use Rattle.dd_pages_and_checkpoints.specs.Outputs.{IsShown}
 use Rattle.dd_pages_and_checkpoints.specs.declared.finish.Finish.TheVariants.{Paused, CutShort}
 use Rattle.dd_pages_and_checkpoints.specs.declared.limit.Limit.{Limit}
 use Rattle.dd_pages_and_checkpoints.specs.declared.pages.Page.{Page}
-use Rattle.dd_catalogue.specs.Works.{AreWork, CoverRest}
-use Rattle.dd_catalogue.proofs.Working.{work_member}
+use Rattle.dd_catalogue.specs.Works.{AreWithin, CoverRest}
 
 -- ## What a machine has emitted
 
 -- It is the members between the start and where the machine stands.
-pub held_between : (q : Portion) (at p : Position) (jobs : List Job) (f : Machine) (out : List Symbol) → AreWork q at jobs → CoverRest q at jobs → IsHeld q.request jobs at f out → StandsAt f.from f.entries p
+pub held_between : (q : Portion) (at p : Position) (jobs : List Job) (f : Machine) (out : List Symbol) → AreWithin q jobs → CoverRest q at jobs → IsHeld q.request jobs at f out → StandsAt f.from f.entries p
     → AreMembersBetween q at p out
 held_between q at p jobs f out work covers held stands =
     let covered = held_covered q.request jobs at f out held in
@@ -54,7 +53,7 @@ held_between q at p jobs f out work covers held stands =
     record {
       ascending = covered.ascending;
       members = λ s. (
-        (λ there. let between = (covered.emitted s).0 there in record { member = work_member q at jobs s work between.from.under; later = between.from.later; earlier = subst (λ z. IsBefore z s) same between.before }),
+        (λ there. let between = (covered.emitted s).0 there in record { member = work.members s between.from.under; later = between.from.later; earlier = subst (λ z. IsBefore z s) same between.before }),
         (λ is. (covered.emitted s).1 (record { from = record { under = covers s is.member is.later; later = is.later }; before = subst (λ z. IsBefore z s) (sym same) is.earlier })),
       );
     }
@@ -141,7 +140,7 @@ went_out w old now part before = record {
         (before_or_not p m)
 
 -- where nothing is collected, what was written are the lines up to where the machine stands
-pub lines_between : (w : Way) (now : Option (List ℕ)) (page : Page) (f : Machine) (members : List Symbol) (p : Position) → AreWork w.start.portion w.start.at w.jobs → CoverRest w.start.portion w.start.at w.jobs
+pub lines_between : (w : Way) (now : Option (List ℕ)) (page : Page) (f : Machine) (members : List Symbol) (p : Position) → AreWithin w.start.portion w.jobs → CoverRest w.start.portion w.start.at w.jobs
     → IsHeld w.start.portion.request w.jobs w.start.at f members → (has : HasLines w.start.lines w.base w.known now page members) → IsEmpty page → StandsAt f.from f.entries p
     → AreLinesBetween w.start.portion w.start.at p w.start.lines page.count (w.base ++ has.written)
 lines_between w now page f members p work covers held has empty stands = record {

@@ -13,7 +13,7 @@ use Rattle.dd_check.specs.ChainStarts.{Start}
 use Rattle.dd_pages_and_checkpoints.specs.Pages.{HasLines, IsEmpty}
 use Rattle.dd_pages_and_checkpoints.specs.Rounds.{AreOpen, IsRoundDone, IsAtEnd}
 use Rattle.dd_pages_and_checkpoints.specs.declared.pages.Page.{Page}
-use Rattle.dd_catalogue.specs.Works.{IsStarted}
+use Rattle.dd_catalogue.specs.Works.{IsBegun}
 use Rattle.dd_catalogue.specs.Splits.{IsSplit, IsRefined, IsGroupDone, AreSplits}
 use Rattle.dd_catalogue.specs.Ways.{Way, HasEmitted, IsUnderWay}
 use Rattle.dd_catalogue.proofs.RoundEntries.{open_all, length_jobs, none_behind, opens_back, round_jobs, take_inside}
@@ -50,7 +50,7 @@ plain_here w now page f none way opens = record {
 }
 
 -- nothing was done yet
-pub plain_begun : (s : Start) (known : Option (List ℕ)) (page : Page) (f : Machine) (begun : IsStarted s f) → IsEmpty page → page.count ≡ s.lines → page.bytes ≡ 0 → IsUnderWay (plain_way s begun.jobs known f) known page f
+pub plain_begun : (s : Start) (known : Option (List ℕ)) (page : Page) (f : Machine) (begun : IsBegun s f) → IsEmpty page → page.count ≡ s.lines → page.bytes ≡ 0 → IsUnderWay (plain_way s begun.jobs known f) known page f
 plain_begun s known page f begun empty count bytes =
     plain_here (record { start = s; jobs = begun.jobs; base = []; known = known; from = s.at; since = s.at; ahead = begun.jobs; most = 0; round = [] }) known page f refl
     (way_first s known page f s.at 0 [] begun empty count bytes) (begun_open s f begun)

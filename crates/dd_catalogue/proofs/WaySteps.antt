@@ -40,12 +40,12 @@ use Rattle.dd_board.specs.Desk.{AreJobsOf}
 use Rattle.dd_check.specs.ChainStarts.{Start}
 use Rattle.dd_pages_and_checkpoints.specs.Pages.{IsEmpty, AddsAll, KeepsLines, WritesFront, WritesFrontOf}
 use Rattle.dd_pages_and_checkpoints.specs.Rounds.{AreOpen, AreDoneThenOpen, IsRoundDone}
-use Rattle.dd_catalogue.specs.Works.{IsPartOfOne, IsStarted}
+use Rattle.dd_catalogue.specs.Works.{IsPartOfOne, IsBegun}
 use Rattle.dd_catalogue.specs.Splits.{IsReady, IsSplit}
 use Rattle.dd_catalogue.specs.Ways.{Way, AreRecent, AreOfRound, HasEmitted, EmitsMore, IsUnderWay, IsFull, GoesOn, FillsUp}
 use Rattle.dd_catalogue.specs.Outs.{IsPartOut, IsAny, WritesPart}
 use Rattle.dd_pages_and_checkpoints.specs.declared.pages.Page.{Page}
-use Rattle.dd_catalogue.proofs.Working.{work_member, children_jobs}
+use Rattle.dd_catalogue.proofs.Working.{children_jobs}
 use Rattle.dd_pages_and_checkpoints.proofs.PageLemmas.{front_kept}
 use Rattle.dd_catalogue.proofs.RoundEntries.{open_all, opened_open, opens_back, open_behind, round_jobs, round_entries, done_in_round}
 
@@ -67,11 +67,11 @@ none_done w (d ∷ ds) opens e there done =
     (λ later. none_done w ds opens.1 e later done)
     (Contains-cases d e ds there)
 
-pub begun_open : (s : Start) (f : Machine) → IsStarted s f → AreOpen f.entries
+pub begun_open : (s : Start) (f : Machine) → IsBegun s f → AreOpen f.entries
 begun_open s f begun = subst AreOpen (sym begun.opened.entries) (opened_open 1 begun.jobs)
 
 -- no job is done yet
-abbrev pub way_first : (s : Start) (known : Option (List ℕ)) (page : Page) (f : Machine) (p : Position) (most : ℕ) (round : List Job) (begun : IsStarted s f) → IsEmpty page → page.count ≡ s.lines → page.bytes ≡ 0
+abbrev pub way_first : (s : Start) (known : Option (List ℕ)) (page : Page) (f : Machine) (p : Position) (most : ℕ) (round : List Job) (begun : IsBegun s f) → IsEmpty page → page.count ≡ s.lines → page.bytes ≡ 0
     → IsUnderWay (record { start = s; jobs = begun.jobs; base = []; known = known; from = s.at; since = p; ahead = begun.jobs; most = most; round = round }) known page f
 way_first s known page f p most round begun empty count bytes =
     let o = begun.opened in
@@ -80,11 +80,11 @@ way_first s known page f p most round begun empty count bytes =
     record {
       members = [];
       emitted = record {
-        work = begun.starting.work;
-        covers = begun.starting.covers;
+        work = begun.within;
+        covers = begun.covers;
         opened = o.opened;
         stays = o.from;
-        all = begun.starting.work.all;
+        all = begun.within.all;
         gone = [];
         jobs_are = sym listed;
         entries_are = subst AreDoneThenOpen (sym o.entries) (open_all (open_entries 1 begun.jobs) (opened_open 1 begun.jobs));
@@ -359,7 +359,7 @@ module _ (w : Way) (before now : Option (List ℕ)) (old : Page) (f g : Machine)
         next = part.next;
         emitted = emitted_next;
         later = later_next;
-        member = work_member w.start.portion w.start.at w.jobs part.next way.emitted.work
+        member = way.emitted.work.members part.next
             (record { job = own.0; listed = own.1; under = under_extended w.start.portion.request first.job own.0 part.next own.2 under });
         stands = subst (λ es. StandsAt g.from es (at_symbol part.next)) (sym entries)
             (subst (λ p. StandsAt p (entry_of first.number first.job (Done part.list) ∷ first.rest) (at_symbol part.next)) (sym from) (inl (inr (sym under.size, under.begins), refl)));

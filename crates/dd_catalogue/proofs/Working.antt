@@ -33,7 +33,7 @@ use Rattle.dd_opening_jobs.specs.Portions.{IsPortionJob, IsPortionMember}
 use Rattle.dd_opening_jobs.proofs.PortionLaws.{portion_job, under_portion}
 use Rattle.dd_board.specs.Desk.{AreJobsOf}
 use Rattle.dd_pages_and_checkpoints.specs.Rounds.{AreJobsFrom}
-use Rattle.dd_catalogue.specs.Works.{IsPartOfOne, HasPart, AreWork, CoverRest, IsStarting, IsLongAsWhole}
+use Rattle.dd_catalogue.specs.Works.{IsPartOfOne, HasPart, AreWork, AreWithin, CoverRest, IsStarting, IsStarted, IsBegun, IsLongAsWhole}
 use Rattle.dd_catalogue.specs.Splits.{IsNoLonger}
 use Rattle.dd_catalogue.proofs.JobsFrom.{from_ascending, from_apart, from_jobs, from_opening, from_pairs, one_first, opening_pairs}
 use Rattle.dd_catalogue.proofs.RoundEntries.{take_nothing, take_within}
@@ -71,6 +71,13 @@ work_member p at jobs s work under =
       listed = (without_there (IsWhollyBefore at) work.from.opening work.whole part.job work.from.left part.listed).0;
       under = under_extended p.request under.job part.job s part.extends under.under;
     })
+
+pub work_within : (p : Portion) (at : Position) (jobs : List Job) → AreWork p at jobs → AreWithin p jobs
+work_within p at jobs work = record { members = λ s under. work_member p at jobs s work under; ascending = work.ascending; apart = work.apart; all = work.all }
+
+-- a run that was started has begun
+abbrev pub begun_of : (s : Start) (f : Machine) → IsStarted s f → IsBegun s f
+begun_of s f started = record { jobs = started.jobs; within = work_within s.portion s.at started.jobs started.starting.work; covers = started.starting.covers; opened = started.opened }
 
 -- ## Parts in order
 

@@ -1,8 +1,9 @@
 -- A run that keeps checkpoints, under way.
 use Rattle.std.specs.Prelude.{◌≡◌, ◌≢◌, ◌⊎◌, ◌<◌, ◌≤◌, ℕ, List, [], ◌++◌, Bool, true, false, Option, length, take}
 use Rattle.std.specs.Io.KnownBytes.{Appends}
-use Rattle.std.specs.List.{AllByRecursion}
+use Rattle.std.specs.List.{AllByRecursion, Contains}
 use Rattle.dd_model.specs.Position.{IsWhollyBefore}
+use Rattle.dd_model.specs.declared.jobs.Job.{Job}
 use Rattle.dd_model.specs.declared.jobs.Position.{Position}
 use Rattle.dd_model.specs.declared.jobs.Position.TheVariants.{End}
 use Rattle.dd_front.specs.Machine.{Machine, StandsAt, jobs_of}
@@ -64,6 +65,7 @@ pub record IsMid (w : Way) (tells here : Bool) (old before held now : Option (Li
   pub round_is : w.round ≡ take w.most work.whole
   pub kept : tells ≡ true → HasKept w.start w.most before held w.base w.since here
   pub due : (here ≡ true) ⊎ HasWork w.start
+  pub owed : (c : Job) → Contains w.jobs c → HasWork w.start
 
 -- between two rounds: all entries wait
 pub record IsHead (s : Start) (most : ℕ) (tells here : Bool) (old before held now : Option (List ℕ)) (page : Page) (f : Machine) : Type 0 where

@@ -4,3 +4,4 @@ pub mod Ways
 pub mod Outs
 pub mod Kept
 pub mod Steps
+pub mod WholeSizes

@@ -5,14 +5,14 @@ use Rattle.dd_front.specs.Held.{IsHeld}
 use Rattle.dd_front.specs.Machine.{Machine}
 use Rattle.dd_pages_and_checkpoints.specs.Pages.{IsFrontOut}
 use Rattle.dd_pages_and_checkpoints.specs.declared.pages.Page.{Page}
-use Rattle.dd_catalogue.specs.Works.{AreWork, CoverRest}
+use Rattle.dd_catalogue.specs.Works.{AreWithin, CoverRest}
 use Rattle.dd_catalogue.specs.Ways.{Way, AreRecent, IsUnderWay}
 
 -- what went out since the start is a front of the lines of what a machine has emitted
 pub record IsPartOut (w : Way) (now : Option (List ℕ)) : Type 0 where
   pub machine : Machine
   pub members : List Symbol
-  pub work : AreWork w.start.portion w.start.at w.jobs
+  pub work : AreWithin w.start.portion w.jobs
   pub covers : CoverRest w.start.portion w.start.at w.jobs
   pub held : IsHeld w.start.portion.request w.jobs w.start.at machine members
   pub recent : AreRecent w members

@@ -18,7 +18,7 @@ use Rattle.dd_pages_and_checkpoints.specs.Pages.{HasLines}
 use Rattle.dd_pages_and_checkpoints.specs.declared.pages.Page.{Page}
 use Rattle.dd_pages_and_checkpoints.specs.Rounds.{AreOpen, AreDoneThenOpen}
 use Rattle.dd_board.specs.Desk.{AreJobsOf}
-use Rattle.dd_catalogue.specs.Works.{AreWork, CoverRest, IsPartOfOne}
+use Rattle.dd_catalogue.specs.Works.{AreWithin, CoverRest, IsPartOfOne}
 
 -- A run under way: where it began, and its jobs; what it had written when the round began, what the sink held then, where
 -- the run stood, and the jobs of the round.
@@ -43,7 +43,7 @@ AreOfRound w es = (e : Entry) → Contains es e → IsDone e.state → IsPartOfO
 
 -- the machine has emitted these members since the start
 pub record HasEmitted (w : Way) (f : Machine) (members : List Symbol) : Type 0 where
-  pub work : AreWork w.start.portion w.start.at w.jobs
+  pub work : AreWithin w.start.portion w.jobs
   pub covers : CoverRest w.start.portion w.start.at w.jobs
   pub opened : f.opened ≡ w.start.lines
   pub stays : f.from ≡ w.from
@@ -74,7 +74,7 @@ pub record GoesOn (before now : Option (List ℕ)) (old new : Page) (f g : Machi
 -- the machine has emitted the members up to a last line, and stands at one more
 pub record IsFull (w : Way) (now : Option (List ℕ)) (page : Page) (last : ℕ) (g : Machine) : Type 0 where
   pub members : List Symbol
-  pub work : AreWork w.start.portion w.start.at w.jobs
+  pub work : AreWithin w.start.portion w.jobs
   pub covers : CoverRest w.start.portion w.start.at w.jobs
   pub held : IsHeld w.start.portion.request w.jobs w.start.at g members
   pub lines : HasLines w.start.lines w.base w.known now page members

@@ -39,6 +39,13 @@ pub record AreWork (p : Portion) (at : Position) (jobs : List Job) : Type 0 wher
   pub apart : AreApart jobs
   pub all : AreJobsOf p.request jobs
 
+-- Jobs of the portion's request, in order, none of which is a part of another. What is under them is of the portion.
+pub record AreWithin (p : Portion) (jobs : List Job) : Type 0 where
+  pub members : (s : Symbol) → IsUnderOne p.request jobs s → IsPortionMember p s
+  pub ascending : AreAscendingJobs jobs
+  pub apart : AreApart jobs
+  pub all : AreJobsOf p.request jobs
+
 -- each member of the portion that is not before the position is under one of the jobs
 abbrev pub CoverRest : Portion → Position → List Job → Type 0
 CoverRest p at jobs = (s : Symbol) → IsPortionMember p s → (¬ IsBefore at s) → IsUnderOne p.request jobs s
@@ -49,7 +56,14 @@ pub record IsStarting (p : Portion) (at : Position) (jobs : List Job) : Type 0 w
   pub covers : CoverRest p at jobs
   pub later : AllByRecursion (λ j. ¬ IsWhollyBefore at j) jobs
 
--- a machine of such jobs, which are whole in the first run of a chain
+-- a machine of jobs that have what is left of the portion
+pub record IsBegun (s : Start) (f : Machine) : Type 0 where
+  pub jobs : List Job
+  pub within : AreWithin s.portion jobs
+  pub covers : CoverRest s.portion s.at jobs
+  pub opened : IsOpened s.portion.request jobs s.at s.lines f
+
+-- a machine of jobs with which a run may begin, which are whole in the first run of a chain
 pub record IsStarted (s : Start) (f : Machine) : Type 0 where
   pub jobs : List Job
   pub starting : IsStarting s.portion s.at jobs

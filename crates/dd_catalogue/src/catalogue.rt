@@ -5,11 +5,11 @@ ghost use Rattle.dd_ports.specs.declared.sink.SinkFault.TheVariants.{Failed};
 ghost use Rattle.dd_ports.specs.Causes.{HasCause, StaysSure};
 ghost use Rattle.dd_pages_and_checkpoints.specs.Runs.{start_of};
 ghost use Rattle.dd_pages_and_checkpoints.specs.Pages.{IsEmpty};
-ghost use Rattle.dd_catalogue.specs.Works.{IsStarted};
+ghost use Rattle.dd_catalogue.specs.Works.{IsBegun};
 ghost use Rattle.dd_pages_and_checkpoints.specs.Outputs.{IsOutput};
 
 use crate::emission::write_done;
-use crate::rounds::{do_long_round, front_of};
+use crate::rounds::{do_long_round, lone_front_of};
 use crate::workshop::Workshop;
 use dd_front::{Finder, Front};
 use dd_pages_and_checkpoints::{Finish, Page, Run};
@@ -36,7 +36,7 @@ pub fn write_catalogue<R: Threads + Wait + Sync, F: Finder + Sync, G: Gate + Syn
     ensures sure { O.sure out.old ≡ true
         → StaysSure Failed (O.faults out.old) (O.faults out.new) (O.sure out.new) result }
 {
-    let Ok(mut front) = front_of(workshop.alloc, finder, run) else {
+    let Ok(mut front) = lone_front_of(workshop.alloc, finder, run) else {
         return Err(SinkFault::Memory);
     };
     let mut page = Page::new(workshop.alloc, run.lines);
@@ -54,7 +54,7 @@ fn write_rounds<R: Threads + Wait + Sync, F: Finder + Sync, G: Gate + Sync, O: S
 ) -> Result<Finish, SinkFault>
     requires request { F.request finder.old ≡ run.now.portion.request }
     requires valid { IsValid run.now.portion.request }
-    requires begun { IsStarted (start_of run.now) front.old }
+    requires begun { IsBegun (start_of run.now) front.old }
     requires empty { IsEmpty page.old }
     requires count { page.old.count ≡ run.now.lines }
     requires bytes { page.old.bytes ≡ 0 }

@@ -13,8 +13,8 @@ use std::alloc::Global;
 const NUMBERS_A_CHAMBER: u64 = 5;
 
 /// A job is small if it has these numbers. From 40 numbers on, it needs only three more for each
-/// chamber: else there would be about as many jobs of 36 chambers as members. So no job of fewer
-/// than 20 chambers is large, but for degrees below 3.
+/// chamber: else there would be about as many jobs of 36 chambers as members. So no job of an
+/// opening for fewer than 20 chambers is large, but for degrees below 3.
 const MANY_NUMBERS: u64 = 40;
 
 const NUMBERS_BEYOND: u64 = 3;
@@ -32,15 +32,25 @@ const NUMBERS_LESS_FROM_1: u64 = 45;
 /// If no more classes of tiles or of vertices are allowed than this, few members are under any job.
 const FEW_CLASSES: u32 = 4;
 
+/// With so few classes, degrees below 3 still give many members to a size from this many chambers
+/// on. A job is then small if it has as many numbers as those of an opening.
+const MANY_CHAMBERS: u32 = 13;
+
+const NUMBERS_OF_OPENING: u64 = 9;
+
 /// A job with more children than this stays whole. No table has more, so none does.
 const MOST_CHILDREN: usize = 255;
 
+/// Returns whether a request allows tiles with so many edges, or vertices of this degree.
+fn allows(request: &Request, degree: u32) -> bool {
+    request.faces.has(degree) || request.degrees.has(degree)
+}
+
 /// Returns how many numbers a job of a request has that has some ten thousand members at most.
 fn numbers_of_few(request: &Request, size: u32) -> u64 {
-    let allows = |degree| request.faces.has(degree) || request.degrees.has(degree);
-    let less = if allows(1) {
+    let less = if allows(request, 1) {
         NUMBERS_LESS_FROM_1
-    } else if allows(2) {
+    } else if allows(request, 2) {
         NUMBERS_LESS_FROM_2
     } else {
         NUMBERS_LESS
@@ -50,6 +60,10 @@ fn numbers_of_few(request: &Request, size: u32) -> u64 {
 
 /// Returns how many numbers a small job of a request has.
 fn numbers_of_small(request: &Request, size: u32) -> u64 {
+    if allows_few_classes(request) {
+        let is_many = size >= MANY_CHAMBERS && (allows(request, 1) || allows(request, 2));
+        return if is_many { NUMBERS_OF_OPENING } else { 0 };
+    }
     let numbers = numbers_of_few(request, size);
     let further = numbers.saturating_sub(MANY_NUMBERS);
     let few = numbers.min(MANY_NUMBERS) + further / NUMBERS_A_CHAMBER * NUMBERS_BEYOND;
@@ -57,7 +71,7 @@ fn numbers_of_small(request: &Request, size: u32) -> u64 {
 }
 
 /// Returns whether a request allows only few classes of tiles or of vertices.
-pub fn allows_few_classes(request: &Request) -> bool {
+fn allows_few_classes(request: &Request) -> bool {
     let is_few = |most| most != 0 && most <= FEW_CLASSES;
     is_few(request.tiles) || is_few(request.vertices)
 }
@@ -73,15 +87,12 @@ pub fn weight_of(request: &Request, job: &Job) -> u64 {
     1 << (missing / 4).min(32)
 }
 
-/// Returns whether more members may be under a job of a request than a round is to hold. None is
-/// large if only few classes are allowed.
+/// Returns whether more members may be under a job of a request than a round is to hold.
 pub fn is_large(request: &Request, job: &Job) -> bool
     ensures { IsTrue result → length job.now.prefix < 3 * job.now.size }
 {
     let numbers = job.prefix.as_slice().len() as u64;
-    !allows_few_classes(request)
-        && numbers < numbers_of_small(request, job.size)
-        && numbers < 3 * u64::from(job.size)
+    numbers < numbers_of_small(request, job.size) && numbers < 3 * u64::from(job.size)
 }
 
 /// Returns whether a position has more numbers than a job.

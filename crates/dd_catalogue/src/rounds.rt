@@ -1,23 +1,24 @@
 ghost use Rattle.std.specs.Prelude.{◌≡◌, ◌≤◌, ◌<◌, ◌^◌, ℕ, List, [], IfOk, IsTrue, OnErr, MatchBool, MatchOption, length};
 ghost use Rattle.dd_model.specs.Request.{IsValid};
 ghost use Rattle.dd_model.specs.Symbol.{Symbol};
-ghost use Rattle.dd_model.specs.Jobs.{IsJobOf};
+ghost use Rattle.dd_model.specs.Jobs.{IsJobOf, AreAscendingJobs, AreApart};
 ghost use Rattle.std.specs.List.{AllByRecursion};
 ghost use Rattle.dd_front.specs.Allowed.{HasFirst};
 ghost use Rattle.dd_model.specs.Lists.{IsWithout};
 ghost use Rattle.dd_model.specs.Position.{IsPosition, IsWhollyBefore};
-ghost use Rattle.dd_front.specs.Machine.{StandsAt};
+ghost use Rattle.dd_front.specs.Machine.{StandsAt, IsOpened};
 ghost use Rattle.dd_model.specs.declared.jobs.Position.{Position as Place};
 ghost use Rattle.dd_pages_and_checkpoints.specs.Runs.{start_of};
 ghost use Rattle.dd_pages_and_checkpoints.specs.Rounds.{IsRoundDone, IsAtEnd};
-ghost use Rattle.dd_catalogue.specs.Works.{IsStarted, IsLongAsWhole};
+ghost use Rattle.dd_catalogue.specs.WholeSizes.{sizes_up_to};
+ghost use Rattle.dd_catalogue.specs.Works.{IsStarted, IsBegun, IsLongAsWhole};
 ghost use Rattle.dd_catalogue.specs.Splits.{IsReady, IsGroupDone};
 
-use crate::parts::{allows_few_classes, split_large, weight_of};
+use crate::parts::{split_large, weight_of};
 use crate::resumed_jobs::parts_from;
 use crate::workshop::Workshop;
 use dd_front::{Entry, Finder, Front, State};
-use dd_model::{Job, Memory, Position, Request};
+use dd_model::{Job, Memory, Position, Prefix, Request};
 use dd_opening_jobs::Pace;
 use dd_pages_and_checkpoints::Run;
 use dd_ports::Gate;
@@ -33,9 +34,6 @@ const WORKERS_A_JOB: u32 = 8;
 /// How many jobs one worker does before what it found is written: few, so that few members are held
 /// at once, and what is written is still near.
 const JOBS_ALONE: u32 = 4;
-
-/// How many if only few classes are allowed: then few members are under any job.
-const JOBS_ALONE_OF_FEW_CLASSES: u32 = 32;
 
 /// How much the jobs of a round weigh together at most, so that a round holds few members.
 const ROUND_WEIGHT: u64 = 64;
@@ -62,6 +60,24 @@ pub fn jobs_from(mut jobs: Vec<Job>, at: &Position) -> Vec<Job>
     jobs
 }
 
+/// Opens a front of these jobs where a run begins.
+fn open_front(alloc: Global, run: &Run, jobs: Vec<Job>) -> Result<Front, Memory>
+    requires valid { IsValid run.now.portion.request }
+    requires position { IsPosition run.now.at }
+    requires ascending { AreAscendingJobs jobs.items }
+    requires apart { AreApart jobs.items }
+    ensures { IfOk result
+        (IsOpened run.now.portion.request jobs.items run.now.at run.now.lines) }
+{
+    Front::open(
+        alloc,
+        run.portion.request,
+        jobs,
+        run.at.try_copy()?,
+        u128::from(run.lines),
+    )
+}
+
 /// Returns a front with the jobs of a run.
 pub fn front_of<F: Finder>(alloc: Global, finder: &mut F, run: &Run) -> Result<Front, Memory>
     requires request { F.request finder.old ≡ run.now.portion.request }
@@ -72,24 +88,40 @@ pub fn front_of<F: Finder>(alloc: Global, finder: &mut F, run: &Run) -> Result<F
 {
     let jobs = jobs_from(run.portion.opening(alloc)?, &run.at);
     let jobs = parts_from(alloc, finder, run, jobs)?;
-    Front::open(
-        alloc,
-        run.portion.request,
-        jobs,
-        run.at.try_copy()?,
-        u128::from(run.lines),
-    )
+    open_front(alloc, run, jobs)
 }
 
-/// Returns how many jobs one worker does at most before what it found is written.
-fn jobs_alone(request: &Request) -> u32
-    ensures { 1 ≤ result }
+/// Returns a job for each size that is asked for, under which all members of the size are.
+fn whole_sizes(alloc: Global, request: &Request) -> Result<Vec<Job>, Memory>
+    ensures { IfOk result (λ jobs. jobs.items ≡ sizes_up_to request.now.chambers) }
 {
-    if allows_few_classes(request) {
-        JOBS_ALONE_OF_FEW_CLASSES
-    } else {
-        JOBS_ALONE
+    let mut jobs = Vec::new(alloc);
+    for k in 0..request.chambers {
+        let prefix = Prefix::from_slice(alloc, &[])?;
+        jobs.push(Job {
+            size: k + 1,
+            prefix,
+        })?;
     }
+    Ok(jobs)
+}
+
+/// Returns a front with the jobs of a run that keeps no checkpoint. Nothing that the run writes
+/// shows its jobs. One worker that does a whole catalogue begins with a job for each size, and a
+/// large one is done in parts. So the many prefixes of an opening with nothing under them are no
+/// jobs.
+pub fn lone_front_of<F: Finder>(alloc: Global, finder: &mut F, run: &Run) -> Result<Front, Memory>
+    requires request { F.request finder.old ≡ run.now.portion.request }
+    requires valid { IsValid run.now.portion.request }
+    requires position { IsPosition run.now.at }
+    ensures request { F.request finder.new ≡ F.request finder.old }
+    ensures begun { IfOk result (IsBegun (start_of run.now)) }
+{
+    if run.pace.workers() > 1 || run.portion.shard.is_some() {
+        return front_of(alloc, finder, run);
+    }
+    let jobs = whole_sizes(alloc, &run.portion.request)?;
+    open_front(alloc, run, jobs)
 }
 
 /// Returns how many of the first entries go into a round: at least 1, at most `most`, and as many
@@ -164,8 +196,7 @@ pub fn do_long_round<R: Threads + Wait + Sync, F: Finder + Sync, G: Gate + Sync>
 {
     split_large(workshop.alloc, finder, front)?;
     if pace.workers() == 1 {
-        let most = jobs_alone(&front.request());
-        let few = pace.with_round(few_ahead(front, pace.round().min(most)));
+        let few = pace.with_round(few_ahead(front, pace.round().min(JOBS_ALONE)));
         return do_round(workshop, finder, few, front);
     }
     let longer = pace_without_empty_jobs(workshop.alloc, finder, pace, front.entries())?;

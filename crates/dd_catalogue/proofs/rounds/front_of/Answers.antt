@@ -1,4 +1,4 @@
-use Rattle.std.proofs.Common.{ℕ, List, sym, subst}
+use Rattle.std.proofs.Common.{List, sym, subst}
 use Rattle.dd_model.specs.Position.{IsWhollyBefore}
 use Rattle.dd_model.specs.declared.jobs.Job.{Job}
 use Rattle.dd_model.specs.declared.jobs.Position.{Position}
@@ -25,11 +25,11 @@ parts_from-requires-clause-starting g c =
       later = all_from_members (λ j. ¬ IsWhollyBefore at j) jobs (λ j there. (without_there (IsWhollyBefore at) from.opening jobs j from.left there).1);
     }
 
-pub open-requires-clause-ascending : goal.open-requires-clause-ascending
-open-requires-clause-ascending g c = c.in_ok-jobs.ensures.starting.work.ascending
+pub open_front-requires-clause-ascending : goal.open_front-requires-clause-ascending
+open_front-requires-clause-ascending g c = c.in_ok-jobs.ensures.starting.work.ascending
 
-pub open-requires-clause-apart : goal.open-requires-clause-apart
-open-requires-clause-apart g c = c.in_ok-jobs.ensures.starting.work.apart
+pub open_front-requires-clause-apart : goal.open_front-requires-clause-apart
+open_front-requires-clause-apart g c = c.in_ok-jobs.ensures.starting.work.apart
 
 pub returns-clause-started : goal.returns-clause-started
 returns-clause-started g c =
@@ -39,11 +39,11 @@ returns-clause-started g c =
     let whole = c.jobs_from-jobs.result.items in
     let jobs = c.in_ok-jobs.jobs.items in
     let from : AreJobsFrom p at whole = record { opening = c.in_ok-opening.field-0.items; is_opening = c.in_ok-opening.ensures; left = c.jobs_from-jobs.ensures } in
-    IfOk-weaker c.open.result (IsOpened q jobs c.in_ok-try_copy.field-0 c.from.result) (IsStarted (start_of c.args.run.now))
+    IfOk-weaker c.open_front.result (IsOpened q jobs at c.args.run.now.lines) (IsStarted (start_of c.args.run.now))
     (λ front is. record {
       jobs = jobs;
       starting = c.in_ok-jobs.ensures.starting;
       whole = λ one. subst (λ (js : List Job). AreJobsFrom p at js) (sym (c.in_ok-jobs.ensures.first one)) from;
-      opened = subst (λ (n : ℕ). IsOpened q jobs at n front) c.from.ensures (subst (λ (place : Position). IsOpened q jobs place c.from.result front) c.in_ok-try_copy.ensures is);
+      opened = is;
     })
-    c.open.ensures
+    c.open_front.ensures
