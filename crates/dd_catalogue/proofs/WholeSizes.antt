@@ -2,7 +2,6 @@
 use Rattle.std.proofs.Common.{◌≡◌, ℕ, zero, suc, ◌<◌, ◌≤◌, List, [], ◌∷◌, ◌++◌, Option, None, ⊎_elim, refl, sym, ap, subst, arith}
 use Rattle.std.proofs.lemmas.List.Elements.{Contains-append_cases, Contains-append_left, Contains-append_right}
 use Rattle.std.proofs.lemmas.Bool.{cases_eq}
-use Rattle.std.proofs.lemmas.List.{all-append}
 use Rattle.std.specs.List.{AllByRecursion, Contains}
 use Rattle.dd_model.specs.Symbol.{Symbol}
 use Rattle.dd_model.specs.Jobs.{IsJobOf}
@@ -11,6 +10,7 @@ use Rattle.dd_model.specs.Wanted.{IsMember}
 use Rattle.dd_model.specs.declared.jobs.Job.{Job}
 use Rattle.dd_model.specs.declared.jobs.Position.{Position}
 use Rattle.dd_model.specs.declared.requests.Request.{Request}
+use Rattle.dd_model.proofs.Ascending.{all-append}
 use Rattle.dd_model.proofs.Lists.{Contains-none, Contains-head, Contains-cases}
 use Rattle.dd_model.proofs.Orders.{nat_cmp-less}
 use Rattle.dd_model.proofs.Pairs.{ArePairs, pairs_append, pairs_ascending_jobs, pairs_apart}

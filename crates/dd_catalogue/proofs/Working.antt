@@ -32,6 +32,7 @@ use Rattle.dd_opening_jobs.specs.declared.portions.Portion.{Portion}
 use Rattle.dd_opening_jobs.specs.Portions.{IsPortionJob, IsPortionMember}
 use Rattle.dd_opening_jobs.proofs.PortionLaws.{portion_job, under_portion}
 use Rattle.dd_board.specs.Desk.{AreJobsOf}
+use Rattle.dd_check.specs.ChainStarts.{Start}
 use Rattle.dd_pages_and_checkpoints.specs.Rounds.{AreJobsFrom}
 use Rattle.dd_catalogue.specs.Works.{IsPartOfOne, HasPart, AreWork, AreWithin, CoverRest, IsStarting, IsStarted, IsBegun, IsLongAsWhole}
 use Rattle.dd_catalogue.specs.Splits.{IsNoLonger}
