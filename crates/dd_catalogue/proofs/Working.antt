@@ -24,7 +24,7 @@ use Rattle.dd_model.proofs.Positions.{begun_before, not_before_itself, part_fron
 use Rattle.dd_model.proofs.Without.{without_first, without_kept, without_pairs, without_there}
 use Rattle.dd_front.specs.declared.entry.Entry.{Entry}
 use Rattle.dd_front.specs.Absorbed.{Extends}
-use Rattle.dd_front.specs.Machine.{StandsAt, jobs_of}
+use Rattle.dd_front.specs.Machine.{Machine, StandsAt, jobs_of}
 use Rattle.dd_front.proofs.Absorbing.{all_back}
 use Rattle.dd_front.proofs.Splitting.{child_extends, children_pairs}
 use Rattle.dd_front.proofs.Standing.{under_extended}

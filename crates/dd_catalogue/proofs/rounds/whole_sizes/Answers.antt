@@ -1,4 +1,4 @@
-use Rattle.std.proofs.Common.{◌≡◌, ◌+◌, ℕ, List, [], ◌∷◌, ◌++◌, ap, ◌∙◌}
+use Rattle.std.proofs.Common.{◌≡◌, ◌+◌, ℕ, suc, List, [], ◌∷◌, ◌++◌, sym, ap, ◌∙◌, arith}
 use Rattle.dd_model.specs.declared.jobs.Job.{Job}
 use Rattle.dd_catalogue.specs.WholeSizes.{sizes_up_to}
 use Rattle.dd_catalogue.proofs.rounds.whole_sizes.Goals as goal
@@ -8,6 +8,9 @@ loop-k-init c = c.new-jobs.ensures.items
 
 pub loop-k-preserved : goal.loop-k-preserved
 loop-k-preserved c =
-    let job : List ℕ → Job = λ prefix. record { size = c.loop-k.k + 1; prefix = prefix } in
-    c.in_ok-push.ensures.items ∙ ap (λ js. js ++ job c.in_ok-prefix.prefix ∷ []) c.loop-k.invariant
-    ∙ ap (λ prefix. sizes_up_to c.loop-k.k ++ job prefix ∷ []) c.in_ok-prefix.ensures
+    let k = c.loop-k.k in
+    let next : suc k ≡ k + 1 = omega arith in
+    let job : ℕ → List ℕ → Job = λ size prefix. record { size = size; prefix = prefix } in
+    c.in_ok-push.ensures.items ∙ ap (λ js. js ++ job (k + 1) c.in_ok-prefix.prefix ∷ []) c.loop-k.invariant
+    ∙ ap (λ prefix. sizes_up_to k ++ job (k + 1) prefix ∷ []) c.in_ok-prefix.ensures
+    ∙ ap (λ size. sizes_up_to k ++ job size [] ∷ []) (sym next) ∙ ap sizes_up_to next
