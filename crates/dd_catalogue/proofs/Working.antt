@@ -1,5 +1,5 @@
 -- What a run has to do, and what is left of it.
-use Rattle.std.proofs.Common.{◌≡◌, ◌≢◌, ◌⊎◌, ℕ, zero, suc, ◌+◌, ◌*◌, ◌≤◌, min, length, get_or, List, [], ◌∷◌, ◌++◌, take, inl, inr, ⊎_elim, refl, sym, ap, ◌∙◌, subst, arith}
+use Rattle.std.proofs.Common.{◌≡◌, ◌≢◌, ◌⊎◌, ℕ, zero, suc, ◌+◌, ◌*◌, ◌≤◌, min, length, List, [], ◌∷◌, ◌++◌, take, inl, inr, ⊎_elim, refl, sym, ap, ◌∙◌, subst, arith}
 use Rattle.std.proofs.lemmas.Bool.{cases_eq}
 use Rattle.std.proofs.lemmas.List.{length_push}
 use Rattle.std.proofs.lemmas.List.Elements.{Contains-append_cases, Contains-append_left, Contains-append_right}
@@ -7,21 +7,19 @@ use Rattle.std.specs.List.{AllByRecursion, Contains}
 use Rattle.dd_model.specs.Symbol.{Symbol}
 use Rattle.dd_model.specs.Lists.{IsWithout}
 use Rattle.dd_model.specs.Position.{IsWhollyBefore, IsWithin}
-use Rattle.dd_model.specs.Code.{code}
-use Rattle.dd_model.specs.Jobs.{IsJobOf, IsMemberUnder, AreChildren, extended}
+use Rattle.dd_model.specs.Jobs.{IsJobOf, IsMemberUnder, AreChildren}
 use Rattle.dd_model.specs.Joined.{IsPartBelow, IsUnderOne}
 use Rattle.dd_model.specs.declared.requests.Request.{Request}
 use Rattle.dd_model.specs.declared.jobs.Job.{Job}
 use Rattle.dd_model.specs.declared.jobs.Position.{Position}
 use Rattle.dd_model.specs.declared.jobs.Position.TheVariants.{At, End}
-use Rattle.dd_model.proofs.Ascending.{all-append, begins_itself, begins_length, begins_more, begins_through, same_when_whole}
-use Rattle.dd_model.proofs.Codes.{length-code}
+use Rattle.dd_model.proofs.Ascending.{all-append, begins_itself, begins_length, begins_through, same_when_whole}
 use Rattle.dd_model.proofs.Differing.{Comes, begins_or_not, one_begins, comes_fronts, comes_before_later, smaller_apart}
 use Rattle.dd_model.proofs.Lists.{Contains-none, Contains-head, Contains-later, Contains-cases, each_of, all_from_members}
 use Rattle.dd_model.proofs.Orders.{job_cmp_total, job_not_below_itself}
 use Rattle.dd_model.proofs.Pairs.{ArePairs, part_pairs, pairs_ascending_jobs, pairs_apart, pairs_across, pairs_back, pairs_front, pairs_append}
 use Rattle.dd_model.proofs.Positions.{begun_before, not_before_itself, part_fronts, under_wholly_before, wholly_or_not}
-use Rattle.dd_model.proofs.Without.{without_first, without_kept, without_pairs, without_there}
+use Rattle.dd_model.proofs.Without.{without_kept, without_pairs, without_there}
 use Rattle.dd_front.specs.declared.entry.Entry.{Entry}
 use Rattle.dd_front.specs.Absorbed.{Extends}
 use Rattle.dd_front.specs.Machine.{Machine, StandsAt, jobs_of}

@@ -1,7 +1,6 @@
 use Rattle.std.proofs.Common.{List, sym, subst}
 use Rattle.dd_model.specs.Position.{IsWhollyBefore}
 use Rattle.dd_model.specs.declared.jobs.Job.{Job}
-use Rattle.dd_model.specs.declared.jobs.Position.{Position}
 use Rattle.dd_model.proofs.Lists.{all_from_members}
 use Rattle.dd_model.proofs.Without.{without_there}
 use Rattle.dd_front.specs.Machine.{IsOpened}

@@ -1,4 +1,4 @@
-use Rattle.std.proofs.Common.{◌≡◌, List, Option, None, Some, Bool, false, refl, sym, ◌∙◌, subst, IfOk}
+use Rattle.std.proofs.Common.{◌≡◌, List, Option, None, Some, false, refl, sym, ◌∙◌, subst}
 use Rattle.std.proofs.lemmas.Result.{IfOk-weaker}
 use Rattle.std.specs.Option.{is_some}
 use Rattle.dd_model.specs.Jobs.{AreAscendingJobs, AreApart}
