@@ -17,8 +17,8 @@
 //!   which much may be, and steal from each other. A sweep does what they leave (`run_round`).
 //! - **One worker** does the jobs in order, with no board, no lock and no deque. The jobs stay in
 //!   their entries (`do_round_alone`). If no checkpoint is kept, a round has at most four of them,
-//!   so that few members are held, and a whole catalogue begins with a job for each size in place of
-//!   the opening (`lone_front_of`).
+//!   so that few members are held. A whole catalogue then begins with a job for each size in place
+//!   of the opening (`lone_front_of`).
 //! - **A worker that finds no open job and none to steal** waits as long as another one is
 //!   splitting a job, and a moment longer, and then ends. It ends at once if no job is out.
 //!

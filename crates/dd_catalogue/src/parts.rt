@@ -41,7 +41,7 @@ const NUMBERS_OF_OPENING: u64 = 9;
 /// A job with more children than this stays whole. No table has more, so none does.
 const MOST_CHILDREN: usize = 255;
 
-/// Returns whether a request allows tiles with so many edges, or vertices of this degree.
+/// Returns whether a request allows tiles with this number of edges, or vertices of this degree.
 fn allows(request: &Request, degree: u32) -> bool {
     request.faces.has(degree) || request.degrees.has(degree)
 }

@@ -60,7 +60,7 @@ pub fn jobs_from(mut jobs: Vec<Job>, at: &Position) -> Vec<Job>
     jobs
 }
 
-/// Opens a front of these jobs where a run begins.
+/// Opens a front with these jobs at the place where a run begins.
 fn open_front(alloc: Global, run: &Run, jobs: Vec<Job>) -> Result<Front, Memory>
     requires valid { IsValid run.now.portion.request }
     requires position { IsPosition run.now.at }
