@@ -370,7 +370,6 @@ fn write_round<R: Threads + Sync, O: Sink>(
     page: &mut Page,
     out: &mut O,
 ) -> Result<bool, RunFault>
-    requires threads { 1 ≤ threads }
     requires last { last ≤ most_lines }
     requires room { page.old.count ≤ last }
     requires any { IsAny (O.held out.old) page.old front.old }
@@ -404,7 +403,6 @@ fn write_and_flush<R: Threads + Sync, O: Sink>(
     page: &mut Page,
     out: &mut O,
 ) -> Result<bool, SinkFault>
-    requires threads { 1 ≤ threads }
     requires last { last ≤ most_lines }
     requires room { page.old.count ≤ last }
     requires any { IsAny (O.held out.old) page.old front.old }

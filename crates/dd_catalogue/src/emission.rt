@@ -62,7 +62,6 @@ pub fn write_done<R: Threads + Sync, O: Sink>(
     page: &mut Page,
     out: &mut O,
 ) -> Result<bool, SinkFault>
-    requires threads { 1 ≤ threads }
     requires last { last ≤ most_lines }
     requires room { page.old.count ≤ last }
     requires any { IsAny (O.held out.old) page.old front.old }
@@ -99,7 +98,6 @@ fn write_last<R: Threads + Sync, O: Sink>(
     page: &mut Page,
     out: &mut O,
 ) -> Result<(), SinkFault>
-    requires threads { 1 ≤ threads }
     requires room { page.old.count + count ≤ most_lines }
     requires more { MayPart front.old count }
     requires any { IsAny (O.held out.old) page.old front.old }

@@ -78,7 +78,6 @@ pub fn lines_by<R: Threads + Sync>(
     before: u64,
     members: Members,
 ) -> Result<Vec<Vec<u8>>, Memory>
-    requires threads { 1 ≤ threads }
     requires few { before + length members < 2 ^ 64 }
     ensures lines { IfOk result (λ texts. AreLines before members (joined texts.items)) }
     ensures few { IfOk result
@@ -86,7 +85,7 @@ pub fn lines_by<R: Threads + Sync>(
 {
     let alloc = *members.allocator();
     let count = members.len() as usize;
-    let size = count.div_ceil(PARTS * threads as usize).max(FEWEST);
+    let size = count.div_ceil(PARTS * threads.max(1) as usize).max(FEWEST);
     let parts = parts_of(size, before, members)?;
     let made = thread::map_vec(rt, parts, &lines_of)?;
     let mut texts = Vec::with_capacity(alloc, made.len())?;

@@ -157,7 +157,6 @@ impl Page {
         threads: u32,
         out: &mut O,
     ) -> Result<(), SinkFault>
-        requires threads { 1 ≤ threads }
         ensures kept { OnOk result
             (KeepsLines (O.held out.old) (O.held out.new) self.old self.new) }
         ensures made { OnOk result (self.new.waiting ≡ []) }
@@ -188,7 +187,6 @@ impl Page {
         threads: u32,
         out: &mut O,
     ) -> Result<(), SinkFault>
-        requires threads { 1 ≤ threads }
         ensures kept { OnOk result
             (KeepsLines (O.held out.old) (O.held out.new) self.old self.new) }
         ensures empty { OnOk result (IsEmpty self.new) }
@@ -297,7 +295,6 @@ impl Page {
         members: Members,
         out: &mut O,
     ) -> Result<(), SinkFault>
-        requires threads { 1 ≤ threads }
         requires few { self.old.count + length members ≤ most_lines }
         ensures all { OnOk result
             (AddsAll (O.held out.old) (O.held out.new) self.old self.new members) }
