@@ -1,6 +1,4 @@
 ghost use Rattle.std.specs.Prelude.{◌≡◌, ◌≤◌, IfOk};
-ghost use Rattle.dd_model.specs.Position.{IsPosition};
-ghost use Rattle.dd_model.specs.Request.{IsValid};
 ghost use Rattle.dd_pages_and_checkpoints.specs.MostLines.{most_lines};
 
 use crate::limit::{Limit, MOST_LINES};
@@ -23,8 +21,6 @@ pub struct Run {
     pub pace: Pace,
     /// After how many lines it is to pause.
     pub pause: Option<u32>,
-    ghost valid: { IsValid portion.request },
-    ghost is_position: { IsPosition at },
     ghost few_lines: { lines ≤ most_lines },
 }
 
@@ -39,7 +35,6 @@ impl Run {
         pace: Pace,
         pause: Option<u32>,
     ) -> Result<Run, Memory>
-        requires { IsValid portion.request }
         ensures start { IfOk result (λ run. start_of run ≡ first_start portion) }
         ensures pace { IfOk result (λ run. run.pace ≡ pace) }
         ensures pause { IfOk result (λ run. run.pause ≡ pause) }

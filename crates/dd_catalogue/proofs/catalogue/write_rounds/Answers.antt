@@ -27,7 +27,7 @@ loop-more-init g c =
     )
 
 pub do_long_round-requires-clause-valid : goal.do_long_round-requires-clause-valid
-do_long_round-requires-clause-valid g c κs within = subst IsValid (sym (c.loop-more.invariant.5 ∙ c.requires.request)) c.args.run.now.valid
+do_long_round-requires-clause-valid g c κs within = subst IsValid (sym (c.loop-more.invariant.5 ∙ c.requires.request)) c.requires.valid
 
 pub do_long_round-requires-clause-ready : goal.do_long_round-requires-clause-ready
 do_long_round-requires-clause-ready g c κs within =
@@ -107,7 +107,7 @@ loop-more-smaller g c =
     let w : Way = plain_way (start_of c.args.run.now) at.0 (g.O.Sink.held c.args.out.now) f in
     let jobs = way_jobs w (g.O.Sink.held c.loop-more.out) c.loop-more.page f at.1 in
     subst (λ (js : List Job). weighed js < weighed (open_jobs f.entries)) (sym goes.waiting)
-    (lighter_group w.start.portion.request most f c.do_long_round.new.front c.args.run.now.valid jobs c.loop-more.invariant.1 round)
+    (lighter_group w.start.portion.request most f c.do_long_round.new.front c.requires.valid jobs c.loop-more.invariant.1 round)
 
 pub loop-more-preserved : goal.loop-more-preserved
 loop-more-preserved g c =

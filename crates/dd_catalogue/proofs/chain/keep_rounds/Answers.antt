@@ -54,7 +54,7 @@ loop-more-init g c =
     }
 
 pub do_kept_round-requires-clause-valid : goal.do_kept_round-requires-clause-valid
-do_kept_round-requires-clause-valid g c κs within = subst IsValid (sym (c.loop-more.invariant.request ∙ c.requires.request)) c.args.run.now.valid
+do_kept_round-requires-clause-valid g c κs within = subst IsValid (sym (c.loop-more.invariant.request ∙ c.requires.request)) c.requires.valid
 
 pub do_kept_round-requires-clause-ready : goal.do_kept_round-requires-clause-ready
 do_kept_round-requires-clause-ready g c κs within =
@@ -221,7 +221,7 @@ loop-more-smaller g c =
     let mid = group_mid s most tells c.loop-more.output.is_kept old before held now page f head h group in
     let way = group_way s most tells c.loop-more.output.is_kept old before held now page f head h group in
     let ready = way_ready w.start.portion.request w now page f refl head.mid.under head.opens in
-    let valid = subst IsValid (ap (λ (x : Start). x.portion.request) (sym head.start_is)) c.args.run.now.valid in
+    let valid = subst IsValid (ap (λ (x : Start). x.portion.request) (sym head.start_is)) c.requires.valid in
     let waiting = rw c.in-Next.is at c.in_ok-here.ensures.waiting in
     subst (λ (js : List Job). weighed js < weighed (open_jobs f.entries)) (sym waiting) (lighter_group w.start.portion.request w.most f h valid ready.jobs head.opens group)
 
