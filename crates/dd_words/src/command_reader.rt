@@ -2,19 +2,17 @@ ghost use Rattle.std.specs.Prelude.{◌≡◌, ◌∷◌, map, IfOk, IfSome, IfN
 ghost use Rattle.dd_opening_jobs.specs.declared.shards.Shard.{Shard as Numbers};
 ghost use Rattle.std.specs.Rc.{rc_str_bytes};
 ghost use Rattle.dd_words.specs.declared.commands.Command.{Command};
-ghost use Rattle.dd_words.specs.Given.{AreSingle};
 ghost use Rattle.dd_words.specs.Laying.{texts};
-ghost use Rattle.dd_words.specs.Settings.{given_of};
 ghost use Rattle.dd_words.specs.Grammar.{IsCatalogue, HasNoCatalogue, IsShardOf, IsCommand};
 ghost use Rattle.dd_words.specs.Reading.{IsReadAs};
 
 use crate::commands::{Command, FileKind};
 use crate::fault::WordsFault;
-use crate::given::{frame_of, name_if_given, read_name, read_names};
+use crate::given::{Settings, read_name, read_names};
 use crate::layouts::lay_out;
 use crate::names::Name;
 use crate::requests::{RunSettings, read_request, read_run};
-use crate::settings::{Given, Setting};
+use crate::settings::Setting;
 use crate::values::read_number_in;
 use crate::verbs::Verb;
 use dd_model::Request;
@@ -58,9 +56,11 @@ fn read_from(alloc: Global, first: &RcStr, rest: &[RcStr]) -> Result<Command, Wo
         return Err(WordsFault::NotTaken);
     };
     let laid = lay_out(alloc, verb, rest)?;
+    let settings = Settings {
+        list: laid.settings,
+    };
     let arguments = laid.arguments.as_slice();
-    let settings = laid.settings.as_slice();
-    read_command(alloc, verb, arguments, settings)
+    read_command(alloc, verb, arguments, &settings)
 }
 
 /// The command of a verb with these arguments and settings.
@@ -68,13 +68,11 @@ fn read_command(
     alloc: Global,
     verb: Verb,
     arguments: &[&str],
-    settings: &[Given<'_>],
+    settings: &Settings<'_>,
 ) -> Result<Command, WordsFault>
-    requires { AreSingle (map given_of settings.now) }
-    ensures command { IfOk result
-        (IsReadAs verb (texts arguments.now) (map given_of settings.now)) }
+    ensures command { IfOk result (IsReadAs verb (texts arguments.now) settings.now) }
     ensures not_taken { result ≡ Err WordsFault.NotTaken → (c : Command)
-        → IsReadAs verb (texts arguments.now) (map given_of settings.now) c → ⊥ }
+        → IsReadAs verb (texts arguments.now) settings.now c → ⊥ }
 {
     match verb {
         Verb::Catalogue => read_catalogue(alloc, arguments, settings),
@@ -93,13 +91,11 @@ fn read_command(
 fn read_catalogue(
     alloc: Global,
     arguments: &[&str],
-    settings: &[Given<'_>],
+    settings: &Settings<'_>,
 ) -> Result<Command, WordsFault>
-    requires { AreSingle (map given_of settings.now) }
-    ensures command { IfOk result
-        (IsReadAs Verb.Catalogue (texts arguments.now) (map given_of settings.now)) }
+    ensures command { IfOk result (IsReadAs Verb.Catalogue (texts arguments.now) settings.now) }
     ensures not_taken { result ≡ Err WordsFault.NotTaken → (c : Command)
-        → IsReadAs Verb.Catalogue (texts arguments.now) (map given_of settings.now) c → ⊥ }
+        → IsReadAs Verb.Catalogue (texts arguments.now) settings.now c → ⊥ }
 {
     let [chambers] = arguments else {
         return Err(WordsFault::NotTaken);
@@ -117,13 +113,11 @@ fn read_catalogue(
 fn read_shard(
     alloc: Global,
     arguments: &[&str],
-    settings: &[Given<'_>],
+    settings: &Settings<'_>,
 ) -> Result<Command, WordsFault>
-    requires { AreSingle (map given_of settings.now) }
-    ensures command { IfOk result
-        (IsReadAs Verb.Shard (texts arguments.now) (map given_of settings.now)) }
+    ensures command { IfOk result (IsReadAs Verb.Shard (texts arguments.now) settings.now) }
     ensures not_taken { result ≡ Err WordsFault.NotTaken → (c : Command)
-        → IsReadAs Verb.Shard (texts arguments.now) (map given_of settings.now) c → ⊥ }
+        → IsReadAs Verb.Shard (texts arguments.now) settings.now c → ⊥ }
 {
     let [index, count, chambers] = arguments else {
         return Err(WordsFault::NotTaken);
@@ -161,12 +155,11 @@ struct Asked {
 }
 
 /// What a word and settings ask for that a catalogue and a shard have in common.
-fn read_asked(alloc: Global, chambers: &str, settings: &[Given<'_>]) -> Result<Asked, WordsFault>
-    requires { AreSingle (map given_of settings.now) }
-    ensures asked { IfOk result (λ asked. IsCatalogue chambers.now (map given_of settings.now)
+fn read_asked(alloc: Global, chambers: &str, settings: &Settings<'_>) -> Result<Asked, WordsFault>
+    ensures asked { IfOk result (λ asked. IsCatalogue chambers.now settings.now
         asked.request asked.run.pace asked.run.pause asked.checkpoint) }
     ensures not_taken { result ≡ Err WordsFault.NotTaken
-        → HasNoCatalogue chambers.now (map given_of settings.now) }
+        → HasNoCatalogue chambers.now settings.now }
 {
     let Some(request) = read_request(chambers, settings) else {
         return Err(WordsFault::NotTaken);
@@ -174,7 +167,7 @@ fn read_asked(alloc: Global, chambers: &str, settings: &[Given<'_>]) -> Result<A
     let Some(run) = read_run(settings) else {
         return Err(WordsFault::NotTaken);
     };
-    let checkpoint = name_if_given(alloc, settings, Setting::Checkpoint)?;
+    let checkpoint = settings.name_if_given(alloc, Setting::Checkpoint)?;
     if run.pause.is_some() && checkpoint.is_none() {
         return Err(WordsFault::NotTaken);
     }
@@ -189,13 +182,11 @@ fn read_asked(alloc: Global, chambers: &str, settings: &[Given<'_>]) -> Result<A
 fn read_resume(
     alloc: Global,
     arguments: &[&str],
-    settings: &[Given<'_>],
+    settings: &Settings<'_>,
 ) -> Result<Command, WordsFault>
-    requires { AreSingle (map given_of settings.now) }
-    ensures command { IfOk result
-        (IsReadAs Verb.Resume (texts arguments.now) (map given_of settings.now)) }
+    ensures command { IfOk result (IsReadAs Verb.Resume (texts arguments.now) settings.now) }
     ensures not_taken { result ≡ Err WordsFault.NotTaken → (c : Command)
-        → IsReadAs Verb.Resume (texts arguments.now) (map given_of settings.now) c → ⊥ }
+        → IsReadAs Verb.Resume (texts arguments.now) settings.now c → ⊥ }
 {
     let [name] = arguments else {
         return Err(WordsFault::NotTaken);
@@ -214,13 +205,11 @@ fn read_resume(
 fn read_resumed_shard(
     alloc: Global,
     arguments: &[&str],
-    settings: &[Given<'_>],
+    settings: &Settings<'_>,
 ) -> Result<Command, WordsFault>
-    requires { AreSingle (map given_of settings.now) }
-    ensures command { IfOk result
-        (IsReadAs Verb.ResumeShard (texts arguments.now) (map given_of settings.now)) }
+    ensures command { IfOk result (IsReadAs Verb.ResumeShard (texts arguments.now) settings.now) }
     ensures not_taken { result ≡ Err WordsFault.NotTaken → (c : Command)
-        → IsReadAs Verb.ResumeShard (texts arguments.now) (map given_of settings.now) c → ⊥ }
+        → IsReadAs Verb.ResumeShard (texts arguments.now) settings.now c → ⊥ }
 {
     let [name] = arguments else {
         return Err(WordsFault::NotTaken);
@@ -239,18 +228,16 @@ fn read_resumed_shard(
 fn read_drawing(
     alloc: Global,
     arguments: &[&str],
-    settings: &[Given<'_>],
+    settings: &Settings<'_>,
 ) -> Result<Command, WordsFault>
-    requires { AreSingle (map given_of settings.now) }
-    ensures command { IfOk result
-        (IsReadAs Verb.Draw (texts arguments.now) (map given_of settings.now)) }
+    ensures command { IfOk result (IsReadAs Verb.Draw (texts arguments.now) settings.now) }
     ensures not_taken { result ≡ Err WordsFault.NotTaken → (c : Command)
-        → IsReadAs Verb.Draw (texts arguments.now) (map given_of settings.now) c → ⊥ }
+        → IsReadAs Verb.Draw (texts arguments.now) settings.now c → ⊥ }
 {
     let [file] = arguments else {
         return Err(WordsFault::NotTaken);
     };
-    let Some(frame) = frame_of(settings) else {
+    let Some(frame) = settings.frame() else {
         return Err(WordsFault::NotTaken);
     };
     let file = read_name(alloc, file)?;
@@ -258,12 +245,10 @@ fn read_drawing(
 }
 
 /// An exercise with these arguments.
-fn read_exercise(arguments: &[&str], settings: &[Given<'_>]) -> Result<Command, WordsFault>
-    requires { AreSingle (map given_of settings.now) }
-    ensures command { IfOk result
-        (IsReadAs Verb.Exercise (texts arguments.now) (map given_of settings.now)) }
+fn read_exercise(arguments: &[&str], settings: &Settings<'_>) -> Result<Command, WordsFault>
+    ensures command { IfOk result (IsReadAs Verb.Exercise (texts arguments.now) settings.now) }
     ensures not_taken { result ≡ Err WordsFault.NotTaken → (c : Command)
-        → IsReadAs Verb.Exercise (texts arguments.now) (map given_of settings.now) c → ⊥ }
+        → IsReadAs Verb.Exercise (texts arguments.now) settings.now c → ⊥ }
 {
     let [start, count] = arguments else {
         return Err(WordsFault::NotTaken);
@@ -281,13 +266,11 @@ fn read_exercise(arguments: &[&str], settings: &[Given<'_>]) -> Result<Command, 
 fn read_application(
     alloc: Global,
     arguments: &[&str],
-    settings: &[Given<'_>],
+    settings: &Settings<'_>,
 ) -> Result<Command, WordsFault>
-    requires { AreSingle (map given_of settings.now) }
-    ensures command { IfOk result
-        (IsReadAs Verb.Apply (texts arguments.now) (map given_of settings.now)) }
+    ensures command { IfOk result (IsReadAs Verb.Apply (texts arguments.now) settings.now) }
     ensures not_taken { result ≡ Err WordsFault.NotTaken → (c : Command)
-        → IsReadAs Verb.Apply (texts arguments.now) (map given_of settings.now) c → ⊥ }
+        → IsReadAs Verb.Apply (texts arguments.now) settings.now c → ⊥ }
 {
     let [word, file] = arguments else {
         return Err(WordsFault::NotTaken);
@@ -303,13 +286,11 @@ fn read_application(
 fn read_merge(
     alloc: Global,
     arguments: &[&str],
-    settings: &[Given<'_>],
+    settings: &Settings<'_>,
 ) -> Result<Command, WordsFault>
-    requires { AreSingle (map given_of settings.now) }
-    ensures command { IfOk result
-        (IsReadAs Verb.Merge (texts arguments.now) (map given_of settings.now)) }
+    ensures command { IfOk result (IsReadAs Verb.Merge (texts arguments.now) settings.now) }
     ensures not_taken { result ≡ Err WordsFault.NotTaken → (c : Command)
-        → IsReadAs Verb.Merge (texts arguments.now) (map given_of settings.now) c → ⊥ }
+        → IsReadAs Verb.Merge (texts arguments.now) settings.now c → ⊥ }
 {
     if arguments.is_empty() || arguments.len() > MOST_FILES {
         return Err(WordsFault::NotTaken);
@@ -323,13 +304,11 @@ fn read_file(
     alloc: Global,
     kind: FileKind,
     arguments: &[&str],
-    settings: &[Given<'_>],
+    settings: &Settings<'_>,
 ) -> Result<Command, WordsFault>
-    requires { AreSingle (map given_of settings.now) }
-    ensures command { IfOk result
-        (IsReadAs (Verb.File kind) (texts arguments.now) (map given_of settings.now)) }
+    ensures command { IfOk result (IsReadAs (Verb.File kind) (texts arguments.now) settings.now) }
     ensures not_taken { result ≡ Err WordsFault.NotTaken → (c : Command)
-        → IsReadAs (Verb.File kind) (texts arguments.now) (map given_of settings.now) c → ⊥ }
+        → IsReadAs (Verb.File kind) (texts arguments.now) settings.now c → ⊥ }
 {
     let [file] = arguments else {
         return Err(WordsFault::NotTaken);

@@ -1,7 +1,5 @@
-ghost use Rattle.std.specs.Prelude.{◌≡◌, ◌↔◌, IfSome, IfNone, IsTrue, map};
-ghost use Rattle.dd_words.specs.Given.{Has, Lacks};
+ghost use Rattle.std.specs.Prelude.{◌≡◌, ◌↔◌, IsTrue};
 ghost use Rattle.dd_words.specs.SettingNames.{word_of, has_value, has_setting};
-ghost use Rattle.dd_words.specs.Settings.{given_of};
 
 use crate::verbs::Verb;
 
@@ -94,17 +92,4 @@ impl Setting {
     {
         self == other
     }
-}
-
-/// The value that a setting is given, and None where it is not given.
-pub fn value_of<'a>(settings: &[Given<'a>], setting: Setting) -> Option<&'a str>
-    ensures some { IfSome result (λ value. Has (map given_of settings.now) setting value.now) }
-    ensures none { IfNone result (Lacks (map given_of settings.now) setting) }
-{
-    for given in settings {
-        if given.setting.is(setting) {
-            return Some(given.value);
-        }
-    }
-    None
 }

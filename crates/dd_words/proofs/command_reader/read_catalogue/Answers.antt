@@ -1,6 +1,5 @@
-use Rattle.std.proofs.Common.{Err, map, refl, ap, length, ◌<◌, ◌≤◌, rules, tests, arith}
+use Rattle.std.proofs.Common.{Err, refl, ap, length, ◌<◌, ◌≤◌, rules, tests, arith}
 use Rattle.dd_words.specs.Laying.{texts}
-use Rattle.dd_words.specs.Settings.{given_of}
 use Rattle.dd_words.proofs.Faults.{same_fault}
 use Rattle.dd_words.proofs.ReadCommands.{read_as, one_text, no_catalogue, has_count}
 use Rattle.dd_words.specs.declared.verbs.Verb.TheVariants.{Catalogue}
@@ -9,7 +8,7 @@ use Rattle.dd_words.proofs.command_reader.read_catalogue.Goals as goal
 
 pub returns-in_err-asked-clause-not_taken : goal.returns-in_err-asked-clause-not_taken
 returns-in_err-asked-clause-not_taken c failed =
-    no_catalogue (texts c.args.arguments.now) (map given_of c.args.settings.now) _ (one_text c.args.arguments.now _ c.in-len1.len_at_least c.in-len1.len_below)
+    no_catalogue (texts c.args.arguments.now) c.args.settings.now _ (one_text c.args.arguments.now _ c.in-len1.len_at_least c.in-len1.len_below)
     (c.in_err-asked.ensures.not_taken (ap Err (same_fault c.from_residual.result c.in_err-asked.field-0.0 c.from_residual.ensures.1 failed)))
 
 pub returns-clause-command : goal.returns-clause-command

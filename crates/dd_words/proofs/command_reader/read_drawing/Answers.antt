@@ -1,6 +1,5 @@
-use Rattle.std.proofs.Common.{map, Err, refl, sym, ap, subst, length, ◌<◌, ◌≤◌, rules, tests, arith}
+use Rattle.std.proofs.Common.{Err, refl, sym, ap, subst, length, ◌<◌, ◌≤◌, rules, tests, arith}
 use Rattle.dd_words.specs.Laying.{texts}
-use Rattle.dd_words.specs.Settings.{given_of}
 use Rattle.dd_words.proofs.ReadCommands.{some_one_text, no_drawing, read_as, one_text, has_count}
 use Rattle.dd_words.specs.declared.verbs.Verb.TheVariants.{Draw}
 use Rattle.dd_words.proofs.Faults.{same_fault}
@@ -8,15 +7,15 @@ use Rattle.dd_words.specs.Values.{IsName}
 use Rattle.dd_words.proofs.command_reader.read_drawing.Goals.{in_default-via-then-arguments-lt1, in_default-via-else-arguments-lt1+else-arguments-lt2}
 use Rattle.dd_words.proofs.command_reader.read_drawing.Goals as goal
 
-pub returns-in_default-frame_of-clause-not_taken : goal.returns-in_default-frame_of-clause-not_taken
-returns-in_default-frame_of-clause-not_taken c _ =
+pub returns-in_default-frame-clause-not_taken : goal.returns-in_default-frame-clause-not_taken
+returns-in_default-frame-clause-not_taken c _ =
     let one = some_one_text c.args.arguments.now c.in-len1.len_at_least c.in-len1.len_below in
-    no_drawing (texts c.args.arguments.now) (map given_of c.args.settings.now) one.text one.is
-    (λ file frame h. c.in_default-frame_of.ensures.none frame h.frame_is)
+    no_drawing (texts c.args.arguments.now) c.args.settings.now one.text one.is
+    (λ file frame h. c.in_default-frame.ensures.none frame h.frame_is)
 
 pub returns-in_err-file-clause-not_taken : goal.returns-in_err-file-clause-not_taken
 returns-in_err-file-clause-not_taken c failed =
-    no_drawing (texts c.args.arguments.now) (map given_of c.args.settings.now) _ (one_text c.args.arguments.now _ c.in-len1.len_at_least c.in-len1.len_below)
+    no_drawing (texts c.args.arguments.now) c.args.settings.now _ (one_text c.args.arguments.now _ c.in-len1.len_at_least c.in-len1.len_below)
     (λ file frame h. c.in_err-file.ensures.not_taken (ap Err (same_fault c.from_residual.result c.in_err-file.field-0.0 c.from_residual.ensures.1 failed)) (subst IsName (sym h.same) h.is_name))
 
 pub returns-clause-command : goal.returns-clause-command

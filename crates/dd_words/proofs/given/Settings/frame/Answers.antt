@@ -1,9 +1,7 @@
-use Rattle.std.proofs.Common.{map}
-use Rattle.dd_words.specs.Settings.{given_of}
 use Rattle.dd_words.proofs.OneValue.{no_frame, no_other_frame}
-use Rattle.dd_words.proofs.given.frame_of.Goals as goal
+use Rattle.dd_words.proofs.given.Settings.frame.Goals as goal
 
 pub returns-in-Some-clause-none : goal.returns-in-Some-clause-none
 returns-in-Some-clause-none c frame =
-    no_frame (map given_of c.args.settings.now) c.in-Some.field-0.now frame c.requires c.in-Some.ensures.some
+    no_frame c.args.self.now c.in-Some.field-0.now frame c.in-Some.ensures.single c.in-Some.ensures.some
     (no_other_frame c.in-Some.field-0.now c.in-Some.not-square c.in-Some.not-hex c.in-Some.not-own)
