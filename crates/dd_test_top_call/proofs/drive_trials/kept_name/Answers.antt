@@ -6,7 +6,7 @@ use Rattle.dd_words.specs.Grammar.{IsCommand}
 use Rattle.dd_words.specs.declared.commands.Command.{Command}
 use Rattle.dd_words.specs.declared.commands.Command.TheVariants.{Catalogue}
 use Rattle.dd_suite_chains.specs.Words.{AskToKeep}
-use Rattle.dd_test_suite.proofs.drive_trials.kept_name.Goals as goal
+use Rattle.dd_test_top_call.proofs.drive_trials.kept_name.Goals as goal
 
 -- words of a catalogue that names a checkpoint
 kept : (words : List (List ℕ)) (c : Command) (q : Request) (pace : Pace) (pause : Option ℕ) (name : Option (List ℕ)) → c ≡ Catalogue q pace pause name → IsCommand words c

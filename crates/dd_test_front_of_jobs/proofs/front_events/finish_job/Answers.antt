@@ -1,6 +1,6 @@
 use Rattle.std.proofs.Common.{◌∙◌}
-use Rattle.dd_test_front.proofs.Allowing.{finish_allowed}
-use Rattle.dd_test_front.proofs.front_events.finish_job.Goals as goal
+use Rattle.dd_test_front_of_jobs.proofs.Allowing.{finish_allowed}
+use Rattle.dd_test_front_of_jobs.proofs.front_events.finish_job.Goals as goal
 
 pub step-requires-clause-allowed : goal.step-requires-clause-allowed
 step-requires-clause-allowed c =

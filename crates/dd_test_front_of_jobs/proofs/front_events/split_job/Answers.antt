@@ -1,6 +1,6 @@
 use Rattle.std.proofs.Common.{◌∙◌}
-use Rattle.dd_test_front.proofs.Allowing.{split_allowed}
-use Rattle.dd_test_front.proofs.front_events.split_job.Goals as goal
+use Rattle.dd_test_front_of_jobs.proofs.Allowing.{split_allowed}
+use Rattle.dd_test_front_of_jobs.proofs.front_events.split_job.Goals as goal
 
 pub step-requires-clause-allowed : goal.step-requires-clause-allowed
 step-requires-clause-allowed c =
