@@ -105,8 +105,9 @@ impl<'a> Settings<'a> {
         Some(true)
     }
 
-    /// Returns the set of the numbers that `set` names, or of the numbers from that of `least` on.
-    /// Returns None if both are given, or if one has another value.
+    /// Returns the numbers that `set` lists, or all numbers from `least` on if it is not given. The
+    /// default of `least` is 3. Returns None if `set` is no list of numbers, `least` is not from 1
+    /// to 36, or both are given.
     pub(crate) fn set_of(&self, set: Setting, least: Setting) -> Option<Allowed>
         ensures some { IfSome result (λ a. IsSet self.now set least a) }
         ensures none { IfNone result ((a : Allowed) → IsSet self.now set least a → ⊥) }
@@ -140,7 +141,8 @@ impl<'a> Settings<'a> {
         }
     }
 
-    /// Returns the name that a setting has, if it is given.
+    /// Returns the name that a setting has, if it is given. Fails with NotTaken if the value is no
+    /// name.
     pub(crate) fn name_if_given(
         &self,
         alloc: Global,
