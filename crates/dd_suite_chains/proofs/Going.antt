@@ -7,7 +7,7 @@ use Rattle.dd_model.specs.declared.requests.Request.{Request}
 use Rattle.dd_ports.specs.declared.memory_sink.MemorySink.{MemorySink}
 use Rattle.dd_opening_jobs.specs.Portions.{whole}
 use Rattle.dd_check.specs.declared.kinds.ResumeKind.TheVariants.{Catalogues}
-use Rattle.dd_check.specs.Calls.{kind_of, Task, Begin, Resume}
+use Rattle.dd_check.specs.Calls.{Task, Begin, Resume}
 use Rattle.dd_check.specs.Chains.{kind_of_task, IsPart, IsJoined}
 use Rattle.dd_check.specs.ChainStarts.{Holds, Start, next_start, Starts, StartsAt}
 use Rattle.dd_check.proofs.ChainParts.{starts_once, start_kind, catalogue_next, no_shard}

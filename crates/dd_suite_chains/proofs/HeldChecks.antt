@@ -24,7 +24,7 @@ use Rattle.dd_check.specs.Accepted.{IsCheckpointText}
 use Rattle.dd_check.specs.Checks.{IsCheckText}
 use Rattle.dd_check.specs.ShardFaults.{HasKindFault}
 use Rattle.dd_check.proofs.KindFaults.{no_kind_fault}
-use Rattle.dd_check.proofs.Exclusion.{one_checkpoint, no_fault}
+use Rattle.dd_check.proofs.Exclusion.{one_checkpoint}
 use Rattle.dd_check.proofs.ShortTexts.{written_reads_back}
 use Rattle.dd_check.specs.Between.{IsMemberBetween, AreLinesBetween}
 use Rattle.dd_opening_jobs.specs.Portions.{whole}

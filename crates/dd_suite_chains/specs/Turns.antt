@@ -27,6 +27,6 @@ pub record IsNextTurn (said : List (List ℕ)) (name : List ℕ) (from to : Kept
   pub is_next : IsNextNumber (Some text) next
   pub bytes : whole ≡ joined ++ part
 
-abbrev pub IsTurn : List (List ℕ) → List ℕ → Kept → Kept → List MemorySink → List MemorySink → ℕ → Option ℕ → List ℕ → List ℕ → Turn → Type 0
-IsTurn said name from to olds news k number joined whole (Last status) = IsLastTurn said name from to olds news k joined whole status
-IsTurn said name from to olds news k number joined whole (Next next) = IsNextTurn said name from to olds news k number joined whole next
+abbrev pub IsTurn : List (List ℕ) → List ℕ → Kept → Kept → List MemorySink → List MemorySink → ℕ → Option ℕ → List ℕ → List ℕ → Option ℕ → Turn → Type 0
+IsTurn said name from to olds news k number joined whole next (Last status) = IsLastTurn said name from to olds news k joined whole status
+IsTurn said name from to olds news k number joined whole next Next = IsNextTurn said name from to olds news k number joined whole next

@@ -10,10 +10,11 @@ ghost use Rattle.dd_suite_chains.specs.Drives.{Drives};
 ghost use Rattle.dd_suite_chains.specs.Sentences.{IsItsText, IsItsFront, HasPaused, HasTooMany};
 ghost use Rattle.dd_suite_chains.specs.Sentences.{HoldsOutOfRange, HasRisen};
 
+use crate::chain::Chain;
 use crate::driven::Drive;
 use crate::turn::Turn;
-use crate::turns::make_turn;
 use crate::words::words_to_go_on;
+use dd_catalogue::Workshop;
 use dd_model::Memory;
 use dd_ports::{Gate, MemorySink, MemoryStore};
 use std::alloc::Global;
@@ -64,19 +65,18 @@ pub fn drive<R: Threads + Wait + Sync, G: Gate + Sync>(
     ensures usage { IfOk result (λ d. d.status ≢ status.Usage) }
 {
     let resume = words_to_go_on(alloc, name)?;
-    make_runs(rt, alloc, words, &resume, name, store, sinks, gate)
+    let workshop = Workshop { rt, alloc, gate };
+    make_runs(&workshop, words, &resume, name, store, sinks)
 }
 
 /// Makes the runs of a chain.
-fn make_runs<R: Threads + Wait + Sync, G: Gate + Sync>(
-    rt: &R,
-    alloc: Global,
-    words: &[RcStr],
-    resume: &[RcStr],
+fn make_runs<'a, R: Threads + Wait + Sync, G: Gate + Sync>(
+    workshop: &Workshop<'_, R, G>,
+    words: &'a [RcStr],
+    resume: &'a [RcStr],
     name: &str,
     store: &mut MemoryStore,
     sinks: &mut [MemorySink],
-    gate: &G,
 ) -> Result<Drive, Memory>
     requires asked { AskToKeep (map rc_str_bytes words.now) name.now }
     requires resume { map rc_str_bytes resume.now ≡ resume_words name.now }
@@ -87,34 +87,22 @@ fn make_runs<R: Threads + Wait + Sync, G: Gate + Sync>(
     ensures stopped { OnErr result (HaveRun (map rc_str_bytes words.now) name.now
         (kept_of store.old) (kept_of store.new) sinks.old sinks.new) }
 {
-    let mut said = words;
-    let mut number = Some(1);
-    let mut joined = Vec::new(alloc);
+    let mut chain = Chain {
+        words,
+        number: Some(1),
+        joined: Vec::new(workshop.alloc),
+    };
     let count = sinks.len();
     for k in 0..count {
-        match make_turn(
-            rt,
-            alloc,
-            said,
-            name,
-            store,
-            sinks,
-            k,
-            number,
-            &mut joined,
-            gate,
-        )? {
+        match chain.run_next(workshop, name, store, sinks, k)? {
             Turn::Last(status) => {
                 return Ok(Drive {
                     status,
                     runs: k as u32 + 1,
-                    joined,
+                    joined: chain.joined,
                 });
             }
-            Turn::Next(next) => {
-                number = next;
-                said = resume;
-            }
+            Turn::Next => chain.words = resume,
         }
     }
     unreachable!()

@@ -2,12 +2,12 @@
 //! together.
 #![tactic(auto)]
 
+mod chain;
 mod driven;
 mod driver;
 mod parts;
 mod runs;
 mod turn;
-mod turns;
 mod words;
 
 pub use driven::Drive;

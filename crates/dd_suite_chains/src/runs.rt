@@ -6,31 +6,37 @@ ghost use Rattle.dd_suite_tasks.specs.declared.status.Status.TheVariants.{Done};
 ghost use Rattle.dd_suite_chains.specs.Runs.{kept_of};
 ghost use Rattle.dd_suite_chains.specs.Making.{RunsInto};
 
+use dd_catalogue::Workshop;
 use dd_ports::{Gate, MemorySink, MemoryStore, SureSink};
 use dd_suite::run;
 use dd_suite_tasks::Status;
-use std::alloc::Global;
 use std::rc::RcStr;
 use std::sync::Wait;
 use std::thread::Threads;
 
 /// Makes one run, into the sink of this number.
 pub fn run_into<R: Threads + Wait + Sync, G: Gate + Sync>(
-    rt: &R,
-    alloc: Global,
+    workshop: &Workshop<'_, R, G>,
     words: &[RcStr],
     store: &mut MemoryStore,
     sinks: &mut [MemorySink],
     k: usize,
-    gate: &G,
 ) -> Status
     requires asked { (order : Order) × AskForRun (map rc_str_bytes words.now) order }
     requires inside { k < length sinks.old }
     ensures { RunsInto (map rc_str_bytes words.now) (kept_of store.old) (kept_of store.new)
         sinks.old sinks.new k result }
 {
-    let mut err = SureSink::new(alloc);
-    run(rt, alloc, words, store, &mut sinks[k], &mut err, gate)
+    let mut err = SureSink::new(workshop.alloc);
+    run(
+        workshop.rt,
+        workshop.alloc,
+        words,
+        store,
+        &mut sinks[k],
+        &mut err,
+        workshop.gate,
+    )
 }
 
 /// The text under the name, where a chain goes on after a run with this status, if another sink is

@@ -5,6 +5,6 @@ use dd_suite_tasks::Status;
 pub enum Turn {
     /// Nothing: the last run ended so.
     Last(Status),
-    /// A run that resumes from the name, and its number, if it can begin.
-    Next(Option<u64>),
+    /// A run that resumes from the name.
+    Next,
 }

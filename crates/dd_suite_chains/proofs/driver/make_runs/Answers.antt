@@ -11,40 +11,40 @@ loop-k-init g c =
     let words = map rc_str_bytes c.args.words.now in
     let kept = kept_of c.args.store.now in
     let sinks = c.args.sinks.now in
-    subst (λ bytes. Going words c.args.name.now kept kept sinks sinks 0 words (Some 1) bytes) (sym c.new-joined.ensures.items)
+    subst (λ bytes. Going words c.args.name.now kept kept sinks sinks 0 words (Some 1) bytes) (sym c.new.ensures.items)
     (at_first words c.args.name.now kept sinks c.requires.some)
 
-pub make_turn-requires-clause-asked : goal.make_turn-requires-clause-asked
-make_turn-requires-clause-asked g c κs within =
+pub run_next-requires-clause-asked : goal.run_next-requires-clause-asked
+run_next-requires-clause-asked g c κs within =
     let words = map rc_str_bytes c.args.words.now in
     let going = c.loop-k.invariant in
-    some_order words c.args.name.now c.requires.asked going.calls (map rc_str_bytes c.loop-k.said.now) going.said_is
+    some_order words c.args.name.now c.requires.asked going.calls (map rc_str_bytes c.loop-k.chain.words.now) going.said_is
 
 pub returns-in_err-status-clause-stopped : goal.returns-in_err-status-clause-stopped
 returns-in_err-status-clause-stopped g c =
     let words = map rc_str_bytes c.args.words.now in
     let ran = c.in_err-status.ensures.ran in
     on_err c.from_residual.result
-    (have_run words c.args.name.now (kept_of c.args.store.now) (kept_of c.loop-k.store) (kept_of c.make_turn.new.store) c.args.sinks.now c.loop-k.sinks c.make_turn.new.sinks c.loop-k.k
-    (map rc_str_bytes c.loop-k.said.now) c.loop-k.number c.loop-k.joined.items ran.0 c.requires.asked c.loop-k.invariant ran.1)
+    (have_run words c.args.name.now (kept_of c.args.store.now) (kept_of c.loop-k.store) (kept_of c.run_next.new.store) c.args.sinks.now c.loop-k.sinks c.run_next.new.sinks c.loop-k.k
+    (map rc_str_bytes c.loop-k.chain.words.now) c.loop-k.chain.number c.loop-k.chain.joined.items ran.0 c.requires.asked c.loop-k.invariant ran.1)
 
 pub returns-in-Last-clause-drives : goal.returns-in-Last-clause-drives
 returns-in-Last-clause-drives g c =
     let words = map rc_str_bytes c.args.words.now in
-    let drive : Drive = record { status = c.in-Last.status; runs = c.loop-k.k + 1; joined = c.make_turn.new.joined } in
-    turned_to_last words c.args.name.now (kept_of c.args.store.now) (kept_of c.loop-k.store) (kept_of c.make_turn.new.store) c.args.sinks.now c.loop-k.sinks c.make_turn.new.sinks c.loop-k.k
-    (map rc_str_bytes c.loop-k.said.now) c.loop-k.number c.loop-k.joined.items c.requires.asked c.loop-k.invariant drive c.make_turn.new.joined.items c.in-Last.status
+    let drive : Drive = record { status = c.in-Last.status; runs = c.loop-k.k + 1; joined = c.run_next.new.self.joined } in
+    turned_to_last words c.args.name.now (kept_of c.args.store.now) (kept_of c.loop-k.store) (kept_of c.run_next.new.store) c.args.sinks.now c.loop-k.sinks c.run_next.new.sinks c.loop-k.k
+    (map rc_str_bytes c.loop-k.chain.words.now) c.loop-k.chain.number c.loop-k.chain.joined.items c.requires.asked c.loop-k.invariant drive c.run_next.new.self.joined.items c.in-Last.status
     (rw c.in-Last.is at c.in_ok-status.ensures.turn) refl refl refl
 
 pub loop-k-preserved : goal.loop-k-preserved
 loop-k-preserved g c =
     let words = map rc_str_bytes c.args.words.now in
     let kept = kept_of c.args.store.now in
-    let after = kept_of c.make_turn.new.store in
-    let whole = c.make_turn.new.joined.items in
-    subst (λ said. Going words c.args.name.now kept after c.args.sinks.now c.make_turn.new.sinks (c.loop-k.k + 1) said c.in-Next.next whole) (sym c.requires.resume)
-    (turned_to_next words c.args.name.now kept (kept_of c.loop-k.store) after c.args.sinks.now c.loop-k.sinks c.make_turn.new.sinks c.loop-k.k (map rc_str_bytes c.loop-k.said.now) c.loop-k.number
-    c.loop-k.joined.items c.requires.asked c.loop-k.invariant whole c.in-Next.next (rw c.in-Next.is at c.in_ok-status.ensures.turn))
+    let after = kept_of c.run_next.new.store in
+    let whole = c.run_next.new.self.joined.items in
+    subst (λ said. Going words c.args.name.now kept after c.args.sinks.now c.run_next.new.sinks (c.loop-k.k + 1) said c.run_next.new.self.number whole) (sym c.requires.resume)
+    (turned_to_next words c.args.name.now kept (kept_of c.loop-k.store) after c.args.sinks.now c.loop-k.sinks c.run_next.new.sinks c.loop-k.k (map rc_str_bytes c.loop-k.chain.words.now) c.loop-k.chain.number
+    c.loop-k.chain.joined.items c.requires.asked c.loop-k.invariant whole c.run_next.new.self.number (rw c.in-Next.is at c.in_ok-status.ensures.turn))
 
 pub unreachable-requires : goal.unreachable-requires
 unreachable-requires g c =

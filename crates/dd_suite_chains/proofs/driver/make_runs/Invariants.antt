@@ -6,4 +6,4 @@ use Rattle.dd_suite_chains.proofs.driver.make_runs.Given as goal
 
 abbrev pub invariant-loop-k : goal.invariant-loop-k
 invariant-loop-k g l =
-    Going (map rc_str_bytes l.words) l.name (kept_of l.initial.store) (kept_of l.store) l.initial.sinks l.sinks l.k (map rc_str_bytes l.said) l.number l.joined.items
+    Going (map rc_str_bytes l.words) l.name (kept_of l.initial.store) (kept_of l.store) l.initial.sinks l.sinks l.k (map rc_str_bytes l.chain.words.now) l.chain.number l.chain.joined.items
