@@ -10,8 +10,8 @@ use crate::desk::Desk;
 use crate::seat::Seat;
 use crate::shares::Shares;
 use dd_front::{Naming, Taken, Ticket};
+use dd_member_lists::SymbolList;
 use dd_model::{Job, Memory};
-use dd_symbol_list::SymbolList;
 use std::marker::Model;
 use std::sync::ledger::Ledger;
 

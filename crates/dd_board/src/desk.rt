@@ -17,8 +17,8 @@ ghost use Rattle.dd_board.specs.Calls.{IsNumberWhere, IsOutWith, MaySplitNow};
 use crate::copies::copy_of;
 use crate::out_entries::{has_out_with, place_of_first};
 use dd_front::{Entry, Event, Front, JobList, Members, Naming, Taken, Ticket};
+use dd_member_lists::SymbolList;
 use dd_model::{Job, Memory, Request};
-use dd_symbol_list::SymbolList;
 use std::alloc::Global;
 use std::marker::{Model, PhantomData};
 

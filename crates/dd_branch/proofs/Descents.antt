@@ -12,13 +12,13 @@ use Rattle.dd_model.specs.Wanted.{IsMember}
 use Rattle.dd_model.specs.Jobs.{IsMemberUnder, AreMembersUnder}
 use Rattle.dd_model.specs.declared.requests.Request.{Request}
 use Rattle.dd_model.specs.declared.jobs.Job.{Job}
-use Rattle.dd_opening_jobs.specs.Under.{IsUnder, HasNothingUnder, AreUnder, Appends}
+use Rattle.dd_front_jobs.specs.Under.{IsUnder, HasNothingUnder, AreUnder, Appends}
 use Rattle.dd_branch_tables.specs.Table.{IsBareTable, IsTableOf, told}
 use Rattle.dd_branch_tables.specs.Rows.{partial_of, depth_of, unwound, HasNumberAt}
 use Rattle.dd_branch_tables.specs.Stem.{Any, IsStem, HasAbsorbed, prefix_of, size_of, cut_to, shortened}
 use Rattle.dd_branch_tables.proofs.Absorbing.{absorbed_under}
 use Rattle.dd_branch_tables.proofs.Stems.{any_under}
-use Rattle.dd_opening_jobs.proofs.Places.{code_at}
+use Rattle.dd_front_jobs.proofs.Places.{code_at}
 use Rattle.dd_branch_tables.proofs.Prefixes.{none_under, shortened as shortened_under}
 use Rattle.dd_branch_tables.specs.declared.partial_table.PartialTable.{PartialTable}
 use Rattle.dd_branch_tables.specs.declared.stem.Stem.{Stem}

@@ -10,8 +10,8 @@ use Rattle.dd_model.specs.declared.requests.Request.{Request}
 use Rattle.dd_model.proofs.Lists.{all_from_members}
 use Rattle.dd_model.proofs.Positions.{before_or_not, below_over}
 use Rattle.dd_model.proofs.Texts.{nothing_before}
-use Rattle.dd_opening_jobs.specs.Opening.{IsOpening}
-use Rattle.dd_opening_jobs.proofs.OpeningLaws.{covered}
+use Rattle.dd_front_jobs.specs.Opening.{IsOpening}
+use Rattle.dd_front_jobs.proofs.OpeningLaws.{covered}
 use Rattle.dd_front.specs.Machine.{Machine}
 use Rattle.dd_front.specs.Covered.{IsLater, IsCovered}
 

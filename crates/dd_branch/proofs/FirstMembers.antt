@@ -13,8 +13,8 @@ use Rattle.dd_model.proofs.AscendingFronts.{begins_with}
 use Rattle.dd_model.proofs.Lists.{Contains-none, Contains-one, all_from_members}
 use Rattle.dd_model.proofs.Positions.{under_below}
 use Rattle.dd_model.proofs.JoinedLists.{under_append, under_one, first_parts}
-use Rattle.dd_opening_jobs.specs.Opening.{IsOpening}
-use Rattle.dd_opening_jobs.proofs.OpeningLaws.{covered, opening_apart}
+use Rattle.dd_front_jobs.specs.Opening.{IsOpening}
+use Rattle.dd_front_jobs.proofs.OpeningLaws.{covered, opening_apart}
 use Rattle.dd_model.specs.Joined.{AreUnderJobs, IsPartBelow, AreFirstMembers}
 
 -- each catalogue begins with its first members

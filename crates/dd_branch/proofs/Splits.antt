@@ -9,7 +9,7 @@ use Rattle.dd_model.specs.declared.requests.Request.{Request}
 use Rattle.dd_model.specs.declared.jobs.Job.{Job}
 use Rattle.dd_model.specs.Code.{code}
 use Rattle.dd_model.proofs.Ascending.{begins_less}
-use Rattle.dd_opening_jobs.specs.Under.{HasNothingUnder}
+use Rattle.dd_front_jobs.specs.Under.{HasNothingUnder}
 use Rattle.dd_branch_tables.specs.Stem.{Any, prefix_of, size_of}
 use Rattle.dd_branch_tables.proofs.Follows.{member_orderly}
 use Rattle.dd_branch_tables.proofs.Stems.{any_under}

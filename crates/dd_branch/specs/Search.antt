@@ -6,7 +6,7 @@ use Rattle.std.specs.declared.option.Option.TheVariants.{None, Some}
 use Rattle.dd_model.specs.declared.requests.Request.{Request}
 use Rattle.dd_model.specs.declared.jobs.Job.{Job}
 use Rattle.dd_model.specs.Wanted.{IsMember}
-use Rattle.dd_opening_jobs.specs.Under.{HasNothingUnder}
+use Rattle.dd_front_jobs.specs.Under.{HasNothingUnder}
 use Rattle.dd_branch_bounds.specs.declared.path_shares.PathShares.{PathShares}
 use Rattle.dd_branch.specs.Descent.{Descending, GoesBack}
 

@@ -4,7 +4,7 @@ ghost use Rattle.dd_model.specs.Request.{IsValid};
 ghost use Rattle.dd_model.specs.Wanted.{IsMember};
 ghost use Rattle.dd_model.specs.Jobs.{AreExtensions};
 ghost use Rattle.dd_model.specs.Lists.{Begins};
-ghost use Rattle.dd_opening_jobs.specs.Under.{AreUnder, Appends, HasNothingUnder};
+ghost use Rattle.dd_front_jobs.specs.Under.{AreUnder, Appends, HasNothingUnder};
 ghost use Rattle.dd_branch_tables.specs.Stem.{HasAbsorbed, IsStem};
 
 use crate::undo_points::UndoPoints;
@@ -13,9 +13,9 @@ use dd_branch_degrees::{add_tied, with_places};
 use dd_branch_tables::{
     ChamberSet, CollectingSearch, PrefixSearch, Starts, Stem, find, involutions, ties,
 };
+use dd_front_jobs::{can_follow, child};
+use dd_member_lists::SymbolList;
 use dd_model::{Job, Memory, Prefix, Request};
-use dd_opening_jobs::{can_follow, child};
-use dd_symbol_list::SymbolList;
 use std::alloc::Global;
 use std::marker::Model;
 

@@ -8,7 +8,7 @@ ghost use Rattle.dd_model.specs.Symbol.{Symbol};
 ghost use Rattle.dd_model.specs.Wanted.{IsCatalogue};
 ghost use Rattle.dd_model.specs.declared.jobs.Job.{Job};
 ghost use Rattle.dd_model.specs.declared.requests.Request.{Request};
-ghost use Rattle.dd_opening_jobs.specs.Opening.{IsOpening};
+ghost use Rattle.dd_front_jobs.specs.Opening.{IsOpening};
 ghost use Rattle.dd_model.specs.Text.{beginning};
 ghost use Rattle.dd_model.specs.Joined.{AreUnderInTurn, joined, AreFirstMembers};
 ghost use Rattle.dd_front.specs.declared.event.Event.{Event};

@@ -3,16 +3,16 @@ ghost use Rattle.std.specs.Prelude.{◌≡◌, ◌*◌, ◌≤◌, ◌<◌, [], 
 ghost use Rattle.dd_model.specs.Request.{IsValid};
 ghost use Rattle.dd_model.specs.Jobs.{IsJobOf, AreExtensions, AreMembersUnder};
 ghost use Rattle.dd_model.specs.Wanted.{IsMember};
-ghost use Rattle.dd_opening_jobs.specs.Under.{AreUnder, Appends, HasNothingUnder};
+ghost use Rattle.dd_front_jobs.specs.Under.{AreUnder, Appends, HasNothingUnder};
 ghost use Rattle.dd_branch_tables.specs.Stem.{size_of};
 ghost use Rattle.dd_branch.specs.Descent.{GoesBack};
 
 use crate::descent::Descent;
 use dd_branch_bounds::PathShares;
 use dd_front::Finder;
+use dd_front_jobs::child;
+use dd_member_lists::SymbolList;
 use dd_model::{Job, Memory, Request};
-use dd_opening_jobs::child;
-use dd_symbol_list::SymbolList;
 use std::alloc::Global;
 use std::marker::Model;
 use std::mem;

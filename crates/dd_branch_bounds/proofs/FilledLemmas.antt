@@ -3,7 +3,7 @@ use Rattle.std.proofs.Common.{◌≡◌, ◌≢◌, ℕ, zero, suc, ◌+◌, ◌
 use Rattle.std.proofs.lemmas.List.{get_or-take, get_or-drop, length-take-le}
 use Rattle.dd_model.specs.Partial.{Completes}
 use Rattle.dd_model.specs.Symbol.{Symbol, op}
-use Rattle.dd_opening_jobs.specs.Places.{index_at}
+use Rattle.dd_front_jobs.specs.Places.{index_at}
 use Rattle.dd_branch_tables.specs.Rows.{partial_of, last_of, popped, unwind, HasNumberAt, IsReady}
 use Rattle.dd_branch_tables.specs.declared.partial_table.PartialTable.{PartialTable}
 use Rattle.dd_branch_tables.proofs.RowsLemmas.{told_at}

@@ -4,7 +4,7 @@ use Rattle.std.proofs.lemmas.Bool.{cases_lt}
 use Rattle.dd_model.specs.declared.index.Index.{Index}
 use Rattle.dd_model.specs.Symbol.{Symbol, op}
 use Rattle.dd_model.specs.Partial.{Completes}
-use Rattle.dd_opening_jobs.specs.Places.{place, back_of}
+use Rattle.dd_front_jobs.specs.Places.{place, back_of}
 use Rattle.dd_branch_tables.specs.declared.partial_table.PartialTable.{PartialTable}
 use Rattle.dd_branch_tables.specs.Rows.{partial_of, depth_of, cleared, last_of, popped, unwind, unwound}
 use Rattle.dd_branch_tables.proofs.RowsLemmas.{op_partial, op_past}

@@ -1,5 +1,5 @@
 ghost use Rattle.std.specs.Prelude.{◌≡◌, ◌+◌, ◌*◌, ◌/◌, ◌%◌, ◌≤◌, ◌<◌};
-ghost use Rattle.dd_opening_jobs.specs.Places.{index_at};
+ghost use Rattle.dd_front_jobs.specs.Places.{index_at};
 
 use dd_model::Index;
 

@@ -10,7 +10,7 @@ use Rattle.dd_model.specs.declared.pair.Pair.TheVariants.{Tile, Vertex}
 use Rattle.dd_model.specs.Symbol.{Symbol}
 use Rattle.dd_model.specs.Code.{code}
 use Rattle.dd_model.specs.Wanted.{IsCrystallographic, IsMember}
-use Rattle.dd_opening_jobs.specs.Under.{Appends, AreUnder, next_number}
+use Rattle.dd_front_jobs.specs.Under.{Appends, AreUnder, next_number}
 use Rattle.dd_branch_tables.proofs.Prefixes.{extended, shortened as prefix_shortened}
 use Rattle.dd_cells.proofs.ReciprocalSums.{quotient_is}
 use Rattle.dd_branch_degrees.specs.Budget.{no_place, spent, twelfths}

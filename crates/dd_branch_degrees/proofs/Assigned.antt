@@ -6,7 +6,7 @@ use Rattle.dd_model.specs.Code.{code, all_images}
 use Rattle.dd_model.specs.Involutions.{HaveSameInvolutions}
 use Rattle.dd_model.proofs.Ascending.{begins_at, begins_append, begins_through}
 use Rattle.dd_model.proofs.Codes.{length-code, length-flat_images}
-use Rattle.dd_opening_jobs.specs.Under.{next_number}
+use Rattle.dd_front_jobs.specs.Under.{next_number}
 use Rattle.dd_branch_tables.proofs.TableFronts.{front_same, begins_with_take}
 use Rattle.dd_branch_degrees.specs.Assignment.{IsAssignment, IsMemberUnder, degree_at, prefix_of, told}
 use Rattle.dd_branch_degrees.specs.declared.assignment.Assignment.{Assignment}

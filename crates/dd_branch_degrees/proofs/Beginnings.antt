@@ -16,7 +16,7 @@ use Rattle.dd_symbol.specs.declared.shapes.CellShape.{CellShape}
 use Rattle.dd_cells.proofs.MemberLemmas.{period_from_turns}
 use Rattle.dd_canon.specs.Ties.{AreTies}
 use Rattle.dd_branch_tables.specs.Table.{IsBareTable}
-use Rattle.dd_opening_jobs.specs.Under.{Appends, AreUnder}
+use Rattle.dd_front_jobs.specs.Under.{Appends, AreUnder}
 use Rattle.dd_branch_tables.proofs.Follows.{member_orderly}
 use Rattle.dd_branch_tables.proofs.Prefixes.{appends_none}
 use Rattle.dd_branch_tables.proofs.TiedTables.{table_of_least}

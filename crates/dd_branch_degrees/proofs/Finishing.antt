@@ -9,7 +9,7 @@ use Rattle.std.specs.Int.Bits.{bit_and}
 use Rattle.dd_model.specs.Symbol.{Symbol}
 use Rattle.dd_model.specs.Wanted.{IsCrystallographic, IsMember}
 use Rattle.dd_model.proofs.WantedDegrees.{by_value}
-use Rattle.dd_opening_jobs.specs.Under.{Appends, AreUnder, AreUnderBefore, next_number}
+use Rattle.dd_front_jobs.specs.Under.{Appends, AreUnder, AreUnderBefore, next_number}
 use Rattle.dd_model.proofs.LowestBits.{dropped_other, lowest_bit}
 use Rattle.dd_branch_tables.proofs.Prefixes.{appends_all, appends_first, appends_next, extended, shortened as prefix_shortened}
 use Rattle.dd_branch_degrees.specs.Budget.{no_place}

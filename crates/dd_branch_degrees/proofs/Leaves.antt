@@ -7,7 +7,7 @@ use Rattle.dd_model.specs.Symbol.{Symbol, IsTable}
 use Rattle.std.specs.List.{Contains}
 use Rattle.dd_model.specs.Lists.{Begins}
 use Rattle.dd_model.proofs.Lists.{Contains-one}
-use Rattle.dd_opening_jobs.specs.Under.{Appends, AreUnder}
+use Rattle.dd_front_jobs.specs.Under.{Appends, AreUnder}
 use Rattle.dd_model.specs.Code.{code, all_images, Least}
 use Rattle.dd_model.specs.Minimal.{Minimal}
 use Rattle.dd_model.specs.Small.{IsSmallSymbol}

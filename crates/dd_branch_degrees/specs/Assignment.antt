@@ -8,7 +8,7 @@ use Rattle.dd_model.specs.Involutions.{HaveSameInvolutions}
 use Rattle.dd_model.specs.Wanted.{AtMost, IsMember}
 use Rattle.dd_canon.specs.Ties.{AreTies}
 use Rattle.dd_branch_tables.specs.Table.{IsBareTable}
-use Rattle.dd_opening_jobs.specs.Under.{IsUnder}
+use Rattle.dd_front_jobs.specs.Under.{IsUnder}
 use Rattle.dd_branch_degrees.specs.Budget.{no_place, spent}
 use Rattle.dd_branch_degrees.specs.Choice.{IsChoice}
 use Rattle.dd_branch_degrees.specs.Automorphism.{AreAutomorphisms}

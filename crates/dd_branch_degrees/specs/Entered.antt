@@ -1,7 +1,7 @@
 -- How a search for the degrees of a table goes on.
 use Rattle.std.specs.Prelude.{◌≡◌, ◌↔◌, ℕ, ◌+◌, ◌*◌, ◌/◌, ◌<◌, ◌≤◌, [], ◌∷◌, ◌++◌, slice_index}
 use Rattle.std.specs.Int.{bit_at}
-use Rattle.dd_opening_jobs.specs.Under.{next_number}
+use Rattle.dd_front_jobs.specs.Under.{next_number}
 use Rattle.dd_model.specs.Symbol.{Symbol}
 use Rattle.dd_branch_degrees.specs.Assignment.{IsMemberUnder, next_place, prefix_of, shortened, spent_by, told}
 use Rattle.dd_branch_degrees.specs.Budget.{twelfths}

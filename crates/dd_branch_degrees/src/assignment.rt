@@ -3,12 +3,12 @@ ghost use Rattle.std.specs.Bool.{OnTrue, OnFalse};
 ghost use Rattle.dd_model.specs.Symbol.{Symbol as Tiling};
 ghost use Rattle.dd_model.specs.Small.{IsSmallSymbol};
 ghost use Rattle.dd_symbol.specs.Images.{with_degrees};
-ghost use Rattle.dd_symbol_list.specs.Lists.{with_told};
+ghost use Rattle.dd_member_lists.specs.Lists.{with_told};
 ghost use Rattle.dd_canon.specs.Ties.{AreTies, IsLeastFrom};
 ghost use Rattle.dd_model.specs.Minimal.{Minimal};
 ghost use Rattle.dd_model.specs.Wanted.{IsMember};
 ghost use Rattle.dd_branch_tables.specs.Table.{IsBareTable};
-ghost use Rattle.dd_opening_jobs.specs.Under.{next_number, AreUnder, Appends};
+ghost use Rattle.dd_front_jobs.specs.Under.{next_number, AreUnder, Appends};
 ghost use Rattle.dd_branch_tables.specs.Growth.{HasGrown};
 ghost use Rattle.dd_branch_degrees.specs.Choice.{IsChoice};
 ghost use Rattle.dd_branch_degrees.specs.Assignment.{HasLast, HasLimits, IsAssignment, IsAtRoot, IsMemberUnder, next_place, prefix_of, spent_by, told};
@@ -21,9 +21,9 @@ use crate::places::DegreeSlot;
 use crate::rests::Rests;
 use crate::ties::Ties;
 use arrayvec::ArrayVec;
+use dd_member_lists::SymbolList;
 use dd_model::{Memory, Request};
 use dd_symbol::Connected;
-use dd_symbol_list::SymbolList;
 use std::alloc::Global;
 
 /// A search for the degrees of a table, of which those of the first places are set. A degree is set

@@ -1,7 +1,7 @@
 ghost use Rattle.std.specs.Prelude.{IfOk, OnOk};
 ghost use Rattle.dd_canon.specs.Ties.{AreTies};
 ghost use Rattle.dd_branch_tables.specs.Table.{AreOfTable, IsBareTable};
-ghost use Rattle.dd_opening_jobs.specs.Under.{Appends};
+ghost use Rattle.dd_front_jobs.specs.Under.{Appends};
 ghost use Rattle.dd_branch_tables.specs.Growth.{HasGrown};
 ghost use Rattle.dd_model.specs.Involutions.{HaveSameInvolutions};
 ghost use Rattle.dd_branch_degrees.specs.Members.{AreMembersWith};
@@ -14,9 +14,9 @@ use crate::table::Table;
 use crate::ties::Ties;
 use arrayvec::ArrayVec;
 use dd_canon::tied_starts;
+use dd_member_lists::SymbolList;
 use dd_model::{Memory, Request};
 use dd_symbol::Involutions;
-use dd_symbol_list::SymbolList;
 use std::alloc::Global;
 
 /// Returns the table with these involutions, which are known to be those of a table, and what it

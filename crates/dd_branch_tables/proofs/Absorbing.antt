@@ -6,7 +6,7 @@ use Rattle.dd_model.specs.Lists.{Begins}
 use Rattle.dd_model.specs.Code.{code}
 use Rattle.dd_branch_tables.specs.Rows.{partial_of, IsReady, HasNumberAt}
 use Rattle.dd_branch_tables.specs.Commuting.{IsCommuting}
-use Rattle.dd_opening_jobs.specs.Under.{IsUnder, Follows}
+use Rattle.dd_front_jobs.specs.Under.{IsUnder, Follows}
 use Rattle.dd_branch_tables.specs.Stem.{Any, IsStem, HasAbsorbed, prefix_of, size_of}
 use Rattle.dd_branch_tables.specs.declared.stem.Stem.{Stem}
 use Rattle.dd_branch_tables.proofs.Prefixes.{extended, shortened}

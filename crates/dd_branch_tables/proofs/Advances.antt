@@ -5,7 +5,7 @@ use Rattle.dd_model.specs.Code.{IsBelow}
 use Rattle.dd_model.specs.declared.requests.Request.{Request}
 use Rattle.dd_branch_tables.specs.Chambers.{bit_of, HasNone, IsFirst}
 use Rattle.dd_branch_tables.specs.Search.{GoesOn}
-use Rattle.dd_opening_jobs.specs.Under.{IsUnder, HasNothingUnder}
+use Rattle.dd_front_jobs.specs.Under.{IsUnder, HasNothingUnder}
 use Rattle.dd_branch_tables.specs.Levels.{IsStep, IsBeyond, IsAt, IsToTry, IsLeft, IsLeftAt, first_at, first_of, weight}
 use Rattle.dd_branch_tables.specs.declared.chamber_set.ChamberSet.{ChamberSet}
 use Rattle.dd_branch_tables.specs.declared.level.Level.{Level}

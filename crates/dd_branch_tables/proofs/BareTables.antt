@@ -25,7 +25,7 @@ use Rattle.dd_model.proofs.Isomorphisms.{inverse_isomorphism}
 use Rattle.dd_model.proofs.Carried.{branching-along}
 use Rattle.dd_model.proofs.CellWalks.{has_period}
 use Rattle.dd_model.proofs.LeastForms.{below_back, not_above, copy_is_symbol}
-use Rattle.dd_opening_jobs.specs.Orderly.{IsOrderly}
+use Rattle.dd_front_jobs.specs.Orderly.{IsOrderly}
 use Rattle.dd_branch_tables.specs.Table.{AreOfTable, IsBareTable, IsUnbranched}
 use Rattle.dd_model.specs.Involutions.{HaveSameInvolutions}
 use Rattle.dd_branch_tables.specs.Walk.{IsListed, HasTable}

@@ -1,11 +1,11 @@
 -- Numbers with which nothing is under the prefix of a stem.
 use Rattle.std.proofs.Common.{◌≡◌, ◌≢◌, ℕ, ◌+◌, ◌*◌, ◌/◌, ◌%◌, ◌<◌, ◌≤◌, ◌⊎◌, [], ◌∷◌, ◌++◌, length, subst, sym, ◌∙◌, ⊎_elim, arith}
 use Rattle.dd_model.specs.Symbol.{op}
-use Rattle.dd_opening_jobs.specs.Places.{index_at}
-use Rattle.dd_opening_jobs.specs.FirstVisit.{greatest}
+use Rattle.dd_front_jobs.specs.Places.{index_at}
+use Rattle.dd_front_jobs.specs.FirstVisit.{greatest}
 use Rattle.dd_branch_tables.specs.Rows.{partial_of}
 use Rattle.dd_branch_tables.specs.Stem.{Any, prefix_of, size_of, IsStem}
-use Rattle.dd_opening_jobs.specs.Under.{HasNothingUnder}
+use Rattle.dd_front_jobs.specs.Under.{HasNothingUnder}
 use Rattle.dd_branch_tables.specs.declared.stem.Stem.{Stem}
 use Rattle.dd_branch_tables.proofs.Prefixes.{shortened}
 use Rattle.dd_branch_tables.proofs.RowsLemmas.{leads_back}

@@ -10,17 +10,17 @@ use Rattle.dd_model.specs.Lists.{Begins}
 use Rattle.dd_model.specs.Code.{code}
 use Rattle.dd_model.specs.declared.jobs.Job.{Job}
 use Rattle.dd_model.specs.declared.requests.Request.{Request}
-use Rattle.dd_opening_jobs.specs.FirstVisit.{IsFirstVisitPrefix, CanFollow}
+use Rattle.dd_front_jobs.specs.FirstVisit.{IsFirstVisitPrefix, CanFollow}
 use Rattle.dd_model.specs.Jobs.{IsJobBelow, AreAscendingJobs, extended}
 use Rattle.dd_model.specs.Jobs.{IsMemberUnder, AreExtensions, AreChildren}
 use Rattle.dd_model.proofs.Lists.{Contains-one}
 use Rattle.dd_model.proofs.Ascending.{begins_from, begins_less}
-use Rattle.dd_opening_jobs.proofs.Growth.{begins_take}
+use Rattle.dd_front_jobs.proofs.Growth.{begins_take}
 use Rattle.dd_branch_tables.proofs.Follows.{member_orderly}
-use Rattle.dd_opening_jobs.proofs.FirstVisits.{first_less, old_at}
-use Rattle.dd_opening_jobs.proofs.CodeFronts.{front_first_visit}
-use Rattle.dd_opening_jobs.proofs.JobLists.{below_by_number, jobs_one_after_another}
-use Rattle.dd_opening_jobs.specs.Under.{HasNothingUnder}
+use Rattle.dd_front_jobs.proofs.FirstVisits.{first_less, old_at}
+use Rattle.dd_front_jobs.proofs.CodeFronts.{front_first_visit}
+use Rattle.dd_front_jobs.proofs.JobLists.{below_by_number, jobs_one_after_another}
+use Rattle.dd_front_jobs.specs.Under.{HasNothingUnder}
 use Rattle.dd_branch_tables.specs.Stem.{Any}
 
 -- Nothing is under a prefix that is not in the order of first visits.

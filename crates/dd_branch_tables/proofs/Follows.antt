@@ -6,12 +6,12 @@ use Rattle.dd_model.specs.declared.requests.Request.{Request}
 use Rattle.dd_model.specs.Symbol.{Symbol, op}
 use Rattle.dd_model.specs.Wanted.{IsMember}
 use Rattle.dd_model.proofs.LeastForms.{least_as_table}
-use Rattle.dd_opening_jobs.specs.Places.{index_at}
-use Rattle.dd_opening_jobs.specs.Orderly.{IsOrderly}
-use Rattle.dd_opening_jobs.specs.Under.{IsUnder, HasNothingUnder, Follows}
+use Rattle.dd_front_jobs.specs.Places.{index_at}
+use Rattle.dd_front_jobs.specs.Orderly.{IsOrderly}
+use Rattle.dd_front_jobs.specs.Under.{IsUnder, HasNothingUnder, Follows}
 use Rattle.dd_branch_tables.specs.Rows.{partial_of, Learns, Excludes, Commutes}
 use Rattle.dd_branch_tables.specs.declared.partial_table.PartialTable.{PartialTable}
-use Rattle.dd_opening_jobs.proofs.Places.{code_at}
+use Rattle.dd_front_jobs.proofs.Places.{code_at}
 use Rattle.dd_branch_tables.proofs.Prefixes.{shortened}
 
 -- a member of a catalogue is orderly

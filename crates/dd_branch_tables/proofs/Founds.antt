@@ -8,7 +8,7 @@ use Rattle.dd_model.specs.Code.{IsBelow}
 use Rattle.dd_model.specs.Wanted.{IsAscending}
 use Rattle.dd_model.specs.declared.requests.Request.{Request}
 use Rattle.dd_model.proofs.Ascending.{ascending-append}
-use Rattle.dd_opening_jobs.specs.Under.{IsUnder, AreUnder, Appends}
+use Rattle.dd_front_jobs.specs.Under.{IsUnder, AreUnder, Appends}
 use Rattle.dd_branch_tables.specs.Levels.{IsAt, IsLeft, IsLeftAt, first_at}
 use Rattle.dd_branch_tables.specs.declared.level.Level.{Level}
 

@@ -2,7 +2,7 @@
 use Rattle.std.proofs.Common.{◌≡◌, List, [], ◌++◌, sym, ap, ◌∙◌}
 use Rattle.std.proofs.lemmas.List.{append_assoc, append-nil}
 use Rattle.dd_model.specs.Symbol.{Symbol}
-use Rattle.dd_opening_jobs.specs.Under.{Appends}
+use Rattle.dd_front_jobs.specs.Under.{Appends}
 use Rattle.dd_branch_tables.specs.Growth.{HasGrown}
 
 pub grown_same : (a b : List Symbol) → b ≡ a → HasGrown a b

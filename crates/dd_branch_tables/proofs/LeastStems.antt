@@ -7,10 +7,10 @@ use Rattle.dd_model.specs.Symbol.{Symbol}
 use Rattle.dd_model.specs.FirstVisit.{Grows}
 use Rattle.dd_model.proofs.LeastForms.{least_as_table, not_above, copy_is_symbol}
 use Rattle.dd_canon.specs.Ties.{IsLeastFrom}
-use Rattle.dd_opening_jobs.specs.FirstVisit.{AreMet, greatest}
+use Rattle.dd_front_jobs.specs.FirstVisit.{AreMet, greatest}
 use Rattle.dd_branch_tables.specs.Open.{IsAgreeing, IsShut, HasUnknown, IsOpen}
 use Rattle.dd_branch_tables.specs.Passed.{IsPassed}
-use Rattle.dd_opening_jobs.specs.Places.{place}
+use Rattle.dd_front_jobs.specs.Places.{place}
 use Rattle.dd_branch_tables.specs.Rows.{partial_of}
 use Rattle.dd_branch_tables.specs.Stem.{IsStem, prefix_of, size_of}
 use Rattle.dd_branch_tables.specs.Table.{IsTableOf, HasLeastTable}

@@ -6,7 +6,7 @@ use Rattle.std.specs.Int.{bit_at}
 use Rattle.dd_model.specs.Symbol.{Symbol}
 use Rattle.dd_model.specs.Code.{IsBelow}
 use Rattle.dd_model.specs.declared.requests.Request.{Request}
-use Rattle.dd_opening_jobs.specs.Under.{IsUnder, HasNothingUnder, next_number}
+use Rattle.dd_front_jobs.specs.Under.{IsUnder, HasNothingUnder, next_number}
 use Rattle.dd_branch_tables.specs.Chambers.{bit_of, HasNone, IsFirst}
 use Rattle.dd_branch_tables.specs.Levels.{IsBeyond, IsToTry, IsLeft, IsLeftAt}
 use Rattle.dd_branch_tables.specs.declared.chamber_set.ChamberSet.{ChamberSet}

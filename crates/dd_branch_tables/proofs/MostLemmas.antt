@@ -2,10 +2,10 @@
 use Rattle.std.proofs.Common.{◌≡◌, ℕ, ◌+◌, ◌<◌, ◌≤◌, ◌↔◌, length, max, List, get_or, set, take, sym, ap, ◌∙◌, ⊎_elim, arith}
 use Rattle.std.proofs.lemmas.Bool.{cases_lt}
 use Rattle.std.proofs.lemmas.List.{get_or-take, take-take, length-take-le, get_or-set_same, get_or-set_other, length-set, take-set-le, take_more_set}
-use Rattle.dd_opening_jobs.specs.FirstVisit.{greatest}
+use Rattle.dd_front_jobs.specs.FirstVisit.{greatest}
 use Rattle.dd_branch_tables.specs.Mosts.{AreMosts}
 use Rattle.dd_model.specs.FirstVisit.{Grows}
-use Rattle.dd_opening_jobs.proofs.Growth.{greatest_push, grows_at, grows_from, one_le_greatest}
+use Rattle.dd_front_jobs.proofs.Growth.{greatest_push, grows_at, grows_from, one_le_greatest}
 
 pub mosts_more : (count : ℕ) (numbers mosts : List ℕ) (x most : ℕ) → AreMosts count numbers mosts → count < 108 → most ≡ max (greatest (take count numbers)) x
     → AreMosts (count + 1) (set numbers count x) (set mosts (count + 1) most)

@@ -5,7 +5,7 @@ use Rattle.std.proofs.lemmas.List.{append_assoc}
 use Rattle.std.proofs.lemmas.List.Elements.{Contains-append_right, Contains-append_left, Contains-append_cases}
 use Rattle.dd_model.specs.Symbol.{Symbol}
 use Rattle.dd_model.specs.Code.{code, IsBelow}
-use Rattle.dd_opening_jobs.specs.Under.{IsUnder, HasNothingUnder, AreUnder, AreUnderBefore, next_number, Appends, HasNoNumberFrom, SkipsTo}
+use Rattle.dd_front_jobs.specs.Under.{IsUnder, HasNothingUnder, AreUnder, AreUnderBefore, next_number, Appends, HasNoNumberFrom, SkipsTo}
 use Rattle.dd_model.proofs.Ascending.{ascending-append, below_at, agree_from, begins_more, begins_less}
 use Rattle.dd_model.proofs.Codes.{length-code}
 

@@ -5,19 +5,19 @@ use Rattle.std.proofs.lemmas.List.{get_or_append_left, get_or_push, length_push,
 use Rattle.dd_model.specs.declared.index.Index.{Index}
 use Rattle.dd_model.specs.declared.index.Index.TheVariants.{Zero}
 use Rattle.dd_model.specs.Symbol.{Symbol, op}
-use Rattle.dd_opening_jobs.specs.Places.{index_at}
-use Rattle.dd_opening_jobs.specs.FirstVisit.{greatest}
+use Rattle.dd_front_jobs.specs.Places.{index_at}
+use Rattle.dd_front_jobs.specs.FirstVisit.{greatest}
 use Rattle.dd_branch_tables.specs.Rows.{partial_of, depth_of, IsReady, HasNumberAt, Learns}
 use Rattle.dd_branch_tables.specs.Commuting.{IsCommuting}
-use Rattle.dd_opening_jobs.specs.Under.{IsUnder, HasNoNumberFrom, Follows, next_number}
+use Rattle.dd_front_jobs.specs.Under.{IsUnder, HasNoNumberFrom, Follows, next_number}
 use Rattle.dd_branch_tables.specs.Stem.{Any, prefix_of, size_of, shortened, IsStem}
 use Rattle.dd_branch_tables.specs.declared.stem.Stem.{Stem}
-use Rattle.dd_opening_jobs.proofs.Places.{code_at, chamber_at}
+use Rattle.dd_front_jobs.proofs.Places.{code_at, chamber_at}
 use Rattle.dd_branch_tables.proofs.Filling.{still_known}
 use Rattle.dd_branch_tables.proofs.Follows.{Puts, follows_put, follows_none}
 use Rattle.dd_model.specs.Code.{code}
-use Rattle.dd_opening_jobs.proofs.CodeFronts.{leads_out}
-use Rattle.dd_opening_jobs.proofs.Growth.{next_small, begins_take, one_le_greatest}
+use Rattle.dd_front_jobs.proofs.CodeFronts.{leads_out}
+use Rattle.dd_front_jobs.proofs.Growth.{next_small, begins_take, one_le_greatest}
 
 -- what is looked for is orderly
 pub any_under : (W : Symbol → Type 0) (n : ℕ) (prefix : List ℕ) (s : Symbol) → IsUnder W n prefix s → IsUnder Any n prefix s

@@ -7,14 +7,14 @@ use Rattle.dd_model.specs.Symbol.{Symbol, IsTable, op, operation}
 use Rattle.dd_model.specs.Lists.{Begins}
 use Rattle.dd_model.specs.Code.{code, all_images}
 use Rattle.dd_model.proofs.Codes.{length-flat_images, length-code}
-use Rattle.dd_opening_jobs.specs.Places.{index_at, place}
+use Rattle.dd_front_jobs.specs.Places.{index_at, place}
 use Rattle.dd_symbol.specs.Images.{of_rows}
 use Rattle.dd_symbol.proofs.TableLemmas.{item-first, item-column, lengths}
 use Rattle.dd_branch_tables.specs.Table.{images_of, told}
 use Rattle.dd_model.specs.Involutions.{HaveSameInvolutions}
 use Rattle.dd_model.proofs.Ascending.{begins_at, begins_from}
-use Rattle.dd_opening_jobs.proofs.Places.{code_at, chamber_of_place}
-use Rattle.dd_opening_jobs.proofs.CodeFronts.{image_at}
+use Rattle.dd_front_jobs.proofs.Places.{code_at, chamber_of_place}
+use Rattle.dd_front_jobs.proofs.CodeFronts.{image_at}
 use Rattle.dd_model.proofs.SameInvolutions.{op-same}
 
 -- the first 3n numbers of two lists are the same

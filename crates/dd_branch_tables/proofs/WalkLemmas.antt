@@ -12,11 +12,11 @@ use Rattle.dd_model.specs.declared.jobs.Job.{Job}
 use Rattle.dd_model.specs.declared.requests.Request.{Request}
 use Rattle.dd_model.proofs.Codes.{length-flat_images}
 use Rattle.dd_model.proofs.LeastForms.{not_above}
-use Rattle.dd_opening_jobs.specs.Orderly.{IsOrderly}
+use Rattle.dd_front_jobs.specs.Orderly.{IsOrderly}
 use Rattle.dd_branch_tables.specs.Stem.{Any}
 use Rattle.dd_branch_tables.specs.Table.{IsTableOf}
 use Rattle.dd_model.specs.Involutions.{HaveSameInvolutions}
-use Rattle.dd_opening_jobs.specs.Under.{IsUnder, HasNothingUnder}
+use Rattle.dd_front_jobs.specs.Under.{IsUnder, HasNothingUnder}
 use Rattle.dd_branch_tables.specs.Walk.{IsSought, IsListed, IsNext, HasNoneLeft}
 use Rattle.dd_model.proofs.Ascending.{begins_at}
 use Rattle.dd_branch_tables.proofs.TableFronts.{front_same}

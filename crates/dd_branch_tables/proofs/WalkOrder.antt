@@ -24,7 +24,7 @@ use Rattle.dd_model.proofs.Orders.{nat_cmp-same, list_not_below_both, list_not_b
 use Rattle.dd_model.specs.Involutions.{HaveSameInvolutions}
 use Rattle.dd_branch_tables.specs.Walk.{IsListed, IsPast, IsNext, HasNoneLeft, AreListed, Walking}
 use Rattle.dd_model.proofs.Ascending.{ascending-append}
-use Rattle.dd_opening_jobs.proofs.Places.{chamber_at}
+use Rattle.dd_front_jobs.proofs.Places.{chamber_at}
 use Rattle.dd_branch_tables.proofs.TableFronts.{front_same}
 use Rattle.dd_branch_tables.proofs.Unbranched.{unbranched_unique}
 use Rattle.dd_branch_tables.proofs.WalkLemmas.{front_at, begins_appended}

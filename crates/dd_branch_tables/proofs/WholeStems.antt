@@ -13,19 +13,19 @@ use Rattle.dd_model.specs.FirstVisit.{Grows}
 use Rattle.dd_model.specs.Partial.{Completes}
 use Rattle.dd_model.proofs.Ascending.{begins_at}
 use Rattle.dd_model.proofs.LeastForms.{least_first_visit}
-use Rattle.dd_opening_jobs.specs.FirstVisit.{AreMet, greatest}
-use Rattle.dd_opening_jobs.specs.Places.{place}
+use Rattle.dd_front_jobs.specs.FirstVisit.{AreMet, greatest}
+use Rattle.dd_front_jobs.specs.Places.{place}
 use Rattle.dd_branch_tables.specs.Rows.{partial_of, IsReady}
-use Rattle.dd_opening_jobs.specs.Under.{HasNothingUnder}
+use Rattle.dd_front_jobs.specs.Under.{HasNothingUnder}
 use Rattle.dd_branch_tables.specs.Passed.{IsPassed}
 use Rattle.dd_branch_tables.specs.Stem.{Any, IsStem, prefix_of, size_of}
 use Rattle.dd_branch_tables.specs.Ties.{AreTiesOf}
 use Rattle.dd_branch_tables.specs.declared.partial_table.PartialTable.{PartialTable}
 use Rattle.dd_branch_tables.specs.declared.stem.Stem.{Stem}
-use Rattle.dd_opening_jobs.proofs.CodeFronts.{image_at, leads_out}
+use Rattle.dd_front_jobs.proofs.CodeFronts.{image_at, leads_out}
 use Rattle.dd_branch_tables.proofs.Commuting.{op_small}
 use Rattle.dd_branch_tables.proofs.Filling.{from_place}
-use Rattle.dd_opening_jobs.proofs.Growth.{begins_take}
+use Rattle.dd_front_jobs.proofs.Growth.{begins_take}
 use Rattle.dd_branch_tables.proofs.RowsLemmas.{leads_back, op_past}
 use Rattle.dd_branch_tables.proofs.TableFronts.{place_inside}
 use Rattle.dd_branch_tables.proofs.WalkLemmas.{front_is}

@@ -4,7 +4,7 @@ use Rattle.std.specs.List.{AllByRecursion}
 use Rattle.dd_model.specs.Symbol.{Symbol, IsTable, IsChamber, item, op}
 use Rattle.dd_model.specs.Isomorphic.{Isomorphic}
 use Rattle.dd_model.specs.Code.{code}
-use Rattle.dd_opening_jobs.specs.Places.{index_at}
+use Rattle.dd_front_jobs.specs.Places.{index_at}
 use Rattle.dd_branch_tables.specs.Distinct.{AreDistinct}
 
 -- Under the numbers that a list gives to its chambers, in order, the number at place u is e.

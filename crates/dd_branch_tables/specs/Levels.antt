@@ -4,7 +4,7 @@ use Rattle.dd_model.specs.Symbol.{Symbol}
 use Rattle.dd_model.specs.declared.requests.Request.{Request}
 use Rattle.dd_branch_tables.specs.Chambers.{bit_of}
 use Rattle.dd_branch_tables.specs.Search.{GoesOn}
-use Rattle.dd_opening_jobs.specs.Under.{IsUnder, next_number}
+use Rattle.dd_front_jobs.specs.Under.{IsUnder, next_number}
 use Rattle.dd_branch_tables.specs.declared.chamber_set.ChamberSet.{ChamberSet}
 use Rattle.dd_branch_tables.specs.declared.level.Level.{Level}
 

@@ -1,6 +1,6 @@
 -- How large the first numbers of a list come.
 use Rattle.std.specs.Prelude.{◌≡◌, ℕ, ◌≤◌, List, length, take, slice_index}
-use Rattle.dd_opening_jobs.specs.FirstVisit.{greatest}
+use Rattle.dd_front_jobs.specs.FirstVisit.{greatest}
 
 -- For each length up to so much, the greatest of 1 and so many numbers.
 pub record AreMosts (count : ℕ) (numbers mosts : List ℕ) : Type 0 where

@@ -9,7 +9,7 @@ use Rattle.dd_model.specs.Symbol.{Symbol, IsChamber, HasDegree, op}
 use Rattle.dd_model.specs.Code.{count_from}
 use Rattle.dd_model.specs.Partial.{Completes}
 use Rattle.dd_canon.specs.Traversal.{unnumbered}
-use Rattle.dd_opening_jobs.specs.Places.{index_at, place, back_of, bits_of}
+use Rattle.dd_front_jobs.specs.Places.{index_at, place, back_of, bits_of}
 use Rattle.dd_branch_tables.specs.declared.partial_table.PartialTable.{PartialTable}
 
 -- the images of 36 chambers under an involution, in a list of images in the order of codes

@@ -2,7 +2,7 @@
 use Rattle.std.specs.Prelude.{◌≡◌, ◌↔◌, ℕ, ◌<◌, ◌≤◌, List, [], ◌∷◌, ◌++◌, length}
 use Rattle.dd_model.specs.Symbol.{Symbol}
 use Rattle.dd_model.specs.declared.requests.Request.{Request}
-use Rattle.dd_opening_jobs.specs.Under.{IsUnder}
+use Rattle.dd_front_jobs.specs.Under.{IsUnder}
 
 -- a longer prefix under which the same is
 pub record HasSameUnder (W : Symbol → Type 0) (n : ℕ) (prefix longer : List ℕ) : Type 0 where

@@ -5,7 +5,7 @@ use Rattle.dd_model.specs.Lists.{Begins}
 use Rattle.dd_model.specs.Code.{code}
 use Rattle.dd_branch_tables.specs.Rows.{partial_of, unwound, IsReady, HasNumberAt}
 use Rattle.dd_branch_tables.specs.Commuting.{IsCommuting}
-use Rattle.dd_opening_jobs.specs.Under.{IsUnder, Follows}
+use Rattle.dd_front_jobs.specs.Under.{IsUnder, Follows}
 use Rattle.dd_branch_tables.specs.declared.stem.Stem.{Stem}
 
 -- any orderly table

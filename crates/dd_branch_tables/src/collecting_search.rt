@@ -1,11 +1,11 @@
 ghost use Rattle.std.specs.Prelude.{◌≡◌, ◌*◌, ◌≤◌, OnOk, length};
-ghost use Rattle.dd_opening_jobs.specs.Under.{AreUnder, Appends};
+ghost use Rattle.dd_front_jobs.specs.Under.{AreUnder, Appends};
 ghost use Rattle.dd_branch_tables.specs.Growth.{HasGrown};
 
 use crate::prefix_search::PrefixSearch;
 use crate::search_steps::{advance, begin, go_back};
+use dd_member_lists::SymbolList;
 use dd_model::Memory;
-use dd_symbol_list::SymbolList;
 
 /// A search that collects what is under whole prefixes.
 pub trait CollectingSearch: PrefixSearch {

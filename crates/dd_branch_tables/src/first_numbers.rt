@@ -1,6 +1,6 @@
 ghost use Rattle.std.specs.Prelude.{◌≡◌, ◌↔◌, ◌<◌, ◌≤◌, [], ◌∷◌, ◌++◌, IsTrue, length, take};
 ghost use Rattle.dd_model.specs.FirstVisit.{Grows};
-ghost use Rattle.dd_opening_jobs.specs.FirstVisit.{greatest};
+ghost use Rattle.dd_front_jobs.specs.FirstVisit.{greatest};
 
 use std::marker::Model;
 

@@ -1,7 +1,7 @@
 ghost use Rattle.std.specs.Prelude.{◌≡◌, ◌≢◌, ℕ, ◌+◌, ◌-◌, ◌*◌, ◌/◌, ◌%◌, ◌≤◌, ◌<◌, length, drop, slice_index};
 ghost use Rattle.std.specs.Bool.{OnTrue, OnFalse};
 ghost use Rattle.dd_model.specs.Symbol.{op};
-ghost use Rattle.dd_opening_jobs.specs.Places.{index_at, place, back_of, bits_of};
+ghost use Rattle.dd_front_jobs.specs.Places.{index_at, place, back_of, bits_of};
 
 use crate::chamber_set::ChamberSet;
 use arrayvec::ArrayVec;

@@ -2,7 +2,7 @@ ghost use Rattle.std.specs.Prelude.{◌≡◌, ℕ, ◌+◌, [], ◌∷◌, ◌+
 ghost use Rattle.std.specs.Bool.{OnTrue, OnFalse};
 ghost use Rattle.dd_model.specs.Symbol.{Symbol as Tiling};
 ghost use Rattle.dd_model.specs.declared.requests.Request.{Request as Asked};
-ghost use Rattle.dd_opening_jobs.specs.Under.{HasNothingUnder};
+ghost use Rattle.dd_front_jobs.specs.Under.{HasNothingUnder};
 ghost use Rattle.dd_branch_tables.specs.Chambers.{bit_of};
 ghost use Rattle.dd_branch_tables.specs.Search.{GoesOn};
 

@@ -2,7 +2,7 @@ ghost use Rattle.std.specs.Prelude.{◌≡◌, ◌⊎◌, ◌↔◌, ◌*◌, �
 ghost use Rattle.std.specs.Bool.{OnTrue, OnFalse};
 ghost use Rattle.dd_model.specs.Symbol.{Symbol as Tiling};
 ghost use Rattle.dd_model.specs.Code.{IsBelow};
-ghost use Rattle.dd_opening_jobs.specs.Under.{IsUnder};
+ghost use Rattle.dd_front_jobs.specs.Under.{IsUnder};
 ghost use Rattle.dd_branch_tables.specs.Levels.{IsAt, IsBeyond, IsLeft, IsLeftAt, first_at, first_of, weight};
 
 use crate::level::Level;

@@ -1,6 +1,6 @@
 ghost use Rattle.std.specs.Prelude.{IsTrue};
 ghost use Rattle.dd_branch_tables.specs.Stem.{Any, IsStem, prefix_of, size_of};
-ghost use Rattle.dd_opening_jobs.specs.Under.{HasNothingUnder};
+ghost use Rattle.dd_front_jobs.specs.Under.{HasNothingUnder};
 
 use crate::sleepers::{NOWHERE, Sleepers};
 use crate::stem::Stem;

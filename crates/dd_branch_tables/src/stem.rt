@@ -2,9 +2,9 @@ ghost use Rattle.std.specs.Prelude.{◌≡◌, ◌≢◌, ℕ, ◌+◌, [], ◌�
 ghost use Rattle.std.specs.Bool.{OnTrue, OnFalse};
 ghost use Rattle.dd_model.specs.FirstVisit.{Grows};
 ghost use Rattle.dd_model.specs.Symbol.{op};
-ghost use Rattle.dd_opening_jobs.specs.FirstVisit.{AreMet};
+ghost use Rattle.dd_front_jobs.specs.FirstVisit.{AreMet};
 ghost use Rattle.dd_branch_tables.specs.Rows.{partial_of, depth_of, IsReady};
-ghost use Rattle.dd_opening_jobs.specs.Under.{HasNothingUnder};
+ghost use Rattle.dd_front_jobs.specs.Under.{HasNothingUnder};
 
 use crate::chamber_set::ChamberSet;
 use crate::first_numbers::FirstNumbers;

@@ -10,9 +10,9 @@ use Rattle.dd_model.specs.Text.{AreLines}
 use Rattle.dd_model.specs.Wanted.{IsAscending}
 use Rattle.dd_model.specs.declared.jobs.Position.{Position}
 use Rattle.dd_model.specs.declared.jobs.Position.TheVariants.{End}
-use Rattle.dd_opening_jobs.specs.declared.portions.Portion.{Portion}
-use Rattle.dd_opening_jobs.specs.Portions.{IsPortionMember, ArePortionMembers, IsPortionText}
-use Rattle.dd_opening_jobs.proofs.PortionLaws.{portion_symbol, told_text, members_unique}
+use Rattle.dd_front_jobs.specs.declared.portions.Portion.{Portion}
+use Rattle.dd_front_jobs.specs.Portions.{IsPortionMember, ArePortionMembers, IsPortionText}
+use Rattle.dd_front_jobs.proofs.PortionLaws.{portion_symbol, told_text, members_unique}
 use Rattle.dd_model.proofs.Ascending.{ascending-append}
 use Rattle.dd_model.proofs.Lists.{cons_tail}
 use Rattle.dd_model.proofs.Pairs.{ascending_pairs, pairs_ascending}

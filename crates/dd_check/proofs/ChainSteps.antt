@@ -5,8 +5,8 @@ use Rattle.dd_model.specs.Lists.{Begins}
 use Rattle.dd_model.specs.Request.{IsValid}
 use Rattle.dd_model.specs.Text.{beginning}
 use Rattle.dd_model.specs.declared.jobs.Position.TheVariants.{End}
-use Rattle.dd_opening_jobs.specs.declared.portions.Portion.{Portion}
-use Rattle.dd_opening_jobs.specs.Portions.{IsPortionText}
+use Rattle.dd_front_jobs.specs.declared.portions.Portion.{Portion}
+use Rattle.dd_front_jobs.specs.Portions.{IsPortionText}
 use Rattle.dd_model.proofs.Ascending.{begins_append}
 use Rattle.dd_check.specs.declared.checkpoint.Checkpoint.{Checkpoint}
 use Rattle.dd_check.specs.Texts.{Text}

@@ -20,14 +20,14 @@ use Rattle.dd_model.proofs.Ascending.{all-append}
 use Rattle.dd_model.proofs.Codes.{length-code, length-flat_images}
 use Rattle.dd_model.proofs.Lists.{all_from_members, each_of}
 use Rattle.dd_model.proofs.AllowedLemmas.{in_small}
-use Rattle.dd_opening_jobs.specs.declared.shards.Shard.{Shard}
-use Rattle.dd_opening_jobs.specs.Opening.{IsOpeningJob}
-use Rattle.dd_opening_jobs.specs.Shards.{IsShardJob}
-use Rattle.dd_opening_jobs.specs.declared.portions.Portion.{Portion}
-use Rattle.dd_opening_jobs.proofs.PortionLaws.{shard_job, portion_job, portion_member}
-use Rattle.dd_opening_jobs.proofs.Growth.{begins_take}
-use Rattle.dd_opening_jobs.proofs.OpeningLaws.{covered}
-use Rattle.dd_opening_jobs.proofs.Places.{chamber_at}
+use Rattle.dd_front_jobs.specs.declared.shards.Shard.{Shard}
+use Rattle.dd_front_jobs.specs.Opening.{IsOpeningJob}
+use Rattle.dd_front_jobs.specs.Shards.{IsShardJob}
+use Rattle.dd_front_jobs.specs.declared.portions.Portion.{Portion}
+use Rattle.dd_front_jobs.proofs.PortionLaws.{shard_job, portion_job, portion_member}
+use Rattle.dd_front_jobs.proofs.Growth.{begins_take}
+use Rattle.dd_front_jobs.proofs.OpeningLaws.{covered}
+use Rattle.dd_front_jobs.proofs.Places.{chamber_at}
 use Rattle.dd_check.specs.Places.{opening_job, IsWholePlace, IsPlace}
 use Rattle.dd_check.specs.Ranges.{IsFromTo, IsJobInRange, IsInRange}
 use Rattle.dd_check.specs.ChainPuts.{IsStop}

@@ -3,7 +3,7 @@ use Rattle.std.proofs.Common.{◌≡◌, List, [], ◌∷◌, ◌++◌, Option, 
 use Rattle.std.specs.List.{AllByRecursion}
 use Rattle.dd_model.specs.Request.{IsValid}
 use Rattle.dd_model.specs.Text.{beginning}
-use Rattle.dd_opening_jobs.specs.declared.portions.Portion.{Portion}
+use Rattle.dd_front_jobs.specs.declared.portions.Portion.{Portion}
 use Rattle.dd_check.specs.Texts.{Text}
 use Rattle.dd_check.specs.Calls.{kind_of, Begin, Resume, Ending, Call}
 use Rattle.dd_check.specs.ChainStarts.{HoldsKind, first_start, next_start}

@@ -4,12 +4,12 @@ use Rattle.std.proofs.lemmas.Bool.{cases_eq}
 use Rattle.std.specs.List.{AllByRecursion}
 use Rattle.dd_model.specs.Request.{IsValid}
 use Rattle.dd_model.proofs.Options.{some_same}
-use Rattle.dd_opening_jobs.specs.declared.shards.Shard.{Shard}
-use Rattle.dd_opening_jobs.specs.declared.portions.Portion.{Portion}
+use Rattle.dd_front_jobs.specs.declared.shards.Shard.{Shard}
+use Rattle.dd_front_jobs.specs.declared.portions.Portion.{Portion}
 use Rattle.dd_check.specs.declared.checkpoint.Checkpoint.{Checkpoint}
 use Rattle.dd_check.specs.Accepted.{IsCheckpointText}
 use Rattle.dd_check.specs.ShardChecks.{IsAcceptedText}
-use Rattle.dd_opening_jobs.proofs.ShardLaws.{same_shard}
+use Rattle.dd_front_jobs.proofs.ShardLaws.{same_shard}
 use Rattle.dd_check.specs.Texts.{Text}
 use Rattle.dd_check.specs.declared.kinds.ResumeKind.{ResumeKind}
 use Rattle.dd_check.specs.Calls.{kind_of, Begin, Resume, Call}

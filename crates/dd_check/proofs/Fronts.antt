@@ -8,9 +8,9 @@ use Rattle.dd_model.specs.Lists.{Begins, IsWithout}
 use Rattle.dd_model.specs.Position.{IsBefore}
 use Rattle.dd_model.specs.Text.{AreLines, beginning}
 use Rattle.dd_model.specs.declared.jobs.Position.{Position}
-use Rattle.dd_opening_jobs.specs.declared.portions.Portion.{Portion}
-use Rattle.dd_opening_jobs.specs.Portions.{IsPortionMember, ArePortionMembers, IsPortionText}
-use Rattle.dd_opening_jobs.proofs.PortionLaws.{IsTold, portion_symbol, told_text, text_from, members_unique}
+use Rattle.dd_front_jobs.specs.declared.portions.Portion.{Portion}
+use Rattle.dd_front_jobs.specs.Portions.{IsPortionMember, ArePortionMembers, IsPortionText}
+use Rattle.dd_front_jobs.proofs.PortionLaws.{IsTold, portion_symbol, told_text, text_from, members_unique}
 use Rattle.dd_model.proofs.Ascending.{ascending-append}
 use Rattle.dd_model.proofs.Lists.{all_from_members}
 use Rattle.dd_model.proofs.Pairs.{ascending_pairs, pairs_ascending}

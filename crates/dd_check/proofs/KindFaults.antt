@@ -3,7 +3,7 @@ use Rattle.std.proofs.Common.{◌≡◌, ◌+◌, ◌<◌, ◌≤◌, [], ◌∷
 use Rattle.std.proofs.lemmas.Bool.{cases_lt}
 use Rattle.std.proofs.lemmas.List.{append-nil}
 use Rattle.dd_model.proofs.Lists.{cons_head, cons_tail}
-use Rattle.dd_opening_jobs.specs.declared.shards.Shard.{Shard}
+use Rattle.dd_front_jobs.specs.declared.shards.Shard.{Shard}
 use Rattle.dd_check.specs.declared.checkpoint.Checkpoint.{Checkpoint}
 use Rattle.dd_check.specs.declared.faults.CheckFault.TheVariants.{Long}
 use Rattle.dd_check.specs.declared.shard_faults.ShardFault.{ShardFault}

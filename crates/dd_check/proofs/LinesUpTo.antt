@@ -8,9 +8,9 @@ use Rattle.dd_model.specs.Code.{IsBelow}
 use Rattle.dd_model.specs.Text.{AreLines, beginning}
 use Rattle.dd_model.specs.declared.jobs.Position.{Position}
 use Rattle.dd_model.specs.declared.jobs.Position.TheVariants.{End}
-use Rattle.dd_opening_jobs.specs.declared.portions.Portion.{Portion}
-use Rattle.dd_opening_jobs.specs.Portions.{ArePortionMembers, IsPortionText}
-use Rattle.dd_opening_jobs.proofs.PortionLaws.{portion_symbol, text_from}
+use Rattle.dd_front_jobs.specs.declared.portions.Portion.{Portion}
+use Rattle.dd_front_jobs.specs.Portions.{ArePortionMembers, IsPortionText}
+use Rattle.dd_front_jobs.proofs.PortionLaws.{portion_symbol, text_from}
 use Rattle.dd_model.proofs.Ascending.{ascending-append}
 use Rattle.dd_model.proofs.Lists.{Contains-none, all_from_members}
 use Rattle.dd_model.proofs.Positions.{before_or_not, below_over}

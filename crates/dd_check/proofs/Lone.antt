@@ -7,8 +7,8 @@ use Rattle.dd_model.specs.declared.requests.Request.{Request}
 use Rattle.dd_model.proofs.Ascending.{begins_itself}
 use Rattle.dd_model.proofs.Texts.{text_unique}
 use Rattle.dd_check.specs.Texts.{Text}
-use Rattle.dd_opening_jobs.specs.declared.portions.Portion.{Portion}
-use Rattle.dd_opening_jobs.specs.Portions.{whole, IsPortionText}
+use Rattle.dd_front_jobs.specs.declared.portions.Portion.{Portion}
+use Rattle.dd_front_jobs.specs.Portions.{whole, IsPortionText}
 use Rattle.dd_check.specs.Calls.{Begin, Done, Paused, lone_call}
 use Rattle.dd_check.specs.ChainStarts.{first_start}
 use Rattle.dd_check.specs.Clauses.{MeetsClauses}

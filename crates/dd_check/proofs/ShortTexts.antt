@@ -19,7 +19,7 @@ use Rattle.dd_check.specs.Checks.{limits_of, IsCheckText, AreCountsInRange, Stan
 use Rattle.dd_model.specs.Request.{IsValid}
 use Rattle.dd_model.specs.declared.requests.Request.{Request}
 use Rattle.dd_model.specs.declared.jobs.Job.{Job}
-use Rattle.dd_opening_jobs.specs.Opening.{IsOpeningJob}
+use Rattle.dd_front_jobs.specs.Opening.{IsOpeningJob}
 use Rattle.dd_check.specs.Places.{IsWholePlace, IsPlace}
 use Rattle.dd_check.specs.Accepted.{IsCheckpointText}
 use Rattle.dd_check.proofs.JoinLemmas.{numbers_joined}

@@ -7,8 +7,8 @@ use Rattle.dd_model.specs.Wanted.{IsAscending}
 use Rattle.dd_model.specs.Position.{IsBefore}
 use Rattle.dd_model.specs.Text.{AreLines}
 use Rattle.dd_model.specs.declared.jobs.Position.{Position}
-use Rattle.dd_opening_jobs.specs.declared.portions.Portion.{Portion}
-use Rattle.dd_opening_jobs.specs.Portions.{IsPortionMember}
+use Rattle.dd_front_jobs.specs.declared.portions.Portion.{Portion}
+use Rattle.dd_front_jobs.specs.Portions.{IsPortionMember}
 use Rattle.dd_check.specs.Texts.{Text}
 
 -- a member that is not before one position and is before the other

@@ -1,7 +1,7 @@
 -- Chains of calls, each of which goes on from what the one before left, and the bytes that they make together.
 use Rattle.std.specs.Prelude.{◌≡◌, ◌⊎◌, List, [], ◌∷◌, ◌++◌, Option, None, Some, take}
 use Rattle.dd_model.specs.Request.{IsValid}
-use Rattle.dd_opening_jobs.specs.declared.portions.Portion.{Portion}
+use Rattle.dd_front_jobs.specs.declared.portions.Portion.{Portion}
 use Rattle.dd_check.specs.declared.checkpoint.Checkpoint.{Checkpoint}
 use Rattle.dd_check.specs.Texts.{Text}
 use Rattle.dd_check.specs.declared.kinds.ResumeKind.{ResumeKind}

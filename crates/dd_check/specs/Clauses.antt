@@ -4,8 +4,8 @@ use Rattle.dd_model.specs.Lists.{Begins}
 use Rattle.dd_model.specs.Position.{IsWhollyBefore}
 use Rattle.dd_model.specs.declared.jobs.Job.{Job}
 use Rattle.dd_model.specs.declared.jobs.Position.TheVariants.{End}
-use Rattle.dd_opening_jobs.specs.declared.portions.Portion.{Portion}
-use Rattle.dd_opening_jobs.specs.Portions.{IsPortionJob, IsPortionText}
+use Rattle.dd_front_jobs.specs.declared.portions.Portion.{Portion}
+use Rattle.dd_front_jobs.specs.Portions.{IsPortionJob, IsPortionText}
 use Rattle.dd_check.specs.Texts.{Text}
 use Rattle.dd_check.specs.Calls.{Task, Begin, Resume, Done, Paused, Call}
 use Rattle.dd_check.specs.ChainStarts.{Start, StartsAt}

@@ -4,7 +4,7 @@ use Rattle.dd_model.specs.declared.jobs.Job.{Job}
 use Rattle.dd_model.specs.declared.jobs.Position.{Position}
 use Rattle.dd_model.specs.declared.jobs.Position.TheVariants.{At, End}
 use Rattle.dd_model.specs.declared.requests.Request.{Request}
-use Rattle.dd_opening_jobs.specs.Opening.{IsOpeningJob}
+use Rattle.dd_front_jobs.specs.Opening.{IsOpeningJob}
 
 -- the end, or a job of the request's opening
 abbrev pub IsOldPlace : Request → Position → Type 0

@@ -3,8 +3,8 @@ use Rattle.std.specs.Prelude.{◌≡◌, [], ◌∷◌, ◌++◌, Option, None, 
 use Rattle.dd_model.specs.declared.jobs.Position.{Position}
 use Rattle.dd_model.specs.declared.jobs.Position.TheVariants.{At, End}
 use Rattle.dd_model.specs.declared.requests.Request.{Request}
-use Rattle.dd_opening_jobs.specs.declared.shards.Shard.{Shard}
-use Rattle.dd_opening_jobs.specs.Shards.{IsShardJob}
+use Rattle.dd_front_jobs.specs.declared.shards.Shard.{Shard}
+use Rattle.dd_front_jobs.specs.Shards.{IsShardJob}
 use Rattle.dd_check.specs.declared.checkpoint.Checkpoint.{Checkpoint}
 use Rattle.dd_check.specs.Texts.{Text, line_text}
 use Rattle.dd_check.specs.Checks.{IsCheckText}

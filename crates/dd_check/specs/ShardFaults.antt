@@ -1,6 +1,6 @@
 -- Why a text is no text of a shard.
 use Rattle.std.specs.Prelude.{◌≡◌, ◌++◌, ℕ, ◌+◌, List, codes}
-use Rattle.dd_opening_jobs.specs.declared.shards.Shard.{Shard}
+use Rattle.dd_front_jobs.specs.declared.shards.Shard.{Shard}
 use Rattle.dd_check.specs.declared.checkpoint.Checkpoint.{Checkpoint}
 use Rattle.dd_check.specs.declared.faults.CheckFault.{CheckFault}
 use Rattle.dd_check.specs.declared.kinds.ResumeKind.{ResumeKind}

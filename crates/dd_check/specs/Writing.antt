@@ -9,7 +9,7 @@ use Rattle.dd_check.specs.Rows.{set_row}
 use Rattle.dd_check.specs.Sets.{AreItems, IsSetOf, item_text, set_text}
 use Rattle.dd_check.specs.Checks.{IsCheckText}
 use Rattle.dd_check.specs.ShardChecks.{IsShardCheck, IsSavedText}
-use Rattle.dd_opening_jobs.specs.declared.shards.Shard.{Shard}
+use Rattle.dd_front_jobs.specs.declared.shards.Shard.{Shard}
 
 -- the item of the numbers from low to high
 abbrev pub run_of : ℕ → ℕ → Item

@@ -11,8 +11,8 @@ ghost use Rattle.dd_check.specs.ShardChecks.{shard_line};
 
 use crate::checkpoint::Checkpoint;
 use crate::runs::{begins_run, last_of_run};
+use dd_front_jobs::Shard;
 use dd_model::{Allowed, Job, Memory, Position, Request};
-use dd_opening_jobs::Shard;
 use std::alloc::AllocError;
 use std::fmt::Write;
 

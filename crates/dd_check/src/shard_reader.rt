@@ -1,8 +1,8 @@
 ghost use Rattle.std.specs.Prelude.{◌↔◌, ◌++◌, IfOk, IfErr, IsTrue, MatchOption};
 ghost use Rattle.std.specs.List.{Contains};
 ghost use Rattle.dd_model.specs.Request.{IsValid};
-ghost use Rattle.dd_opening_jobs.specs.declared.shards.Shard.{Shard as ShardNumbers};
-ghost use Rattle.dd_opening_jobs.specs.Shards.{IsShardJob};
+ghost use Rattle.dd_front_jobs.specs.declared.shards.Shard.{Shard as ShardNumbers};
+ghost use Rattle.dd_front_jobs.specs.Shards.{IsShardJob};
 ghost use Rattle.dd_check.specs.Texts.{Text};
 ghost use Rattle.dd_check.specs.Places.{opening_job};
 ghost use Rattle.dd_check.specs.ShardChecks.{IsShardPlace, IsShardCheckpoint};
@@ -12,8 +12,8 @@ use crate::checkpoint::Checkpoint;
 use crate::checkpoint_reader::read_checkpoint;
 use crate::faults::CheckFault;
 use crate::shard_faults::ShardFault;
+use dd_front_jobs::{Shard, shard_opening};
 use dd_model::{Job, Memory, Position, Request};
-use dd_opening_jobs::{Shard, shard_opening};
 use std::alloc::Global;
 
 /// The byte of the digit 0.

@@ -1,9 +1,9 @@
 ghost use Rattle.std.specs.Prelude.{◌⊎◌, ◌↔◌, IfOk, IsTrue};
-ghost use Rattle.dd_opening_jobs.specs.Opening.{IsOpeningJob};
+ghost use Rattle.dd_front_jobs.specs.Opening.{IsOpeningJob};
 ghost use Rattle.dd_check.specs.Places.{IsOldPlace, IsPlace, IsWholePlace};
 
+use dd_front_jobs::is_opening;
 use dd_model::{Job, Memory, Position, Prefix, Request};
-use dd_opening_jobs::is_opening;
 use std::alloc::Global;
 
 /// Returns whether a catalogue may stop at a position: at the end, at a job of the opening, or at a

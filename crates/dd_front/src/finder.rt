@@ -4,8 +4,8 @@ ghost use Rattle.dd_model.specs.Request.{IsValid};
 ghost use Rattle.dd_model.specs.Jobs.{IsJobOf, AreMembersUnder, AreChildren};
 ghost use Rattle.dd_model.specs.declared.requests.Request.{Request as Asked};
 
+use dd_member_lists::SymbolList;
 use dd_model::{Job, Memory, Request};
-use dd_symbol_list::SymbolList;
 use std::alloc::Global;
 
 /// Finds what is under a job of a catalogue, or splits the job into smaller ones. What it keeps of

@@ -7,9 +7,9 @@ ghost use Rattle.dd_model.specs.Wanted.{IsAscending};
 ghost use Rattle.dd_front.specs.Spans.{IsCut, joined_spans};
 
 use crate::span::Span;
+use dd_member_lists::SymbolList;
 use dd_model::{Memory, Position};
 use dd_symbol::Connected;
-use dd_symbol_list::SymbolList;
 use std::alloc::Global;
 use std::marker::Model;
 

@@ -2,8 +2,8 @@ ghost use Rattle.std.specs.Prelude.{◌≡◌, ◌-◌, ◌≤◌, List, length,
 ghost use Rattle.std.specs.Arc.{arc_value};
 ghost use Rattle.dd_model.specs.Symbol.{Symbol};
 
+use dd_member_lists::{SymbolList, Symbols};
 use dd_model::Memory;
-use dd_symbol_list::{SymbolList, Symbols};
 use std::alloc::Global;
 use std::marker::Model;
 use std::sync::Arc;

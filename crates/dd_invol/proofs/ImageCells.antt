@@ -5,7 +5,7 @@ use Rattle.dd_model.specs.declared.pair.Pair.{Pair}
 use Rattle.dd_model.specs.Symbol.{Symbol, AreInvolutions, IsChamber, op}
 use Rattle.dd_model.specs.Cell.{InCell, IsLeastOfCell}
 use Rattle.dd_symbol.specs.Images.{of_rows}
-use Rattle.dd_opening_jobs.specs.Places.{place}
+use Rattle.dd_front_jobs.specs.Places.{place}
 use Rattle.dd_branch_tables.proofs.TableFronts.{rows_at}
 
 -- what stands at the place of a chamber is its image

@@ -14,7 +14,7 @@ use Rattle.dd_model.specs.Symbol.{Symbol}
 use Rattle.dd_model.proofs.LeastForms.{not_above}
 use Rattle.dd_model.proofs.Orders.{list_not_below_itself, not_below_itself, not_below_both}
 use Rattle.dd_branch_tables.specs.Levels.{IsLeft, IsLeftAt}
-use Rattle.dd_opening_jobs.specs.Under.{IsUnder, HasNothingUnder}
+use Rattle.dd_front_jobs.specs.Under.{IsUnder, HasNothingUnder}
 use Rattle.dd_branch_tables.specs.declared.level.Level.{Level}
 use Rattle.dd_invol.specs.Growth.{Growing, size_at, prefix_at, taken_back}
 use Rattle.dd_invol.specs.NextTable.{IsAhead, IsSoughtAt, here}

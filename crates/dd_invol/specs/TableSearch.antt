@@ -4,7 +4,7 @@ use Rattle.dd_model.specs.Symbol.{Symbol}
 use Rattle.dd_model.specs.declared.requests.Request.{Request}
 use Rattle.dd_model.specs.declared.jobs.Job.{Job}
 use Rattle.dd_branch_tables.specs.Levels.{IsAt, IsLeftAt}
-use Rattle.dd_opening_jobs.specs.Under.{IsUnder}
+use Rattle.dd_front_jobs.specs.Under.{IsUnder}
 use Rattle.dd_branch_tables.specs.declared.level.Level.{Level}
 use Rattle.dd_invol.specs.Growth.{Growing, asked_of, size_at, prefix_at, taken_back}
 use Rattle.dd_branch_tables.specs.Rows.{depth_of}

@@ -6,7 +6,7 @@ ghost use Rattle.dd_model.specs.Code.{code, Least};
 ghost use Rattle.dd_model.specs.declared.jobs.Job.{Job};
 ghost use Rattle.dd_model.specs.declared.requests.Request.{Request};
 ghost use Rattle.dd_model.specs.Jobs.{IsMemberUnder};
-ghost use Rattle.dd_opening_jobs.specs.Opening.{IsOpeningJob, IsCoveredBy};
+ghost use Rattle.dd_front_jobs.specs.Opening.{IsOpeningJob, IsCoveredBy};
 ghost use Rattle.dd_model.specs.Involutions.{HaveSameInvolutions};
 ghost use Rattle.dd_branch_tables.specs.Walk.{IsListed, HasTable};
 

@@ -4,11 +4,11 @@ ghost use Rattle.dd_model.specs.Request.{IsValid};
 ghost use Rattle.dd_model.specs.Jobs.{AreExtensions, AreChildren};
 ghost use Rattle.dd_invol.specs.Children.{IsStemOf};
 ghost use Rattle.dd_branch_tables.specs.Stem.{Any, IsStem, prefix_of, size_of};
-ghost use Rattle.dd_opening_jobs.specs.Under.{HasNothingUnder};
+ghost use Rattle.dd_front_jobs.specs.Under.{HasNothingUnder};
 
 use dd_branch_tables::{Stem, Visit};
+use dd_front_jobs::{can_follow, child};
 use dd_model::{Job, Memory, Request};
-use dd_opening_jobs::{can_follow, child};
 use std::alloc::Global;
 
 /// The stem of a job, unless it is sure that nothing is under it.

@@ -1,6 +1,6 @@
 ghost use Rattle.std.specs.Prelude.{◌≡◌, ◌*◌, ◌≤◌, [], length};
 ghost use Rattle.std.specs.Bool.{OnTrue, OnFalse};
-ghost use Rattle.dd_opening_jobs.specs.Under.{HasNothingUnder};
+ghost use Rattle.dd_front_jobs.specs.Under.{HasNothingUnder};
 
 use dd_branch_tables::{ChamberSet, PrefixSearch, Stem, Visit, is_least};
 use dd_model::Request;

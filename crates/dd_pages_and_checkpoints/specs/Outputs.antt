@@ -3,7 +3,7 @@ use Rattle.std.specs.Prelude.{ℕ, ◌<◌, List, Option, Result, IfOk, length}
 use Rattle.std.specs.Io.KnownBytes.{Appends}
 use Rattle.dd_model.specs.Symbol.{Symbol}
 use Rattle.dd_model.specs.Lists.{Begins}
-use Rattle.dd_opening_jobs.specs.Portions.{IsPortionText}
+use Rattle.dd_front_jobs.specs.Portions.{IsPortionText}
 use Rattle.dd_front.specs.Step.{at_symbol}
 use Rattle.dd_check.specs.Between.{AreLinesBetween}
 use Rattle.dd_check.specs.ChainStarts.{Start}

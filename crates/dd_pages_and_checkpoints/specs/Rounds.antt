@@ -10,8 +10,8 @@ use Rattle.dd_front.specs.declared.entry.State.TheVariants.{Open}
 use Rattle.dd_front.specs.Absorbed.{MayAbsorb, Absorbs}
 use Rattle.dd_front.specs.Joining.{IsDone}
 use Rattle.dd_front.specs.Machine.{Machine}
-use Rattle.dd_opening_jobs.specs.declared.portions.Portion.{Portion}
-use Rattle.dd_opening_jobs.specs.Portions.{IsPortionOpening}
+use Rattle.dd_front_jobs.specs.declared.portions.Portion.{Portion}
+use Rattle.dd_front_jobs.specs.Portions.{IsPortionOpening}
 
 -- the jobs of a portion that are not wholly before a position
 pub record AreJobsFrom (p : Portion) (at : Position) (jobs : List Job) : Type 0 where

@@ -7,7 +7,7 @@ use Rattle.dd_model.specs.declared.jobs.Job.{Job}
 use Rattle.dd_model.specs.declared.jobs.Position.{Position}
 use Rattle.dd_front.specs.Machine.{Machine, StandsAt}
 use Rattle.dd_check.specs.declared.checkpoint.Checkpoint.{Checkpoint}
-use Rattle.dd_opening_jobs.specs.Portions.{IsPortionMember}
+use Rattle.dd_front_jobs.specs.Portions.{IsPortionMember}
 use Rattle.dd_check.specs.ShardChecks.{IsSavedText}
 use Rattle.dd_check.specs.ChainPuts.{DoCountsFit}
 use Rattle.dd_check.specs.ChainStarts.{Start}

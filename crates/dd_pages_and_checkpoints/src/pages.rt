@@ -7,9 +7,9 @@ ghost use Rattle.dd_pages_and_checkpoints.specs.MostLines.{most_lines};
 
 use crate::lines::lines_by;
 use dd_front::Members;
+use dd_member_lists::Symbols;
 use dd_model::Memory;
 use dd_ports::{Sink, SinkFault, write_all_of};
-use dd_symbol_list::Symbols;
 use dd_text::put_list;
 use std::alloc::Global;
 use std::mem;

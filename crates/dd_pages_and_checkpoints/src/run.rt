@@ -2,8 +2,8 @@ ghost use Rattle.std.specs.Prelude.{◌≡◌, ◌≤◌, IfOk};
 ghost use Rattle.dd_pages_and_checkpoints.specs.MostLines.{most_lines};
 
 use crate::limit::{Limit, MOST_LINES};
+use dd_front_jobs::{Pace, Portion};
 use dd_model::{Job, Memory, Position, Prefix};
-use dd_opening_jobs::{Pace, Portion};
 use std::alloc::Global;
 
 /// A run of a chain: where it begins, how it is worked at, and when it is to pause.

@@ -11,8 +11,8 @@ use crate::pages::Page;
 use crate::run::Run;
 use dd_check::{Checkpoint, write_checkpoint, write_shard};
 use dd_front::Front;
+use dd_front_jobs::Shard;
 use dd_model::Memory;
-use dd_opening_jobs::Shard;
 use dd_ports::{Store, StoreFault};
 use std::alloc::Global;
 

@@ -6,12 +6,12 @@ use Rattle.dd_model.specs.Wanted.{IsAscending, IsMember, IsCatalogue}
 use Rattle.dd_model.specs.declared.jobs.Job.{Job}
 use Rattle.dd_model.specs.declared.requests.Request.{Request}
 use Rattle.dd_model.proofs.Lists.{each_of}
-use Rattle.dd_opening_jobs.specs.Opening.{IsOpening}
-use Rattle.dd_opening_jobs.specs.Shards.{IsShardJob, IsShardMember, AreShardMembers}
-use Rattle.dd_opening_jobs.specs.declared.shards.Shard.{Shard}
-use Rattle.dd_opening_jobs.proofs.OpeningLaws.{covered_once, opening_covers}
-use Rattle.dd_opening_jobs.proofs.PortionLaws.{shard_job}
-use Rattle.dd_opening_jobs.proofs.ShardLaws.{one_shard, some_shard}
+use Rattle.dd_front_jobs.specs.Opening.{IsOpening}
+use Rattle.dd_front_jobs.specs.Shards.{IsShardJob, IsShardMember, AreShardMembers}
+use Rattle.dd_front_jobs.specs.declared.shards.Shard.{Shard}
+use Rattle.dd_front_jobs.proofs.OpeningLaws.{covered_once, opening_covers}
+use Rattle.dd_front_jobs.proofs.PortionLaws.{shard_job}
+use Rattle.dd_front_jobs.proofs.ShardLaws.{one_shard, some_shard}
 use Rattle.dd_shard.specs.Merging.{AreMergeable, IsInSome, IsMerged}
 use Rattle.dd_shard.specs.ShardLists.{AreDifferent, AreAllShards, AreListsOfShards}
 

@@ -3,8 +3,8 @@ use Rattle.std.specs.Prelude.{◌≡◌, ◌≢◌, ℕ, List, [], ◌∷◌}
 use Rattle.std.specs.List.{AllByRecursion, Contains}
 use Rattle.dd_model.specs.Symbol.{Symbol}
 use Rattle.dd_model.specs.declared.requests.Request.{Request}
-use Rattle.dd_opening_jobs.specs.Shards.{AreShardMembers}
-use Rattle.dd_opening_jobs.specs.declared.shards.Shard.{Shard}
+use Rattle.dd_front_jobs.specs.Shards.{AreShardMembers}
+use Rattle.dd_front_jobs.specs.declared.shards.Shard.{Shard}
 
 -- no shard is there twice
 abbrev pub AreDifferent : List Shard → Type 0

@@ -3,8 +3,8 @@ ghost use Rattle.dd_model.specs.Symbol.{Symbol};
 ghost use Rattle.dd_model.specs.Wanted.{IsCatalogue};
 ghost use Rattle.dd_model.specs.declared.jobs.Job.{Job};
 ghost use Rattle.dd_model.specs.declared.requests.Request.{Request};
-ghost use Rattle.dd_opening_jobs.specs.Opening.{IsOpening};
-ghost use Rattle.dd_opening_jobs.specs.declared.shards.Shard.{Shard};
+ghost use Rattle.dd_front_jobs.specs.Opening.{IsOpening};
+ghost use Rattle.dd_front_jobs.specs.declared.shards.Shard.{Shard};
 ghost use Rattle.dd_shard.specs.Merging.{AreMergeable, IsMerged};
 ghost use Rattle.dd_shard.specs.ShardLists.{AreAllShards, AreListsOfShards};
 

@@ -12,7 +12,7 @@ mod merged_list;
 mod sort;
 
 pub use dd_check::{ShardFault, read_shard, write_shard};
-pub use dd_opening_jobs::shard_opening;
+pub use dd_front_jobs::shard_opening;
 pub use laws::shards_merge_to_the_catalogue;
 pub use merge_fault::MergeFault;
 pub use merged_list::merge;

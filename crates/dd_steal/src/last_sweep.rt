@@ -7,8 +7,8 @@ ghost use Rattle.dd_steal.specs.Sweep.{AreDone, IsNoneOut, IsSwept, counted, if_
 
 use dd_board::Desk;
 use dd_front::{Entry, Finder, Naming, Taken, Ticket};
+use dd_member_lists::SymbolList;
 use dd_model::Memory;
-use dd_symbol_list::SymbolList;
 use std::alloc::Global;
 
 /// Gives back every job that is out and then does every one that is open, on this thread and as

@@ -6,10 +6,10 @@ use Rattle.dd_model.specs.declared.requests.Request.{Request}
 use Rattle.dd_model.specs.declared.jobs.Job.{Job}
 use Rattle.dd_model.specs.declared.jobs.Position.{Position}
 use Rattle.dd_model.specs.declared.jobs.Position.TheVariants.{At, End}
-use Rattle.dd_opening_jobs.specs.Opening.{IsOpeningJob}
+use Rattle.dd_front_jobs.specs.Opening.{IsOpeningJob}
 use Rattle.dd_check.specs.declared.checkpoint.Checkpoint.{Checkpoint}
 use Rattle.dd_check.specs.Accepted.{IsCheckpointText}
-use Rattle.dd_opening_jobs.specs.declared.shards.Shard.{Shard}
+use Rattle.dd_front_jobs.specs.declared.shards.Shard.{Shard}
 use Rattle.dd_check.specs.ShardChecks.{IsAcceptedText}
 use Rattle.dd_check.specs.Checks.{AreCountsInRange}
 use Rattle.dd_check.specs.Places.{IsPlace, IsOldPlace}

@@ -4,8 +4,8 @@ use Rattle.dd_model.specs.Reading.{Reads}
 use Rattle.dd_model.proofs.ReadingRows.{reads_once}
 use Rattle.dd_ports.specs.Causes.{Rose}
 use Rattle.dd_ports.specs.Grows.{GrowsByPrefix}
-use Rattle.dd_file_commands.specs.declared.commands.FileCommand.{FileCommand}
-use Rattle.dd_file_commands.specs.Files.{IsRefusalOf}
+use Rattle.dd_suite_commands.specs.declared.commands.FileCommand.{FileCommand}
+use Rattle.dd_suite_commands.specs.Files.{IsRefusalOf}
 use Rattle.dd_suite_tasks.specs.declared.ending.Ending.{Ending}
 use Rattle.dd_suite_tasks.specs.declared.ending.Ending.TheVariants.{Done, Usage, Refused, RefusedSymbol, RefusedCheck, RefusedMerge, Paused, StoreFault, SinkFault, Memory, TooManyLines}
 use Rattle.dd_suite_tasks.specs.declared.status.Status.TheVariants as status

@@ -2,8 +2,8 @@
 use Rattle.std.proofs.Common.{◌≡◌, ◌⊎◌, ℕ, List, inl, inr, refl, sym, subst}
 use Rattle.dd_ports.specs.Causes.{Rose}
 use Rattle.dd_ports.specs.Grows.{GrowsByPrefix}
-use Rattle.dd_file_commands.specs.Merges.{IsMergeRefusal}
-use Rattle.dd_file_commands.proofs.MergedTexts.{refused_without_merge}
+use Rattle.dd_suite_commands.specs.Merges.{IsMergeRefusal}
+use Rattle.dd_suite_commands.proofs.MergedTexts.{refused_without_merge}
 use Rattle.dd_suite_tasks.specs.declared.ending.Ending.{Ending}
 use Rattle.dd_suite_tasks.specs.declared.ending.Ending.TheVariants.{Done, Usage, Refused, RefusedSymbol, RefusedCheck, RefusedMerge, Paused, StoreFault, SinkFault, Memory, TooManyLines}
 use Rattle.dd_suite_tasks.specs.declared.status.Status.{Status}

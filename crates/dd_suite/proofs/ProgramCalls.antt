@@ -4,8 +4,8 @@ use Rattle.std.proofs.lemmas.List.{append_cancel_left}
 use Rattle.std.specs.Io.KnownBytes.{Appends}
 use Rattle.std.specs.List.{AllByRecursion}
 use Rattle.dd_model.specs.Lists.{Begins}
-use Rattle.dd_opening_jobs.specs.declared.portions.Portion.{Portion}
-use Rattle.dd_opening_jobs.specs.Portions.{IsPortionText}
+use Rattle.dd_front_jobs.specs.declared.portions.Portion.{Portion}
+use Rattle.dd_front_jobs.specs.Portions.{IsPortionText}
 use Rattle.dd_check.specs.Calls.{Task, Begin, Resume, Call, Done, Paused}
 use Rattle.dd_check.specs.Clauses.{MeetsClauses, HasWorked, HasWork}
 use Rattle.dd_check.specs.ChainStarts.{Start, first_start, Starts}

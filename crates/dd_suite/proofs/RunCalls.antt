@@ -2,8 +2,8 @@
 use Rattle.std.proofs.Common.{◌≡◌, ◌≤◌, ℕ, List, [], Bool, true, Option, Some, None, Result, Ok, Err, inl, inr, ⊎_elim, refl, sym, ap, ◌∙◌, subst, arith}
 use Rattle.std.proofs.KnownBytes.{Appends-nil}
 use Rattle.std.proofs.lemmas.Bool.{cases_eq}
-use Rattle.dd_opening_jobs.specs.declared.shards.Shard.{Shard}
-use Rattle.dd_opening_jobs.specs.declared.portions.Portion.{Portion}
+use Rattle.dd_front_jobs.specs.declared.shards.Shard.{Shard}
+use Rattle.dd_front_jobs.specs.declared.portions.Portion.{Portion}
 use Rattle.dd_ports.specs.Causes.{Rose}
 use Rattle.dd_ports.specs.Texts.{SameTexts, SameOthers}
 use Rattle.dd_ports.specs.declared.sink.SinkFault.{SinkFault as WriteFault}
@@ -15,7 +15,7 @@ use Rattle.dd_check.specs.ChainStarts.{Start, first_start, next_start}
 use Rattle.dd_pages_and_checkpoints.specs.declared.fault.RunFault.{RunFault}
 use Rattle.dd_pages_and_checkpoints.specs.declared.fault.RunFault.TheVariants as fault
 use Rattle.dd_pages_and_checkpoints.specs.declared.finish.Finish.{Finish}
-use Rattle.dd_opening_jobs.specs.declared.pace.Pace.{Pace}
+use Rattle.dd_front_jobs.specs.declared.pace.Pace.{Pace}
 use Rattle.dd_pages_and_checkpoints.specs.declared.run.Run.{Run}
 use Rattle.dd_pages_and_checkpoints.specs.Outputs.{IsOutput}
 use Rattle.dd_pages_and_checkpoints.specs.Runs.{start_of, IsPause}

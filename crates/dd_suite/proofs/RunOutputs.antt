@@ -3,9 +3,9 @@ use Rattle.std.proofs.Common.{◌≡◌, ℕ, ◌≤◌, List, None, Some, Optio
 use Rattle.std.specs.Io.KnownBytes.{Appends}
 use Rattle.dd_model.specs.Symbol.{Symbol}
 use Rattle.dd_model.specs.Text.{beginning}
-use Rattle.dd_opening_jobs.specs.declared.portions.Portion.{Portion}
-use Rattle.dd_opening_jobs.specs.Portions.{ArePortionMembers, IsPortionText}
-use Rattle.dd_opening_jobs.proofs.PortionLaws.{members_unique}
+use Rattle.dd_front_jobs.specs.declared.portions.Portion.{Portion}
+use Rattle.dd_front_jobs.specs.Portions.{ArePortionMembers, IsPortionText}
+use Rattle.dd_front_jobs.proofs.PortionLaws.{members_unique}
 use Rattle.dd_model.proofs.SmallerPlaces.{begins_is_front}
 use Rattle.dd_ports.specs.Grows.{GrowsByPrefix}
 use Rattle.dd_check.specs.Calls.{Task, Begin, Resume}

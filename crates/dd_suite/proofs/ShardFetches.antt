@@ -1,6 +1,6 @@
 -- The first bytes of what a name holds do for the whole text of a shard.
 use Rattle.std.proofs.Common.{◌≡◌, ℕ, List, ◌++◌, Option, None, Some, Bool}
-use Rattle.dd_opening_jobs.specs.declared.shards.Shard.{Shard}
+use Rattle.dd_front_jobs.specs.declared.shards.Shard.{Shard}
 use Rattle.dd_check.specs.declared.checkpoint.Checkpoint.{Checkpoint}
 use Rattle.dd_check.specs.declared.kinds.ResumeKind.TheVariants.{Catalogues, Shards}
 use Rattle.dd_check.specs.Calls.{kind_of}

@@ -2,11 +2,11 @@
 use Rattle.std.proofs.Common.{ℕ, List, [], ◌∷◌, map}
 use Rattle.dd_model.specs.Text.{beginning}
 use Rattle.dd_model.specs.declared.requests.Request.{Request}
-use Rattle.dd_opening_jobs.specs.declared.shards.Shard.{Shard}
-use Rattle.dd_opening_jobs.specs.Shards.{IsShardText}
+use Rattle.dd_front_jobs.specs.declared.shards.Shard.{Shard}
+use Rattle.dd_front_jobs.specs.Shards.{IsShardText}
 use Rattle.dd_check.specs.Calls.{Done}
 use Rattle.dd_check.proofs.Chained.{chain_ends}
-use Rattle.dd_file_commands.specs.ShardFiles.{AreTextsOfShards}
+use Rattle.dd_suite_commands.specs.ShardFiles.{AreTextsOfShards}
 use Rattle.dd_suite.specs.Chains.{call_of}
 use Rattle.dd_suite.specs.ShardChains.{shard_of, IsMadeByCalls, AreMadeByCalls}
 use Rattle.dd_suite.proofs.ProgramCalls.{all_meet}

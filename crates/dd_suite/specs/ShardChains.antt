@@ -2,8 +2,8 @@
 use Rattle.std.specs.Prelude.{ℕ, List, [], ◌∷◌, Option, Some, map}
 use Rattle.std.specs.List.{AllByRecursion}
 use Rattle.dd_model.specs.declared.requests.Request.{Request}
-use Rattle.dd_opening_jobs.specs.declared.shards.Shard.{Shard}
-use Rattle.dd_opening_jobs.specs.declared.portions.Portion.{Portion}
+use Rattle.dd_front_jobs.specs.declared.shards.Shard.{Shard}
+use Rattle.dd_front_jobs.specs.declared.portions.Portion.{Portion}
 use Rattle.dd_check.specs.Calls.{Done}
 use Rattle.dd_check.specs.Chains.{IsChain, HasBegun, EndsAs, IsJoined}
 use Rattle.dd_suite.specs.Chains.{ProgramCall, IsProgramCall, call_of}

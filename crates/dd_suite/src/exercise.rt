@@ -1,6 +1,6 @@
 ghost use Rattle.std.specs.Prelude.{◌≡◌, ◌≤◌, ℕ, List, true};
 ghost use Rattle.dd_ports.specs.Grows.{GrowsByPrefix};
-ghost use Rattle.dd_exercise.specs.Exercise.{IsExerciseText};
+ghost use Rattle.dd_suite_exercise.specs.Exercise.{IsExerciseText};
 ghost use Rattle.dd_suite_tasks.specs.Stops.{IsWriteEnding, AppendsExercise};
 
 use dd_model::Memory;
@@ -21,7 +21,7 @@ pub fn write_exercise<O: Sink>(alloc: Global, start: u32, count: u32, out: &mut 
     ensures sure { O.sure out.old ≡ true
         → (O.faults out.new ≡ O.faults out.old) × (result ≡ Ending.SinkFault → ⊥) }
 {
-    match dd_exercise::exercise(alloc, start, count) {
+    match dd_suite_exercise::exercise(alloc, start, count) {
         Ok(text) => write_text(&text, out),
         Err(Memory) => Ending::Memory,
     }

@@ -7,8 +7,8 @@ ghost use Rattle.dd_pages_and_checkpoints.specs.Runs.{start_of, IsPause};
 ghost use Rattle.dd_suite_tasks.specs.Outcomes.{IsRunOutcome, EndsRunFrom};
 
 use dd_branch::Search;
-use dd_catalogue::{Workshop, write_run};
-use dd_opening_jobs::{Pace, Portion};
+use dd_catalogue_rounds::{Workshop, write_run};
+use dd_front_jobs::{Pace, Portion};
 use dd_pages_and_checkpoints::Run;
 use dd_ports::{Gate, Sink, Store};
 use dd_suite_tasks::Ending;

@@ -3,8 +3,8 @@ ghost use Rattle.dd_model.specs.Request.{IsValid};
 ghost use Rattle.dd_suite_tasks.specs.Lone.{IsLoneEnding, run_result};
 
 use dd_branch::Search;
-use dd_catalogue::{Workshop, write_catalogue};
-use dd_opening_jobs::{Pace, Portion};
+use dd_catalogue_rounds::{Workshop, write_catalogue};
+use dd_front_jobs::{Pace, Portion};
 use dd_pages_and_checkpoints::{Finish, Run, RunFault};
 use dd_ports::{Gate, Sink, SinkFault};
 use dd_suite_tasks::Ending;

@@ -10,9 +10,9 @@ ghost use Rattle.dd_suite_tasks.specs.Outcomes.{IsRunOutcome, IsReadStop, IsHeld
 ghost use Rattle.dd_pages_and_checkpoints.specs.MostLines.{most_lines};
 
 use crate::kept::keep_run;
-use dd_catalogue::Workshop;
+use dd_catalogue_rounds::Workshop;
 use dd_check::{CheckFault, Checkpoint, ResumeKind, ShardFault, read_checkpoint, read_shard};
-use dd_opening_jobs::{Pace, Portion, Shard};
+use dd_front_jobs::{Pace, Portion, Shard};
 use dd_pages_and_checkpoints::Run;
 use dd_ports::{Gate, Sink, Store, StoreFault};
 use dd_suite_tasks::{Ending, fetch_all, fetch_front};

@@ -10,7 +10,7 @@ use Rattle.dd_ports.specs.Causes.{Rose}
 use Rattle.dd_ports.specs.Sinks.{memory_sink_held}
 use Rattle.dd_ports.specs.declared.memory_sink.MemorySink.{MemorySink}
 use Rattle.dd_check.specs.Between.{AreLinesBetween}
-use Rattle.dd_opening_jobs.specs.Portions.{whole}
+use Rattle.dd_front_jobs.specs.Portions.{whole}
 use Rattle.dd_check.specs.declared.kinds.ResumeKind.{ResumeKind}
 use Rattle.dd_check.specs.declared.kinds.ResumeKind.TheVariants.{Catalogues}
 use Rattle.dd_check.specs.ShardFaults.{HasKindFault}

@@ -27,7 +27,7 @@ use Rattle.dd_check.proofs.KindFaults.{no_kind_fault}
 use Rattle.dd_check.proofs.Exclusion.{one_checkpoint}
 use Rattle.dd_check.proofs.ShortTexts.{written_reads_back}
 use Rattle.dd_check.specs.Between.{IsMemberBetween, AreLinesBetween}
-use Rattle.dd_opening_jobs.specs.Portions.{whole}
+use Rattle.dd_front_jobs.specs.Portions.{whole}
 use Rattle.dd_check.specs.declared.kinds.ResumeKind.TheVariants.{Catalogues}
 use Rattle.dd_check.specs.Calls.{Begin, Resume, Call}
 use Rattle.dd_check.specs.ShardChecks.{IsSavedText}

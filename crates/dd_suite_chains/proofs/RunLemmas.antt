@@ -8,8 +8,8 @@ use Rattle.dd_check.specs.declared.checkpoint.Checkpoint.{Checkpoint}
 use Rattle.dd_check.specs.declared.kinds.ResumeKind.TheVariants.{Catalogues}
 use Rattle.dd_check.specs.Calls.{Task, Call}
 use Rattle.dd_check.specs.Chains.{AreResumed, IsChain, HasBegun}
-use Rattle.dd_opening_jobs.specs.declared.shards.Shard.{Shard}
-use Rattle.dd_opening_jobs.specs.Portions.{whole}
+use Rattle.dd_front_jobs.specs.declared.shards.Shard.{Shard}
+use Rattle.dd_front_jobs.specs.Portions.{whole}
 use Rattle.dd_check.specs.ChainStarts.{Holds}
 use Rattle.dd_suite.specs.Chains.{ProgramCall, IsProgramCall, held_under, call_of}
 use Rattle.dd_suite_tasks.specs.Runs.{name_of}

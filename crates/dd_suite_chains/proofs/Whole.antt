@@ -5,8 +5,8 @@ use Rattle.dd_model.specs.Wanted.{IsCatalogue}
 use Rattle.dd_model.specs.declared.requests.Request.{Request}
 use Rattle.dd_ports.specs.Causes.{Rose}
 use Rattle.dd_ports.specs.declared.memory_sink.MemorySink.{MemorySink}
-use Rattle.dd_opening_jobs.specs.declared.portions.Portion.{Portion}
-use Rattle.dd_opening_jobs.specs.Portions.{whole}
+use Rattle.dd_front_jobs.specs.declared.portions.Portion.{Portion}
+use Rattle.dd_front_jobs.specs.Portions.{whole}
 use Rattle.dd_check.specs.Calls.{Begin, Done}
 use Rattle.dd_check.specs.Chains.{IsJoined}
 use Rattle.dd_check.specs.ChainOutcomes.{IsFront}

@@ -1,7 +1,7 @@
 -- Words that keep a checkpoint under a name, and words that go on from it.
 use Rattle.std.specs.Prelude.{ℕ, List, [], ◌∷◌, Option, Some, codes}
 use Rattle.dd_model.specs.declared.requests.Request.{Request}
-use Rattle.dd_opening_jobs.specs.Portions.{whole}
+use Rattle.dd_front_jobs.specs.Portions.{whole}
 use Rattle.dd_check.specs.Calls.{Begin}
 use Rattle.dd_suite_tasks.specs.Words.{AskForRun}
 

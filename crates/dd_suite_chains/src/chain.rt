@@ -9,7 +9,7 @@ ghost use Rattle.dd_suite_chains.specs.Turns.{IsTurn};
 use crate::parts::add_part;
 use crate::runs::{run_into, text_to_go_on};
 use crate::turn::Turn;
-use dd_catalogue::Workshop;
+use dd_catalogue_rounds::Workshop;
 use dd_model::Memory;
 use dd_ports::{Gate, MemorySink, MemoryStore};
 use std::rc::RcStr;

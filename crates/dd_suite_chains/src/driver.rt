@@ -14,7 +14,7 @@ use crate::chain::Chain;
 use crate::driven::Drive;
 use crate::turn::Turn;
 use crate::words::words_to_go_on;
-use dd_catalogue::Workshop;
+use dd_catalogue_rounds::Workshop;
 use dd_model::Memory;
 use dd_ports::{Gate, MemorySink, MemoryStore};
 use std::alloc::Global;

@@ -6,7 +6,7 @@ ghost use Rattle.dd_suite_tasks.specs.declared.status.Status.TheVariants.{Done};
 ghost use Rattle.dd_suite_chains.specs.Runs.{kept_of};
 ghost use Rattle.dd_suite_chains.specs.Making.{RunsInto};
 
-use dd_catalogue::Workshop;
+use dd_catalogue_rounds::Workshop;
 use dd_ports::{Gate, MemorySink, MemoryStore, SureSink};
 use dd_suite::run;
 use dd_suite_tasks::Status;

@@ -13,10 +13,10 @@ use Rattle.dd_text.specs.declared.faults.Why.{Why}
 use Rattle.dd_text.specs.declared.faults.Why.TheVariants.{Stray, UnexpectedEnd, NumberTooLong, Dimension, Size, ListShort, ListLong, Image, Symbol as NoSymbol, TooManySymbols, Long, Memory as NoRoom}
 use Rattle.dd_text.specs.FileFaults.{IsFileFaultOf}
 use Rattle.dd_text.proofs.RowExclusion.{file_excluded}
-use Rattle.dd_file_commands.specs.declared.merge_refusal.MergeRefusal.{MergeRefusal}
-use Rattle.dd_file_commands.specs.declared.merge_refusal.MergeRefusal.TheVariants.{File, NotAscending, Doubled}
-use Rattle.dd_file_commands.specs.Files.{IsFaulty}
-use Rattle.dd_file_commands.specs.Merges.{bytes_of, AreRead, IsMergedText, IsMergeRefusal}
+use Rattle.dd_suite_commands.specs.declared.merge_refusal.MergeRefusal.{MergeRefusal}
+use Rattle.dd_suite_commands.specs.declared.merge_refusal.MergeRefusal.TheVariants.{File, NotAscending, Doubled}
+use Rattle.dd_suite_commands.specs.Files.{IsFaulty}
+use Rattle.dd_suite_commands.specs.Merges.{bytes_of, AreRead, IsMergedText, IsMergeRefusal}
 use Rattle.dd_suite_tasks.specs.Merges.{AreAllFetched, IsFetchedFront, AreFetchedFronts, IsMergeOfHeld, HoldUnmerged}
 
 -- ## One front

@@ -1,9 +1,9 @@
 -- The text of a file is one where the store tells what it holds, and so is a checkpoint.
 use Rattle.std.proofs.Common.{◌≡◌, ℕ, List, Bool, true, Option, Some, sym, ◌∙◌, subst}
 use Rattle.dd_ports.specs.Grows.{GrowsByPrefix}
-use Rattle.dd_file_commands.specs.declared.commands.FileCommand.{FileCommand}
-use Rattle.dd_file_commands.specs.Files.{IsFileText}
-use Rattle.dd_file_commands.proofs.FileTexts.{file_text_unique}
+use Rattle.dd_suite_commands.specs.declared.commands.FileCommand.{FileCommand}
+use Rattle.dd_suite_commands.specs.Files.{IsFileText}
+use Rattle.dd_suite_commands.proofs.FileTexts.{file_text_unique}
 use Rattle.dd_check.specs.ShardChecks.{IsAcceptedText}
 use Rattle.dd_check.specs.declared.kinds.ResumeKind.{ResumeKind}
 use Rattle.dd_check.specs.ChainStarts.{Start, next_start}

@@ -5,7 +5,7 @@ use Rattle.dd_check.specs.declared.kinds.ResumeKind.TheVariants.{Catalogues}
 use Rattle.dd_check.specs.declared.shard_faults.ShardFault.TheVariants.{Check}
 use Rattle.dd_text.specs.declared.faults.FileFault.{FileFault}
 use Rattle.dd_text.specs.declared.faults.Why.TheVariants.{Long}
-use Rattle.dd_file_commands.specs.Files.{IsFaulty}
+use Rattle.dd_suite_commands.specs.Files.{IsFaulty}
 use Rattle.dd_suite_tasks.specs.Beginnings.{HoldsNoCheck}
 use Rattle.dd_suite_tasks.specs.Held.{HoldsMore, HoldsFaulty}
 

@@ -1,8 +1,8 @@
 -- Names have one merged text where the store tells what they hold.
 use Rattle.std.proofs.Common.{◌≡◌, ℕ, List, [], ◌∷◌, Bool, true, Option, inr, refl, sym, ap, ◌∙◌, subst}
 use Rattle.dd_ports.specs.Grows.{GrowsByPrefix}
-use Rattle.dd_file_commands.specs.Merges.{IsMergedText}
-use Rattle.dd_file_commands.proofs.MergedTexts.{merged_text_unique}
+use Rattle.dd_suite_commands.specs.Merges.{IsMergedText}
+use Rattle.dd_suite_commands.proofs.MergedTexts.{merged_text_unique}
 use Rattle.dd_suite_tasks.specs.declared.ending.Ending.{Ending}
 use Rattle.dd_suite_tasks.specs.declared.ending.Ending.TheVariants.{Done, SinkFault, Memory}
 use Rattle.dd_suite_tasks.specs.Merges.{AreAllFetched, IsMergeOfHeld, AppendsMergePart, HasMergeCause}

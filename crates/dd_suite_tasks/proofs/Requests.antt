@@ -10,16 +10,16 @@ use Rattle.dd_words.specs.declared.commands.Command.{Command}
 use Rattle.dd_words.specs.declared.commands.Command.TheVariants.{Catalogue, Resume, Shard as ShardOf, ResumeShard, File, Apply, Merge, Exercise, Draw as Drawing}
 use Rattle.dd_words.specs.declared.commands.FileKind.{FileKind}
 use Rattle.dd_words.specs.declared.commands.FileKind.TheVariants as kind
-use Rattle.dd_opening_jobs.specs.declared.shards.Shard.{Shard}
-use Rattle.dd_opening_jobs.specs.declared.portions.Portion.{Portion}
-use Rattle.dd_opening_jobs.specs.Portions.{whole}
+use Rattle.dd_front_jobs.specs.declared.shards.Shard.{Shard}
+use Rattle.dd_front_jobs.specs.declared.portions.Portion.{Portion}
+use Rattle.dd_front_jobs.specs.Portions.{whole}
 use Rattle.dd_check.specs.declared.kinds.ResumeKind.{ResumeKind}
 use Rattle.dd_check.specs.declared.kinds.ResumeKind.TheVariants.{Catalogues, Shards}
 use Rattle.dd_check.specs.Calls.{Task as ChainTask, Begin, Resume as Next}
-use Rattle.dd_file_commands.specs.declared.commands.FileCommand.{FileCommand}
-use Rattle.dd_file_commands.specs.declared.commands.FileCommand.TheVariants.{Symbols, Info, Sheets, Draw}
-use Rattle.dd_file_commands.specs.declared.commands.SymbolCommand.TheVariants.{Lines, Canon, Minimal, Dual, Oriented, Torus, Derived, Applied}
-use Rattle.dd_opening_jobs.specs.declared.pace.Pace.{Pace}
+use Rattle.dd_suite_commands.specs.declared.commands.FileCommand.{FileCommand}
+use Rattle.dd_suite_commands.specs.declared.commands.FileCommand.TheVariants.{Symbols, Info, Sheets, Draw}
+use Rattle.dd_suite_commands.specs.declared.commands.SymbolCommand.TheVariants.{Lines, Canon, Minimal, Dual, Oriented, Torus, Derived, Applied}
+use Rattle.dd_front_jobs.specs.declared.pace.Pace.{Pace}
 use Rattle.dd_suite_tasks.specs.declared.task.Task.{Task}
 use Rattle.dd_suite_tasks.specs.declared.task.Task.TheVariants as task
 use Rattle.dd_suite_tasks.specs.Words.{Order, begin_command, resume_command, run_command, AskForRun, file_command, IsOnFile, AskToExercise, AreTaken}

@@ -6,10 +6,10 @@ use Rattle.dd_check.specs.declared.shard_faults.ShardFault.{ShardFault}
 use Rattle.dd_check.specs.declared.kinds.ResumeKind.{ResumeKind}
 use Rattle.dd_check.specs.ChainStarts.{HoldsKind}
 use Rattle.dd_text.specs.declared.faults.FileFault.{FileFault}
-use Rattle.dd_file_commands.specs.declared.commands.FileCommand.{FileCommand}
-use Rattle.dd_file_commands.specs.declared.refusals.SymbolRefusal.{SymbolRefusal}
-use Rattle.dd_file_commands.specs.declared.merge_refusal.MergeRefusal.{MergeRefusal}
-use Rattle.dd_file_commands.specs.Files.{IsRefusalOf}
+use Rattle.dd_suite_commands.specs.declared.commands.FileCommand.{FileCommand}
+use Rattle.dd_suite_commands.specs.declared.refusals.SymbolRefusal.{SymbolRefusal}
+use Rattle.dd_suite_commands.specs.declared.merge_refusal.MergeRefusal.{MergeRefusal}
+use Rattle.dd_suite_commands.specs.Files.{IsRefusalOf}
 use Rattle.dd_suite_tasks.specs.Beginnings.{NameNoCheck}
 use Rattle.dd_suite_tasks.specs.Held.{HoldsFaulty, HoldsRefused}
 use Rattle.dd_suite_tasks.specs.MergeEndings.{NameUnmerged, AreMergedHeld}

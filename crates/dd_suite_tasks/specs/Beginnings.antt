@@ -1,6 +1,6 @@
 -- Where the run begins that words ask for. Bytes are what was fetched: where the store tells, what it holds.
 use Rattle.std.specs.Prelude.{◌≡◌, ℕ, List, Option, Bool}
-use Rattle.dd_opening_jobs.specs.declared.shards.Shard.{Shard}
+use Rattle.dd_front_jobs.specs.declared.shards.Shard.{Shard}
 use Rattle.dd_check.specs.declared.checkpoint.Checkpoint.{Checkpoint}
 use Rattle.dd_check.specs.declared.shard_faults.ShardFault.{ShardFault}
 use Rattle.dd_check.specs.ShardChecks.{IsAcceptedText}

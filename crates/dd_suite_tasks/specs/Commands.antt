@@ -5,8 +5,8 @@ use Rattle.dd_words.specs.declared.commands.Command.TheVariants as command
 use Rattle.dd_suite_tasks.specs.declared.task.Task.{Task}
 use Rattle.dd_suite_tasks.specs.declared.task.Task.TheVariants.{Alone, Kept, Resume, OnFile, Merge, Exercise}
 use Rattle.dd_words.specs.Grammar.{IsCommand}
-use Rattle.dd_opening_jobs.specs.declared.portions.Portion.{Portion}
-use Rattle.dd_opening_jobs.specs.declared.pace.Pace.{Pace}
+use Rattle.dd_front_jobs.specs.declared.portions.Portion.{Portion}
+use Rattle.dd_front_jobs.specs.declared.pace.Pace.{Pace}
 use Rattle.dd_suite_tasks.specs.Words.{begin_command, resume_command, file_command}
 
 -- the command begins the portion

@@ -6,13 +6,13 @@ use Rattle.dd_pages_and_checkpoints.specs.declared.finish.Finish.{Finish}
 use Rattle.dd_pages_and_checkpoints.specs.declared.finish.Finish.TheVariants as finish
 use Rattle.dd_check.specs.declared.shard_faults.ShardFault.{ShardFault}
 use Rattle.dd_check.specs.ShardFaults.{shard_fault_text}
-use Rattle.dd_file_commands.specs.declared.command_fault.CommandFault.{CommandFault}
-use Rattle.dd_file_commands.specs.declared.command_fault.CommandFault.TheVariants.{File, Symbol, Memory as NoRoom}
+use Rattle.dd_suite_commands.specs.declared.command_fault.CommandFault.{CommandFault}
+use Rattle.dd_suite_commands.specs.declared.command_fault.CommandFault.TheVariants.{File, Symbol, Memory as NoRoom}
 use Rattle.dd_text.specs.declared.faults.FileFault.{FileFault}
 use Rattle.dd_text.specs.Messages.{fault_text}
-use Rattle.dd_file_commands.specs.declared.refusals.SymbolRefusal.{SymbolRefusal}
-use Rattle.dd_file_commands.specs.Messages.{symbol_refusal_text, merge_refusal_text}
-use Rattle.dd_file_commands.specs.declared.merge_refusal.MergeRefusal.{MergeRefusal}
+use Rattle.dd_suite_commands.specs.declared.refusals.SymbolRefusal.{SymbolRefusal}
+use Rattle.dd_suite_commands.specs.Messages.{symbol_refusal_text, merge_refusal_text}
+use Rattle.dd_suite_commands.specs.declared.merge_refusal.MergeRefusal.{MergeRefusal}
 use Rattle.dd_suite_tasks.specs.declared.status.Status.{Status}
 use Rattle.dd_suite_tasks.specs.declared.status.Status.TheVariants as status
 use Rattle.dd_suite_tasks.specs.declared.ending.Ending.{Ending}

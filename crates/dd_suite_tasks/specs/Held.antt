@@ -3,9 +3,9 @@ use Rattle.std.specs.Prelude.{◌≡◌, ◌<◌, ℕ, List, Option, Some, Bool,
 use Rattle.std.specs.Io.KnownBytes.{Appends}
 use Rattle.dd_ports.specs.Grows.{GrowsByPrefix}
 use Rattle.dd_text.specs.declared.faults.FileFault.{FileFault}
-use Rattle.dd_file_commands.specs.declared.commands.FileCommand.{FileCommand}
-use Rattle.dd_file_commands.specs.declared.refusals.SymbolRefusal.{SymbolRefusal}
-use Rattle.dd_file_commands.specs.Files.{IsFileText, IsFaulty, IsRefused}
+use Rattle.dd_suite_commands.specs.declared.commands.FileCommand.{FileCommand}
+use Rattle.dd_suite_commands.specs.declared.refusals.SymbolRefusal.{SymbolRefusal}
+use Rattle.dd_suite_commands.specs.Files.{IsFileText, IsFaulty, IsRefused}
 
 -- bytes that were fetched: what the name holds, if the store tells
 abbrev pub AreFetched : Bool → Option (List ℕ) → List ℕ → Type 0

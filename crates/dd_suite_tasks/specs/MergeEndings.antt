@@ -2,8 +2,8 @@
 use Rattle.std.specs.Prelude.{◌≡◌, ℕ, List, Option, Bool, true, IsSome}
 use Rattle.std.specs.List.{AllByRecursion}
 use Rattle.dd_ports.specs.Grows.{GrowsByPrefix}
-use Rattle.dd_file_commands.specs.declared.merge_refusal.MergeRefusal.{MergeRefusal}
-use Rattle.dd_file_commands.specs.Merges.{IsMergedText}
+use Rattle.dd_suite_commands.specs.declared.merge_refusal.MergeRefusal.{MergeRefusal}
+use Rattle.dd_suite_commands.specs.Merges.{IsMergedText}
 use Rattle.dd_suite_tasks.specs.declared.ending.Ending.{Ending}
 use Rattle.dd_suite_tasks.specs.declared.ending.Ending.TheVariants.{Done}
 use Rattle.dd_suite_tasks.specs.Merges.{AskToMerge, AreAllFetched, IsMergeOfHeld, HoldUnmerged, AppendsMerge, HasMergeCause}

@@ -5,8 +5,8 @@ use Rattle.dd_ports.specs.Causes.{Rose}
 use Rattle.dd_ports.specs.Grows.{GrowsByPrefix}
 use Rattle.dd_words.specs.Grammar.{IsCommand}
 use Rattle.dd_words.specs.declared.commands.Command.TheVariants as command
-use Rattle.dd_file_commands.specs.declared.merge_refusal.MergeRefusal.{MergeRefusal}
-use Rattle.dd_file_commands.specs.Merges.{IsMergedText, IsMergeRefusal}
+use Rattle.dd_suite_commands.specs.declared.merge_refusal.MergeRefusal.{MergeRefusal}
+use Rattle.dd_suite_commands.specs.Merges.{IsMergedText, IsMergeRefusal}
 use Rattle.dd_suite_tasks.specs.declared.ending.Ending.{Ending}
 use Rattle.dd_suite_tasks.specs.declared.ending.Ending.TheVariants.{Done, RefusedMerge, StoreFault, SinkFault, Memory}
 use Rattle.dd_suite_tasks.specs.Held.{AreFetched}

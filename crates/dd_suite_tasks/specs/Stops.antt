@@ -3,8 +3,8 @@ use Rattle.std.specs.Prelude.{◌≡◌, ◌⊎◌, ℕ, List, Option, Bool, tru
 use Rattle.std.specs.Io.KnownBytes.{Appends}
 use Rattle.dd_ports.specs.Causes.{Rose}
 use Rattle.dd_ports.specs.Grows.{GrowsByPrefix}
-use Rattle.dd_file_commands.specs.declared.commands.FileCommand.{FileCommand}
-use Rattle.dd_exercise.specs.Exercise.{IsExerciseText}
+use Rattle.dd_suite_commands.specs.declared.commands.FileCommand.{FileCommand}
+use Rattle.dd_suite_exercise.specs.Exercise.{IsExerciseText}
 use Rattle.dd_suite_tasks.specs.declared.ending.Ending.{Ending}
 use Rattle.dd_suite_tasks.specs.declared.ending.Ending.TheVariants.{Done, Usage, Refused, RefusedSymbol}
 use Rattle.dd_suite_tasks.specs.declared.ending.Ending.TheVariants.{StoreFault, SinkFault, Memory}

@@ -5,16 +5,16 @@ use Rattle.dd_words.specs.Grammar.{IsCommand}
 use Rattle.dd_words.specs.declared.commands.Command.{Command}
 use Rattle.dd_words.specs.declared.commands.Command.TheVariants as command
 use Rattle.dd_words.specs.declared.commands.FileKind.TheVariants as kind
-use Rattle.dd_opening_jobs.specs.declared.pace.Pace.{Pace}
-use Rattle.dd_opening_jobs.specs.declared.shards.Shard.{Shard}
-use Rattle.dd_opening_jobs.specs.declared.portions.Portion.{Portion}
+use Rattle.dd_front_jobs.specs.declared.pace.Pace.{Pace}
+use Rattle.dd_front_jobs.specs.declared.shards.Shard.{Shard}
+use Rattle.dd_front_jobs.specs.declared.portions.Portion.{Portion}
 use Rattle.dd_check.specs.declared.kinds.ResumeKind.{ResumeKind}
 use Rattle.dd_check.specs.declared.kinds.ResumeKind.TheVariants.{Catalogues, Shards}
 use Rattle.dd_check.specs.Calls.{Task, Begin, Resume}
-use Rattle.dd_file_commands.specs.declared.commands.FileCommand.{FileCommand}
-use Rattle.dd_file_commands.specs.declared.commands.FileCommand.TheVariants.{Symbols, Info, Sheets, Draw}
-use Rattle.dd_file_commands.specs.declared.commands.SymbolCommand.{SymbolCommand}
-use Rattle.dd_file_commands.specs.declared.commands.SymbolCommand.TheVariants.{Lines, Canon, Minimal, Dual, Oriented, Torus, Derived, Applied}
+use Rattle.dd_suite_commands.specs.declared.commands.FileCommand.{FileCommand}
+use Rattle.dd_suite_commands.specs.declared.commands.FileCommand.TheVariants.{Symbols, Info, Sheets, Draw}
+use Rattle.dd_suite_commands.specs.declared.commands.SymbolCommand.{SymbolCommand}
+use Rattle.dd_suite_commands.specs.declared.commands.SymbolCommand.TheVariants.{Lines, Canon, Minimal, Dual, Oriented, Torus, Derived, Applied}
 
 -- A run of a chain as words ask for it: its task, how many jobs go into a round, and after how many lines it is to pause, if it is.
 pub record Order : Type 0 where

@@ -2,8 +2,8 @@ ghost use Rattle.std.specs.Prelude.{◌≡◌};
 
 use crate::status::Status;
 use dd_check::ShardFault;
-use dd_file_commands::{CommandFault, MergeRefusal, SymbolRefusal};
 use dd_pages_and_checkpoints::{Finish, RunFault};
+use dd_suite_commands::{CommandFault, MergeRefusal, SymbolRefusal};
 use dd_text::FileFault;
 
 /// How a command ended, with all that its line on the error stream says.

@@ -7,8 +7,8 @@ ghost use Rattle.dd_suite_tasks.specs.Stops.{IsFetchStop, IsWriteEnding, HasFile
 
 use crate::ending::Ending;
 use crate::fetch::fetch_all;
-use dd_file_commands::{FileCommand, text_of_file};
 use dd_ports::{Sink, SinkFault, Store, StoreFault, write_all_of};
+use dd_suite_commands::{FileCommand, text_of_file};
 use dd_text::{FileFault, Why};
 use std::alloc::Global;
 

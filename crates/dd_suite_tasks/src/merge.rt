@@ -4,14 +4,14 @@ ghost use Rattle.dd_ports.specs.declared.store.StoreFault.TheVariants.{Failed};
 ghost use Rattle.dd_ports.specs.Causes.{HasCause, StaysSure};
 ghost use Rattle.dd_ports.specs.Grows.{GrowsByPrefix};
 ghost use Rattle.dd_ports.specs.Texts.{SameTexts};
-ghost use Rattle.dd_file_commands.specs.Merges.{bytes_of};
+ghost use Rattle.dd_suite_commands.specs.Merges.{bytes_of};
 ghost use Rattle.dd_suite_tasks.specs.Merges.{AreFetchedFronts, IsMergeOfHeld, AppendsMerge, HasMergeCause};
 
 use crate::ending::Ending;
 use crate::fetch::fetch_front;
 use crate::file::write_text;
-use dd_file_commands::{Stop, merge_files};
 use dd_ports::{Sink, Store, StoreFault};
+use dd_suite_commands::{Stop, merge_files};
 use dd_words::Name;
 use std::alloc::Global;
 use std::thread::Threads;

@@ -9,8 +9,8 @@ ghost use Rattle.dd_suite_tasks.specs.Messages.{IsShort};
 
 use crate::ending::Ending;
 use dd_check::ShardFault;
-use dd_file_commands::{MergeRefusal, SymbolRefusal};
 use dd_ports::{Sink, SinkFault, write_all_of};
+use dd_suite_commands::{MergeRefusal, SymbolRefusal};
 use dd_text::FileFault;
 use itoa::Buffer;
 use std::alloc::Global;

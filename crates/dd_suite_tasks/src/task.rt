@@ -1,6 +1,6 @@
 use dd_check::ResumeKind;
-use dd_file_commands::FileCommand;
-use dd_opening_jobs::{Pace, Portion};
+use dd_front_jobs::{Pace, Portion};
+use dd_suite_commands::FileCommand;
 use dd_words::{Name, Names};
 
 /// What the program does.

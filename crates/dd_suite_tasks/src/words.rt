@@ -7,9 +7,9 @@ ghost use Rattle.dd_suite_tasks.specs.Commands.{IsBegunBy, IsTaskOf, AskForTask}
 
 use crate::task::Task;
 use dd_check::ResumeKind;
-use dd_file_commands::{FileCommand, SymbolCommand};
+use dd_front_jobs::{Pace, Portion};
 use dd_model::Memory;
-use dd_opening_jobs::{Pace, Portion};
+use dd_suite_commands::{FileCommand, SymbolCommand};
 use dd_words::{Command, FileKind, Name, WordsFault, read_words};
 use std::alloc::Global;
 use std::rc::RcStr;

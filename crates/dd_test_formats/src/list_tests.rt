@@ -1,7 +1,7 @@
 ghost use Rattle.std.specs.Prelude.{◌≡◌};
 
+use dd_member_lists::{SymbolList, Symbols};
 use dd_symbol::{Symbol, build};
-use dd_symbol_list::{SymbolList, Symbols};
 use dd_text::put_list;
 use std::alloc::Global;
 use std::process::Abort;

@@ -1,8 +1,8 @@
 use crate::front_events::is_job_of;
 use dd_branch::Search;
 use dd_front::{Event, Finder, Front, Members};
+use dd_member_lists::SymbolList;
 use dd_model::{Allowed, Job, Memory, Position, Prefix, Request};
-use dd_symbol_list::SymbolList;
 use std::alloc::Global;
 use std::process::Abort;
 

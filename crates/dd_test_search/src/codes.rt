@@ -1,5 +1,5 @@
+use dd_member_lists::SymbolList;
 use dd_symbol::Symbol;
-use dd_symbol_list::SymbolList;
 use std::alloc::Global;
 use std::process::Abort;
 

@@ -1,7 +1,7 @@
 use crate::codes::{has_code, have_codes};
 use dd_branch_degrees::{Table, add_members_of, members_of};
+use dd_member_lists::SymbolList;
 use dd_model::Request;
-use dd_symbol_list::SymbolList;
 use std::alloc::Global;
 use std::process::Abort;
 

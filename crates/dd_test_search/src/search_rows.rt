@@ -6,8 +6,8 @@ use dd_branch::{Descent, Search};
 use dd_branch_bounds::PathShares;
 use dd_branch_tables::PrefixSearch;
 use dd_front::Finder;
+use dd_member_lists::SymbolList;
 use dd_model::{Job, Prefix, Request};
-use dd_symbol_list::SymbolList;
 use std::alloc::Global;
 use std::process::Abort;
 

@@ -3,9 +3,9 @@ ghost use Rattle.dd_branch_tables.specs.Stem.{IsStem};
 
 use dd_branch_degrees::Table;
 use dd_branch_tables::{Stem, Visit};
+use dd_front_jobs::{is_opening, opening};
 use dd_invol::{Walk, children, tables_under};
 use dd_model::{Allowed, Index, Job, Prefix, Request};
-use dd_opening_jobs::{is_opening, opening};
 use std::alloc::Global;
 use std::process::Abort;
 

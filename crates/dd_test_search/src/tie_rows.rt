@@ -4,11 +4,11 @@ ghost use Rattle.dd_model.specs.Jobs.{IsJobOf};
 
 use dd_branch_degrees::{Table, Ties, members_of};
 use dd_canon::tied_starts;
+use dd_front_jobs::opening;
 use dd_invol::tables_under;
+use dd_member_lists::SymbolList;
 use dd_model::{Allowed, Job, Request};
-use dd_opening_jobs::opening;
 use dd_symbol::Connected;
-use dd_symbol_list::SymbolList;
 use std::alloc::Global;
 use std::process::Abort;
 

@@ -3,8 +3,8 @@ ghost use Rattle.dd_model.specs.Longer.{IsLonger};
 ghost use Rattle.dd_text.specs.Writing.{AddsLines};
 
 use crate::outline::Outline;
+use dd_member_lists::Symbols;
 use dd_model::Memory;
-use dd_symbol_list::Symbols;
 
 /// Appends the lines of the symbols of a list, numbered from `before + 1` on. At `Err` the text is
 /// as before.

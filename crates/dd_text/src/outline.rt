@@ -11,9 +11,9 @@ use crate::least::add_least;
 use crate::line_numbers::count_up;
 use crate::line_writer::{put_cells, put_image, put_number, put_ordinal};
 use crate::told_degrees::put_told;
+use dd_member_lists::Listed;
 use dd_model::{Memory, Pair, put_bytes};
 use dd_symbol::Symbol;
-use dd_symbol_list::Listed;
 use std::alloc::Global;
 
 /// What a line has in common with the next one. From line to line the number is counted up in its

@@ -20,7 +20,7 @@ use Rattle.dd_words.proofs.Told.{same_setting}
 use Rattle.dd_words.proofs.OneValue.{not_both, same_value}
 use Rattle.dd_words.proofs.ClapRows.{same_word, value_in}
 use Rattle.dd_words.proofs.ClapReads.{picked}
-use Rattle.dd_opening_jobs.specs.declared.pace.Pace.{Pace}
+use Rattle.dd_front_jobs.specs.declared.pace.Pace.{Pace}
 use Rattle.std.proofs.lemmas.Option.{same_Some}
 
 same_given : (g : Given) (s : Setting) (x : Text) → g.setting ≡ s → g.value ≡ x → g ≡ record { setting = s; value = x }

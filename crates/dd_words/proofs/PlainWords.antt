@@ -23,7 +23,7 @@ use Rattle.dd_words.specs.SettingNames.{is_of_catalogue, is_of_run, has_setting,
 use Rattle.dd_words.specs.Grammar.{IsRun, IsCatalogue, IsSaid}
 use Rattle.dd_words.specs.GivenValues.{IsNumberOr, IsNumberIfGiven, IsNameIfGiven, IsSet, IsFramed, IsShapeWord}
 use Rattle.dd_words.specs.FirstWords.{verb_of}
-use Rattle.dd_opening_jobs.specs.declared.pace.Pace.{Pace}
+use Rattle.dd_front_jobs.specs.declared.pace.Pace.{Pace}
 use Rattle.dd_words.proofs.OneValue.{not_both, same_value, only_number}
 
 digit_is_no_dash : (b : ℕ) → IsAsciiDigit b → b ≢ 45

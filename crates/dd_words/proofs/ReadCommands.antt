@@ -4,10 +4,10 @@ use Rattle.std.specs.Prelude.{IsSome, is_some}
 use Rattle.std.proofs.lemmas.List.{length-map, map_more}
 use Rattle.dd_model.specs.declared.requests.Request.{Request}
 use Rattle.dd_model.proofs.Lists.{cons_head, cons_tail}
-use Rattle.dd_opening_jobs.specs.declared.pace.Pace.{Pace}
-use Rattle.dd_opening_jobs.specs.declared.shards.Shard.{Shard}
-use Rattle.dd_opening_jobs.proofs.PaceLaws.{same_pace}
-use Rattle.dd_opening_jobs.proofs.ShardLaws.{same_shard}
+use Rattle.dd_front_jobs.specs.declared.pace.Pace.{Pace}
+use Rattle.dd_front_jobs.specs.declared.shards.Shard.{Shard}
+use Rattle.dd_front_jobs.proofs.PaceLaws.{same_pace}
+use Rattle.dd_front_jobs.proofs.ShardLaws.{same_shard}
 use Rattle.dd_opword.specs.declared.words.OpWord.{OpWord}
 use Rattle.dd_opword.proofs.SpelledWords.{one_op_word}
 use Rattle.dd_words.specs.declared.commands.Command.{Command}

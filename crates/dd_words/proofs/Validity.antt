@@ -6,8 +6,8 @@ use Rattle.dd_model.specs.Request.{IsValid, HasNumber}
 use Rattle.dd_model.specs.declared.allowed.Allowed.{Allowed}
 use Rattle.dd_model.specs.declared.requests.Request.{Request}
 use Rattle.dd_words.specs.declared.settings.Setting.{Setting}
-use Rattle.dd_opening_jobs.specs.declared.pace.Pace.{Pace}
-use Rattle.dd_opening_jobs.specs.declared.shards.Shard.{Shard}
+use Rattle.dd_front_jobs.specs.declared.pace.Pace.{Pace}
+use Rattle.dd_front_jobs.specs.declared.shards.Shard.{Shard}
 use Rattle.dd_words.specs.declared.commands.Command.TheVariants.{Catalogue, Shard as ShardOf}
 use Rattle.dd_words.specs.Values.{Text, AsksForNumbers, IsCovered, items_of}
 use Rattle.dd_words.specs.Given.{Given}

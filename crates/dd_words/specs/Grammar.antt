@@ -2,8 +2,8 @@
 use Rattle.std.specs.Prelude.{◌≡◌, ℕ, ◌≤◌, List, [], ◌∷◌, length, Option, IsSome}
 use Rattle.std.specs.List.{AllByRecursion}
 use Rattle.dd_model.specs.declared.requests.Request.{Request}
-use Rattle.dd_opening_jobs.specs.declared.pace.Pace.{Pace}
-use Rattle.dd_opening_jobs.specs.declared.shards.Shard.{Shard}
+use Rattle.dd_front_jobs.specs.declared.pace.Pace.{Pace}
+use Rattle.dd_front_jobs.specs.declared.shards.Shard.{Shard}
 use Rattle.dd_words.specs.declared.settings.Setting.TheVariants.{Tiles, Vertices, LeastFace, LeastDegree, Faces, Degrees, Minimal, Workers, Round, Pause, Checkpoint}
 use Rattle.dd_model.specs.declared.frame.Frame.{Frame}
 use Rattle.dd_opword.specs.Words.{IsSpelled}

@@ -1,5 +1,5 @@
 ghost use Rattle.std.specs.Prelude.{◌≡◌, ◌∷◌, map, IfOk, IfSome, IfNone};
-ghost use Rattle.dd_opening_jobs.specs.declared.shards.Shard.{Shard as Numbers};
+ghost use Rattle.dd_front_jobs.specs.declared.shards.Shard.{Shard as Numbers};
 ghost use Rattle.std.specs.Rc.{rc_str_bytes};
 ghost use Rattle.dd_words.specs.declared.commands.Command.{Command};
 ghost use Rattle.dd_words.specs.Laying.{texts};
@@ -15,8 +15,8 @@ use crate::requests::{RunSettings, read_request, read_run};
 use crate::settings::Setting;
 use crate::values::read_number_in;
 use crate::verbs::Verb;
+use dd_front_jobs::Shard;
 use dd_model::Request;
-use dd_opening_jobs::Shard;
 use dd_opword::OpWord;
 use std::alloc::Global;
 use std::rc::RcStr;

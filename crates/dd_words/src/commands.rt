@@ -1,6 +1,6 @@
 use crate::names::{Name, Names};
+use dd_front_jobs::{Pace, Shard};
 use dd_model::{Frame, Request};
-use dd_opening_jobs::{Pace, Shard};
 use dd_opword::OpWord;
 use dd_template::Operation;
 

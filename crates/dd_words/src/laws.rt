@@ -1,7 +1,7 @@
 ghost use Rattle.std.specs.Prelude.{◌≡◌, ℕ, List, Option};
 ghost use Rattle.dd_model.specs.Request.{IsValid};
 ghost use Rattle.dd_model.specs.declared.requests.Request.{Request};
-ghost use Rattle.dd_opening_jobs.specs.declared.pace.Pace.{Pace};
+ghost use Rattle.dd_front_jobs.specs.declared.pace.Pace.{Pace};
 ghost use Rattle.dd_words.specs.declared.commands.Command.{Command};
 ghost use Rattle.dd_words.specs.declared.commands.Command.TheVariants.{Catalogue};
 ghost use Rattle.dd_words.specs.Grammar.{IsCommand};

@@ -1,13 +1,13 @@
 ghost use Rattle.std.specs.Prelude.{ℕ, Option, IfSome, IfNone};
 ghost use Rattle.dd_model.specs.declared.requests.Request.{Request};
-ghost use Rattle.dd_opening_jobs.specs.declared.pace.Pace.{Pace as Numbers};
+ghost use Rattle.dd_front_jobs.specs.declared.pace.Pace.{Pace as Numbers};
 ghost use Rattle.dd_words.specs.Grammar.{IsRequested, IsRun};
 
 use crate::given::Settings;
 use crate::settings::Setting;
 use crate::values::read_number_in;
+use dd_front_jobs::Pace;
 use dd_model::Request;
-use dd_opening_jobs::Pace;
 
 /// How a catalogue is run.
 #[derive(Clone, Copy)]

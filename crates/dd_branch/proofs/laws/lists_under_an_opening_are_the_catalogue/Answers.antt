@@ -1,6 +1,6 @@
 use Rattle.dd_model.specs.Joined.{joined}
 use Rattle.dd_model.proofs.JoinedLists.{in_turn_joined}
-use Rattle.dd_opening_jobs.proofs.OpeningLaws.{opening_apart, under_opening}
+use Rattle.dd_front_jobs.proofs.OpeningLaws.{opening_apart, under_opening}
 use Rattle.dd_branch.proofs.laws.lists_under_an_opening_are_the_catalogue.Goals as goal
 
 pub returns : goal.returns

@@ -1,7 +1,7 @@
 use Rattle.std.proofs.Common.{◌≡◌, ◌⊎◌, ◌↔◌, length, sym, ap, ◌∙◌, subst}
 use Rattle.dd_model.specs.Code.{IsBelow}
 use Rattle.dd_model.specs.Symbol.{Symbol}
-use Rattle.dd_opening_jobs.specs.Under.{IsUnder, AreUnder, Appends}
+use Rattle.dd_front_jobs.specs.Under.{IsUnder, AreUnder, Appends}
 use Rattle.dd_branch_tables.specs.Levels.{IsLeft, IsLeftAt, first_at, first_of}
 use Rattle.dd_branch_tables.proofs.Prefixes.{not_whole}
 use Rattle.dd_branch_tables.proofs.Advances.{of_first}

@@ -1,7 +1,7 @@
 use Rattle.std.proofs.Common.{◌≡◌, ℕ, ◌+◌, ◌-◌, ◌*◌, ◌/◌, ◌%◌, ◌≢◌, ◌<◌, ◌≤◌, List, length, get_or, sym, ap, ◌∙◌, inl, inr, arith}
 use Rattle.dd_model.specs.Symbol.{Symbol, op}
 use Rattle.dd_canon.specs.Traversal.{IsVisit, IsMeeting}
-use Rattle.dd_opening_jobs.specs.Places.{index_at}
+use Rattle.dd_front_jobs.specs.Places.{index_at}
 use Rattle.dd_branch_tables.specs.Rows.{partial_of, HasNumberAt}
 use Rattle.dd_branch_tables.proofs.Passing.{ReadsNext, passing_begun, passing_more, passed_here, agreeing_here, unknown_here}
 use Rattle.dd_branch_tables.proofs.Traversing.{AreInside, extends_met, inside_begun, inside_met, met_at, reads_more, beats_here, visit_of}

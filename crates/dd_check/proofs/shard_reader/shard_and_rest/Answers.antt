@@ -2,7 +2,7 @@ use Rattle.std.proofs.Common.{Some, sym, subst, ◌≡◌, ◌++◌}
 use Rattle.std.proofs.lemmas.Slice.Eq.{strip_prefix_is}
 use Rattle.std.proofs.lemmas.Bool.Decides.{Decides-eqb}
 use Rattle.std.specs.Prelude.{MatchOption}
-use Rattle.dd_opening_jobs.specs.declared.shards.Shard.{Shard}
+use Rattle.dd_front_jobs.specs.declared.shards.Shard.{Shard}
 use Rattle.dd_check.specs.Texts.{Text}
 use Rattle.dd_check.specs.ShardFaults.{shard_words, IsRest}
 use Rattle.dd_check.proofs.shard_reader.shard_and_rest.Goals as goal

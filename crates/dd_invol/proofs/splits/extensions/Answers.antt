@@ -3,7 +3,7 @@ use Rattle.dd_model.specs.Jobs.{extended}
 use Rattle.dd_model.specs.Jobs.{AreExtensions}
 use Rattle.dd_invol.specs.Children.{IsStemOf}
 use Rattle.dd_branch_tables.specs.Stem.{Any, prefix_of}
-use Rattle.dd_opening_jobs.specs.Under.{HasNothingUnder}
+use Rattle.dd_front_jobs.specs.Under.{HasNothingUnder}
 use Rattle.dd_branch_tables.proofs.Extensions.{AreExtensionsBelow, none_of_any, extensions_none, extensions_first, extensions_more, extensions_skip, extensions_all}
 use Rattle.dd_invol.proofs.splits.extensions.Goals as goal
 use Rattle.dd_invol.proofs.splits.extensions.Goals.{then-may_grow+in_ok-child+in_ok-push, else-may_grow}

@@ -1,5 +1,5 @@
 use Rattle.std.proofs.Common.{IsTrue, false, sym, subst}
-use Rattle.dd_opening_jobs.specs.FirstVisit.{CanFollow}
+use Rattle.dd_front_jobs.specs.FirstVisit.{CanFollow}
 use Rattle.dd_branch_tables.specs.Stem.{prefix_of, size_of}
 use Rattle.dd_branch_tables.proofs.Extensions.{none_cannot}
 use Rattle.dd_invol.proofs.splits.may_grow.Goals as goal

@@ -1,6 +1,6 @@
 use Rattle.std.proofs.Common.{subst}
 use Rattle.dd_ports.specs.Grows.{GrowsByPrefix}
-use Rattle.dd_exercise.proofs.OneText.{text_once}
+use Rattle.dd_suite_exercise.proofs.OneText.{text_once}
 use Rattle.dd_suite.proofs.exercise.write_exercise.Goals as goal
 
 pub returns-in-Ok-clause-prefix : goal.returns-in-Ok-clause-prefix

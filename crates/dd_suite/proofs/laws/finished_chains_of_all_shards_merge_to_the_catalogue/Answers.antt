@@ -1,4 +1,4 @@
-use Rattle.dd_file_commands.proofs.ShardTexts.{shards_not_refused, shards_text}
+use Rattle.dd_suite_commands.proofs.ShardTexts.{shards_not_refused, shards_text}
 use Rattle.dd_suite.proofs.ShardRuns.{made_texts}
 use Rattle.dd_suite.proofs.laws.finished_chains_of_all_shards_merge_to_the_catalogue.Goals as goal
 

@@ -1,6 +1,6 @@
 use Rattle.std.proofs.Common.{subst}
 use Rattle.dd_ports.specs.Grows.{GrowsByPrefix}
-use Rattle.dd_file_commands.specs.Files.{IsFileText}
+use Rattle.dd_suite_commands.specs.Files.{IsFileText}
 use Rattle.dd_suite_tasks.proofs.HeldTexts.{prefix_of_each_file}
 use Rattle.dd_suite_tasks.proofs.file.write_file.Goals as goal
 

@@ -2,7 +2,7 @@ use Rattle.std.proofs.Common.{◌≡◌, ◌≤◌, true, take}
 use Rattle.std.specs.Prelude.{IsSome}
 use Rattle.std.specs.List.{AllByRecursion}
 use Rattle.dd_ports.specs.Texts.{SameTexts}
-use Rattle.dd_file_commands.specs.Merges.{bytes_of}
+use Rattle.dd_suite_commands.specs.Merges.{bytes_of}
 use Rattle.dd_suite_tasks.specs.Merges.{AreFetchedFronts}
 use Rattle.dd_suite_tasks.proofs.merge.fetch_files.Given as goal
 

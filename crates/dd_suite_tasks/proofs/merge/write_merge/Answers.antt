@@ -2,9 +2,9 @@ use Rattle.std.proofs.Common.{◌≤◌, length, sym, subst, arith}
 use Rattle.std.specs.Io.KnownBytes.{Appends}
 use Rattle.std.proofs.KnownBytes.{Appends-nil}
 use Rattle.dd_ports.specs.Grows.{GrowsByPrefix}
-use Rattle.dd_file_commands.specs.Merges.{bytes_of, IsMergedText, IsMergeRefusal}
-use Rattle.dd_file_commands.specs.Stops.{IsStop}
-use Rattle.dd_file_commands.proofs.MergedTexts.{files_length}
+use Rattle.dd_suite_commands.specs.Merges.{bytes_of, IsMergedText, IsMergeRefusal}
+use Rattle.dd_suite_commands.specs.Stops.{IsStop}
+use Rattle.dd_suite_commands.proofs.MergedTexts.{files_length}
 use Rattle.dd_suite_tasks.proofs.FetchedFronts.{fronts_length, merge_of_fronts, unmerged_of_fronts}
 use Rattle.dd_suite_tasks.proofs.MergedOfHeld.{prefix_of_each_merge, merge_cause}
 use Rattle.dd_suite_tasks.proofs.merge.write_merge.Goals as goal

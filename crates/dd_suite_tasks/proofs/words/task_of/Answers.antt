@@ -1,5 +1,5 @@
 use Rattle.std.proofs.Common.{◌≡◌, sym, ap, ◌∙◌}
-use Rattle.dd_opening_jobs.specs.declared.portions.Portion.{Portion}
+use Rattle.dd_front_jobs.specs.declared.portions.Portion.{Portion}
 use Rattle.dd_suite_tasks.specs.Words.{begin_command}
 use Rattle.dd_suite_tasks.proofs.words.task_of.Goals as goal
 

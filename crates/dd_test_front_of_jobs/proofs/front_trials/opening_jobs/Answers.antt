@@ -1,5 +1,5 @@
 use Rattle.std.proofs.lemmas.Result.{IfOk-weaker}
-use Rattle.dd_opening_jobs.proofs.OpeningLaws.{opening_apart}
+use Rattle.dd_front_jobs.proofs.OpeningLaws.{opening_apart}
 use Rattle.dd_test_front_of_jobs.proofs.front_trials.opening_jobs.Goals as goal
 
 pub returns-clause-apart : goal.returns-clause-apart

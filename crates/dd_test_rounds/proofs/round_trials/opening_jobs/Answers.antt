@@ -1,5 +1,5 @@
 use Rattle.std.proofs.lemmas.Result.{IfOk-weaker}
-use Rattle.dd_opening_jobs.proofs.OpeningLaws.{opening_apart, opening_jobs}
+use Rattle.dd_front_jobs.proofs.OpeningLaws.{opening_apart, opening_jobs}
 use Rattle.dd_test_rounds.proofs.round_trials.opening_jobs.Goals as goal
 
 pub returns-clause-apart : goal.returns-clause-apart

@@ -1,7 +1,7 @@
 use Rattle.dd_model.specs.Wanted.{IsMember}
 use Rattle.dd_branch_tables.specs.Stem.{size_of}
 use Rattle.dd_branch_tables.proofs.Prefixes.{appends_none, none_under}
-use Rattle.dd_opening_jobs.specs.Under.{AreUnder}
+use Rattle.dd_front_jobs.specs.Under.{AreUnder}
 use Rattle.dd_branch.proofs.Descents.{added_members}
 use Rattle.dd_branch.proofs.GoingBack.{is_descent}
 use Rattle.dd_branch.proofs.descent.Descent.add_under.Goals as goal

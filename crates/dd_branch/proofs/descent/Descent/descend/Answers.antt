@@ -1,7 +1,7 @@
 use Rattle.std.proofs.Common.{sym, ap, ◌∙◌, subst}
 use Rattle.dd_model.specs.Wanted.{IsMember}
 use Rattle.dd_branch_tables.specs.Stem.{prefix_of, size_of}
-use Rattle.dd_opening_jobs.specs.Under.{IsUnder}
+use Rattle.dd_front_jobs.specs.Under.{IsUnder}
 use Rattle.dd_branch.specs.Descent.{IsDescent, shorter}
 use Rattle.dd_branch.proofs.descent.Descent.descend.Goals as goal
 

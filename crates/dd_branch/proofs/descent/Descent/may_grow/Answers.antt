@@ -1,6 +1,6 @@
 use Rattle.std.proofs.Common.{◌≡◌, IsTrue, false, sym, ap, subst}
 use Rattle.dd_model.specs.Wanted.{IsMember}
-use Rattle.dd_opening_jobs.specs.FirstVisit.{CanFollow}
+use Rattle.dd_front_jobs.specs.FirstVisit.{CanFollow}
 use Rattle.dd_branch_tables.specs.Stem.{prefix_of, size_of}
 use Rattle.dd_branch_tables.proofs.Extensions.{none_cannot}
 use Rattle.dd_branch.specs.Descent.{Descending}

@@ -2,7 +2,7 @@ use Rattle.std.proofs.Common.{◌≡◌, ◌+◌, List, [], ◌∷◌, ◌++◌,
 use Rattle.dd_model.specs.Wanted.{IsMember}
 use Rattle.dd_branch_tables.specs.Rows.{depth_of}
 use Rattle.dd_branch_tables.specs.Stem.{prefix_of, size_of}
-use Rattle.dd_opening_jobs.specs.Under.{HasNothingUnder}
+use Rattle.dd_front_jobs.specs.Under.{HasNothingUnder}
 use Rattle.dd_branch_bounds.specs.Kept.{with_sides}
 use Rattle.dd_branch.specs.Descent.{Descending, IsDescent, HasDescended, shorter}
 use Rattle.dd_branch.specs.declared.undo_point.UndoPoint.{UndoPoint}

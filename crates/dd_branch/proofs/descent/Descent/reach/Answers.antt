@@ -3,8 +3,8 @@ use Rattle.std.proofs.lemmas.List.{take_more, length-take}
 use Rattle.dd_model.specs.Wanted.{IsMember}
 use Rattle.dd_model.specs.declared.requests.Request.{Request}
 use Rattle.dd_branch_tables.specs.Stem.{prefix_of, size_of}
-use Rattle.dd_opening_jobs.proofs.Growth.{begins_take}
-use Rattle.dd_opening_jobs.specs.Under.{HasNothingUnder}
+use Rattle.dd_front_jobs.proofs.Growth.{begins_take}
+use Rattle.dd_front_jobs.specs.Under.{HasNothingUnder}
 use Rattle.dd_branch.specs.Descent.{Descending}
 use Rattle.dd_branch.proofs.Descents.{no_member_under_front}
 use Rattle.dd_branch.proofs.GoingBack.{goes_back_longer, is_descent}

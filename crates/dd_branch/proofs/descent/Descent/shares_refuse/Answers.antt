@@ -1,7 +1,7 @@
 use Rattle.std.proofs.Common.{[], ◌∷◌, ◌++◌, ◌*◌, ◌<◌, length, sym, ap, subst}
 use Rattle.dd_model.specs.Wanted.{IsMember}
 use Rattle.dd_branch_tables.specs.Stem.{prefix_of, size_of}
-use Rattle.dd_opening_jobs.specs.Under.{HasNothingUnder}
+use Rattle.dd_front_jobs.specs.Under.{HasNothingUnder}
 use Rattle.dd_branch.specs.Descent.{Descending, IsDescent}
 use Rattle.dd_branch.proofs.Descents.{none_with_number}
 use Rattle.dd_branch.proofs.descent.Descent.shares_refuse.Goals as goal

@@ -2,7 +2,7 @@ use Rattle.std.proofs.Common.{◌≡◌, ◌*◌, length, sym, subst}
 use Rattle.std.proofs.lemmas.Result.{on_ok_weaker}
 use Rattle.dd_model.specs.Wanted.{IsMember}
 use Rattle.dd_branch_tables.specs.Stem.{Any, prefix_of, size_of}
-use Rattle.dd_opening_jobs.specs.Under.{Appends, AreUnder, HasNothingUnder}
+use Rattle.dd_front_jobs.specs.Under.{Appends, AreUnder, HasNothingUnder}
 use Rattle.dd_branch_tables.proofs.Prefixes.{appends_dead}
 use Rattle.dd_branch_tables.proofs.Stems.{any_under}
 use Rattle.dd_branch.specs.Descent.{Descending}

@@ -4,7 +4,7 @@ use Rattle.std.proofs.lemmas.Nat.Bits.{bit_at-lt}
 use Rattle.dd_model.specs.Wanted.{IsMember}
 use Rattle.dd_branch_tables.specs.Chambers.{bit_of}
 use Rattle.dd_branch_tables.specs.Stem.{prefix_of, size_of}
-use Rattle.dd_opening_jobs.specs.Under.{HasNothingUnder}
+use Rattle.dd_front_jobs.specs.Under.{HasNothingUnder}
 use Rattle.dd_branch.specs.Descent.{Descending, IsDescent}
 use Rattle.dd_branch.proofs.Descents.{none_with_number}
 use Rattle.dd_branch.proofs.Splits.{none_where_no_table}

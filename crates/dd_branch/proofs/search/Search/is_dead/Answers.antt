@@ -4,8 +4,8 @@ use Rattle.std.proofs.lemmas.Slice.Eq.{starts_is}
 use Rattle.dd_model.specs.Lists.{Begins}
 use Rattle.dd_model.specs.Wanted.{IsMember}
 use Rattle.dd_model.proofs.SmallerPlaces.{begins_by_test}
-use Rattle.dd_opening_jobs.proofs.Growth.{begins_take}
-use Rattle.dd_opening_jobs.specs.Under.{HasNothingUnder}
+use Rattle.dd_front_jobs.proofs.Growth.{begins_take}
+use Rattle.dd_front_jobs.specs.Under.{HasNothingUnder}
 use Rattle.dd_branch.specs.Search.{IsDead}
 use Rattle.dd_branch.proofs.Descents.{no_member_under_front}
 use Rattle.dd_branch.proofs.search.Search.is_dead.Goals as goal

@@ -1,7 +1,7 @@
 use Rattle.std.proofs.Common.{[], refl, ap, ◌∙◌}
 use Rattle.dd_model.specs.Jobs.{AreMembersUnder}
 use Rattle.dd_model.specs.Wanted.{IsMember}
-use Rattle.dd_opening_jobs.specs.Under.{HasNothingUnder}
+use Rattle.dd_front_jobs.specs.Under.{HasNothingUnder}
 use Rattle.dd_branch_tables.specs.Stem.{size_of}
 use Rattle.dd_branch_tables.proofs.Filling.{on_false_from}
 use Rattle.dd_branch.specs.Descent.{Descending}

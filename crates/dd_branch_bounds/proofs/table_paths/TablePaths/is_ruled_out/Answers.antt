@@ -3,7 +3,7 @@ use Rattle.std.proofs.lemmas.Bool.{eq-eqb, eqb-true}
 use Rattle.std.specs.Prelude.{nat_eq}
 use Rattle.dd_model.specs.Partial.{Completes}
 use Rattle.dd_model.specs.Symbol.{Symbol, op}
-use Rattle.dd_opening_jobs.specs.Places.{index_at}
+use Rattle.dd_front_jobs.specs.Places.{index_at}
 use Rattle.dd_branch_tables.specs.Rows.{partial_of, HasNumberAt}
 use Rattle.dd_branch_bounds.specs.Kept.{IsImage}
 use Rattle.dd_branch_bounds.specs.Passing.{Passes}

@@ -2,7 +2,7 @@ use Rattle.std.proofs.Common.{rules, ◌≡◌, ◌-◌, ◌*◌, ◌%◌, ◌^�
 use Rattle.std.proofs.lemmas.Nat.{one_shl}
 use Rattle.dd_model.specs.Symbol.{Symbol}
 use Rattle.dd_model.specs.Wanted.{IsMember}
-use Rattle.dd_opening_jobs.specs.Under.{Appends, AreUnder}
+use Rattle.dd_front_jobs.specs.Under.{Appends, AreUnder}
 use Rattle.dd_branch_tables.proofs.GrowthLemmas.{grown_same, grown_by, grown_through}
 use Rattle.dd_branch_tables.proofs.Prefixes.{appends_dead}
 use Rattle.dd_branch_degrees.specs.Assignment.{HasLast, next_place, prefix_of, shortened, told}

@@ -1,5 +1,5 @@
 use Rattle.std.proofs.Common.{◌≡◌, ◌<◌, max, length, length-take-le, take, sym, ap, ◌∙◌, arith}
-use Rattle.dd_opening_jobs.specs.FirstVisit.{greatest}
+use Rattle.dd_front_jobs.specs.FirstVisit.{greatest}
 use Rattle.dd_branch_tables.proofs.MostLemmas.{mosts_more}
 use Rattle.dd_branch_tables.proofs.first_numbers.FirstNumbers.push.Goals as goal
 

@@ -1,10 +1,10 @@
 use Rattle.std.proofs.Common.{◌≡◌, ◌≢◌, ◌+◌, ◌/◌, ◌%◌, get_or, set, refl, sym, ap, ◌∙◌, arith}
 use Rattle.std.specs.Int.Bits.{bit_xor}
 use Rattle.dd_model.specs.Symbol.{op}
-use Rattle.dd_opening_jobs.specs.Places.{back_of, bits_of}
+use Rattle.dd_front_jobs.specs.Places.{back_of, bits_of}
 use Rattle.dd_branch_tables.specs.Rows.{partial_of}
 use Rattle.dd_branch_tables.specs.declared.partial_table.PartialTable.{PartialTable}
-use Rattle.dd_opening_jobs.proofs.Places.{chamber_of_place}
+use Rattle.dd_front_jobs.proofs.Places.{chamber_of_place}
 use Rattle.dd_branch_tables.proofs.RowsLemmas.{IsPut, HasBoth, back_is_place, flipped_by, known_excludes, put_learns, put_ready, put_told, room_left, told_at}
 use Rattle.dd_branch_tables.proofs.Commuting.{put_others}
 use Rattle.dd_branch_tables.proofs.Filling.{at_place, back_again, chamber_too, from_place, learns_from}

@@ -3,7 +3,7 @@ use denote.Enum.Bare.{same_true, same_false}
 use Rattle.dd_model.specs.contracts.index.Index.{the_type}
 use Rattle.dd_model.specs.declared.index.Index.TheVariants.{One}
 use Rattle.dd_model.specs.Symbol.{Symbol, op}
-use Rattle.dd_opening_jobs.specs.Places.{index_at}
+use Rattle.dd_front_jobs.specs.Places.{index_at}
 use Rattle.dd_branch_tables.specs.Commuting.{CommutesAt}
 use Rattle.dd_branch_tables.specs.Rows.{partial_of, unwound, Commutes}
 use Rattle.dd_branch_tables.proofs.Commuting.{commuting_beside, commuting_round, ready_leads_back}

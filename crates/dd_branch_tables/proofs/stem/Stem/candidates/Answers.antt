@@ -2,8 +2,8 @@ use Rattle.std.proofs.Common.{◌≡◌, ◌≢◌, ◌+◌, ◌-◌, ◌%◌, l
 use Rattle.std.proofs.lemmas.Bool.{cases_eq, cases_lt}
 use Rattle.dd_model.specs.declared.index.Index.{Index}
 use Rattle.dd_model.specs.Symbol.{op}
-use Rattle.dd_opening_jobs.specs.Places.{index_at}
-use Rattle.dd_opening_jobs.specs.FirstVisit.{greatest}
+use Rattle.dd_front_jobs.specs.Places.{index_at}
+use Rattle.dd_front_jobs.specs.FirstVisit.{greatest}
 use Rattle.dd_branch_tables.specs.Chambers.{bit_of}
 use Rattle.dd_branch_tables.specs.Rows.{partial_of}
 use Rattle.dd_branch_tables.specs.Stem.{prefix_of}

@@ -2,7 +2,7 @@ use Rattle.std.proofs.Common.{[], ◌∷◌, ◌++◌, subst}
 use Rattle.std.specs.Bool.{OnFalse}
 use Rattle.dd_invol.specs.Growth.{Growing}
 use Rattle.dd_branch_tables.specs.Stem.{Any, prefix_of, size_of}
-use Rattle.dd_opening_jobs.specs.Under.{HasNothingUnder}
+use Rattle.dd_front_jobs.specs.Under.{HasNothingUnder}
 use Rattle.dd_invol.proofs.tables.TablesPrefixSearch.enter.Goals as goal
 
 pub returns-clause-dead : goal.returns-clause-dead

@@ -1,5 +1,0 @@
-use Rattle.dd_exercise.proofs.OneText.{text_once}
-use Rattle.dd_exercise.proofs.laws.an_exercise_has_one_text.Goals as goal
-
-pub returns : goal.returns
-returns c = text_once

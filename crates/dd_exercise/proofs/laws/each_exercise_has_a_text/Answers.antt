@@ -1,5 +1,0 @@
-use Rattle.dd_exercise.proofs.TextExists.{text_exists}
-use Rattle.dd_exercise.proofs.laws.each_exercise_has_a_text.Goals as goal
-
-pub returns : goal.returns
-returns c = text_exists

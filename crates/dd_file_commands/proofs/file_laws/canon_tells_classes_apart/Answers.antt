@@ -1,5 +1,0 @@
-use Rattle.dd_file_commands.proofs.CanonTexts.{canon_equal, canon_apart}
-use Rattle.dd_file_commands.proofs.file_laws.canon_tells_classes_apart.Goals as goal
-
-pub returns : goal.returns
-returns c = record { equal = canon_equal; apart = canon_apart }

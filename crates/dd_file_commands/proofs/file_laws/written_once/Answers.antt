@@ -1,5 +1,0 @@
-use Rattle.dd_file_commands.proofs.CanonTexts.{text_once}
-use Rattle.dd_file_commands.proofs.file_laws.written_once.Goals as goal
-
-pub returns : goal.returns
-returns c = text_once

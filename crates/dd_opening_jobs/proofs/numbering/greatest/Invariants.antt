@@ -1,6 +1,0 @@
-use Rattle.std.proofs.Common.{◌≡◌, take}
-use Rattle.dd_opening_jobs.specs.FirstVisit.{greatest}
-use Rattle.dd_opening_jobs.proofs.numbering.greatest.Given as goal
-
-abbrev pub invariant-loop-number : goal.invariant-loop-number
-invariant-loop-number l = l.most ≡ greatest (take l.number-index l.numbers)

@@ -1,6 +1,0 @@
-use Rattle.std.proofs.Common.{sym}
-use Rattle.dd_symbol_list.proofs.Places.{count_of}
-use Rattle.dd_symbol_list.proofs.symbol_list.SymbolList.len.Goals as goal
-
-pub returns : goal.returns
-returns c = sym (count_of c.self.inside.series.items c.self.inside.degrees.items c.self.inside.count c.args.self.now c.self.view_is)
