@@ -72,8 +72,8 @@ same_symbol t s h e = λ i. record {
   m12 = e i;
 }
 
-pub no_vertices : (q : Request) (t : Symbol) (old : List Symbol) → IsAscending old → Adds q (HasVerticesBelow t 0) old old
-no_vertices q t old ascending = nothing_added q (HasVerticesBelow t 0) old ascending (λ s h _. omega (arith, h.below))
+pub no_vertices : (q : Request) (t : Symbol) (old : List Symbol) → Adds q (HasVerticesBelow t 0) old old
+no_vertices q t old = nothing_added q (HasVerticesBelow t 0) old (λ s h _. omega (arith, h.below))
 
 pub vertices-more : (q : Request) (t : Symbol) (k : ℕ) (a b c : List Symbol) → Adds q (HasVerticesBelow t k) a b → Adds q (λ s. s ≡ with_m12 t k) b c
     → Adds q (HasVerticesBelow t (k + 1)) a c
@@ -113,8 +113,8 @@ all_vertices q t k n a c few count done =
     })
 
 -- without a symbol whose vertices have degree 6 there is none with these tiles
-pub no_tiles : (q : Request) (t : Symbol) (old : List Symbol) → t.size ≤ 3 → IsAscending old → (IsAccepted 3 (with_m12 t 364) → ⊥) → Adds q (HasTiles t) old old
-no_tiles q t old few ascending refused = nothing_added q (HasTiles t) old ascending (λ s tiles member.
+pub no_tiles : (q : Request) (t : Symbol) (old : List Symbol) → t.size ≤ 3 → (IsAccepted 3 (with_m12 t 364) → ⊥) → Adds q (HasTiles t) old old
+no_tiles q t old few refused = nothing_added q (HasTiles t) old (λ s tiles member.
     let w = member.wanted in
     let size = tiles.images.size in
     let same = images-sym t s tiles.images in
@@ -128,8 +128,8 @@ no_tiles q t old few ascending refused = nothing_added q (HasTiles t) old ascend
       | Edge ↦ inl (λ d h. refl)
     ])))
 
-pub no_tiles_yet : (q : Request) (t : Symbol) (old : List Symbol) → IsAscending old → Adds q (HasTilesBelow t 0) old old
-no_tiles_yet q t old ascending = nothing_added q (HasTilesBelow t 0) old ascending (λ s h _. omega (arith, h.below))
+pub no_tiles_yet : (q : Request) (t : Symbol) (old : List Symbol) → Adds q (HasTilesBelow t 0) old old
+no_tiles_yet q t old = nothing_added q (HasTilesBelow t 0) old (λ s h _. omega (arith, h.below))
 
 pub tiles-more : (q : Request) (t : Symbol) (k : ℕ) (a b c : List Symbol) → Adds q (HasTilesBelow t k) a b → Adds q (HasTiles (with_m01 t k)) b c
     → Adds q (HasTilesBelow t (k + 1)) a c
@@ -160,8 +160,8 @@ all_tiles q t k n a c few count done =
     })
 
 -- without a symbol of these involutions all of whose degrees are 6 there is none with these involutions
-pub no_images : (q : Request) (t : Symbol) (old : List Symbol) → t.size ≤ 3 → IsAscending old → (IsAccepted 3 (with_m12 (with_m01 t 364) 364) → ⊥) → Adds q (HasImages t) old old
-no_images q t old few ascending refused = nothing_added q (HasImages t) old ascending (λ s images member.
+pub no_images : (q : Request) (t : Symbol) (old : List Symbol) → t.size ≤ 3 → (IsAccepted 3 (with_m12 (with_m01 t 364) 364) → ⊥) → Adds q (HasImages t) old old
+no_images q t old few refused = nothing_added q (HasImages t) old (λ s images member.
     let w = member.wanted in
     let size = images.size in
     let same = images-sym t s images in
@@ -249,9 +249,9 @@ all_images q n lists k a c few count done =
     })
 
 -- what all sizes add to the empty list is the catalogue
-pub all_sizes : (q : Request) (k : ℕ) (list : List Symbol) → q.chambers ≤ k → Adds q (λ s. s.size ≤ k) [] list → IsCatalogue q list
-all_sizes q k list done h = record {
-  ascending = h.ascending;
+pub all_sizes : (q : Request) (k : ℕ) (list : List Symbol) → q.chambers ≤ k → IsAscending list → Adds q (λ s. s.size ≤ k) [] list → IsCatalogue q list
+all_sizes q k list done ascending h = record {
+  ascending = ascending;
   members = λ s. (
     (λ there. ⊎_elim (λ none. absurd (Contains-none s none)) (λ member. member) (h.sound s there)),
     (λ member. let most = member.wanted.chambers in h.complete s (omega arith) member),

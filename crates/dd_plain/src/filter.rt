@@ -1,10 +1,10 @@
 ghost use Rattle.std.specs.Prelude.{◌≡◌, ◌≤◌, OnOk, IfOk};
 ghost use Rattle.dd_model.specs.Request.{IsValid};
-ghost use Rattle.dd_model.specs.Wanted.{IsAscending, IsCatalogue};
+ghost use Rattle.dd_model.specs.Wanted.{IsCatalogue};
 ghost use Rattle.dd_plain.specs.Adds.{Adds};
 ghost use Rattle.dd_plain.specs.Trials.{tried, HasImages, HasTiles};
 
-use crate::insertion::insert;
+use crate::ascending_list::AscendingList;
 use crate::leastness::is_least;
 use crate::trials::{CHAMBERS, DEGREES, SIXES, Trial, is_accepted, symbol_of};
 use crate::wanted::is_wanted;
@@ -17,11 +17,10 @@ fn add_symbol(
     alloc: Global,
     q: &Request,
     symbol: Connected,
-    list: &mut Vec<Connected>,
+    list: &mut AscendingList,
 ) -> Result<(), Memory>
-    requires few { symbol.size ≤ 3 }
-    requires ascending { IsAscending list.old.items }
-    ensures { OnOk result (Adds q.now (λ s. s ≡ symbol) list.old.items list.new.items) }
+    requires { symbol.size ≤ 3 }
+    ensures { OnOk result (Adds q.now (λ s. s ≡ symbol) list.old list.new) }
 {
     if !is_wanted(alloc, q, &symbol)? {
         return Ok(());
@@ -29,8 +28,7 @@ fn add_symbol(
     if !is_least(alloc, &symbol)? {
         return Ok(());
     }
-    insert(list, symbol)?;
-    Ok(())
+    list.insert(symbol)
 }
 
 /// Adds the symbol of a trial, if it has one that belongs to the catalogue.
@@ -38,11 +36,10 @@ fn add_trial(
     alloc: Global,
     q: &Request,
     trial: Trial,
-    list: &mut Vec<Connected>,
+    list: &mut AscendingList,
 ) -> Result<(), Memory>
-    requires few { trial.size ≤ 3 }
-    requires ascending { IsAscending list.old.items }
-    ensures { OnOk result (Adds q.now (λ s. s ≡ tried trial) list.old.items list.new.items) }
+    requires { trial.size ≤ 3 }
+    ensures { OnOk result (Adds q.now (λ s. s ≡ tried trial) list.old list.new) }
 {
     match symbol_of(alloc, trial)? {
         Some(symbol) => add_symbol(alloc, q, symbol, list),
@@ -55,11 +52,10 @@ fn add_tiles(
     alloc: Global,
     q: &Request,
     trial: Trial,
-    list: &mut Vec<Connected>,
+    list: &mut AscendingList,
 ) -> Result<(), Memory>
-    requires few { trial.size ≤ 3 }
-    requires ascending { IsAscending list.old.items }
-    ensures { OnOk result (Adds q.now (HasTiles (tried trial)) list.old.items list.new.items) }
+    requires { trial.size ≤ 3 }
+    ensures { OnOk result (Adds q.now (HasTiles (tried trial)) list.old list.new) }
 {
     // Each number of turns up to three divides 6, so without a symbol with these tiles and degrees
     // of 6 at the vertices there is none with these tiles at all.
@@ -81,11 +77,10 @@ fn add_images(
     alloc: Global,
     q: &Request,
     trial: Trial,
-    list: &mut Vec<Connected>,
+    list: &mut AscendingList,
 ) -> Result<(), Memory>
-    requires few { trial.size ≤ 3 }
-    requires ascending { IsAscending list.old.items }
-    ensures { OnOk result (Adds q.now (HasImages (tried trial)) list.old.items list.new.items) }
+    requires { trial.size ≤ 3 }
+    ensures { OnOk result (Adds q.now (HasImages (tried trial)) list.old list.new) }
 {
     // In the same way, without a symbol whose degrees are all 6 there is none with these
     // involutions.
@@ -104,10 +99,9 @@ fn add_images(
 }
 
 /// Adds the members of one size, by all triples of lists of chambers.
-fn add_size(alloc: Global, q: &Request, size: u32, list: &mut Vec<Connected>) -> Result<(), Memory>
-    requires few { size ≤ 3 }
-    requires ascending { IsAscending list.old.items }
-    ensures { OnOk result (Adds q.now (λ s. s.size ≡ size) list.old.items list.new.items) }
+fn add_size(alloc: Global, q: &Request, size: u32, list: &mut AscendingList) -> Result<(), Memory>
+    requires { size ≤ 3 }
+    ensures { OnOk result (Adds q.now (λ s. s.size ≡ size) list.old list.new) }
 {
     let lists = (CHAMBERS.len() as u64).pow(size);
     for number in 0..lists * lists * lists {
@@ -132,9 +126,9 @@ pub fn plain_catalogue(alloc: Global, q: &Request) -> Result<Vec<Connected>, Mem
     requires few { q.now.chambers ≤ 3 }
     ensures { IfOk result (λ list. IsCatalogue q.now list.items) }
 {
-    let mut list = Vec::new(alloc);
+    let mut list = AscendingList::new(alloc);
     for k in 0..q.chambers {
         add_size(alloc, q, k + 1, &mut list)?;
     }
-    Ok(list)
+    Ok(list.into_vec())
 }

@@ -2,10 +2,10 @@
 //! and whether a symbol is one that a request asks for.
 #![tactic(auto)]
 
+mod ascending_list;
 mod branching;
 mod choices;
 mod filter;
-mod insertion;
 mod leastness;
 mod trials;
 mod wanted;

@@ -4,4 +4,4 @@ use Rattle.dd_plain.proofs.LevelLemmas.{HasVerticesBelow}
 use Rattle.dd_plain.proofs.filter.add_tiles.Given as goal
 
 abbrev pub invariant-loop-m12 : goal.invariant-loop-m12
-invariant-loop-m12 l = Adds l.q (HasVerticesBelow (tried l.trial) l.m12) l.fn.list.items l.list.items
+invariant-loop-m12 l = Adds l.q (HasVerticesBelow (tried l.trial) l.m12) l.fn.list l.list

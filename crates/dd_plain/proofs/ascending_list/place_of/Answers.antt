@@ -4,7 +4,7 @@ use Rattle.std.specs.declared.cmp.Ordering.TheVariants.{Equal, Greater}
 use Rattle.std.proofs.lemmas.List.{get_or_default}
 use Rattle.dd_model.proofs.Codes.{same_from_code_cmp}
 use Rattle.dd_plain.proofs.AscendingLemmas.{above-from, greater_is_above}
-use Rattle.dd_plain.proofs.insertion.place_of.Goals as goal
+use Rattle.dd_plain.proofs.ascending_list.place_of.Goals as goal
 
 pub returns-in-Equal-clause-found : goal.returns-in-Equal-clause-found
 returns-in-Equal-clause-found c =
