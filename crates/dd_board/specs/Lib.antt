@@ -3,3 +3,4 @@ pub mod Calls
 pub mod Shares
 pub mod Ledgers
 pub mod Seats
+pub mod Blanks

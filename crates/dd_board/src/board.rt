@@ -3,6 +3,7 @@ ghost use Rattle.dd_model.specs.Code.{count_from};
 ghost use Rattle.dd_model.specs.Request.{IsValid};
 ghost use Rattle.dd_model.specs.Jobs.{AreAscendingJobs, AreApart, AreMembersUnder, AreChildren};
 ghost use Rattle.dd_board.specs.Desk.{AreJobsOf};
+ghost use Rattle.dd_board.specs.Blanks.{AreInParts, AreLedgers};
 ghost use Rattle.dd_board.specs.Ledgers.{CountsTaken, CountsSplit, CountsFinish, CountsBack};
 ghost use Rattle.dd_board.specs.Ledgers.{takes_in, looks_in, splits_in, finishes_in, backs_in};
 ghost use Rattle.dd_board.specs.Seats.{HaveSums};
@@ -47,16 +48,9 @@ impl<N: Naming, K: Ledger, L: Ledger, S: Ledger, D: Ledger, B: Ledger> Board<N, 
         requires apart { AreApart jobs.items }
         requires all { AreJobsOf q.now jobs.items }
         requires seats { (1 ≤ seats) × (seats ≤ 64) }
-        requires take { (blanks.take.name ≡ K.name) × (blanks.take.parts ≡ K.parts)
-            × (K.parts ≡ seats) }
-        requires look { (blanks.look.name ≡ L.name) × (blanks.look.parts ≡ L.parts)
-            × (L.parts ≡ seats) }
-        requires split { (blanks.split.name ≡ S.name) × (blanks.split.parts ≡ S.parts)
-            × (S.parts ≡ seats) }
-        requires finish { (blanks.finish.name ≡ D.name) × (blanks.finish.parts ≡ D.parts)
-            × (D.parts ≡ seats) }
-        requires back { (blanks.back.name ≡ B.name) × (blanks.back.parts ≡ B.parts)
-            × (B.parts ≡ seats) }
+        requires parts { AreInParts blanks seats }
+        requires ledgers { AreLedgers blanks (K.name, K.parts) (L.name, L.parts)
+            (S.name, S.parts) (D.name, D.parts) (B.name, B.parts) }
         ensures count { IfOk result (λ made. length made.1.items ≡ seats) }
         ensures workers { IfOk result
             (λ made. map (λ s. s.worker) made.1.items ≡ count_from 1 seats) }

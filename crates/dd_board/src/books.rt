@@ -1,4 +1,5 @@
 ghost use Rattle.std.specs.Prelude.{◌≡◌};
+ghost use Rattle.dd_board.specs.Blanks.{AreInParts, AreLedgers};
 ghost use Rattle.dd_board.specs.Shares.{HaveAmounts};
 
 use crate::shares::Shares;
@@ -16,9 +17,7 @@ pub struct Blanks {
 impl Blanks {
     /// Returns new ledgers of `parts` parts each.
     pub fn new(parts: u64) -> Blanks
-        ensures { (result.take.parts ≡ parts) × (result.look.parts ≡ parts)
-            × (result.split.parts ≡ parts) × (result.finish.parts ≡ parts)
-            × (result.back.parts ≡ parts) }
+        ensures { AreInParts result parts }
     {
         Blanks {
             take: Blank::new(parts),
@@ -45,11 +44,8 @@ impl<K: Ledger, L: Ledger, S: Ledger, D: Ledger, B: Ledger> Books<K, L, S, D, B>
 
     /// The books and all shares of new ledgers.
     pub(crate) fn open(blanks: Blanks) -> (Books<K, L, S, D, B>, Shares<K, L, S, D, B>)
-        requires take { (blanks.take.name ≡ K.name) × (blanks.take.parts ≡ K.parts) }
-        requires look { (blanks.look.name ≡ L.name) × (blanks.look.parts ≡ L.parts) }
-        requires split { (blanks.split.name ≡ S.name) × (blanks.split.parts ≡ S.parts) }
-        requires finish { (blanks.finish.name ≡ D.name) × (blanks.finish.parts ≡ D.parts) }
-        requires back { (blanks.back.name ≡ B.name) × (blanks.back.parts ≡ B.parts) }
+        requires { AreLedgers blanks (K.name, K.parts) (L.name, L.parts)
+            (S.name, S.parts) (D.name, D.parts) (B.name, B.parts) }
         ensures totals { HaveTotals result.0 0 0 0 0 0 }
         ensures amounts { HaveAmounts result.1 0 0 0 0 0 }
         ensures parts { (result.1.take.parts ≡ K.parts) × (result.1.look.parts ≡ L.parts)

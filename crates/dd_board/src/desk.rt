@@ -6,11 +6,11 @@ ghost use Rattle.dd_front.specs.declared.event.Event.TheVariants.{Split, Finish,
 ghost use Rattle.dd_front.specs.declared.entry.State.TheVariants.{Open, Out};
 ghost use Rattle.dd_front.specs.Allowed.{IsAllowed, HasState, MaySplit, MayFinish};
 ghost use Rattle.dd_front.specs.Step.{taken_numbers};
-ghost use Rattle.dd_front.specs.Machine.{IsOpened, open_entries};
+ghost use Rattle.dd_front.specs.Machine.{open_entries};
 ghost use Rattle.dd_front.specs.Room.{HasRoom};
 ghost use Rattle.dd_front.specs.Rounds.{IsFirstOpen};
 ghost use Rattle.std.specs.List.{AllByRecursion};
-ghost use Rattle.dd_board.specs.Desk.{IsDesk, IsCall, AreJobsOf, HaveJobsOf, first_place};
+ghost use Rattle.dd_board.specs.Desk.{IsDesk, IsCall, AreJobsOf, HaveJobsOf};
 ghost use Rattle.dd_board.specs.Calls.{Books, Takes, BooksSplit, BooksFinish, BooksBack};
 ghost use Rattle.dd_board.specs.Calls.{IsNumberWhere, IsOutWith, MaySplitNow};
 
@@ -21,18 +21,6 @@ use dd_member_lists::SymbolList;
 use dd_model::{Job, Memory, Request};
 use std::alloc::Global;
 use std::marker::{Model, PhantomData};
-
-/// The front of a round whose jobs are all open.
-fn front_of(alloc: Global, request: Request, jobs: Vec<Job>) -> Result<Front, Memory>
-    requires valid { IsValid request }
-    requires ascending { AreAscendingJobs jobs.items }
-    requires apart { AreApart jobs.items }
-    requires all { AreJobsOf request jobs.items }
-    ensures { IfOk result (λ front. IsOpened request jobs.items (first_place jobs.items) 0 front) }
-{
-    let place = place_of_first(jobs.as_slice())?;
-    Front::open(alloc, request, jobs, place, 0)
-}
 
 /// Returns an equal event, after which a log has room for one event more.
 fn copy_for(alloc: Global, log: &mut Vec<Event>, event: &Event) -> Result<Event, Memory>
@@ -79,7 +67,8 @@ impl<N: Naming> Desk<N> {
             (λ desk. desk.machine.entries ≡ open_entries 1 jobs.items) }
     {
         let log = vec![in alloc; Event::Resume]?;
-        let mut front = front_of(alloc, request, jobs)?;
+        let place = place_of_first(jobs.as_slice())?;
+        let mut front = Front::open(alloc, request, jobs, place, 0)?;
         front.step(Event::Resume)?;
         Ok(Desk {
             alloc,

@@ -3,15 +3,15 @@ ghost use Rattle.dd_model.specs.Request.{IsValid};
 ghost use Rattle.dd_model.specs.Jobs.{AreAscendingJobs, AreApart};
 ghost use Rattle.dd_front.specs.Absorbed.{ComeFrom};
 ghost use Rattle.dd_board.specs.Desk.{AreJobsOf};
-ghost use Rattle.dd_steal.specs.Rounds.{IsLedgerOf};
+ghost use Rattle.dd_board.specs.Blanks.{AreInParts, AreLedgers};
 
 use crate::alone::do_alone;
 use crate::crew::{CrewMember, crew_of, seats_of};
 use crate::last_sweep::sweep;
 use crate::worker::work;
-use dd_board::{Blanks, Board, Desk, Seat};
+use dd_board::{Blanks, Board, Seat};
 use dd_front::{Entry, Finder, Naming};
-use dd_model::{Job, Memory, Request};
+use dd_model::{Job, Memory};
 use dd_ports::Gate;
 use dd_steal_deques::{Hand, Rack};
 use std::alloc::Global;
@@ -90,42 +90,6 @@ pub fn run_round<R: Threads + Wait + Sync, F: Finder + Sync, G: Gate + Sync>(
     )
 }
 
-/// Returns the board of a round and ledgers that have names, and its workers. Each worker has a
-/// deque with room for a ticket of each job.
-fn open_round<N: Naming, K: Ledger, L: Ledger, S: Ledger, D: Ledger, B: Ledger>(
-    alloc: Global,
-    request: &Request,
-    jobs: Vec<Job>,
-    workers: u32,
-    blanks: Blanks,
-) -> Result<
-    (
-        Board<N, K, L, S, D, B>,
-        Vec<CrewMember<Seat<K, L, S, D, B>, Hand<N>>>,
-    ),
-    Memory,
->
-    requires workers { (1 ≤ workers) × (workers ≤ 64) }
-    requires request { request.now ≡ N.request }
-    requires jobs { jobs.items ≡ N.jobs }
-    requires valid { IsValid request.now }
-    requires ascending { AreAscendingJobs jobs.items }
-    requires apart { AreApart jobs.items }
-    requires all { AreJobsOf request.now jobs.items }
-    requires take { IsLedgerOf blanks.take K.name K.parts workers }
-    requires look { IsLedgerOf blanks.look L.name L.parts workers }
-    requires split { IsLedgerOf blanks.split S.name S.parts workers }
-    requires finish { IsLedgerOf blanks.finish D.name D.parts workers }
-    requires back { IsLedgerOf blanks.back B.name B.parts workers }
-    ensures { IfOk result (λ made. length made.1.items ≡ workers) }
-{
-    let room = room_for(jobs.len());
-    let (board, seats) = Board::open(alloc, request, jobs, workers, blanks)?;
-    let (_, hands) = Rack::open(alloc, workers, room)?;
-    let crew = crew_of(alloc, seats, hands)?;
-    Ok((board, crew))
-}
-
 /// Has each worker of a round work at its board, on a thread of its own.
 fn work_at_once<
     N: Naming + Send + Sync,
@@ -164,20 +128,6 @@ fn work_at_once<
     );
 }
 
-/// Does what is left at a desk, on this thread. Returns the entries of the round.
-fn close_desk<N: Naming, F: Finder>(
-    alloc: Global,
-    finder: &mut F,
-    mut desk: Desk<N>,
-) -> Result<Vec<Entry>, Memory>
-    requires { F.request finder.old ≡ N.request }
-    ensures request { F.request finder.new ≡ F.request finder.old }
-    ensures round { IfOk result (λ entries. ComeFrom N.request N.jobs entries.items) }
-{
-    sweep(alloc, finder, &mut desk)?;
-    Ok(desk.into_entries())
-}
-
 /// Does what the workers of a round left, on this thread. Returns the entries of the round.
 fn close_round<N: Naming, K: Ledger, L: Ledger, S: Ledger, D: Ledger, B: Ledger, F: Finder>(
     alloc: Global,
@@ -194,10 +144,13 @@ fn close_round<N: Naming, K: Ledger, L: Ledger, S: Ledger, D: Ledger, B: Ledger,
     ensures round { IfOk result (λ entries. ComeFrom N.request N.jobs entries.items) }
 {
     let seats = seats_of(alloc, crew)?;
-    close_desk(alloc, finder, board.close(seats))
+    let mut desk = board.close(seats);
+    sweep(alloc, finder, &mut desk)?;
+    Ok(desk.into_entries())
 }
 
-/// Does the jobs of a round and ledgers that have names.
+/// Does the jobs of a round and ledgers that have names. Each worker has a deque with room for a
+/// ticket of each job.
 fn run_named<
     N: Naming + Send + Sync,
     K: Ledger + Send + Sync,
@@ -224,16 +177,17 @@ fn run_named<
     requires ascending { AreAscendingJobs jobs.items }
     requires apart { AreApart jobs.items }
     requires all { AreJobsOf N.request jobs.items }
-    requires take { IsLedgerOf blanks.take K.name K.parts workers }
-    requires look { IsLedgerOf blanks.look L.name L.parts workers }
-    requires split { IsLedgerOf blanks.split S.name S.parts workers }
-    requires finish { IsLedgerOf blanks.finish D.name D.parts workers }
-    requires back { IsLedgerOf blanks.back B.name B.parts workers }
+    requires parts { AreInParts blanks workers }
+    requires ledgers { AreLedgers blanks (K.name, K.parts) (L.name, L.parts)
+        (S.name, S.parts) (D.name, D.parts) (B.name, B.parts) }
     ensures request { F.request finder.new ≡ F.request finder.old }
     ensures round { IfOk result (λ entries. ComeFrom N.request N.jobs entries.items) }
 {
     let request = finder.request();
-    let (board, mut crew) = open_round::<N, K, L, S, D, B>(alloc, &request, jobs, workers, blanks)?;
+    let room = room_for(jobs.len());
+    let (board, seats) = Board::<N, K, L, S, D, B>::open(alloc, &request, jobs, workers, blanks)?;
+    let (_, hands) = Rack::open(alloc, workers, room)?;
+    let mut crew = crew_of(alloc, seats, hands)?;
     work_at_once(rt, alloc, finder, gate, &board, crew.as_mut_slice());
     close_round(alloc, finder, board, crew)
 }

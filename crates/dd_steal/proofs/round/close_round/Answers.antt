@@ -1,7 +1,7 @@
 use Rattle.std.proofs.Common.{sym, subst}
 use Rattle.dd_front.specs.Absorbed.{ComeFrom}
 use Rattle.dd_steal.proofs.Whole.{desk_done}
-use Rattle.dd_steal.proofs.round.close_desk.Goals as goal
+use Rattle.dd_steal.proofs.round.close_round.Goals as goal
 
 pub returns-clause-round : goal.returns-clause-round
 returns-clause-round g c =
