@@ -6,12 +6,11 @@ ghost use Rattle.dd_model.specs.Symbol.{IsChamber, item, Symbol as Tiling};
 ghost use Rattle.dd_model.specs.FirstVisit.{rows};
 ghost use Rattle.dd_canon.specs.Traversal.{IsVisit, IsMeeting, IsExtension, IsTraversal};
 
-use crate::steps::Steps;
+use crate::steps::Tally;
 use dd_model::{Memory, Pair};
 use dd_symbol::{Connected, SymbolRef};
 use std::alloc::Global;
 use std::cmp::Ordering;
-use std::sync::ledger::Ledger;
 
 /// Chambers in the order of their numbers, and the number of each chamber, 0 where it has none.
 /// The two lists are taken once, and serve for one start after another.
@@ -89,33 +88,33 @@ impl NumberedChambers {
     }
 
     /// The number of an image, compared with another number after what stands before it.
-    fn step<L: Ledger>(
+    fn step<T: Tally>(
         &mut self,
         s: &SymbolRef<'_>,
         image: u32,
         own: u32,
         so_far: Ordering,
-        steps: &mut Steps<L>,
+        steps: &mut T,
     ) -> Ordering
         requires ready { IsReady s.now self.old }
         requires image { IsChamber s.now image }
         ensures ready { IsReady s.now self.new }
         ensures step { IsMetAndCompared image own so_far
             self.old.order.items self.new.order.items self.new.number.items result }
-        ensures count { steps.new ≡ steps.old + 1 }
+        ensures count { T.count steps.new ≤ T.count steps.old + 1 }
     {
         let number = self.meet(s, image);
         so_far.then(steps.compare(number, own))
     }
 
     /// The three images of the chamber with number k, as long as they do not fall behind.
-    fn row<L: Ledger>(
+    fn row<T: Tally>(
         &mut self,
         s: &SymbolRef<'_>,
         form: &SymbolRef<'_>,
         k: u32,
         so_far: Ordering,
-        steps: &mut Steps<L>,
+        steps: &mut T,
     ) -> Ordering
         requires ready { IsReady s.now self.old }
         requires traversal { IsTraversal s.now form.now
@@ -128,7 +127,7 @@ impl NumberedChambers {
         ensures ongoing { IsOngoing s.now form.now
             (item self.old.order.items 1) self.new.order.items self.new.number.items (k + 1)
             (λ u. rows u (k + 1) (s.now.size - k)) result }
-        ensures count { steps.new ≤ steps.old + 3 }
+        ensures count { T.count steps.new ≤ T.count steps.old + 3 }
     {
         let images = s.images(self.chamber(k));
         let own = form.images(k);
@@ -144,12 +143,7 @@ impl NumberedChambers {
     }
 
     /// The rows of all chambers, as long as they do not fall behind.
-    fn rows<L: Ledger>(
-        &mut self,
-        s: &SymbolRef<'_>,
-        form: &SymbolRef<'_>,
-        steps: &mut Steps<L>,
-    ) -> Ordering
+    fn rows<T: Tally>(&mut self, s: &SymbolRef<'_>, form: &SymbolRef<'_>, steps: &mut T) -> Ordering
         requires ready { IsReady s.now self.old }
         requires traversal { IsTraversal s.now form.now
             self.old.order.items self.old.number.items 1 (λ u. rows u 1 s.now.size) Equal }
@@ -158,7 +152,7 @@ impl NumberedChambers {
         ensures ongoing { IsOngoing s.now form.now
             (item self.old.order.items 1) self.new.order.items self.new.number.items (s.now.size + 1)
             (λ u. []) result }
-        ensures count { steps.new ≤ steps.old + 3 * s.now.size }
+        ensures count { T.count steps.new ≤ T.count steps.old + 3 * s.now.size }
     {
         let mut so_far = Ordering::Equal;
         for k in 0..s.size() {
@@ -171,19 +165,19 @@ impl NumberedChambers {
     }
 
     /// The degrees of a pair in the order of the numbers.
-    fn degrees<L: Ledger>(
+    fn degrees<T: Tally>(
         &self,
         s: &SymbolRef<'_>,
         form: &SymbolRef<'_>,
         pair: Pair,
-        steps: &mut Steps<L>,
+        steps: &mut T,
     ) -> Ordering
         requires visit { IsVisit s.now.size self.now.order.items self.now.number.items }
         requires full { length self.now.order.items ≡ s.now.size }
         requires size { form.now.size ≡ s.now.size }
         ensures order { (t : Tiling) (f : List ℕ) → IsExtension s.now self.now.order.items t f
             → result ≡ slice_cmp nat_cmp (degree_list t pair) (degree_list form.now pair) }
-        ensures count { steps.new ≤ steps.old + s.now.size }
+        ensures count { T.count steps.new ≤ T.count steps.old + s.now.size }
     {
         for k in 0..s.size() {
             let chamber = self.chamber(k + 1);
@@ -197,12 +191,12 @@ impl NumberedChambers {
     }
 
     /// How the code by first visits from a start stands to that of a form of the same size.
-    pub(crate) fn stand<L: Ledger>(
+    pub(crate) fn stand<T: Tally>(
         &mut self,
         s: &Connected,
         start: u32,
         form: &Connected,
-        steps: &mut Steps<L>,
+        steps: &mut T,
     ) -> Ordering
         requires ready { IsReady s.now self.old }
         requires start { IsChamber s.now start }
@@ -211,7 +205,7 @@ impl NumberedChambers {
         ensures standing { IsStanding s.now form.now start result }
         ensures whole { result ≢ Greater
             → IsWhole s.now start self.new.order.items self.new.number.items }
-        ensures count { steps.new ≤ steps.old + 5 * s.now.size }
+        ensures count { T.count steps.new ≤ T.count steps.old + 5 * s.now.size }
     {
         let from = s.lend();
         let to = form.lend();

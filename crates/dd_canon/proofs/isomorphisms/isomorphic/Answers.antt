@@ -3,10 +3,10 @@ use Rattle.std.specs.declared.cmp.Ordering.TheVariants.{Equal}
 use Rattle.dd_model.specs.Code.{code_cmp}
 use Rattle.dd_model.proofs.Orders.{equal_of}
 use Rattle.dd_canon.proofs.BestLemmas.{not_isomorphic, joins, maps}
-use Rattle.dd_canon.proofs.isomorphisms.isomorphic_from.Goals as goal
+use Rattle.dd_canon.proofs.isomorphisms.isomorphic.Goals as goal
 
 pub returns-then-is_ne : goal.returns-then-is_ne
-returns-then-is_ne g c =
+returns-then-is_ne c =
     let x = c.in_ok-one.one in
     let y = c.in_ok-other.other in
     let one = c.in_ok-one.ensures.best in
@@ -15,7 +15,7 @@ returns-then-is_ne g c =
     not_isomorphic c.args.a.now c.args.b.now x y one.home.symbol.symbol other.home.symbol.symbol one.home.connected other.home.connected one other (cc)
 
 pub joined-requires : goal.joined-requires
-joined-requires g c =
+joined-requires c =
     let x = c.in_ok-one.one in
     let y = c.in_ok-other.other in
     let one = c.in_ok-one.ensures.best in
@@ -28,7 +28,7 @@ joined-requires g c =
     }
 
 pub returns : goal.returns
-returns g c =
+returns c =
     let x = c.in_ok-one.one in
     let y = c.in_ok-other.other in
     let one = c.in_ok-one.ensures.best in

@@ -3,10 +3,10 @@ use Rattle.std.specs.declared.cmp.Ordering.TheVariants.{Equal}
 use Rattle.dd_model.proofs.Orders.{equal_of}
 use Rattle.dd_canon.proofs.OrderLemmas.{equal_not_greater, not_equal_of}
 use Rattle.dd_canon.proofs.SymmetryLemmas.{carries, carries_not, joins}
-use Rattle.dd_canon.proofs.symmetries.Symmetries.carry_by.Goals as goal
+use Rattle.dd_canon.proofs.symmetries.Symmetries.carry.Goals as goal
 
 pub returns-then-is_ne-clause-map : goal.returns-then-is_ne-clause-map
-returns-then-is_ne-clause-map g c =
+returns-then-is_ne-clause-map c =
     let s = c.args.s.now in
     let old = c.args.self.now in
     let ready = c.requires.of.ready in
@@ -15,7 +15,7 @@ returns-then-is_ne-clause-map g c =
     c.args.to c.requires.to c.stand-order.result c.stand-order.ensures.standing visit.order.items visit.number.items (not_equal_of c.stand-order.result (cc))
 
 pub joined-requires : goal.joined-requires
-joined-requires g c =
+joined-requires c =
     let s = c.args.s.now in
     let old = c.args.self.now in
     let ready = c.requires.of.ready in
@@ -29,7 +29,7 @@ joined-requires g c =
     }
 
 pub returns-clause-map : goal.returns-clause-map
-returns-clause-map g c =
+returns-clause-map c =
     let s = c.args.s.now in
     let old = c.args.self.now in
     let ready = c.requires.of.ready in
