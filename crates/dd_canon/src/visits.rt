@@ -21,7 +21,7 @@ pub(crate) struct NumberedChambers {
 }
 
 impl NumberedChambers {
-    ghost use Rattle.dd_canon.specs.Standing.{IsReady, IsMetAndCompared, IsStanding, IsOngoing, IsNumbering, IsWhole, degree_list};
+    ghost use Rattle.dd_canon.specs.Standing.{IsReady, IsMetAndCompared, IsStanding, IsOngoing, IsWhole, degree_list};
 
     /// Room for the chambers of a symbol, of which none has a number.
     pub(crate) fn new(alloc: Global, s: &Connected) -> Result<NumberedChambers, Memory>
@@ -42,23 +42,6 @@ impl NumberedChambers {
         self.order[k as usize - 1]
     }
 
-    /// A chamber without a number gets the next one.
-    fn add(&mut self, s: &SymbolRef<'_>, chamber: u32) -> u32
-        requires ready { IsReady s.now self.old }
-        requires chamber { IsChamber s.now chamber }
-        requires none { item self.old.number.items chamber ≡ 0 }
-        ensures ready { IsReady s.now self.new }
-        ensures order { self.new.order.items ≡ self.old.order.items ++ chamber ∷ [] }
-        ensures number { self.new.number.items ≡
-            set self.old.number.items (chamber - 1) (length self.old.order.items + 1) }
-        ensures next { result ≡ length self.old.order.items + 1 }
-    {
-        self.order.push_reserved(chamber);
-        let number = self.order.len() as u32;
-        self.number[chamber as usize - 1] = number;
-        number
-    }
-
     /// Only the start has a number.
     fn begin(&mut self, s: &SymbolRef<'_>, start: u32)
         requires ready { IsReady s.now self.old }
@@ -69,7 +52,8 @@ impl NumberedChambers {
         while let Some(chamber) = self.order.pop() {
             self.number[chamber as usize - 1] = 0;
         }
-        self.add(s, start);
+        self.order.push_reserved(start);
+        self.number[start as usize - 1] = 1;
     }
 
     /// The number of a chamber, the next one where it has none.
@@ -80,11 +64,15 @@ impl NumberedChambers {
         ensures meeting { IsMeeting self.old.order.items
             self.new.order.items self.new.number.items chamber result }
     {
-        let known = self.number[chamber as usize - 1];
+        let place = chamber as usize - 1;
+        let known = self.number[place];
         if known != 0 {
             return known;
         }
-        self.add(s, chamber)
+        self.order.push_reserved(chamber);
+        let number = self.order.len() as u32;
+        self.number[place] = number;
+        number
     }
 
     /// The number of an image, compared with another number after what stands before it.
@@ -221,22 +209,6 @@ impl NumberedChambers {
         self.degrees(&from, &to, Pair::Vertex, steps)
     }
 
-    /// The images of the chamber with number k get numbers.
-    fn meet_images(&mut self, s: &SymbolRef<'_>, k: u32)
-        requires ready { IsReady s.now self.old }
-        requires numbering { IsNumbering s.now k self.old.order.items self.old.number.items }
-        requires low { 1 ≤ k }
-        requires high { k ≤ s.now.size }
-        ensures ready { IsReady s.now self.new }
-        ensures numbering { IsNumbering s.now (k + 1) self.new.order.items self.new.number.items }
-        ensures start { item self.new.order.items 1 ≡ item self.old.order.items 1 }
-    {
-        let [zero, one, two] = s.images(self.chamber(k));
-        self.meet(s, zero);
-        self.meet(s, one);
-        self.meet(s, two);
-    }
-
     /// All chambers get the numbers of their first visits from a start.
     pub(crate) fn number_from(&mut self, s: &Connected, start: u32)
         requires ready { IsReady s.now self.old }
@@ -247,7 +219,10 @@ impl NumberedChambers {
         let from = s.lend();
         self.begin(&from, start);
         for k in 0..from.size() {
-            self.meet_images(&from, k + 1);
+            let [zero, one, two] = from.images(self.chamber(k + 1));
+            self.meet(&from, zero);
+            self.meet(&from, one);
+            self.meet(&from, two);
         }
     }
 }
