@@ -8,7 +8,7 @@ ghost use Rattle.dd_canon.specs.Traversal.{IsVisit, IsMeeting, IsExtension, IsTr
 
 use crate::steps::Tally;
 use dd_model::{Memory, Pair};
-use dd_symbol::{Connected, SymbolRef};
+use dd_symbol::{Connected, SymbolRef, item};
 use std::alloc::Global;
 use std::cmp::Ordering;
 
@@ -31,15 +31,6 @@ impl NumberedChambers {
         let number = vec![in alloc; 0u32; size]?;
         let order = Vec::with_capacity(alloc, size)?;
         Ok(NumberedChambers { order, number })
-    }
-
-    /// The chamber with number k.
-    fn chamber(&self, k: u32) -> u32
-        requires low { 1 ≤ k }
-        requires high { k ≤ length self.now.order.items }
-        ensures { result ≡ item self.now.order.items k }
-    {
-        self.order[k as usize - 1]
     }
 
     /// Only the start has a number.
@@ -117,7 +108,7 @@ impl NumberedChambers {
             (λ u. rows u (k + 1) (s.now.size - k)) result }
         ensures count { T.count steps.new ≤ T.count steps.old + 3 }
     {
-        let images = s.images(self.chamber(k));
+        let images = s.images(item(&self.order, k));
         let own = form.images(k);
         let zero = self.step(s, images[0], own[0], so_far, steps);
         if zero.is_gt() {
@@ -168,7 +159,7 @@ impl NumberedChambers {
         ensures count { T.count steps.new ≤ T.count steps.old + s.now.size }
     {
         for k in 0..s.size() {
-            let chamber = self.chamber(k + 1);
+            let chamber = item(&self.order, k + 1);
             let own = s.degree(pair, chamber);
             let order = steps.compare(own, form.degree(pair, k + 1));
             if order.is_ne() {
@@ -219,7 +210,7 @@ impl NumberedChambers {
         let from = s.lend();
         self.begin(&from, start);
         for k in 0..from.size() {
-            let [zero, one, two] = from.images(self.chamber(k + 1));
+            let [zero, one, two] = from.images(item(&self.order, k + 1));
             self.meet(&from, zero);
             self.meet(&from, one);
             self.meet(&from, two);

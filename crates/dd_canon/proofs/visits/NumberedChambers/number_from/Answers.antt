@@ -12,45 +12,46 @@ loop-k-init c = record {
   start = ap (λ xs. item xs 1) c.begin.ensures.order;
 }
 
-pub chamber-requires-clause-high : goal.chamber-requires-clause-high
-chamber-requires-clause-high c =
+pub item-requires-clause-high : goal.item-requires-clause-high
+item-requires-clause-high c =
     let v = c.loop-k.self in
     let ready = c.loop-k.invariant.ready in
-    numbering_inside c.lend-from.result (c.loop-k.k + 1) v.order.items v.number.items ready.symbol.symbol.table ready.connected c.loop-k.invariant.numbering (omega arith)
+    rw c.deref.ensures.value
+    (numbering_inside c.lend-from.result (c.loop-k.k + 1) v.order.items v.number.items ready.symbol.symbol.table ready.connected c.loop-k.invariant.numbering (omega arith))
 
 pub images-requires : goal.images-requires
 images-requires c =
     let v = c.loop-k.self in
     let ready = c.loop-k.invariant.ready in
-    numbering_chamber c.lend-from.result (c.loop-k.k + 1) c.chamber.result v.order.items v.number.items ready.symbol.symbol.table ready.connected ready.visit c.loop-k.invariant.numbering
-    (omega arith) (omega arith) c.chamber.ensures
+    numbering_chamber c.lend-from.result (c.loop-k.k + 1) c.item.result v.order.items v.number.items ready.symbol.symbol.table ready.connected ready.visit c.loop-k.invariant.numbering
+    (omega arith) (omega arith) (c.item.ensures ∙ ap (λ xs. item xs (c.loop-k.k + 1)) c.deref.ensures.value)
 
 pub meet-requires-clause-chamber : goal.meet-requires-clause-chamber
 meet-requires-clause-chamber c =
     let s = c.lend-from.result in
     let v = c.loop-k.self in
     let ready = c.loop-k.invariant.ready in
-    let inside = numbering_chamber s (c.loop-k.k + 1) c.chamber.result v.order.items v.number.items ready.symbol.symbol.table ready.connected ready.visit c.loop-k.invariant.numbering
-    (omega arith) (omega arith) c.chamber.ensures in
-    subst (IsChamber s) (sym (ap (λ xs. get_or xs 0 0) c.images.ensures)) ((ready.symbol.symbol.table.involutions Zero).within c.chamber.result inside)
+    let inside = numbering_chamber s (c.loop-k.k + 1) c.item.result v.order.items v.number.items ready.symbol.symbol.table ready.connected ready.visit c.loop-k.invariant.numbering
+    (omega arith) (omega arith) (c.item.ensures ∙ ap (λ xs. item xs (c.loop-k.k + 1)) c.deref.ensures.value) in
+    subst (IsChamber s) (sym (ap (λ xs. get_or xs 0 0) c.images.ensures)) ((ready.symbol.symbol.table.involutions Zero).within c.item.result inside)
 
 pub meet-requires-in-loop-k-clause-chamber : goal.meet-requires-in-loop-k-clause-chamber
 meet-requires-in-loop-k-clause-chamber c =
     let s = c.lend-from.result in
     let v = c.loop-k.self in
     let ready = c.loop-k.invariant.ready in
-    let inside = numbering_chamber s (c.loop-k.k + 1) c.chamber.result v.order.items v.number.items ready.symbol.symbol.table ready.connected ready.visit c.loop-k.invariant.numbering
-    (omega arith) (omega arith) c.chamber.ensures in
-    subst (IsChamber s) (sym (ap (λ xs. get_or xs 1 0) c.images.ensures)) ((ready.symbol.symbol.table.involutions One).within c.chamber.result inside)
+    let inside = numbering_chamber s (c.loop-k.k + 1) c.item.result v.order.items v.number.items ready.symbol.symbol.table ready.connected ready.visit c.loop-k.invariant.numbering
+    (omega arith) (omega arith) (c.item.ensures ∙ ap (λ xs. item xs (c.loop-k.k + 1)) c.deref.ensures.value) in
+    subst (IsChamber s) (sym (ap (λ xs. get_or xs 1 0) c.images.ensures)) ((ready.symbol.symbol.table.involutions One).within c.item.result inside)
 
 pub meet-requires-in-loop-k-2-clause-chamber : goal.meet-requires-in-loop-k-2-clause-chamber
 meet-requires-in-loop-k-2-clause-chamber c =
     let s = c.lend-from.result in
     let v = c.loop-k.self in
     let ready = c.loop-k.invariant.ready in
-    let inside = numbering_chamber s (c.loop-k.k + 1) c.chamber.result v.order.items v.number.items ready.symbol.symbol.table ready.connected ready.visit c.loop-k.invariant.numbering
-    (omega arith) (omega arith) c.chamber.ensures in
-    subst (IsChamber s) (sym (ap (λ xs. get_or xs 2 0) c.images.ensures)) ((ready.symbol.symbol.table.involutions Two).within c.chamber.result inside)
+    let inside = numbering_chamber s (c.loop-k.k + 1) c.item.result v.order.items v.number.items ready.symbol.symbol.table ready.connected ready.visit c.loop-k.invariant.numbering
+    (omega arith) (omega arith) (c.item.ensures ∙ ap (λ xs. item xs (c.loop-k.k + 1)) c.deref.ensures.value) in
+    subst (IsChamber s) (sym (ap (λ xs. get_or xs 2 0) c.images.ensures)) ((ready.symbol.symbol.table.involutions Two).within c.item.result inside)
 
 pub loop-k-preserved : goal.loop-k-preserved
 loop-k-preserved c =
@@ -66,15 +67,15 @@ loop-k-preserved c =
     let two = ap (λ xs. get_or xs 2 0) c.images.ensures in
     record {
       ready = c.meet-in-loop-k-2.ensures.ready;
-      numbering = numbering_more s inv k c.chamber.result (get_or c.images.result 0 0) (get_or c.images.result 1 0) (get_or c.images.result 2 0) c.meet.result c.meet-in-loop-k.result c.meet-in-loop-k-2.result
+      numbering = numbering_more s inv k c.item.result (get_or c.images.result 0 0) (get_or c.images.result 1 0) (get_or c.images.result 2 0) c.meet.result c.meet-in-loop-k.result c.meet-in-loop-k-2.result
           zero one two
           old.order.items old.number.items c.meet.new.self.order.items c.meet.new.self.number.items c.meet-in-loop-k.new.self.order.items c.meet-in-loop-k.new.self.number.items c.meet-in-loop-k-2.new.self.order.items c.meet-in-loop-k-2.new.self.number.items
-          (omega arith) (omega arith) here numbering c.chamber.ensures
+          (omega arith) (omega arith) here numbering (c.item.ensures ∙ ap (λ xs. item xs k) c.deref.ensures.value)
           c.meet.ensures.ready.visit c.meet.ensures.meeting c.meet-in-loop-k.ensures.ready.visit c.meet-in-loop-k.ensures.meeting c.meet-in-loop-k-2.ensures.ready.visit c.meet-in-loop-k-2.ensures.meeting;
-      start = start_stays s inv k c.chamber.result (get_or c.images.result 0 0) (get_or c.images.result 1 0) (get_or c.images.result 2 0) c.meet.result c.meet-in-loop-k.result c.meet-in-loop-k-2.result
+      start = start_stays s inv k c.item.result (get_or c.images.result 0 0) (get_or c.images.result 1 0) (get_or c.images.result 2 0) c.meet.result c.meet-in-loop-k.result c.meet-in-loop-k-2.result
           zero one two
           old.order.items old.number.items c.meet.new.self.order.items c.meet.new.self.number.items c.meet-in-loop-k.new.self.order.items c.meet-in-loop-k.new.self.number.items c.meet-in-loop-k-2.new.self.order.items c.meet-in-loop-k-2.new.self.number.items
-          (omega arith) (omega arith) here numbering c.chamber.ensures
+          (omega arith) (omega arith) here numbering (c.item.ensures ∙ ap (λ xs. item xs k) c.deref.ensures.value)
           c.meet.ensures.ready.visit c.meet.ensures.meeting c.meet-in-loop-k.ensures.ready.visit c.meet-in-loop-k.ensures.meeting c.meet-in-loop-k-2.ensures.ready.visit c.meet-in-loop-k-2.ensures.meeting
           ∙ c.loop-k.invariant.start;
     }
