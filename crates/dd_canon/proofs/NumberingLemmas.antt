@@ -5,7 +5,7 @@ use Rattle.std.specs.declared.cmp.Ordering.{Ordering}
 use Rattle.std.specs.declared.cmp.Ordering.TheVariants.{Equal}
 use Rattle.dd_model.specs.declared.index.Index.{Index}
 use Rattle.dd_model.specs.declared.index.Index.TheVariants.{Zero, One, Two}
-use Rattle.dd_model.specs.Symbol.{Symbol, IsTable, AreInvolutions, item, op}
+use Rattle.dd_model.specs.Symbol.{Symbol, IsTable, IsChamber, AreInvolutions, item, op}
 use Rattle.dd_model.specs.Connected.{Connected}
 use Rattle.dd_model.specs.FirstVisit.{rows}
 use Rattle.dd_canon.specs.Traversal.{IsVisit, IsMeeting, IsTraversal}
@@ -30,6 +30,12 @@ met s i k d p n so_far order order' number' image there meeting = record {
 
 pub numbering_inside : (s : Symbol) (k : ℕ) (order number : List ℕ) → IsTable s → Connected s → IsNumbering s k order number → k ≤ s.size → k ≤ length order
 numbering_inside s k order number is con numbering high = next_row s s order number k (λ u. rows u k (s.size + 1 - k)) numbering.so_far is con numbering.traversal high
+
+-- the chamber with number k, of which the images are met
+pub numbering_chamber : (s : Symbol) (k d : ℕ) (order number : List ℕ) → IsTable s → Connected s → IsVisit s.size order number → IsNumbering s k order number
+    → 1 ≤ k → k ≤ s.size → d ≡ item order k → IsChamber s d
+numbering_chamber s k d order number is con v numbering low high e =
+    subst (IsChamber s) (sym e) (v.within k low (numbering_inside s k order number is con numbering high))
 
 module _ (s : Symbol) (inv : AreInvolutions s) (k d p q r x y z : ℕ) (zero_ : p ≡ op s Zero d) (one_ : q ≡ op s One d) (two_ : r ≡ op s Two d) (order0 number0 order1 number1 order2 number2 order3 number3 : List ℕ) (low : 1 ≤ k) (high : k ≤ s.size)
     (here : k ≤ length order0) (numbering : IsNumbering s k order0 number0) (is : d ≡ item order0 k)

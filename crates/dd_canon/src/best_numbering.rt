@@ -6,14 +6,13 @@ ghost use Rattle.dd_model.specs.Code.{code_cmp};
 ghost use Rattle.dd_model.specs.Isomorphic.{IsIsomorphism};
 ghost use Rattle.dd_canon.specs.Best.{IsBestNumbering};
 
-use crate::steps::Steps;
+use crate::steps::Tally;
 use crate::visits::NumberedChambers;
 use dd_model::Memory;
 use dd_symbol::Connected;
 use dd_union_find::Forest;
 use std::alloc::Global;
 use std::mem::swap;
-use std::sync::ledger::Ledger;
 
 /// The best of the numberings by first visits from the starts 1 to some start.
 ///
@@ -56,12 +55,12 @@ impl BestNumbering {
 
     /// Compares the numbering from the next start with the best one, and keeps the better. Returns
     /// whether the new one is better.
-    pub(crate) fn improve<L: Ledger>(
+    pub(crate) fn improve<T: Tally>(
         &mut self,
         alloc: Global,
         s: &Connected,
         start: u32,
-        steps: &mut Steps<L>,
+        steps: &mut T,
     ) -> Result<bool, Memory>
         requires start { IsChamber s.now start }
         requires best { IsBestNumbering s.now (start - 1) self.old }
@@ -69,7 +68,7 @@ impl BestNumbering {
         ensures better { IfOk result (λ better.
             OnTrue better (code_cmp self.new.form self.old.form ≡ Less)) }
         ensures same { IfOk result (λ better. OnFalse better (self.new.form ≡ self.old.form)) }
-        ensures count { steps.new ≤ steps.old + 5 * s.now.size }
+        ensures count { T.count steps.new ≤ T.count steps.old + 5 * s.now.size }
     {
         if !self.orbits.is_smallest(start) {
             return Ok(false);
@@ -100,15 +99,15 @@ impl BestNumbering {
     }
 
     /// Compares the numberings from all other starts than chamber 1, and keeps the best.
-    pub(crate) fn improve_to_end<L: Ledger>(
+    pub(crate) fn improve_to_end<T: Tally>(
         &mut self,
         alloc: Global,
         s: &Connected,
-        steps: &mut Steps<L>,
+        steps: &mut T,
     ) -> Result<(), Memory>
         requires { IsBestNumbering s.now 1 self.old }
         ensures best { OnOk result (IsBestNumbering s.now s.now.size self.new) }
-        ensures count { steps.new ≤ steps.old + 5 * s.now.size * s.now.size }
+        ensures count { T.count steps.new ≤ T.count steps.old + 5 * s.now.size * s.now.size }
     {
         for k in 1..s.symbol().size() {
             self.improve(alloc, s, k + 1, steps)?;
@@ -119,13 +118,13 @@ impl BestNumbering {
 
 /// Returns the best of all numberings by first visits, in at most 5 n n comparisons of code numbers
 /// for n chambers.
-pub(crate) fn best_numbering<L: Ledger>(
+pub(crate) fn best_numbering<T: Tally>(
     alloc: Global,
     s: &Connected,
-    steps: &mut Steps<L>,
+    steps: &mut T,
 ) -> Result<BestNumbering, Memory>
     ensures best { IfOk result (λ best. IsBestNumbering s.now s.now.size best) }
-    ensures count { steps.new ≤ steps.old + 5 * s.now.size * s.now.size }
+    ensures count { T.count steps.new ≤ T.count steps.old + 5 * s.now.size * s.now.size }
 {
     let mut best = BestNumbering::new(alloc, s)?;
     best.improve_to_end(alloc, s, steps)?;

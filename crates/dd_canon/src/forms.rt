@@ -3,7 +3,7 @@ ghost use Rattle.dd_model.specs.Code.{Least, IsLeastForm};
 ghost use Rattle.dd_model.specs.Isomorphic.{IsIsomorphism};
 
 use crate::best_numbering::{BestNumbering, best_numbering};
-use crate::steps::Steps;
+use crate::steps::{Steps, Uncounted};
 use dd_model::Memory;
 use dd_symbol::{Connected, cmp_code};
 use std::alloc::Global;
@@ -42,26 +42,6 @@ pub fn least_form(alloc: Global, s: &Connected) -> Result<Connected, Memory>
     least_from::<Brand>(alloc, s, Blank::new(1))
 }
 
-/// The least form of a symbol with a known automorphism, counted from a blank on.
-fn least_along<L: Ledger>(
-    alloc: Global,
-    s: &Connected,
-    automorphism: &[u32],
-    blank: Blank,
-) -> Result<Connected, Memory>
-    requires automorphism { IsIsomorphism s.now s.now automorphism.now }
-    requires name { blank.name ≡ L.name }
-    requires parts { blank.parts ≡ L.parts }
-    requires some { 0 < blank.parts }
-    ensures { IfOk result (λ form. IsLeastForm s.now form) }
-{
-    let mut steps = Steps::<L>::begin(blank);
-    let mut best = BestNumbering::new(alloc, s)?;
-    best.join_by(s, automorphism);
-    best.improve_to_end(alloc, s, &mut steps)?;
-    Ok(best.form)
-}
-
 /// Returns the least form of a symbol with a known automorphism, given as the image of each
 /// chamber. Fewer traversals tie than in `least_form`.
 pub fn least_form_with(
@@ -72,34 +52,25 @@ pub fn least_form_with(
     requires { IsIsomorphism s.now s.now automorphism.now }
     ensures { IfOk result (λ form. IsLeastForm s.now form) }
 {
-    least_along::<Brand>(alloc, s, automorphism, Blank::new(1))
-}
-
-/// Returns whether no numbering by first visits has a smaller code, with comparisons counted from a
-/// blank.
-fn is_least_from<L: Ledger>(alloc: Global, s: &Connected, blank: Blank) -> Result<bool, Memory>
-    requires name { blank.name ≡ L.name }
-    requires parts { blank.parts ≡ L.parts }
-    requires some { 0 < blank.parts }
-    ensures { IfOk result (λ least. IsTrue least ↔ Least s.now) }
-{
-    let mut steps = Steps::<L>::begin(blank);
     let mut best = BestNumbering::new(alloc, s)?;
-    if cmp_code(best.form.symbol(), s.symbol()).is_ne() {
-        return Ok(false);
-    }
-    for k in 1..s.symbol().size() {
-        let better = best.improve(alloc, s, k + 1, &mut steps)?;
-        if better {
-            return Ok(false);
-        }
-    }
-    Ok(true)
+    best.join_by(s, automorphism);
+    best.improve_to_end(alloc, s, &mut Uncounted)?;
+    Ok(best.form)
 }
 
 /// Returns whether no renumbering has a smaller code.
 pub fn is_least(alloc: Global, s: &Connected) -> Result<bool, Memory>
     ensures { IfOk result (λ least. IsTrue least ↔ Least s.now) }
 {
-    is_least_from::<Brand>(alloc, s, Blank::new(1))
+    let mut best = BestNumbering::new(alloc, s)?;
+    if cmp_code(best.form.symbol(), s.symbol()).is_ne() {
+        return Ok(false);
+    }
+    for k in 1..s.symbol().size() {
+        let better = best.improve(alloc, s, k + 1, &mut Uncounted)?;
+        if better {
+            return Ok(false);
+        }
+    }
+    Ok(true)
 }

@@ -3,12 +3,10 @@ ghost use Rattle.dd_model.specs.Symbol.{item};
 ghost use Rattle.dd_model.specs.Isomorphic.{IsIsomorphism, Isomorphic};
 
 use crate::best_numbering::best_numbering;
-use crate::steps::Steps;
+use crate::steps::Uncounted;
 use dd_model::{Map, Memory};
 use dd_symbol::{Connected, cmp_code};
 use std::alloc::Global;
-use std::marker::Brand;
-use std::sync::ledger::{Blank, Ledger};
 
 /// First one map, then another.
 pub(crate) fn joined(alloc: Global, first: &[u32], then: &[u32]) -> Result<Map, Memory>
@@ -23,36 +21,19 @@ pub(crate) fn joined(alloc: Global, first: &[u32], then: &[u32]) -> Result<Map, 
     Ok(Map::from_vec(images))
 }
 
-/// A map to an isomorphic symbol, where the comparisons are counted from a blank on.
-fn isomorphic_from<L: Ledger>(
-    alloc: Global,
-    a: &Connected,
-    b: &Connected,
-    blank: Blank,
-) -> Result<Option<Map>, Memory>
-    requires name { blank.name ≡ L.name }
-    requires parts { blank.parts ≡ L.parts }
-    requires some { 0 < blank.parts }
+/// A map to an isomorphic symbol, if the symbols are isomorphic.
+pub fn isomorphic(alloc: Global, a: &Connected, b: &Connected) -> Result<Option<Map>, Memory>
     ensures { IfOk result (λ found.
         MatchOption found (¬ Isomorphic a.now b.now) (λ whole. IsIsomorphism a.now b.now whole)) }
 {
     if a.symbol().size() != b.symbol().size() {
         return Ok(None);
     }
-    let mut steps = Steps::<L>::begin(blank);
-    let one = best_numbering(alloc, a, &mut steps)?;
-    let other = best_numbering(alloc, b, &mut steps)?;
+    let one = best_numbering(alloc, a, &mut Uncounted)?;
+    let other = best_numbering(alloc, b, &mut Uncounted)?;
     let order = cmp_code(one.form.symbol(), other.form.symbol());
     if order.is_ne() {
         return Ok(None);
     }
     Ok(Some(joined(alloc, &one.home.number, &other.home.order)?))
-}
-
-/// A map to an isomorphic symbol, if the symbols are isomorphic.
-pub fn isomorphic(alloc: Global, a: &Connected, b: &Connected) -> Result<Option<Map>, Memory>
-    ensures { IfOk result (λ found.
-        MatchOption found (¬ Isomorphic a.now b.now) (λ whole. IsIsomorphism a.now b.now whole)) }
-{
-    isomorphic_from::<Brand>(alloc, a, b, Blank::new(1))
 }

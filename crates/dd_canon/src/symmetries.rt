@@ -2,13 +2,11 @@ ghost use Rattle.std.specs.Prelude.{◌≡◌, ℕ, ◌<◌, List, IfOk, MatchOp
 ghost use Rattle.dd_model.specs.Symbol.{IsChamber};
 
 use crate::isomorphisms::joined;
-use crate::steps::Steps;
+use crate::steps::Uncounted;
 use crate::visits::NumberedChambers;
 use dd_model::{Map, Memory};
 use dd_symbol::Connected;
 use std::alloc::Global;
-use std::marker::Brand;
-use std::sync::ledger::{Blank, Ledger};
 
 /// Finds the isomorphisms of a symbol onto itself, each by the image of chamber 1.
 ///
@@ -37,32 +35,6 @@ impl Symmetries {
         Ok(Symmetries { home, form, there })
     }
 
-    /// Returns the isomorphism that takes chamber 1 to a chamber, with comparisons counted from a
-    /// blank.
-    fn carry_by<L: Ledger>(
-        &mut self,
-        alloc: Global,
-        s: &Connected,
-        to: u32,
-        blank: Blank,
-    ) -> Result<Option<Map>, Memory>
-        requires of { AreSymmetriesOf s.now self.old }
-        requires to { IsChamber s.now to }
-        requires name { blank.name ≡ L.name }
-        requires parts { blank.parts ≡ L.parts }
-        requires some { 0 < blank.parts }
-        ensures of { AreSymmetriesOf s.now self.new }
-        ensures map { IfOk result (λ found. MatchOption found
-            ((f : List ℕ) → ¬ Carries s.now to f) (λ map. Carries s.now to map)) }
-    {
-        let mut steps = Steps::<L>::begin(blank);
-        let order = self.there.stand(s, to, &self.form, &mut steps);
-        if order.is_ne() {
-            return Ok(None);
-        }
-        Ok(Some(joined(alloc, &self.home.number, &self.there.order)?))
-    }
-
     /// Returns the isomorphism of the symbol onto itself that takes chamber 1 to `to`, or None if
     /// there is none. It takes at most five comparisons a chamber.
     pub fn carry(&mut self, alloc: Global, s: &Connected, to: u32) -> Result<Option<Map>, Memory>
@@ -72,6 +44,10 @@ impl Symmetries {
         ensures map { IfOk result (λ found. MatchOption found
             ((f : List ℕ) → ¬ Carries s.now to f) (λ map. Carries s.now to map)) }
     {
-        self.carry_by::<Brand>(alloc, s, to, Blank::new(1))
+        let order = self.there.stand(s, to, &self.form, &mut Uncounted);
+        if order.is_ne() {
+            return Ok(None);
+        }
+        Ok(Some(joined(alloc, &self.home.number, &self.there.order)?))
     }
 }

@@ -5,14 +5,12 @@ ghost use Rattle.dd_model.specs.Symbol.{IsChamber};
 ghost use Rattle.dd_model.specs.Code.{Least};
 ghost use Rattle.dd_canon.specs.Ties.{AreTies, IsLeastFrom};
 
-use crate::steps::Steps;
+use crate::steps::Uncounted;
 use crate::visits::NumberedChambers;
 use dd_model::Memory;
 use dd_symbol::Connected;
 use std::alloc::Global;
 use std::cmp::Ordering;
-use std::marker::Brand;
-use std::sync::ledger::{Blank, Ledger};
 
 /// A start from which the numbering is not larger is kept, but for chamber 1.
 fn keep(ties: &mut Vec<u32>, order: Ordering, start: u32) -> Result<(), Memory>
@@ -26,62 +24,22 @@ fn keep(ties: &mut Vec<u32>, order: Ordering, start: u32) -> Result<(), Memory>
     Ok(())
 }
 
-/// Returns the ties, and counts the comparisons from a blank on.
-fn ties_by<L: Ledger>(
-    alloc: Global,
-    s: &Connected,
-    blank: Blank,
-) -> Result<Option<Vec<u32>>, Memory>
-    requires name { blank.name ≡ L.name }
-    requires parts { blank.parts ≡ L.parts }
-    requires some { 0 < blank.parts }
-    ensures { IfOk result (λ found.
-        MatchOption found (Least s.now → ⊥) (λ ties. AreTies s.now ties.items)) }
-{
-    let mut steps = Steps::<L>::begin(blank);
-    let mut visit = NumberedChambers::new(alloc, s)?;
-    let mut ties = Vec::new(alloc);
-    for k in 0..s.symbol().size() {
-        let order = visit.stand(s, k + 1, s, &mut steps);
-        if order.is_lt() {
-            return Ok(None);
-        }
-        keep(&mut ties, order, k + 1)?;
-    }
-    Ok(Some(ties))
-}
-
 /// The chambers but 1 from which the numbering by first visits may have the same code; None where
 /// the numbering from some chamber has a smaller one.
 pub fn tied_starts(alloc: Global, s: &Connected) -> Result<Option<Vec<u32>>, Memory>
     ensures { IfOk result (λ found.
         MatchOption found (Least s.now → ⊥) (λ ties. AreTies s.now ties.items)) }
 {
-    ties_by::<Brand>(alloc, s, Blank::new(1))
-}
-
-/// Returns whether no numbering from some starts is smaller, with comparisons counted from a blank.
-fn is_least_by<L: Ledger>(
-    alloc: Global,
-    s: &Connected,
-    starts: &[u32],
-    blank: Blank,
-) -> Result<bool, Memory>
-    requires name { blank.name ≡ L.name }
-    requires parts { blank.parts ≡ L.parts }
-    requires some { 0 < blank.parts }
-    requires starts { (d : ℕ) → Contains starts.now d → IsChamber s.now d }
-    ensures { IfOk result (λ least. IsTrue least ↔ IsLeastFrom s.now starts.now) }
-{
-    let mut steps = Steps::<L>::begin(blank);
     let mut visit = NumberedChambers::new(alloc, s)?;
-    for k in 0..starts.len() {
-        let order = visit.stand(s, starts[k], s, &mut steps);
+    let mut ties = Vec::new(alloc);
+    for k in 0..s.symbol().size() {
+        let order = visit.stand(s, k + 1, s, &mut Uncounted);
         if order.is_lt() {
-            return Ok(false);
+            return Ok(None);
         }
+        keep(&mut ties, order, k + 1)?;
     }
-    Ok(true)
+    Ok(Some(ties))
 }
 
 /// Returns whether no numbering by first visits from one of some starts has a smaller code. Where
@@ -93,5 +51,12 @@ pub fn is_least_from_ties(alloc: Global, s: &Connected, starts: &[u32]) -> Resul
     if starts.is_empty() {
         return Ok(true);
     }
-    is_least_by::<Brand>(alloc, s, starts, Blank::new(1))
+    let mut visit = NumberedChambers::new(alloc, s)?;
+    for k in 0..starts.len() {
+        let order = visit.stand(s, starts[k], s, &mut Uncounted);
+        if order.is_lt() {
+            return Ok(false);
+        }
+    }
+    Ok(true)
 }

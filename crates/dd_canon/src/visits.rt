@@ -6,12 +6,11 @@ ghost use Rattle.dd_model.specs.Symbol.{IsChamber, item, Symbol as Tiling};
 ghost use Rattle.dd_model.specs.FirstVisit.{rows};
 ghost use Rattle.dd_canon.specs.Traversal.{IsVisit, IsMeeting, IsExtension, IsTraversal};
 
-use crate::steps::Steps;
+use crate::steps::Tally;
 use dd_model::{Memory, Pair};
-use dd_symbol::{Connected, SymbolRef};
+use dd_symbol::{Connected, SymbolRef, item};
 use std::alloc::Global;
 use std::cmp::Ordering;
-use std::sync::ledger::Ledger;
 
 /// Chambers in the order of their numbers, and the number of each chamber, 0 where it has none.
 /// The two lists are taken once, and serve for one start after another.
@@ -22,7 +21,7 @@ pub(crate) struct NumberedChambers {
 }
 
 impl NumberedChambers {
-    ghost use Rattle.dd_canon.specs.Standing.{IsReady, IsMetAndCompared, IsStanding, IsOngoing, IsNumbering, IsWhole, degree_list};
+    ghost use Rattle.dd_canon.specs.Standing.{IsReady, IsMetAndCompared, IsStanding, IsOngoing, IsWhole, degree_list};
 
     /// Room for the chambers of a symbol, of which none has a number.
     pub(crate) fn new(alloc: Global, s: &Connected) -> Result<NumberedChambers, Memory>
@@ -32,32 +31,6 @@ impl NumberedChambers {
         let number = vec![in alloc; 0u32; size]?;
         let order = Vec::with_capacity(alloc, size)?;
         Ok(NumberedChambers { order, number })
-    }
-
-    /// The chamber with number k.
-    fn chamber(&self, k: u32) -> u32
-        requires low { 1 ≤ k }
-        requires high { k ≤ length self.now.order.items }
-        ensures { result ≡ item self.now.order.items k }
-    {
-        self.order[k as usize - 1]
-    }
-
-    /// A chamber without a number gets the next one.
-    fn add(&mut self, s: &SymbolRef<'_>, chamber: u32) -> u32
-        requires ready { IsReady s.now self.old }
-        requires chamber { IsChamber s.now chamber }
-        requires none { item self.old.number.items chamber ≡ 0 }
-        ensures ready { IsReady s.now self.new }
-        ensures order { self.new.order.items ≡ self.old.order.items ++ chamber ∷ [] }
-        ensures number { self.new.number.items ≡
-            set self.old.number.items (chamber - 1) (length self.old.order.items + 1) }
-        ensures next { result ≡ length self.old.order.items + 1 }
-    {
-        self.order.push_reserved(chamber);
-        let number = self.order.len() as u32;
-        self.number[chamber as usize - 1] = number;
-        number
     }
 
     /// Only the start has a number.
@@ -70,7 +43,8 @@ impl NumberedChambers {
         while let Some(chamber) = self.order.pop() {
             self.number[chamber as usize - 1] = 0;
         }
-        self.add(s, start);
+        self.order.push_reserved(start);
+        self.number[start as usize - 1] = 1;
     }
 
     /// The number of a chamber, the next one where it has none.
@@ -81,41 +55,45 @@ impl NumberedChambers {
         ensures meeting { IsMeeting self.old.order.items
             self.new.order.items self.new.number.items chamber result }
     {
-        let known = self.number[chamber as usize - 1];
+        let place = chamber as usize - 1;
+        let known = self.number[place];
         if known != 0 {
             return known;
         }
-        self.add(s, chamber)
+        self.order.push_reserved(chamber);
+        let number = self.order.len() as u32;
+        self.number[place] = number;
+        number
     }
 
     /// The number of an image, compared with another number after what stands before it.
-    fn step<L: Ledger>(
+    fn step<T: Tally>(
         &mut self,
         s: &SymbolRef<'_>,
         image: u32,
         own: u32,
         so_far: Ordering,
-        steps: &mut Steps<L>,
+        steps: &mut T,
     ) -> Ordering
         requires ready { IsReady s.now self.old }
         requires image { IsChamber s.now image }
         ensures ready { IsReady s.now self.new }
         ensures step { IsMetAndCompared image own so_far
             self.old.order.items self.new.order.items self.new.number.items result }
-        ensures count { steps.new ≡ steps.old + 1 }
+        ensures count { T.count steps.new ≤ T.count steps.old + 1 }
     {
         let number = self.meet(s, image);
         so_far.then(steps.compare(number, own))
     }
 
     /// The three images of the chamber with number k, as long as they do not fall behind.
-    fn row<L: Ledger>(
+    fn row<T: Tally>(
         &mut self,
         s: &SymbolRef<'_>,
         form: &SymbolRef<'_>,
         k: u32,
         so_far: Ordering,
-        steps: &mut Steps<L>,
+        steps: &mut T,
     ) -> Ordering
         requires ready { IsReady s.now self.old }
         requires traversal { IsTraversal s.now form.now
@@ -128,9 +106,9 @@ impl NumberedChambers {
         ensures ongoing { IsOngoing s.now form.now
             (item self.old.order.items 1) self.new.order.items self.new.number.items (k + 1)
             (λ u. rows u (k + 1) (s.now.size - k)) result }
-        ensures count { steps.new ≤ steps.old + 3 }
+        ensures count { T.count steps.new ≤ T.count steps.old + 3 }
     {
-        let images = s.images(self.chamber(k));
+        let images = s.images(item(&self.order, k));
         let own = form.images(k);
         let zero = self.step(s, images[0], own[0], so_far, steps);
         if zero.is_gt() {
@@ -144,12 +122,7 @@ impl NumberedChambers {
     }
 
     /// The rows of all chambers, as long as they do not fall behind.
-    fn rows<L: Ledger>(
-        &mut self,
-        s: &SymbolRef<'_>,
-        form: &SymbolRef<'_>,
-        steps: &mut Steps<L>,
-    ) -> Ordering
+    fn rows<T: Tally>(&mut self, s: &SymbolRef<'_>, form: &SymbolRef<'_>, steps: &mut T) -> Ordering
         requires ready { IsReady s.now self.old }
         requires traversal { IsTraversal s.now form.now
             self.old.order.items self.old.number.items 1 (λ u. rows u 1 s.now.size) Equal }
@@ -158,7 +131,7 @@ impl NumberedChambers {
         ensures ongoing { IsOngoing s.now form.now
             (item self.old.order.items 1) self.new.order.items self.new.number.items (s.now.size + 1)
             (λ u. []) result }
-        ensures count { steps.new ≤ steps.old + 3 * s.now.size }
+        ensures count { T.count steps.new ≤ T.count steps.old + 3 * s.now.size }
     {
         let mut so_far = Ordering::Equal;
         for k in 0..s.size() {
@@ -171,22 +144,22 @@ impl NumberedChambers {
     }
 
     /// The degrees of a pair in the order of the numbers.
-    fn degrees<L: Ledger>(
+    fn degrees<T: Tally>(
         &self,
         s: &SymbolRef<'_>,
         form: &SymbolRef<'_>,
         pair: Pair,
-        steps: &mut Steps<L>,
+        steps: &mut T,
     ) -> Ordering
         requires visit { IsVisit s.now.size self.now.order.items self.now.number.items }
         requires full { length self.now.order.items ≡ s.now.size }
         requires size { form.now.size ≡ s.now.size }
         ensures order { (t : Tiling) (f : List ℕ) → IsExtension s.now self.now.order.items t f
             → result ≡ slice_cmp nat_cmp (degree_list t pair) (degree_list form.now pair) }
-        ensures count { steps.new ≤ steps.old + s.now.size }
+        ensures count { T.count steps.new ≤ T.count steps.old + s.now.size }
     {
         for k in 0..s.size() {
-            let chamber = self.chamber(k + 1);
+            let chamber = item(&self.order, k + 1);
             let own = s.degree(pair, chamber);
             let order = steps.compare(own, form.degree(pair, k + 1));
             if order.is_ne() {
@@ -197,12 +170,12 @@ impl NumberedChambers {
     }
 
     /// How the code by first visits from a start stands to that of a form of the same size.
-    pub(crate) fn stand<L: Ledger>(
+    pub(crate) fn stand<T: Tally>(
         &mut self,
         s: &Connected,
         start: u32,
         form: &Connected,
-        steps: &mut Steps<L>,
+        steps: &mut T,
     ) -> Ordering
         requires ready { IsReady s.now self.old }
         requires start { IsChamber s.now start }
@@ -211,7 +184,7 @@ impl NumberedChambers {
         ensures standing { IsStanding s.now form.now start result }
         ensures whole { result ≢ Greater
             → IsWhole s.now start self.new.order.items self.new.number.items }
-        ensures count { steps.new ≤ steps.old + 5 * s.now.size }
+        ensures count { T.count steps.new ≤ T.count steps.old + 5 * s.now.size }
     {
         let from = s.lend();
         let to = form.lend();
@@ -227,22 +200,6 @@ impl NumberedChambers {
         self.degrees(&from, &to, Pair::Vertex, steps)
     }
 
-    /// The images of the chamber with number k get numbers.
-    fn meet_images(&mut self, s: &SymbolRef<'_>, k: u32)
-        requires ready { IsReady s.now self.old }
-        requires numbering { IsNumbering s.now k self.old.order.items self.old.number.items }
-        requires low { 1 ≤ k }
-        requires high { k ≤ s.now.size }
-        ensures ready { IsReady s.now self.new }
-        ensures numbering { IsNumbering s.now (k + 1) self.new.order.items self.new.number.items }
-        ensures start { item self.new.order.items 1 ≡ item self.old.order.items 1 }
-    {
-        let [zero, one, two] = s.images(self.chamber(k));
-        self.meet(s, zero);
-        self.meet(s, one);
-        self.meet(s, two);
-    }
-
     /// All chambers get the numbers of their first visits from a start.
     pub(crate) fn number_from(&mut self, s: &Connected, start: u32)
         requires ready { IsReady s.now self.old }
@@ -253,7 +210,10 @@ impl NumberedChambers {
         let from = s.lend();
         self.begin(&from, start);
         for k in 0..from.size() {
-            self.meet_images(&from, k + 1);
+            let [zero, one, two] = from.images(item(&self.order, k + 1));
+            self.meet(&from, zero);
+            self.meet(&from, one);
+            self.meet(&from, two);
         }
     }
 }

@@ -1,12 +1,13 @@
 -- The torus cover of a flat symbol, by four rules on the shifts of its sheets.
-use Rattle.std.specs.Prelude.{◌≡◌, ℕ, ◌+◌, ◌/◌, ◌%◌, ◌<◌, Bool, true, not, List, [], ◌∷◌, map}
+use Rattle.std.specs.Prelude.{◌≡◌, ℕ, ◌+◌, ◌/◌, ◌%◌, ◌<◌, ◌≤◌, Bool, true, not, List, [], ◌∷◌, map}
 use Rattle.dd_model.specs.Symbol.{Symbol, IsChamber, Word, item, op, power}
 use Rattle.dd_model.specs.Cell.{IsLeastTurns, IsBranching}
 use Rattle.dd_model.specs.declared.index.Index.{Index}
 use Rattle.dd_model.specs.declared.index.Index.TheVariants.{Zero, One, Two}
 use Rattle.dd_model.specs.declared.pair.Pair.{Pair}
 use Rattle.dd_model.specs.declared.pair.Pair.TheVariants.{Tile, Vertex, Edge}
-use Rattle.dd_cells.specs.Orientation.{color}
+use Rattle.dd_model.specs.Flat.{Flat}
+use Rattle.dd_cells.specs.Orientation.{IsOriented, color}
 use Rattle.dd_covers.specs.OrientedCover.{IsOrientedCover}
 use Rattle.dd_covers.specs.PlaneValues.{IsGreatestValue}
 use Rattle.dd_covers.specs.Sheets.{sheets_of, below_sheets}
@@ -53,6 +54,12 @@ pub record HasTorusShifts (s : Symbol) (k : ℕ) : Type 0 where
   pub are : AreTorusShifts s k shifts
 
 -- ## The cover
+
+-- an oriented flat symbol that is not too large for the sheets of its torus cover
+pub record IsTorusBase (s : Symbol) : Type 0 where
+  pub few : s.size ≤ 2048
+  pub oriented : IsOriented s
+  pub flat : Flat s
 
 -- the torus cover of an oriented flat symbol, of k sheets
 pub record IsTorusCoverOf (s : Symbol) (k : ℕ) (t : Symbol) (below : List ℕ) : Type 0 where

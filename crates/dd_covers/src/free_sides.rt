@@ -54,22 +54,6 @@ fn is_first(symbol: &Symbol, numbers: &[u32], i: Index, chamber: u32) -> bool
     !is_sooner(symbol, numbers, Index::Two, there, own)
 }
 
-/// Returns whether a side is free, and the chamber is its least.
-fn is_free(symbol: &Symbol, numbers: &[u32], i: Index, chamber: u32) -> bool
-    requires visits { AreVisitNumbers symbol.now numbers.now }
-    requires chamber { IsChamber symbol.now chamber }
-    ensures { IsTrue result ↔ IsFree symbol.now numbers.now i chamber }
-{
-    let there = symbol.op(i, chamber);
-    if there < chamber {
-        return false;
-    }
-    if is_first(symbol, numbers, i, chamber) {
-        return false;
-    }
-    !is_first(symbol, numbers, i, there)
-}
-
 /// The pair of one end of the sides of an involution.
 fn one_end(i: Index) -> Pair
     ensures { result ≡ one_end_of i }
@@ -119,36 +103,24 @@ fn push_if_free(
     ensures { OnOk result (AreFreeSidesTo symbol.now numbers.now (rank_of i chamber + 1)
         sides.new.items) }
 {
-    if is_free(symbol, numbers, i, chamber) {
-        let from = cell_number(symbol, one_end(i), chamber);
-        let to = cell_number(symbol, other_end(i), chamber);
-        sides.push(Side {
-            chamber,
-            index: i,
-            from,
-            to,
-        })?;
+    let there = symbol.op(i, chamber);
+    if there < chamber {
+        return Ok(());
     }
-    Ok(())
-}
-
-/// Appends the free sides of which a chamber is the least.
-fn push_free(
-    sides: &mut Vec<Side>,
-    symbol: &Symbol,
-    numbers: &[u32],
-    chamber: u32,
-) -> Result<(), Memory>
-    requires visits { AreVisitNumbers symbol.now numbers.now }
-    requires chamber { IsChamber symbol.now chamber }
-    requires sides { AreFreeSidesTo symbol.now numbers.now (rank_of Index.Zero chamber)
-        sides.old.items }
-    ensures { OnOk result (AreFreeSidesTo symbol.now numbers.now
-        (rank_of Index.Zero (chamber + 1)) sides.new.items) }
-{
-    push_if_free(sides, symbol, numbers, Index::Zero, chamber)?;
-    push_if_free(sides, symbol, numbers, Index::One, chamber)?;
-    push_if_free(sides, symbol, numbers, Index::Two, chamber)?;
+    if is_first(symbol, numbers, i, chamber) {
+        return Ok(());
+    }
+    if is_first(symbol, numbers, i, there) {
+        return Ok(());
+    }
+    let from = cell_number(symbol, one_end(i), chamber);
+    let to = cell_number(symbol, other_end(i), chamber);
+    sides.push(Side {
+        chamber,
+        index: i,
+        from,
+        to,
+    })?;
     Ok(())
 }
 
@@ -163,7 +135,9 @@ pub(crate) fn free_sides(
 {
     let mut sides = Vec::new(alloc);
     for k in 0..symbol.size() {
-        push_free(&mut sides, symbol, numbers, k + 1)?;
+        push_if_free(&mut sides, symbol, numbers, Index::Zero, k + 1)?;
+        push_if_free(&mut sides, symbol, numbers, Index::One, k + 1)?;
+        push_if_free(&mut sides, symbol, numbers, Index::Two, k + 1)?;
     }
     Ok(sides)
 }

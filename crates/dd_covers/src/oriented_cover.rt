@@ -74,17 +74,6 @@ fn itself(alloc: Global, s: &Connected) -> Result<Cover, Memory>
     })
 }
 
-/// The two sheets of a symbol that is not oriented, each of which every involution leads to the
-/// other.
-fn both_sheets(alloc: Global, s: &Connected) -> Result<Cover, Memory>
-    requires few { s.now.size ≤ 8192 }
-    requires not_oriented { ¬ IsOriented s.now }
-    ensures { IfOk result (IsOrientedBy s.now) }
-{
-    let ones = ones(alloc, s.symbol())?;
-    Ok(cover(alloc, s, 2, &ones)?)
-}
-
 /// Returns the oriented cover of a symbol of at most 8,192 chambers. This is the symbol itself if
 /// it is oriented, and its two sheets otherwise. It fails only if an allocation fails. After Dress
 /// and Huson.
@@ -97,8 +86,8 @@ pub fn oriented(alloc: Global, s: &Connected) -> Result<Cover, Memory>
     ensures connected { IfOk result (λ cover. AllReached cover.symbol) }
 {
     if is_oriented(alloc, s)? {
-        Ok(itself(alloc, s)?)
-    } else {
-        Ok(both_sheets(alloc, s)?)
+        return Ok(itself(alloc, s)?);
     }
+    let ones = ones(alloc, s.symbol())?;
+    Ok(cover(alloc, s, 2, &ones)?)
 }

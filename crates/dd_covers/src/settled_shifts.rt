@@ -25,27 +25,6 @@ impl Shifts {
             Index::Two => self.x2[place] = shift,
         }
     }
-
-    /// Sets how many sheets the step over a side leads on from its white chamber. From its black
-    /// chamber it leads back by the same number.
-    fn put(&mut self, symbol: &Symbol, white: &[bool], k: u32, side: &Side, shift: u32)
-        requires sizes { HaveSize symbol.now self.old }
-        requires whites { length white.now ≡ symbol.now.size }
-        requires chamber { IsChamber symbol.now side.now.chamber }
-        requires moved { op symbol.now side.now.index side.now.chamber ≢ side.now.chamber }
-        requires shift { shift < k }
-        ensures { IsPut symbol.now white.now k side.now shift self.old self.new }
-    {
-        let there = symbol.op(side.index, side.chamber);
-        let back = (k - shift) % k;
-        if white[side.chamber as usize - 1] {
-            self.set(side.index, side.chamber, shift);
-            self.set(side.index, there, back);
-        } else {
-            self.set(side.index, side.chamber, back);
-            self.set(side.index, there, shift);
-        }
-    }
 }
 
 /// What a side gets: what is wanting at its first end where that is the new cell, and else the
@@ -78,10 +57,19 @@ pub(crate) fn settle(
     ensures { IsSettled symbol.now white.now k join.now shifts.old wants.old.items
         shifts.new wants.new.items }
 {
-    let from = join.side.from as usize;
-    let to = join.side.to as usize;
+    let side = &join.side;
+    let from = side.from as usize;
+    let to = side.to as usize;
     let shift = wanted(wants.as_slice(), k, join);
+    let back = (k - shift) % k;
     wants[from] = (wants[from] + (k - shift)) % k;
     wants[to] = (wants[to] + shift) % k;
-    shifts.put(symbol, white, k, &join.side, shift);
+    let there = symbol.op(side.index, side.chamber);
+    if white[side.chamber as usize - 1] {
+        shifts.set(side.index, side.chamber, shift);
+        shifts.set(side.index, there, back);
+    } else {
+        shifts.set(side.index, side.chamber, back);
+        shifts.set(side.index, there, shift);
+    }
 }

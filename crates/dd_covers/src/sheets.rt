@@ -2,7 +2,7 @@ ghost use Rattle.std.specs.Prelude.{◌≡◌, ◌*◌, ◌<◌, ◌≤◌, ◌+
 ghost use Rattle.dd_model.specs.Symbol.{IsChamber};
 ghost use Rattle.dd_model.specs.Code.{chambers};
 ghost use Rattle.dd_covers.specs.Covers.{AreSheets, IsCoverBy};
-ghost use Rattle.dd_covers.specs.Sheets.{all_sheets, all_images_in, alike, sheet_images, sheets_of, below_sheets, degrees_of, turned_in, turned_sheet, turned};
+ghost use Rattle.dd_covers.specs.Sheets.{all_sheets, all_images_in, alike, sheets_of, below_sheets, degrees_of, turned};
 ghost use Rattle.dd_covers.specs.Shifts.{AreBelow, shifts_by, shift};
 
 use crate::cover::Cover;
@@ -27,30 +27,6 @@ impl Shifts {
     }
 }
 
-/// Appends the images of the chambers of a sheet.
-fn push_images(
-    images: &mut Vec<u32>,
-    symbol: &Symbol,
-    i: Index,
-    k: u32,
-    shifts: &Shifts,
-    sheet: u32,
-) -> Result<(), Memory>
-    requires shifts { AreBelow symbol.now k shifts.now }
-    requires small { k * symbol.now.size ≤ 16384 }
-    requires sheet { sheet < k }
-    ensures { OnOk result (images.new.items ≡ images.old.items
-        ++ sheet_images symbol.now k (shift shifts.now i) i sheet) }
-{
-    let by = shifts.by(i);
-    for j in 0..symbol.size() {
-        let chamber = j + 1;
-        let there = (sheet + item(by, chamber)) % k;
-        images.push(symbol.op(i, chamber) + there * symbol.size())?;
-    }
-    Ok(())
-}
-
 /// The images of the chambers of k sheets.
 fn images(
     alloc: Global,
@@ -65,8 +41,13 @@ fn images(
         ≡ all_images_in symbol.now k (shift shifts.now i) i) }
 {
     let mut images = Vec::new(alloc);
+    let by = shifts.by(i);
     for sheet in 0..k {
-        push_images(&mut images, symbol, i, k, shifts, sheet)?;
+        for j in 0..symbol.size() {
+            let chamber = j + 1;
+            let there = (sheet + item(by, chamber)) % k;
+            images.push(symbol.op(i, chamber) + there * symbol.size())?;
+        }
     }
     Ok(images)
 }
@@ -114,19 +95,6 @@ pub(crate) fn below(alloc: Global, symbol: &Symbol, k: u32) -> Result<Map, Memor
     Ok(Map::from_vec(below))
 }
 
-/// Appends the chambers of the sheet after one, the first sheet after the last.
-fn push_turned(turn: &mut Vec<u32>, symbol: &Symbol, k: u32, sheet: u32) -> Result<(), Memory>
-    requires small { k * symbol.now.size ≤ 16384 }
-    requires sheet { sheet < k }
-    ensures { OnOk result (turn.new.items ≡ turn.old.items ++ turned_sheet symbol.now k 1 sheet) }
-{
-    let there = (sheet + 1) % k;
-    for j in 0..symbol.size() {
-        turn.push(j + 1 + there * symbol.size())?;
-    }
-    Ok(())
-}
-
 /// Returns the chamber in the next sheet, for each chamber of k sheets.
 fn turn(alloc: Global, symbol: &Symbol, k: u32) -> Result<Map, Memory>
     requires { k * symbol.now.size ≤ 16384 }
@@ -134,7 +102,10 @@ fn turn(alloc: Global, symbol: &Symbol, k: u32) -> Result<Map, Memory>
 {
     let mut turn = Vec::new(alloc);
     for sheet in 0..k {
-        push_turned(&mut turn, symbol, k, sheet)?;
+        let there = (sheet + 1) % k;
+        for j in 0..symbol.size() {
+            turn.push(j + 1 + there * symbol.size())?;
+        }
     }
     Ok(Map::from_vec(turn))
 }

@@ -2,7 +2,6 @@ ghost use Rattle.std.specs.Prelude.{◌≡◌, ◌*◌, ◌≤◌, ℕ, List, le
 ghost use Rattle.dd_model.specs.Symbol.{item};
 ghost use Rattle.dd_model.specs.Flat.{Flat};
 ghost use Rattle.dd_model.specs.Isomorphic.{IsMorphism, IsIsomorphism};
-ghost use Rattle.dd_cells.specs.Orientation.{IsOriented};
 ghost use Rattle.dd_covers.specs.PlaneValues.{IsGreatestValue};
 ghost use Rattle.dd_covers.specs.Torus.{IsTorus};
 ghost use Rattle.dd_covers.specs.TorusCover.{IsTorusCoverOf, IsTorusCover};
@@ -12,7 +11,7 @@ use crate::cover::Cover;
 use crate::oriented_cover::oriented;
 use crate::sheets::cover;
 use crate::torus_faults::TorusFault;
-use crate::torus_shifts::torus_shifts;
+use crate::torus_shifts::{TorusBase, torus_shifts};
 use crate::wanted_values::greatest_value;
 use dd_cells::{curvature, is_flat};
 use dd_model::{Map, Memory};
@@ -20,16 +19,14 @@ use dd_symbol::Connected;
 use std::alloc::Global;
 
 /// The torus cover of an oriented flat symbol, of as many sheets as the greatest branching value.
-fn torus_over(alloc: Global, s: &Connected, k: u32) -> Result<Cover, Memory>
-    requires few { s.now.size ≤ 2048 }
-    requires oriented { IsOriented s.now }
-    requires flat { Flat s.now }
-    requires greatest { IsGreatestValue s.now k }
-    ensures cover { IfOk result (λ cover. IsTorusCoverOf s.now k cover.symbol cover.below) }
+fn torus_over(alloc: Global, base: &TorusBase<'_>, k: u32) -> Result<Cover, Memory>
+    requires { IsGreatestValue base.now k }
+    ensures cover { IfOk result (λ cover. IsTorusCoverOf base.now k cover.symbol cover.below) }
     ensures turn { IfOk result (λ cover. IsIsomorphism cover.symbol cover.symbol cover.turn) }
 {
+    let s = base.symbol;
     let _symbol = s.symbol();
-    let shifts = torus_shifts(alloc, s, k)?;
+    let shifts = torus_shifts(alloc, base, k)?;
     Ok(cover(alloc, s, k, &shifts)?)
 }
 
@@ -57,8 +54,11 @@ fn flat_torus(alloc: Global, s: &Connected) -> Result<Cover, Memory>
 {
     let _symbol = s.symbol();
     let middle = oriented(alloc, s)?;
+    let base = TorusBase {
+        symbol: &middle.symbol,
+    };
     let k = greatest_value(&middle.symbol);
-    let mut upper = torus_over(alloc, &middle.symbol, k)?;
+    let mut upper = torus_over(alloc, &base, k)?;
     upper.below = composed(alloc, &upper.below, &middle.below)?;
     Ok(upper)
 }

@@ -1,6 +1,4 @@
 ghost use Rattle.std.specs.Prelude.{IfOk};
-ghost use Rattle.dd_model.specs.Flat.{Flat};
-ghost use Rattle.dd_cells.specs.Orientation.{IsOriented};
 ghost use Rattle.dd_covers.specs.PlaneValues.{IsGreatestValue};
 ghost use Rattle.dd_covers.specs.Shifts.{AreBelow, AreZeros, shift};
 ghost use Rattle.dd_covers.specs.TorusCover.{AreTorusShifts};
@@ -14,6 +12,24 @@ use crate::wanted_values::first_wants;
 use dd_model::Memory;
 use dd_symbol::{Connected, Symbol};
 use std::alloc::Global;
+use std::marker::Model;
+
+/// An oriented flat symbol of at most 2,048 chambers. Its torus cover has at most 16,384.
+#[derive(Drop)]
+pub(crate) struct TorusBase<'a> {
+    pub(crate) symbol: &'a Connected,
+}
+
+impl<'a> Model for TorusBase<'a> {
+    ghost use Rattle.dd_model.specs.Symbol.{Symbol as Tiling};
+    ghost use Rattle.dd_covers.specs.TorusCover.{IsTorusBase};
+
+    ghost Value = { Tiling };
+
+    ghost view = { λ a. a.symbol.now };
+
+    ghost invariant = { λ a. IsTorusBase a.symbol.now };
+}
 
 /// Shifts of no sheet anywhere.
 fn zeros(alloc: Global, symbol: &Symbol) -> Result<Shifts, Memory>
@@ -29,13 +45,12 @@ fn zeros(alloc: Global, symbol: &Symbol) -> Result<Shifts, Memory>
 
 /// The shifts of the torus cover, of which there are one list. The sides by which no cell is joined
 /// have none; those by which one is get what its cell wants, from the last one back.
-pub(crate) fn torus_shifts(alloc: Global, s: &Connected, k: u32) -> Result<Shifts, Memory>
-    requires oriented { IsOriented s.now }
-    requires flat { Flat s.now }
-    requires greatest { IsGreatestValue s.now k }
-    ensures below { IfOk result (λ shifts. AreBelow s.now k shifts) }
-    ensures rules { IfOk result (λ shifts. AreTorusShifts s.now k (shift shifts)) }
+pub(crate) fn torus_shifts(alloc: Global, base: &TorusBase<'_>, k: u32) -> Result<Shifts, Memory>
+    requires { IsGreatestValue base.now k }
+    ensures below { IfOk result (λ shifts. AreBelow base.now k shifts) }
+    ensures rules { IfOk result (λ shifts. AreTorusShifts base.now k (shift shifts)) }
 {
+    let s = base.symbol;
     let symbol = s.symbol();
     let visits = first_visits(alloc, s)?;
     let numbers = visits.number.as_slice();

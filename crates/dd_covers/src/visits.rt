@@ -62,21 +62,6 @@ impl Visits {
         }
         Ok(())
     }
-
-    /// Visits the three images of the chamber with number k.
-    fn row(&mut self, symbol: &Symbol, k: u32) -> Result<(), Memory>
-        requires visiting { IsVisiting symbol.now self.old.order.items self.old.number.items
-            self.old.white.items (rank Index.Zero k) }
-        requires low { 1 ≤ k }
-        requires high { k ≤ symbol.now.size }
-        ensures { OnOk result (IsVisiting symbol.now self.new.order.items
-            self.new.number.items self.new.white.items (rank Index.Zero (k + 1))) }
-    {
-        self.step(symbol, Index::Zero, k)?;
-        self.step(symbol, Index::One, k)?;
-        self.step(symbol, Index::Two, k)?;
-        Ok(())
-    }
 }
 
 /// The numbers of the chambers in the order of their first visits from chamber 1, and their colors.
@@ -89,7 +74,9 @@ pub(crate) fn first_visits(alloc: Global, s: &Connected) -> Result<Visits, Memor
     let symbol = s.symbol();
     let mut visits = Visits::new(alloc, s)?;
     for k in 0..symbol.size() {
-        visits.row(symbol, k + 1)?;
+        visits.step(symbol, Index::Zero, k + 1)?;
+        visits.step(symbol, Index::One, k + 1)?;
+        visits.step(symbol, Index::Two, k + 1)?;
     }
     Ok(visits)
 }

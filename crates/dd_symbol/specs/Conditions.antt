@@ -1,12 +1,12 @@
 -- What is tested of five lists, at one chamber and at all.
-use Rattle.std.specs.Prelude.{◌≡◌, ◌≢◌, ℕ, ◌≤◌, ◌%◌}
+use Rattle.std.specs.Prelude.{◌≡◌, ◌≢◌, ℕ, ◌≤◌, ◌%◌, List}
 use Rattle.dd_model.specs.Symbol.{Symbol, IsChamber, AreInvolutions, op, degree}
 use Rattle.dd_model.specs.Connected.{Connected}
 use Rattle.dd_model.specs.Cell.{turned, IsLeastTurns, IsBranching}
 use Rattle.dd_model.specs.declared.index.Index.{Index}
 use Rattle.dd_model.specs.declared.pair.Pair.{Pair}
 use Rattle.dd_model.specs.declared.pair.Pair.TheVariants.{Tile, Vertex, Edge}
-use Rattle.dd_symbol.specs.Cells.{IsLeastFor}
+use Rattle.dd_symbol.specs.Cells.{IsLeastFor, AreLeast}
 
 -- ## At one chamber, or of one involution
 
@@ -71,3 +71,10 @@ AreMultiples s p = AtAll s (IsMultiple s p)
 -- every branching value is at most 30
 abbrev pub AreSmall : Symbol → Pair → Type 0
 AreSmall s p = AtAll s (IsSmall s p)
+
+-- what holds before degrees are compared: they are positive, and the least chambers of the cells are listed
+pub record HaveLeast (s : Symbol) (of_tiles of_vertices : List ℕ) : Type 0 where
+  pub table : AreConnected s
+  pub positive : OfBoth (ArePositive s)
+  pub tiles : AreLeast s Tile of_tiles
+  pub vertices : AreLeast s Vertex of_vertices

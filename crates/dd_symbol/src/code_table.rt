@@ -7,10 +7,12 @@ use dd_model::{Code, Memory, Pair};
 use std::alloc::Global;
 use std::cmp::Ordering;
 
-/// Involutions followed by two lists of degrees, of which no more is known than their length.
+/// Involutions of some chambers, followed by two lists of degrees, of which no more is known than
+/// their length.
 #[derive(Drop)]
 pub(crate) struct CodeTable {
     pub(crate) involutions: Involutions,
+    ghost some: { 1 ≤ involutions.size },
     ghost three: { AreThreeInvolutions involutions },
     ghost tiles: { length involutions.m01 ≡ involutions.size },
     ghost vertices: { length involutions.m12 ≡ involutions.size },

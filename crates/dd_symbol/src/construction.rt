@@ -7,7 +7,7 @@ ghost use Rattle.dd_model.specs.Small.{IsSmallSymbol};
 
 use crate::code_table::CodeTable;
 use crate::connected::Connected;
-use crate::involutions::Involutions;
+use crate::involutions::{ImageLists, Involutions};
 use crate::refusals::Refusal;
 use crate::symbol::Symbol;
 use dd_model::Memory;
@@ -19,7 +19,6 @@ impl CodeTable {
 
     /// Refuses what is not connected, or where s0 s2 differs from s2 s0. Degrees are not looked at.
     fn check_involutions(&self, alloc: Global) -> Result<(), Refusal>
-        requires some { 1 ≤ (symbol_of self.now).size }
         ensures connected { OnOk result (AreConnected (symbol_of self.now)) }
         ensures why { IfErr result (λ why. IsFault (symbol_of self.now) why) }
     {
@@ -30,7 +29,6 @@ impl CodeTable {
 
     /// Refuses what is no connected symbol with branching values of at most 30.
     fn check(&self, alloc: Global) -> Result<(), Refusal>
-        requires some { 1 ≤ (symbol_of self.now).size }
         ensures symbol { OnOk result (IsSmallSymbol (symbol_of self.now)) }
         ensures connected { OnOk result (AllReached (symbol_of self.now)) }
         ensures why { IfErr result (λ why. IsFault (symbol_of self.now) why) }
@@ -130,6 +128,6 @@ pub fn build(
     if n > limit as usize {
         return Err(Refusal::TooManyChambers { n });
     }
-    let involutions = Involutions::from_lists(alloc, s0, s1, s2)?;
+    let involutions = Involutions::from_lists(alloc, &ImageLists { s0, s1, s2 })?;
     build_on(alloc, involutions, m01, m12)
 }

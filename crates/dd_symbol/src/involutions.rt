@@ -30,14 +30,24 @@ impl Model for Involutions {
     ghost invariant = { λ a. AreThreeInvolutions (rows_of a.rows) };
 }
 
+/// The images of the chambers 1 to n under each of three maps, n at most 16,384.
+#[derive(Drop)]
+pub struct ImageLists<'a> {
+    pub s0: &'a [u32],
+    pub s1: &'a [u32],
+    pub s2: &'a [u32],
+    pub ghost ones: { length s1.now ≡ length s0.now },
+    pub ghost twos: { length s2.now ≡ length s0.now },
+    pub ghost small: { length s0.now ≤ 16384 },
+}
+
 /// The images of three lists, chamber by chamber, with room for degrees.
-fn interleaved(alloc: Global, s0: &[u32], s1: &[u32], s2: &[u32]) -> Result<Numbers, Memory>
-    requires ones { length s1.now ≡ length s0.now }
-    requires twos { length s2.now ≡ length s0.now }
-    requires small { length s0.now ≤ 16384 }
-    ensures { IfOk result (λ numbers.
-        HasRows (op (listed s0.now s1.now s2.now [] [])) (length s0.now) numbers) }
+fn interleaved(alloc: Global, lists: &ImageLists<'_>) -> Result<Numbers, Memory>
+    ensures { IfOk result (λ numbers. HasRows
+        (op (listed lists.now.s0.now lists.now.s1.now lists.now.s2.now [] []))
+        (length lists.now.s0.now) numbers) }
 {
+    let ImageLists { s0, s1, s2 } = *lists;
     let mut numbers = Numbers::with_room_for(alloc, s0.len())?;
     for k in 0..s0.len() {
         numbers.push_row(alloc, [s0[k], s1[k], s2[k]])?;
@@ -86,40 +96,28 @@ impl Involutions {
     }
 
     /// The involutions with these lists of images; else the first cause why they are none.
-    pub fn from_lists(
-        alloc: Global,
-        s0: &[u32],
-        s1: &[u32],
-        s2: &[u32],
-    ) -> Result<Involutions, Refusal>
-        requires ones { length s1.now ≡ length s0.now }
-        requires twos { length s2.now ≡ length s0.now }
-        requires small { length s0.now ≤ 16384 }
-        ensures same { IfOk result (λ it. it ≡ listed s0.now s1.now s2.now [] []) }
-        ensures why { IfErr result (λ why. IsInvolutionsFault (listed s0.now s1.now s2.now [] []) why) }
+    pub fn from_lists(alloc: Global, lists: &ImageLists<'_>) -> Result<Involutions, Refusal>
+        ensures same { IfOk result (λ it.
+            it ≡ listed lists.now.s0.now lists.now.s1.now lists.now.s2.now [] []) }
+        ensures why { IfErr result (λ why. IsInvolutionsFault
+            (listed lists.now.s0.now lists.now.s1.now lists.now.s2.now [] []) why) }
     {
-        let numbers = interleaved(alloc, s0, s1, s2)?;
-        let size = s0.len() as u32;
+        let numbers = interleaved(alloc, lists)?;
+        let size = lists.s0.len() as u32;
         let rows = CodeRows { numbers, size };
         rows.check()?;
         Ok(Involutions { rows })
     }
 
     /// The involutions with these lists of images, which are known to be those of some.
-    pub fn from_known(
-        alloc: Global,
-        s0: &[u32],
-        s1: &[u32],
-        s2: &[u32],
-    ) -> Result<Involutions, Memory>
-        requires ones { length s1.now ≡ length s0.now }
-        requires twos { length s2.now ≡ length s0.now }
-        requires small { length s0.now ≤ 16384 }
-        requires involutions { AreInvolutions (listed s0.now s1.now s2.now [] []) }
-        ensures { IfOk result (λ it. it ≡ listed s0.now s1.now s2.now [] []) }
+    pub fn from_known(alloc: Global, lists: &ImageLists<'_>) -> Result<Involutions, Memory>
+        requires { AreInvolutions
+            (listed lists.now.s0.now lists.now.s1.now lists.now.s2.now [] []) }
+        ensures { IfOk result (λ it.
+            it ≡ listed lists.now.s0.now lists.now.s1.now lists.now.s2.now [] []) }
     {
-        let numbers = interleaved(alloc, s0, s1, s2)?;
-        let size = s0.len() as u32;
+        let numbers = interleaved(alloc, lists)?;
+        let size = lists.s0.len() as u32;
         Ok(Involutions {
             rows: CodeRows { numbers, size },
         })

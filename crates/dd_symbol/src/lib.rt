@@ -50,7 +50,7 @@ mod walk;
 
 pub use connected::Connected;
 pub use construction::{build, build_fitting, build_known, build_on};
-pub use involutions::Involutions;
+pub use involutions::{ImageLists, Involutions};
 pub use kind::Kind;
 pub use maps::{inverse, is_bijection, item};
 pub use refusals::{Refusal, refusals_exclude_each_other};

@@ -12,7 +12,6 @@ impl Involutions {
     ghost use Rattle.dd_model.specs.declared.index.Index.{Index as Letter};
     ghost use Rattle.dd_symbol.specs.Images.{AreThreeInvolutions};
     ghost use Rattle.dd_symbol.specs.Maps.{AreInverse, IsCarried};
-    ghost use Rattle.dd_symbol.specs.Rows.{HasRows};
     ghost use Rattle.dd_model.specs.Symbol.{IsChamber, item, op};
     ghost use Rattle.dd_model.specs.Code.{images};
 
@@ -44,25 +43,6 @@ impl Involutions {
         ]
     }
 
-    /// Appends the images of all chambers in the numbers that a map gives.
-    fn push_images(
-        &self,
-        alloc: Global,
-        numbers: &mut Numbers,
-        map: &[u32],
-        back: &[u32],
-    ) -> Result<(), Memory>
-        requires maps { AreInverse self.now.size map.now back.now }
-        requires none { numbers.old ≡ [] }
-        ensures { OnOk result (HasRows (λ i e. item map.now (op self.now i (item back.now e)))
-            self.now.size numbers.new) }
-    {
-        for k in 0..self.size() {
-            numbers.push_row(alloc, self.carried(map, back, k + 1))?;
-        }
-        Ok(())
-    }
-
     /// Returns the same involutions under the numbers that a map gives.
     fn renumbered(&self, alloc: Global, map: &[u32], back: &[u32]) -> Result<Involutions, Memory>
         requires maps { AreInverse self.now.size map.now back.now }
@@ -70,7 +50,9 @@ impl Involutions {
         ensures three { IfOk result (λ it. AreThreeInvolutions it) }
     {
         let mut numbers = Numbers::with_room_for(alloc, self.size() as usize)?;
-        self.push_images(alloc, &mut numbers, map, back)?;
+        for k in 0..self.size() {
+            numbers.push_row(alloc, self.carried(map, back, k + 1))?;
+        }
         Ok(Involutions {
             rows: CodeRows {
                 numbers,

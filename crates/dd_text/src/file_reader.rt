@@ -12,7 +12,7 @@ use crate::images::images;
 use crate::reader::{Reader, is_blank};
 use crate::symbol_text::SymbolText;
 use dd_model::Pair;
-use dd_symbol::{Connected, Involutions, Refusal, build_on};
+use dd_symbol::{Connected, ImageLists, Involutions, Refusal, build_on};
 use std::alloc::Global;
 
 /// The most bytes of a file.
@@ -40,7 +40,12 @@ fn involutions_of(alloc: Global, text: &SymbolText) -> Result<Involutions, Fault
     let s0 = images(alloc, text.size, &text.s0)?;
     let s1 = images(alloc, text.size, &text.s1)?;
     let s2 = images(alloc, text.size, &text.s2)?;
-    Ok(Involutions::from_known(alloc, &s0, &s1, &s2)?)
+    let lists = ImageLists {
+        s0: &s0,
+        s1: &s1,
+        s2: &s2,
+    };
+    Ok(Involutions::from_known(alloc, &lists)?)
 }
 
 /// The symbol of a text. A refusal has the place of the symbol's `<`.

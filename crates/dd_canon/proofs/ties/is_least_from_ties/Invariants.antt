@@ -1,4 +1,9 @@
+use Rattle.dd_canon.specs.Standing.{IsReady}
+use Rattle.dd_canon.proofs.TieLemmas.{IsLeastFromFirst}
 use Rattle.dd_canon.proofs.ties.is_least_from_ties.Given as goal
 
-abbrev pub ghosts-is_least_by : goal.ghosts-is_least_by
-ghosts-is_least_by a = record { name = a.blank.name; parts = a.blank.parts }
+abbrev pub invariant-loop-k : goal.invariant-loop-k
+invariant-loop-k l = record {
+  ready : IsReady l.s l.visit;
+  least : IsLeastFromFirst l.s l.starts l.k;
+}

@@ -1,9 +1,13 @@
+use Rattle.std.proofs.Common.{rules}
 use Rattle.dd_covers.proofs.TorusCovers.{middle_of, torus_above, morphism_above, within_lower}
 use Rattle.dd_covers.proofs.torus_covers.flat_torus.Goals as goal
 
-pub torus_over-requires-clause-flat : goal.torus_over-requires-clause-flat
-torus_over-requires-clause-flat c =
-    (middle_of c.args.s.now c.in_ok-middle.middle.symbol c.in_ok-middle.middle.below c.symbol-symbol.ensures.symbol.symbol c.symbol-symbol.ensures.connected c.in_ok-middle.ensures.cover).flat c.requires.flat
+pub invariant_of-base : goal.invariant_of-base
+invariant_of-base c = record {
+  few = search rules;
+  oriented = c.in_ok-middle.ensures.oriented;
+  flat = (middle_of c.args.s.now c.in_ok-middle.middle.symbol c.in_ok-middle.middle.below c.symbol-symbol.ensures.symbol.symbol c.symbol-symbol.ensures.connected c.in_ok-middle.ensures.cover).flat c.requires.flat;
+}
 
 pub composed-requires : goal.composed-requires
 composed-requires c =

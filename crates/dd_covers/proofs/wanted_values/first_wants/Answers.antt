@@ -9,6 +9,6 @@ loop-j-preserved c =
     record {
       size = three.size;
       few = three.few;
-      each = wanted_more c.symbol-symbol.result.now c.args.k c.loop-j.j c.loop-j.wants.items c.want.new.wants.items c.want-in-loop-j.new.wants.items c.want-in-loop-j-2.new.wants.items
+      each = wanted_more c.args.s.now c.args.k c.loop-j.j c.loop-j.wants.items c.want.new.wants.items c.want-in-loop-j.new.wants.items c.want-in-loop-j-2.new.wants.items
           c.loop-j.invariant.each one.own one.kept two.own two.kept three.own three.kept;
     }

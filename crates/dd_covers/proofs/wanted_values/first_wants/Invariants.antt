@@ -6,7 +6,7 @@ use Rattle.dd_covers.proofs.wanted_values.first_wants.Given as goal
 
 abbrev pub invariant-loop-j : goal.invariant-loop-j
 invariant-loop-j l = record {
-  size : length l.wants.items ≡ 3 * (l.symbol.size + 1);
+  size : length l.wants.items ≡ 3 * (l.fn.s.size + 1);
   few : (n : ℕ) → slice_index l.wants.items n < l.k;
-  each : (p : Pair) (d : ℕ) → IsChamber l.symbol d → d ≤ l.j → IsWantedAt l.symbol l.k l.wants.items p d;
+  each : (p : Pair) (d : ℕ) → IsChamber l.fn.s d → d ≤ l.j → IsWantedAt l.fn.s l.k l.wants.items p d;
 }

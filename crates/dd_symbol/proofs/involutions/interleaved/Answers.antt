@@ -8,6 +8,6 @@ pub loop-k-preserved : goal.loop-k-preserved
 loop-k-preserved c =
     let k = c.loop-k.k in
     let place : k + 1 - 1 ≡ k = omega arith in
-    pushed_row (op (listed c.args.s0.now c.args.s1.now c.args.s2.now [] [])) k c.loop-k.numbers c.push_row.new.self _ _ _ _
+    pushed_row (op (listed c.args.lists.now.s0.now c.args.lists.now.s1.now c.args.lists.now.s2.now [] [])) k c.loop-k.numbers c.push_row.new.self _ _ _ _
     c.loop-k.invariant c.in_ok-push_row.ensures refl
-    (ap (λ j. get_or c.args.s0.now j 0) (sym place)) (ap (λ j. get_or c.args.s1.now j 0) (sym place)) (ap (λ j. get_or c.args.s2.now j 0) (sym place))
+    (ap (λ j. get_or c.args.lists.now.s0.now j 0) (sym place)) (ap (λ j. get_or c.args.lists.now.s1.now j 0) (sym place)) (ap (λ j. get_or c.args.lists.now.s2.now j 0) (sym place))

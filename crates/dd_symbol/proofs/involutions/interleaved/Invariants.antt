@@ -5,4 +5,4 @@ use Rattle.dd_symbol.specs.Rows.{HasRows}
 use Rattle.dd_symbol.proofs.involutions.interleaved.Given as goal
 
 abbrev pub invariant-loop-k : goal.invariant-loop-k
-invariant-loop-k l = HasRows (op (listed l.s0 l.s1 l.s2 [] [])) l.k l.numbers
+invariant-loop-k l = HasRows (op (listed l.lists.s0.now l.lists.s1.now l.lists.s2.now [] [])) l.k l.numbers

@@ -1,4 +1,4 @@
-use Rattle.std.proofs.Common.{◌≡◌, ℕ, List, [], length, sym, ap, ◌∙◌, subst, arith}
+use Rattle.std.proofs.Common.{◌≡◌, ℕ, List, [], sym, ap, ◌∙◌, subst}
 use Rattle.std.proofs.lemmas.Result.{err_from_is_err_and}
 use Rattle.dd_model.specs.Symbol.{AreInvolutions}
 use Rattle.dd_symbol.specs.Building.{listed}
@@ -21,19 +21,8 @@ same_lists a b c x y z ea eb ec = ap (λ l. listed l b c [] []) ea ∙ ap (λ l.
 
 pub from_known-requires : goal.from_known-requires
 from_known-requires c =
-    let s0 = c.in_ok-s0.ensures.ok in
-    let s1 = c.in_ok-s1.ensures.ok in
-    let s2 = c.in_ok-s2.ensures.ok in
-    let l0 = ap length c.deref.ensures.value ∙ s0.length_is in
-    let small = c.requires in
-    record {
-      ones = ap length c.deref-2.ensures.value ∙ s1.length_is ∙ sym l0;
-      twos = ap length c.deref-3.ensures.value ∙ s2.length_is ∙ sym l0;
-      small = omega (arith, l0, small);
-      involutions = subst AreInvolutions
-          (sym (same_lists c.deref.result.now c.deref-2.result.now c.deref-3.result.now _ _ _ c.deref.ensures.value c.deref-2.ensures.value c.deref-3.ensures.value))
-          (involutions_of c.args.text.now.size _ _ _ c.in_ok-s0.s0.items c.in_ok-s1.s1.items c.in_ok-s2.s2.items [] [] s0 s1 s2);
-    }
+    subst AreInvolutions (sym (same_lists c.deref.result.now c.deref-2.result.now c.deref-3.result.now _ _ _ c.deref.ensures.value c.deref-2.ensures.value c.deref-3.ensures.value))
+    (involutions_of c.args.text.now.size _ _ _ c.in_ok-s0.s0.items c.in_ok-s1.s1.items c.in_ok-s2.s2.items [] [] c.in_ok-s0.ensures.ok c.in_ok-s1.ensures.ok c.in_ok-s2.ensures.ok)
 
 pub returns-clause-told : goal.returns-clause-told
 returns-clause-told c = record {

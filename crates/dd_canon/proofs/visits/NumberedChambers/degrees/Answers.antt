@@ -10,7 +10,7 @@ use Rattle.dd_canon.proofs.visits.NumberedChambers.degrees.Goals as goal
 
 pub degree-own-requires : goal.degree-own-requires
 degree-own-requires g c =
-    rw c.chamber-chamber.ensures
+    rw (c.item-chamber.ensures, c.deref.ensures.value)
     (c.requires.visit.within (c.loop-k.k + 1) (omega arith) (omega arith))
 
 pub returns-then-is_ne-clause-order : goal.returns-then-is_ne-clause-order
