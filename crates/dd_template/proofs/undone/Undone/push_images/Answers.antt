@@ -2,11 +2,11 @@ use Rattle.std.proofs.Common.{◌≡◌, ◌++◌, [], ◌∷◌, ap, ◌∙◌}
 use Rattle.dd_template.specs.Made.{moved, chamber_of, image_of}
 use Rattle.dd_template.specs.Table.{table_of, move}
 use Rattle.dd_template.proofs.ApplyLemmas.{one_part_more}
-use Rattle.dd_template.proofs.tables.Template.push_images.Goals as goal
+use Rattle.dd_template.proofs.undone.Undone.push_images.Goals as goal
 
 pub loop-part-preserved : goal.loop-part-preserved
 loop-part-preserved g c =
-    let t = table_of c.args.self.now in
+    let t = table_of c.args.self.now.table.now in
     let m = move t c.args.index c.loop-part.part in
     let home : c.moved_by-home.result ≡ moved c.args.symbol.now m.by c.args.chamber =
     c.moved_by-home.ensures.image ∙ ap (λ n. moved c.args.symbol.now n.by c.args.chamber) c.move_of-there.ensures in
