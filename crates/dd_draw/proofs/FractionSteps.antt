@@ -1,5 +1,5 @@
 -- Sums and products of numerators and denominators within the limit fit, and what they are as ratios.
-use Rattle.std.proofs.Common.{true, ◌≡◌, ◌≢◌, ◌⊎◌, zero, suc, ◌*◌, ◌<◌, ◌≤◌, ◌^◌, ℤ, pos, negsuc, SFits, to_z, of_z, ◌-ℤ◌, ◌*ℤ◌, ◌<ℤ◌, nat_abs, Option, Some, None, MatchOption, false, inl, sym, ap, ◌∙◌, subst, lit<, arith}
+use Rattle.std.proofs.Common.{true, ◌≡◌, ◌≢◌, ◌⊎◌, zero, suc, ◌*◌, ◌<◌, ◌≤◌, ◌^◌, ℤ, pos, negsuc, SFits, to_z, of_z, ◌-ℤ◌, ◌*ℤ◌, ◌<ℤ◌, nat_abs, Option, Some, None, MatchOption, false, inl, ⊎_elim, sym, ap, ◌∙◌, subst, lit<, arith}
 use lib.Signed.{lt_z}
 use Rattle.std.specs.Int.{w128}
 use Rattle.std.proofs.lemmas.Int.{ints, to_z-of_z, fits_signed_from_abs, fits_signed_mul, unsigned_abs-mul}
@@ -9,7 +9,7 @@ use Rattle.dd_lattice.proofs.Rings.{at, nat, equal, ◌⊟◌, ◌⊠◌}
 use Rattle.dd_draw.proofs.Integers.{product_nonzero}
 use Rattle.dd_draw.proofs.Ratios.{IsSame, IsSame-refl, wide_along, narrow_along, narrow_not_wide, den_nonzero, same_from_narrow, difference_same}
 use Rattle.dd_draw.specs.Elimination.{Ratio, quotient, product, difference}
-use Rattle.dd_draw.specs.Limit.{IsWide, IsWithin, IsNarrow, ratio_of}
+use Rattle.dd_draw.specs.Limit.{IsWide, IsWithin, IsNarrow, IsFound, ratio_of}
 
 -- ## Numbers that fit
 
@@ -128,10 +128,24 @@ turned_same a b h some = record {
     nonzero : (z : ℤ) → pos 0 -ℤ z ≡ pos 0 → z ≢ pos 0 → ⊥
     nonzero z e n = n (omega (arith, ints))
 
+pub quotient_found : (a b a' b' : Fraction) (o : Option Fraction) → IsWithin a → b'.num ≢ pos 0 → a ≡ a' → b ≡ b' → IsAnswer (quotient (ratio_of a) (ratio_of b)) o
+    → IsFound (quotient (ratio_of a') (ratio_of b')) o
+quotient_found a b a' b' o h some ea eb is = by_cases o (subst (λ x. IsAnswer (quotient (ratio_of x) (ratio_of b')) o) ea (subst (λ x. IsAnswer (quotient (ratio_of a) (ratio_of x)) o) eb is))
+  where
+    by_cases : (o : Option Fraction) → IsAnswer (quotient (ratio_of a') (ratio_of b')) o → IsFound (quotient (ratio_of a') (ratio_of b')) o
+    by_cases None is = is
+    by_cases (Some x) is = (is, narrow_not_wide x (quotient (ratio_of a') (ratio_of b')) (product_nonzero a'.den b'.num (den_nonzero a' (subst IsWithin ea h)) some) is)
+
+-- what is answered for a number less a product
+abbrev pub IsLess : Fraction → Fraction → Fraction → Option Fraction → Type 0
+IsLess a b c o = MatchOption o (IsWide (difference (ratio_of a) (product (ratio_of b) (ratio_of c))) ⊎ IsWide (product (ratio_of b) (ratio_of c)))
+    (λ x. IsNarrow x (difference (ratio_of a) (product (ratio_of b) (ratio_of c))) × ¬ (IsWide (difference (ratio_of a) (product (ratio_of b) (ratio_of c))) ⊎ IsWide (product (ratio_of b) (ratio_of c))))
+
+pub less_along : (a b c a' b' c' : Fraction) (o : Option Fraction) → a ≡ a' → b ≡ b' → c ≡ c' → IsLess a b c o → IsLess a' b' c' o
+less_along a b c a' b' c' o ea eb ec is = subst (λ x. IsLess x b' c' o) ea (subst (λ x. IsLess a x c' o) eb (subst (λ x. IsLess a b x o) ec is))
+
 pub product_within : (a b c p : Fraction) (o : Option Fraction) → IsWithin a → IsWithin b → IsWithin c → IsNarrow p (product (ratio_of b) (ratio_of c))
-    → IsAnswer (difference (ratio_of a) (ratio_of p)) o
-    → MatchOption o (IsWide (difference (ratio_of a) (product (ratio_of b) (ratio_of c))) ⊎ IsWide (product (ratio_of b) (ratio_of c)))
-    (λ x. IsNarrow x (difference (ratio_of a) (product (ratio_of b) (ratio_of c))) × (IsWide (product (ratio_of b) (ratio_of c)) → ⊥))
+    → IsAnswer (difference (ratio_of a) (ratio_of p)) o → IsLess a b c o
 product_within a b c p o ha hb hc hp h = by_cases o (answer_along o (difference (ratio_of a) (ratio_of p)) (difference (ratio_of a) (product (ratio_of b) (ratio_of c))) same h)
   where
     some : (product (ratio_of b) (ratio_of c)).under ≢ pos 0
@@ -141,8 +155,8 @@ product_within a b c p o ha hb hc hp h = by_cases o (answer_along o (difference 
     same = difference_same (ratio_of a) (ratio_of a) (ratio_of p) (product (ratio_of b) (ratio_of c)) (IsSame-refl (ratio_of a) (den_nonzero a ha))
         (same_from_narrow p (product (ratio_of b) (ratio_of c)) some hp)
 
-    by_cases : (o : Option Fraction) → IsAnswer (difference (ratio_of a) (product (ratio_of b) (ratio_of c))) o
-        → MatchOption o (IsWide (difference (ratio_of a) (product (ratio_of b) (ratio_of c))) ⊎ IsWide (product (ratio_of b) (ratio_of c)))
-        (λ x. IsNarrow x (difference (ratio_of a) (product (ratio_of b) (ratio_of c))) × (IsWide (product (ratio_of b) (ratio_of c)) → ⊥))
+    by_cases : (o : Option Fraction) → IsAnswer (difference (ratio_of a) (product (ratio_of b) (ratio_of c))) o → IsLess a b c o
     by_cases None h = inl h
-    by_cases (Some x) h = (h, narrow_not_wide p (product (ratio_of b) (ratio_of c)) some hp)
+    by_cases (Some x) h =
+        let less = narrow_not_wide x (difference (ratio_of a) (product (ratio_of b) (ratio_of c))) (product_nonzero a.den (product (ratio_of b) (ratio_of c)).under (den_nonzero a ha) some) h in
+        (h, ⊎_elim less (narrow_not_wide p (product (ratio_of b) (ratio_of c)) some hp))

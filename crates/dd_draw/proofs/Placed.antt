@@ -15,11 +15,10 @@ use Rattle.dd_draw.proofs.Pivots.{table, sound, solution, of_vertices, column_of
 use Rattle.dd_draw.proofs.RatioTables.{IsAt, entry_at}
 use Rattle.dd_draw.specs.Elimination.{Ratio, entry, first_entry, sum_unlooped, seen_from}
 use Rattle.dd_draw.specs.Limit.{IsNarrow, IsWithin, IsNarrowPoint}
-use Rattle.dd_draw.specs.Placement.{ArePlaced, IsPlacement, point_of, origin}
+use Rattle.dd_draw.specs.Placement.{Point, ArePlaced, IsPlacement, point_of, origin}
 use Rattle.dd_draw.specs.Points.{ArePointsTo}
 use Rattle.dd_draw.specs.Rows.{number_at}
 use Rattle.dd_draw.specs.Tables.{IsTable, row_at}
-use Rattle.dd_draw.specs.declared.point.Point.{Point}
 
 -- a fraction that is a ratio, which is a over d
 over_one : (x : Fraction) (r : Ratio) (a d : ℤ) → IsNarrow x r → IsAt r a d → x.num *ℤ d ≡ a *ℤ x.den

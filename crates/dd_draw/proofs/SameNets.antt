@@ -5,9 +5,8 @@ use Rattle.dd_lattice.specs.declared.net.Net.{Net}
 use Rattle.dd_lattice.specs.declared.net_edge.NetEdge.{NetEdge}
 use Rattle.dd_draw.specs.Elimination.{whole, quotient, product, difference, sum_unlooped, seen_from, ends_at, joins, first_entry, entry, taken}
 use Rattle.dd_draw.specs.Limit.{IsWide}
-use Rattle.dd_draw.specs.Placement.{pull, ArePlaced, IsPlacement, point_of}
+use Rattle.dd_draw.specs.Placement.{Point, pull, ArePlaced, IsPlacement, point_of}
 use Rattle.dd_draw.specs.Width.{Place, IsPlaceOf, IsWideAt}
-use Rattle.dd_draw.specs.declared.point.Point.{Point}
 
 abbrev entry_of : ℕ → List NetEdge → ℕ → ℕ → ℤ
 entry_of n es i j =

@@ -1,15 +1,15 @@
 -- Numbers of spots as the code reads and writes them, boxes of more spots, and texts of more parts.
 use Rattle.std.proofs.Common.{zero, suc, FitsSigned, ◌≤ℤ◌, ◌<ℤ◌, ◌-◌, div-le_self, ◌≡◌, ℕ, ◌+◌, ◌*◌, ◌<◌, ◌≤◌, ◌^◌, ℤ, pos, negsuc, int_lt, SFits, to_z, of_z, ◌+ℤ◌, ◌-ℤ◌, ◌*ℤ◌, nat_abs, Bool, true, false, cond, List, [], ◌∷◌, ◌++◌, length, take, get_or, append_assoc, refl, sym, ap, ◌∙◌, subst, arith}
 use Rattle.std.specs.Int.{w64, w128, int_min, int_max, int_div_euclid}
-use Rattle.std.specs.List.{AllByRecursion, flat_map}
+use Rattle.std.specs.List.{flat_map}
 use Rattle.std.proofs.lemmas.Int.{ints, to_z-of_z, fits_signed_from_abs, int_max_is, int_min_is, unsigned_abs-mul}
 use Rattle.std.proofs.lemmas.List.{take_more, append-nil}
 use Rattle.std.proofs.lemmas.Grind.{flat_map-append}
 use Rattle.std.proofs.Math.Nat.{mul-le-mul}
 use Rattle.dd_cells.specs.declared.fractions.Fraction.{Fraction}
-use Rattle.dd_draw.specs.Limit.{IsNarrowPoint, IsWithin}
+use Rattle.dd_draw.specs.Limit.{IsWithin}
 use Rattle.dd_draw.specs.Spots.{floor_of}
-use Rattle.dd_draw.specs.declared.point.Point.{Point}
+use Rattle.dd_draw.specs.Placement.{Point}
 use Rattle.dd_draw.specs.Extents.{covering, with_spot}
 use Rattle.dd_draw.specs.declared.extent.Extent.{Extent}
 use Rattle.dd_draw.specs.declared.spot.Spot.{Spot}
@@ -214,13 +214,6 @@ ordered a b x u v h e f = subst (λ z. z ≤ℤ v) (sym e) (subst (λ z. int_min
 pub covering_append : (e : Extent) (xs ys : List Spot) → covering e (xs ++ ys) ≡ covering (covering e xs) ys
 covering_append e [] ys = refl
 covering_append e (x ∷ xs) ys = covering_append (with_spot e x) xs ys
-
--- ## Points
-
-pub narrow_at : (points : List Point) (i : ℕ) (d : Point) → i < length points → AllByRecursion IsNarrowPoint points → IsNarrowPoint (get_or points i d)
-narrow_at [] i d low all = absurd (omega arith)
-narrow_at (p ∷ ps) zero d low all = all.0
-narrow_at (p ∷ ps) (suc i) d low all = narrow_at ps i d (omega arith) all.1
 
 -- ## Parts in their order
 

@@ -9,12 +9,9 @@ use Rattle.dd_draw.proofs.Ratios.{IsSame, IsSame-sym, quotient_same, product_sam
 use Rattle.dd_draw.proofs.RatioTables.{entry-own, entry-other, under_nonzero, pivot_entry}
 use Rattle.dd_draw.specs.Elimination.{Ratio, entry, taken}
 use Rattle.dd_draw.specs.Limit.{IsWide, IsNarrow, ratio_of}
-use Rattle.dd_draw.specs.Rows.{AreWithin, AreMade, number_at, quotients, products, remainders}
+use Rattle.dd_draw.specs.Rows.{AreMade, number_at, quotients, products, remainders}
 use Rattle.dd_draw.specs.Tables.{IsRowOf, place_at}
 use Rattle.dd_draw.specs.Width.{IsWideAt}
-
-pub within_row : (net : Net) (k i : ℕ) (row : List Fraction) → IsRowOf net k i row → AreWithin row
-within_row net k i row is j l = let m = is.many in (is.each j (omega arith)).within
 
 -- a number of a row as a ratio
 number_same : (net : Net) (k i j : ℕ) (row : List Fraction) → IsConnectedNet net → k < net.vertices → IsRowOf net k i row → j < net.vertices + 1

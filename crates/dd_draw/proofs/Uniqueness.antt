@@ -9,8 +9,7 @@ use Rattle.dd_lattice.specs.declared.net_edge.NetEdge.{NetEdge}
 use Rattle.dd_lattice.proofs.Rings.{at, nat, equal, ◌⊞◌, ◌⊟◌, ◌⊠◌}
 use Rattle.dd_draw.proofs.Integers.{cancel, product_nonzero, same_fraction}
 use Rattle.dd_draw.proofs.NetLemmas.{zero_everywhere}
-use Rattle.dd_draw.specs.declared.point.Point.{Point}
-use Rattle.dd_draw.specs.Placement.{pull, if_same, ArePlaced, IsPlacement, point_of, origin}
+use Rattle.dd_draw.specs.Placement.{Point, pull, if_same, ArePlaced, IsPlacement, point_of, origin}
 
 -- ## Two solutions, taken from each other
 

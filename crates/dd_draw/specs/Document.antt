@@ -7,7 +7,7 @@ use Rattle.dd_model.specs.declared.frame.Frame.{Frame}
 use Rattle.dd_lattice.specs.declared.net_edge.NetEdge.{NetEdge}
 use Rattle.dd_draw.specs.Spots.{corners, spot_of, from_spot, to_spot}
 use Rattle.dd_draw.specs.Extents.{extent_of}
-use Rattle.dd_draw.specs.declared.point.Point.{Point}
+use Rattle.dd_draw.specs.Placement.{Point}
 use Rattle.dd_draw.specs.declared.spot.Spot.{Spot}
 use Rattle.dd_draw.specs.declared.extent.Extent.{Extent}
 

@@ -4,7 +4,7 @@ use Rattle.std.specs.Int.{int_min, int_max}
 use Rattle.dd_model.specs.declared.frame.Frame.{Frame}
 use Rattle.dd_lattice.specs.declared.net_edge.NetEdge.{NetEdge}
 use Rattle.dd_draw.specs.Spots.{start, printed}
-use Rattle.dd_draw.specs.declared.point.Point.{Point}
+use Rattle.dd_draw.specs.Placement.{Point}
 use Rattle.dd_draw.specs.declared.spot.Spot.{Spot}
 use Rattle.dd_draw.specs.declared.extent.Extent.{Extent}
 

@@ -1,9 +1,9 @@
 -- Fractions in lowest terms, and which of them are too wide.
-use Rattle.std.specs.Prelude.{◌≡◌, ◌⊎◌, ◌^◌, ◌<◌, ◌≤◌, ◌*ℤ◌, nat_abs}
+use Rattle.std.specs.Prelude.{◌≡◌, ◌⊎◌, ◌^◌, ◌<◌, ◌≤◌, ◌*ℤ◌, nat_abs, Option, MatchOption}
 use Rattle.dd_cells.specs.Fraction.{IsReduced}
 use Rattle.dd_cells.specs.declared.fractions.Fraction.{Fraction}
 use Rattle.dd_draw.specs.Elimination.{Ratio}
-use Rattle.dd_draw.specs.declared.point.Point.{Point}
+use Rattle.dd_draw.specs.Placement.{Point}
 
 -- the fraction is the ratio in lowest terms
 pub record IsLowest (x : Fraction) (r : Ratio) : Type 0 where
@@ -34,6 +34,10 @@ pub record IsNarrow (x : Fraction) (r : Ratio) : Type 0 where
 -- a fraction as a ratio
 abbrev pub ratio_of : Fraction → Ratio
 ratio_of x = record { over = x.num; under = x.den }
+
+-- none is found where the ratio is over the limit, and else it in lowest terms
+abbrev pub IsFound : Ratio → Option Fraction → Type 0
+IsFound r found = MatchOption found (IsWide r) (λ x. IsNarrow x r × ¬ IsWide r)
 
 -- both coordinates are reduced and within the limit
 pub record IsNarrowPoint (p : Point) : Type 0 where

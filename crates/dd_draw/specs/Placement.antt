@@ -4,7 +4,11 @@ use Rattle.dd_cells.specs.Fraction.{IsReduced}
 use Rattle.dd_cells.specs.declared.fractions.Fraction.{Fraction}
 use Rattle.dd_lattice.specs.declared.net.Net.{Net}
 use Rattle.dd_lattice.specs.declared.net_edge.NetEdge.{NetEdge}
-use Rattle.dd_draw.specs.declared.point.Point.{Point}
+
+-- a point of the plane
+pub record Point : Type 0 where
+  pub x : Fraction
+  pub y : Fraction
 
 -- a number where two vertices are the same, and else 0
 abbrev pub if_same : ℕ → ℕ → ℤ → ℤ

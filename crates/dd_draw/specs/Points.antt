@@ -1,10 +1,9 @@
 -- The points of the last table.
 use Rattle.std.specs.Prelude.{◌≡◌, ℕ, suc, ◌+◌, ◌-◌, ◌<◌, List, length, slice_index_or}
 use Rattle.dd_cells.specs.declared.fractions.Fraction.{Fraction}
-use Rattle.dd_draw.specs.Placement.{origin}
+use Rattle.dd_draw.specs.Placement.{Point, origin}
 use Rattle.dd_draw.specs.Rows.{number_at}
 use Rattle.dd_draw.specs.Tables.{row_at}
-use Rattle.dd_draw.specs.declared.point.Point.{Point}
 
 -- The first points: the origin, and of n rows the numbers in the two columns of shifts.
 pub record ArePointsTo (vertices n : ℕ) (rows : List (List Fraction)) (points : List Point) : Type 0 where

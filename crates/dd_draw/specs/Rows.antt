@@ -2,17 +2,13 @@
 use Rattle.std.specs.Prelude.{◌≡◌, ℕ, ◌+◌, ◌<◌, pos, List, length, slice_index_or}
 use Rattle.dd_cells.specs.declared.fractions.Fraction.{Fraction}
 use Rattle.dd_draw.specs.Elimination.{Ratio, quotient, product, difference}
-use Rattle.dd_draw.specs.Limit.{IsWithin, IsNarrow, ratio_of}
+use Rattle.dd_draw.specs.Limit.{IsNarrow, ratio_of}
 use Rattle.dd_draw.specs.declared.place_fault.PlaceFault.{PlaceFault}
 use Rattle.dd_draw.specs.declared.place_fault.PlaceFault.TheVariants.{TooManyVertices, TooWide, Memory}
 
 -- the number at a place of a row, places being counted from 0
 abbrev pub number_at : List Fraction → ℕ → Fraction
 number_at row j = slice_index_or row j (record { num = pos 0; den = pos 0 })
-
--- all numbers of a row are reduced and within the limit
-abbrev pub AreWithin : List Fraction → Type 0
-AreWithin row = (j : ℕ) → j < length row → IsWithin (number_at row j)
 
 -- The first n numbers of a row: they are the ratios, and at none of the places anything is too wide.
 pub record AreMade (r : ℕ → Ratio) (Wide : ℕ → Type 0) (n : ℕ) (row : List Fraction) : Type 0 where

@@ -6,8 +6,7 @@ use Rattle.dd_cells.specs.declared.fractions.Fraction.{Fraction}
 use Rattle.dd_model.specs.declared.frame.Frame.{Frame}
 use Rattle.dd_model.specs.declared.frame.Frame.TheVariants.{Square, Hex, Own}
 use Rattle.dd_lattice.specs.declared.net_edge.NetEdge.{NetEdge}
-use Rattle.dd_draw.specs.Placement.{point_of}
-use Rattle.dd_draw.specs.declared.point.Point.{Point}
+use Rattle.dd_draw.specs.Placement.{Point, point_of}
 use Rattle.dd_draw.specs.declared.spot.Spot.{Spot}
 
 -- the greatest whole number that is not over k times a fraction

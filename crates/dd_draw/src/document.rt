@@ -1,7 +1,5 @@
 ghost use Rattle.std.specs.Prelude.{◌≡◌, [], ◌∷◌, ◌++◌, ◌≤◌, ◌<◌, ◌*◌, ◌^◌, length, nat_abs, slice_index_or, OnOk, OnErr, string_bytes};
 ghost use Rattle.std.specs.List.{AllByRecursion, flat_map};
-ghost use Rattle.dd_lattice.specs.Nets.{IsConnectedNet};
-ghost use Rattle.dd_draw.specs.Limit.{IsNarrowPoint};
 ghost use Rattle.dd_draw.specs.Spots.{IsSmallSpot, corners, from_spot, to_spot};
 ghost use Rattle.dd_draw.specs.Extents.{extent_of, IsSmallExtent};
 ghost use Rattle.dd_draw.specs.Document.{head_text, cell_text, outline_text, line_text, edge_text, circle_text, vertex_text, document};
@@ -90,7 +88,6 @@ fn put_circle(text: &mut String, spot: Spot, point: &Point) -> Result<(), AllocE
 fn ends_of(frame: Frame, points: &[Point], edge: NetEdge) -> (Spot, Spot)
     requires from { (1 ≤ edge.from) × (edge.from ≤ length points.now) }
     requires to { (1 ≤ edge.to) × (edge.to ≤ length points.now) }
-    requires narrow { AllByRecursion IsNarrowPoint points.now }
     ensures from { result.0 ≡ from_spot frame points.now edge }
     ensures to { result.1 ≡ to_spot frame points.now edge }
     ensures small { IsSmallSpot result.0 × IsSmallSpot result.1 }
@@ -98,23 +95,6 @@ fn ends_of(frame: Frame, points: &[Point], edge: NetEdge) -> (Spot, Spot)
     let from = Spot::of(frame, &points[edge.from as usize - 1]);
     let to = Spot::of(frame, &points[edge.to as usize - 1]);
     (from, to.moved(frame, edge.x, edge.y))
-}
-
-/// Returns the least box that has all that is printed of the cell and of the edges.
-fn extent_of(frame: Frame, net: &Net, points: &[Point]) -> Extent
-    requires connected { IsConnectedNet net.now }
-    requires count { length points.now ≡ net.now.vertices }
-    requires narrow { AllByRecursion IsNarrowPoint points.now }
-    ensures same { result ≡ extent_of frame net.now.edges.items points.now }
-    ensures small { IsSmallExtent result }
-{
-    let [one, two, three] = corners(frame);
-    let mut extent = Extent::at_start().with(one).with(two).with(three);
-    for edge in &net.edges {
-        let (from, to) = ends_of(frame, points, *edge);
-        extent = extent.with(from).with(to);
-    }
-    extent
 }
 
 /// Appends a line from a spot to another.
@@ -128,64 +108,78 @@ fn put_edge(text: &mut String, from: Spot, to: Spot) -> Result<(), AllocError>
     )
 }
 
-/// Appends the edges in their order.
-fn put_edges(text: &mut String, frame: Frame, net: &Net, points: &[Point]) -> Result<(), AllocError>
-    requires connected { IsConnectedNet net.now }
-    requires count { length points.now ≡ net.now.vertices }
-    requires narrow { AllByRecursion IsNarrowPoint points.now }
-    ensures { OnOk result (string_bytes text.new
-        ≡ string_bytes text.old ++ flat_map (edge_text frame points.now) net.now.edges.items) }
-{
-    for edge in &net.edges {
-        let (from, to) = ends_of(frame, points, *edge);
-        put_edge(text, from, to)?;
-    }
-    Ok(())
-}
-
-/// Appends the vertices in their order.
-fn put_vertices(text: &mut String, frame: Frame, points: &[Point]) -> Result<(), AllocError>
-    requires { AllByRecursion IsNarrowPoint points.now }
-    ensures { OnOk result (string_bytes text.new
-        ≡ string_bytes text.old ++ flat_map (vertex_text frame) points.now) }
-{
-    for point in points {
-        put_circle(text, Spot::of(frame, point), point)?;
-    }
-    Ok(())
-}
-
-/// Appends the drawing of a net whose vertices are at some points.
-fn put_drawing(
-    text: &mut String,
+/// A net whose vertices are at some points.
+#[derive(Drop)]
+struct Drawing<'a> {
     frame: Frame,
-    net: &Net,
-    points: &[Point],
-) -> Result<(), AllocError>
-    requires connected { IsConnectedNet net.now }
-    requires count { length points.now ≡ net.now.vertices }
-    requires narrow { AllByRecursion IsNarrowPoint points.now }
-    ensures { OnOk result (string_bytes text.new
-        ≡ string_bytes text.old ++ document frame net.now.edges.items points.now) }
-{
-    put_head(text, extent_of(frame, net, points))?;
-    put_cell(text, frame)?;
-    put_edges(text, frame, net, points)?;
-    put_vertices(text, frame, points)?;
-    writeln!(text, "</svg>")
+    net: &'a Net,
+    points: &'a [Point],
+    ghost count: { length points.now ≡ net.now.vertices },
+}
+
+impl<'a> Drawing<'a> {
+    /// Returns the least box that has all that is printed of the cell and of the edges.
+    fn extent(&self) -> Extent
+        ensures same { result ≡ extent_of self.now.frame self.now.net.now.edges.items
+            self.now.points.now }
+        ensures small { IsSmallExtent result }
+    {
+        let [one, two, three] = corners(self.frame);
+        let mut extent = Extent::at_start().with(one).with(two).with(three);
+        for edge in &self.net.edges {
+            let (from, to) = ends_of(self.frame, self.points, *edge);
+            extent = extent.with(from).with(to);
+        }
+        extent
+    }
+
+    /// Appends the edges in their order.
+    fn put_edges(&self, text: &mut String) -> Result<(), AllocError>
+        ensures { OnOk result (string_bytes text.new ≡ string_bytes text.old
+            ++ flat_map (edge_text self.now.frame self.now.points.now)
+            self.now.net.now.edges.items) }
+    {
+        for edge in &self.net.edges {
+            let (from, to) = ends_of(self.frame, self.points, *edge);
+            put_edge(text, from, to)?;
+        }
+        Ok(())
+    }
+
+    /// Appends the vertices in their order.
+    fn put_vertices(&self, text: &mut String) -> Result<(), AllocError>
+        ensures { OnOk result (string_bytes text.new ≡ string_bytes text.old
+            ++ flat_map (vertex_text self.now.frame) self.now.points.now) }
+    {
+        for point in self.points {
+            put_circle(text, Spot::of(self.frame, point), point)?;
+        }
+        Ok(())
+    }
+
+    /// Appends the drawing.
+    fn put(&self, text: &mut String) -> Result<(), AllocError>
+        ensures { OnOk result (string_bytes text.new ≡ string_bytes text.old
+            ++ document self.now.frame self.now.net.now.edges.items self.now.points.now) }
+    {
+        put_head(text, self.extent())?;
+        put_cell(text, self.frame)?;
+        self.put_edges(text)?;
+        self.put_vertices(text)?;
+        writeln!(text, "</svg>")
+    }
 }
 
 /// Appends the drawing of a placed net: its cell, its edges and its vertices with their exact
 /// places. Returns `Err` only if an allocation fails. The text is then as before.
 pub fn svg(out: &mut Vec<u8>, net: &Net, places: &Places, frame: Frame) -> Result<(), Memory>
-    requires connected { IsConnectedNet net.now }
     requires count { length places.now.points.items ≡ net.now.vertices }
-    requires narrow { AllByRecursion IsNarrowPoint places.now.points.items }
     ensures drawing { OnOk result (out.new.items
         ≡ out.old.items ++ document frame net.now.edges.items places.now.points.items) }
     ensures same { OnErr result (out.new.items ≡ out.old.items) }
 {
     let mut text = String::new(*out.allocator());
-    put_drawing(&mut text, frame, net, &places.points)?;
+    let points = places.points.as_slice();
+    Drawing { frame, net, points }.put(&mut text)?;
     Ok(out.extend_from_slice(text.as_bytes())?)
 }

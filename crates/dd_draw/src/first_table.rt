@@ -5,8 +5,10 @@ ghost use Rattle.dd_draw.specs.FirstTable.{share_of};
 ghost use Rattle.dd_draw.specs.Limit.{IsWide};
 ghost use Rattle.dd_draw.specs.Rows.{AreMade, IsRowFault};
 
+use crate::entry::Entry;
 use crate::fractions::LIMIT;
 use crate::place_fault::PlaceFault;
+use crate::small_net::SmallNet;
 use dd_cells::Fraction;
 use dd_lattice::{Net, NetEdge};
 use std::alloc::Global;
@@ -58,7 +60,6 @@ fn join_count(edge: NetEdge, one: u32, other: u32) -> i128
 /// Returns what an edge adds to an entry of the first table. A loop adds nothing.
 fn share(edge: NetEdge, vertices: u32, row: u32, column: u32) -> i128
     requires row { row < vertices }
-    requires few { vertices ≤ 96 }
     requires column { column ≤ vertices + 1 }
     ensures value { result ≡ share_of vertices row column edge }
     ensures small { nat_abs result ≤ 2 ^ 63 }
@@ -69,7 +70,7 @@ fn share(edge: NetEdge, vertices: u32, row: u32, column: u32) -> i128
     if column == vertices {
         return shift_seen(edge, edge.x, row + 1);
     }
-    if column == vertices + 1 {
+    if column > vertices {
         return shift_seen(edge, edge.y, row + 1);
     }
     if row == column {
@@ -81,7 +82,6 @@ fn share(edge: NetEdge, vertices: u32, row: u32, column: u32) -> i128
 /// Returns an entry of the first table.
 fn first_entry(net: &Net, row: u32, column: u32) -> i128
     requires row { row < net.now.vertices }
-    requires few { net.now.vertices ≤ 96 }
     requires column { column ≤ net.now.vertices + 1 }
     ensures { result ≡ first_entry net.now row column }
 {
@@ -93,14 +93,16 @@ fn first_entry(net: &Net, row: u32, column: u32) -> i128
 }
 
 /// Returns a row of the first table.
-pub(crate) fn first_row(alloc: Global, net: &Net, row: u32) -> Result<Vec<Fraction>, PlaceFault>
-    requires row { row < net.now.vertices }
-    requires few { net.now.vertices ≤ 96 }
-    ensures made { IfOk result (λ new. AreMade (λ j. whole (first_entry net.now row (suc j)))
-        (λ j. IsWide (whole (first_entry net.now row (suc j)))) (net.now.vertices + 1) new.items) }
-    ensures fault { IfErr result (λ why. IsRowFault 0 row (net.now.vertices + 1)
-        (λ j. IsWide (whole (first_entry net.now row (suc j)))) why) }
+pub(crate) fn first_row(alloc: Global, small: &SmallNet, row: u32) -> Result<Vec<Entry>, PlaceFault>
+    requires { row < small.now.net.now.vertices }
+    ensures made { IfOk result (λ new.
+        AreMade (λ j. whole (first_entry small.now.net.now row (suc j)))
+        (λ j. IsWide (whole (first_entry small.now.net.now row (suc j))))
+        (small.now.net.now.vertices + 1) new.items) }
+    ensures fault { IfErr result (λ why. IsRowFault 0 row (small.now.net.now.vertices + 1)
+        (λ j. IsWide (whole (first_entry small.now.net.now row (suc j)))) why) }
 {
+    let net = small.net;
     let mut new = Vec::new(alloc);
     for place in 0..net.vertices + 1 {
         let column = place + 1;
@@ -112,7 +114,8 @@ pub(crate) fn first_row(alloc: Global, net: &Net, row: u32) -> Result<Vec<Fracti
                 column,
             });
         }
-        new.push(Fraction { num: entry, den: 1 })?;
+        let fraction = Fraction { num: entry, den: 1 };
+        new.push(Entry { fraction })?;
     }
     Ok(new)
 }

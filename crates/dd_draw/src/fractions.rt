@@ -1,8 +1,9 @@
 ghost use Rattle.std.specs.Prelude.{◌≡◌, ◌≢◌, ◌⊎◌, ◌≤◌, ◌<◌, ◌^◌, pos, ◌*ℤ◌, ◌-ℤ◌, ◌<ℤ◌, nat_abs, MatchOption};
 ghost use Rattle.std.specs.Int.{IsGcd};
 ghost use Rattle.dd_draw.specs.Elimination.{quotient, product, difference};
-ghost use Rattle.dd_draw.specs.Limit.{IsWide, IsWithin, IsNarrow, ratio_of};
+ghost use Rattle.dd_draw.specs.Limit.{IsWide, IsNarrow, IsFound, ratio_of};
 
+use crate::entry::Entry;
 use dd_cells::Fraction;
 
 /// The greatest size of numerators and denominators.
@@ -23,7 +24,7 @@ fn gcd(a: u128, b: u128) -> u128
 }
 
 /// The fraction `num / den` in lowest terms, or None where it is over the limit.
-fn reduced(num: i128, den: i128) -> Option<Fraction>
+fn reduced(num: i128, den: i128) -> Option<Entry>
     requires { pos 0 <ℤ den }
     ensures { MatchOption result (IsWide (record { over = num; under = den }))
         (λ x. IsNarrow x (record { over = num; under = den })) }
@@ -37,40 +38,21 @@ fn reduced(num: i128, den: i128) -> Option<Fraction>
         return None;
     }
     let num = if num < 0 { -(top as i128) } else { top as i128 };
-    Some(Fraction {
-        num,
-        den: bottom as i128,
+    Some(Entry {
+        fraction: Fraction {
+            num,
+            den: bottom as i128,
+        },
     })
 }
 
-/// The product in lowest terms, or None where it is over the limit.
-fn times(a: Fraction, b: Fraction) -> Option<Fraction>
-    requires a { IsWithin a }
-    requires b { IsWithin b }
-    ensures { MatchOption result (IsWide (product (ratio_of a) (ratio_of b)))
-        (λ x. IsNarrow x (product (ratio_of a) (ratio_of b))) }
-{
-    reduced(a.num * b.num, a.den * b.den)
-}
-
-/// The difference in lowest terms, or None where it is over the limit.
-fn less(a: Fraction, b: Fraction) -> Option<Fraction>
-    requires a { IsWithin a }
-    requires b { IsWithin b }
-    ensures { MatchOption result (IsWide (difference (ratio_of a) (ratio_of b)))
-        (λ x. IsNarrow x (difference (ratio_of a) (ratio_of b))) }
-{
-    reduced(a.num * b.den - b.num * a.den, a.den * b.den)
-}
-
 /// The quotient in lowest terms, or None where it is over the limit.
-pub(crate) fn over(a: Fraction, b: Fraction) -> Option<Fraction>
-    requires a { IsWithin a }
-    requires b { IsWithin b }
-    requires nonzero { b.num ≢ pos 0 }
-    ensures { MatchOption result (IsWide (quotient (ratio_of a) (ratio_of b)))
-        (λ x. IsNarrow x (quotient (ratio_of a) (ratio_of b))) }
+pub(crate) fn over(a: Entry, b: Entry) -> Option<Entry>
+    requires { b.num ≢ pos 0 }
+    ensures { IsFound (quotient (ratio_of a) (ratio_of b)) result }
 {
+    let a = a.fraction();
+    let b = b.fraction();
     let top = a.num * b.den;
     let bottom = a.den * b.num;
     if bottom < 0 {
@@ -81,15 +63,20 @@ pub(crate) fn over(a: Fraction, b: Fraction) -> Option<Fraction>
 }
 
 /// A number less a product, in lowest terms, or None where it or the product is over the limit.
-pub(crate) fn less_product(a: Fraction, b: Fraction, c: Fraction) -> Option<Fraction>
-    requires a { IsWithin a }
-    requires b { IsWithin b }
-    requires c { IsWithin c }
+pub(crate) fn less_product(a: Entry, b: Entry, c: Entry) -> Option<Entry>
     ensures { MatchOption result
         (IsWide (difference (ratio_of a) (product (ratio_of b) (ratio_of c)))
         ⊎ IsWide (product (ratio_of b) (ratio_of c)))
         (λ x. IsNarrow x (difference (ratio_of a) (product (ratio_of b) (ratio_of c)))
-        × (IsWide (product (ratio_of b) (ratio_of c)) → ⊥)) }
+        × ¬ (IsWide (difference (ratio_of a) (product (ratio_of b) (ratio_of c)))
+        ⊎ IsWide (product (ratio_of b) (ratio_of c)))) }
 {
-    less(a, times(b, c)?)
+    let a = a.fraction();
+    let b = b.fraction();
+    let c = c.fraction();
+    let product = reduced(b.num * c.num, b.den * c.den)?.fraction();
+    reduced(
+        a.num * product.den - product.num * a.den,
+        a.den * product.den,
+    )
 }

@@ -1,9 +1,8 @@
 ghost use Rattle.std.specs.Prelude.{◌≡◌, List};
 ghost use Rattle.dd_lattice.specs.Nets.{IsConnectedNet};
 ghost use Rattle.dd_lattice.specs.declared.net.Net.{Net};
-ghost use Rattle.dd_draw.specs.Placement.{IsPlacement};
+ghost use Rattle.dd_draw.specs.Placement.{Point, IsPlacement};
 ghost use Rattle.dd_draw.specs.Width.{Place, IsFirstWide};
-ghost use Rattle.dd_draw.specs.declared.point.Point.{Point};
 
 /// A connected net has at most one placement.
 pub fn a_connected_net_has_one_placement()

@@ -2,6 +2,7 @@
 #![tactic(auto)]
 
 mod document;
+mod entry;
 mod extent;
 mod first_table;
 mod fractions;
@@ -11,6 +12,7 @@ mod placement;
 mod places;
 mod point;
 mod rows;
+mod small_net;
 mod spot;
 mod tables;
 

@@ -1,22 +1,20 @@
 ghost use Rattle.std.specs.Prelude.{◌≡◌, ◌≢◌, ◌⊎◌, ◌≤◌, pos, length, IfOk, IfErr};
-ghost use Rattle.dd_draw.specs.Limit.{IsWide, IsWithin};
-ghost use Rattle.dd_draw.specs.Rows.{AreWithin, AreMade, IsRowFault, quotients, products, remainders};
+ghost use Rattle.dd_draw.specs.Limit.{IsWide};
+ghost use Rattle.dd_draw.specs.Rows.{AreMade, IsRowFault, quotients, products, remainders};
 
+use crate::entry::Entry;
 use crate::fractions::{less_product, over};
 use crate::place_fault::PlaceFault;
-use dd_cells::Fraction;
 use std::alloc::Global;
 
 /// Returns the row of a step, divided by its pivot.
 pub(crate) fn divided(
     alloc: Global,
-    row: &[Fraction],
-    pivot: Fraction,
+    row: &[Entry],
+    pivot: Entry,
     step: u32,
-) -> Result<Vec<Fraction>, PlaceFault>
+) -> Result<Vec<Entry>, PlaceFault>
     requires few { length row.now ≤ 97 }
-    requires row { AreWithin row.now }
-    requires pivot { IsWithin pivot }
     requires nonzero { pivot.num ≢ pos 0 }
     ensures made { IfOk result (λ new. AreMade (quotients row.now pivot)
         (λ j. IsWide (quotients row.now pivot j)) (length row.now) new.items) }
@@ -41,16 +39,13 @@ pub(crate) fn divided(
 /// Returns another row, less its factor times the row of the step.
 pub(crate) fn remaining(
     alloc: Global,
-    row: &[Fraction],
-    factor: Fraction,
-    top: &[Fraction],
+    row: &[Entry],
+    factor: Entry,
+    top: &[Entry],
     step: u32,
     row_number: u32,
-) -> Result<Vec<Fraction>, PlaceFault>
+) -> Result<Vec<Entry>, PlaceFault>
     requires few { length row.now ≤ 97 }
-    requires row { AreWithin row.now }
-    requires factor { IsWithin factor }
-    requires top { AreWithin top.now }
     requires as_long { length top.now ≡ length row.now }
     ensures made { IfOk result (λ new. AreMade (remainders row.now factor top.now)
         (λ j. IsWide (remainders row.now factor top.now j) ⊎ IsWide (products factor top.now j))

@@ -41,8 +41,6 @@ fn floor_of(times: i128, fraction: Fraction) -> i128
 impl Spot {
     /// Returns the spot of a point.
     pub fn of(frame: Frame, point: &Point) -> Spot
-        requires x { IsWithin point.now.x }
-        requires y { IsWithin point.now.y }
         ensures same { result ≡ spot_of frame point.now }
         ensures x { nat_abs result.x ≤ 2 ^ 125 + 2 ^ 73 }
         ensures y { nat_abs result.y ≤ 2 ^ 125 + 2 ^ 73 }

@@ -1,24 +1,21 @@
-ghost use Rattle.std.specs.Prelude.{◌≡◌, ◌≤◌, ◌<◌, ◌+◌, ℕ, suc, length, IfOk, IfErr};
-ghost use Rattle.dd_lattice.specs.Nets.{IsConnectedNet};
+ghost use Rattle.std.specs.Prelude.{◌≡◌, ◌<◌, ◌+◌, ℕ, suc, length, IfOk, IfErr};
 ghost use Rattle.dd_draw.specs.Tables.{lists, IsTable, IsPlaceFault};
 
+use crate::entry::Entry;
 use crate::first_table::first_row;
 use crate::place_fault::PlaceFault;
 use crate::rows::{divided, remaining};
-use dd_cells::Fraction;
-use dd_lattice::Net;
+use crate::small_net::SmallNet;
 use std::alloc::Global;
 
 /// Returns the first table: a row for each vertex but the first.
-fn first_table(alloc: Global, net: &Net) -> Result<Vec<Vec<Fraction>>, PlaceFault>
-    requires connected { IsConnectedNet net.now }
-    requires few { net.now.vertices ≤ 96 }
-    ensures table { IfOk result (λ rows. IsTable net.now 0 (lists rows.items)) }
-    ensures fault { IfErr result (λ why. IsPlaceFault net.now why) }
+fn first_table(alloc: Global, small: &SmallNet) -> Result<Vec<Vec<Entry>>, PlaceFault>
+    ensures table { IfOk result (λ rows. IsTable small.now.net.now 0 (lists rows.items)) }
+    ensures fault { IfErr result (λ why. IsPlaceFault small.now.net.now why) }
 {
     let mut rows = Vec::new(alloc);
-    for place in 0..net.vertices - 1 {
-        rows.push(first_row(alloc, net, place + 1)?)?;
+    for place in 0..small.net.vertices - 1 {
+        rows.push(first_row(alloc, small, place + 1)?)?;
     }
     Ok(rows)
 }
@@ -27,22 +24,21 @@ fn first_table(alloc: Global, net: &Net) -> Result<Vec<Vec<Fraction>>, PlaceFaul
 /// it is taken away from each other row, which leaves 0 in the column of the pivot.
 fn eliminate(
     alloc: Global,
-    net: &Net,
-    rows: &mut Vec<Vec<Fraction>>,
+    small: &SmallNet,
+    rows: &mut Vec<Vec<Entry>>,
     place: usize,
 ) -> Result<(), PlaceFault>
-    requires connected { IsConnectedNet net.now }
-    requires few { net.now.vertices ≤ 96 }
-    requires place { suc place < net.now.vertices }
-    requires table { IsTable net.now place (lists rows.old.items) }
-    ensures table { IfOk result (λ done. IsTable net.now (suc place) (lists rows.new.items)) }
-    ensures fault { IfErr result (λ why. IsPlaceFault net.now why) }
+    requires place { suc place < small.now.net.now.vertices }
+    requires table { IsTable small.now.net.now place (lists rows.old.items) }
+    ensures table { IfOk result (λ done.
+        IsTable small.now.net.now (suc place) (lists rows.new.items)) }
+    ensures fault { IfErr result (λ why. IsPlaceFault small.now.net.now why) }
 {
     let step = place as u32 + 1;
     let pivot_row = rows[place].as_slice();
     let top = divided(alloc, pivot_row, pivot_row[place], step)?;
     rows[place] = top;
-    for other in 0..net.vertices as usize - 1 {
+    for other in 0..small.net.vertices as usize - 1 {
         if other != place {
             let top = rows[place].as_slice();
             let row = rows[other].as_slice();
@@ -54,16 +50,14 @@ fn eliminate(
 }
 
 /// Returns the last table.
-pub(crate) fn last_table(alloc: Global, net: &Net) -> Result<Vec<Vec<Fraction>>, PlaceFault>
-    requires connected { IsConnectedNet net.now }
-    requires few { net.now.vertices ≤ 96 }
-    ensures table { IfOk result (λ rows. (k : ℕ) → suc k ≡ net.now.vertices
-        → IsTable net.now k (lists rows.items)) }
-    ensures fault { IfErr result (λ why. IsPlaceFault net.now why) }
+pub(crate) fn last_table(alloc: Global, small: &SmallNet) -> Result<Vec<Vec<Entry>>, PlaceFault>
+    ensures table { IfOk result (λ rows. (k : ℕ) → suc k ≡ small.now.net.now.vertices
+        → IsTable small.now.net.now k (lists rows.items)) }
+    ensures fault { IfErr result (λ why. IsPlaceFault small.now.net.now why) }
 {
-    let mut rows = first_table(alloc, net)?;
-    for place in 0..net.vertices as usize - 1 {
-        eliminate(alloc, net, &mut rows, place)?;
+    let mut rows = first_table(alloc, small)?;
+    for place in 0..small.net.vertices as usize - 1 {
+        eliminate(alloc, small, &mut rows, place)?;
     }
     Ok(rows)
 }

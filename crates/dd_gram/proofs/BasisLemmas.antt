@@ -2,12 +2,14 @@
 use Rattle.std.proofs.Common.{◌≡◌, ℕ, ◌≤◌, List, [], ◌∷◌, ℤ, pos, nat_abs, sym, ap, ◌∙◌, subst, ⊎_elim, arith}
 use Rattle.std.specs.List.{Contains}
 use Rattle.dd_model.specs.declared.index.Index.TheVariants.{Zero}
+use Rattle.dd_model.specs.declared.pair.Pair.TheVariants.{Vertex}
 use Rattle.dd_model.specs.Symbol.{Symbol, AreInvolutions, IsChamber, item, op}
 use Rattle.dd_model.specs.Isomorphic.{IsIsomorphism}
 use Rattle.dd_model.proofs.Lists.{Contains-none, Contains-cases}
 use Rattle.dd_covers.specs.Torus.{IsTorus}
 use Rattle.dd_lattice.specs.NetOf.{IsNet}
 use Rattle.dd_lattice.specs.declared.net.Net.{Net}
+use Rattle.dd_lattice.proofs.ListLemmas.{few_cells}
 use Rattle.dd_gram.specs.Action.{IsAction}
 use Rattle.dd_gram.specs.Loops.{HasEdgeWith, IsBasis}
 use Rattle.dd_gram.specs.Shifts.{number_at, AreNumbers, HasSmallImage}
@@ -18,6 +20,13 @@ use Rattle.std.proofs.lemmas.List.{get_or_default}
 use Rattle.dd_gram.proofs.Actions.{closed_along, read, read_acts, same_matrix}
 use Rattle.dd_gram.proofs.WalkLemmas.{sum_along-same}
 use Rattle.dd_gram.proofs.Homology.{x_at_two, y_at_one}
+
+-- no more vertices than chambers
+pub few_vertices : (t : Symbol) (net : Net) → IsNet t net → net.vertices ≤ t.size
+few_vertices t net is =
+    let few = few_cells t Vertex is.vertices is.are_vertices in
+    let many = is.many_vertices in
+    omega arith
 
 walk_chambers : (t : Symbol) (a b : ℕ) (walk : List ℕ) → IsWalk t a walk b → (d : ℕ) → Contains walk d → IsChamber t d
 walk_chambers t a b [] goes d here = absurd (Contains-none d here)

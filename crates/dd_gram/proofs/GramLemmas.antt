@@ -53,7 +53,7 @@ module _ (t : Symbol) (torus : IsTorus t) where
     small_c = let c = to.small_c in omega arith;
   }
 
-  sum_size : (x y : ℤ) (k : ℕ) → nat_abs x ≤ 18432 → nat_abs y ≤ k * 18432 → nat_abs (x +ℤ y) ≤ (k + 1) * 18432
+  sum_size : (x y : ℤ) (k : ℕ) → nat_abs x ≤ 536870912 → nat_abs y ≤ k * 536870912 → nat_abs (x +ℤ y) ≤ (k + 1) * 536870912
   sum_size x y k p q = omega (arith, ints)
 
   pub gram_more : (k : ℕ) (g : Gram) → IsGramTo t k g → (map : List ℕ) → Carries t (k + 1) map → (m : Matrix) → IsAction t map m → IsSmallMatrix m → (h : Gram) → h ≡ plus (square m) g → IsGramTo t (k + 1) h
@@ -73,9 +73,9 @@ module _ (t : Symbol) (torus : IsTorus t) where
     matrices = m ∷ to.matrices;
     are_actions = (acts, to.are_actions);
     sum = is ∙ ap (plus (square m)) to.sum;
-    small_a = subst (λ (z : Gram). nat_abs z.a ≤ (k + 1) * 18432) (sym is) (sum_size (square m).a g.a k (products_size m.xx m.xx m.yx m.yx 96 small.xx small.xx small.yx small.yx) to.small_a);
-    small_b = subst (λ (z : Gram). nat_abs z.b ≤ (k + 1) * 18432) (sym is) (sum_size (square m).b g.b k (products_size m.xx m.xy m.yx m.yy 96 small.xx small.xy small.yx small.yy) to.small_b);
-    small_c = subst (λ (z : Gram). nat_abs z.c ≤ (k + 1) * 18432) (sym is) (sum_size (square m).c g.c k (products_size m.xy m.xy m.yy m.yy 96 small.xy small.xy small.yy small.yy) to.small_c);
+    small_a = subst (λ (z : Gram). nat_abs z.a ≤ (k + 1) * 536870912) (sym is) (sum_size (square m).a g.a k (products_size m.xx m.xx m.yx m.yx 16384 small.xx small.xx small.yx small.yx) to.small_a);
+    small_b = subst (λ (z : Gram). nat_abs z.b ≤ (k + 1) * 536870912) (sym is) (sum_size (square m).b g.b k (products_size m.xx m.xy m.yx m.yy 16384 small.xx small.xy small.yx small.yy) to.small_b);
+    small_c = subst (λ (z : Gram). nat_abs z.c ≤ (k + 1) * 536870912) (sym is) (sum_size (square m).c g.c k (products_size m.xy m.xy m.yy m.yy 16384 small.xy small.xy small.yy small.yy) to.small_c);
   }
 
   pub gram_whole : (k : ℕ) (g : Gram) → k ≡ t.size → IsGramTo t k g → IsGram t g
@@ -100,7 +100,7 @@ module _ (t : Symbol) (torus : IsTorus t) where
 
 pub square_small : (m : Matrix) → IsSmallMatrix m → IsSmallForm (square m)
 square_small m small = record {
-  a = let s = products_size m.xx m.xx m.yx m.yx 96 small.xx small.xx small.yx small.yx in omega arith;
-  b = let s = products_size m.xx m.xy m.yx m.yy 96 small.xx small.xy small.yx small.yy in omega arith;
-  c = let s = products_size m.xy m.xy m.yy m.yy 96 small.xy small.xy small.yy small.yy in omega arith;
+  a = let s = products_size m.xx m.xx m.yx m.yx 16384 small.xx small.xx small.yx small.yx in omega arith;
+  b = let s = products_size m.xx m.xy m.yx m.yy 16384 small.xx small.xy small.yx small.yy in omega arith;
+  c = let s = products_size m.xy m.xy m.yy m.yy 16384 small.xy small.xy small.yy small.yy in omega arith;
 }

@@ -36,21 +36,21 @@ sum_size x y m n p q = omega (arith, ints)
 pub products_size : (x y u v : ℤ) (n : ℕ) → nat_abs x ≤ n → nat_abs y ≤ n → nat_abs u ≤ n → nat_abs v ≤ n → nat_abs (x *ℤ y +ℤ u *ℤ v) ≤ n * n + n * n
 products_size x y u v n hx hy hu hv = sum_size (x *ℤ y) (u *ℤ v) (n * n) (n * n) (product_size x y n n hx hy) (product_size u v n n hu hv)
 
-pub product_read : (x y x' y' : ℤ) → x ≡ x' → y ≡ y' → nat_abs x' ≤ 96 → nat_abs y' ≤ 96 → to_z w128 (of_z w128 (to_z w128 (of_z w128 x) *ℤ to_z w128 (of_z w128 y))) ≡ x' *ℤ y'
+pub product_read : (x y x' y' : ℤ) → x ≡ x' → y ≡ y' → nat_abs x' ≤ 16384 → nat_abs y' ≤ 16384 → to_z w128 (of_z w128 (to_z w128 (of_z w128 x) *ℤ to_z w128 (of_z w128 y))) ≡ x' *ℤ y'
 product_read x y x' y' ex ey hx hy =
-    let size = product_size x' y' 96 96 hx hy in
+    let size = product_size x' y' 16384 16384 hx hy in
     (λ i. to_z w128 (of_z w128 (to_z w128 (of_z w128 (ex i)) *ℤ to_z w128 (of_z w128 (ey i)))))
     ∙ (λ i. to_z w128 (of_z w128 (read128 x' (omega arith) i *ℤ read128 y' (omega arith) i))) ∙ read128 (x' *ℤ y') (omega arith)
 
-pub products_read : (x y u v x' y' u' v' : ℤ) → x ≡ x' → y ≡ y' → u ≡ u' → v ≡ v' → nat_abs x' ≤ 96 → nat_abs y' ≤ 96 → nat_abs u' ≤ 96 → nat_abs v' ≤ 96
+pub products_read : (x y u v x' y' u' v' : ℤ) → x ≡ x' → y ≡ y' → u ≡ u' → v ≡ v' → nat_abs x' ≤ 16384 → nat_abs y' ≤ 16384 → nat_abs u' ≤ 16384 → nat_abs v' ≤ 16384
     → to_z w128 (of_z w128 (to_z w128 (of_z w128 (to_z w128 (of_z w128 x) *ℤ to_z w128 (of_z w128 y))) +ℤ to_z w128 (of_z w128 (to_z w128 (of_z w128 u) *ℤ to_z w128 (of_z w128 v))))) ≡ x' *ℤ y' +ℤ u' *ℤ v'
 products_read x y u v x' y' u' v' ex ey eu ev hx hy hu hv =
-    let size = products_size x' y' u' v' 96 hx hy hu hv in
+    let size = products_size x' y' u' v' 16384 hx hy hu hv in
     (λ i. to_z w128 (of_z w128 (product_read x y x' y' ex ey hx hy i +ℤ product_read u v u' v' eu ev hu hv i))) ∙ read128 (x' *ℤ y' +ℤ u' *ℤ v') (omega arith)
 
-pub sum_read : (x y : ℤ) → nat_abs x ≤ 1000000000 → nat_abs y ≤ 1000000000 → to_z w128 (of_z w128 (to_z w128 (of_z w128 x) +ℤ to_z w128 (of_z w128 y))) ≡ x +ℤ y
+pub sum_read : (x y : ℤ) → nat_abs x ≤ 2 ^ 44 → nat_abs y ≤ 2 ^ 44 → to_z w128 (of_z w128 (to_z w128 (of_z w128 x) +ℤ to_z w128 (of_z w128 y))) ≡ x +ℤ y
 sum_read x y hx hy =
-    let size = sum_size x y 1000000000 1000000000 hx hy in
+    let size = sum_size x y (2 ^ 44) (2 ^ 44) hx hy in
     (λ i. to_z w128 (of_z w128 (read128 x (omega arith) i +ℤ read128 y (omega arith) i))) ∙ read128 (x +ℤ y) (omega arith)
 
 -- ## Sizes of all forms

@@ -42,7 +42,7 @@ module _ (t : Symbol) (torus : IsTorus t) (net : Net) (is : IsNet t net) where
 
   module _ (h : ℕ → ℕ) (level : (k : ℕ) (e : NetEdge) → k < length net.edges.items → IsStill (get_or net.edges.items k e) → h (get_or net.edges.items k e).from ≡ h (get_or net.edges.items k e).to) where
     abbrev g : ℕ → ℕ
-    g d = h (number t torus net is d)
+    g d = h (number t torus net.vertices net.edges.items is d)
 
     of_vertices : IsOfCells t Vertex g
     of_vertices i d hd holds = ap (λ z. h (place_in is.vertices z + 1)) (root_beside t inv Vertex (has_roots t inv Vertex).root (has_roots t inv Vertex).are i d hd holds)
@@ -59,8 +59,8 @@ module _ (t : Symbol) (torus : IsTorus t) (net : Net) (is : IsNet t net) where
         let edge = is.each q none inside in
         let many = is.many_edges in
         let still : IsStill (get_or net.edges.items q none) = record { x = edge.x ∙ is.are_first.trees d least tree; y = edge.y ∙ is.are_second.trees d least tree } in
-        let from = number_is t torus net is d (get_or net.edges.items q none).from least.0 edge.from in
-        let to = number_is t torus net is (op t Zero d) (get_or net.edges.items q none).to ((inv Zero).within d least.0) edge.to in
+        let from = number_is t torus net.vertices net.edges.items is d (get_or net.edges.items q none).from least.0 edge.from in
+        let to = number_is t torus net.vertices net.edges.items is (op t Zero d) (get_or net.edges.items q none).to ((inv Zero).within d least.0) edge.to in
         sym (ap h to) ∙ sym (level q none (omega arith) still) ∙ ap h from
 
     all : (d : ℕ) → IsChamber t d → g d ≡ g 1
@@ -70,7 +70,7 @@ module _ (t : Symbol) (torus : IsTorus t) (net : Net) (is : IsNet t net) where
         vertices_joined t torus.symbol torus.connected (omega arith, torus.symbol.table.chambers) g of_vertices (λ e least. each e least tt)
 
     at_vertex : (w : ℕ) → IsNetVertex net w → h w ≡ g 1
-    at_vertex w hw = let first = first_chamber t torus net is w hw in ap h first.1 ∙ all (item is.vertices w) first.0
+    at_vertex w hw = let first = first_chamber t torus net.vertices net.edges.items is w hw in ap h first.1 ∙ all (item is.vertices w) first.0
 
     pub one_value : (u v : ℕ) → IsNetVertex net u → IsNetVertex net v → h u ≡ h v
     one_value u v hu hv = at_vertex u hu ∙ sym (at_vertex v hv)

@@ -1,5 +1,5 @@
 -- The form of a torus: the sum, over its symmetries, of the transposed matrix times the matrix.
-use Rattle.std.specs.Prelude.{◌≡◌, ◌≢◌, ◌↔◌, ◌≤◌, ◌*◌, ◌+ℤ◌, ◌*ℤ◌, ℕ, nat_abs, pos, List, [], ◌∷◌}
+use Rattle.std.specs.Prelude.{◌≡◌, ◌≢◌, ◌↔◌, ◌≤◌, ◌*◌, ◌^◌, ◌+ℤ◌, ◌*ℤ◌, ℕ, nat_abs, pos, List, [], ◌∷◌}
 use Rattle.std.specs.List.{AllByRecursion, Contains}
 use Rattle.dd_model.specs.Symbol.{Symbol, item}
 use Rattle.dd_model.specs.Isomorphic.{IsIsomorphism}
@@ -63,14 +63,13 @@ carried m g = record {
   c = m.xy *ℤ (g.a *ℤ m.xy +ℤ g.b *ℤ m.yy) +ℤ m.yy *ℤ (g.b *ℤ m.xy +ℤ g.c *ℤ m.yy);
 }
 
--- g is the form of some torus whose net has at most 96 vertices
+-- g is the form of some torus that has a net
 pub record IsGramOfSome (g : Gram) : Type 0 where
   pub t : Symbol
   pub small : IsSmallSymbol t
   pub torus : IsTorus t
   pub net : Net
   pub is_net : IsNet t net
-  pub few : net.vertices ≤ 96
   pub is_gram : IsGram t g
 
 -- ## As it is found
@@ -83,9 +82,9 @@ pub record IsGramTo (t : Symbol) (k : ℕ) (g : Gram) : Type 0 where
   pub matrices : List Matrix
   pub are_actions : AreActions t symmetries matrices
   pub sum : g ≡ sum_of matrices
-  pub small_a : nat_abs g.a ≤ k * 18432
-  pub small_b : nat_abs g.b ≤ k * 18432
-  pub small_c : nat_abs g.c ≤ k * 18432
+  pub small_a : nat_abs g.a ≤ k * 536870912
+  pub small_b : nat_abs g.b ≤ k * 536870912
+  pub small_c : nat_abs g.c ≤ k * 536870912
 
 -- the product of two matrices
 abbrev pub times : Matrix → Matrix → Matrix
@@ -98,6 +97,6 @@ times m n = record {
 
 -- numbers that leave room for a sum
 pub record IsSmallForm (g : Gram) : Type 0 where
-  pub a : nat_abs g.a ≤ 1000000000
-  pub b : nat_abs g.b ≤ 1000000000
-  pub c : nat_abs g.c ≤ 1000000000
+  pub a : nat_abs g.a ≤ 2 ^ 44
+  pub b : nat_abs g.b ≤ 2 ^ 44
+  pub c : nat_abs g.c ≤ 2 ^ 44

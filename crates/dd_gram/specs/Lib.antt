@@ -4,4 +4,5 @@ pub mod Frames
 pub mod Loops
 pub mod Shifts
 pub mod Spreading
+pub mod Tori
 pub mod Walks

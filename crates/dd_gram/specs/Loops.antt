@@ -34,22 +34,21 @@ pub record IsBasis (t : Symbol) (net : Net) (basis : Basis) : Type 0 where
   pub y : (is : IsNet t net) → AreNumbers t is.second basis.numbers.y.items
   pub first : (is : IsNet t net) → IsLoop t net is basis.first.items (pos 1) (pos 0)
   pub second : (is : IsNet t net) → IsLoop t net is basis.second.items (pos 0) (pos 1)
-  pub few_first : length basis.first.items ≤ net.vertices
-  pub few_second : length basis.second.items ≤ net.vertices
+  pub few_first : length basis.first.items ≤ 16384
+  pub few_second : length basis.second.items ≤ 16384
 
--- the basis is that of some torus with at most 96 vertices, of which the map is a symmetry
+-- the basis is that of some torus, of which the map is a symmetry
 pub record ServesFor (basis : Basis) (map : List ℕ) : Type 0 where
   pub t : Symbol
   pub net : Net
   pub torus : IsTorus t
   pub is_net : IsNet t net
-  pub few : net.vertices ≤ 96
   pub is_basis : IsBasis t net basis
   pub isomorphism : IsIsomorphism t t map
 
--- its numbers are at most 96 in size
+-- its numbers are at most 16,384 in size
 pub record IsSmallMatrix (m : Matrix) : Type 0 where
-  pub xx : nat_abs m.xx ≤ 96
-  pub xy : nat_abs m.xy ≤ 96
-  pub yx : nat_abs m.yx ≤ 96
-  pub yy : nat_abs m.yy ≤ 96
+  pub xx : nat_abs m.xx ≤ 16384
+  pub xy : nat_abs m.xy ≤ 16384
+  pub yx : nat_abs m.yx ≤ 16384
+  pub yy : nat_abs m.yy ≤ 16384

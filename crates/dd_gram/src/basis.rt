@@ -6,6 +6,7 @@ ghost use Rattle.dd_gram.specs.Walks.{sum_along, image_walk};
 use crate::edge_numbers::EdgeNumbers;
 use crate::forms::Matrix;
 use crate::loops::{closed_walk, edge_with};
+use crate::torus::Torus;
 use dd_lattice::Net;
 use dd_model::{Map, Memory, Pair};
 use dd_symbol::Connected;
@@ -14,7 +15,7 @@ use std::alloc::Global;
 /// The sum of a number of chambers over the image of a walk.
 fn sum_of_images(numbers: &[i64], map: &Map, walk: &[u32]) -> i64
     requires each { (d : ℕ) → Contains walk.now d → HasSmallImage numbers.now map.now d }
-    requires few { length walk.now ≤ 96 }
+    requires few { length walk.now ≤ 16384 }
     ensures sum { result ≡ sum_along (number_at numbers.now) (image_walk map.now walk.now) }
     ensures small { nat_abs result ≤ length walk.now }
 {
@@ -51,13 +52,18 @@ impl Basis {
         requires net { IsNet t.now net.now }
         ensures { IfOk result (λ basis. IsBasis t.now net.now basis) }
     {
-        let edges = t.symbol().least_chambers(alloc, Pair::Edge)?;
         let one = edge_with(net.edges.as_slice(), 1, 0);
         let two = edge_with(net.edges.as_slice(), 0, 1);
+        let edges = t.symbol().least_chambers(alloc, Pair::Edge)?;
+        let torus = Torus {
+            symbol: t,
+            net,
+            edges,
+        };
         Ok(Basis {
-            numbers: EdgeNumbers::new(alloc, t, net, &edges)?,
-            first: closed_walk(alloc, t, net, &edges, one)?,
-            second: closed_walk(alloc, t, net, &edges, two)?,
+            numbers: EdgeNumbers::new(alloc, &torus)?,
+            first: closed_walk(alloc, &torus, one)?,
+            second: closed_walk(alloc, &torus, two)?,
         })
     }
 

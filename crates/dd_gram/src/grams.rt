@@ -49,7 +49,6 @@ impl Gram {
 pub fn gram(alloc: Global, t: &Connected, net: &Net) -> Result<Gram, Memory>
     requires torus { IsTorus t.now }
     requires net { IsNet t.now net.now }
-    requires few { net.now.vertices ≤ 96 }
     ensures gram { IfOk result (λ g. IsGram t.now g) }
     ensures some { IfOk result IsGramOfSome }
     ensures positive { IfOk result (λ g. pos 0 <ℤ g.a) }

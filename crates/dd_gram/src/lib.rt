@@ -12,6 +12,7 @@ mod laws;
 mod loops;
 mod matrices;
 mod spread;
+mod torus;
 
 pub use carried::carry;
 pub use forms::{Gram, Matrix};

@@ -1,18 +1,14 @@
 ghost use Rattle.std.specs.Prelude.{◌≡◌, ◌≤◌, ◌<◌, ℕ, ℤ, pos, length, slice_index, slice_index_or, IfOk, OnOk};
-ghost use Rattle.dd_model.specs.Cell.{AreCells};
-ghost use Rattle.dd_model.specs.declared.pair.Pair.TheVariants.{Edge};
-ghost use Rattle.dd_covers.specs.Torus.{IsTorus};
 ghost use Rattle.dd_lattice.specs.NetOf.{IsNet};
-ghost use Rattle.dd_lattice.specs.Nets.{IsConnectedNet};
 ghost use Rattle.dd_lattice.specs.declared.net_edge.NetEdge.{NetEdge};
 ghost use Rattle.dd_gram.specs.Loops.{IsLoop, HasEdgeWith};
 ghost use Rattle.dd_gram.specs.Spreading.{AreWholeSteps, IsReached};
 
 use crate::back_step::BackStep;
 use crate::spread::steps_from;
-use dd_lattice::{Net, NetEdge};
+use crate::torus::Torus;
+use dd_lattice::NetEdge;
 use dd_model::Memory;
-use dd_symbol::Connected;
 use std::alloc::Global;
 
 /// The place of the first edge with a shift, which there is.
@@ -32,27 +28,17 @@ pub(crate) fn edge_with(edges: &[NetEdge], x: i64, y: i64) -> usize
 }
 
 /// A closed walk that passes an edge of a net, and comes back along edges without a shift.
-pub(crate) fn closed_walk(
-    alloc: Global,
-    t: &Connected,
-    net: &Net,
-    edges: &[u32],
-    edge: usize,
-) -> Result<Vec<u32>, Memory>
-    requires torus { IsTorus t.now }
-    requires net { IsNet t.now net.now }
-    requires connected { IsConnectedNet net.now }
-    requires edges { AreCells t.now Edge edges.now }
-    requires inside { edge < length net.now.edges.items }
-    requires listed { edge < length edges.now }
-    ensures few { IfOk result (λ walk. length walk.items ≤ net.now.vertices) }
-    ensures is_loop { IfOk result (λ walk. (is : IsNet t.now net.now) (e : NetEdge)
-        → IsLoop t.now net.now is walk.items (slice_index_or net.now.edges.items edge e).x
-        (slice_index_or net.now.edges.items edge e).y) }
+pub(crate) fn closed_walk(alloc: Global, torus: &Torus, edge: usize) -> Result<Vec<u32>, Memory>
+    requires { edge < length torus.now.net.edges.items }
+    ensures few { IfOk result (λ walk. length walk.items ≤ torus.now.net.vertices) }
+    ensures is_loop { IfOk result (λ walk. (is : IsNet torus.now.symbol torus.now.net) (e : NetEdge)
+        → IsLoop torus.now.symbol torus.now.net is walk.items
+        (slice_index_or torus.now.net.edges.items edge e).x
+        (slice_index_or torus.now.net.edges.items edge e).y) }
 {
-    let NetEdge { from, to, .. } = net.edges[edge];
-    let steps = steps_from(alloc, t, net, edges, from)?;
-    let mut walk = vec![in alloc; edges[edge]]?;
+    let NetEdge { from, to, .. } = torus.net.edges[edge];
+    let steps = steps_from(alloc, torus, from)?;
+    let mut walk = vec![in alloc; torus.edges[edge]]?;
     let mut place = to;
     for k in 0..steps.len() {
         let step = steps[steps.len() - 1 - k];

@@ -1,4 +1,4 @@
-ghost use Rattle.std.specs.Prelude.{◌≤◌, IfOk};
+ghost use Rattle.std.specs.Prelude.{IfOk};
 ghost use Rattle.dd_model.specs.Isomorphic.{IsIsomorphism};
 ghost use Rattle.dd_covers.specs.Torus.{IsTorus};
 ghost use Rattle.dd_lattice.specs.NetOf.{IsNet};
@@ -15,7 +15,6 @@ use std::alloc::Global;
 pub fn matrix(alloc: Global, t: &Connected, net: &Net, map: &Map) -> Result<Matrix, Memory>
     requires torus { IsTorus t.now }
     requires net { IsNet t.now net.now }
-    requires few { net.now.vertices ≤ 96 }
     requires map { IsIsomorphism t.now t.now map.now }
     ensures { IfOk result (λ m. IsAction t.now map.now m) }
 {

@@ -1,17 +1,13 @@
 ghost use Rattle.std.specs.Prelude.{◌≡◌, ◌≤◌, ◌<◌, ◌↔◌, ℕ, true, false, IsTrue, length, MatchOption, IfOk};
-ghost use Rattle.dd_model.specs.Cell.{AreCells};
 ghost use Rattle.dd_model.specs.Symbol.{IsChamber};
-ghost use Rattle.dd_model.specs.Small.{IsSmallSymbol};
-ghost use Rattle.dd_model.specs.declared.pair.Pair.TheVariants.{Edge};
-ghost use Rattle.dd_covers.specs.Torus.{IsTorus};
-ghost use Rattle.dd_lattice.specs.NetOf.{IsNet};
-ghost use Rattle.dd_lattice.specs.Nets.{IsConnectedNet, IsNetVertex};
+ghost use Rattle.dd_lattice.specs.Nets.{IsNetVertex};
 ghost use Rattle.dd_gram.specs.Spreading.{flag, IsStill, IsNewStep, AreLevel, AreWholeSteps, IsOver};
 
 use crate::back_step::BackStep;
-use dd_lattice::{Net, NetEdge};
+use crate::torus::Torus;
+use dd_lattice::NetEdge;
 use dd_model::{Index, Memory};
-use dd_symbol::{Connected, Symbol};
+use dd_symbol::Symbol;
 use std::alloc::Global;
 
 /// Returns whether an edge has no shift.
@@ -51,17 +47,15 @@ fn step_over(symbol: &Symbol, edge: NetEdge, chamber: u32, ahead: bool) -> BackS
 }
 
 /// A step from a vertex that is met to one that is not, along the first edge that allows one.
-fn next_step(symbol: &Symbol, net: &Net, edges: &[u32], met: &[bool]) -> Option<BackStep>
-    requires torus { IsTorus symbol.now }
-    requires net { IsNet symbol.now net.now }
-    requires connected { IsConnectedNet net.now }
-    requires edges { AreCells symbol.now Edge edges.now }
-    requires met { length met.now ≡ net.now.vertices }
-    ensures { MatchOption result (AreLevel net.now met.now)
-        (λ step. IsNewStep symbol.now net.now met.now step) }
+fn next_step(torus: &Torus, met: &[bool]) -> Option<BackStep>
+    requires { length met.now ≡ torus.now.net.vertices }
+    ensures { MatchOption result (AreLevel torus.now.net met.now)
+        (λ step. IsNewStep torus.now.symbol torus.now.net met.now step) }
 {
+    let symbol = torus.symbol.symbol();
+    let edges = torus.edges.as_slice();
     for k in 0..edges.len() {
-        let edge = net.edges[k];
+        let edge = torus.net.edges[k];
         let from = is_met(met, edge.from);
         let to = is_met(met, edge.to);
         if is_still(edge) && from != to {
@@ -74,24 +68,14 @@ fn next_step(symbol: &Symbol, net: &Net, edges: &[u32], met: &[bool]) -> Option<
 /// Steps along edges without a shift from one vertex of a net to all others.
 ///
 /// It goes over the edges of the net at most once for each vertex.
-pub(crate) fn steps_from(
-    alloc: Global,
-    t: &Connected,
-    net: &Net,
-    edges: &[u32],
-    root: u32,
-) -> Result<Vec<BackStep>, Memory>
-    requires torus { IsTorus t.now }
-    requires net { IsNet t.now net.now }
-    requires connected { IsConnectedNet net.now }
-    requires edges { AreCells t.now Edge edges.now }
-    requires root { IsNetVertex net.now root }
-    ensures { IfOk result (λ steps. AreWholeSteps t.now net.now root steps.items) }
+pub(crate) fn steps_from(alloc: Global, torus: &Torus, root: u32) -> Result<Vec<BackStep>, Memory>
+    requires { IsNetVertex torus.now.net root }
+    ensures { IfOk result (λ steps. AreWholeSteps torus.now.symbol torus.now.net root steps.items) }
 {
-    let mut met = vec![in alloc; false; net.vertices as usize]?;
+    let mut met = vec![in alloc; false; torus.net.vertices as usize]?;
     let mut steps = Vec::new(alloc);
     met[root as usize - 1] = true;
-    while let Some(step) = next_step(t.symbol(), net, edges, &met) {
+    while let Some(step) = next_step(torus, &met) {
         met[step.to as usize - 1] = true;
         steps.push(step)?;
     }

@@ -30,7 +30,7 @@ use Rattle.dd_lattice.specs.declared.kinds.EdgeKind.TheVariants.{Tree, Crossing,
 use Rattle.dd_lattice.proofs.KindLemmas.{ascending, listed_edge, same_default}
 
 -- no more cells than chambers
-few_cells : (t : Symbol) (p : Pair) (ds : List ℕ) → AreCells t p ds → length ds ≤ t.size
+pub few_cells : (t : Symbol) (p : Pair) (ds : List ℕ) → AreCells t p ds → length ds ≤ t.size
 few_cells t p ds are =
     let few : length ds ≤ length (chambers t) = length-le_from_partners (λ a b. a ≡ b) ds (chambers t) are.ascending
     (λ a here. (a, chamber_listed t a ((are.members a).0 here).0, refl))

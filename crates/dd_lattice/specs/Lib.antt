@@ -1,5 +1,6 @@
 pub mod Edges
 pub mod Growing
+pub mod Joined
 pub mod Lists
 pub mod Nets
 pub mod NetOf

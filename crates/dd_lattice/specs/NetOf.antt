@@ -22,12 +22,12 @@ pub record IsEdgeOf (t : Symbol) (vertices : List ℕ) (first second : ℕ → �
   pub x : e.x ≡ first d
   pub y : e.y ≡ second d
 
--- The vertices of the net are those of the torus, and its edges are those of the torus, both in the order of their least
--- chambers. The shift is (1, 0) on the first of the two edges that are left, and (0, 1) on the second.
-pub record IsNet (t : Symbol) (net : Net) : Type 0 where
+-- So many vertices and these edges are those of the torus, both in the order of their least chambers. The shift is (1, 0) on the
+-- first of the two edges that are left, and (0, 1) on the second.
+pub record AreNetParts (t : Symbol) (count : ℕ) (listed : List NetEdge) : Type 0 where
   pub vertices : List ℕ
   pub are_vertices : AreCells t Vertex vertices
-  pub many_vertices : net.vertices ≡ length vertices
+  pub many_vertices : count ≡ length vertices
   pub one : ℕ
   pub two : ℕ
   pub are_left : AreLeft t one two
@@ -37,6 +37,10 @@ pub record IsNet (t : Symbol) (net : Net) : Type 0 where
   pub are_second : AreShifts t two second
   pub edges : List ℕ
   pub are_edges : AreCells t Edge edges
-  pub many_edges : length net.edges.items ≡ length edges
+  pub many_edges : length listed ≡ length edges
   pub each : (k : ℕ) (e : NetEdge) → k < length edges
-      → IsEdgeOf t vertices first second (slice_index edges k) (slice_index_or net.edges.items k e)
+      → IsEdgeOf t vertices first second (slice_index edges k) (slice_index_or listed k e)
+
+-- the net of the torus
+abbrev pub IsNet : Symbol → Net → Type 0
+IsNet t net = AreNetParts t net.vertices net.edges.items

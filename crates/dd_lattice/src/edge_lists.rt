@@ -1,36 +1,15 @@
 ghost use Rattle.std.specs.Prelude.{◌≡◌, ℕ, ◌<◌, ◌≤◌, List, length, map, slice_index, IfOk};
 ghost use Rattle.std.specs.List.{Contains};
-ghost use Rattle.dd_model.specs.Cell.{AreCells};
 ghost use Rattle.dd_model.specs.Symbol.{item};
-ghost use Rattle.dd_model.specs.declared.pair.Pair.TheVariants.{Vertex, Edge};
+ghost use Rattle.dd_model.specs.declared.pair.Pair.TheVariants.{Vertex};
 ghost use Rattle.dd_cells.specs.Cells.{AreCellsOf};
-ghost use Rattle.dd_lattice.specs.Edges.{AreKindsOf};
 ghost use Rattle.dd_lattice.specs.Lists.{AreLeftOf, AreVertexNumbers};
-ghost use Rattle.dd_lattice.specs.Steps.{AreCrossing};
 
 use crate::kinds::EdgeKind;
 use dd_cells::Cell;
 use dd_model::Memory;
 use dd_symbol::Connected;
 use std::alloc::Global;
-
-/// For each chamber whether it is the least one of a crossing edge.
-pub(crate) fn crossing_edges(
-    alloc: Global,
-    t: &Connected,
-    edges: &[u32],
-    kinds: &[EdgeKind],
-) -> Result<Vec<bool>, Memory>
-    requires edges { AreCells t.now Edge edges.now }
-    requires kinds { AreKindsOf t.now edges.now kinds.now }
-    ensures { IfOk result (λ crossing. AreCrossing t.now crossing.items) }
-{
-    let mut crossing = vec![in alloc; false; t.symbol().size() as usize]?;
-    for k in 0..edges.len() {
-        crossing[edges[k] as usize - 1] = kinds[k].is_crossing();
-    }
-    Ok(crossing)
-}
 
 /// The edges that are left, in order.
 pub(crate) fn left_edges(

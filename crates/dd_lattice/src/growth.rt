@@ -1,27 +1,13 @@
 ghost use Rattle.std.specs.Prelude.{◌≡◌, ℕ, ◌<◌, ◌≤◌, length, IfOk, OnOk};
-ghost use Rattle.std.specs.Bool.{OnTrue, OnFalse};
 ghost use Rattle.dd_model.specs.Symbol.{IsChamber};
-ghost use Rattle.dd_model.specs.Small.{IsSmallSymbol};
-ghost use Rattle.dd_lattice.specs.Steps.{IsCrossingAt, AreCrossing, IsReached, IsWholeTree};
+ghost use Rattle.dd_lattice.specs.Steps.{IsReached, IsWholeTree};
 ghost use Rattle.dd_lattice.specs.Growing.{IsGrowing, IsTaken, HasLooked};
 
+use crate::crossing::Crossing;
 use crate::step::Step;
-use dd_model::{Index, Memory, Pair};
+use dd_model::{Index, Memory};
 use dd_symbol::Symbol;
 use std::alloc::Global;
-
-/// Returns whether the edge of a chamber is a crossing edge. `crossing` has the edges at their
-/// least chambers.
-fn crosses(symbol: &Symbol, crossing: &[bool], chamber: u32) -> bool
-    requires crossing { AreCrossing symbol.now crossing.now }
-    requires symbol { IsSmallSymbol symbol.now }
-    requires chamber { IsChamber symbol.now chamber }
-    ensures yes { OnTrue result (IsCrossingAt symbol.now chamber) }
-    ensures no { OnFalse result (IsCrossingAt symbol.now chamber → ⊥) }
-{
-    let least = symbol.cell(Pair::Edge, chamber).least;
-    crossing[least as usize - 1]
-}
 
 /// Chambers that steps join to a first one.
 #[derive(Drop)]
@@ -64,17 +50,16 @@ impl Growing {
 
     /// Takes each step from a chamber: on and back round its tile, and across its edge where that
     /// is a crossing edge.
-    fn look(&mut self, symbol: &Symbol, crossing: &[bool], chamber: u32) -> Result<(), Memory>
-        requires symbol { IsSmallSymbol symbol.now }
-        requires crossing { AreCrossing symbol.now crossing.now }
-        requires chamber { IsChamber symbol.now chamber }
-        requires whole { length self.old.met.items ≡ symbol.now.size }
+    fn look(&mut self, crossing: &Crossing, chamber: u32) -> Result<(), Memory>
+        requires chamber { IsChamber crossing.now.symbol.now chamber }
+        requires whole { length self.old.met.items ≡ crossing.now.symbol.now.size }
         ensures { OnOk result ((first : ℕ)
-            → IsGrowing symbol.now first self.old.met.items self.old.steps.items
+            → IsGrowing crossing.now.symbol.now first self.old.met.items self.old.steps.items
             → IsReached first self.old.steps.items (length self.old.steps.items) chamber
-            → HasLooked symbol.now first chamber self.new.met.items
+            → HasLooked crossing.now.symbol.now first chamber self.new.met.items
             self.old.steps.items self.new.steps.items) }
     {
+        let symbol = crossing.symbol;
         self.take(Step {
             from: chamber,
             to: symbol.op(Index::One, symbol.op(Index::Zero, chamber)),
@@ -85,7 +70,7 @@ impl Growing {
             to: symbol.op(Index::Zero, symbol.op(Index::One, chamber)),
             crosses: false,
         })?;
-        if crosses(symbol, crossing, chamber) {
+        if crossing.has(chamber) {
             self.take(Step {
                 from: chamber,
                 to: symbol.op(Index::Zero, symbol.op(Index::Two, chamber)),
@@ -100,21 +85,19 @@ impl Growing {
 /// edges, one to each.
 pub(crate) fn steps_from(
     alloc: Global,
-    symbol: &Symbol,
-    crossing: &[bool],
+    crossing: &Crossing,
     first: u32,
 ) -> Result<Vec<Step>, Memory>
-    requires symbol { IsSmallSymbol symbol.now }
-    requires crossing { AreCrossing symbol.now crossing.now }
-    requires first { IsChamber symbol.now first }
-    ensures { IfOk result (λ steps. IsWholeTree symbol.now first steps.items) }
+    requires { IsChamber crossing.now.symbol.now first }
+    ensures { IfOk result (λ steps. IsWholeTree crossing.now.symbol.now first steps.items) }
 {
+    let symbol = crossing.symbol;
     let mut tree = Growing::new(alloc, symbol, first)?;
-    tree.look(symbol, crossing, first)?;
+    tree.look(crossing, first)?;
     for k in 0..symbol.size() as usize {
         if k < tree.steps.len() {
             let chamber = tree.steps[k].to;
-            tree.look(symbol, crossing, chamber)?;
+            tree.look(crossing, chamber)?;
         }
     }
     Ok(tree.steps)

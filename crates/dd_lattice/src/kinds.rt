@@ -9,7 +9,7 @@ ghost use Rattle.dd_lattice.specs.Edges.{IsKindOf, AreKindsOf, AreVerticesTo, Ar
 ghost use Rattle.dd_union_find.specs.Parts.{IsFalling, AreInOnePart, AreJoinedAt};
 
 use dd_model::{Index, Memory, Pair};
-use dd_symbol::{Connected, Symbol};
+use dd_symbol::Connected;
 use dd_union_find::Forest;
 use std::alloc::Global;
 
@@ -50,21 +50,22 @@ impl EdgeKind {
 
 /// Joins the parts of the two cells of a chamber and of its image, and returns whether they were
 /// two.
-fn join_cells(above: &mut Forest, symbol: &Symbol, pair: Pair, i: Index, chamber: u32) -> bool
-    requires symbol { IsSmallSymbol symbol.now }
-    requires chamber { IsChamber symbol.now chamber }
-    requires nodes { length above.old ≡ symbol.now.size + 1 }
+fn join_cells(above: &mut Forest, t: &Connected, pair: Pair, i: Index, chamber: u32) -> bool
+    requires chamber { IsChamber t.now chamber }
+    requires nodes { length above.old ≡ t.now.size + 1 }
+    ensures symbol { IsSmallSymbol t.now }
     ensures falls { IsFalling above.new }
-    ensures joined { (a b : ℕ) → IsLeastFor symbol.now pair chamber a
-        → IsLeastFor symbol.now pair (op symbol.now i chamber) b
+    ensures joined { (a b : ℕ) → IsLeastFor t.now pair chamber a
+        → IsLeastFor t.now pair (op t.now i chamber) b
         → AreJoinedAt above.old a b above.new }
-    ensures two { (a b : ℕ) → IsLeastFor symbol.now pair chamber a
-        → IsLeastFor symbol.now pair (op symbol.now i chamber) b
+    ensures two { (a b : ℕ) → IsLeastFor t.now pair chamber a
+        → IsLeastFor t.now pair (op t.now i chamber) b
         → OnTrue result (AreInOnePart above.old a b → ⊥) }
-    ensures one_part { (a b : ℕ) → IsLeastFor symbol.now pair chamber a
-        → IsLeastFor symbol.now pair (op symbol.now i chamber) b
+    ensures one_part { (a b : ℕ) → IsLeastFor t.now pair chamber a
+        → IsLeastFor t.now pair (op t.now i chamber) b
         → OnFalse result (AreInOnePart above.old a b) }
 {
+    let symbol = t.symbol();
     let one = symbol.cell(pair, chamber).least;
     let other = symbol.cell(pair, symbol.op(i, chamber)).least;
     above.join(one, other)
@@ -73,25 +74,24 @@ fn join_cells(above: &mut Forest, symbol: &Symbol, pair: Pair, i: Index, chamber
 /// What an edge is, after the smaller ones. Its two vertices are joined, and where they were joined
 /// before, its two tiles.
 fn kind_of(
-    symbol: &Symbol,
+    t: &Connected,
     edges: &[u32],
     k: usize,
     vertices: &mut Forest,
     tiles: &mut Forest,
 ) -> EdgeKind
-    requires symbol { IsSmallSymbol symbol.now }
-    requires edges { AreCells symbol.now Edge edges.now }
+    requires edges { AreCells t.now Edge edges.now }
     requires inside { k < length edges.now }
-    requires vertices { AreVerticesTo symbol.now edges.now k vertices.old }
-    requires tiles { AreTilesTo symbol.now edges.now k tiles.old }
-    ensures kind { IsKindOf symbol.now (slice_index edges.now k) result }
-    ensures vertices { AreVerticesTo symbol.now edges.now (k + 1) vertices.new }
-    ensures tiles { AreTilesTo symbol.now edges.now (k + 1) tiles.new }
+    requires vertices { AreVerticesTo t.now edges.now k vertices.old }
+    requires tiles { AreTilesTo t.now edges.now k tiles.old }
+    ensures kind { IsKindOf t.now (slice_index edges.now k) result }
+    ensures vertices { AreVerticesTo t.now edges.now (k + 1) vertices.new }
+    ensures tiles { AreTilesTo t.now edges.now (k + 1) tiles.new }
 {
-    if join_cells(vertices, symbol, Pair::Vertex, Index::Zero, edges[k]) {
+    if join_cells(vertices, t, Pair::Vertex, Index::Zero, edges[k]) {
         return EdgeKind::Tree;
     }
-    if join_cells(tiles, symbol, Pair::Tile, Index::Two, edges[k]) {
+    if join_cells(tiles, t, Pair::Tile, Index::Two, edges[k]) {
         return EdgeKind::Crossing;
     }
     EdgeKind::Left
@@ -102,12 +102,12 @@ pub fn edge_kinds(alloc: Global, t: &Connected, edges: &[u32]) -> Result<Vec<Edg
     requires { AreCells t.now Edge edges.now }
     ensures { IfOk result (λ kinds. AreKindsOf t.now edges.now kinds.items) }
 {
-    let symbol = t.symbol();
-    let mut vertices = Forest::new(alloc, symbol.size() + 1)?;
-    let mut tiles = Forest::new(alloc, symbol.size() + 1)?;
+    let nodes = t.symbol().size() + 1;
+    let mut vertices = Forest::new(alloc, nodes)?;
+    let mut tiles = Forest::new(alloc, nodes)?;
     let mut kinds = Vec::new(alloc);
     for k in 0..edges.len() {
-        kinds.push(kind_of(symbol, edges, k, &mut vertices, &mut tiles))?;
+        kinds.push(kind_of(t, edges, k, &mut vertices, &mut tiles))?;
     }
     Ok(kinds)
 }

@@ -1,6 +1,7 @@
 //! Nets of tori: which edges are tree edges, crossing edges and left, and the shifts.
 #![tactic(auto)]
 
+mod crossing;
 mod edge_lists;
 mod growth;
 mod kinds;

@@ -2,12 +2,13 @@ ghost use Rattle.std.specs.Prelude.{◌≡◌, ℕ, ◌<◌, ◌≤◌, length, 
 ghost use Rattle.dd_model.specs.Symbol.{IsChamber};
 ghost use Rattle.dd_covers.specs.Torus.{IsTorus};
 ghost use Rattle.dd_lattice.specs.Shifts.{IsLeftEdge, AreShifts};
-ghost use Rattle.dd_lattice.specs.Steps.{IsTree, IsReached, across};
 ghost use Rattle.dd_lattice.specs.Paths.{IsBack, mark, shift_by};
 
+use crate::crossing::Crossing;
+use crate::growth::steps_from;
 use crate::step::Step;
 use dd_model::{Index, Memory};
-use dd_symbol::{Connected, Symbol};
+use dd_symbol::Symbol;
 use std::alloc::Global;
 
 /// Goes a step back where it led to the place of a path, and answers the new place. Where it
@@ -34,22 +35,18 @@ pub(crate) struct Path {
 }
 
 impl Path {
-    /// The path that leaves the tile of a first chamber across its edge, and comes back by steps.
-    pub(crate) fn closed(
-        alloc: Global,
-        t: &Connected,
-        first: u32,
-        steps: &[Step],
-    ) -> Result<Path, Memory>
-        requires torus { IsTorus t.now }
-        requires left { IsLeftEdge t.now first }
-        requires tree { IsTree t.now first steps.now }
-        requires reached { IsReached first steps.now (length steps.now) (across t.now first) }
-        ensures shifts { IfOk result (λ path. AreShifts t.now first
-            (shift_by t.now path.exits.items)) }
-        ensures whole { IfOk result (λ path. length path.exits.items ≡ t.now.size) }
+    /// The path that crosses the edge of a first chamber, which is left, and comes back across
+    /// crossing edges. Its crossings are one coordinate of the shifts.
+    pub(crate) fn closed(alloc: Global, crossing: &Crossing, first: u32) -> Result<Path, Memory>
+        requires torus { IsTorus crossing.now.symbol.now }
+        requires left { IsLeftEdge crossing.now.symbol.now first }
+        ensures shifts { IfOk result (λ path. AreShifts crossing.now.symbol.now first
+            (shift_by crossing.now.symbol.now path.exits.items)) }
+        ensures whole { IfOk result (λ path.
+            length path.exits.items ≡ crossing.now.symbol.now.size) }
     {
-        let symbol = t.symbol();
+        let symbol = crossing.symbol;
+        let steps = steps_from(alloc, crossing, first)?;
         let mut exits = vec![in alloc; false; symbol.size() as usize]?;
         exits[first as usize - 1] = true;
         let mut place = symbol.op(Index::Zero, symbol.op(Index::Two, first));

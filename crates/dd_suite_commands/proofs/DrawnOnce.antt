@@ -10,7 +10,6 @@ use Rattle.dd_covers.proofs.TorusCovers.{torus_cover_once}
 use Rattle.dd_lattice.specs.NetOf.{IsNet}
 use Rattle.dd_model.specs.declared.frame.Frame.{Frame}
 use Rattle.dd_lattice.specs.declared.net.Net.{Net}
-use Rattle.dd_lattice.proofs.NetLemmas.{connected_net}
 use Rattle.dd_lattice.proofs.OneChoice.{one_vertices, one_net}
 use Rattle.dd_gram.specs.Frames.{IsOwnFrame}
 use Rattle.dd_gram.proofs.KeptForms.{form_unique, form_positive}
@@ -54,8 +53,7 @@ pub drawing_once : (shape : Option Frame) (s : Symbol) (one other : List ℕ) �
 drawing_once shape s one other readable x y =
     let many = same_vertices s x.net y.net readable x.is_net y.is_net in
     let edges = same_edges s x.net y.net readable x.is_net y.is_net in
-    let connected = connected_net y.is_net.torus (least_torus s y.is_net.torus readable y.is_net.least) y.net y.is_net.is_net in
-    let points = placement_unique y.net x.points y.points connected (placement_same x.net y.net many edges x.points x.placed) y.placed in
+    let points = placement_unique y.net x.points y.points y.net.joined (placement_same x.net y.net many edges x.points x.placed) y.placed in
     let same = torus_once s y.is_net.torus x.is_net.torus readable y.is_net.least x.is_net.least in
     let frames = cell_once shape x.is_net.torus x.frame y.frame (least_torus s x.is_net.torus readable x.is_net.least) x.is_cell
     (subst (λ t. IsCell shape t y.frame) same y.is_cell) in

@@ -12,10 +12,9 @@ use Rattle.dd_gram.specs.Form.{IsGram}
 use Rattle.dd_gram.specs.Frames.{IsOwnFrame}
 use Rattle.dd_gram.specs.declared.forms.Gram.{Gram}
 use Rattle.dd_draw.specs.Document.{document}
-use Rattle.dd_draw.specs.Placement.{IsPlacement}
+use Rattle.dd_draw.specs.Placement.{Point, IsPlacement}
 use Rattle.dd_draw.specs.Tables.{place_at}
 use Rattle.dd_draw.specs.Width.{Place, IsPlaceOf, IsWideAt, IsFirstWide}
-use Rattle.dd_draw.specs.declared.point.Point.{Point}
 use Rattle.dd_suite_commands.specs.Made.{IsLeastTorus, IsCurved}
 use Rattle.dd_suite_commands.specs.declared.refusals.SymbolFault.{SymbolFault}
 use Rattle.dd_suite_commands.specs.declared.refusals.SymbolFault.TheVariants.{TooManyChambers, BranchingTooLarge, NotFlat, TooManyVertices, TooWide}

@@ -2,12 +2,10 @@
 use Rattle.std.specs.Prelude.{◌≡◌, ℕ, ◌≤◌, List, Option, ◌++◌}
 use Rattle.dd_model.specs.declared.frame.Frame.{Frame}
 use Rattle.dd_covers.specs.Torus.{IsTorus}
-use Rattle.dd_lattice.specs.Nets.{IsConnectedNet}
 use Rattle.dd_lattice.specs.NetOf.{IsNet}
 use Rattle.dd_draw.specs.Document.{document}
-use Rattle.dd_draw.specs.Placement.{IsPlacement}
+use Rattle.dd_draw.specs.Placement.{Point, IsPlacement}
 use Rattle.dd_draw.specs.Width.{Place, IsPlaceOf, IsWideAt}
-use Rattle.dd_draw.specs.declared.point.Point.{Point}
 use Rattle.dd_suite_commands.specs.declared.drawings.TorusNet.{TorusNet}
 use Rattle.dd_suite_commands.specs.Drawings.{IsCell}
 
@@ -15,7 +13,6 @@ use Rattle.dd_suite_commands.specs.Drawings.{IsCell}
 pub record IsDrawable (of : TorusNet) : Type 0 where
   pub torus : IsTorus of.torus
   pub net : IsNet of.torus of.net
-  pub connected : IsConnectedNet of.net
   pub few : of.net.vertices ≤ 96
 
 -- the old text, and the document of the net at its placement, of which no number is too wide

@@ -1,25 +1,18 @@
 ghost use Rattle.std.specs.Prelude.{◌≤◌, IfOk, IfErr, OnOk};
 ghost use Rattle.std.specs.List.{AllByRecursion};
 ghost use Rattle.dd_model.specs.Reading.{IsReadable};
-ghost use Rattle.dd_covers.specs.Torus.{IsTorus};
-ghost use Rattle.dd_lattice.specs.Nets.{IsConnectedNet};
-ghost use Rattle.dd_draw.specs.Limit.{IsNarrowPoint};
 ghost use Rattle.dd_draw.specs.Placement.{IsPlacement};
 ghost use Rattle.dd_draw.specs.Width.{Place, IsPlaceOf, IsWideAt};
 ghost use Rattle.dd_suite_commands.specs.Drawings.{IsCell, IsWideNet, IsUndrawn, AddsDrawing, AreDrawings, IsFirstUndrawn};
 ghost use Rattle.dd_suite_commands.specs.DrawnNets.{IsDrawable, AddsNetDrawing};
 ghost use Rattle.dd_suite_commands.specs.Made.{IsLeastTorus};
 ghost use Rattle.dd_suite_commands.specs.Stops.{IsStop};
-ghost use Rattle.dd_lattice.specs.NetOf.{IsNet};
-ghost use Rattle.dd_model.specs.Code.{IsLeastForm};
-ghost use Rattle.dd_model.specs.Isomorphic.{IsIsomorphism};
 
 use crate::refusals::{SymbolFault, SymbolRefusal};
 use crate::stop::Stop;
 use crate::symbol_commands::flat_torus;
 use dd_canon::least_form_with;
 use dd_cells::count;
-use dd_covers::Cover;
 use dd_draw::{MOST_VERTICES, PlaceFault, Places, place, svg};
 use dd_gram::{gram, own_frame};
 use dd_lattice::{Net, shifts};
@@ -47,31 +40,17 @@ fn torus_net(alloc: Global, s: &Connected) -> Result<TorusNet, Stop<SymbolFault>
     if count > MOST_VERTICES {
         return Err(Stop::Refused(SymbolFault::TooManyVertices { count }));
     }
-    Ok(least_net(alloc, &cover)?)
-}
-
-/// Returns the least form of a torus cover, and its net.
-fn least_net(alloc: Global, cover: &Cover) -> Result<TorusNet, Memory>
-    requires torus { IsTorus cover.now.symbol }
-    requires turn { IsIsomorphism cover.now.symbol cover.now.symbol cover.now.turn }
-    ensures least { IfOk result (λ of. IsLeastForm cover.now.symbol of.torus) }
-    ensures torus { IfOk result (λ of. IsTorus of.torus) }
-    ensures net { IfOk result (λ of. IsNet of.torus of.net) }
-    ensures connected { IfOk result (λ of. IsConnectedNet of.net) }
-{
-    let form = least_form_with(alloc, &cover.symbol, cover.turn.as_slice())?;
-    let net = shifts(alloc, &form)?;
-    Ok(TorusNet { torus: form, net })
+    let torus = least_form_with(alloc, &cover.symbol, cover.turn.as_slice())?;
+    let net = shifts(alloc, &torus)?;
+    Ok(TorusNet { torus, net })
 }
 
 /// Where the vertices of a net stand.
 fn places_of(alloc: Global, net: &Net) -> Result<Places, Stop<SymbolFault>>
-    requires connected { IsConnectedNet net.now }
-    requires few { net.now.vertices ≤ 96 }
+    requires { net.now.vertices ≤ 96 }
     ensures placement { IfOk result (λ places. IsPlacement net.now places.points.items) }
     ensures narrow { IfOk result (λ places.
         (p : Place) → IsPlaceOf net.now p → ¬ IsWideAt net.now p) }
-    ensures points { IfOk result (λ places. AllByRecursion IsNarrowPoint places.points.items) }
     ensures why { IfErr result (IsStop (IsWideNet net.now)) }
 {
     match place(alloc, net) {

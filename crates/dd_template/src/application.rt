@@ -7,6 +7,7 @@ ghost use Rattle.dd_template.specs.Made.{made, degree_of, moved};
 ghost use Rattle.dd_template.specs.Table.{table_of};
 
 use crate::tables::{Degree, Template};
+use crate::undone::Undone;
 use dd_model::{Index, Memory, Pair};
 use dd_symbol::{Connected, Refusal, Symbol, build};
 use std::alloc::Global;
@@ -59,9 +60,8 @@ fn degree_at(s: &Connected, entry: Degree, chamber: u32) -> u32
     }
 }
 
-impl<const K: usize> Template<K> {
-    ghost use Rattle.dd_template.specs.Entries.{entries};
-    ghost use Rattle.dd_template.specs.Made.{chamber_of, degree_from, image_of, made_operation, made_degrees, of_chamber};
+impl<'a, const K: usize> Undone<'a, K> {
+    ghost use Rattle.dd_template.specs.Made.{image_of, made_operation, of_chamber};
 
     /// The number of a part of a chamber: the parts of chamber 1 come first.
     fn number_of(chamber: u32, part: usize) -> u32
@@ -81,15 +81,14 @@ impl<const K: usize> Template<K> {
         index: Index,
         chamber: u32,
     ) -> Result<(), Memory>
-        requires lawful { IsLawful (table_of self.now) }
         requires small { symbol.now.size * K ≤ 1024 }
         requires chamber { IsChamber symbol.now chamber }
         ensures { OnOk result (images.new.items ≡ images.old.items
-            ++ of_chamber (table_of self.now) (image_of (table_of self.now) symbol.now index)
-            chamber) }
+            ++ of_chamber (table_of self.now.table.now)
+            (image_of (table_of self.now.table.now) symbol.now index) chamber) }
     {
         for part in 0..K {
-            let there = self.move_of(index, part);
+            let there = self.table.move_of(index, part);
             let home = moved_by(symbol, there.by, chamber);
             images.push(Self::number_of(home, there.to))?;
         }
@@ -98,10 +97,9 @@ impl<const K: usize> Template<K> {
 
     /// The images of all parts of all chambers.
     fn images(&self, alloc: Global, symbol: &Symbol, index: Index) -> Result<Vec<u32>, Memory>
-        requires lawful { IsLawful (table_of self.now) }
-        requires small { symbol.now.size * K ≤ 1024 }
+        requires { symbol.now.size * K ≤ 1024 }
         ensures { IfOk result (λ images. images.items ≡
-            made_operation (table_of self.now) symbol.now index) }
+            made_operation (table_of self.now.table.now) symbol.now index) }
     {
         let mut images = Vec::with_capacity(alloc, symbol.size() as usize * K)?;
         for k in 0..symbol.size() {
@@ -109,6 +107,11 @@ impl<const K: usize> Template<K> {
         }
         Ok(images)
     }
+}
+
+impl<const K: usize> Template<K> {
+    ghost use Rattle.dd_template.specs.Entries.{entries};
+    ghost use Rattle.dd_template.specs.Made.{degree_from, made_degrees, of_chamber};
 
     /// Appends the degrees of the parts of a chamber.
     fn push_degrees(
@@ -163,10 +166,11 @@ pub fn apply<const K: usize>(
     if n as usize * K > MOST_CHAMBERS as usize {
         return Err(ApplyFault::TooManyChambers { n });
     }
+    let undone = Undone { table: template };
     let ops = [
-        template.images(alloc, plain, Index::Zero)?,
-        template.images(alloc, plain, Index::One)?,
-        template.images(alloc, plain, Index::Two)?,
+        undone.images(alloc, plain, Index::Zero)?,
+        undone.images(alloc, plain, Index::One)?,
+        undone.images(alloc, plain, Index::Two)?,
     ];
     let m01 = template.degrees(alloc, symbol, Pair::Tile)?;
     let m12 = template.degrees(alloc, symbol, Pair::Vertex)?;

@@ -2,7 +2,8 @@ ghost use Rattle.std.specs.Prelude.{◌≡◌, ℕ, ◌≤◌, ◌*◌, ◌/◌,
 ghost use Rattle.std.specs.List.{sum_by};
 ghost use Rattle.dd_template.specs.Shares.{share, curvature_unit};
 
-use crate::tables::{Degree, MultipleOf, Template};
+use crate::tables::{Degree, MultipleOf};
+use crate::undone::Undone;
 use dd_model::Pair;
 
 /// The number of parts into which 1 is cut when curvature is counted. It is the least common
@@ -33,30 +34,27 @@ fn share_of(kind: MultipleOf, entry: Degree) -> u128
     }
 }
 
-impl<const K: usize> Template<K> {
+impl<'a, const K: usize> Undone<'a, K> {
     ghost use Rattle.dd_template.specs.Table.{table_of};
     ghost use Rattle.dd_template.specs.Shares.{KeepsCurvature};
     ghost use Rattle.dd_template.specs.Entries.{entries};
 
     /// The sum of a kind over the entries that belong to the tiles or to the vertices.
     fn total(&self, pair: Pair, kind: MultipleOf) -> u128
-        requires few { K ≤ 64 }
-        requires entries { length (entries (table_of self.now) pair) ≡ K }
-        ensures total { result ≡ sum_by (share kind) (entries (table_of self.now) pair) }
+        requires entries { length (entries (table_of self.now.table.now) pair) ≡ K }
+        ensures total { result ≡ sum_by (share kind) (entries (table_of self.now.table.now) pair) }
         ensures small { result ≤ 64 * curvature_unit }
     {
         let mut total = 0u128;
         for part in 0..K {
-            total += share_of(kind, self.entry_of(pair, part));
+            total += share_of(kind, self.table.entry_of(pair, part));
         }
         total
     }
 
     /// Returns whether the table keeps the curvature of every symbol.
     pub(crate) fn keeps_curvature(&self) -> bool
-        requires some { 1 ≤ K }
-        requires few { K ≤ 64 }
-        ensures { IsTrue result ↔ KeepsCurvature (table_of self.now) }
+        ensures { IsTrue result ↔ KeepsCurvature (table_of self.now.table.now) }
     {
         let tiles = self.total(Pair::Tile, MultipleOf::Tile)
             + self.total(Pair::Vertex, MultipleOf::Tile);

@@ -1,23 +1,23 @@
 ghost use Rattle.std.specs.Prelude.{◌≡◌, ℕ, ◌<◌, ◌≤◌, ◌↔◌, IsTrue, MatchOption, length};
 
+use crate::part::Part;
 use crate::tables::Template;
+use crate::undone::Undone;
 use dd_model::Index;
 
-impl<const K: usize> Template<K> {
+impl<'a, const K: usize> Undone<'a, K> {
     ghost use Rattle.dd_template.specs.Table.{table_of};
     ghost use Rattle.dd_template.specs.Joined.{IsMet, LeadsToMet, IsClosed, IsNext};
-    ghost use Rattle.dd_template.specs.Moves.{AreUndone};
-    ghost use Rattle.dd_template.specs.Connecting.{AreJoined, IsUsed, AreUsed};
+    ghost use Rattle.dd_template.specs.Connecting.{AreJoined};
 
     /// The part to which a move leads that stays in the chamber, if that part is not met.
-    fn next_by(&self, met: &[bool; K], index: Index, part: usize) -> Option<usize>
-        requires undone { AreUndone (table_of self.now) }
-        requires part { part < K }
-        requires met { IsMet met.now part }
-        ensures { MatchOption result (LeadsToMet (table_of self.now) met.now index part)
-            (λ y. IsNext (table_of self.now) met.now y) }
+    fn next_by(&self, met: &[bool; K], index: Index, part: Part<K>) -> Option<usize>
+        requires { IsMet met.now part.number }
+        ensures { MatchOption result (LeadsToMet (table_of self.now.table.now) met.now index
+            part.entry.number)
+            (λ y. IsNext (table_of self.now.table.now) met.now y) }
     {
-        let there = self.move_of(index, part);
+        let there = self.table.move_of(index, part.number);
         if there.by.is_some() || met[there.to] {
             return None;
         }
@@ -26,21 +26,21 @@ impl<const K: usize> Template<K> {
 
     /// A part that is not met, to which a move leads from one that is.
     fn next(&self, met: &[bool; K]) -> Option<usize>
-        requires undone { AreUndone (table_of self.now) }
-        ensures { MatchOption result (IsClosed (table_of self.now) met.now)
-            (λ y. IsNext (table_of self.now) met.now y) }
+        ensures { MatchOption result (IsClosed (table_of self.now.table.now) met.now)
+            (λ y. IsNext (table_of self.now.table.now) met.now y) }
     {
         for part in 0..K {
             if met[part] {
-                let zero = self.next_by(met, Index::Zero, part);
+                let from = Part { number: part };
+                let zero = self.next_by(met, Index::Zero, from);
                 if zero.is_some() {
                     return zero;
                 }
-                let one = self.next_by(met, Index::One, part);
+                let one = self.next_by(met, Index::One, from);
                 if one.is_some() {
                     return one;
                 }
-                let two = self.next_by(met, Index::Two, part);
+                let two = self.next_by(met, Index::Two, from);
                 if two.is_some() {
                     return two;
                 }
@@ -52,9 +52,7 @@ impl<const K: usize> Template<K> {
     /// Returns whether moves that stay in the chamber join all parts: each step meets one part
     /// more.
     pub(crate) fn are_joined(&self) -> bool
-        requires undone { AreUndone (table_of self.now) }
-        requires some { 1 ≤ K }
-        ensures { IsTrue result ↔ AreJoined (table_of self.now) }
+        ensures { IsTrue result ↔ AreJoined (table_of self.now.table.now) }
     {
         let mut met = [false; K];
         met[0] = true;
@@ -66,6 +64,11 @@ impl<const K: usize> Template<K> {
         }
         true
     }
+}
+
+impl<const K: usize> Template<K> {
+    ghost use Rattle.dd_template.specs.Table.{table_of};
+    ghost use Rattle.dd_template.specs.Connecting.{IsUsed, AreUsed};
 
     /// Returns whether some move goes by the involution.
     fn is_used(&self, index: Index) -> bool

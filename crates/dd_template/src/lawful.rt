@@ -1,7 +1,9 @@
 ghost use Rattle.std.specs.Prelude.{◌≡◌, ◌⊎◌, ℕ, ◌+◌, ◌*◌, ◌<◌, ◌≤◌, ◌↔◌, IsTrue, [], length};
 ghost use Rattle.dd_template.specs.Entries.{GoesBy};
 
+use crate::part::Part;
 use crate::tables::{Degree, Move, Template};
+use crate::undone::Undone;
 use crate::words::Letters;
 use dd_model::{Index, Pair};
 
@@ -23,13 +25,10 @@ pub(crate) fn goes_by(pair: Pair, by: Option<Index>) -> bool
 }
 
 impl<const K: usize> Template<K> {
-    ghost use Rattle.dd_model.specs.Symbol.{power, turn};
-    ghost use Rattle.dd_template.specs.Table.{table_of, moves, move, entry, part_after};
-    ghost use Rattle.dd_template.specs.Reduced.{carried};
-    ghost use Rattle.dd_template.specs.Letters.{word_of};
+    ghost use Rattle.dd_template.specs.Table.{table_of, moves, move, entry};
     ghost use Rattle.dd_model.specs.declared.index.Index.{Index};
-    ghost use Rattle.dd_template.specs.Moves.{RowLeadsBack, AreUndoneBy, AreUndone, Commute, LeadsBack};
-    ghost use Rattle.dd_template.specs.Entries.{AreConstant, IsConstant, entries};
+    ghost use Rattle.dd_template.specs.Moves.{RowLeadsBack, AreUndoneBy, AreUndone};
+    ghost use Rattle.dd_template.specs.Entries.{entries};
 
     /// The moves of all parts by an involution.
     fn moves_by(&self, index: Index) -> &[Move; K]
@@ -87,54 +86,6 @@ impl<const K: usize> Template<K> {
             && self.are_undone_by(Index::Two)
     }
 
-    /// Returns where `turns` turns of a pair lead.
-    pub(crate) fn turned(&self, pair: Pair, part: usize, turns: usize) -> WalkEnd
-        requires undone { AreUndone (table_of self.now) }
-        requires part { part < K }
-        requires turns { turns ≤ 64 }
-        ensures part { result.part ≡ part_after (table_of self.now) (power (turn pair) turns) part }
-        ensures word { word_of result.word ≡ carried (table_of self.now)
-            (power (turn pair) turns) part [] }
-    {
-        let mut place = part;
-        let mut word = Letters::new();
-        let mut left = turns;
-        while left > 0 {
-            let there = self.move_of(pair.first(), place);
-            word.put_move(there.by);
-            let next = self.move_of(pair.second(), there.to);
-            word.put_move(next.by);
-            place = next.to;
-            left -= 1;
-        }
-        WalkEnd { part: place, word }
-    }
-
-    /// Returns whether `turns` turns of a pair lead a part back to itself with a word that reduces
-    /// to none.
-    pub(crate) fn leads_back(&self, pair: Pair, part: usize, turns: usize) -> bool
-        requires undone { AreUndone (table_of self.now) }
-        requires part { part < K }
-        requires turns { turns ≤ 64 }
-        ensures { IsTrue result ↔ LeadsBack (table_of self.now) (power (turn pair) turns) part [] }
-    {
-        let walk = self.turned(pair, part, turns);
-        walk.part == part && walk.word.is_empty()
-    }
-
-    /// Returns whether s0 and s2 commute.
-    pub(crate) fn commute(&self) -> bool
-        requires undone { AreUndone (table_of self.now) }
-        ensures { IsTrue result ↔ Commute (table_of self.now) }
-    {
-        for part in 0..K {
-            if !self.leads_back(Pair::Edge, part, 2) {
-                return false;
-            }
-        }
-        true
-    }
-
     /// The entry of a part that belongs to its tile or its vertex.
     pub fn entry_of(&self, pair: Pair, part: usize) -> Degree
         requires part { part < K }
@@ -146,26 +97,77 @@ impl<const K: usize> Template<K> {
             Pair::Edge => Degree::Fixed(0),
         }
     }
+}
+
+impl<'a, const K: usize> Undone<'a, K> {
+    ghost use Rattle.dd_model.specs.Symbol.{power, turn};
+    ghost use Rattle.dd_template.specs.Table.{table_of, part_after};
+    ghost use Rattle.dd_template.specs.Reduced.{carried};
+    ghost use Rattle.dd_template.specs.Letters.{word_of};
+    ghost use Rattle.dd_template.specs.Moves.{Commute, LeadsBack};
+    ghost use Rattle.dd_template.specs.Entries.{AreConstant, IsConstant};
+
+    /// Returns where `turns` turns of a pair lead.
+    pub(crate) fn turned(&self, pair: Pair, part: Part<K>, turns: usize) -> WalkEnd
+        requires { turns ≤ 64 }
+        ensures part { result.part ≡ part_after (table_of self.now.table.now)
+            (power (turn pair) turns) part.entry.number }
+        ensures word { word_of result.word ≡ carried (table_of self.now.table.now)
+            (power (turn pair) turns) part.entry.number [] }
+    {
+        let mut place = part.number;
+        let mut word = Letters::new();
+        let mut left = turns;
+        while left > 0 {
+            let there = self.table.move_of(pair.first(), place);
+            word.put_move(there.by);
+            let next = self.table.move_of(pair.second(), there.to);
+            word.put_move(next.by);
+            place = next.to;
+            left -= 1;
+        }
+        WalkEnd { part: place, word }
+    }
+
+    /// Returns whether `turns` turns of a pair lead a part back to itself with a word that reduces
+    /// to none.
+    pub(crate) fn leads_back(&self, pair: Pair, part: Part<K>, turns: usize) -> bool
+        requires { turns ≤ 64 }
+        ensures { IsTrue result ↔ LeadsBack (table_of self.now.table.now)
+            (power (turn pair) turns) part.entry.number [] }
+    {
+        let walk = self.turned(pair, part, turns);
+        walk.part == part.number && walk.word.is_empty()
+    }
+
+    /// Returns whether s0 and s2 commute.
+    pub(crate) fn commute(&self) -> bool
+        ensures { IsTrue result ↔ Commute (table_of self.now.table.now) }
+    {
+        for part in 0..K {
+            if !self.leads_back(Pair::Edge, Part { number: part }, 2) {
+                return false;
+            }
+        }
+        true
+    }
 
     /// Returns whether the entries are equal along the moves of the pair from a part.
-    fn is_constant(&self, pair: Pair, part: usize) -> bool
-        requires undone { AreUndone (table_of self.now) }
-        requires part { part < K }
-        ensures { IsTrue result ↔ IsConstant (table_of self.now) pair part }
+    fn is_constant(&self, pair: Pair, part: Part<K>) -> bool
+        ensures { IsTrue result ↔ IsConstant (table_of self.now.table.now) pair part.entry.number }
     {
-        let own = self.entry_of(pair, part);
-        let first = self.move_of(pair.first(), part).to;
-        let second = self.move_of(pair.second(), part).to;
-        self.entry_of(pair, first) == own && self.entry_of(pair, second) == own
+        let own = self.table.entry_of(pair, part.number);
+        let first = self.table.move_of(pair.first(), part.number).to;
+        let second = self.table.move_of(pair.second(), part.number).to;
+        self.table.entry_of(pair, first) == own && self.table.entry_of(pair, second) == own
     }
 
     /// Returns whether the entries are equal along all moves of the pair.
     pub(crate) fn are_constant(&self, pair: Pair) -> bool
-        requires undone { AreUndone (table_of self.now) }
-        ensures { IsTrue result ↔ AreConstant (table_of self.now) pair }
+        ensures { IsTrue result ↔ AreConstant (table_of self.now.table.now) pair }
     {
         for part in 0..K {
-            if !self.is_constant(pair, part) {
+            if !self.is_constant(pair, Part { number: part }) {
                 return false;
             }
         }

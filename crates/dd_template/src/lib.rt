@@ -12,7 +12,9 @@ mod laws;
 mod made_laws;
 mod named;
 mod operations;
+mod part;
 mod tables;
+mod undone;
 mod words;
 
 pub use application::{ApplyFault, apply};

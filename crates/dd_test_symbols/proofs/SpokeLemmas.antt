@@ -2,8 +2,7 @@
 use Rattle.std.proofs.Common.{◌≡◌, ℕ, ◌+◌, ◌<◌, ◌≤◌, List, [], ◌∷◌, ◌++◌, length, get_or, refl, sym, ap, ◌∙◌, subst, ⊎_elim, arith}
 use Rattle.std.proofs.lemmas.Bool.{cases_eq}
 use Rattle.std.proofs.lemmas.List.{length-append, get_or_append_left, get_or_push}
-use Rattle.dd_lattice.specs.Nets.{IsConnectedNet}
-use Rattle.dd_lattice.specs.declared.net.Net.{Net}
+use Rattle.dd_lattice.specs.Joined.{AreJoined}
 use Rattle.dd_lattice.specs.declared.net_edge.NetEdge.{NetEdge}
 use Rattle.dd_test_symbols.specs.Spokes.{AreJoinedBelow}
 
@@ -49,5 +48,5 @@ joined_next n m xs ys x is h from to low high = subst (AreJoinedBelow n (m + 1))
     last : (f : ℕ → ℕ) → ((k : ℕ) (e : NetEdge) → k < length (xs ++ x ∷ []) → f (get_or (xs ++ x ∷ []) k e).from ≡ f (get_or (xs ++ x ∷ []) k e).to) → f x.from ≡ f x.to
     last f all = subst (λ e. f e.from ≡ f e.to) (get_or_push xs x x (length xs) refl) (all (length xs) x (omega (arith, length-append xs (x ∷ []))))
 
-pub connected : (net : Net) → 1 ≤ net.vertices → AreJoinedBelow net.vertices (net.vertices + 1) net.edges.items → IsConnectedNet net
-connected net some h = record { some = some; from = h.from; to = h.to; joined = λ f all v is. h.joined f all v is.0 (let b = is.1 in omega arith) }
+pub connected : (n : ℕ) (edges : List NetEdge) → 1 ≤ n → AreJoinedBelow n (n + 1) edges → AreJoined n edges
+connected n edges some h = record { some = some; from = h.from; to = h.to; joined = λ f all v is. h.joined f all v is.0 (let b = is.1 in omega arith) }

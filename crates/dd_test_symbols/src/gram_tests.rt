@@ -12,7 +12,6 @@ fn form_over<R: Abort + Alloc<A = Global>>(rt: &R, m01: u32, m12: u32) -> (Gram,
     assert!(rt; symbol.symbol().size() <= 1024);
     let cover = torus(rt.alloc(), &symbol).expect(rt, "a flat symbol");
     let net = shifts(rt.alloc(), &cover.symbol).expect(rt, "a net");
-    assert!(rt; net.vertices <= 96);
     let form = gram(rt.alloc(), &cover.symbol, &net).expect(rt, "a form");
     (form, own_frame(&form))
 }
@@ -53,7 +52,6 @@ fn matrix_of_a_reflection(rt: HostRuntime) {
     let cover = torus(rt.alloc(), &symbol).expect(&rt, "a flat symbol");
     assert!(rt; cover.symbol.symbol().size() == 8);
     let net = shifts(rt.alloc(), &cover.symbol).expect(&rt, "a net");
-    assert!(rt; net.vertices <= 96);
     let map = carry(rt.alloc(), &cover.symbol, 2)
         .expect(&rt, "an answer")
         .expect(&rt, "a map");

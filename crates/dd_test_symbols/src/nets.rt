@@ -1,5 +1,4 @@
-ghost use Rattle.std.specs.Prelude.{◌≤◌, IfOk};
-ghost use Rattle.dd_lattice.specs.Nets.{IsConnectedNet};
+ghost use Rattle.std.specs.Prelude.{◌≤◌};
 
 use dd_lattice::{Net, NetEdge};
 use std::alloc::{AllocError, Global};
@@ -9,7 +8,6 @@ use std::alloc::{AllocError, Global};
 pub(crate) fn fan(alloc: Global, vertices: u32) -> Result<Net, AllocError>
     requires some { 2 ≤ vertices }
     requires few { vertices ≤ 1000 }
-    ensures { IfOk result (λ net. IsConnectedNet net) }
 {
     let mut edges = Vec::new(alloc);
     edges.push(NetEdge {
@@ -38,9 +36,7 @@ pub(crate) fn fan(alloc: Global, vertices: u32) -> Result<Net, AllocError>
 }
 
 /// Two vertices that two edges join, of which the second has a shift.
-pub(crate) fn pair(alloc: Global) -> Result<Net, AllocError>
-    ensures { IfOk result (λ net. IsConnectedNet net) }
-{
+pub(crate) fn pair(alloc: Global) -> Result<Net, AllocError> {
     let mut edges = Vec::new(alloc);
     edges.push(NetEdge {
         from: 1,

@@ -4,7 +4,6 @@ use Rattle.std.proofs.lemmas.Int.{to_z-of_z}
 use Rattle.std.proofs.lemmas.List.{get_or_default}
 use Rattle.dd_draw.specs.Placement.{point_of, origin}
 use Rattle.dd_draw.specs.Spots.{moved, spot_of}
-use Rattle.dd_draw.proofs.Spots.{narrow_at}
 use Rattle.dd_draw.proofs.document.ends_of.Goals as goal
 
 pub returns-clause-to : goal.returns-clause-to
@@ -14,22 +13,10 @@ returns-clause-to c =
     let y : to_z w64 (of_z w64 e.y) ≡ e.y = to_z-of_z w64 e.y (search rules) in
     let spot : c.of-to.result ≡ spot_of c.args.frame (point_of c.args.points.now e.to) =
     let low : e.to - 1 < length c.args.points.now = let r = c.requires.to in omega arith in
-    c.of-to.ensures.same ∙ ap (spot_of c.args.frame) (get_or_default c.args.points.now (e.to - 1) _ origin low) in
+    c.of-to.ensures.same ∙ ap (spot_of c.args.frame) (c.index-points-edge-2.is ∙ get_or_default c.args.points.now (e.to - 1) _ origin low) in
     c.moved.ensures.same ∙ (λ i. moved c.args.frame (spot i) (x i) (y i))
-
-pub of-from-requires-clause-x : goal.of-from-requires-clause-x
-of-from-requires-clause-x c = (narrow_at c.args.points.now (c.args.edge.from - 1) _ (let r = c.requires.from in omega arith) c.requires.narrow).x
-
-pub of-from-requires-clause-y : goal.of-from-requires-clause-y
-of-from-requires-clause-y c = (narrow_at c.args.points.now (c.args.edge.from - 1) _ (let r = c.requires.from in omega arith) c.requires.narrow).y
-
-pub of-to-requires-clause-x : goal.of-to-requires-clause-x
-of-to-requires-clause-x c = (narrow_at c.args.points.now (c.args.edge.to - 1) _ (let r = c.requires.to in omega arith) c.requires.narrow).x
-
-pub of-to-requires-clause-y : goal.of-to-requires-clause-y
-of-to-requires-clause-y c = (narrow_at c.args.points.now (c.args.edge.to - 1) _ (let r = c.requires.to in omega arith) c.requires.narrow).y
 
 pub returns-clause-from : goal.returns-clause-from
 returns-clause-from c =
     let low : c.args.edge.from - 1 < length c.args.points.now = let r = c.requires.from in omega arith in
-    c.of-from.ensures.same ∙ ap (spot_of c.args.frame) (get_or_default c.args.points.now (c.args.edge.from - 1) _ origin low)
+    c.of-from.ensures.same ∙ ap (spot_of c.args.frame) (c.index-points-edge.is ∙ get_or_default c.args.points.now (c.args.edge.from - 1) _ origin low)

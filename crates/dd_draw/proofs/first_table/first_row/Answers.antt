@@ -11,7 +11,7 @@ returns-then-unsigned_abs-gt-LIMIT-clause-fault c = (
     place = c.loop-place.place;
     inside = c.loop-place-test.true;
     column = refl;
-    wide = entry_wide c.args.net.now c.args.row c.loop-place.place c.unsigned_abs.result c.first_entry-entry.result (record { sfits = c.first_entry-entry.type_inv })
+    wide = entry_wide c.args.small.now.net.now c.args.row c.loop-place.place c.unsigned_abs.result c.first_entry-entry.result (record { sfits = c.first_entry-entry.type_inv })
         c.first_entry-entry.ensures c.unsigned_abs.ensures.value c.if-unsigned_abs-gt-LIMIT.true;
     first = c.loop-place.invariant.none_wide;
   },
@@ -20,7 +20,7 @@ returns-then-unsigned_abs-gt-LIMIT-clause-fault c = (
 pub loop-place-preserved : goal.loop-place-preserved
 loop-place-preserved c =
     made_more _ _ c.loop-place.place c.loop-place.new.items c.push.new.self.items _ c.in_ok-push.ensures.items c.loop-place.invariant
-    (entry_narrow c.args.net.now c.args.row c.loop-place.place c.unsigned_abs.result c.first_entry-entry.result (record { sfits = c.first_entry-entry.type_inv })
+    (entry_narrow c.args.small.now.net.now c.args.row c.loop-place.place c.unsigned_abs.result c.first_entry-entry.result (record { sfits = c.first_entry-entry.type_inv })
     c.first_entry-entry.ensures c.unsigned_abs.ensures.value c.if-unsigned_abs-gt-LIMIT.false)
-    (entry_not_wide c.args.net.now c.args.row c.loop-place.place c.unsigned_abs.result c.first_entry-entry.result (record { sfits = c.first_entry-entry.type_inv })
+    (entry_not_wide c.args.small.now.net.now c.args.row c.loop-place.place c.unsigned_abs.result c.first_entry-entry.result (record { sfits = c.first_entry-entry.type_inv })
     c.first_entry-entry.ensures c.unsigned_abs.ensures.value c.if-unsigned_abs-gt-LIMIT.false)

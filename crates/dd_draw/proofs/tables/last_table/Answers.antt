@@ -14,9 +14,9 @@ eliminate-requires-clause-table c = c.loop-place.invariant
 pub loop-place-preserved : goal.loop-place-preserved
 loop-place-preserved c =
     let next : suc c.loop-place.place ≡ c.loop-place.place + 1 = omega arith in
-    subst (λ k. IsTable c.args.net.now k (lists c.eliminate.new.rows.items)) next c.in_ok-eliminate.ensures.table
+    subst (λ k. IsTable c.args.small.now.net.now k (lists c.eliminate.new.rows.items)) next c.in_ok-eliminate.ensures.table
 
 pub returns-clause-table : goal.returns-clause-table
 returns-clause-table c k e =
     let last : c.loop-place.place ≡ k = omega (arith, c.loop-place-test.false, c.loop-place.auto.place-end) in
-    subst (λ j. IsTable c.args.net.now j (lists c.loop-place.rows.items)) last c.loop-place.invariant
+    subst (λ j. IsTable c.args.small.now.net.now j (lists c.loop-place.rows.items)) last c.loop-place.invariant

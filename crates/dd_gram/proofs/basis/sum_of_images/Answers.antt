@@ -8,13 +8,13 @@ use Rattle.dd_gram.specs.Walks.{sum_along, image_walk}
 use Rattle.dd_gram.proofs.WalkLemmas.{sum_along-append}
 use Rattle.dd_gram.proofs.basis.sum_of_images.Goals as goal
 
-sum_step : (s x whole : ℤ) (k : ℕ) → s ≡ whole → nat_abs s ≤ k → k ≤ 96 → nat_abs x ≤ 1 → to_z w64 (of_z w64 (s +ℤ to_z w64 (of_z w64 x))) ≡ whole +ℤ (x +ℤ pos 0)
+sum_step : (s x whole : ℤ) (k : ℕ) → s ≡ whole → nat_abs s ≤ k → k ≤ 16384 → nat_abs x ≤ 1 → to_z w64 (of_z w64 (s +ℤ to_z w64 (of_z w64 x))) ≡ whole +ℤ (x +ℤ pos 0)
 sum_step s x whole k e small few one = omega (arith, ints)
 
-size_step : (s x : ℤ) (k : ℕ) → nat_abs s ≤ k → k ≤ 96 → nat_abs x ≤ 1 → nat_abs (to_z w64 (of_z w64 (s +ℤ to_z w64 (of_z w64 x)))) ≤ k + 1
+size_step : (s x : ℤ) (k : ℕ) → nat_abs s ≤ k → k ≤ 16384 → nat_abs x ≤ 1 → nat_abs (to_z w64 (of_z w64 (s +ℤ to_z w64 (of_z w64 x)))) ≤ k + 1
 size_step s x k small few one = omega (arith, ints)
 
-fits_step : (s x : ℤ) (k : ℕ) → nat_abs s ≤ k → k ≤ 96 → nat_abs x ≤ 1 → FitsSigned w64 (s +ℤ to_z w64 (of_z w64 x))
+fits_step : (s x : ℤ) (k : ℕ) → nat_abs s ≤ k → k ≤ 16384 → nat_abs x ≤ 1 → FitsSigned w64 (s +ℤ to_z w64 (of_z w64 x))
 fits_step s x k small few one = omega (arith, ints)
 
 pub image-requires-clause-low : goal.image-requires-clause-low

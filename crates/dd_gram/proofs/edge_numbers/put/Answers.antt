@@ -11,7 +11,8 @@ read_opposite v small = omega (arith, ints)
 
 pub returns : goal.returns
 returns c =
-    let t = c.args.symbol.now in
-    put_at t c.requires.symbol.symbol.table.involutions c.args.chamber c.op-across.result c.op.result c.op-2.result c.requires.chamber
-    c.op-across.ensures.image c.op.ensures.image c.op-2.ensures.image c.args.value _ _ (read c.args.value c.requires.small) (read_opposite c.args.value c.requires.small)
+    let t = c.args.t.now in
+    let same = c.symbol-symbol.ensures.same in
+    put_at t c.symbol-symbol.ensures.symbol.symbol.table.involutions c.args.chamber c.op-across.result c.op.result c.op-2.result c.requires.chamber
+    (rw (← same) c.op-across.ensures.image) (rw (← same) c.op.ensures.image) (rw (← same) c.op-2.ensures.image) c.args.value _ _ (read c.args.value c.requires.small) (read_opposite c.args.value c.requires.small)
     c.args.list.now.items c.requires.whole

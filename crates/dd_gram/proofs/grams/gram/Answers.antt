@@ -23,7 +23,6 @@ matrix-requires c =
         net = c.args.net.now;
         torus = c.requires.torus;
         is_net = c.requires.net;
-        few = c.requires.few;
         is_basis = c.in_ok-basis.ensures;
         isomorphism = carried.isomorphism;
       };
@@ -87,6 +86,5 @@ returns-clause-some c =
       torus = c.requires.torus;
       net = c.args.net.now;
       is_net = c.requires.net;
-      few = c.requires.few;
       is_gram = gram_whole t c.requires.torus c.loop-k.k c.loop-k.sum (omega arith) c.loop-k.invariant.sum;
     }

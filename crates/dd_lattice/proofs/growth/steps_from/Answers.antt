@@ -10,19 +10,19 @@ use Rattle.dd_lattice.proofs.growth.steps_from.Goals as goal
 pub loop-k-init : goal.loop-k-init
 loop-k-init c =
     let first = c.in_ok-tree.ensures in
-    grown_first c.args.symbol.now c.args.first c.look.new.self.met.items c.in_ok-tree.tree.steps.items c.look.new.self.steps.items (c.in_ok-look.ensures c.args.first first (inl refl))
+    grown_first c.args.crossing.now.symbol.now c.args.first c.look.new.self.met.items c.in_ok-tree.tree.steps.items c.look.new.self.steps.items (c.in_ok-look.ensures c.args.first first (inl refl))
 
 pub look-requires-then-k-len-clause-chamber : goal.look-requires-then-k-len-clause-chamber
 look-requires-then-k-len-clause-chamber c =
     let grown = c.loop-k.invariant in
     let xs = c.loop-k.tree.steps.items in
     let inside : c.loop-k.k < length xs = omega (arith, c.if-k-len.true) in
-    subst (λ (x : Step). IsChamber c.args.symbol.now x.to) (sym c.index.ensures)
-    (step_within c.args.symbol.now c.requires.symbol.symbol.table.involutions (get_or xs c.loop-k.k c.index.result.now) (grown.growing.tree.each c.loop-k.k c.index.result.now inside))
+    subst (λ (x : Step). IsChamber c.args.crossing.now.symbol.now x.to) (sym c.index.ensures)
+    (step_within c.args.crossing.now.symbol.now c.args.crossing.now.small.symbol.table.involutions (get_or xs c.loop-k.k c.index.result.now) (grown.growing.tree.each c.loop-k.k c.index.result.now inside))
 
 pub loop-k-preserved : goal.loop-k-preserved
 loop-k-preserved c =
-    let t = c.args.symbol.now in
+    let t = c.args.crossing.now.symbol.now in
     let first = c.args.first in
     let k = c.loop-k.k in
     let met = c.loop-k.tree.met.items in
@@ -44,4 +44,4 @@ pub returns : goal.returns
 returns c =
     let size = c.size-k-end.ensures.size in
     let end = c.loop-k-test.false in
-    whole_tree c.args.symbol.now c.args.first c.loop-k.k c.loop-k.tree.met.items c.loop-k.tree.steps.items c.loop-k.invariant (omega arith)
+    whole_tree c.args.crossing.now.symbol.now c.args.first c.loop-k.k c.loop-k.tree.met.items c.loop-k.tree.steps.items c.loop-k.invariant (omega arith)

@@ -1,29 +1,22 @@
 use Rattle.std.proofs.Common.{◌≡◌, ◌+◌, [], ◌∷◌, length, get_or, sym, ap, ◌∙◌, subst, ⊎_elim, arith}
 use Rattle.std.proofs.lemmas.Bool.{cases_lt}
 use Rattle.std.proofs.lemmas.List.{get_or_append_left, get_or_push, length_push}
-use Rattle.dd_model.specs.Cell.{AreCells}
 use Rattle.dd_model.specs.Symbol.{Symbol}
 use Rattle.dd_model.specs.declared.index.Index.TheVariants.{Zero, Two}
-use Rattle.dd_model.specs.declared.pair.Pair.TheVariants.{Tile, Vertex, Edge}
-use Rattle.dd_lattice.specs.Edges.{IsKindOf, IsTreeEdge, AreKindsOf}
+use Rattle.dd_model.specs.declared.pair.Pair.TheVariants.{Tile, Vertex}
+use Rattle.dd_lattice.specs.Edges.{IsKindOf, IsTreeEdge}
 use Rattle.dd_lattice.proofs.KindLemmas.{forest_first}
 use Rattle.dd_lattice.proofs.kinds.edge_kinds.Goals as goal
 
-pub kind_of-requires-clause-symbol : goal.kind_of-requires-clause-symbol
-kind_of-requires-clause-symbol c = c.size.ensures.symbol
-
-pub kind_of-requires-clause-edges : goal.kind_of-requires-clause-edges
-kind_of-requires-clause-edges c = rw c.symbol-symbol.ensures.same c.requires
-
 pub loop-k-init : goal.loop-k-init
 loop-k-init c =
-    let t = c.symbol-symbol.result.now in
-    let cells : AreCells t Edge c.args.edges.now = rw c.symbol-symbol.ensures.same c.requires in
-    let inv = c.size.ensures.symbol.symbol.table.involutions in
+    let t = c.args.t.now in
+    let inv = c.symbol.ensures.symbol.symbol.table.involutions in
+    let nodes : c.size-nodes.result + 1 ≡ t.size + 1 = ap (λ n. n + 1) (c.size-nodes.ensures.size ∙ ap (λ (s : Symbol). s.size) c.symbol.ensures.same) in
     record {
-      vertices = forest_first t inv Vertex Zero (λ e. Unit {0}) c.args.edges.now cells c.in_ok-vertices.vertices (c.in_ok-vertices.ensures.many ∙ ap (λ n. n + 1) c.size.ensures.size) c.in_ok-vertices.ensures.falls
+      vertices = forest_first t inv Vertex Zero (λ e. Unit {0}) c.args.edges.now c.requires c.in_ok-vertices.vertices (c.in_ok-vertices.ensures.many ∙ nodes) c.in_ok-vertices.ensures.falls
           c.in_ok-vertices.ensures.level;
-      tiles = forest_first t inv Tile Two (λ e. ¬ IsTreeEdge t e) c.args.edges.now cells c.in_ok-tiles.tiles (c.in_ok-tiles.ensures.many ∙ ap (λ n. n + 1) c.size-2.ensures.size) c.in_ok-tiles.ensures.falls
+      tiles = forest_first t inv Tile Two (λ e. ¬ IsTreeEdge t e) c.args.edges.now c.requires c.in_ok-tiles.tiles (c.in_ok-tiles.ensures.many ∙ nodes) c.in_ok-tiles.ensures.falls
           c.in_ok-tiles.ensures.level;
       many = ap length c.new-kinds.ensures.items;
       each = λ j d low. absurd (omega arith);
@@ -31,7 +24,7 @@ loop-k-init c =
 
 pub loop-k-preserved : goal.loop-k-preserved
 loop-k-preserved c =
-    let t = c.symbol-symbol.result.now in
+    let t = c.args.t.now in
     let old = c.loop-k.kinds.items in
     let many = c.loop-k.invariant.many in
     let items = c.in_ok-push.ensures.items in
@@ -55,7 +48,7 @@ returns c =
     let end = c.loop-k-test.false in
     let low = c.loop-k.auto.k-end in
     let many = c.loop-k.invariant.many in
-    subst (λ (t : Symbol). AreKindsOf t c.args.edges.now c.loop-k.kinds.items) c.symbol-symbol.ensures.same (record {
+    record {
       many = omega arith;
       each = λ k d inside. c.loop-k.invariant.each k d (omega arith);
-    })
+    }

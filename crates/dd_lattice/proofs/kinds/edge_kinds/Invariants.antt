@@ -5,8 +5,8 @@ use Rattle.dd_lattice.proofs.kinds.edge_kinds.Given as goal
 
 abbrev pub invariant-loop-k : goal.invariant-loop-k
 invariant-loop-k l = record {
-  vertices : AreVerticesTo l.symbol l.edges l.k l.vertices;
-  tiles : AreTilesTo l.symbol l.edges l.k l.tiles;
+  vertices : AreVerticesTo l.t l.edges l.k l.vertices;
+  tiles : AreTilesTo l.t l.edges l.k l.tiles;
   many : length l.kinds.items ≡ l.k;
-  each : (j : ℕ) (d : EdgeKind) → j < l.k → IsKindOf l.symbol (slice_index l.edges j) (slice_index_or l.kinds.items j d);
+  each : (j : ℕ) (d : EdgeKind) → j < l.k → IsKindOf l.t (slice_index l.edges j) (slice_index_or l.kinds.items j d);
 }

@@ -1,4 +1,3 @@
-use Rattle.dd_lattice.proofs.NetLemmas.{connected_net}
 use Rattle.dd_lattice.proofs.OneChoice.{one_vertices, one_net}
 use Rattle.dd_lattice.proofs.laws.a_torus_has_one_net.Goals as goal
 
@@ -9,4 +8,4 @@ pub returns-clause-edges : goal.returns-clause-edges
 returns-clause-edges c t net other torus is are = one_net t net other torus is are
 
 pub returns-clause-connected : goal.returns-clause-connected
-returns-clause-connected c t net torus is = connected_net t torus net is
+returns-clause-connected c t net torus is = net.joined

@@ -11,11 +11,11 @@ returns-then-have_moves g c =
         lists = record {
           some = omega (arith, c.if-this-eq0.false);
           few = omega (arith, c.if-this-gt64.false);
-          moves = c.have_moves.ensures.parts c.if-have_moves.true;
+          moves = c.are_undone.ensures.parts (search rules);
           face = face;
           degree = degree;
         };
-        moves = c.have_moves.ensures.moves.0 c.if-have_moves.true;
+        moves = c.have_moves.ensures.0 c.if-have_moves.true;
         entries = c.have_entries.ensures.0 h;
       },
       λ lawful. c.have_entries.ensures.1 lawful.entries,

@@ -18,5 +18,5 @@ loop-from-preserved c =
     joined_more c.args.vertices (c.args.vertices + 1) c.loop-from.edges.items c.push-in-loop-from.new.self.items _ c.in_ok-push-3.ensures.items c.loop-from.invariant
     (omega (arith, c.loop-from.auto.from)) (omega (arith, c.loop-from-test.true)) (omega arith) (omega (arith, c.loop-from-test.true))
 
-pub returns : goal.returns
-returns c = connected _ (omega (arith, c.requires.some)) c.loop-from.invariant
+pub invariant_of-result : goal.invariant_of-result
+invariant_of-result c = record { joined = connected _ _ (omega (arith, c.requires.some)) c.loop-from.invariant }

@@ -5,15 +5,15 @@ use Rattle.dd_gram.proofs.Distinct.{same_form}
 use Rattle.dd_gram.proofs.SizeLemmas.{product_read, products_read, products_size}
 use Rattle.dd_gram.proofs.forms.Gram.of_matrix.Goals as goal
 
-fits : (x y u v x' y' u' v' : ℤ) → x ≡ x' → y ≡ y' → u ≡ u' → v ≡ v' → nat_abs x' ≤ 96 → nat_abs y' ≤ 96 → nat_abs u' ≤ 96 → nat_abs v' ≤ 96
+fits : (x y u v x' y' u' v' : ℤ) → x ≡ x' → y ≡ y' → u ≡ u' → v ≡ v' → nat_abs x' ≤ 16384 → nat_abs y' ≤ 16384 → nat_abs u' ≤ 16384 → nat_abs v' ≤ 16384
     → FitsSigned w128 (to_z w128 (of_z w128 (to_z w128 (of_z w128 x) *ℤ to_z w128 (of_z w128 y))) +ℤ to_z w128 (of_z w128 (to_z w128 (of_z w128 u) *ℤ to_z w128 (of_z w128 v))))
 fits x y u v x' y' u' v' ex ey eu ev hx hy hu hv =
-    let size = products_size x' y' u' v' 96 hx hy hu hv in
+    let size = products_size x' y' u' v' 16384 hx hy hu hv in
     let whole : to_z w128 (of_z w128 (to_z w128 (of_z w128 x) *ℤ to_z w128 (of_z w128 y))) +ℤ to_z w128 (of_z w128 (to_z w128 (of_z w128 u) *ℤ to_z w128 (of_z w128 v))) ≡ x' *ℤ y' +ℤ u' *ℤ v'
     = λ i. product_read x y x' y' ex ey hx hy i +ℤ product_read u v u' v' eu ev hu hv i in
     subst (FitsSigned w128) (sym whole) (fits_signed_from_abs w128 (x' *ℤ y' +ℤ u' *ℤ v') (omega arith))
 
-own : (z : ℤ) → nat_abs z ≤ 96 → to_z w64 (of_z w64 z) ≡ z
+own : (z : ℤ) → nat_abs z ≤ 16384 → to_z w64 (of_z w64 z) ≡ z
 own z small = omega (arith, ints)
 
 pub overflow_add-result : goal.overflow_add-result

@@ -6,4 +6,4 @@ use Rattle.dd_lattice.proofs.PathLemmas.{IsOnWay}
 use Rattle.dd_lattice.proofs.paths.Path.closed.Given as goal
 
 abbrev pub invariant-loop-k : goal.invariant-loop-k
-invariant-loop-k l = (inv : AreInvolutions l.fn.t) (m : ℕ) → m + l.k ≡ length l.fn.steps → IsOnWay l.fn.t l.fn.first l.fn.steps (has_roots l.fn.t inv Tile).root m l.exits.items l.place
+invariant-loop-k l = (inv : AreInvolutions l.fn.crossing.symbol.now) (m : ℕ) → m + l.k ≡ length l.steps.items → IsOnWay l.fn.crossing.symbol.now l.fn.first l.steps.items (has_roots l.fn.crossing.symbol.now inv Tile).root m l.exits.items l.place

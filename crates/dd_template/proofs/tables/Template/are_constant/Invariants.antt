@@ -1,7 +1,0 @@
-use Rattle.std.proofs.Common.{ℕ, ◌<◌}
-use Rattle.dd_template.specs.Table.{table_of}
-use Rattle.dd_template.specs.Entries.{IsConstant}
-use Rattle.dd_template.proofs.tables.Template.are_constant.Given as goal
-
-abbrev pub invariant-loop-part : goal.invariant-loop-part
-invariant-loop-part g l = (x : ℕ) → x < l.part → IsConstant (table_of l.self) l.fn.pair x

@@ -1,8 +1,0 @@
-use Rattle.std.proofs.Common.{ℕ, ◌<◌, [], ◌∷◌}
-use Rattle.dd_model.specs.declared.index.Index.TheVariants.{Zero, Two}
-use Rattle.dd_template.specs.Table.{table_of}
-use Rattle.dd_template.specs.Moves.{LeadsBack}
-use Rattle.dd_template.proofs.tables.Template.commute.Given as goal
-
-abbrev pub invariant-loop-part : goal.invariant-loop-part
-invariant-loop-part g l = (x : ℕ) → x < l.part → LeadsBack (table_of l.self) (Zero ∷ Two ∷ Zero ∷ Two ∷ []) x []
