@@ -14,13 +14,12 @@ use Rattle.dd_model.specs.declared.requests.Request.{Request}
 use Rattle.dd_model.specs.declared.jobs.Job.{Job}
 use Rattle.dd_front_jobs.specs.Under.{IsUnder, HasNothingUnder, AreUnder, Appends}
 use Rattle.dd_branch_tables.specs.Table.{IsBareTable, IsTableOf, told}
-use Rattle.dd_branch_tables.specs.Rows.{partial_of, depth_of, unwound, HasNumberAt}
+use Rattle.dd_branch_tables.specs.Rows.{Rows, partial_of, depth_of, unwound, HasNumberAt}
 use Rattle.dd_branch_tables.specs.Stem.{Any, IsStem, HasAbsorbed, prefix_of, size_of, cut_to, shortened}
 use Rattle.dd_branch_tables.proofs.Absorbing.{absorbed_under}
 use Rattle.dd_branch_tables.proofs.Stems.{any_under}
 use Rattle.dd_front_jobs.proofs.Places.{code_at}
 use Rattle.dd_branch_tables.proofs.Prefixes.{none_under, shortened as shortened_under}
-use Rattle.dd_branch_tables.specs.declared.partial_table.PartialTable.{PartialTable}
 use Rattle.dd_branch_tables.specs.declared.stem.Stem.{Stem}
 use Rattle.dd_branch_tables.proofs.Follows.{member_orderly}
 use Rattle.dd_branch_tables.proofs.TableFronts.{front_same, front_begins}
@@ -153,7 +152,7 @@ none_absorbed W number old mid new put none =
     λ s under. four s (any_under W (size_of old) (prefix_of old ++ number ∷ []) s under)
 
 -- where no symbol with a number at the next place is sought, no member is under the prefix with it
-pub none_with_number : (d : Descending) (rows : PartialTable) (t number : ℕ) → IsDescent d → rows ≡ d.stem.rows → t ≡ length (prefix_of d.stem) → length (prefix_of d.stem) < 3 * size_of d.stem
+pub none_with_number : (d : Descending) (rows : Rows) (t number : ℕ) → IsDescent d → rows ≡ d.stem.rows → t ≡ length (prefix_of d.stem) → length (prefix_of d.stem) < 3 * size_of d.stem
     → ((s : Symbol) → IsSought d.shares.classes.request (partial_of rows) s → HasNumberAt t number s → ⊥) → HasNothingUnder (IsMember d.request) (size_of d.stem) (prefix_of d.stem ++ number ∷ [])
 none_with_number d rows t number is same at low none s under =
     let q = d.request in

@@ -5,9 +5,8 @@ use Rattle.std.proofs.lemmas.Option.{slice_get-get_or}
 use Rattle.std.specs.List.{slice_get}
 use Rattle.std.specs.declared.option.Option.{Option}
 use Rattle.std.specs.declared.option.Option.TheVariants.{None, Some}
-use Rattle.dd_branch_tables.specs.Rows.{depth_of, popped, unwind}
+use Rattle.dd_branch_tables.specs.Rows.{Rows, depth_of, popped, unwind}
 use Rattle.dd_branch_tables.specs.Stem.{prefix_of, size_of}
-use Rattle.dd_branch_tables.specs.declared.partial_table.PartialTable.{PartialTable}
 use Rattle.dd_branch_bounds.specs.Kept.{no_sides}
 use Rattle.dd_branch.specs.Descent.{Descending, GoesBack, IsDescent, gone_back, shorter, without_last}
 use Rattle.dd_branch.specs.Levels.{level_of}
@@ -30,7 +29,7 @@ pub same_request : (o : Option UndoPoint) (d : Descending) → (without_last o d
 same_request None d = refl
 same_request (Some level) d = refl
 
-unwind_size : (k : ℕ) (r : PartialTable) → (unwind k r).size ≡ r.size
+unwind_size : (k : ℕ) (r : Rows) → (unwind k r).size ≡ r.size
 unwind_size zero r = refl
 unwind_size (suc k) r = unwind_size k (popped r)
 

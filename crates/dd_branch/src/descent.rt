@@ -59,7 +59,7 @@ fn absorb(stem: &mut Stem, with_known: bool)
 }
 
 impl Descent {
-    ghost use Rattle.dd_branch_tables.specs.Rows.{IsReady, depth_of};
+    ghost use Rattle.dd_branch_tables.specs.Rows.{depth_of};
     ghost use Rattle.dd_branch_tables.specs.Stem.{prefix_of, size_of};
     ghost use Rattle.dd_branch.specs.Descent.{IsDescent, HasDescended, GoesBack, shorter, with_paths};
     ghost use Rattle.dd_branch_bounds.specs.declared.table_paths.TablePaths.{TablePaths};
@@ -203,8 +203,7 @@ impl Descent {
 
     /// Goes back to the last level.
     fn drop_level(&mut self)
-        requires ready { IsReady self.old.stem.rows }
-        requires some { 1 ≤ length self.old.levels }
+        requires { 1 ≤ length self.old.levels }
         ensures { self.new ≡ shorter self.old }
     {
         let level = self.levels.last();
@@ -366,6 +365,7 @@ impl Descent {
 }
 
 impl PrefixSearch for Descent {
+    ghost use Rattle.std.proofs.Common.{rules};
     ghost use Rattle.dd_branch_tables.specs.Stem.{prefix_of, size_of};
     ghost use Rattle.dd_branch.specs.Descent.{IsDescent, shorter};
 
@@ -384,6 +384,8 @@ impl PrefixSearch for Descent {
     ghost undone = { λ d _. shorter d };
 
     ghost valid = { λ d. IsDescent d };
+
+    ghost end_small = { Prim.search rules };
 
     fn is_whole(&self) -> bool {
         self.stem.is_whole()

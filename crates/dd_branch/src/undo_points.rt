@@ -2,7 +2,7 @@ ghost use Rattle.std.specs.Prelude.{◌≡◌, ◌-◌, ◌≤◌, ◌<◌, [], 
 ghost use Rattle.std.specs.List.{slice_get};
 ghost use Rattle.std.specs.declared.option.Option.TheVariants.{Some};
 ghost use Rattle.dd_model.specs.Symbol.{Symbol as Tiling};
-ghost use Rattle.dd_branch_tables.specs.Rows.{partial_of, IsReady};
+ghost use Rattle.dd_branch_tables.specs.Rows.{partial_of};
 ghost use Rattle.dd_branch_bounds.specs.Shares.{IsSought};
 ghost use Rattle.dd_branch_bounds.specs.Kept.{AreSides};
 
@@ -84,7 +84,6 @@ impl UndoPoints {
     /// Joins the paths that what was put into the table after a mark joins. True where no wanted
     /// symbol completes the table.
     pub(crate) fn learn(&mut self, classes: &PathShares, table: &PartialTable, mark: usize) -> bool
-        requires ready { IsReady table.now }
         requires kept { AreSides classes.now (partial_of table.now) self.old.sides }
         ensures before { self.new.before ≡ self.old.before }
         ensures kept { AreSides classes.now (partial_of table.now) self.new.sides }

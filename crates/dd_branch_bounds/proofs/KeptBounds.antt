@@ -1,5 +1,5 @@
 -- What bounds the shares of a pair in wanted symbols.
-use Rattle.std.proofs.Common.{◌≡◌, ℕ, ◌+◌, ◌*◌, ◌<◌, ◌≤◌, Bool, true, refl, sym, ap, subst, arith}
+use Rattle.std.proofs.Common.{◌≡◌, ℕ, ◌+◌, ◌*◌, ◌<◌, Bool, true, refl, sym, ap, subst, arith}
 use Rattle.dd_model.specs.declared.pair.Pair.{Pair}
 use Rattle.dd_model.specs.declared.pair.Pair.TheVariants.{Tile, Vertex}
 use Rattle.dd_model.specs.declared.requests.Request.{Request}
@@ -49,10 +49,10 @@ none_of_bounds q s size A B wanted is tiles vertices low =
     absurd (omega (arith, bound, low, same))
 
 -- the totals that are kept bound both pairs
-pub bounds_kept : (t : PathShares) (P : Symbol) (sides : TablePaths) → AreSides t P sides → P.size ≤ 36 → AreBounds t.request P sides.tiles.total sides.vertices.total
-bounds_kept t P sides kept small = record {
+pub bounds_kept : (t : PathShares) (P : Symbol) (sides : TablePaths) → AreSides t P sides → AreBounds t.request P sides.tiles.total sides.vertices.total
+bounds_kept t P sides kept = record {
   tiles_within = total_bounds t.tiles P t.request Tile t.tiles_asked t.tiles_pair sides.tiles kept.tiles;
   vertices_within = total_bounds t.vertices P t.request Vertex t.vertices_asked t.vertices_pair sides.vertices kept.vertices;
-  few_tiles = total_small t.tiles P sides.tiles kept.tiles small;
-  few_vertices = total_small t.vertices P sides.vertices kept.vertices small;
+  few_tiles = total_small t.tiles P sides.tiles kept.tiles;
+  few_vertices = total_small t.vertices P sides.vertices kept.vertices;
 }

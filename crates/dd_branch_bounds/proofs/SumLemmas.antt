@@ -71,18 +71,21 @@ module _ (t : ClassShares) (P : Symbol) (side : PairPaths) (kept : IsSide t P si
       counted_stays s t.pair (IsAtEnd (ends_of t side)) (λ _. ⊥) (IsLoose (ends_of t side)) (λ _. ⊥) side.census (kept.counted s wanted is.completes)
       (λ e none. absurd none) (λ z none. absurd none)
 
-  pub total_small : P.size ≤ 36 → side.total ≤ 36 * share_unit
-  total_small small = sum_small t P (λ _. true) side.total small (sum_as_kept (λ _. true))
+  pub size_small : P.size ≤ 36
+  size_small = subst (λ n. n ≤ 36) kept.sized t.few
+
+  pub total_small : side.total ≤ 36 * share_unit
+  total_small = sum_small t P (λ _. true) side.total size_small (sum_as_kept (λ _. true))
 
   pub weight_within : {x m a : ℕ} → IsAnEnd t (ends_of t side) x m a → class_weight t a ≤ side.total
   weight_within {x} end =
       subst (λ e. weight e ≤ side.total) end.told (one_within t.request P (λ _. true) t.pair (ends_of t side) side.total kept.ends x (end_live t (ends_of t side) end))
 
-  pub few_in_path : {x m a : ℕ} → IsAnEnd t (ends_of t side) x m a → P.size ≤ 36 → a % 64 ≤ 36
-  few_in_path {x} end small =
+  pub few_in_path : {x m a : ℕ} → IsAnEnd t (ends_of t side) x m a → a % 64 ≤ 36
+  few_in_path {x} end =
       let within = one_path_within t.request P (λ _. true) t.pair (ends_of t side) side.total x kept.ends (end_live t (ends_of t side) end) in
       let mine = end_chambers t (ends_of t side) end in
-      omega (arith, within, mine, small)
+      omega (arith, within, mine, size_small)
 
   pub sum_capped : {x m a : ℕ} → IsAnEnd t (ends_of t side) x m a → a % 64 ≤ 36 → (v : ℕ) → IsCappedShare t.request t.pair t.weights a v
       → (test : Symbol → Bool) (more : ℕ) → IsJoin (Passes P test) t.pair x x → more + class_weight t a ≡ side.total + a % 64 * v → IsSumOf t P test more
@@ -139,12 +142,12 @@ module _ (t : ClassShares) (P : Symbol) (side : PairPaths) (kept : IsSide t P si
         let yours = end_weight t (ends_of t side) two.other in
         omega (arith, both, mine, yours)
 
-    pub few_chambers : P.size ≤ 36 → a % 64 + b % 64 ≤ 36
-    few_chambers small =
+    pub few_chambers : a % 64 + b % 64 ≤ 36
+    few_chambers =
         let both = chambers_within t.request P (λ _. true) t.pair (ends_of t side) side.total x y kept.ends live living two.apart no_end in
         let mine = end_chambers t (ends_of t side) two.one in
         let yours = end_chambers t (ends_of t side) two.other in
-        omega (arith, both, mine, yours, small)
+        omega (arith, both, mine, yours, size_small)
 
     -- what stands at the other end of a path of the class k
     far_end : ℕ → ℕ → PathEnd

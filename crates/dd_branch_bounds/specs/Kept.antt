@@ -23,7 +23,7 @@ pub record Shares : Type 0 where
 abbrev pub AreKept : Symbol → Shares → Type 0
 AreKept partial shares = AreSides shares.classes partial shares.sides
 
--- the same of some tables that are not too large
+-- the same of some tables
 pub record AreSidesOfSome (classes : PathShares) (sides : TablePaths) : Type 0 where
   pub tiles : IsSideOfSome classes.tiles sides.tiles
   pub vertices : IsSideOfSome classes.vertices sides.vertices

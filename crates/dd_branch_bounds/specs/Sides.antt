@@ -44,10 +44,9 @@ pub record IsSide (t : ClassShares) (partial : Symbol) (side : PairPaths) : Type
   pub others : HaveOthers (ends_of t side)
   pub counted : (s : Symbol) → Wanted t.request s → Completes partial s → AreCounted s t.pair (ends_of t side) side.census
 
--- the same in all completions of some table that is not too large
+-- the same in all completions of some table
 pub record IsSideOfSome (t : ClassShares) (side : PairPaths) : Type 0 where
   pub partial : Symbol
-  pub small : partial.size ≤ 36
   pub kept : IsSide t partial side
 
 -- a sum of shares of all chambers in the completions that pass a test

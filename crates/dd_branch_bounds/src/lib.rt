@@ -14,6 +14,7 @@ mod class_shares;
 mod degrees;
 mod end;
 mod end_laws;
+mod flag;
 mod kept_laws;
 mod link;
 mod pair_paths;

@@ -1,6 +1,7 @@
 ghost use Rattle.std.specs.Prelude.{◌≡◌, ◌+◌, ◌*◌, ◌/◌, ◌%◌, ◌≤◌, ◌<◌};
 ghost use Rattle.dd_front_jobs.specs.Places.{index_at};
 
+use crate::flag::Flag;
 use dd_model::Index;
 
 /// An image: the involution, a chamber, and where it leads.
@@ -37,11 +38,17 @@ impl Link {
     }
 
     /// Its two flags at the first (0) or the second (1) involution of a pair.
-    pub(crate) fn flags(&self, side: u8) -> (u8, u8)
+    pub(crate) fn flags(&self, side: u8) -> (Flag, Flag)
         requires { side ≤ 1 }
-        ensures first { result.0 ≡ 2 * self.now.chamber + side }
-        ensures second { result.1 ≡ 2 * self.now.image + side }
+        ensures first { result.0.number ≡ 2 * self.now.chamber + side }
+        ensures second { result.1.number ≡ 2 * self.now.image + side }
     {
-        (2 * self.chamber + side, 2 * self.image + side)
+        let first = Flag {
+            number: 2 * self.chamber + side,
+        };
+        let second = Flag {
+            number: 2 * self.image + side,
+        };
+        (first, second)
     }
 }

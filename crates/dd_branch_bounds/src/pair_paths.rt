@@ -1,6 +1,5 @@
 ghost use Rattle.std.specs.Prelude.{◌≡◌, ◌≢◌, ℕ, ◌+◌, ◌*◌, ◌/◌, ◌%◌, ◌≤◌, ◌<◌, Bool, true, IsFalse, IfSome, IfNone, Some, slice_get};
 ghost use Rattle.dd_model.specs.Symbol.{Symbol as Tiling};
-ghost use Rattle.dd_branch_tables.specs.Rows.{partial_of, IsReady};
 ghost use Rattle.dd_branch_bounds.specs.Shares.{IsSought};
 ghost use Rattle.dd_branch_bounds.specs.Units.{share_unit};
 ghost use Rattle.dd_branch_bounds.specs.Classes.{joined_class};
@@ -13,6 +12,7 @@ use crate::census::{Census, is_limited};
 use crate::class::Class;
 use crate::class_shares::ClassShares;
 use crate::end::End;
+use crate::flag::Flag;
 use dd_model::Pair;
 
 /// The paths of a pair in a table that a search fills, kept at their ends, and the sum of the
@@ -52,11 +52,10 @@ impl PairPaths {
 
     /// What stands at a flag.
     #[inline(always)]
-    fn end(&self, flag: u8) -> End
-        requires { flag < 74 }
-        ensures { slice_get self.now.ends flag ≡ Some result }
+    fn end(&self, flag: Flag) -> End
+        ensures { slice_get self.now.ends flag.number ≡ Some result }
     {
-        self.ends[usize::from(flag)]
+        self.ends[usize::from(flag.number)]
     }
 
     /// The total where paths that had so much have become one that has so much.
@@ -72,12 +71,11 @@ impl PairPaths {
 
     /// The total where two flags are joined.
     #[inline(always)]
-    pub(crate) fn total_with(&self, shares: &ClassShares, x: u8, y: u8) -> u64
-        requires first { x < 74 }
-        requires second { y < 74 }
+    pub(crate) fn total_with(&self, shares: &ClassShares, x: Flag, y: Flag) -> u64
         requires some { IsSideOfSome shares.now self.now }
         ensures total { (partial : Tiling) (test : Tiling → Bool)
-            → IsJoin (Passes partial test) shares.now.pair x y → IsSide shares.now partial self.now
+            → IsJoin (Passes partial test) shares.now.pair x.number y.number
+            → IsSide shares.now partial self.now
             → IsSumOf shares.now partial test result }
         ensures small { result ≤ 36 * share_unit }
     {
@@ -87,10 +85,10 @@ impl PairPaths {
             return self.total;
         }
         let had = shares.weight(one);
-        if x == y {
+        if x.number == y.number {
             return self.total_after(had, shares.capped(one));
         }
-        if end.other == y {
+        if end.other == y.number {
             return self.total_after(had, shares.closed(one));
         }
         let other = self.end(y).class;
@@ -102,12 +100,11 @@ impl PairPaths {
 
     /// The census where two flags are joined.
     #[inline(always)]
-    pub(crate) fn census_with(&self, shares: &ClassShares, x: u8, y: u8) -> Census
-        requires first { x < 74 }
-        requires second { y < 74 }
+    pub(crate) fn census_with(&self, shares: &ClassShares, x: Flag, y: Flag) -> Census
         requires some { IsSideOfSome shares.now self.now }
         ensures { (partial : Tiling) (test : Tiling → Bool)
-            → IsJoin (Passes partial test) shares.now.pair x y → IsSide shares.now partial self.now
+            → IsJoin (Passes partial test) shares.now.pair x.number y.number
+            → IsSide shares.now partial self.now
             → IsCensusOf shares.now partial test result }
     {
         let mut census = self.census;
@@ -116,11 +113,11 @@ impl PairPaths {
         if one.chambers() == 0 {
             return census;
         }
-        if x == y {
+        if x.number == y.number {
             census.add_fixed_end(one, shares.capped(one));
             return census;
         }
-        if end.other == y {
+        if end.other == y.number {
             census.add_cell(one, shares.closed(one));
             return census;
         }
@@ -140,19 +137,19 @@ impl PairPaths {
         &self,
         shares: &ClassShares,
         pair: Pair,
-        x: u8,
-        y: u8,
+        x: Flag,
+        y: Flag,
         bound: u64,
     ) -> Option<u64>
         requires same { shares.now.pair ≡ pair }
-        requires first { x < 74 }
-        requires second { y < 74 }
         requires some { IsSideOfSome shares.now self.now }
         ensures none { IfNone result ((partial : Tiling) (test : Tiling → Bool)
-            → IsJoin (Passes partial test) pair x y → IsSide shares.now partial self.now
+            → IsJoin (Passes partial test) pair x.number y.number
+            → IsSide shares.now partial self.now
             → (s : Tiling) → Wanted shares.now.request s → ¬ Passes partial test s) }
         ensures bound { IfSome result (λ most. (partial : Tiling) (test : Tiling → Bool)
-            → IsJoin (Passes partial test) pair x y → IsSide shares.now partial self.now
+            → IsJoin (Passes partial test) pair x.number y.number
+            → IsSide shares.now partial self.now
             → KeepsBounds shares.now.request partial test pair bound most) }
         ensures few { IfSome result (λ most. most ≤ bound) }
     {
@@ -169,14 +166,14 @@ impl PairPaths {
     /// Fixes the end of a path, which closes it where the other one is fixed. False where no wanted
     /// symbol completes the table, since the request allows the closed path no degree.
     #[inline(always)]
-    fn cap(&mut self, shares: &ClassShares, x: u8) -> bool
-        requires flag { x < 74 }
+    fn cap(&mut self, shares: &ClassShares, x: Flag) -> bool
         requires some { IsSideOfSome shares.now self.old }
-        requires live { 1 ≤ (ends_of shares.now self.old x).chambers }
-        ensures side { (partial : Tiling) → IsJoin (Passes partial (λ _. true)) shares.now.pair x x
+        requires live { 1 ≤ (ends_of shares.now self.old x.number).chambers }
+        ensures side { (partial : Tiling)
+            → IsJoin (Passes partial (λ _. true)) shares.now.pair x.number x.number
             → IsSide shares.now partial self.old → IsSide shares.now partial self.new }
         ensures dead { IsFalse result → (partial : Tiling)
-            → IsJoin (Passes partial (λ _. true)) shares.now.pair x x
+            → IsJoin (Passes partial (λ _. true)) shares.now.pair x.number x.number
             → IsSide shares.now partial self.old → (s : Tiling)
             → ¬ IsSought shares.now.request partial s }
     {
@@ -184,8 +181,8 @@ impl PairPaths {
         let class = end.class;
         let fixed = shares.capped(class);
         self.total = self.total_after(shares.weight(class), fixed);
-        self.ends[usize::from(x)] = End::none();
-        self.ends[usize::from(end.other)] = end.beyond(x, class.capped());
+        self.ends[usize::from(x.number)] = End::none();
+        self.ends[usize::from(end.other)] = end.beyond(x.number, class.capped());
         self.census.add_fixed_end(class, fixed);
         fixed != 0
     }
@@ -193,18 +190,17 @@ impl PairPaths {
     /// Joins the ends of two paths, which closes them where the other ends are fixed. False where
     /// no wanted symbol completes the table, since the request allows the closed path no degree.
     #[inline(always)]
-    fn connect(&mut self, shares: &ClassShares, x: u8, y: u8) -> bool
-        requires first { x < 74 }
-        requires second { y < 74 }
+    fn connect(&mut self, shares: &ClassShares, x: Flag, y: Flag) -> bool
         requires some { IsSideOfSome shares.now self.old }
-        requires first_end { 1 ≤ (ends_of shares.now self.old x).chambers }
-        requires second_end { 1 ≤ (ends_of shares.now self.old y).chambers }
-        requires apart { y ≢ x }
-        requires no_other { y ≢ (ends_of shares.now self.old x).other }
-        ensures side { (partial : Tiling) → IsJoin (Passes partial (λ _. true)) shares.now.pair x y
+        requires first_end { 1 ≤ (ends_of shares.now self.old x.number).chambers }
+        requires second_end { 1 ≤ (ends_of shares.now self.old y.number).chambers }
+        requires apart { y.number ≢ x.number }
+        requires no_other { y.number ≢ (ends_of shares.now self.old x.number).other }
+        ensures side { (partial : Tiling)
+            → IsJoin (Passes partial (λ _. true)) shares.now.pair x.number y.number
             → IsSide shares.now partial self.old → IsSide shares.now partial self.new }
         ensures dead { IsFalse result → (partial : Tiling)
-            → IsJoin (Passes partial (λ _. true)) shares.now.pair x y
+            → IsJoin (Passes partial (λ _. true)) shares.now.pair x.number y.number
             → IsSide shares.now partial self.old → (s : Tiling)
             → ¬ IsSought shares.now.request partial s }
     {
@@ -214,8 +210,8 @@ impl PairPaths {
         let together = shares.joined(one.class, other.class);
         let had = shares.weight(one.class) + shares.weight(other.class);
         self.total = self.total_after(had, together);
-        self.ends[usize::from(x)] = End::none();
-        self.ends[usize::from(y)] = End::none();
+        self.ends[usize::from(x.number)] = End::none();
+        self.ends[usize::from(y.number)] = End::none();
         self.ends[usize::from(one.other)] = one.beyond(other.other, class);
         self.ends[usize::from(other.other)] = other.beyond(one.other, class);
         self.census.add_joined(one.class, other.class, together);
@@ -225,25 +221,24 @@ impl PairPaths {
     /// Joins the two ends of a path, which closes it. False where no wanted symbol completes the
     /// table, since the request allows the closed path no degree.
     #[inline(always)]
-    fn close(&mut self, shares: &ClassShares, x: u8, mate: u8) -> bool
-        requires first { x < 74 }
-        requires second { mate < 74 }
+    fn close(&mut self, shares: &ClassShares, x: Flag, mate: Flag) -> bool
         requires some { IsSideOfSome shares.now self.old }
-        requires live { 1 ≤ (ends_of shares.now self.old x).chambers }
-        requires apart { mate ≢ x }
-        requires other { mate ≡ (ends_of shares.now self.old x).other }
-        ensures side { (partial : Tiling) → IsJoin (Passes partial (λ _. true)) shares.now.pair x mate
+        requires live { 1 ≤ (ends_of shares.now self.old x.number).chambers }
+        requires apart { mate.number ≢ x.number }
+        requires other { mate.number ≡ (ends_of shares.now self.old x.number).other }
+        ensures side { (partial : Tiling)
+            → IsJoin (Passes partial (λ _. true)) shares.now.pair x.number mate.number
             → IsSide shares.now partial self.old → IsSide shares.now partial self.new }
         ensures dead { IsFalse result → (partial : Tiling)
-            → IsJoin (Passes partial (λ _. true)) shares.now.pair x mate
+            → IsJoin (Passes partial (λ _. true)) shares.now.pair x.number mate.number
             → IsSide shares.now partial self.old → (s : Tiling)
             → ¬ IsSought shares.now.request partial s }
     {
         let class = self.end(x).class;
         let whole = shares.closed(class);
         self.total = self.total_after(shares.weight(class), whole);
-        self.ends[usize::from(x)] = End::none();
-        self.ends[usize::from(mate)] = End::none();
+        self.ends[usize::from(x.number)] = End::none();
+        self.ends[usize::from(mate.number)] = End::none();
         self.census.add_cell(class, whole);
         whole != 0
     }
@@ -251,14 +246,13 @@ impl PairPaths {
     /// Joins two flags of which one is led to the other. False where no wanted symbol completes the
     /// table, since the request allows their cell no degree.
     #[inline(always)]
-    pub(crate) fn join(&mut self, shares: &ClassShares, x: u8, y: u8) -> bool
-        requires first { x < 74 }
-        requires second { y < 74 }
+    pub(crate) fn join(&mut self, shares: &ClassShares, x: Flag, y: Flag) -> bool
         requires some { IsSideOfSome shares.now self.old }
-        ensures side { (partial : Tiling) → IsJoin (Passes partial (λ _. true)) shares.now.pair x y
+        ensures side { (partial : Tiling)
+            → IsJoin (Passes partial (λ _. true)) shares.now.pair x.number y.number
             → IsSide shares.now partial self.old → IsSide shares.now partial self.new }
         ensures dead { IsFalse result → (partial : Tiling)
-            → IsJoin (Passes partial (λ _. true)) shares.now.pair x y
+            → IsJoin (Passes partial (λ _. true)) shares.now.pair x.number y.number
             → IsSide shares.now partial self.old → (s : Tiling)
             → ¬ IsSought shares.now.request partial s }
     {
@@ -266,10 +260,10 @@ impl PairPaths {
         if one.class.chambers() == 0 {
             return true;
         }
-        if x == y {
+        if x.number == y.number {
             return self.cap(shares, x);
         }
-        if one.other == y {
+        if one.other == y.number {
             return self.close(shares, x, y);
         }
         if self.end(y).class.chambers() == 0 {

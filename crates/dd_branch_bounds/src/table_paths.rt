@@ -2,7 +2,7 @@ ghost use Rattle.std.specs.Prelude.{◌≡◌, ℕ, ◌+◌, ◌*◌, ◌≤◌,
 ghost use Rattle.dd_model.specs.Partial.{Completes};
 ghost use Rattle.dd_model.specs.Symbol.{Symbol as Tiling};
 ghost use Rattle.dd_branch_tables.specs.Chambers.{bit_of};
-ghost use Rattle.dd_branch_tables.specs.Rows.{partial_of, IsReady, HasNumberAt};
+ghost use Rattle.dd_branch_tables.specs.Rows.{partial_of, HasNumberAt};
 ghost use Rattle.dd_model.specs.Wanted.{Wanted};
 ghost use Rattle.dd_model.specs.declared.pair.Pair.TheVariants.{Tile, Vertex};
 ghost use Rattle.dd_branch_bounds.specs.Counted.{HasCounted};
@@ -175,7 +175,6 @@ impl TablePaths {
     /// more cells than the request allows.
     #[inline(always)]
     fn bounds(&self, classes: &PathShares, table: &PartialTable, place: u8) -> Option<(u64, u64)>
-        requires ready { IsReady table.now }
         requires kept { AreSides classes.now (partial_of table.now) self.now }
         ensures none { IfNone result ((s : Tiling)
             → ¬ IsSought classes.now.request (partial_of table.now) s) }
@@ -218,7 +217,6 @@ impl TablePaths {
         bounds: (u64, u64),
         with_limits: bool,
     ) -> bool
-        requires ready { IsReady table.now }
         requires place { place < 3 * (partial_of table.now).size }
         requires number { number ≤ 36 }
         requires kept { AreSides classes.now (partial_of table.now) self.now }
@@ -250,7 +248,6 @@ impl TablePaths {
         place: u8,
         number: u8,
     ) -> bool
-        requires ready { IsReady table.now }
         requires place { place < 3 * (partial_of table.now).size }
         requires number { number ≤ 36 }
         requires kept { AreSides classes.now (partial_of table.now) self.now }
@@ -276,7 +273,6 @@ impl TablePaths {
         bounds: (u64, u64),
         with_limits: bool,
     ) -> ChamberSet
-        requires ready { IsReady table.now }
         requires place { place < 3 * (partial_of table.now).size }
         requires kept { AreSides classes.now (partial_of table.now) self.now }
         requires bounds { AreBounds classes.now.request (partial_of table.now) bounds.0 bounds.1 }
@@ -305,7 +301,6 @@ impl TablePaths {
         place: u8,
         numbers: ChamberSet,
     ) -> ChamberSet
-        requires ready { IsReady table.now }
         requires place { place < 3 * (partial_of table.now).size }
         requires kept { AreSides classes.now (partial_of table.now) self.now }
         ensures { (m : ℕ) → bit_of numbers m ≡ 1 → bit_of result m ≡ 0 → (s : Tiling)
@@ -327,7 +322,6 @@ impl TablePaths {
         place: u8,
         numbers: ChamberSet,
     ) -> ChamberSet
-        requires ready { IsReady table.now }
         requires place { place < 3 * (partial_of table.now).size }
         requires kept { AreSides classes.now (partial_of table.now) self.now }
         ensures { (m : ℕ) → bit_of numbers m ≡ 1 → bit_of result m ≡ 0 → (s : Tiling)
@@ -345,7 +339,6 @@ impl TablePaths {
     /// then whole to which the request allows no degree, so that no wanted symbol completes the
     /// table.
     pub fn learn(&mut self, classes: &PathShares, table: &PartialTable, mark: usize) -> bool
-        requires ready { IsReady table.now }
         requires kept { AreSides classes.now (partial_of table.now) self.old }
         ensures kept { AreSides classes.now (partial_of table.now) self.new }
         ensures dead { IsTrue result → (s : Tiling)
@@ -363,7 +356,6 @@ impl TablePaths {
     /// Returns whether the totals are too small.
     #[inline(always)]
     fn are_too_small(&self, classes: &PathShares, table: &PartialTable) -> bool
-        requires ready { IsReady table.now }
         requires kept { AreSides classes.now (partial_of table.now) self.now }
         ensures { IsTrue result → (s : Tiling)
             → ¬ IsSought classes.now.request (partial_of table.now) s }
@@ -376,7 +368,6 @@ impl TablePaths {
     /// these allow.
     #[inline(always)]
     pub fn rules_out(&self, classes: &PathShares, table: &PartialTable) -> bool
-        requires ready { IsReady table.now }
         requires kept { AreSides classes.now (partial_of table.now) self.now }
         ensures { IsTrue result → (s : Tiling)
             → ¬ IsSought classes.now.request (partial_of table.now) s }

@@ -75,7 +75,7 @@ impl Assignment {
             request: *q,
             table,
             ties,
-            rests: Rests::of(places.as_slice()),
+            rests: Rests::of(&places),
             places,
             degrees: ArrayVec::new(),
             first,
@@ -84,7 +84,6 @@ impl Assignment {
 
     /// The number of chambers.
     fn size(&self) -> usize
-        requires { IsAssignment self.now }
         ensures { result ≡ self.now.table.size }
     {
         self.table.symbol().size() as usize

@@ -62,9 +62,8 @@ fn follow(s: &Symbol, start: u32) -> ArrayVec<u8, 36>
 }
 
 /// Which place has each number of a list, where each is at one.
-fn undone(list: &[u8]) -> ArrayVec<u8, 36>
-    requires { length list.now ≤ 36 }
-    ensures { length result.items ≡ length list.now }
+fn undone(list: &ArrayVec<u8, 36>) -> ArrayVec<u8, 36>
+    ensures { length result.items ≡ length list.now.items }
 {
     let mut back = [0; 36];
     for k in 0..list.len() {
@@ -77,11 +76,12 @@ fn undone(list: &[u8]) -> ArrayVec<u8, 36>
 }
 
 /// Returns whether a list undoes another one.
-fn undoes(back: &[u8], list: &[u8]) -> bool
-    requires small { length list.now ≤ 36 }
-    requires same { length back.now ≡ length list.now }
-    ensures { IsTrue result → Undoes (length list.now) back.now list.now }
+fn undoes(back: &ArrayVec<u8, 36>, list: &ArrayVec<u8, 36>) -> bool
+    requires { length back.now.items ≡ length list.now.items }
+    ensures { IsTrue result → Undoes (length list.now.items) back.now.items list.now.items }
 {
+    let back = back.as_slice();
+    let list = list.as_slice();
     for k in 0..list.len() {
         let chamber = list[k] as usize;
         if chamber < 1 || chamber > list.len() {
@@ -136,11 +136,10 @@ fn goes_along(s: &Symbol, list: &[u8]) -> bool
 }
 
 /// Returns whether a list says where the chambers go together.
-fn is_automorphism(s: &Symbol, start: u32, list: &[u8], back: &[u8]) -> bool
-    requires small { s.now.size ≤ 36 }
-    requires list { length list.now ≡ s.now.size }
-    requires back { length back.now ≡ s.now.size }
-    ensures { IsTrue result → IsAutomorphism s.now start list.now }
+fn is_automorphism(s: &Symbol, start: u32, list: &ArrayVec<u8, 36>, back: &ArrayVec<u8, 36>) -> bool
+    requires list { length list.now.items ≡ s.now.size }
+    requires back { length back.now.items ≡ s.now.size }
+    ensures { IsTrue result → IsAutomorphism s.now start list.now.items }
 {
     if !undoes(back, list) {
         return false;
@@ -151,7 +150,7 @@ fn is_automorphism(s: &Symbol, start: u32, list: &[u8], back: &[u8]) -> bool
     if s.size() < 1 || u32::from(list[0]) != start {
         return false;
     }
-    goes_along(s, list)
+    goes_along(s, list.as_slice())
 }
 
 impl Automorphism {
@@ -165,8 +164,8 @@ impl Automorphism {
             IsAutomorphism s.now start automorphism.chambers.items) }
     {
         let chambers = follow(s, start);
-        let back = undone(chambers.as_slice());
-        if is_automorphism(s, start, chambers.as_slice(), back.as_slice()) {
+        let back = undone(&chambers);
+        if is_automorphism(s, start, &chambers, &back) {
             return Some(Automorphism { chambers });
         }
         None

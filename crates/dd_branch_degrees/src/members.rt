@@ -32,7 +32,7 @@ pub fn with_places(
     ensures places { IfOk result (λ both. ArePlaces q.now both.0 both.1.items) }
 {
     let places = all_places(&involutions, q);
-    let turns = turns_of(places.as_slice());
+    let turns = turns_of(&places);
     let (m01, m12) = turns.as_slice().split_at(involutions.size() as usize);
     let table = Table::known(involutions, m01, m12)?;
     Ok((table, places))

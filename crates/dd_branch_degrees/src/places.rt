@@ -210,10 +210,10 @@ pub(crate) fn all_places(table: &Involutions, q: &Request) -> ArrayVec<DegreeSlo
 }
 
 /// The least positive numbers of turns of some places.
-pub(crate) fn turns_of(places: &[DegreeSlot]) -> ArrayVec<u8, 72>
-    requires { length places.now ≤ 72 }
-    ensures { AreTurns places.now result.items }
+pub(crate) fn turns_of(places: &ArrayVec<DegreeSlot, 72>) -> ArrayVec<u8, 72>
+    ensures { AreTurns places.now.items result.items }
 {
+    let places = places.as_slice();
     let mut turns = ArrayVec::new();
     for place in places {
         turns.push(place.turns);

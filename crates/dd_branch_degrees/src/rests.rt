@@ -4,6 +4,7 @@ ghost use Rattle.dd_branch_degrees.specs.Rests.{AreRests, HasRest, HasSurplusWit
 ghost use Rattle.dd_branch_degrees.specs.declared.places.DegreeSlot.{DegreeSlot as Known};
 
 use crate::places::DegreeSlot;
+use arrayvec::ArrayVec;
 
 /// What the degrees from each place on have of the budget together, whatever they will be.
 #[derive(Drop)]
@@ -36,14 +37,14 @@ fn surplus_with(place: &DegreeSlot, later: u64) -> u64
 
 impl Rests {
     /// The sums over some places.
-    pub(crate) fn of(places: &[DegreeSlot]) -> Rests
-        requires few { length places.now ≤ 72 }
-        requires most { (j : ℕ) (x : Known) → j < length places.now
-            → (slice_index_or places.now j x).most ≤ 24 }
-        requires sides { (j : ℕ) (x : Known) → j < length places.now
-            → (slice_index_or places.now j x).sides ≤ 2 }
-        ensures { AreRests places.now result }
+    pub(crate) fn of(places: &ArrayVec<DegreeSlot, 72>) -> Rests
+        requires most { (j : ℕ) (x : Known) → j < length places.now.items
+            → (slice_index_or places.now.items j x).most ≤ 24 }
+        requires sides { (j : ℕ) (x : Known) → j < length places.now.items
+            → (slice_index_or places.now.items j x).sides ≤ 2 }
+        ensures { AreRests places.now.items result }
     {
+        let places = places.as_slice();
         let mut most = [0; 73];
         let mut least = [0; 73];
         let mut surplus = [0; 73];
@@ -66,9 +67,7 @@ impl Rests {
     /// may take, if `left` is left for all. From 64 on that is not kept, and the most that they may
     /// take decides.
     pub(crate) fn fitting(&self, later: usize, shares: u32, left: u16) -> u64
-        requires least { later < length self.now.least }
-        requires most { later < length self.now.most }
-        requires surplus { later < length self.now.surplus }
+        requires later { later < 73 }
         requires small { left + slice_index self.now.least later ≤ 4096 }
         ensures within { (e : ℕ) → bit_at result e ≡ 1 → (bit_at shares e ≡ 1) × (e ≤ left) }
         ensures all { (e rest : ℕ) → e + rest ≡ left → bit_at shares e ≡ 1

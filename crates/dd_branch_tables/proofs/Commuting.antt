@@ -6,8 +6,7 @@ use Rattle.dd_model.specs.declared.index.Index.TheVariants.{Zero, One, Two}
 use Rattle.dd_model.specs.Symbol.{Symbol, op}
 use Rattle.dd_front_jobs.specs.Places.{index_at, place}
 use Rattle.dd_branch_tables.specs.Commuting.{CommuteAt, CommutesAt, IsCommuting, KeepsCommuting, KeepsOthers}
-use Rattle.dd_branch_tables.specs.Rows.{partial_of, IsReady, Learns}
-use Rattle.dd_branch_tables.specs.declared.partial_table.PartialTable.{PartialTable}
+use Rattle.dd_branch_tables.specs.Rows.{Rows, partial_of, IsReady, Learns}
 use Rattle.dd_front_jobs.proofs.Places.{chamber_of_place, index_of_place}
 use Rattle.dd_branch_tables.proofs.RowsLemmas.{IsPut, leads_back, op_partial, op_past, put_else}
 
@@ -16,13 +15,13 @@ use Rattle.dd_branch_tables.proofs.RowsLemmas.{IsPut, leads_back, op_partial, op
 pub record LeadsBack (s : Symbol) : Type 0 where
   pub back : (i : Index) (d : ℕ) → 1 ≤ d → op s i d ≢ 0 → op s i (op s i d) ≡ d
 
-pub op_small : (r : PartialTable) (i : Index) (d : ℕ) → IsReady r → op (partial_of r) i d ≤ r.size
+pub op_small : (r : Rows) (i : Index) (d : ℕ) → IsReady r → op (partial_of r) i d ≤ r.size
 op_small r i d ready = ⊎_elim
     (λ low. subst (λ e. e ≤ r.size) (sym (op_partial r.size r.numbers i d low)) (ready.within (place i d)))
     (λ past. subst (λ e. e ≤ r.size) (sym (op_past r.size r.numbers i d past)) (omega arith))
     (cases_lt (d - 1) 36)
 
-pub ready_leads_back : (r : PartialTable) → IsReady r → LeadsBack (partial_of r)
+pub ready_leads_back : (r : Rows) → IsReady r → LeadsBack (partial_of r)
 ready_leads_back r ready = record {
   back = λ i d low some. ⊎_elim
       (λ inside.
@@ -35,7 +34,7 @@ ready_leads_back r ready = record {
 
 -- ## One image more
 
-pub put_others : (r r' : PartialTable) (i : Index) (d e t b : ℕ) → IsPut r r' t b e d → t ≡ place i d → b ≡ place i e → 1 ≤ d → 1 ≤ e → KeepsOthers i d e (partial_of r) (partial_of r')
+pub put_others : (r r' : Rows) (i : Index) (d e t b : ℕ) → IsPut r r' t b e d → t ≡ place i d → b ≡ place i e → 1 ≤ d → 1 ≤ e → KeepsOthers i d e (partial_of r) (partial_of r')
 put_others r r' i d e t b is at back low low' = record {
   same = λ j c pos first second. ⊎_elim
       (λ inside.
@@ -143,7 +142,7 @@ filled_kept old new i j c a b o is d low at =
     (cases_eq d b)
 
 -- what is known round a chamber before the image is put in
-pub record KnowsRound (old : PartialTable) (i j : Index) (c a b o : ℕ) : Type 0 where
+pub record KnowsRound (old : Rows) (i j : Index) (c a b o : ℕ) : Type 0 where
   pub apart : j ≢ i
   pub chamber : 1 ≤ c
   pub first : a ≡ op (partial_of old) i c
@@ -153,7 +152,7 @@ pub record KnowsRound (old : PartialTable) (i j : Index) (c a b o : ℕ) : Type 
   pub second_known : b ≢ 0
   pub opposite_known : o ≢ 0
 
-pub filled_by : (old new : PartialTable) (i j : Index) (c a b o : ℕ) (P : Symbol → Type 0) → KnowsRound old i j c a b o → IsReady new → Learns P old new
+pub filled_by : (old new : Rows) (i j : Index) (c a b o : ℕ) (P : Symbol → Type 0) → KnowsRound old i j c a b o → IsReady new → Learns P old new
     → op (partial_of new) i b ≡ o → KeepsOthers i b o (partial_of old) (partial_of new) → IsFilled (partial_of old) (partial_of new) i j c a b o
 filled_by old new i j c a b o P round ready learnt told others = record {
   apart = round.apart;

@@ -6,8 +6,7 @@ use Rattle.dd_model.specs.declared.index.Index.TheVariants.{Zero, Two}
 use Rattle.dd_model.specs.Symbol.{Symbol, IsTable, IsChamber, op, operation}
 use Rattle.dd_model.specs.Partial.{Completes}
 use Rattle.dd_front_jobs.specs.Places.{index_at, place}
-use Rattle.dd_branch_tables.specs.Rows.{partial_of, Learns, Excludes, Commutes}
-use Rattle.dd_branch_tables.specs.declared.partial_table.PartialTable.{PartialTable}
+use Rattle.dd_branch_tables.specs.Rows.{Rows, partial_of, Learns, Excludes, Commutes}
 use Rattle.dd_front_jobs.proofs.Places.{index_of_place, chamber_of_place}
 
 -- what a symbol has at the place of an image
@@ -22,10 +21,10 @@ pub back_again : (s : Symbol) (i : Index) (d e : ℕ) → IsTable s → IsChambe
 back_again s i d e is h image = ap (op s i) (sym image) ∙ (is.involutions i).involutive d h
 
 -- a property of completions from which another follows
-pub learns_from : (P Q : Symbol → Type 0) (a b : PartialTable) → ((s : Symbol) → Completes (partial_of a) s → Q s → P s) → Learns P a b → Learns Q a b
+pub learns_from : (P Q : Symbol → Type 0) (a b : Rows) → ((s : Symbol) → Completes (partial_of a) s → Q s → P s) → Learns P a b → Learns Q a b
 learns_from P Q a b from one = record { completes = λ s full has. one.completes s full (from s full has); keeps = one.keeps; size = one.size; deeper = one.deeper; undone = one.undone }
 
-pub excludes_from : (P Q : Symbol → Type 0) (r : PartialTable) → ((s : Symbol) → Completes (partial_of r) s → Q s → P s) → Excludes P r → Excludes Q r
+pub excludes_from : (P Q : Symbol → Type 0) (r : Rows) → ((s : Symbol) → Completes (partial_of r) s → Q s → P s) → Excludes P r → Excludes Q r
 excludes_from P Q r from none s full has = none s full (from s full has)
 
 pub on_true_from : (b : Bool) (P Q : Type 0) → (P → Q) → OnTrue b P → OnTrue b Q
@@ -92,5 +91,5 @@ pub from_place : (s : Symbol) (i : Index) (d e t : ℕ) → t ≡ place i d → 
 from_place s i d e t at is = sym (at_place s i d (op s i d) t at refl) ∙ is
 
 -- what was known before more was put in
-pub still_known : (P : Symbol → Type 0) (a b : PartialTable) (i : Index) (d e : ℕ) → Learns P a b → 1 ≤ e → op (partial_of a) i d ≡ e → op (partial_of b) i d ≡ e
+pub still_known : (P : Symbol → Type 0) (a b : Rows) (i : Index) (d e : ℕ) → Learns P a b → 1 ≤ e → op (partial_of a) i d ≡ e → op (partial_of b) i d ≡ e
 still_known P a b i d e learns some known = learns.keeps i d (λ z. let zero_ : e ≡ 0 = sym known ∙ z in omega arith) ∙ known

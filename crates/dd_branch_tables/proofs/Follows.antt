@@ -9,8 +9,7 @@ use Rattle.dd_model.proofs.LeastForms.{least_as_table}
 use Rattle.dd_front_jobs.specs.Places.{index_at}
 use Rattle.dd_front_jobs.specs.Orderly.{IsOrderly}
 use Rattle.dd_front_jobs.specs.Under.{IsUnder, HasNothingUnder, Follows}
-use Rattle.dd_branch_tables.specs.Rows.{partial_of, Learns, Excludes, Commutes}
-use Rattle.dd_branch_tables.specs.declared.partial_table.PartialTable.{PartialTable}
+use Rattle.dd_branch_tables.specs.Rows.{Rows, partial_of, Learns, Excludes, Commutes}
 use Rattle.dd_front_jobs.proofs.Places.{code_at}
 use Rattle.dd_branch_tables.proofs.Prefixes.{shortened}
 
@@ -41,13 +40,13 @@ has_next W n prefix k t s at low under =
     (under.orderly.commuting, subst (λ j. op s (index_at (j % 3)) (1 + j / 3) ≡ k) (sym at) (sym place ∙ u.1))
 
 -- the table of the longer prefix
-pub follows_put : (W : Symbol → Type 0) (n : ℕ) (prefix : List ℕ) (k t : ℕ) (old new : PartialTable) → t ≡ length prefix → length prefix < 3 * n → Follows W n prefix (partial_of old) → Learns (Puts t k) old new
+pub follows_put : (W : Symbol → Type 0) (n : ℕ) (prefix : List ℕ) (k t : ℕ) (old new : Rows) → t ≡ length prefix → length prefix < 3 * n → Follows W n prefix (partial_of old) → Learns (Puts t k) old new
     → Follows W n (prefix ++ k ∷ []) (partial_of new)
 follows_put W n prefix k t old new at low follows learns s under =
     learns.completes s (follows s (shortened W n prefix k s under).0) (has_next W n prefix k t s at low under)
 
 -- Where the number cannot be put in, nothing is under the longer prefix.
-pub none_put : (W : Symbol → Type 0) (n : ℕ) (prefix : List ℕ) (k t : ℕ) (old : PartialTable) → t ≡ length prefix → length prefix < 3 * n → Follows W n prefix (partial_of old) → Excludes (Puts t k) old
+pub none_put : (W : Symbol → Type 0) (n : ℕ) (prefix : List ℕ) (k t : ℕ) (old : Rows) → t ≡ length prefix → length prefix < 3 * n → Follows W n prefix (partial_of old) → Excludes (Puts t k) old
     → HasNothingUnder W n (prefix ++ k ∷ [])
 none_put W n prefix k t old at low follows excludes s under =
     excludes s (follows s (shortened W n prefix k s under).0) (has_next W n prefix k t s at low under)

@@ -18,8 +18,7 @@ use Rattle.dd_canon.proofs.Meetings.{numbered_counts_not}
 use Rattle.dd_model.proofs.Lists.{zero_at}
 use Rattle.dd_model.proofs.CountFrom.{length-count_from, get_or-map-count_from}
 use Rattle.dd_front_jobs.specs.Places.{index_at, place, back_of, bits_of}
-use Rattle.dd_branch_tables.specs.Rows.{images_in, partial_from, partial_of, depth_of, cleared, flipped, last_of, popped, unwind, unwound, HasNumberAt, IsReady, Learns, Excludes}
-use Rattle.dd_branch_tables.specs.declared.partial_table.PartialTable.{PartialTable}
+use Rattle.dd_branch_tables.specs.Rows.{Rows, images_in, partial_from, partial_of, depth_of, cleared, flipped, last_of, popped, unwind, unwound, HasNumberAt, IsReady, Learns, Excludes}
 use Rattle.dd_front_jobs.proofs.Places.{index_of_place, chamber_of_place, place_of_place}
 
 same_place : (i : Index) (d : ℕ) → place i (1 + (d - 1)) ≡ place i d
@@ -76,12 +75,12 @@ completes_set n numbers t e s whole low full is = record {
       (cases_lt (d - 1) 36);
 }
 
-unwind_add : (a b : ℕ) (r : PartialTable) → unwind (a + b) r ≡ unwind b (unwind a r)
+unwind_add : (a b : ℕ) (r : Rows) → unwind (a + b) r ≡ unwind b (unwind a r)
 unwind_add zero b r = let e : 0 + b ≡ b = omega arith in ap (λ k. unwind k r) e
 unwind_add (suc a) b r = let e : suc a + b ≡ suc (a + b) = omega arith in ap (λ k. unwind k r) e ∙ unwind_add a b (popped r)
 
 -- one thing after another
-pub learns_both : (P Q R : Symbol → Type 0) (a b c : PartialTable) → ((s : Symbol) → Completes (partial_of a) s → R s → P s × Q s) → Learns P a b → Learns Q b c → Learns R a c
+pub learns_both : (P Q R : Symbol → Type 0) (a b c : Rows) → ((s : Symbol) → Completes (partial_of a) s → R s → P s × Q s) → Learns P a b → Learns Q b c → Learns R a c
 learns_both P Q R a b c parts one two =
     let up = one.deeper in
     let on = two.deeper in
@@ -97,7 +96,7 @@ learns_both P Q R a b c parts one two =
     }
 
 -- what was undone is as before
-pub undone_after : (P : Symbol → Type 0) (a b c : PartialTable) (mark : ℕ) → Learns P a b → mark ≡ depth_of a → c ≡ unwound b mark → c ≡ a
+pub undone_after : (P : Symbol → Type 0) (a b c : Rows) (mark : ℕ) → Learns P a b → mark ≡ depth_of a → c ≡ unwound b mark → c ≡ a
 undone_after P a b c mark one e u = u ∙ ap (unwound b) e ∙ one.undone
 
 place_first : (i : Index) (d : ℕ) → place i d % 3 ≡ place i 1
@@ -220,7 +219,7 @@ flip_all free old new t e three some tell first second others u inside =
     (cases_eq u t)
 
 -- rows with an image more at a place, and its way back, where none was known
-pub record IsPut (r r' : PartialTable) (t b e d : ℕ) : Type 0 where
+pub record IsPut (r r' : Rows) (t b e d : ℕ) : Type 0 where
   pub ready : IsReady r
   pub low : t < 108
   pub some : 1 ≤ e
@@ -233,9 +232,9 @@ pub record IsPut (r r' : PartialTable) (t b e d : ℕ) : Type 0 where
   pub size : r'.size ≡ r.size
   pub numbers : r'.numbers ≡ set (set r.numbers t e) b d
   pub free : r'.free ≡ flipped r.free t e
-  pub trail : r'.trail.items ≡ r.trail.items ++ t ∷ []
+  pub trail : r'.trail ≡ r.trail ++ t ∷ []
 
-put_low : (r r' : PartialTable) (t b e d : ℕ) → IsPut r r' t b e d → b < 108
+put_low : (r r' : Rows) (t b e d : ℕ) → IsPut r r' t b e d → b < 108
 put_low r r' t b e d is =
     let small = is.ready.small in
     let image = is.image in
@@ -244,7 +243,7 @@ put_low r r' t b e d is =
     omega arith
 
 -- a place that leads to itself
-put_alone : (r r' : PartialTable) (t b e d : ℕ) → IsPut r r' t b e d → t ≡ b → d ≡ e
+put_alone : (r r' : Rows) (t b e d : ℕ) → IsPut r r' t b e d → t ≡ b → d ≡ e
 put_alone r r' t b e d is same =
     let back = is.back in
     let at = back_at t e is.some in
@@ -252,7 +251,7 @@ put_alone r r' t b e d is same =
     let from = is.from in
     omega arith
 
-put_there : (r r' : PartialTable) (t b e d : ℕ) → IsPut r r' t b e d → get_or r'.numbers t 0 ≡ e
+put_there : (r r' : Rows) (t b e d : ℕ) → IsPut r r' t b e d → get_or r'.numbers t 0 ≡ e
 put_there r r' t b e d is =
     let whole = is.ready.whole in
     let low = is.low in
@@ -262,16 +261,16 @@ put_there r r' t b e d is =
     (λ apart. pair_first r.numbers t b e d apart (omega arith))
     (cases_eq t b)
 
-put_back : (r r' : PartialTable) (t b e d : ℕ) → IsPut r r' t b e d → get_or r'.numbers b 0 ≡ d
+put_back : (r r' : Rows) (t b e d : ℕ) → IsPut r r' t b e d → get_or r'.numbers b 0 ≡ d
 put_back r r' t b e d is =
     let whole = is.ready.whole in
     let below = put_low r r' t b e d is in
     ap (λ xs. get_or xs b 0) is.numbers ∙ pair_second r.numbers t b e d (omega arith)
 
-pub put_else : (r r' : PartialTable) (t b e d u : ℕ) → IsPut r r' t b e d → u ≢ t → u ≢ b → get_or r'.numbers u 0 ≡ get_or r.numbers u 0
+pub put_else : (r r' : Rows) (t b e d u : ℕ) → IsPut r r' t b e d → u ≢ t → u ≢ b → get_or r'.numbers u 0 ≡ get_or r.numbers u 0
 put_else r r' t b e d u is first second = ap (λ xs. get_or xs u 0) is.numbers ∙ pair_other r.numbers t b u e d first second
 
-cleared_put : (r r' : PartialTable) (t b e d : ℕ) → IsPut r r' t b e d → set (set r'.numbers t 0) b 0 ≡ r.numbers
+cleared_put : (r r' : Rows) (t b e d : ℕ) → IsPut r r' t b e d → set (set r'.numbers t 0) b 0 ≡ r.numbers
 cleared_put r r' t b e d is =
     let whole = is.ready.whole in
     let low = is.low in
@@ -287,28 +286,28 @@ cleared_put r r' t b e d is =
     (cases_eq u t))
     (cases_eq u b))
 
-popped_put : (r r' : PartialTable) (t b e d : ℕ) → IsPut r r' t b e d → popped r' ≡ r
+popped_put : (r r' : Rows) (t b e d : ℕ) → IsPut r r' t b e d → popped r' ≡ r
 popped_put r r' t b e d is =
-    let longer : length r'.trail.items ≡ length r.trail.items + 1 = ap length is.trail ∙ length_push r.trail.items t in
-    let last : length r'.trail.items - 1 ≡ length r.trail.items = omega arith in
-    let there : get_or r'.trail.items (length r'.trail.items - 1) 0 ≡ t =
-    ap (λ k. get_or r'.trail.items k 0) last ∙ ap (λ xs. get_or xs (length r.trail.items) 0) is.trail ∙ get_or_push r.trail.items t 0 (length r.trail.items) refl in
-    let numbers : cleared r'.numbers (get_or r'.trail.items (length r'.trail.items - 1) 0) ≡ r.numbers =
+    let longer : length r'.trail ≡ length r.trail + 1 = ap length is.trail ∙ length_push r.trail t in
+    let last : length r'.trail - 1 ≡ length r.trail = omega arith in
+    let there : get_or r'.trail (length r'.trail - 1) 0 ≡ t =
+    ap (λ k. get_or r'.trail k 0) last ∙ ap (λ xs. get_or xs (length r.trail) 0) is.trail ∙ get_or_push r.trail t 0 (length r.trail) refl in
+    let numbers : cleared r'.numbers (get_or r'.trail (length r'.trail - 1) 0) ≡ r.numbers =
     ap (cleared r'.numbers) there ∙ ap (λ k. set (set r'.numbers t 0) k 0) (ap (back_of t) (put_there r r' t b e d is) ∙ sym is.back) ∙ cleared_put r r' t b e d is in
-    let trail : take (length r'.trail.items - 1) r'.trail.items ≡ r.trail.items =
-    ap (λ k. take k r'.trail.items) last ∙ ap (take (length r.trail.items)) is.trail ∙ take_at r.trail.items (t ∷ []) (length r.trail.items) refl in
+    let trail : take (length r'.trail - 1) r'.trail ≡ r.trail =
+    ap (λ k. take k r'.trail) last ∙ ap (take (length r.trail)) is.trail ∙ take_at r.trail (t ∷ []) (length r.trail) refl in
     let size = is.size in
     let free : flipped r'.free (last_of r') (get_or r'.numbers (last_of r') 0) ≡ r.free =
     ap (λ k. flipped r'.free k (get_or r'.numbers k 0)) there ∙ ap (flipped r'.free t) (put_there r r' t b e d is) ∙ ap (λ f. flipped f t e) is.free ∙ flipped_twice r.free t e is.ready.three in
-    λ x. record { size = size x; numbers = numbers x; free = free x; trail = record { items = trail x } }
+    λ x. record { size = size x; numbers = numbers x; free = free x; trail = trail x }
 
 -- what holds of the completions that have the image and its way back
 abbrev pub HasBoth : (t b e d : ℕ) → Symbol → Type 0
 HasBoth t b e d s = HasNumberAt t e s × HasNumberAt b d s
 
-pub put_learns : (r r' : PartialTable) (t b e d : ℕ) → IsPut r r' t b e d → Learns (HasBoth t b e d) r r'
+pub put_learns : (r r' : Rows) (t b e d : ℕ) → IsPut r r' t b e d → Learns (HasBoth t b e d) r r'
 put_learns r r' t b e d is =
-    let longer : length r'.trail.items ≡ length r.trail.items + 1 = ap length is.trail ∙ length_push r.trail.items t in
+    let longer : length r'.trail ≡ length r.trail + 1 = ap length is.trail ∙ length_push r.trail t in
     let one : depth_of r' - depth_of r ≡ 1 = omega arith in
     let whole = is.ready.whole in
     let below = put_low r r' t b e d is in
@@ -332,7 +331,7 @@ put_learns r r' t b e d is =
       undone = ap (λ k. unwind k r') one ∙ popped_put r r' t b e d is;
     }
 
-put_fewer : (r r' : PartialTable) (t b e d : ℕ) → IsPut r r' t b e d → sum_by unnumbered r'.numbers + 1 ≤ sum_by unnumbered r.numbers
+put_fewer : (r r' : Rows) (t b e d : ℕ) → IsPut r r' t b e d → sum_by unnumbered r'.numbers + 1 ≤ sum_by unnumbered r.numbers
 put_fewer r r' t b e d is =
     let whole = is.ready.whole in
     let low = is.low in
@@ -348,7 +347,7 @@ put_fewer r r' t b e d is =
     omega arith
 
 -- there is room for what is put in where nothing was known
-pub room_left : (r : PartialTable) (t : ℕ) → IsReady r → t < 108 → get_or r.numbers t 0 ≡ 0 → length r.trail.items < 108
+pub room_left : (r : Rows) (t : ℕ) → IsReady r → t < 108 → get_or r.numbers t 0 ≡ 0 → length r.trail < 108
 room_left r t ready low none =
     let whole = ready.whole in
     let room = ready.room 0 (omega arith) in
@@ -357,20 +356,20 @@ room_left r t ready low none =
     let now : unnumbered 1 ≡ 0 = numbered_counts_not 1 (omega arith) in
     omega arith
 
-put_room : (r r' : PartialTable) (t b e d : ℕ) → IsPut r r' t b e d → (k : ℕ) → k ≤ length r'.trail.items → sum_by unnumbered (unwind k r').numbers + (length r'.trail.items - k) ≤ 108
+put_room : (r r' : Rows) (t b e d : ℕ) → IsPut r r' t b e d → (k : ℕ) → k ≤ length r'.trail → sum_by unnumbered (unwind k r').numbers + (length r'.trail - k) ≤ 108
 put_room r r' t b e d is zero within =
-    let longer : length r'.trail.items ≡ length r.trail.items + 1 = ap length is.trail ∙ length_push r.trail.items t in
+    let longer : length r'.trail ≡ length r.trail + 1 = ap length is.trail ∙ length_push r.trail t in
     let fewer = put_fewer r r' t b e d is in
     let room = is.ready.room 0 (omega arith) in
     omega arith
 put_room r r' t b e d is (suc k) within =
-    let longer : length r'.trail.items ≡ length r.trail.items + 1 = ap length is.trail ∙ length_push r.trail.items t in
+    let longer : length r'.trail ≡ length r.trail + 1 = ap length is.trail ∙ length_push r.trail t in
     let same : unwind (suc k) r' ≡ unwind k r = ap (unwind k) (popped_put r r' t b e d is) in
     let sums : sum_by unnumbered (unwind (suc k) r').numbers ≡ sum_by unnumbered (unwind k r).numbers = ap (λ x. sum_by unnumbered x.numbers) same in
     let room = is.ready.room k (omega arith) in
     omega arith
 
-put_paired : (r r' : PartialTable) (t b e d : ℕ) → IsPut r r' t b e d → (u : ℕ) → u < 108 → get_or r'.numbers u 0 ≢ 0 → get_or r'.numbers (back_of u (get_or r'.numbers u 0)) 0 ≡ 1 + u / 3
+put_paired : (r r' : Rows) (t b e d : ℕ) → IsPut r r' t b e d → (u : ℕ) → u < 108 → get_or r'.numbers u 0 ≢ 0 → get_or r'.numbers (back_of u (get_or r'.numbers u 0)) 0 ≡ 1 + u / 3
 put_paired r r' t b e d is u inside some =
     let at = back_at t e is.some in
     let some_e = is.some in
@@ -399,7 +398,7 @@ put_paired r r' t b e d is u inside some =
     (cases_eq u b))
     (cases_eq u t)
 
-put_free : (r r' : PartialTable) (t b e d : ℕ) → IsPut r r' t b e d → TellFree r'.free r'.numbers
+put_free : (r r' : Rows) (t b e d : ℕ) → IsPut r r' t b e d → TellFree r'.free r'.numbers
 put_free r r' t b e d is =
     let was : unnumbered (get_or r.numbers t 0) ≡ 1 = ap unnumbered is.none in
     let now : unnumbered (get_or r'.numbers t 0) ≡ 0 = ap unnumbered (put_there r r' t b e d is) ∙ numbered_counts_not e is.some in
@@ -410,19 +409,19 @@ put_free r r' t b e d is =
     subst (λ f. TellFree f r'.numbers) (sym is.free)
     (flip_all r.free r.numbers r'.numbers t e is.ready.three is.some is.ready.free (omega arith) (omega arith) (λ u first second. put_else r r' t b e d u is first (λ z. second (z ∙ is.back))))
 
-put_known : (r r' : PartialTable) (t b e d : ℕ) → IsPut r r' t b e d → (k : ℕ) → k < length r'.trail.items → get_or (unwind k r').numbers (last_of (unwind k r')) 0 ≢ 0
+put_known : (r r' : Rows) (t b e d : ℕ) → IsPut r r' t b e d → (k : ℕ) → k < length r'.trail → get_or (unwind k r').numbers (last_of (unwind k r')) 0 ≢ 0
 put_known r r' t b e d is zero within =
-    let longer : length r'.trail.items ≡ length r.trail.items + 1 = ap length is.trail ∙ length_push r.trail.items t in
-    let last : length r'.trail.items - 1 ≡ length r.trail.items = omega arith in
+    let longer : length r'.trail ≡ length r.trail + 1 = ap length is.trail ∙ length_push r.trail t in
+    let last : length r'.trail - 1 ≡ length r.trail = omega arith in
     let there : last_of r' ≡ t =
-    ap (λ k. get_or r'.trail.items k 0) last ∙ ap (λ xs. get_or xs (length r.trail.items) 0) is.trail ∙ get_or_push r.trail.items t 0 (length r.trail.items) refl in
+    ap (λ k. get_or r'.trail k 0) last ∙ ap (λ xs. get_or xs (length r.trail) 0) is.trail ∙ get_or_push r.trail t 0 (length r.trail) refl in
     let some = is.some in
     λ z. let is_e = sym (put_there r r' t b e d is) ∙ ap (λ k. get_or r'.numbers k 0) (sym there) ∙ z in omega arith
 put_known r r' t b e d is (suc k) within =
-    let longer : length r'.trail.items ≡ length r.trail.items + 1 = ap length is.trail ∙ length_push r.trail.items t in
+    let longer : length r'.trail ≡ length r.trail + 1 = ap length is.trail ∙ length_push r.trail t in
     subst (λ x. get_or x.numbers (last_of x) 0 ≢ 0) (sym (ap (unwind k) (popped_put r r' t b e d is))) (is.ready.known k (omega arith))
 
-pub put_ready : (r r' : PartialTable) (t b e d : ℕ) → IsPut r r' t b e d → IsReady r'
+pub put_ready : (r r' : Rows) (t b e d : ℕ) → IsPut r r' t b e d → IsReady r'
 put_ready r r' t b e d is =
     let ready = is.ready in
     let size = is.size in
@@ -455,21 +454,21 @@ put_ready r r' t b e d is =
       three = ap length is.free ∙ length-set r.free (t % 3) (bit_xor (get_or r.free (t % 3) 0) (bits_of (1 + t / 3) e)) ∙ ready.three;
       known = put_known r r' t b e d is;
       inside = λ k before. ⊎_elim
-          (λ (early : k < length r.trail.items).
-          let v : get_or r'.trail.items k 0 ≡ get_or r.trail.items k 0 = ap (λ xs. get_or xs k 0) is.trail ∙ get_or_append_left r.trail.items (t ∷ []) 0 k early in
+          (λ (early : k < length r.trail).
+          let v : get_or r'.trail k 0 ≡ get_or r.trail k 0 = ap (λ xs. get_or xs k 0) is.trail ∙ get_or_append_left r.trail (t ∷ []) 0 k early in
           let old = ready.inside k early in
           omega arith)
-          (λ (late : length r.trail.items ≤ k).
-          let longer : length r'.trail.items ≡ length r.trail.items + 1 = ap length is.trail ∙ length_push r.trail.items t in
-          let last : length r.trail.items ≡ k = omega arith in
-          let v : get_or r'.trail.items k 0 ≡ t = ap (λ xs. get_or xs k 0) is.trail ∙ get_or_push r.trail.items t 0 k last in
+          (λ (late : length r.trail ≤ k).
+          let longer : length r'.trail ≡ length r.trail + 1 = ap length is.trail ∙ length_push r.trail t in
+          let last : length r.trail ≡ k = omega arith in
+          let v : get_or r'.trail k 0 ≡ t = ap (λ xs. get_or xs k 0) is.trail ∙ get_or_push r.trail t 0 k last in
           omega arith)
-          (cases_lt k (length r.trail.items));
+          (cases_lt k (length r.trail));
       room = put_room r r' t b e d is;
     }
 
 -- what is known at a place holds of each completion
-pub known_holds : (r : PartialTable) (t : ℕ) (s : Symbol) → t < 108 → Completes (partial_of r) s → get_or r.numbers t 0 ≢ 0 → op s (index_at (t % 3)) (1 + t / 3) ≡ get_or r.numbers t 0
+pub known_holds : (r : Rows) (t : ℕ) (s : Symbol) → t < 108 → Completes (partial_of r) s → get_or r.numbers t 0 ≢ 0 → op s (index_at (t % 3)) (1 + t / 3) ≡ get_or r.numbers t 0
 known_holds r t s low full some =
     let chamber : 1 + t / 3 - 1 < 36 = omega arith in
     let e : op (partial_of r) (index_at (t % 3)) (1 + t / 3) ≡ get_or r.numbers t 0 =
@@ -477,42 +476,42 @@ known_holds r t s low full some =
     full.images (index_at (t % 3)) (1 + t / 3) (λ z. some (sym e ∙ z)) ∙ e
 
 -- another image at a place than the one that is known there
-pub known_excludes : (r : PartialTable) (t e : ℕ) → t < 108 → get_or r.numbers t 0 ≢ 0 → get_or r.numbers t 0 ≢ e → Excludes (λ s. op s (index_at (t % 3)) (1 + t / 3) ≡ e) r
+pub known_excludes : (r : Rows) (t e : ℕ) → t < 108 → get_or r.numbers t 0 ≢ 0 → get_or r.numbers t 0 ≢ e → Excludes (λ s. op s (index_at (t % 3)) (1 + t / 3) ≡ e) r
 known_excludes r t e low some other s full has = other (sym (known_holds r t s low full some) ∙ has)
 
 -- the rows without what was put in last
-pub record IsPopped (r r' : PartialTable) : Type 0 where
+pub record IsPopped (r r' : Rows) : Type 0 where
   pub size : r'.size ≡ r.size
   pub numbers : r'.numbers ≡ cleared r.numbers (last_of r)
   pub free : r'.free ≡ flipped r.free (last_of r) (get_or r.numbers (last_of r) 0)
-  pub trail : r'.trail.items ≡ take (length r.trail.items - 1) r.trail.items
+  pub trail : r'.trail ≡ take (length r.trail - 1) r.trail
 
-pub popped_is : (r r' : PartialTable) → IsPopped r r' → r' ≡ popped r
+pub popped_is : (r r' : Rows) → IsPopped r r' → r' ≡ popped r
 popped_is r r' is =
     let size = is.size in
     let numbers = is.numbers in
     let free = is.free in
     let trail = is.trail in
-    λ x. record { size = size x; numbers = numbers x; free = free x; trail = record { items = trail x } }
+    λ x. record { size = size x; numbers = numbers x; free = free x; trail = trail x }
 
-popped_at : (r r' : PartialTable) (u : ℕ) → IsPopped r r' → let t = get_or r.trail.items (length r.trail.items - 1) 0 in u ≢ t → u ≢ back_of t (get_or r.numbers t 0) → get_or r'.numbers u 0 ≡ get_or r.numbers u 0
+popped_at : (r r' : Rows) (u : ℕ) → IsPopped r r' → let t = get_or r.trail (length r.trail - 1) 0 in u ≢ t → u ≢ back_of t (get_or r.numbers t 0) → get_or r'.numbers u 0 ≡ get_or r.numbers u 0
 popped_at r r' u is first second =
-    let t = get_or r.trail.items (length r.trail.items - 1) 0 in
+    let t = get_or r.trail (length r.trail - 1) 0 in
     ap (λ xs. get_or xs u 0) is.numbers ∙ pair_other r.numbers t (back_of t (get_or r.numbers t 0)) u 0 0 first second
 
-pub popped_ready : (r r' : PartialTable) → IsReady r → 0 < length r.trail.items → IsPopped r r' → IsReady r'
+pub popped_ready : (r r' : Rows) → IsReady r → 0 < length r.trail → IsPopped r r' → IsReady r'
 popped_ready r r' ready some is =
-    let t = get_or r.trail.items (length r.trail.items - 1) 0 in
+    let t = get_or r.trail (length r.trail - 1) 0 in
     let e = get_or r.numbers t 0 in
     let b = back_of t e in
     let size = is.size in
     let whole = ready.whole in
     let positive = ready.positive in
     let small = ready.small in
-    let low : t < 108 = ready.inside (length r.trail.items - 1) (omega arith) in
+    let low : t < 108 = ready.inside (length r.trail - 1) (omega arith) in
     let image = ready.within t in
     let below : b < 108 = back_below t e low (omega arith) in
-    let shorter : length r'.trail.items ≡ length r.trail.items - 1 = ap length is.trail ∙ length-take-le (length r.trail.items - 1) r.trail.items (omega arith) in
+    let shorter : length r'.trail ≡ length r.trail - 1 = ap length is.trail ∙ length-take-le (length r.trail - 1) r.trail (omega arith) in
     let at_second : get_or r'.numbers b 0 ≡ 0 = ap (λ xs. get_or xs b 0) is.numbers ∙ pair_second r.numbers t b 0 0 (omega arith) in
     let at_first : get_or r'.numbers t 0 ≡ 0 = ⊎_elim
     (λ (same : t ≡ b). ap (λ k. get_or r'.numbers k 0) same ∙ at_second)
@@ -568,7 +567,7 @@ popped_ready r r' ready some is =
           let same : unwind k r' ≡ unwind (suc k) r = ap (unwind k) (popped_is r r' is) in
           subst (λ x. get_or x.numbers (last_of x) 0 ≢ 0) (sym same) (ready.known (suc k) (omega arith));
       inside = λ k before.
-          let v : get_or r'.trail.items k 0 ≡ get_or r.trail.items k 0 = ap (λ xs. get_or xs k 0) is.trail ∙ get_or-take (length r.trail.items - 1) r.trail.items k 0 (omega arith) in
+          let v : get_or r'.trail k 0 ≡ get_or r.trail k 0 = ap (λ xs. get_or xs k 0) is.trail ∙ get_or-take (length r.trail - 1) r.trail k 0 (omega arith) in
           let old = ready.inside k (omega arith) in
           omega arith;
       room = λ k within.
@@ -579,10 +578,10 @@ popped_ready r r' ready some is =
     }
 
 -- one step of the way back
-pub unwound_less : (r r' : PartialTable) (mark : ℕ) → mark < depth_of r → IsPopped r r' → unwound r' mark ≡ unwound r mark
+pub unwound_less : (r r' : Rows) (mark : ℕ) → mark < depth_of r → IsPopped r r' → unwound r' mark ≡ unwound r mark
 unwound_less r r' mark low is =
     let some : depth_of r - mark ≡ suc (depth_of r - 1 - mark) = omega arith in
-    let shorter : depth_of r' ≡ depth_of r - 1 = ap length is.trail ∙ length-take-le (depth_of r - 1) r.trail.items (omega arith) in
+    let shorter : depth_of r' ≡ depth_of r - 1 = ap length is.trail ∙ length-take-le (depth_of r - 1) r.trail (omega arith) in
     ap (λ k. unwind (k - mark) r') shorter ∙ ap (unwind (depth_of r - 1 - mark)) (popped_is r r' is) ∙ sym (ap (λ k. unwind k r) some)
 
 -- so many zeros
@@ -596,13 +595,13 @@ nothing_known n i d = ⊎_elim
     (λ high. op_past n (zeros 108) i d high)
     (cases_lt (d - 1) 36)
 
-empty_room : (r : PartialTable) (k : ℕ) → r.numbers ≡ zeros 108 → length r.trail.items ≡ 0 → k ≤ length r.trail.items → sum_by unnumbered (unwind k r).numbers + (length r.trail.items - k) ≤ 108
+empty_room : (r : Rows) (k : ℕ) → r.numbers ≡ zeros 108 → length r.trail ≡ 0 → k ≤ length r.trail → sum_by unnumbered (unwind k r).numbers + (length r.trail - k) ≤ 108
 empty_room r zero numbers none within = let sums : sum_by unnumbered r.numbers ≡ 108 = ap (sum_by unnumbered) numbers ∙ sum_by-replicate unnumbered 108 0 in omega arith
 empty_room r (suc k) numbers none within = absurd (omega arith)
 
-pub empty_ready : (r : PartialTable) → 1 ≤ r.size → r.size ≤ 36 → r.numbers ≡ zeros 108 → r.free ≡ replicate 3 (2 ^ 64 - 1) → r.trail.items ≡ [] → IsReady r
+pub empty_ready : (r : Rows) → 1 ≤ r.size → r.size ≤ 36 → r.numbers ≡ zeros 108 → r.free ≡ replicate 3 (2 ^ 64 - 1) → r.trail ≡ [] → IsReady r
 empty_ready r low high numbers free trail =
-    let none : length r.trail.items ≡ 0 = ap length trail in
+    let none : length r.trail ≡ 0 = ap length trail in
     record {
       positive = low;
       small = high;
@@ -626,27 +625,27 @@ pub flipped_by : (free : List ℕ) (t e m : ℕ) → m ≡ bits_of (1 + t / 3) e
 flipped_by free t e m is = ap (λ k. set free (t % 3) (bit_xor (get_or free (t % 3) 0) k)) is
 
 -- the rows after the last place was taken from the trail and cleared
-pub popped_from : (r r' : PartialTable) (t : ℕ) → r'.size ≡ r.size → r'.numbers ≡ cleared r.numbers t → r'.free ≡ flipped r.free t (get_or r.numbers t 0) → r.trail.items ≡ r'.trail.items ++ t ∷ []
+pub popped_from : (r r' : Rows) (t : ℕ) → r'.size ≡ r.size → r'.numbers ≡ cleared r.numbers t → r'.free ≡ flipped r.free t (get_or r.numbers t 0) → r.trail ≡ r'.trail ++ t ∷ []
     → IsPopped r r'
 popped_from r r' t size numbers free trail =
-    let longer : length r.trail.items ≡ length r'.trail.items + 1 = ap length trail ∙ length_push r'.trail.items t in
-    let last : length r.trail.items - 1 ≡ length r'.trail.items = omega arith in
-    let there : get_or r.trail.items (length r.trail.items - 1) 0 ≡ t =
-    ap (λ k. get_or r.trail.items k 0) last ∙ ap (λ xs. get_or xs (length r'.trail.items) 0) trail ∙ get_or_push r'.trail.items t 0 (length r'.trail.items) refl in
+    let longer : length r.trail ≡ length r'.trail + 1 = ap length trail ∙ length_push r'.trail t in
+    let last : length r.trail - 1 ≡ length r'.trail = omega arith in
+    let there : get_or r.trail (length r.trail - 1) 0 ≡ t =
+    ap (λ k. get_or r.trail k 0) last ∙ ap (λ xs. get_or xs (length r'.trail) 0) trail ∙ get_or_push r'.trail t 0 (length r'.trail) refl in
     record {
       size = size;
       numbers = numbers ∙ ap (cleared r.numbers) (sym there);
       free = free ∙ ap (λ k. flipped r.free k (get_or r.numbers k 0)) (sym there);
-      trail = sym (ap (λ k. take k r.trail.items) last ∙ ap (take (length r'.trail.items)) trail ∙ take_at r'.trail.items (t ∷ []) (length r'.trail.items) refl);
+      trail = sym (ap (λ k. take k r.trail) last ∙ ap (take (length r'.trail)) trail ∙ take_at r'.trail (t ∷ []) (length r'.trail) refl);
     }
 
 -- what stands at a place is known
-pub told_at : (r : PartialTable) (t e : ℕ) → t < 108 → get_or r.numbers t 0 ≡ e → op (partial_of r) (index_at (t % 3)) (1 + t / 3) ≡ e
+pub told_at : (r : Rows) (t e : ℕ) → t < 108 → get_or r.numbers t 0 ≡ e → op (partial_of r) (index_at (t % 3)) (1 + t / 3) ≡ e
 told_at r t e low is =
     let chamber : 1 + t / 3 - 1 < 36 = omega arith in
     op_partial r.size r.numbers (index_at (t % 3)) (1 + t / 3) chamber ∙ ap (λ u. get_or r.numbers u 0) (place_of_place t) ∙ is
 
-pub put_told : (r r' : PartialTable) (t b e d : ℕ) → IsPut r r' t b e d → op (partial_of r') (index_at (t % 3)) (1 + t / 3) ≡ e
+pub put_told : (r r' : Rows) (t b e d : ℕ) → IsPut r r' t b e d → op (partial_of r') (index_at (t % 3)) (1 + t / 3) ≡ e
 put_told r r' t b e d is = told_at r' t e is.low (put_there r r' t b e d is)
 
 -- ## Chambers without images
@@ -658,7 +657,7 @@ none_below g k small low = ⊎_elim
     (cases_eq g 0)
 
 -- a chamber whose bit is not set has its image
-pub no_bit_has_image : (r : PartialTable) (i : Index) (d : ℕ) → IsReady r → 1 ≤ d → d ≤ 36 → bit_at (get_or r.free (place i 1) 0) d ≡ 0 → op (partial_of r) i d ≢ 0
+pub no_bit_has_image : (r : Rows) (i : Index) (d : ℕ) → IsReady r → 1 ≤ d → d ≤ 36 → bit_at (get_or r.free (place i 1) 0) d ≡ 0 → op (partial_of r) i d ≢ 0
 no_bit_has_image r i d ready low high zero_bit none =
     let at : place i d % 3 ≡ place i 1 = place_first i d in
     let chamber : 1 + place i d / 3 ≡ d = (let row = chamber_of_place i d in omega arith) in
@@ -669,7 +668,7 @@ no_bit_has_image r i d ready low high zero_bit none =
     absurd (omega arith)
 
 -- an image leads back
-pub leads_back : (r : PartialTable) (i : Index) (d c : ℕ) → IsReady r → 1 ≤ d → d ≤ 36 → 1 ≤ c → c ≤ 36 → op (partial_of r) i d ≡ c → op (partial_of r) i c ≡ d
+pub leads_back : (r : Rows) (i : Index) (d c : ℕ) → IsReady r → 1 ≤ d → d ≤ 36 → 1 ≤ c → c ≤ 36 → op (partial_of r) i d ≡ c → op (partial_of r) i c ≡ d
 leads_back r i d c ready low high some few is =
     let number : get_or r.numbers (place i d) 0 ≡ c = sym (op_partial r.size r.numbers i d (omega arith)) ∙ is in
     let led = ready.paired (place i d) (place_below i d high) (λ z. let none = sym number ∙ z in omega arith) in

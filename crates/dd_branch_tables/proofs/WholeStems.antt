@@ -15,12 +15,11 @@ use Rattle.dd_model.proofs.Ascending.{begins_at}
 use Rattle.dd_model.proofs.LeastForms.{least_first_visit}
 use Rattle.dd_front_jobs.specs.FirstVisit.{AreMet, greatest}
 use Rattle.dd_front_jobs.specs.Places.{place}
-use Rattle.dd_branch_tables.specs.Rows.{partial_of, IsReady}
+use Rattle.dd_branch_tables.specs.Rows.{Rows, partial_of, IsReady}
 use Rattle.dd_front_jobs.specs.Under.{HasNothingUnder}
 use Rattle.dd_branch_tables.specs.Passed.{IsPassed}
 use Rattle.dd_branch_tables.specs.Stem.{Any, IsStem, prefix_of, size_of}
 use Rattle.dd_branch_tables.specs.Ties.{AreTiesOf}
-use Rattle.dd_branch_tables.specs.declared.partial_table.PartialTable.{PartialTable}
 use Rattle.dd_branch_tables.specs.declared.stem.Stem.{Stem}
 use Rattle.dd_front_jobs.proofs.CodeFronts.{image_at, leads_out}
 use Rattle.dd_branch_tables.proofs.Commuting.{op_small}
@@ -34,7 +33,7 @@ use Rattle.dd_branch_tables.proofs.WholeTables.{table_of_stem}
 -- ## The table of a whole stem
 
 -- Only the chambers have images.
-has_image_inside : (r : PartialTable) (i : Index) (d : ℕ) → IsReady r → 1 ≤ d → op (partial_of r) i d ≢ 0 → d ≤ r.size
+has_image_inside : (r : Rows) (i : Index) (d : ℕ) → IsReady r → 1 ≤ d → op (partial_of r) i d ≢ 0 → d ≤ r.size
 has_image_inside r i d ready low some = ⊎_elim
     (λ inside.
     let small = ready.small in
@@ -137,5 +136,5 @@ ties_of_open stem ds is whole grows met open_ = record {
 }
 
 -- what is said of the rows and the numbers of a stem
-pub of_stem : (P : PartialTable → List ℕ → Type 0) (stem : Stem) (rows : PartialTable) (numbers : List ℕ) → rows ≡ stem.rows → numbers ≡ prefix_of stem → P rows numbers → P stem.rows (prefix_of stem)
+pub of_stem : (P : Rows → List ℕ → Type 0) (stem : Stem) (rows : Rows) (numbers : List ℕ) → rows ≡ stem.rows → numbers ≡ prefix_of stem → P rows numbers → P stem.rows (prefix_of stem)
 of_stem P stem rows numbers same equal is = subst (P stem.rows) equal (subst (λ r. P r numbers) same is)

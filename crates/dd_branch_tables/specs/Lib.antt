@@ -10,6 +10,7 @@ pub mod Beaten
 pub mod Passed
 pub mod Open
 pub mod Rows
+pub mod Kept
 pub mod Commuting
 pub mod Visit
 pub mod Stem

@@ -1,4 +1,4 @@
-ghost use Rattle.std.specs.Prelude.{◌≡◌, ◌*◌, ◌≤◌, OnOk, length};
+ghost use Rattle.std.specs.Prelude.{◌≡◌, ◌≤◌, OnOk, length};
 ghost use Rattle.dd_front_jobs.specs.Under.{AreUnder, Appends};
 ghost use Rattle.dd_branch_tables.specs.Growth.{HasGrown};
 
@@ -26,7 +26,6 @@ pub trait CollectingSearch: PrefixSearch {
 /// use any more.
 pub fn find<T: CollectingSearch>(search: &mut T, list: &mut SymbolList) -> Result<(), Memory>
     requires valid { T.valid search.old }
-    requires end { T.end (T.size search.old) ≤ 5 * T.size search.old }
     requires short { length (T.prefix search.old) ≤ T.end (T.size search.old) }
     ensures same { OnOk result (search.new ≡ search.old) }
     ensures list { OnOk result (Appends

@@ -6,6 +6,7 @@ ghost use Rattle.dd_front_jobs.specs.Places.{index_at, place, back_of, bits_of};
 use crate::chamber_set::ChamberSet;
 use arrayvec::ArrayVec;
 use dd_model::Index;
+use std::marker::Model;
 
 /// The place of the image of a chamber in a code, places being counted from 0.
 pub fn place_of(i: Index, chamber: u8) -> u8
@@ -69,6 +70,18 @@ pub struct PartialTable {
     trail: ArrayVec<u8, 108>,
 }
 
+impl Model for PartialTable {
+    ghost use Rattle.dd_branch_tables.specs.Rows.{Rows, IsReady};
+
+    ghost Value = { Rows };
+
+    ghost use Rattle.dd_branch_tables.specs.Kept.{rows_of};
+
+    ghost view = { rows_of };
+
+    ghost invariant = { λ a. IsReady (rows_of a) };
+}
+
 impl PartialTable {
     ghost use Rattle.dd_branch_tables.specs.Chambers.{bit_of};
     ghost use Rattle.dd_branch_tables.specs.Rows.{partial_of, depth_of, unwound, IsReady, HasNumberAt, Learns, Excludes, Commutes};
@@ -94,14 +107,14 @@ impl PartialTable {
 
     /// The number of chambers.
     pub fn size(&self) -> u8
-        ensures { result ≡ (partial_of self.now).size }
+        ensures size { result ≡ (partial_of self.now).size }
+        ensures ready { IsReady self.now }
     {
         self.size
     }
 
     /// The image of a chamber, or 0 where it is not known.
     pub fn known(&self, i: Index, chamber: u8) -> u8
-        requires ready { IsReady self.now }
         requires low { 1 ≤ chamber }
         requires high { chamber ≤ 36 }
         ensures image { result ≡ op (partial_of self.now) i chamber }
@@ -112,7 +125,6 @@ impl PartialTable {
 
     /// The number at a place of the code, or 0 where it is not known.
     pub fn number_at(&self, place: u8) -> u8
-        requires ready { IsReady self.now }
         requires place { place < 108 }
         ensures number { HasNumberAt place result (partial_of self.now) }
         ensures within { result ≤ (partial_of self.now).size }
@@ -124,7 +136,6 @@ impl PartialTable {
     /// The place at which the image of a place leads back; the place itself where no image is
     /// known.
     pub(crate) fn back_from(&self, place: u8) -> u8
-        requires ready { IsReady self.now }
         requires place { place < 108 }
         ensures back { result ≡ back_of place (slice_index self.now.numbers place) }
         ensures inside { result < 108 }
@@ -134,7 +145,6 @@ impl PartialTable {
 
     /// The chambers up to a number whose images are not known.
     pub(crate) fn free_to(&self, i: Index, last: u8) -> ChamberSet
-        requires ready { IsReady self.now }
         requires last { last ≤ (partial_of self.now).size }
         ensures taken { (d : ℕ) → 1 ≤ d → d ≤ last → bit_of result d ≡ 0
             → op (partial_of self.now) i d ≢ 0 }
@@ -152,9 +162,9 @@ impl PartialTable {
 
     /// The places that were filled after a mark, in order, one of each two that lead to each other.
     pub fn filled(&self, mark: usize) -> &[u8]
-        requires { IsReady self.now }
-        ensures places { result.now ≡ drop mark self.now.trail.items }
+        ensures places { result.now ≡ drop mark self.now.trail }
         ensures inside { (k : ℕ) → k < length result.now → slice_index result.now k < 108 }
+        ensures ready { IsReady self.now }
     {
         let places = self.trail.as_slice();
         &places[mark.min(places.len())..]
@@ -162,7 +172,6 @@ impl PartialTable {
 
     /// Takes out what was put in after a mark.
     pub fn undo(&mut self, mark: usize)
-        requires { IsReady self.old }
         ensures ready { IsReady self.new }
         ensures undone { self.new ≡ unwound self.old mark }
     {
@@ -179,7 +188,6 @@ impl PartialTable {
 
     /// Puts in that an involution exchanges two chambers, or fixes one, unless that cannot be.
     pub fn join(&mut self, i: Index, chamber: u8, image: u8) -> bool
-        requires ready { IsReady self.old }
         requires chamber { (1 ≤ chamber) × (chamber ≤ (partial_of self.old).size) }
         requires image { (1 ≤ image) × (image ≤ (partial_of self.old).size) }
         ensures ready { IsReady self.new }
@@ -190,6 +198,7 @@ impl PartialTable {
         ensures same { OnFalse result (self.new ≡ self.old) }
         ensures clash { OnFalse result (Excludes (λ s. op s i chamber ≡ image) self.old) }
     {
+        prove!(chamber <= self.size);
         let place = place_of(i, chamber);
         let known = self.numbers[place as usize];
         if known == image {
@@ -208,7 +217,6 @@ impl PartialTable {
 
     /// Puts in the image that commuting forces round a chamber, unless it cannot be.
     fn fill(&mut self, chamber: u8) -> bool
-        requires ready { IsReady self.old }
         requires chamber { (1 ≤ chamber) × (chamber ≤ (partial_of self.old).size) }
         ensures ready { IsReady self.new }
         ensures learnt { OnTrue result (Learns Commutes self.old self.new) }
@@ -218,6 +226,7 @@ impl PartialTable {
         ensures same { OnFalse result (self.new ≡ self.old) }
         ensures clash { OnFalse result (Excludes Commutes self.old) }
     {
+        prove!(chamber <= self.size());
         let zero = self.known(Index::Zero, chamber);
         let two = self.known(Index::Two, chamber);
         if zero == 0 || two == 0 {
@@ -236,7 +245,6 @@ impl PartialTable {
 
     /// Puts in the number at a place of a code, and what follows by commuting, unless it cannot be.
     pub fn put(&mut self, place: u8, number: u8) -> bool
-        requires ready { IsReady self.old }
         requires place { place < 3 * (partial_of self.old).size }
         ensures ready { IsReady self.new }
         ensures learnt { OnTrue result
@@ -249,10 +257,10 @@ impl PartialTable {
         ensures clash { OnFalse result
             (Excludes (λ s. Commutes s × HasNumberAt place number s) self.old) }
     {
-        if number == 0 {
+        if number > self.size() {
             return false;
         }
-        if number > self.size {
+        if number == 0 {
             return false;
         }
         let mark = self.mark();

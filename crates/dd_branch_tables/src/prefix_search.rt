@@ -1,4 +1,4 @@
-ghost use Rattle.std.specs.Prelude.{◌≡◌, ℕ, ◌+◌, [], ◌∷◌, ◌++◌, ◌≤◌, ◌<◌, ◌↔◌, List, IsTrue, length};
+ghost use Rattle.std.specs.Prelude.{◌≡◌, ℕ, ◌+◌, [], ◌∷◌, ◌++◌, ◌*◌, ◌≤◌, ◌<◌, ◌↔◌, List, IsTrue, length};
 ghost use Rattle.std.specs.Bool.{OnTrue, OnFalse};
 ghost use Rattle.dd_model.specs.Symbol.{Symbol as Tiling};
 ghost use Rattle.dd_model.specs.declared.requests.Request.{Request as Asked};
@@ -32,7 +32,6 @@ pub trait PrefixSearch {
 
     /// Returns whether the prefix is whole.
     fn is_whole(&self) -> bool
-        requires { valid self.now }
         ensures whole { IsTrue result ↔ (length (prefix self.now) ≡ end (size self.now)) }
         ensures few { end (size self.now) ≤ 108 };
 
@@ -65,7 +64,9 @@ pub trait PrefixSearch {
 
     /// Takes away what was put in after a mark.
     fn leave(&mut self, mark: usize)
-        requires now { valid self.old }
-        requires after { valid (undone self.old mark) }
+        requires { valid (undone self.old mark) }
         ensures { self.new ≡ undone self.old mark };
+
+    // a whole prefix has at most five numbers for each chamber
+    ghost end_small: { (n : ℕ) → end n ≤ 5 * n };
 }

@@ -1,4 +1,4 @@
-ghost use Rattle.std.specs.Prelude.{◌≡◌, ◌⊎◌, ◌↔◌, ◌*◌, ◌≤◌, ◌<◌, [], length};
+ghost use Rattle.std.specs.Prelude.{◌≡◌, ◌⊎◌, ◌↔◌, ◌<◌, [], length};
 ghost use Rattle.std.specs.Bool.{OnTrue, OnFalse};
 ghost use Rattle.dd_model.specs.Symbol.{Symbol as Tiling};
 ghost use Rattle.dd_model.specs.Code.{IsBelow};
@@ -13,7 +13,6 @@ use crate::prefix_search::PrefixSearch;
 pub fn begin<T: PrefixSearch>(search: &T) -> Levels
     requires valid { T.valid search.now }
     requires room { length (T.prefix search.now) < T.end (T.size search.now) }
-    requires end { T.end (T.size search.now) ≤ 5 * T.size search.now }
     ensures at { IsAt T.request T.wanted T.size T.prefix T.end T.depth T.undone T.valid
         search.now result }
     ensures left { (s : Tiling) → IsUnder (T.wanted (T.request search.now)) (T.size search.now)
@@ -35,7 +34,6 @@ pub fn advance<T: PrefixSearch>(search: &mut T, levels: &mut Levels) -> bool
     requires valid { T.valid search.old }
     requires at { IsAt T.request T.wanted T.size T.prefix T.end T.depth T.undone T.valid
         search.old levels.old }
-    requires end { T.end (T.size search.old) ≤ 5 * T.size search.old }
     ensures valid { T.valid search.new }
     ensures request { T.request search.new ≡ T.request search.old }
     ensures size { T.size search.new ≡ T.size search.old }

@@ -3,7 +3,7 @@ ghost use Rattle.std.specs.Bool.{OnTrue, OnFalse};
 ghost use Rattle.dd_model.specs.FirstVisit.{Grows};
 ghost use Rattle.dd_model.specs.Symbol.{op};
 ghost use Rattle.dd_front_jobs.specs.FirstVisit.{AreMet};
-ghost use Rattle.dd_branch_tables.specs.Rows.{partial_of, depth_of, IsReady};
+ghost use Rattle.dd_branch_tables.specs.Rows.{partial_of, depth_of};
 ghost use Rattle.dd_front_jobs.specs.Under.{HasNothingUnder};
 
 use crate::chamber_set::ChamberSet;
@@ -59,8 +59,8 @@ impl Stem {
 
     /// Returns whether all images are known.
     pub fn is_whole(&self) -> bool
-        requires { IsStem self.now }
-        ensures { IsTrue result ↔ (length (prefix_of self.now) ≡ 3 * size_of self.now) }
+        ensures whole { IsTrue result ↔ (length (prefix_of self.now) ≡ 3 * size_of self.now) }
+        ensures few { 3 * size_of self.now ≤ 108 }
     {
         self.prefix.len() == 3 * self.rows.size() as usize
     }
@@ -218,7 +218,6 @@ impl Stem {
 
     /// Takes away the last number, and what was put into the table after a mark.
     pub fn leave(&mut self, mark: usize)
-        requires { IsReady self.old.rows }
         ensures { self.new ≡ shortened self.old mark }
     {
         let count = self.prefix.len().saturating_sub(1);
@@ -227,7 +226,6 @@ impl Stem {
 
     /// Takes away all but `count` numbers, and what was put into the table after a mark.
     pub fn cut(&mut self, count: usize, mark: usize)
-        requires { IsReady self.old.rows }
         ensures { self.new ≡ cut_to self.old count mark }
     {
         self.rows.undo(mark);

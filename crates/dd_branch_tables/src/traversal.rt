@@ -4,7 +4,7 @@ ghost use Rattle.dd_canon.specs.Traversal.{IsMeeting};
 ghost use Rattle.dd_branch_tables.specs.Beaten.{IsBeaten};
 ghost use Rattle.dd_branch_tables.specs.Open.{IsOpen};
 ghost use Rattle.dd_branch_tables.specs.Passed.{IsPassed};
-ghost use Rattle.dd_branch_tables.specs.Rows.{partial_of, IsReady};
+ghost use Rattle.dd_branch_tables.specs.Rows.{partial_of};
 ghost use Rattle.dd_branch_tables.specs.Visit.{AreNumbered};
 
 use crate::partial_table::PartialTable;
@@ -83,7 +83,6 @@ pub enum Standing {
 /// this for each start at each number that it puts in, so it is inlined.
 #[inline(always)]
 pub fn stand(rows: &PartialTable, prefix: &[u8], start: u8, visit: &mut Visit) -> Standing
-    requires ready { IsReady rows.now }
     requires start { (1 ≤ start) × (start ≤ (partial_of rows.now).size) }
     requires short { length prefix.now ≤ 3 * (partial_of rows.now).size }
     ensures open { (place : ℕ) → result ≡ Standing.Open place
@@ -91,6 +90,7 @@ pub fn stand(rows: &PartialTable, prefix: &[u8], start: u8, visit: &mut Visit) -
     ensures beaten { result ≡ Standing.Smaller → IsBeaten (partial_of rows.now) prefix.now }
     ensures larger { result ≡ Standing.Larger → IsPassed (partial_of rows.now) prefix.now start }
 {
+    prove!(start <= rows.size());
     visit.begin(start);
     let mut place = 0;
     let mut row = 0;

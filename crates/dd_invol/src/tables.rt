@@ -92,6 +92,7 @@ impl Tables {
 }
 
 impl PrefixSearch for Tables {
+    ghost use Rattle.std.proofs.Common.{rules};
     ghost use Rattle.dd_branch_tables.specs.Rows.{depth_of};
     ghost use Rattle.dd_branch_tables.specs.Stem.{Any, IsStem};
     ghost use Rattle.dd_invol.specs.Growth.{asked_of, size_at, prefix_at, taken_back};
@@ -111,6 +112,8 @@ impl PrefixSearch for Tables {
     ghost undone = { λ t mark. taken_back t mark };
 
     ghost valid = { λ t. IsStem t.stem };
+
+    ghost end_small = { Prim.search rules };
 
     fn is_whole(&self) -> bool {
         self.stem.is_whole()

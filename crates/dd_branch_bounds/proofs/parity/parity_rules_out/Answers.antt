@@ -13,6 +13,6 @@ returns-then-size-eq1 c more s full least =
     let some : op P Zero 1 ≢ 0 = λ none. absurd (omega (arith, image, above, none)) in
     let same = full.images Zero 1 some in
     let sizes = full.size in
-    let size = c.size.ensures in
+    let size = c.size.ensures.size in
     let odd : s.size % 2 ≡ 1 = ap (λ n. n % 2) (omega (arith, sizes, size)) ∙ c.if-size-eq1.true in
     odd_first s full.table full.connected least odd (omega (arith, same, image, above))

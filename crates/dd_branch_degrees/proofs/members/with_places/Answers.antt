@@ -13,8 +13,8 @@ all_places-places-requires c = let small = c.requires.small in let size = c.requ
 pub split_at-requires : goal.split_at-requires
 split_at-requires c =
     let size = c.size.ensures.size in
-    let own = ap length c.as_slice-2.ensures.value in
-    let of : AreTurns c.all_places-places.result.items c.turns_of-turns.result.items = subst (λ xs. AreTurns xs c.turns_of-turns.result.items) c.as_slice.ensures.value c.turns_of-turns.ensures in
+    let own = ap length c.as_slice.ensures.value in
+    let of : AreTurns c.all_places-places.result.items c.turns_of-turns.result.items = c.turns_of-turns.ensures in
     let count = of.count in
     let all = c.all_places-places.ensures.count in
     omega (arith, size, own, count, all)
@@ -22,15 +22,15 @@ split_at-requires c =
 pub known-requires-clause-tiles : goal.known-requires-clause-tiles
 known-requires-clause-tiles c =
     let it = c.args.involutions in
-    let of = subst (λ xs. AreTurns xs c.turns_of-turns.result.items) c.as_slice.ensures.value c.turns_of-turns.ensures in
-    subst (ArePeriods it Tile) (sym (c.split_at.ensures.front ∙ ap (take c.size.result) c.as_slice-2.ensures.value ∙ ap (λ n. take n c.turns_of-turns.result.items) c.size.ensures.size))
+    let of = c.turns_of-turns.ensures in
+    subst (ArePeriods it Tile) (sym (c.split_at.ensures.front ∙ ap (take c.size.result) c.as_slice.ensures.value ∙ ap (λ n. take n c.turns_of-turns.result.items) c.size.ensures.size))
     (tile_turns c.args.q.now it c.all_places-places.result.items c.turns_of-turns.result.items c.size.ensures.three.involutions c.all_places-places.ensures of)
 
 pub known-requires-clause-vertices : goal.known-requires-clause-vertices
 known-requires-clause-vertices c =
     let it = c.args.involutions in
-    let of = subst (λ xs. AreTurns xs c.turns_of-turns.result.items) c.as_slice.ensures.value c.turns_of-turns.ensures in
-    subst (ArePeriods it Vertex) (sym (c.split_at.ensures.back ∙ ap (drop c.size.result) c.as_slice-2.ensures.value ∙ ap (λ n. drop n c.turns_of-turns.result.items) c.size.ensures.size))
+    let of = c.turns_of-turns.ensures in
+    subst (ArePeriods it Vertex) (sym (c.split_at.ensures.back ∙ ap (drop c.size.result) c.as_slice.ensures.value ∙ ap (λ n. drop n c.turns_of-turns.result.items) c.size.ensures.size))
     (vertex_turns c.args.q.now it c.all_places-places.result.items c.turns_of-turns.result.items c.size.ensures.three.involutions c.all_places-places.ensures of)
 
 pub returns-clause-same : goal.returns-clause-same

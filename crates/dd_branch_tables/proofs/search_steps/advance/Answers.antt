@@ -22,7 +22,7 @@ loop-number-preserved g c =
     let come = c.loop-number.invariant in
     let taken = c.in-Some-take_first.ensures in
     subst (λ s. HasCome T.request T.wanted T.size T.prefix T.end T.depth T.undone T.valid S0 L0 s (record { mark = level.mark; left = c.take_first.new.self } ∷ levels)) (sym c.if-enter.ensures.same)
-    (came_dead T.request T.wanted T.size T.prefix T.end T.depth T.undone T.valid S0 S L0 levels level c.in-Some-take_first.number c.take_first.new.self c.requires.end come taken c.if-enter.ensures.dead)
+    (came_dead T.request T.wanted T.size T.prefix T.end T.depth T.undone T.valid S0 S L0 levels level c.in-Some-take_first.number c.take_first.new.self (g.met.T.PrefixSearch.end_small (T.size c.args.search.now)) come taken c.if-enter.ensures.dead)
 
 pub loop-number-smaller : goal.loop-number-smaller
 loop-number-smaller g c =
@@ -63,7 +63,7 @@ returns-then-is_whole-clause-beyond g c =
     let taken = c.in-Some-take_first.ensures in
     let entered = subst (λ ls. HasEntered T.request T.wanted T.size T.prefix T.end T.depth T.undone T.valid S0 L0 c.enter.new.self ls) (sym c.push.ensures)
     (came_in T.request T.wanted T.size T.prefix T.end T.depth T.undone T.valid S0 S c.enter.new.self L0 levels level c.in-Some-take_first.number c.take_first.new.self
-    c.requires.end come taken c.if-enter.ensures.alive c.if-enter.ensures.undone) in
+    (g.met.T.PrefixSearch.end_small (T.size c.args.search.now)) come taken c.if-enter.ensures.alive c.if-enter.ensures.undone) in
     entered.beyond
 
 pub returns-then-is_whole-clause-left : goal.returns-then-is_whole-clause-left
@@ -78,7 +78,7 @@ returns-then-is_whole-clause-left g c =
     let taken = c.in-Some-take_first.ensures in
     let entered = subst (λ ls. HasEntered T.request T.wanted T.size T.prefix T.end T.depth T.undone T.valid S0 L0 c.enter.new.self ls) (sym c.push.ensures)
     (came_in T.request T.wanted T.size T.prefix T.end T.depth T.undone T.valid S0 S c.enter.new.self L0 levels level c.in-Some-take_first.number c.take_first.new.self
-    c.requires.end come taken c.if-enter.ensures.alive c.if-enter.ensures.undone) in
+    (g.met.T.PrefixSearch.end_small (T.size c.args.search.now)) come taken c.if-enter.ensures.alive c.if-enter.ensures.undone) in
     entered.left
 
 pub returns-then-is_whole-clause-order : goal.returns-then-is_whole-clause-order
@@ -93,8 +93,8 @@ returns-then-is_whole-clause-order g c =
     let taken = c.in-Some-take_first.ensures in
     let entered = subst (λ ls. HasEntered T.request T.wanted T.size T.prefix T.end T.depth T.undone T.valid S0 L0 c.enter.new.self ls) (sym c.push.ensures)
     (came_in T.request T.wanted T.size T.prefix T.end T.depth T.undone T.valid S0 S c.enter.new.self L0 levels level c.in-Some-take_first.number c.take_first.new.self
-    c.requires.end come taken c.if-enter.ensures.alive c.if-enter.ensures.undone) in
-    comes_first T.request T.wanted T.size T.prefix T.end T.depth T.undone T.valid S0 c.enter.new.self L0 c.push.new.self c.requires.end entered
+    (g.met.T.PrefixSearch.end_small (T.size c.args.search.now)) come taken c.if-enter.ensures.alive c.if-enter.ensures.undone) in
+    comes_first T.request T.wanted T.size T.prefix T.end T.depth T.undone T.valid S0 c.enter.new.self L0 c.push.new.self (g.met.T.PrefixSearch.end_small (T.size c.args.search.now)) entered
 
 pub returns-then-is_whole-clause-lighter : goal.returns-then-is_whole-clause-lighter
 returns-then-is_whole-clause-lighter g c =
@@ -108,7 +108,7 @@ returns-then-is_whole-clause-lighter g c =
     let taken = c.in-Some-take_first.ensures in
     let entered = subst (λ ls. HasEntered T.request T.wanted T.size T.prefix T.end T.depth T.undone T.valid S0 L0 c.enter.new.self ls) (sym c.push.ensures)
     (came_in T.request T.wanted T.size T.prefix T.end T.depth T.undone T.valid S0 S c.enter.new.self L0 levels level c.in-Some-take_first.number c.take_first.new.self
-    c.requires.end come taken c.if-enter.ensures.alive c.if-enter.ensures.undone) in
+    (g.met.T.PrefixSearch.end_small (T.size c.args.search.now)) come taken c.if-enter.ensures.alive c.if-enter.ensures.undone) in
     entered.lighter
 
 pub loop-number-smaller-then-enter : goal.loop-number-smaller-then-enter
@@ -143,7 +143,7 @@ loop-number-preserved-then-enter g c =
     let taken = c.in-Some-take_first.ensures in
     let entered = subst (λ ls. HasEntered T.request T.wanted T.size T.prefix T.end T.depth T.undone T.valid S0 L0 c.enter.new.self ls) (sym c.push.ensures)
     (came_in T.request T.wanted T.size T.prefix T.end T.depth T.undone T.valid S0 S c.enter.new.self L0 levels level c.in-Some-take_first.number c.take_first.new.self
-    c.requires.end come taken c.if-enter.ensures.alive c.if-enter.ensures.undone) in
+    (g.met.T.PrefixSearch.end_small (T.size c.args.search.now)) come taken c.if-enter.ensures.alive c.if-enter.ensures.undone) in
     let few = few_levels T.request T.wanted T.size T.prefix T.end T.depth T.undone T.valid S levels come.at.1 in
     let room = come.at.0.room in
     let bound : T.end (T.size S) ≤ 108 = subst (λ n. T.end n ≤ 108) c.if-enter.ensures.alive.same_size c.is_whole-is_whole.ensures.few in
@@ -157,4 +157,4 @@ loop-number-preserved-then-enter g c =
     let short = subst (λ n. length (T.prefix c.enter.new.self) ≤ T.end n) size c.if-enter.ensures.alive.short in
     let inside = not_whole c.is_whole-is_whole.result (length (T.prefix c.enter.new.self)) (T.end (T.size c.enter.new.self)) c.if-is_whole.false c.is_whole-is_whole.ensures.whole short in
     came_on T.request T.wanted T.size T.prefix T.end T.depth T.undone T.valid S0 c.enter.new.self L0 c.push.new.self new
-    c.requires.end c.enter.ensures.valid entered c.mark.ensures inside c.candidates.ensures (omega (arith, falls, before))
+    (g.met.T.PrefixSearch.end_small (T.size c.args.search.now)) c.enter.ensures.valid entered c.mark.ensures inside c.candidates.ensures (omega (arith, falls, before))

@@ -10,7 +10,7 @@ returns-clause-left g c s =
     let S = c.args.search.now in
     let W = T.wanted (T.request S) in
     let room = c.requires.room in
-    let end = c.requires.end in
+    let end = g.met.T.PrefixSearch.end_small (T.size S) in
     let level : Level = record { mark = c.mark.result; left = c.candidates.result } in
     through
     (all_to_try W (T.size S) (T.prefix S) c.candidates.result s (omega (arith, room, end)) c.candidates.ensures)

@@ -37,7 +37,7 @@ loop-place-init c =
     record {
       inside = inside;
       reads = record { same = λ v low. absurd (omega arith) };
-      passing = passing_begun P c.args.prefix.now c.begin.new.self.order.items c.begin.new.self.number c.args.start 36 c.requires.ready.small c.begin.ensures (visit_of c.begin.new.self) inside;
+      passing = passing_begun P c.args.prefix.now c.begin.new.self.order.items c.begin.new.self.number c.args.start 36 c.size.ensures.ready.small c.begin.ensures (visit_of c.begin.new.self) inside;
       some = let order = c.begin.ensures in let one = ap length order in omega (arith, one);
       begun = omega arith;
     }
@@ -47,7 +47,7 @@ returns-then-number-prefix-clause-beaten c _ =
     let P = partial_of c.args.rows.now in
     let i = c.loop-offset.invariant in
     let next = next_read P c.args.prefix.now c.loop-offset.visit.order.items c.meet-number.new.self.order.items c.meet-number.new.self.number c.loop-place.row c.loop-offset.offset c.loop-offset.place _
-    c.number_at-image.result c.meet-number.result i.low i.within c.loop-offset-test.true i.first c.if-place-prefix.false c.requires.ready.small i.inside
+    c.number_at-image.result c.meet-number.result i.low i.within c.loop-offset-test.true i.first c.if-place-prefix.false c.size.ensures.ready.small i.inside
     c.number_at-image.ensures.number c.if-image-eq0.false c.number_at-image.ensures.within c.meet-number.ensures (visit_of c.meet-number.new.self) in
     beats_here P c.args.prefix.now _ _ _ c.loop-offset.place _ c.meet-number.result 36 next.at i.reads next.visit next.inside next.place c.if-number-prefix.true
 
@@ -56,7 +56,7 @@ returns-then-number-prefix-2-clause-larger c _ =
     let P = partial_of c.args.rows.now in
     let i = c.loop-offset.invariant in
     let next = next_read P c.args.prefix.now c.loop-offset.visit.order.items c.meet-number.new.self.order.items c.meet-number.new.self.number c.loop-place.row c.loop-offset.offset c.loop-offset.place _
-    c.number_at-image.result c.meet-number.result i.low i.within c.loop-offset-test.true i.first c.if-place-prefix.false c.requires.ready.small i.inside
+    c.number_at-image.result c.meet-number.result i.low i.within c.loop-offset-test.true i.first c.if-place-prefix.false c.size.ensures.ready.small i.inside
     c.number_at-image.ensures.number c.if-image-eq0.false c.number_at-image.ensures.within c.meet-number.ensures (visit_of c.meet-number.new.self) in
     passed_here P c.args.prefix.now _ _ c.loop-offset.visit.number _ c.args.start c.loop-offset.place _ c.meet-number.result 36 next i.passing c.if-number-prefix-2.true
 
@@ -65,7 +65,7 @@ loop-offset-preserved c =
     let P = partial_of c.args.rows.now in
     let i = c.loop-offset.invariant in
     let next = next_read P c.args.prefix.now c.loop-offset.visit.order.items c.meet-number.new.self.order.items c.meet-number.new.self.number c.loop-place.row c.loop-offset.offset c.loop-offset.place _
-    c.number_at-image.result c.meet-number.result i.low i.within c.loop-offset-test.true i.first c.if-place-prefix.false c.requires.ready.small i.inside
+    c.number_at-image.result c.meet-number.result i.low i.within c.loop-offset-test.true i.first c.if-place-prefix.false c.size.ensures.ready.small i.inside
     c.number_at-image.ensures.number c.if-image-eq0.false c.number_at-image.ensures.within c.meet-number.ensures (visit_of c.meet-number.new.self) in
     let grown = extends_met _ _ _ _ _ c.meet-number.ensures in
     let longer = grown.longer in

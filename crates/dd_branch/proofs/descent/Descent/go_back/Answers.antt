@@ -5,14 +5,11 @@ use Rattle.dd_model.specs.Lists.{Begins}
 use Rattle.dd_model.proofs.SmallerPlaces.{begins_by_test}
 use Rattle.dd_branch_tables.specs.Stem.{prefix_of, size_of}
 use Rattle.dd_branch.specs.Descent.{Descending, GoesBack}
-use Rattle.dd_branch.proofs.GoingBack.{fewer_levels, goes_back_shorter, has_levels, is_descent, same_request, same_size}
+use Rattle.dd_branch.proofs.GoingBack.{fewer_levels, goes_back_shorter, has_levels, same_request, same_size}
 use Rattle.dd_branch.proofs.descent.Descent.go_back.Goals as goal
 
-pub drop_level-requires-clause-ready : goal.drop_level-requires-clause-ready
-drop_level-requires-clause-ready c = (is_descent c.loop-self.self c.loop-self.invariant.back).stem.ready
-
-pub drop_level-requires-clause-some : goal.drop_level-requires-clause-some
-drop_level-requires-clause-some c =
+pub drop_level-requires : goal.drop_level-requires
+drop_level-requires c =
     let both = starts_is Decides-eqb c.args.prefix.now c.prefix.result.now c.starts_with.result c.starts_with.ensures.value in
     has_levels c.loop-self.self c.args.prefix.now c.prefix.result.now c.starts_with.result c.loop-self.invariant.back
     (c.prefix.ensures ∙ ap (λ (d : Descending). prefix_of d.stem) c.self.view_is) both.1 c.loop-self-test.true

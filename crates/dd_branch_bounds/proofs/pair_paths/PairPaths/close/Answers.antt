@@ -8,14 +8,14 @@ use Rattle.dd_branch_bounds.proofs.WriteLemmas.{view}
 use Rattle.dd_branch_bounds.proofs.pair_paths.PairPaths.close.Goals as goal
 
 pub total_after-self-requires-clause-total : goal.total_after-self-requires-clause-total
-total_after-self-requires-clause-total c = let has = c.requires.some in total_small c.args.shares.now has.partial c.args.self.now has.kept has.small
+total_after-self-requires-clause-total c = let has = c.requires.some in total_small c.args.shares.now has.partial c.args.self.now has.kept
 
 pub total_after-self-requires-clause-had : goal.total_after-self-requires-clause-had
 total_after-self-requires-clause-had c =
     let has = c.requires.some in
     let t = c.args.shares.now in
     subst (λ w. w ≤ c.args.self.now.total) (sym c.weight.ensures.told)
-    (weight_within t has.partial c.args.self.now has.kept (live_end t c.args.self.now.ends c.args.x c.end.result c.end.ensures c.requires.live))
+    (weight_within t has.partial c.args.self.now has.kept (live_end t c.args.self.now.ends c.args.x.number c.end.result c.end.ensures c.requires.live))
 
 pub returns-clause-side : goal.returns-clause-side
 returns-clause-side c P join kept =
@@ -24,22 +24,22 @@ returns-clause-side c P join kept =
     let xs = c.args.self.now.ends in
     let v = c.closed-whole.ensures.told.share in
     let long : length xs ≡ 74 = search rules in
-    let end = live_end t xs c.args.x c.end.result c.end.ensures c.requires.live in
-    let few = few_in_path t has.partial c.args.self.now has.kept end has.small in
+    let end = live_end t xs c.args.x.number c.end.result c.end.ensures c.requires.live in
+    let few = few_in_path t has.partial c.args.self.now has.kept end in
     let other = c.requires.other ∙ ap (λ (e : PathEnd). e.other) (ap (end_of t) c.end.ensures) in
     let sum = c.total_after-self.ensures in
     let had = c.weight.ensures.told in
     let all = c.closed-whole.ensures.told.all in
-    let rest = closed_rest t P (λ _. true) xs c.args.self.now.total kept.ends kept.others long c.args.x c.end.result c.requires.first
-    c.args.self.now.census c.add_cell.new.self v c.closed-whole.result end few c.args.mate c.from.result c.from-2.result c.none.result c.none-2.result
+    let rest = closed_rest t P (λ _. true) xs c.args.self.now.total kept.ends kept.others long c.args.x.number c.end.result c.args.x.small
+    c.args.self.now.census c.add_cell.new.self v c.closed-whole.result end few c.args.mate.number c.from.result c.from-2.result c.none.result c.none-2.result
     (sym other) c.requires.apart c.from.ensures (c.from-2.ensures ∙ other) c.none.ensures c.none-2.ensures
     join c.closed-whole.ensures.told.right all c.add_cell.ensures in
     record {
       sized = kept.sized;
       others = rest.others;
       counted = λ s wanted full. rest.counted s wanted (record { completes = full; passed = refl }) (kept.counted s wanted full);
-      ends = closed_kept t P (λ _. true) xs c.args.self.now.total c.total_after-self.result kept.ends long c.args.x c.end.result c.requires.first end few
-          c.args.mate v c.from.result c.from-2.result c.none.result c.none-2.result
+      ends = closed_kept t P (λ _. true) xs c.args.self.now.total c.total_after-self.result kept.ends long c.args.x.number c.end.result c.args.x.small end few
+          c.args.mate.number v c.from.result c.from-2.result c.none.result c.none-2.result
           (sym other) c.requires.apart c.from.ensures (c.from-2.ensures ∙ other) c.none.ensures c.none-2.ensures
           join c.closed-whole.ensures.told.right (omega (arith, sum, had, all));
     }
@@ -49,10 +49,10 @@ returns-clause-dead c none P join kept s sought =
     let has = c.requires.some in
     let t = c.args.shares.now in
     let side = c.args.self.now in
-    let end = live_end t side.ends c.args.x c.end.result c.end.ensures c.requires.live in
+    let end = live_end t side.ends c.args.x.number c.end.result c.end.ensures c.requires.live in
     let told = c.closed-whole.ensures.told in
-    none_with_weight t.request P t.pair (c.args.x / 2) (c.end.result.class.number % 64) told.share c.closed-whole.result end.some told.all none
-    (λ s sought. right_closed t P (λ _. true) (view t side.ends) side.total side.total kept.ends end c.args.mate join
+    none_with_weight t.request P t.pair (c.args.x.number / 2) (c.end.result.class.number % 64) told.share c.closed-whole.result end.some told.all none
+    (λ s sought. right_closed t P (λ _. true) (view t side.ends) side.total side.total kept.ends end c.args.mate.number join
     (sym (c.requires.other ∙ ap (λ (e : PathEnd). e.other) (ap (end_of t) c.end.ensures))) c.requires.apart told.share told.right
-    (few_in_path t has.partial side has.kept end has.small) s sought.wanted (record { completes = sought.completes; passed = refl }))
+    (few_in_path t has.partial side has.kept end) s sought.wanted (record { completes = sought.completes; passed = refl }))
     s sought

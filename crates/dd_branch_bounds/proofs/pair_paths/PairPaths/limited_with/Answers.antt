@@ -12,13 +12,13 @@ limited-requires c = subst (λ p. (p ≡ Tile) ⊎ (p ≡ Vertex)) c.requires.sa
 pub returns-in_default-clause-none : goal.returns-in_default-clause-none
 returns-in_default-clause-none c P test join kept s wanted is =
     let t = c.args.shares.now in
-    let there = subst (λ p. IsJoin (Passes P test) p c.args.x c.args.y) (sym c.requires.same) join in
+    let there = subst (λ p. IsJoin (Passes P test) p c.args.x.number c.args.y.number) (sym c.requires.same) join in
     c.in_default.ensures.none s (is.completes.size ∙ sym kept.sized) wanted
     (subst (λ p. HasCounted s p c.census_with-census.result) c.requires.same (c.census_with-census.ensures P test there kept s wanted is))
 
 pub returns-clause-bound : goal.returns-clause-bound
 returns-clause-bound c P test join kept s wanted is bound =
     let t = c.args.shares.now in
-    let there = subst (λ p. IsJoin (Passes P test) p c.args.x c.args.y) (sym c.requires.same) join in
+    let there = subst (λ p. IsJoin (Passes P test) p c.args.x.number c.args.y.number) (sym c.requires.same) join in
     c.in-Some.ensures.bound s (is.completes.size ∙ sym kept.sized) wanted
     (subst (λ p. HasCounted s p c.census_with-census.result) c.requires.same (c.census_with-census.ensures P test there kept s wanted is)) bound

@@ -5,7 +5,7 @@ use Rattle.dd_branch_bounds.specs.declared.class_shares.ClassShares.{ClassShares
 use Rattle.dd_branch_bounds.specs.declared.end.End.{End}
 use Rattle.dd_branch_bounds.proofs.KeptLemmas.{listed_end, two_ends}
 use Rattle.dd_branch_bounds.proofs.SideLemmas.{IsAnEnd}
-use Rattle.dd_branch_bounds.proofs.SumLemmas.{sum_as_kept, sum_small, sum_capped, sum_closed, sum_connected, total_small, weight_within, weights_within, few_in_path, few_chambers, join_of_none}
+use Rattle.dd_branch_bounds.proofs.SumLemmas.{sum_as_kept, size_small, sum_small, sum_capped, sum_closed, sum_connected, total_small, weight_within, weights_within, few_in_path, few_chambers, join_of_none}
 use Rattle.dd_branch_bounds.proofs.WriteLemmas.{view}
 use Rattle.dd_branch_bounds.proofs.pair_paths.PairPaths.total_with.Goals as goal
 
@@ -24,16 +24,16 @@ pub returns-then-chambers-eq0-clause-total : goal.returns-then-chambers-eq0-clau
 returns-then-chambers-eq0-clause-total c P test join kept = sum_as_kept c.args.shares.now P c.args.self.now kept test
 
 pub returns-then-chambers-eq0-clause-small : goal.returns-then-chambers-eq0-clause-small
-returns-then-chambers-eq0-clause-small c = let has = c.requires.some in total_small c.args.shares.now has.partial c.args.self.now has.kept has.small
+returns-then-chambers-eq0-clause-small c = let has = c.requires.some in total_small c.args.shares.now has.partial c.args.self.now has.kept
 
 pub total_after-requires-clause-total : goal.total_after-requires-clause-total
-total_after-requires-clause-total c = let has = c.requires.some in total_small c.args.shares.now has.partial c.args.self.now has.kept has.small
+total_after-requires-clause-total c = let has = c.requires.some in total_small c.args.shares.now has.partial c.args.self.now has.kept
 
 pub total_after-requires-clause-had : goal.total_after-requires-clause-had
 total_after-requires-clause-had c =
     let has = c.requires.some in
     let t = c.args.shares.now in
-    let end = one_counted t c.args.self.now.ends c.args.x c.end-end.result c.end-end.ensures c.chambers.ensures c.if-chambers-eq0.false in
+    let end = one_counted t c.args.self.now.ends c.args.x.number c.end-end.result c.end-end.ensures c.chambers.ensures c.if-chambers-eq0.false in
     subst (λ w. w ≤ c.args.self.now.total) (sym c.weight-had.ensures.told) (weight_within t has.partial c.args.self.now has.kept end)
 
 pub returns-then-x-y-clause-total : goal.returns-then-x-y-clause-total
@@ -41,9 +41,9 @@ returns-then-x-y-clause-total c P test join kept =
     let has = c.requires.some in
     let t = c.args.shares.now in
     let side = c.args.self.now in
-    let end = one_counted t side.ends c.args.x c.end-end.result c.end-end.ensures c.chambers.ensures c.if-chambers-eq0.false in
-    sum_capped t P side kept end (few_in_path t has.partial side has.kept end has.small) c.capped.ensures.told.share c.capped.ensures.told.right test c.total_after.result
-    (subst (IsJoin (Passes P test) t.pair c.args.x) (sym c.if-x-y.true) join)
+    let end = one_counted t side.ends c.args.x.number c.end-end.result c.end-end.ensures c.chambers.ensures c.if-chambers-eq0.false in
+    sum_capped t P side kept end (few_in_path t has.partial side has.kept end) c.capped.ensures.told.share c.capped.ensures.told.right test c.total_after.result
+    (subst (IsJoin (Passes P test) t.pair c.args.x.number) (sym c.if-x-y.true) join)
     (summed t c.end-end.result.class.number _ _ c.capped.ensures.told.share c.total_after.result side.total c.weight-had.ensures.told c.capped.ensures.told.all c.total_after.ensures)
 
 pub returns-then-x-y-clause-small : goal.returns-then-x-y-clause-small
@@ -51,20 +51,20 @@ returns-then-x-y-clause-small c =
     let has = c.requires.some in
     let t = c.args.shares.now in
     let side = c.args.self.now in
-    let end = one_counted t side.ends c.args.x c.end-end.result c.end-end.ensures c.chambers.ensures c.if-chambers-eq0.false in
-    sum_small t has.partial (λ _. false) c.total_after.result has.small
-    (sum_capped t has.partial side has.kept end (few_in_path t has.partial side has.kept end has.small) c.capped.ensures.told.share c.capped.ensures.told.right (λ _. false) c.total_after.result
-    (join_of_none has.partial t.pair c.args.x c.args.x)
+    let end = one_counted t side.ends c.args.x.number c.end-end.result c.end-end.ensures c.chambers.ensures c.if-chambers-eq0.false in
+    sum_small t has.partial (λ _. false) c.total_after.result (size_small t has.partial side has.kept)
+    (sum_capped t has.partial side has.kept end (few_in_path t has.partial side has.kept end) c.capped.ensures.told.share c.capped.ensures.told.right (λ _. false) c.total_after.result
+    (join_of_none has.partial t.pair c.args.x.number c.args.x.number)
     (summed t c.end-end.result.class.number _ _ c.capped.ensures.told.share c.total_after.result side.total c.weight-had.ensures.told c.capped.ensures.told.all c.total_after.ensures))
 
 pub total_after-requires-then-end-y-clause-total : goal.total_after-requires-then-end-y-clause-total
-total_after-requires-then-end-y-clause-total c = let has = c.requires.some in total_small c.args.shares.now has.partial c.args.self.now has.kept has.small
+total_after-requires-then-end-y-clause-total c = let has = c.requires.some in total_small c.args.shares.now has.partial c.args.self.now has.kept
 
 pub total_after-requires-then-end-y-clause-had : goal.total_after-requires-then-end-y-clause-had
 total_after-requires-then-end-y-clause-had c =
     let has = c.requires.some in
     let t = c.args.shares.now in
-    let end = one_counted t c.args.self.now.ends c.args.x c.end-end.result c.end-end.ensures c.chambers.ensures c.if-chambers-eq0.false in
+    let end = one_counted t c.args.self.now.ends c.args.x.number c.end-end.result c.end-end.ensures c.chambers.ensures c.if-chambers-eq0.false in
     subst (λ w. w ≤ c.args.self.now.total) (sym c.weight-had.ensures.told) (weight_within t has.partial c.args.self.now has.kept end)
 
 pub returns-then-end-y-clause-total : goal.returns-then-end-y-clause-total
@@ -72,8 +72,8 @@ returns-then-end-y-clause-total c P test join kept =
     let has = c.requires.some in
     let t = c.args.shares.now in
     let side = c.args.self.now in
-    let end = one_counted t side.ends c.args.x c.end-end.result c.end-end.ensures c.chambers.ensures c.if-chambers-eq0.false in
-    sum_closed t P side kept end (few_in_path t has.partial side has.kept end has.small) c.args.y c.if-end-y.true (λ same. c.if-x-y.false (sym same))
+    let end = one_counted t side.ends c.args.x.number c.end-end.result c.end-end.ensures c.chambers.ensures c.if-chambers-eq0.false in
+    sum_closed t P side kept end (few_in_path t has.partial side has.kept end) c.args.y.number c.if-end-y.true (λ same. c.if-x-y.false (sym same))
     c.closed.ensures.told.share c.closed.ensures.told.right test c.total_after-then-end-y.result join
     (summed t c.end-end.result.class.number _ _ c.closed.ensures.told.share c.total_after-then-end-y.result side.total c.weight-had.ensures.told c.closed.ensures.told.all c.total_after-then-end-y.ensures)
 
@@ -82,47 +82,47 @@ returns-then-end-y-clause-small c =
     let has = c.requires.some in
     let t = c.args.shares.now in
     let side = c.args.self.now in
-    let end = one_counted t side.ends c.args.x c.end-end.result c.end-end.ensures c.chambers.ensures c.if-chambers-eq0.false in
-    sum_small t has.partial (λ _. false) c.total_after-then-end-y.result has.small
-    (sum_closed t has.partial side has.kept end (few_in_path t has.partial side has.kept end has.small) c.args.y c.if-end-y.true (λ same. c.if-x-y.false (sym same))
-    c.closed.ensures.told.share c.closed.ensures.told.right (λ _. false) c.total_after-then-end-y.result (join_of_none has.partial t.pair c.args.x c.args.y)
+    let end = one_counted t side.ends c.args.x.number c.end-end.result c.end-end.ensures c.chambers.ensures c.if-chambers-eq0.false in
+    sum_small t has.partial (λ _. false) c.total_after-then-end-y.result (size_small t has.partial side has.kept)
+    (sum_closed t has.partial side has.kept end (few_in_path t has.partial side has.kept end) c.args.y.number c.if-end-y.true (λ same. c.if-x-y.false (sym same))
+    c.closed.ensures.told.share c.closed.ensures.told.right (λ _. false) c.total_after-then-end-y.result (join_of_none has.partial t.pair c.args.x.number c.args.y.number)
     (summed t c.end-end.result.class.number _ _ c.closed.ensures.told.share c.total_after-then-end-y.result side.total c.weight-had.ensures.told c.closed.ensures.told.all c.total_after-then-end-y.ensures))
 
 pub returns-then-chambers-eq0-2-clause-total : goal.returns-then-chambers-eq0-2-clause-total
 returns-then-chambers-eq0-2-clause-total c P test join kept = sum_as_kept c.args.shares.now P c.args.self.now kept test
 
 pub returns-then-chambers-eq0-2-clause-small : goal.returns-then-chambers-eq0-2-clause-small
-returns-then-chambers-eq0-2-clause-small c = let has = c.requires.some in total_small c.args.shares.now has.partial c.args.self.now has.kept has.small
+returns-then-chambers-eq0-2-clause-small c = let has = c.requires.some in total_small c.args.shares.now has.partial c.args.self.now has.kept
 
 pub joined-requires : goal.joined-requires
 joined-requires c =
     let has = c.requires.some in
     let t = c.args.shares.now in
-    let two = two_ends t c.args.self.now.ends c.args.x c.args.y c.end-end.result c.end.result c.end-end.ensures c.end.ensures c.chambers.ensures c.chambers-2.ensures
+    let two = two_ends t c.args.self.now.ends c.args.x.number c.args.y.number c.end-end.result c.end.result c.end-end.ensures c.end.ensures c.chambers.ensures c.chambers-2.ensures
     c.if-chambers-eq0.false c.if-chambers-eq0-2.false c.if-x-y.false c.if-end-y.false in
-    let few = few_chambers t has.partial c.args.self.now has.kept two has.small in
+    let few = few_chambers t has.partial c.args.self.now has.kept two in
     record { few = omega (arith, few) }
 
 pub overflow_add-had : goal.overflow_add-had
 overflow_add-had c =
     let has = c.requires.some in
     let t = c.args.shares.now in
-    let two = two_ends t c.args.self.now.ends c.args.x c.args.y c.end-end.result c.end.result c.end-end.ensures c.end.ensures c.chambers.ensures c.chambers-2.ensures
+    let two = two_ends t c.args.self.now.ends c.args.x.number c.args.y.number c.end-end.result c.end.result c.end-end.ensures c.end.ensures c.chambers.ensures c.chambers-2.ensures
     c.if-chambers-eq0.false c.if-chambers-eq0-2.false c.if-x-y.false c.if-end-y.false in
     let within = weights_within t has.partial c.args.self.now has.kept two in
-    let total = total_small t has.partial c.args.self.now has.kept has.small in
+    let total = total_small t has.partial c.args.self.now has.kept in
     let one = c.weight-had.ensures.told in
     let other = c.weight.ensures.told in
     omega (arith, within, total, one, other)
 
 pub total_after-requires-2-clause-total : goal.total_after-requires-2-clause-total
-total_after-requires-2-clause-total c = let has = c.requires.some in total_small c.args.shares.now has.partial c.args.self.now has.kept has.small
+total_after-requires-2-clause-total c = let has = c.requires.some in total_small c.args.shares.now has.partial c.args.self.now has.kept
 
 pub total_after-requires-2-clause-had : goal.total_after-requires-2-clause-had
 total_after-requires-2-clause-had c =
     let has = c.requires.some in
     let t = c.args.shares.now in
-    let two = two_ends t c.args.self.now.ends c.args.x c.args.y c.end-end.result c.end.result c.end-end.ensures c.end.ensures c.chambers.ensures c.chambers-2.ensures
+    let two = two_ends t c.args.self.now.ends c.args.x.number c.args.y.number c.end-end.result c.end.result c.end-end.ensures c.end.ensures c.chambers.ensures c.chambers-2.ensures
     c.if-chambers-eq0.false c.if-chambers-eq0-2.false c.if-x-y.false c.if-end-y.false in
     let within = weights_within t has.partial c.args.self.now has.kept two in
     let one = c.weight-had.ensures.told in
@@ -134,9 +134,9 @@ returns-clause-total c P test join kept =
     let has = c.requires.some in
     let t = c.args.shares.now in
     let side = c.args.self.now in
-    let two = two_ends t side.ends c.args.x c.args.y c.end-end.result c.end.result c.end-end.ensures c.end.ensures c.chambers.ensures c.chambers-2.ensures
+    let two = two_ends t side.ends c.args.x.number c.args.y.number c.end-end.result c.end.result c.end-end.ensures c.end.ensures c.chambers.ensures c.chambers-2.ensures
     c.if-chambers-eq0.false c.if-chambers-eq0-2.false c.if-x-y.false c.if-end-y.false in
-    sum_connected t P side kept two (few_chambers t has.partial side has.kept two has.small) c.joined.ensures.told.share c.joined.ensures.told.right test c.total_after-2.result join
+    sum_connected t P side kept two (few_chambers t has.partial side has.kept two) c.joined.ensures.told.share c.joined.ensures.told.right test c.total_after-2.result join
     (summed_both t c.end-end.result.class.number c.end.result.class.number _ _ _ c.joined.ensures.told.share c.total_after-2.result side.total
     c.weight-had.ensures.told c.weight.ensures.told c.joined.ensures.told.all c.total_after-2.ensures)
 
@@ -145,10 +145,10 @@ returns-clause-small c =
     let has = c.requires.some in
     let t = c.args.shares.now in
     let side = c.args.self.now in
-    let two = two_ends t side.ends c.args.x c.args.y c.end-end.result c.end.result c.end-end.ensures c.end.ensures c.chambers.ensures c.chambers-2.ensures
+    let two = two_ends t side.ends c.args.x.number c.args.y.number c.end-end.result c.end.result c.end-end.ensures c.end.ensures c.chambers.ensures c.chambers-2.ensures
     c.if-chambers-eq0.false c.if-chambers-eq0-2.false c.if-x-y.false c.if-end-y.false in
-    sum_small t has.partial (λ _. false) c.total_after-2.result has.small
-    (sum_connected t has.partial side has.kept two (few_chambers t has.partial side has.kept two has.small) c.joined.ensures.told.share c.joined.ensures.told.right (λ _. false) c.total_after-2.result
-    (join_of_none has.partial t.pair c.args.x c.args.y)
+    sum_small t has.partial (λ _. false) c.total_after-2.result (size_small t has.partial side has.kept)
+    (sum_connected t has.partial side has.kept two (few_chambers t has.partial side has.kept two) c.joined.ensures.told.share c.joined.ensures.told.right (λ _. false) c.total_after-2.result
+    (join_of_none has.partial t.pair c.args.x.number c.args.y.number)
     (summed_both t c.end-end.result.class.number c.end.result.class.number _ _ _ c.joined.ensures.told.share c.total_after-2.result side.total
     c.weight-had.ensures.told c.weight.ensures.told c.joined.ensures.told.all c.total_after-2.ensures))

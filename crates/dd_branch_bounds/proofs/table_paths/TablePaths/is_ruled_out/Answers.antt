@@ -38,7 +38,7 @@ returns-then-is_too_small c _ s sought has =
     let image = image_of P c.args.place c.args.number c.told-link.result told.index told.chamber told.image in
     let sums = c.totals_with-tiles in
     let is = completing P c.args.place c.args.number s sought.completes has in
-    none_of_bounds c.args.classes.now.request s c.size.result sums.result.0 sums.result.1 sought.wanted (sought.completes.size ∙ sym c.size.ensures)
+    none_of_bounds c.args.classes.now.request s c.size.result sums.result.0 sums.result.1 sought.wanted (sought.completes.size ∙ sym c.size.ensures.size)
     (sums.ensures.tiles P test c.requires.kept image s sought.wanted is (c.requires.bounds.tiles_within s sought))
     (sums.ensures.vertices P test c.requires.kept image s sought.wanted is (c.requires.bounds.vertices_within s sought))
     (c.is_too_small.ensures c.if-is_too_small.true)
@@ -60,7 +60,7 @@ returns c small s sought has =
     let sums = c.totals_with-tiles in
     let kept = c.requires.kept in
     let is = completing P c.args.place c.args.number s sought.completes has in
-    none_of_bounds c.args.classes.now.request s c.size-2.result c.in-Some.cells c.in-Some.corners sought.wanted (sought.completes.size ∙ sym c.size-2.ensures)
+    none_of_bounds c.args.classes.now.request s c.size-2.result c.in-Some.cells c.in-Some.corners sought.wanted (sought.completes.size ∙ sym c.size-2.ensures.size)
     (c.in-Some.ensures.tiles P test kept image s sought.wanted is (sums.ensures.tiles P test kept image s sought.wanted is (c.requires.bounds.tiles_within s sought)))
     (c.in-Some.ensures.vertices P test kept image s sought.wanted is (sums.ensures.vertices P test kept image s sought.wanted is (c.requires.bounds.vertices_within s sought)))
     (c.is_too_small-2.ensures small)

@@ -21,7 +21,7 @@ pub returns-in-Zero-clause-kept : goal.returns-in-Zero-clause-kept
 returns-in-Zero-clause-kept c P image kept =
     let t = c.args.classes.now in record {
       tiles = c.join.ensures.side P
-          (joins P t.tiles.pair c.args.link.now c.flags-first.result.0 c.flags-first.result.1 0 (c.in-Zero.is ∙ sym (ap first t.tiles_pair)) (omega arith)
+          (joins P t.tiles.pair c.args.link.now c.flags-first.result.0.number c.flags-first.result.1.number 0 (c.in-Zero.is ∙ sym (ap first t.tiles_pair)) (omega arith)
           c.flags-first.ensures.first c.flags-first.ensures.second image)
           kept.tiles;
       vertices = kept.vertices;
@@ -31,7 +31,7 @@ pub returns-in-Zero-clause-dead : goal.returns-in-Zero-clause-dead
 returns-in-Zero-clause-dead c none P image kept s sought =
     let t = c.args.classes.now in
     c.join.ensures.dead none P
-    (joins P t.tiles.pair c.args.link.now c.flags-first.result.0 c.flags-first.result.1 0 (c.in-Zero.is ∙ sym (ap first t.tiles_pair)) (omega arith)
+    (joins P t.tiles.pair c.args.link.now c.flags-first.result.0.number c.flags-first.result.1.number 0 (c.in-Zero.is ∙ sym (ap first t.tiles_pair)) (omega arith)
     c.flags-first.ensures.first c.flags-first.ensures.second image)
     kept.tiles s (subst (λ q. IsSought q P s) (sym t.tiles_asked) sought)
 
@@ -39,11 +39,11 @@ pub returns-then-join-clause-kept : goal.returns-then-join-clause-kept
 returns-then-join-clause-kept c P image kept =
     let t = c.args.classes.now in record {
       tiles = c.join-in-One.ensures.side P
-          (joins P t.tiles.pair c.args.link.now c.flags-second.result.0 c.flags-second.result.1 1 (c.in-One.is ∙ sym (ap second t.tiles_pair)) (omega arith)
+          (joins P t.tiles.pair c.args.link.now c.flags-second.result.0.number c.flags-second.result.1.number 1 (c.in-One.is ∙ sym (ap second t.tiles_pair)) (omega arith)
           c.flags-second.ensures.first c.flags-second.ensures.second image)
           kept.tiles;
       vertices = c.join-then-join.ensures.side P
-          (joins P t.vertices.pair c.args.link.now c.flags-first.result.0 c.flags-first.result.1 0 (c.in-One.is ∙ sym (ap first t.vertices_pair)) (omega arith)
+          (joins P t.vertices.pair c.args.link.now c.flags-first.result.0.number c.flags-first.result.1.number 0 (c.in-One.is ∙ sym (ap first t.vertices_pair)) (omega arith)
           c.flags-first.ensures.first c.flags-first.ensures.second image)
           kept.vertices;
     }
@@ -52,7 +52,7 @@ pub returns-then-join-clause-dead : goal.returns-then-join-clause-dead
 returns-then-join-clause-dead c none P image kept s sought =
     let t = c.args.classes.now in
     c.join-then-join.ensures.dead none P
-    (joins P t.vertices.pair c.args.link.now c.flags-first.result.0 c.flags-first.result.1 0 (c.in-One.is ∙ sym (ap first t.vertices_pair)) (omega arith)
+    (joins P t.vertices.pair c.args.link.now c.flags-first.result.0.number c.flags-first.result.1.number 0 (c.in-One.is ∙ sym (ap first t.vertices_pair)) (omega arith)
     c.flags-first.ensures.first c.flags-first.ensures.second image)
     kept.vertices s (subst (λ q. IsSought q P s) (sym t.vertices_asked) sought)
 
@@ -60,7 +60,7 @@ pub returns-else-join-clause-kept : goal.returns-else-join-clause-kept
 returns-else-join-clause-kept c P image kept =
     let t = c.args.classes.now in record {
       tiles = c.join-in-One.ensures.side P
-          (joins P t.tiles.pair c.args.link.now c.flags-second.result.0 c.flags-second.result.1 1 (c.in-One.is ∙ sym (ap second t.tiles_pair)) (omega arith)
+          (joins P t.tiles.pair c.args.link.now c.flags-second.result.0.number c.flags-second.result.1.number 1 (c.in-One.is ∙ sym (ap second t.tiles_pair)) (omega arith)
           c.flags-second.ensures.first c.flags-second.ensures.second image)
           kept.tiles;
       vertices = kept.vertices;
@@ -70,7 +70,7 @@ pub returns-else-join-clause-dead : goal.returns-else-join-clause-dead
 returns-else-join-clause-dead c none P image kept s sought =
     let t = c.args.classes.now in
     c.join-in-One.ensures.dead none P
-    (joins P t.tiles.pair c.args.link.now c.flags-second.result.0 c.flags-second.result.1 1 (c.in-One.is ∙ sym (ap second t.tiles_pair)) (omega arith)
+    (joins P t.tiles.pair c.args.link.now c.flags-second.result.0.number c.flags-second.result.1.number 1 (c.in-One.is ∙ sym (ap second t.tiles_pair)) (omega arith)
     c.flags-second.ensures.first c.flags-second.ensures.second image)
     kept.tiles s (subst (λ q. IsSought q P s) (sym t.tiles_asked) sought)
 
@@ -79,7 +79,7 @@ returns-in-Two-clause-kept c P image kept =
     let t = c.args.classes.now in record {
       tiles = kept.tiles;
       vertices = c.join-in-Two.ensures.side P
-          (joins P t.vertices.pair c.args.link.now c.flags-second.result.0 c.flags-second.result.1 1 (c.in-Two.is ∙ sym (ap second t.vertices_pair)) (omega arith)
+          (joins P t.vertices.pair c.args.link.now c.flags-second.result.0.number c.flags-second.result.1.number 1 (c.in-Two.is ∙ sym (ap second t.vertices_pair)) (omega arith)
           c.flags-second.ensures.first c.flags-second.ensures.second image)
           kept.vertices;
     }
@@ -88,6 +88,6 @@ pub returns-in-Two-clause-dead : goal.returns-in-Two-clause-dead
 returns-in-Two-clause-dead c none P image kept s sought =
     let t = c.args.classes.now in
     c.join-in-Two.ensures.dead none P
-    (joins P t.vertices.pair c.args.link.now c.flags-second.result.0 c.flags-second.result.1 1 (c.in-Two.is ∙ sym (ap second t.vertices_pair)) (omega arith)
+    (joins P t.vertices.pair c.args.link.now c.flags-second.result.0.number c.flags-second.result.1.number 1 (c.in-Two.is ∙ sym (ap second t.vertices_pair)) (omega arith)
     c.flags-second.ensures.first c.flags-second.ensures.second image)
     kept.vertices s (subst (λ q. IsSought q P s) (sym t.vertices_asked) sought)

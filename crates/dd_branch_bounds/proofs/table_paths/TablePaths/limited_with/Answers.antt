@@ -10,7 +10,7 @@ returns-in_default-clause-none c P test kept image s wanted is =
     let t = c.args.classes.now in
     let link = c.args.link.now in
     c.in_default.ensures.none P test
-    (join_of_image (Passes P test) Tile link.index c.flags-first.result.0 c.flags-first.result.1 link.chamber link.image 0
+    (join_of_image (Passes P test) Tile link.index c.flags-first.result.0.number c.flags-first.result.1.number link.chamber link.image 0
     c.in-Zero.is (omega arith) c.flags-first.ensures.first c.flags-first.ensures.second image)
     kept.tiles s (subst (λ q. Wanted q s) (sym t.tiles_asked) wanted) is
 
@@ -19,7 +19,7 @@ returns-in-Some-clause-tiles c P test kept image s wanted is bound =
     let t = c.args.classes.now in
     let link = c.args.link.now in
     c.in-Some.ensures.bound P test
-    (join_of_image (Passes P test) Tile link.index c.flags-first.result.0 c.flags-first.result.1 link.chamber link.image 0
+    (join_of_image (Passes P test) Tile link.index c.flags-first.result.0.number c.flags-first.result.1.number link.chamber link.image 0
     c.in-Zero.is (omega arith) c.flags-first.ensures.first c.flags-first.ensures.second image)
     kept.tiles s (subst (λ q. Wanted q s) (sym t.tiles_asked) wanted) is bound
 
@@ -28,7 +28,7 @@ returns-in_default-limited_with-clause-none c P test kept image s wanted is =
     let t = c.args.classes.now in
     let link = c.args.link.now in
     c.in_default-limited_with.ensures.none P test
-    (join_of_image (Passes P test) Tile link.index c.flags-second.result.0 c.flags-second.result.1 link.chamber link.image 1
+    (join_of_image (Passes P test) Tile link.index c.flags-second.result.0.number c.flags-second.result.1.number link.chamber link.image 1
     c.in-One.is (omega arith) c.flags-second.ensures.first c.flags-second.ensures.second image)
     kept.tiles s (subst (λ q. Wanted q s) (sym t.tiles_asked) wanted) is
 
@@ -37,7 +37,7 @@ returns-in_default-limited_with-2-clause-none c P test kept image s wanted is =
     let t = c.args.classes.now in
     let link = c.args.link.now in
     c.in_default-limited_with-2.ensures.none P test
-    (join_of_image (Passes P test) Vertex link.index c.flags-first.result.0 c.flags-first.result.1 link.chamber link.image 0
+    (join_of_image (Passes P test) Vertex link.index c.flags-first.result.0.number c.flags-first.result.1.number link.chamber link.image 0
     c.in-One.is (omega arith) c.flags-first.ensures.first c.flags-first.ensures.second image)
     kept.vertices s (subst (λ q. Wanted q s) (sym t.vertices_asked) wanted) is
 
@@ -46,7 +46,7 @@ returns-in-Some-limited_with-2-clause-tiles c P test kept image s wanted is boun
     let t = c.args.classes.now in
     let link = c.args.link.now in
     c.in-Some-limited_with.ensures.bound P test
-    (join_of_image (Passes P test) Tile link.index c.flags-second.result.0 c.flags-second.result.1 link.chamber link.image 1
+    (join_of_image (Passes P test) Tile link.index c.flags-second.result.0.number c.flags-second.result.1.number link.chamber link.image 1
     c.in-One.is (omega arith) c.flags-second.ensures.first c.flags-second.ensures.second image)
     kept.tiles s (subst (λ q. Wanted q s) (sym t.tiles_asked) wanted) is bound
 
@@ -55,7 +55,7 @@ returns-in-Some-limited_with-2-clause-vertices c P test kept image s wanted is b
     let t = c.args.classes.now in
     let link = c.args.link.now in
     c.in-Some-limited_with-2.ensures.bound P test
-    (join_of_image (Passes P test) Vertex link.index c.flags-first.result.0 c.flags-first.result.1 link.chamber link.image 0
+    (join_of_image (Passes P test) Vertex link.index c.flags-first.result.0.number c.flags-first.result.1.number link.chamber link.image 0
     c.in-One.is (omega arith) c.flags-first.ensures.first c.flags-first.ensures.second image)
     kept.vertices s (subst (λ q. Wanted q s) (sym t.vertices_asked) wanted) is bound
 
@@ -64,7 +64,7 @@ returns-in_default-limited_with-3-clause-none c P test kept image s wanted is =
     let t = c.args.classes.now in
     let link = c.args.link.now in
     c.in_default-limited_with-3.ensures.none P test
-    (join_of_image (Passes P test) Vertex link.index c.flags-second.result.0 c.flags-second.result.1 link.chamber link.image 1
+    (join_of_image (Passes P test) Vertex link.index c.flags-second.result.0.number c.flags-second.result.1.number link.chamber link.image 1
     c.in-Two.is (omega arith) c.flags-second.ensures.first c.flags-second.ensures.second image)
     kept.vertices s (subst (λ q. Wanted q s) (sym t.vertices_asked) wanted) is
 
@@ -73,6 +73,6 @@ returns-in-Some-limited_with-3-clause-vertices c P test kept image s wanted is b
     let t = c.args.classes.now in
     let link = c.args.link.now in
     c.in-Some-limited_with-3.ensures.bound P test
-    (join_of_image (Passes P test) Vertex link.index c.flags-second.result.0 c.flags-second.result.1 link.chamber link.image 1
+    (join_of_image (Passes P test) Vertex link.index c.flags-second.result.0.number c.flags-second.result.1.number link.chamber link.image 1
     c.in-Two.is (omega arith) c.flags-second.ensures.first c.flags-second.ensures.second image)
     kept.vertices s (subst (λ q. Wanted q s) (sym t.vertices_asked) wanted) is bound

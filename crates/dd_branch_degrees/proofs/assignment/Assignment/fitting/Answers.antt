@@ -14,14 +14,8 @@ inside c =
     let small = c.requires.ready.table.small in
     omega (arith, len, room, small)
 
-pub fitting-requires-clause-least : goal.fitting-requires-clause-least
-fitting-requires-clause-least c = let low = inside c in let all = c.requires.ready.rests.least_numbers in omega (arith, low, all)
-
-pub fitting-requires-clause-most : goal.fitting-requires-clause-most
-fitting-requires-clause-most c = let low = inside c in let all = c.requires.ready.rests.most_numbers in omega (arith, low, all)
-
-pub fitting-requires-clause-surplus : goal.fitting-requires-clause-surplus
-fitting-requires-clause-surplus c = let low = inside c in let all = c.requires.ready.rests.surplus_numbers in omega (arith, low, all)
+pub fitting-requires-clause-later : goal.fitting-requires-clause-later
+fitting-requires-clause-later c = let low = inside c in omega (arith, low)
 
 pub fitting-requires-clause-small : goal.fitting-requires-clause-small
 fitting-requires-clause-small c =

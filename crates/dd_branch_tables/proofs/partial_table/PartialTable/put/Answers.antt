@@ -17,8 +17,8 @@ returns-then-number-eq0-clause-clash c s full has =
     let low = w.0 in
     omega arith
 
-pub returns-then-number-self-clause-clash : goal.returns-then-number-self-clause-clash
-returns-then-number-self-clause-clash c s full has =
+pub returns-then-number-size-clause-clash : goal.returns-then-number-size-clause-clash
+returns-then-number-size-clause-clash c s full has =
     let w = image_inside (partial_of c.args.self.now) s c.args.place c.args.number full c.requires.place has.1 in
     let high = w.1 in
     omega arith

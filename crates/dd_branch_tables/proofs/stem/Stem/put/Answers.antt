@@ -1,7 +1,6 @@
 use Rattle.std.proofs.Common.{sym, subst}
-use Rattle.dd_branch_tables.specs.Rows.{partial_of, HasNumberAt, Learns}
+use Rattle.dd_branch_tables.specs.Rows.{Rows, partial_of, HasNumberAt, Learns}
 use Rattle.dd_branch_tables.specs.Stem.{Any, prefix_of, size_of, IsStem}
-use Rattle.dd_branch_tables.specs.declared.partial_table.PartialTable.{PartialTable}
 use Rattle.dd_branch_tables.specs.declared.stem.Stem.{Stem}
 use Rattle.dd_branch_tables.proofs.Follows.{Puts, none_put}
 use Rattle.dd_branch_tables.proofs.Stems.{IsGrown, grown_stem, grown_shortened}
@@ -32,5 +31,5 @@ returns-clause-undone c = grown_shortened c.args.self.now _ c.args.number (grown
 
 pub returns-then-not-put-clause-stem : goal.returns-then-not-put-clause-stem
 returns-then-not-put-clause-stem c =
-    let at : PartialTable → Stem = λ r. record { rows = r; prefix = c.args.self.now.prefix } in
+    let at : Rows → Stem = λ r. record { rows = r; prefix = c.args.self.now.prefix } in
     subst (λ r. IsStem (at r)) (sym c.if-not-put.ensures.same) c.requires.stem
