@@ -129,6 +129,7 @@ pub ready_split : (q : Request) (f g : Machine) → IsSplit q f g → IsReady q 
 ready_split q f g split ready =
     let pairs = split_pairs q f g split (part_pairs (jobs_of f.entries) ready.ascending ready.apart) in
     record {
+      valid = ready.valid;
       request = split.request ∙ ready.request;
       jobs = split_jobs q f g split ready.jobs;
       ascending = pairs_ascending_jobs (jobs_of g.entries) pairs;

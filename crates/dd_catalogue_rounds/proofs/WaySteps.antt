@@ -7,6 +7,7 @@ use Rattle.std.specs.Io.KnownBytes.{Appends}
 use Rattle.std.specs.List.{AllByRecursion, Contains}
 use Rattle.std.specs.Bool.{OnTrue, OnFalse}
 use Rattle.std.specs.Option.{is_some}
+use Rattle.dd_model.specs.Request.{IsValid}
 use Rattle.dd_model.specs.Symbol.{Symbol}
 use Rattle.dd_model.specs.Code.{code}
 use Rattle.dd_model.specs.Joined.{IsPartBelow}
@@ -130,10 +131,11 @@ way_jobs w now page f way =
     all_back (IsJobOf w.start.portion.request) way.emitted.gone (jobs_of f.entries) (subst (AreJobsOf w.start.portion.request) way.emitted.jobs_are way.emitted.all)
 
 -- it can do a round, where all its entries wait
-pub way_ready : (q : Request) (w : Way) (now : Option (List ℕ)) (page : Page) (f : Machine) → w.start.portion.request ≡ q → IsUnderWay w now page f → AreOpen f.entries → IsReady q f
-way_ready q w now page f same way opens =
+pub way_ready : (q : Request) (w : Way) (now : Option (List ℕ)) (page : Page) (f : Machine) → w.start.portion.request ≡ q → IsUnderWay w now page f → AreOpen f.entries → IsValid q → IsReady q f
+way_ready q w now page f same way opens valid =
     let held = way.emitted.held in
     record {
+      valid = valid;
       request = held.request ∙ same;
       jobs = subst (λ r. AreJobsOf r (jobs_of f.entries)) same (way_jobs w now page f way);
       ascending = held.go_on.ascending_jobs;

@@ -4,6 +4,7 @@ use Rattle.std.specs.List.{AllByRecursion}
 use Rattle.dd_model.specs.Symbol.{Symbol}
 use Rattle.dd_model.specs.Position.{IsWhollyBefore}
 use Rattle.dd_model.specs.Jobs.{AreAscendingJobs, AreApart, AreChildren}
+use Rattle.dd_model.specs.Request.{IsValid}
 use Rattle.dd_model.specs.declared.requests.Request.{Request}
 use Rattle.dd_model.specs.declared.jobs.Job.{Job}
 use Rattle.dd_model.specs.declared.jobs.Position.{Position}
@@ -16,8 +17,9 @@ use Rattle.dd_front.specs.Numbers.{AreNumbered}
 use Rattle.dd_board.specs.Desk.{AreJobsOf}
 use Rattle.dd_pages_and_checkpoints.specs.Rounds.{AreOpen, IsRoundDone}
 
--- a machine that can do a round of a request: its jobs are of it, ascending and apart, and all wait
+-- a machine that can do a round of a valid request: its jobs are of it, ascending and apart, and all wait
 pub record IsReady (q : Request) (f : Machine) : Type 0 where
+  pub valid : IsValid q
   pub request : f.request ≡ q
   pub jobs : AreJobsOf q (jobs_of f.entries)
   pub ascending : AreAscendingJobs (jobs_of f.entries)

@@ -1,6 +1,4 @@
 ghost use Rattle.std.specs.Prelude.{◌≡◌, ◌≤◌, ℕ, List, true};
-ghost use Rattle.dd_model.specs.Request.{IsValid};
-ghost use Rattle.dd_model.specs.Position.{IsPosition};
 ghost use Rattle.dd_ports.specs.declared.sink.SinkFault.TheVariants.{Failed};
 ghost use Rattle.dd_ports.specs.Causes.{HasCause, StaysSure};
 ghost use Rattle.dd_pages_and_checkpoints.specs.Runs.{start_of};
@@ -27,8 +25,6 @@ pub fn write_catalogue<R: Threads + Wait + Sync, F: Finder + Sync, G: Gate + Syn
     out: &mut O,
 ) -> Result<Finish, SinkFault>
     requires request { F.request finder.old ≡ run.now.portion.request }
-    requires valid { IsValid run.now.portion.request }
-    requires position { IsPosition run.now.at }
     ensures request { F.request finder.new ≡ F.request finder.old }
     ensures output { (output : List ℕ) × IsOutput (start_of run.now) run.now.pause
         (O.held out.old) (O.held out.new) result output }
@@ -53,7 +49,6 @@ fn write_rounds<R: Threads + Wait + Sync, F: Finder + Sync, G: Gate + Sync, O: S
     out: &mut O,
 ) -> Result<Finish, SinkFault>
     requires request { F.request finder.old ≡ run.now.portion.request }
-    requires valid { IsValid run.now.portion.request }
     requires begun { IsBegun (start_of run.now) front.old }
     requires empty { IsEmpty page.old }
     requires count { page.old.count ≡ run.now.lines }

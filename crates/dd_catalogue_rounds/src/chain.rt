@@ -1,11 +1,8 @@
 ghost use Rattle.std.specs.Prelude.{◌≡◌, ◌≤◌, ◌<◌, ℕ, Bool, List, Option, if◌then◌else◌, IfOk, OnOk, MatchBool, MatchOption, true, false};
 ghost use Rattle.std.specs.Bool.{OnTrue, OnFalse};
-ghost use Rattle.dd_model.specs.Request.{IsValid};
-ghost use Rattle.dd_model.specs.Position.{IsPosition};
 ghost use Rattle.dd_ports.specs.declared.sink.SinkFault.TheVariants.{Failed};
 ghost use Rattle.dd_ports.specs.Causes.{HasCause, StaysSure};
 ghost use Rattle.dd_ports.specs.Texts.{SameOthers};
-ghost use Rattle.dd_check.specs.ChainStarts.{first_start};
 ghost use Rattle.dd_check.specs.Clauses.{HasWork};
 ghost use Rattle.dd_pages_and_checkpoints.specs.declared.fault.RunFault.TheVariants.{Store as StoreFailed, Sink as SinkFailed};
 ghost use Rattle.dd_pages_and_checkpoints.specs.Pages.{IsEmpty};
@@ -54,9 +51,6 @@ pub fn write_run<R: Threads + Wait + Sync, F: Finder + Sync, G: Gate + Sync, S: 
     out: &mut O,
 ) -> Result<Finish, RunFault>
     requires request { F.request finder.old ≡ run.now.portion.request }
-    requires valid { IsValid run.now.portion.request }
-    requires position { IsPosition run.now.at }
-    requires first { run.now.number ≡ 1 → start_of run.now ≡ first_start run.now.portion }
     ensures request { F.request finder.new ≡ F.request finder.old }
     ensures run { HasRun (start_of run.now) run.now.pace.round run.now.pause
         (O.held out.old) (O.held out.new)
@@ -93,8 +87,6 @@ fn keep_rounds<R: Threads + Wait + Sync, F: Finder + Sync, G: Gate + Sync, S: St
     out: &mut O,
 ) -> Result<Finish, RunFault>
     requires request { F.request finder.old ≡ run.now.portion.request }
-    requires valid { IsValid run.now.portion.request }
-    requires first { run.now.number ≡ 1 → start_of run.now ≡ first_start run.now.portion }
     requires begun { IsStarted (start_of run.now) output.old.front }
     requires empty { IsEmpty output.old.page }
     requires count { output.old.page.count ≡ run.now.lines }

@@ -1,6 +1,5 @@
 ghost use Rattle.std.specs.Bool.{OnTrue, OnFalse};
 ghost use Rattle.std.specs.Prelude.{◌≡◌, ◌*◌, ◌<◌, IsTrue, IfOk, OnOk, MatchBool, length};
-ghost use Rattle.dd_model.specs.Request.{IsValid};
 ghost use Rattle.dd_catalogue_rounds.specs.Splits.{IsReady, IsSplit, IsRefined, IsNoLonger, IsToSplit};
 
 use dd_front::{Event, Finder, Front, JobList};
@@ -120,7 +119,6 @@ fn is_to_split(front: &Front, job: &Job) -> Result<bool, Memory>
 
 /// Puts the children of the first job in its place, if it is large, and returns whether it did.
 fn split_first<F: Finder>(alloc: Global, finder: &mut F, front: &mut Front) -> Result<bool, Memory>
-    requires valid { IsValid (F.request finder.old) }
     requires ready { IsReady (F.request finder.old) front.old }
     ensures request { F.request finder.new ≡ F.request finder.old }
     ensures split { IfOk result (λ more. MatchBool more
@@ -157,7 +155,6 @@ pub fn split_large<F: Finder>(
     finder: &mut F,
     front: &mut Front,
 ) -> Result<(), Memory>
-    requires valid { IsValid (F.request finder.old) }
     requires ready { IsReady (F.request finder.old) front.old }
     ensures request { F.request finder.new ≡ F.request finder.old }
     ensures refined { OnOk result (IsRefined (F.request finder.old) front.old front.new) }

@@ -1,5 +1,4 @@
 ghost use Rattle.std.specs.Prelude.{◌≡◌, IfOk};
-ghost use Rattle.dd_model.specs.Request.{IsValid};
 ghost use Rattle.dd_catalogue_rounds.specs.Works.{IsStarting};
 
 use crate::parts::is_large;
@@ -21,7 +20,6 @@ fn cut_first<F: Finder>(
     mut jobs: Vec<Job>,
 ) -> Result<Vec<Job>, Memory>
     requires request { F.request finder.old ≡ run.now.portion.request }
-    requires valid { IsValid run.now.portion.request }
     requires starting { IsStarting run.now.portion run.now.at jobs.items }
     ensures request { F.request finder.new ≡ F.request finder.old }
     ensures starting { IfOk result
@@ -52,7 +50,6 @@ pub fn parts_from<F: Finder>(
     jobs: Vec<Job>,
 ) -> Result<Vec<Job>, Memory>
     requires request { F.request finder.old ≡ run.now.portion.request }
-    requires valid { IsValid run.now.portion.request }
     requires starting { IsStarting run.now.portion run.now.at jobs.items }
     ensures request { F.request finder.new ≡ F.request finder.old }
     ensures starting { IfOk result

@@ -5,7 +5,7 @@ ghost use Rattle.dd_model.specs.Jobs.{IsJobOf, AreAscendingJobs, AreApart};
 ghost use Rattle.std.specs.List.{AllByRecursion};
 ghost use Rattle.dd_front.specs.Allowed.{HasFirst};
 ghost use Rattle.dd_model.specs.Lists.{IsWithout};
-ghost use Rattle.dd_model.specs.Position.{IsPosition, IsWhollyBefore};
+ghost use Rattle.dd_model.specs.Position.{IsWhollyBefore};
 ghost use Rattle.dd_front.specs.Machine.{StandsAt, IsOpened};
 ghost use Rattle.dd_model.specs.declared.jobs.Position.{Position as Place};
 ghost use Rattle.dd_pages_and_checkpoints.specs.Runs.{start_of};
@@ -62,8 +62,6 @@ pub fn jobs_from(mut jobs: Vec<Job>, at: &Position) -> Vec<Job>
 
 /// Opens a front with these jobs at the place where a run begins.
 fn open_front(alloc: Global, run: &Run, jobs: Vec<Job>) -> Result<Front, Memory>
-    requires valid { IsValid run.now.portion.request }
-    requires position { IsPosition run.now.at }
     requires ascending { AreAscendingJobs jobs.items }
     requires apart { AreApart jobs.items }
     ensures { IfOk result
@@ -81,8 +79,6 @@ fn open_front(alloc: Global, run: &Run, jobs: Vec<Job>) -> Result<Front, Memory>
 /// Returns a front with the jobs of a run.
 pub fn front_of<F: Finder>(alloc: Global, finder: &mut F, run: &Run) -> Result<Front, Memory>
     requires request { F.request finder.old ≡ run.now.portion.request }
-    requires valid { IsValid run.now.portion.request }
-    requires position { IsPosition run.now.at }
     ensures request { F.request finder.new ≡ F.request finder.old }
     ensures started { IfOk result (IsStarted (start_of run.now)) }
 {
@@ -112,8 +108,6 @@ fn whole_sizes(alloc: Global, request: &Request) -> Result<Vec<Job>, Memory>
 /// jobs.
 pub fn lone_front_of<F: Finder>(alloc: Global, finder: &mut F, run: &Run) -> Result<Front, Memory>
     requires request { F.request finder.old ≡ run.now.portion.request }
-    requires valid { IsValid run.now.portion.request }
-    requires position { IsPosition run.now.at }
     ensures request { F.request finder.new ≡ F.request finder.old }
     ensures begun { IfOk result (IsBegun (start_of run.now)) }
 {
@@ -187,7 +181,6 @@ pub fn do_long_round<R: Threads + Wait + Sync, F: Finder + Sync, G: Gate + Sync>
     pace: Pace,
     front: &mut Front,
 ) -> Result<bool, Memory>
-    requires valid { IsValid (F.request finder.old) }
     requires ready { IsReady (F.request finder.old) front.old }
     ensures request { F.request finder.new ≡ F.request finder.old }
     ensures round { IfOk result (λ more. MatchBool more
@@ -211,7 +204,6 @@ pub fn do_kept_round<R: Threads + Wait + Sync, F: Finder + Sync, G: Gate + Sync>
     pace: Pace,
     front: &mut Front,
 ) -> Result<bool, Memory>
-    requires valid { IsValid (F.request finder.old) }
     requires ready { IsReady (F.request finder.old) front.old }
     ensures request { F.request finder.new ≡ F.request finder.old }
     ensures round { IfOk result (λ more. MatchBool more
@@ -248,7 +240,6 @@ fn do_round_alone<F: Finder, G: Gate>(
     front: &mut Front,
 ) -> Result<bool, Memory>
     requires round { 1 ≤ most }
-    requires valid { IsValid (F.request finder.old) }
     requires ready { IsReady (F.request finder.old) front.old }
     ensures request { F.request finder.new ≡ F.request finder.old }
     ensures round { IfOk result (λ more. MatchBool more (IsRoundDone most front.old front.new)
@@ -272,7 +263,6 @@ pub fn do_round<R: Threads + Wait + Sync, F: Finder + Sync, G: Gate + Sync>(
     pace: Pace,
     front: &mut Front,
 ) -> Result<bool, Memory>
-    requires valid { IsValid (F.request finder.old) }
     requires ready { IsReady (F.request finder.old) front.old }
     ensures request { F.request finder.new ≡ F.request finder.old }
     ensures round { IfOk result (λ more. MatchBool more (IsRoundDone pace.round front.old front.new)

@@ -1,4 +1,4 @@
-mod ValidRequests
+pub mod ValidRequests
 pub mod Placed
 pub mod Replaced
 mod Kept

@@ -1,4 +1,7 @@
 ghost use Rattle.std.specs.Prelude.{◌≡◌, ◌≤◌, IfOk};
+ghost use Rattle.dd_model.specs.Request.{IsValid};
+ghost use Rattle.dd_model.specs.Position.{IsPosition};
+ghost use Rattle.dd_model.specs.Text.{beginning};
 ghost use Rattle.dd_pages_and_checkpoints.specs.MostLines.{most_lines};
 
 use crate::limit::{Limit, MOST_LINES};
@@ -22,6 +25,9 @@ pub struct Run {
     /// After how many lines it is to pause.
     pub pause: Option<u32>,
     ghost few_lines: { lines ≤ most_lines },
+    ghost valid: { ∥ IsValid portion.request ∥₁ },
+    ghost position: { ∥ IsPosition at ∥₁ },
+    ghost begins: { number ≡ 1 → (at ≡ beginning) × (lines ≡ 0) },
 }
 
 impl Run {
@@ -35,6 +41,7 @@ impl Run {
         pace: Pace,
         pause: Option<u32>,
     ) -> Result<Run, Memory>
+        requires { IsValid portion.request }
         ensures start { IfOk result (λ run. start_of run ≡ first_start portion) }
         ensures pace { IfOk result (λ run. run.pace ≡ pace) }
         ensures pause { IfOk result (λ run. run.pause ≡ pause) }

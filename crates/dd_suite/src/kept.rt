@@ -1,8 +1,6 @@
 ghost use Rattle.std.specs.Prelude.{◌≡◌, ◌≤◌, ℕ, Some, true};
 ghost use Rattle.dd_model.specs.Request.{IsValid};
-ghost use Rattle.dd_model.specs.Position.{IsPosition};
 ghost use Rattle.dd_check.specs.Calls.{Begin};
-ghost use Rattle.dd_check.specs.ChainStarts.{first_start};
 ghost use Rattle.dd_pages_and_checkpoints.specs.Runs.{start_of, IsPause};
 ghost use Rattle.dd_suite_tasks.specs.Outcomes.{IsRunOutcome, EndsRunFrom};
 
@@ -68,9 +66,6 @@ pub fn keep_run<R: Threads + Wait + Sync, S: Store, G: Gate + Sync, O: Sink>(
     store: &mut S,
     out: &mut O,
 ) -> Ending
-    requires valid { IsValid run.now.portion.request }
-    requires position { IsPosition run.now.at }
-    requires first { run.now.number ≡ 1 → start_of run.now ≡ first_start run.now.portion }
     ensures run { EndsRunFrom
         (start_of run.now) name.now run.now.pace.round run.now.pause
         result

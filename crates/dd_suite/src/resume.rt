@@ -1,4 +1,6 @@
 ghost use Rattle.std.specs.Prelude.{◌≡◌, ◌≤◌, IfOk, IfErr, IsSome, true};
+ghost use Rattle.dd_model.specs.Request.{IsValid};
+ghost use Rattle.dd_model.specs.Position.{IsPosition};
 ghost use Rattle.dd_check.specs.declared.kinds.ResumeKind.TheVariants.{Catalogues, Shards};
 ghost use Rattle.dd_check.specs.Calls.{kind_of, Resume};
 ghost use Rattle.dd_ports.specs.Texts.{SameTexts};
@@ -182,6 +184,8 @@ pub fn resume<R: Threads + Wait + Sync, S: Store, G: Gate + Sync, O: Sink>(
 fn next_run(check: Checkpoint, shard: Option<Shard>, pace: Pace, pause: Option<u32>) -> Run
     requires run { (1 ≤ check.run) × (check.run ≤ 999999999) }
     requires lines { check.lines ≤ most_lines }
+    requires valid { IsValid check.request }
+    requires position { IsPosition check.at }
     ensures start { start_of result ≡ next_start shard check }
     ensures pace { result.pace ≡ pace }
     ensures pause { result.pause ≡ pause }

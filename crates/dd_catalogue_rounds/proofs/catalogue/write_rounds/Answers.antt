@@ -4,6 +4,7 @@ use Rattle.dd_model.specs.declared.jobs.Position.TheVariants.{End}
 use Rattle.dd_model.specs.Request.{IsValid}
 use Rattle.dd_front.specs.Machine.{StandsAt}
 use Rattle.dd_front.specs.Rounds.{open_jobs}
+use Rattle.dd_pages_and_checkpoints.proofs.RunFacts.{run_valid}
 use Rattle.dd_catalogue_rounds.specs.Splits.{IsGroupDone}
 use Rattle.dd_catalogue_rounds.specs.Ways.{Way}
 use Rattle.dd_pages_and_checkpoints.specs.Runs.{start_of, Finishes}
@@ -26,15 +27,13 @@ loop-more-init g c =
       refl,
     )
 
-pub do_long_round-requires-clause-valid : goal.do_long_round-requires-clause-valid
-do_long_round-requires-clause-valid g c κs within = subst IsValid (sym (c.loop-more.invariant.5 ∙ c.requires.request)) c.requires.valid
-
 pub do_long_round-requires-clause-ready : goal.do_long_round-requires-clause-ready
 do_long_round-requires-clause-ready g c κs within =
     let at = c.loop-more.invariant.0 in
     let f = c.loop-more.front in
     let w : Way = plain_way (start_of c.args.run.now) at.0 (g.O.Sink.held c.args.out.now) f in
     way_ready (g.F.Finder.request c.loop-more.finder) w (g.O.Sink.held c.loop-more.out) c.loop-more.page f (sym (c.loop-more.invariant.5 ∙ c.requires.request)) at.1 c.loop-more.invariant.1
+    (subst IsValid (sym (c.loop-more.invariant.5 ∙ c.requires.request)) (run_valid c.args.run.now))
 
 pub returns-in_err-flush-clause-output : goal.returns-in_err-flush-clause-output
 returns-in_err-flush-clause-output g c =
@@ -107,7 +106,7 @@ loop-more-smaller g c =
     let w : Way = plain_way (start_of c.args.run.now) at.0 (g.O.Sink.held c.args.out.now) f in
     let jobs = way_jobs w (g.O.Sink.held c.loop-more.out) c.loop-more.page f at.1 in
     subst (λ (js : List Job). weighed js < weighed (open_jobs f.entries)) (sym goes.waiting)
-    (lighter_group w.start.portion.request most f c.do_long_round.new.front c.requires.valid jobs c.loop-more.invariant.1 round)
+    (lighter_group w.start.portion.request most f c.do_long_round.new.front (run_valid c.args.run.now) jobs c.loop-more.invariant.1 round)
 
 pub loop-more-preserved : goal.loop-more-preserved
 loop-more-preserved g c =

@@ -1,4 +1,4 @@
-use Rattle.std.proofs.Common.{◌≡◌, ◌<◌, true, Ok, Err, ◌∙◌, refl, sym, ap, subst, arith, List}
+use Rattle.std.proofs.Common.{◌≡◌, ◌<◌, Ok, Err, ◌∙◌, refl, sym, ap, subst, arith, List}
 use Rattle.std.proofs.lemmas.Result.{err_from_is_err_and}
 use Rattle.dd_model.specs.Request.{IsValid}
 use Rattle.dd_model.specs.declared.jobs.Position.TheVariants.{End}
@@ -10,6 +10,7 @@ use Rattle.dd_check.specs.Clauses.{HasWork}
 use Rattle.dd_pages_and_checkpoints.specs.Names.{HasRun}
 use Rattle.dd_pages_and_checkpoints.specs.Runs.{start_of}
 use Rattle.dd_pages_and_checkpoints.specs.Saves.{HoldsCheckAt, Saves}
+use Rattle.dd_pages_and_checkpoints.proofs.RunFacts.{run_valid, run_first}
 use Rattle.dd_pages_and_checkpoints.specs.declared.fault.RunFault.TheVariants.{Memory}
 use Rattle.dd_catalogue_rounds.specs.Kept.{IsHead}
 use Rattle.dd_catalogue_rounds.specs.Splits.{IsGroupDone}
@@ -30,7 +31,7 @@ returns-in_err-save_first-clause-run g c =
     let before = g.S.Store.held c.args.store.now c.args.name.now in
     let after = g.S.Store.held c.save_first.new.store c.args.name.now in
     let p = err_from_is_err_and c.from_residual.result c.from_residual.ensures.1 in
-    rw p.1 (first_failed s most c.args.run.now.pace.some_jobs old before before c.args.output.now.page c.args.output.now.front c.requires.begun c.requires.empty c.requires.count c.requires.bytes c.requires.first
+    rw p.1 (first_failed s most c.args.run.now.pace.some_jobs old before before c.args.output.now.page c.args.output.now.front c.requires.begun c.requires.empty c.requires.count c.requires.bytes (run_first c.args.run.now)
     c.args.run.now.pause after tells p.0 (λ told. c.in_err-save_first.ensures.saves told))
 
 pub loop-more-init : goal.loop-more-init
@@ -43,7 +44,7 @@ loop-more-init g c =
     let held = g.S.Store.held c.save_first.new.store c.args.name.now in
     let above = limit_above c.args.run.now.lines c.args.run.now.pause c.limit-limit.result c.limit-limit.ensures c.args.run.now.few_lines in
     record {
-      head = head_first s most c.args.run.now.pace.some_jobs old before held c.args.output.now.page c.args.output.now.front c.requires.begun c.requires.empty c.requires.count c.requires.bytes c.requires.first tells (λ told. c.in_ok-save_first.ensures.saves told);
+      head = head_first s most c.args.run.now.pace.some_jobs old before held c.args.output.now.page c.args.output.now.front c.requires.begun c.requires.empty c.requires.count c.requires.bytes (run_first c.args.run.now) tells (λ told. c.in_ok-save_first.ensures.saves told);
       low = omega (arith, above, c.requires.count);
       store_faults = c.save_first.ensures.cause.later;
       store_sure = λ sure. let stays = c.save_first.ensures.sure sure in (stays.sure, stays.count);
@@ -53,14 +54,12 @@ loop-more-init g c =
       request = refl;
     }
 
-pub do_kept_round-requires-clause-valid : goal.do_kept_round-requires-clause-valid
-do_kept_round-requires-clause-valid g c κs within = subst IsValid (sym (c.loop-more.invariant.request ∙ c.requires.request)) c.requires.valid
-
 pub do_kept_round-requires-clause-ready : goal.do_kept_round-requires-clause-ready
 do_kept_round-requires-clause-ready g c κs within =
     let head = c.loop-more.invariant.head in
     let asked = ap (λ (x : Start). x.portion.request) head.start_is ∙ sym (c.loop-more.invariant.request ∙ c.requires.request) in
     way_ready (g.F.Finder.request c.loop-more.finder) head.way (g.O.Sink.held c.loop-more.out) c.loop-more.output.page c.loop-more.output.front asked head.mid.under head.opens
+    (subst IsValid (sym (c.loop-more.invariant.request ∙ c.requires.request)) (run_valid c.args.run.now))
 
 pub returns-clause-run : goal.returns-clause-run
 returns-clause-run g c =
@@ -220,8 +219,8 @@ loop-more-smaller g c =
     let group = subst (λ q. IsGroupDone q w.most f h) asked (subst (λ n. IsGroupDone (g.F.Finder.request c.loop-more.finder) n f h) (sym head.most_is) round) in
     let mid = group_mid s most tells c.loop-more.output.is_kept old before held now page f head h group in
     let way = group_way s most tells c.loop-more.output.is_kept old before held now page f head h group in
-    let ready = way_ready w.start.portion.request w now page f refl head.mid.under head.opens in
-    let valid = subst IsValid (ap (λ (x : Start). x.portion.request) (sym head.start_is)) c.requires.valid in
+    let valid = subst IsValid (ap (λ (x : Start). x.portion.request) (sym head.start_is)) (run_valid c.args.run.now) in
+    let ready = way_ready w.start.portion.request w now page f refl head.mid.under head.opens valid in
     let waiting = rw c.in-Next.is at c.in_ok-here.ensures.waiting in
     subst (λ (js : List Job). weighed js < weighed (open_jobs f.entries)) (sym waiting) (lighter_group w.start.portion.request w.most f h valid ready.jobs head.opens group)
 

@@ -12,7 +12,7 @@ loop-smaller g c =
     let q = g.F.Finder.request c.args.finder.now in
     let more = rw c.if-branch.true at c.in_ok-split_first.ensures.split in
     let split = subst (λ r. IsSplit r c.loop.front c.split_first.new.front) c.loop.invariant.0 more in
-    lighter_split q c.loop.front c.split_first.new.front c.requires.valid c.loop.invariant.2.jobs c.loop.invariant.2.opens split
+    lighter_split q c.loop.front c.split_first.new.front c.requires.ready.valid c.loop.invariant.2.jobs c.loop.invariant.2.opens split
 
 pub loop-preserved : goal.loop-preserved
 loop-preserved g c =

@@ -1,10 +1,15 @@
 use Rattle.std.proofs.Common.{◌≤◌, ◌∙◌, ◌++◌, List, drop, length, sym, ap, subst, rules}
+use Rattle.dd_model.specs.Request.{IsValid}
 use Rattle.dd_model.specs.Jobs.{AreChildren}
 use Rattle.dd_model.specs.declared.jobs.Job.{Job}
 use Rattle.dd_catalogue_rounds.specs.Works.{IsStarting}
 use Rattle.dd_catalogue_rounds.proofs.Splits.{drop_nothing, first_item, not_none}
 use Rattle.dd_catalogue_rounds.proofs.Working.{cut_starting}
+use Rattle.dd_pages_and_checkpoints.proofs.RunFacts.{run_valid}
 use Rattle.dd_catalogue_rounds.proofs.resumed_jobs.cut_first.Goals as goal
+
+pub split-requires-clause-valid : goal.split-requires-clause-valid
+split-requires-clause-valid g c = subst IsValid (sym c.requires.request) (run_valid c.args.run.now)
 
 pub returns-clause-starting : goal.returns-clause-starting
 returns-clause-starting g c =

@@ -7,10 +7,14 @@ use Rattle.dd_front.specs.Machine.{IsOpened}
 use Rattle.std.proofs.lemmas.Result.{IfOk-weaker}
 use Rattle.dd_pages_and_checkpoints.specs.Rounds.{AreJobsFrom}
 use Rattle.dd_pages_and_checkpoints.specs.Runs.{start_of}
+use Rattle.dd_pages_and_checkpoints.proofs.RunFacts.{run_valid}
 use Rattle.dd_catalogue_rounds.specs.Works.{IsStarted}
 use Rattle.dd_catalogue_rounds.proofs.JobsFrom.{from_covers}
 use Rattle.dd_catalogue_rounds.proofs.Working.{whole_work}
 use Rattle.dd_catalogue_rounds.proofs.rounds.front_of.Goals as goal
+
+pub opening-requires : goal.opening-requires
+opening-requires g c = run_valid c.args.run.now
 
 pub parts_from-requires-clause-starting : goal.parts_from-requires-clause-starting
 parts_from-requires-clause-starting g c =

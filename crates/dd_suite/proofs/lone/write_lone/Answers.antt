@@ -1,6 +1,4 @@
-use Rattle.std.proofs.Common.{◌≤◌, sym, ap, ◌∙◌, subst, arith}
-use Rattle.dd_model.specs.Request.{IsValid}
-use Rattle.dd_model.specs.Position.{IsPosition}
+use Rattle.std.proofs.Common.{sym, ap, ◌∙◌}
 use Rattle.dd_check.specs.ChainStarts.{Start}
 use Rattle.dd_suite_tasks.specs.Endings.{run_ending}
 use Rattle.dd_suite.proofs.RunCalls.{lone_ends, lone_sink, lone_none}
@@ -8,12 +6,6 @@ use Rattle.dd_suite.proofs.lone.write_lone.Goals as goal
 
 pub write_catalogue-ended-requires-clause-request : goal.write_catalogue-ended-requires-clause-request
 write_catalogue-ended-requires-clause-request g c κs within = c.new-search.ensures ∙ sym (ap (λ (s : Start). s.portion.request) c.in-Ok.ensures.start)
-
-pub write_catalogue-ended-requires-clause-valid : goal.write_catalogue-ended-requires-clause-valid
-write_catalogue-ended-requires-clause-valid g c κs within = subst IsValid (sym (ap (λ (s : Start). s.portion.request) c.in-Ok.ensures.start)) c.requires.valid
-
-pub write_catalogue-ended-requires-clause-position : goal.write_catalogue-ended-requires-clause-position
-write_catalogue-ended-requires-clause-position g c κs within = subst IsPosition (sym (ap (λ (s : Start). s.at) c.in-Ok.ensures.start)) (omega arith)
 
 pub returns-clause-ending : goal.returns-clause-ending
 returns-clause-ending g c =

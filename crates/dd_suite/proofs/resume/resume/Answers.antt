@@ -1,7 +1,5 @@
-use Rattle.std.proofs.Common.{◌≤◌, sym, ap, subst, arith}
-use Rattle.dd_model.specs.Request.{IsValid}
-use Rattle.dd_model.specs.Position.{IsPosition}
-use Rattle.dd_check.specs.ChainStarts.{Start, next_start}
+use Rattle.std.proofs.Common.{subst}
+use Rattle.dd_check.specs.ChainStarts.{next_start}
 use Rattle.dd_pages_and_checkpoints.specs.Runs.{start_of}
 use Rattle.dd_check.specs.Calls.{Resume}
 use Rattle.dd_suite_tasks.specs.Outcomes.{IsRunOutcome}
@@ -22,25 +20,17 @@ next_run-run-requires-clause-lines g c =
     let saved = saved_check c.in-Ok.saved.shard holds.bytes c.in-Ok.saved.check holds.accepted in
     (check_counts saved.0 c.in-Ok.saved.check saved.1).lines.1
 
-pub keep_run-requires-clause-valid : goal.keep_run-requires-clause-valid
-keep_run-requires-clause-valid g c κs within =
+pub next_run-run-requires-clause-valid : goal.next_run-run-requires-clause-valid
+next_run-run-requires-clause-valid g c =
     let holds = c.in-Ok.ensures.check.1 in
     let saved = saved_check c.in-Ok.saved.shard holds.bytes c.in-Ok.saved.check holds.accepted in
-    subst IsValid (sym (ap (λ (s : Start). s.portion.request) c.next_run-run.ensures.start)) (check_valid saved.0 c.in-Ok.saved.check saved.1)
+    check_valid saved.0 c.in-Ok.saved.check saved.1
 
-pub keep_run-requires-clause-position : goal.keep_run-requires-clause-position
-keep_run-requires-clause-position g c κs within =
+pub next_run-run-requires-clause-position : goal.next_run-run-requires-clause-position
+next_run-run-requires-clause-position g c =
     let holds = c.in-Ok.ensures.check.1 in
     let saved = saved_check c.in-Ok.saved.shard holds.bytes c.in-Ok.saved.check holds.accepted in
-    subst IsPosition (sym (ap (λ (s : Start). s.at) c.next_run-run.ensures.start)) (check_position saved.0 c.in-Ok.saved.check saved.1)
-
-pub keep_run-requires-clause-first : goal.keep_run-requires-clause-first
-keep_run-requires-clause-first g c κs within one =
-    let holds = c.in-Ok.ensures.check.1 in
-    let saved = saved_check c.in-Ok.saved.shard holds.bytes c.in-Ok.saved.check holds.accepted in
-    let some = (check_counts saved.0 c.in-Ok.saved.check saved.1).run.0 in
-    let same = ap (λ (s : Start). s.number) c.next_run-run.ensures.start in
-    absurd (omega (arith, some, same, one))
+    check_position saved.0 c.in-Ok.saved.check saved.1
 
 pub returns-clause-outcome : goal.returns-clause-outcome
 returns-clause-outcome g c =
