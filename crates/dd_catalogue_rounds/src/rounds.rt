@@ -42,16 +42,6 @@ const ROUND_WEIGHT: u64 = 64;
 /// threads for little, and heavier ones would hold more members.
 const LONG_ROUND_WEIGHT: u64 = 128;
 
-/// Returns how many of the workers a round of `jobs` jobs has use for.
-fn useful_workers(workers: u32, jobs: usize) -> u32
-    requires some { 1 ≤ workers }
-    requires jobs { 1 ≤ jobs }
-    ensures some { 1 ≤ result }
-    ensures few { result ≤ workers }
-{
-    workers.min(WORKERS_A_JOB * jobs.min(64) as u32)
-}
-
 /// The jobs that are not wholly before a position.
 pub fn jobs_from(mut jobs: Vec<Job>, at: &Position) -> Vec<Job>
     ensures { IsWithout (IsWhollyBefore at.now) jobs.items result.items }
@@ -276,7 +266,8 @@ pub fn do_round<R: Threads + Wait + Sync, F: Finder + Sync, G: Gate + Sync>(
     if jobs.is_empty() {
         return Ok(false);
     }
-    let workers = useful_workers(pace.workers(), jobs.len());
+    let busy = WORKERS_A_JOB * jobs.len().min(64) as u32;
+    let workers = pace.workers().min(busy);
     let Workshop { rt, alloc, gate } = workshop;
     let entries = run_round(*rt, *alloc, finder, *gate, jobs, workers)?;
     front.absorb(entries)?;

@@ -14,7 +14,6 @@ use std::alloc::Global;
 
 /// Returns whether the list with this number renumbers a symbol to one with a smaller code.
 fn is_beaten_by(alloc: Global, symbol: &Connected, number: u64) -> Result<bool, Memory>
-    requires { symbol.now.size ≤ 3 }
     ensures beaten { IfOk result (λ beaten. OnTrue beaten (Least symbol.now → ⊥)) }
     ensures unbeaten { IfOk result (λ beaten. OnFalse beaten ((t : Tiling) → IsSymbol t
         → IsIsomorphism symbol.now t (choices chamber_table symbol.now.size number)
