@@ -7,7 +7,6 @@ use Rattle.dd_model.proofs.Options.{some_same}
 use Rattle.dd_front_jobs.specs.declared.shards.Shard.{Shard}
 use Rattle.dd_front_jobs.specs.declared.portions.Portion.{Portion}
 use Rattle.dd_check.specs.declared.checkpoint.Checkpoint.{Checkpoint}
-use Rattle.dd_check.specs.Accepted.{IsCheckpointText}
 use Rattle.dd_check.specs.ShardChecks.{IsAcceptedText}
 use Rattle.dd_front_jobs.proofs.ShardLaws.{same_shard}
 use Rattle.dd_check.specs.Texts.{Text}
@@ -17,19 +16,16 @@ use Rattle.dd_check.specs.ChainStarts.{Holds, HoldsKind, Start, first_start, nex
 use Rattle.dd_check.specs.ChainPuts.{Puts}
 use Rattle.dd_check.specs.Clauses.{MeetsClauses}
 use Rattle.dd_check.specs.Chains.{kind_of_task, AreResumed, AreLater, IsChain, HasBegun, Leaves, IsPart, IsJoined}
+use Rattle.dd_check.proofs.ShardReads.{valid_check}
 use Rattle.dd_check.proofs.ChainParts.{one_held, one_start, start_kind, leaves_none, starts_first, starts_next, starts_nowhere, put_held}
 
 -- the name holds a checkpoint text of the kind, or none
 abbrev IsKnown : ResumeKind → Option Text → Type 0
 IsKnown kind held = HoldsKind kind held ⊎ (HoldsKind kind held → ⊥)
 
-valid_text : (text : Text) (c : Checkpoint) → IsCheckpointText text c → IsValid c.request
-valid_text text c (inl new) = new.stands.valid
-valid_text text c (inr old) = old.stands.valid
-
 valid_accepted : (shard : Option Shard) (text : Text) (c : Checkpoint) → IsAcceptedText shard text c → IsValid c.request
-valid_accepted None text c is = valid_text text c is
-valid_accepted (Some shard) text c is = valid_text is.check c is.accepted
+valid_accepted None text c is = valid_check text c is
+valid_accepted (Some shard) text c is = valid_check is.check c is.accepted
 
 same_or_not : (a b : Option Shard) → (a ≡ b) ⊎ (a ≡ b → ⊥)
 same_or_not None None = inl refl

@@ -121,7 +121,7 @@ listed_jobs q shard job answer xs ys numbers same first all told =
 
 -- ## Faults
 
-valid_check : (text : Text) (c : Checkpoint) → IsCheckpointText text c → IsValid c.request
+pub valid_check : (text : Text) (c : Checkpoint) → IsCheckpointText text c → IsValid c.request
 valid_check text c (inl new) = new.stands.valid
 valid_check text c (inr old) = old.stands.valid
 

@@ -1,9 +1,8 @@
 -- Shifts along walks: there and back they cancel, and round a closed walk many times they multiply.
 use Rattle.std.proofs.Common.{◌≡◌, ℕ, zero, suc, ◌+◌, ◌*◌, ◌%◌, [], ◌∷◌, ◌++◌, refl, sym, ap, ◌∙◌, arith}
-use Rattle.std.proofs.lemmas.List.{append_assoc}
 use Rattle.dd_model.specs.declared.index.Index.{Index}
 use Rattle.dd_model.specs.Symbol.{Symbol, AreInvolutions, IsChamber, Word, op, act, power}
-use Rattle.dd_model.proofs.Words.{backwards, act-backwards}
+use Rattle.dd_model.proofs.Words.{backwards, act-backwards, power_add}
 use Rattle.dd_covers.specs.TorusCover.{sum_along}
 use Rattle.dd_covers.proofs.Congruences.{AreCongruent, congruent_same, congruent_on, congruent_sum, no_remainder}
 
@@ -19,12 +18,6 @@ sum_of_turns s x w d back (suc q) =
     let rest = sum_of_turns s x w d back q in
     let e = ap (sum_along s x (power w q)) back in
     omega arith
-
-power_add : (w : Word) (a b : ℕ) → power w (a + b) ≡ power w a ++ power w b
-power_add w zero b = let e : 0 + b ≡ b = omega arith in ap (power w) e
-power_add w (suc a) b =
-    let e : suc a + b ≡ suc (a + b) = omega arith in
-    ap (power w) e ∙ ap (λ u. w ++ u) (power_add w a b) ∙ sym (append_assoc w (power w a) (power w b))
 
 pub power_times : (w : Word) (q r : ℕ) → power (power w r) q ≡ power w (q * r)
 power_times w zero r = let e : 0 ≡ 0 * r = omega arith in ap (power w) e

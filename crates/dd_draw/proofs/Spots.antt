@@ -1,15 +1,14 @@
 -- Numbers of spots as the code reads and writes them, boxes of more spots, and texts of more parts.
-use Rattle.std.proofs.Common.{zero, suc, FitsSigned, ◌≤ℤ◌, ◌<ℤ◌, ◌-◌, div-le_self, ◌≡◌, ℕ, ◌+◌, ◌*◌, ◌<◌, ◌≤◌, ◌^◌, ℤ, pos, negsuc, int_lt, SFits, to_z, of_z, ◌+ℤ◌, ◌-ℤ◌, ◌*ℤ◌, nat_abs, Bool, true, false, cond, List, [], ◌∷◌, ◌++◌, length, take, get_or, append_assoc, refl, sym, ap, ◌∙◌, subst, arith}
+use Rattle.std.proofs.Common.{FitsSigned, ◌≤ℤ◌, ◌<ℤ◌, ◌-◌, ◌≡◌, ℕ, ◌+◌, ◌*◌, ◌<◌, ◌≤◌, ◌^◌, ℤ, pos, negsuc, int_lt, SFits, to_z, of_z, ◌+ℤ◌, ◌-ℤ◌, ◌*ℤ◌, nat_abs, Bool, true, false, cond, List, [], ◌∷◌, ◌++◌, length, take, get_or, append_assoc, refl, sym, ap, ◌∙◌, subst, arith}
 use Rattle.std.specs.Int.{w64, w128, int_min, int_max, int_div_euclid}
 use Rattle.std.specs.List.{flat_map}
-use Rattle.std.proofs.lemmas.Int.{ints, to_z-of_z, fits_signed_from_abs, int_max_is, int_min_is, unsigned_abs-mul}
+use Rattle.std.proofs.lemmas.Int.{ints, to_z-of_z, fits_signed_from_abs, int_max_is, int_min_is}
 use Rattle.std.proofs.lemmas.List.{take_more, append-nil}
 use Rattle.std.proofs.lemmas.Grind.{flat_map-append}
-use Rattle.std.proofs.Math.Nat.{mul-le-mul}
+use Rattle.dd_model.proofs.IntegerSizes.{product_size, quotient_size}
 use Rattle.dd_cells.specs.declared.fractions.Fraction.{Fraction}
 use Rattle.dd_draw.specs.Limit.{IsWithin}
 use Rattle.dd_draw.specs.Spots.{floor_of}
-use Rattle.dd_draw.specs.Placement.{Point}
 use Rattle.dd_draw.specs.Extents.{covering, with_spot}
 use Rattle.dd_draw.specs.declared.extent.Extent.{Extent}
 use Rattle.dd_draw.specs.declared.spot.Spot.{Spot}
@@ -45,9 +44,6 @@ min_small x y r p q e = subst (λ z. nat_abs z ≤ 2 ^ 126 + 2 ^ 125 + 2 ^ 75) (
 
 pub max_small : (x y r : ℤ) → nat_abs x ≤ 2 ^ 126 + 2 ^ 125 + 2 ^ 75 → nat_abs y ≤ 2 ^ 126 + 2 ^ 125 + 2 ^ 75 → r ≡ int_max (to_z w128 (of_z w128 x)) (to_z w128 (of_z w128 y)) → nat_abs (to_z w128 (of_z w128 r)) ≤ 2 ^ 126 + 2 ^ 125 + 2 ^ 75
 max_small x y r p q e = subst (λ z. nat_abs z ≤ 2 ^ 126 + 2 ^ 125 + 2 ^ 75) (sym (max_read x y r p q e)) (one_of (int_lt y x) x y (2 ^ 126 + 2 ^ 125 + 2 ^ 75) p q)
-
-product_size : (x y : ℤ) (m n : ℕ) → nat_abs x ≤ m → nat_abs y ≤ n → nat_abs (x *ℤ y) ≤ m * n
-product_size x y m n p q = omega (arith, unsigned_abs-mul x y, mul-le-mul p q)
 
 times_small : (k x : ℤ) → nat_abs k ≤ 2 ^ 63 → nat_abs x ≤ 2 ^ 63 → nat_abs (k *ℤ x) ≤ 2 ^ 126
 times_small k x p q = let s = product_size k x (2 ^ 63) (2 ^ 63) p q in omega arith
@@ -135,11 +131,6 @@ rise_fits s k y j r small pk py ek ey =
 
 -- ## Quotients that are rounded down
 
-quotient_size : (n d : ℤ) → pos 0 <ℤ d → nat_abs (int_div_euclid n d) ≤ nat_abs n
-quotient_size (pos a) (pos b) some = div-le_self a b
-quotient_size (negsuc a) (pos b) some = let e = div-le_self a b in omega arith
-quotient_size n (negsuc b) some = absurd (omega (arith, ints))
-
 module _ (k num den r : ℤ) (pk : nat_abs k ≤ 2 ^ 63) (pn : nat_abs num ≤ 2 ^ 62) (some : pos 0 <ℤ den) (pd : nat_abs den ≤ 2 ^ 62)
     (e : r ≡ int_div_euclid (to_z w128 (of_z w128 (to_z w128 (of_z w128 k) *ℤ to_z w128 (of_z w128 num)))) (to_z w128 (of_z w128 den))) where
   quotient : r ≡ int_div_euclid (k *ℤ num) den
@@ -182,9 +173,6 @@ spot_fits x y p q =
 
 pub lean_small : (j k : ℤ) → j ≡ k → nat_abs j ≤ 2 ^ 63 → nat_abs k ≤ 2 ^ 63
 lean_small j k e h = subst (λ z. nat_abs z ≤ 2 ^ 63) e h
-
-pub side_read : (x : ℤ) → nat_abs x ≤ 2 ^ 63 → to_z w128 (of_z w128 x) ≡ x
-side_read x p = read x (omega arith)
 
 pub one_read : (x : ℤ) → nat_abs x ≤ 2 ^ 125 → to_z w128 (of_z w128 x) ≡ x
 one_read x p = read x (omega arith)

@@ -7,7 +7,7 @@ use Rattle.dd_model.specs.Jobs.{IsJobBelow, AreAscendingJobs}
 use Rattle.dd_model.specs.Joined.{IsPartBelow}
 use Rattle.dd_model.specs.declared.jobs.Job.{Job}
 use Rattle.dd_model.proofs.Lists.{cons_head, Contains-none, Contains-head, Contains-later, Contains-cases, each_of, all_from_members}
-use Rattle.dd_model.proofs.Orders.{job_cmp_total, job_not_below_itself}
+use Rattle.dd_model.proofs.Orders.{jobs_not_both}
 use Rattle.dd_model.proofs.Pairs.{ArePairs}
 use Rattle.dd_model.proofs.Differing.{begins_or_not, one_begins}
 use Rattle.dd_model.proofs.Positions.{part_fronts}
@@ -27,9 +27,6 @@ not_of_both : (j k child : Job) → IsPartBelow j k → Extends child j → Exte
 not_of_both j k child part ej ek =
     let apart = part.apart (sym ej.size ∙ ek.size) in
     ⊎_elim apart.0 apart.1 (one_begins j.prefix k.prefix child.prefix ej.begins ek.begins)
-
-not_below_both : (c d : Job) → IsJobBelow c d → IsJobBelow d c → ⊥
-not_below_both c d a b = job_not_below_itself c c (job_cmp_total.trans c d c a b) refl refl
 
 -- what extends the one is below what extends the other
 extensions_below : (j k c d : Job) → IsPartBelow j k → Extends c j → Extends d k → IsJobBelow c d
@@ -69,7 +66,7 @@ others_not job jobs (e ∷ rest) pairs ascending extend stops =
     let later : Contains jobs j.0 = ⊎_elim (λ is. absurd (not (subst (Extends e.job) (sym is) j.2))) (λ there. there) (Contains-cases job j.0 jobs j.1) in (
       not,
       all_from_members (λ d. ¬ Extends d.job job) rest (λ d there extends.
-          not_below_both e.job d.job (below_first e d rest ascending.0 there) (extensions_below job j.0 d.job e.job (each_of (IsPartBelow job) jobs j.0 pairs.0 later) extends j.2)),
+          jobs_not_both e.job d.job (below_first e d rest ascending.0 there) (extensions_below job j.0 d.job e.job (each_of (IsPartBelow job) jobs j.0 pairs.0 later) extends j.2)),
     )
 
 pub blocks_from : (jobs : List Job) (es : List Entry) → ArePairs IsPartBelow jobs → AreAscendingJobs (jobs_of es)

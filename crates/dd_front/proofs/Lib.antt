@@ -6,7 +6,7 @@ mod Packing
 mod Firsts
 mod Blocks
 mod Joins
-mod Rounding
+pub mod Rounding
 mod Lasting
 mod Shutting
 mod SmallCodes

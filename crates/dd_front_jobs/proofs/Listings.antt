@@ -8,7 +8,7 @@ use Rattle.dd_model.specs.Jobs.{IsJobBelow, AreAscendingJobs}
 use Rattle.dd_model.specs.declared.requests.Request.{Request}
 use Rattle.dd_model.specs.declared.jobs.Job.{Job}
 use Rattle.dd_model.proofs.Lists.{Contains-none, Contains-head, Contains-later, Contains-cases, each_of}
-use Rattle.dd_model.proofs.Orders.{job_cmp_total, job_not_below_itself, not_below_both}
+use Rattle.dd_model.proofs.Orders.{jobs_not_both, not_below_both}
 use Rattle.dd_model.proofs.Pairs.{ArePairs, ascending_pairs}
 use Rattle.dd_front_jobs.specs.Opening.{IsOpening}
 
@@ -46,9 +46,6 @@ module _ {A : Type 0} (R : A → A → Type 0) (both : (x y : A) → R x y → R
 job_pairs : (jobs : List Job) → AreAscendingJobs jobs → ArePairs IsJobBelow jobs
 job_pairs [] h = tt
 job_pairs (j ∷ jobs) h = (h.0, job_pairs jobs h.1)
-
-pub jobs_not_both : (j k : Job) → IsJobBelow j k → IsJobBelow k j → ⊥
-jobs_not_both j k a b = job_not_below_itself j j (job_cmp_total.trans j k j a b) refl refl
 
 -- a request has one opening
 pub one_opening : (q : Request) (xs ys : List Job) → IsOpening q xs → IsOpening q ys → xs ≡ ys

@@ -16,7 +16,8 @@ use Rattle.dd_model.proofs.Lists.{Contains-none, Contains-head, Contains-cases, 
 use Rattle.dd_front_jobs.specs.declared.shards.Shard.{Shard}
 use Rattle.dd_front_jobs.specs.Opening.{IsOpening, IsOpeningJob}
 use Rattle.dd_front_jobs.specs.Shards.{ComesAfter, IsShardJob, IsShardMember, IsShardText}
-use Rattle.dd_front_jobs.proofs.Listings.{jobs_not_both, one_opening}
+use Rattle.dd_model.proofs.Orders.{jobs_not_both}
+use Rattle.dd_front_jobs.proofs.Listings.{one_opening}
 use Rattle.dd_front_jobs.proofs.OpeningLaws.{opening_covers}
 use Rattle.dd_front_jobs.proofs.PortionLaws.{shard_job}
 

@@ -4,9 +4,10 @@ use Rattle.std.specs.Int.{w64, w128, int_div_euclid, IsIsqrt}
 use Rattle.std.proofs.lemmas.Int.{ints, to_z-of_z, fits_signed_from_abs}
 use Rattle.dd_lattice.proofs.Rings.{nat, equal, ◌⊟◌, ◌⊠◌}
 use Rattle.dd_gram.specs.Frames.{IsWholePart, IsWholeRoot}
-use Rattle.std.proofs.Common.{div-add-mod', mod-lt, div-le_self, mul-le-mul}
+use Rattle.std.proofs.Common.{div-add-mod', mod-lt, mul-le-mul}
 use Rattle.std.proofs.lemmas.Bool.{cases_lt}
-use Rattle.dd_gram.proofs.SizeLemmas.{read128, product_size}
+use Rattle.dd_model.proofs.IntegerSizes.{product_size}
+use Rattle.dd_gram.proofs.SizeLemmas.{read128}
 
 next_multiple : (q d : ℕ) → (negsuc q +ℤ pos 1) *ℤ pos d ≡ pos 0 -ℤ pos (q * d)
 next_multiple q d =
@@ -28,11 +29,6 @@ whole_part (negsuc a) (pos (suc b)) some =
     let low : a % suc b < suc b = mod-lt a some in
     record { low = omega (arith, ints); high = subst (λ z. negsuc a <ℤ z) (sym (next_multiple (a / suc b) (suc b))) (omega (arith, ints)) }
 whole_part n (negsuc b) some = absurd (omega (arith, ints))
-
-pub quotient_size : (n d : ℤ) → pos 0 <ℤ d → nat_abs (int_div_euclid n d) ≤ nat_abs n
-quotient_size (pos a) (pos b) some = div-le_self a b
-quotient_size (negsuc a) (pos b) some = let e = div-le_self a b in omega arith
-quotient_size n (negsuc b) some = absurd (omega (arith, ints))
 
 pub whole_root : (z r : ℤ) → pos 0 ≤ℤ z → IsIsqrt z r → IsWholeRoot z r
 whole_root (pos m) r some is =

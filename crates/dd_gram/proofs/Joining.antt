@@ -4,7 +4,7 @@ use Rattle.std.proofs.lemmas.Bool.{cases_eq, cases_Bool, eq-eqb, ne_eqb}
 use Rattle.std.proofs.lemmas.Int.{ints}
 use Rattle.std.proofs.lemmas.List.{length-append}
 use Rattle.std.proofs.lemmas.List.Sums.{sum_by-cons}
-use Rattle.std.specs.List.{Contains, sum_by}
+use Rattle.std.specs.List.{sum_by}
 use Rattle.dd_model.specs.declared.index.Index.{Index}
 use Rattle.dd_model.specs.declared.index.Index.TheVariants.{Zero}
 use Rattle.dd_model.specs.declared.pair.Pair.TheVariants.{Vertex, Edge}
@@ -13,7 +13,6 @@ use Rattle.dd_model.specs.Cell.{InCell, IsLeastOfCell, AreCells}
 use Rattle.dd_model.specs.Code.{chambers}
 use Rattle.dd_model.proofs.CellWalks.{in_cell-refl, in_cell-sym, in_cell-trans}
 use Rattle.dd_model.proofs.CountFrom.{count_contains, length-count_from}
-use Rattle.dd_model.proofs.Lists.{Contains-none, Contains-cases}
 use Rattle.dd_cells.proofs.CellSums.{has_roots, sum_by_equal, sum_by_both, sum_by_same}
 use Rattle.dd_covers.specs.Ends.{Holds}
 use Rattle.dd_covers.specs.Torus.{IsTorus}
@@ -27,19 +26,11 @@ use Rattle.dd_lattice.proofs.KindCounts.{links, link_listed, fresh_at, level_by_
 use Rattle.dd_lattice.proofs.KindLemmas.{listed_edge, same_default}
 use Rattle.dd_lattice.proofs.TileSums.{one, one_at, one_off}
 use Rattle.dd_lattice.proofs.TreeCounts.{tree_chosen, tree_not_chosen}
+use Rattle.dd_lattice.proofs.FreshLinks.{at_least}
 use Rattle.dd_gram.specs.Walks.{IsWalk, sum_along}
 use Rattle.dd_gram.proofs.WalkLemmas.{walk_on, sum_along-append}
 
 -- ## Sums
-
-member_below : (f : ℕ → ℕ) (xs : List ℕ) (x : ℕ) → Contains xs x → f x ≤ sum_by f xs
-member_below f [] x here = absurd (Contains-none x here)
-member_below f (y ∷ ys) x here =
-    let sum = sum_by-cons f y ys in
-    ⊎_elim
-    (λ same. let e = ap f same in omega arith)
-    (λ later. let rest = member_below f ys x later in omega arith)
-    (Contains-cases y x ys here)
 
 sums_below : (f g : ℕ → ℕ) (xs : List ℕ) → ((x : ℕ) → f x ≤ g x) → sum_by f xs ≤ sum_by g xs
 sums_below f g [] below = omega arith
@@ -233,7 +224,7 @@ module _ (t : Symbol) (torus : IsTorus t) (edges : List ℕ) (cells : AreCells t
 
   weight_some : (k a : ℕ) → IsChamber t a → 1 ≤ weight k (L k (root a))
   weight_some k a h =
-      let here = member_below (λ c. one (L k (root c)) (L k (root a))) (chambers t) a (count_contains 1 t.size a h.0 (let g = h.1 in omega arith)) in
+      let here = at_least (λ c. one (L k (root c)) (L k (root a))) (chambers t) a (count_contains 1 t.size a h.0 (let g = h.1 in omega arith)) in
       let own = one_at (L k (root a)) (L k (root a)) refl in
       omega arith
 

@@ -2,8 +2,8 @@
 use Rattle.std.proofs.Common.{◌≡◌, ℕ, suc, ◌+◌, ◌*◌, ◌≤◌, ◌^◌, ℤ, to_z, of_z, nat_abs, ◌+ℤ◌, ◌*ℤ◌, List, [], ◌∷◌, length, map, ap, ◌∙◌, subst, arith}
 use Rattle.std.specs.Int.{w128}
 use Rattle.std.specs.List.{Contains}
-use Rattle.std.proofs.lemmas.Int.{ints, to_z-of_z, fits_signed_from_abs, unsigned_abs-mul}
-use Rattle.std.proofs.Math.Nat.{mul-le-mul}
+use Rattle.std.proofs.lemmas.Int.{ints, to_z-of_z, fits_signed_from_abs}
+use Rattle.dd_model.proofs.IntegerSizes.{product_size}
 use Rattle.dd_model.specs.Symbol.{Symbol, IsChamber, item}
 use Rattle.dd_model.specs.Isomorphic.{IsIsomorphism}
 use Rattle.dd_model.specs.Code.{count_from}
@@ -25,9 +25,6 @@ use Rattle.std.proofs.lemmas.List.{length-map}
 
 pub read128 : (z : ℤ) → nat_abs z ≤ 2 ^ 120 → to_z w128 (of_z w128 z) ≡ z
 read128 z h = to_z-of_z w128 z (fits_signed_from_abs w128 z (omega arith))
-
-pub product_size : (x y : ℤ) (m n : ℕ) → nat_abs x ≤ m → nat_abs y ≤ n → nat_abs (x *ℤ y) ≤ m * n
-product_size x y m n p q = omega (arith, unsigned_abs-mul x y, mul-le-mul p q)
 
 sum_size : (x y : ℤ) (m n : ℕ) → nat_abs x ≤ m → nat_abs y ≤ n → nat_abs (x +ℤ y) ≤ m + n
 sum_size x y m n p q = omega (arith, ints)

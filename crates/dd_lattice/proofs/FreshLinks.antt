@@ -91,7 +91,7 @@ own_count vs up (e ∷ es) fresh among =
     let same = sum_by_listed (λ v. own (e ∷ es) v + cond (eqb a v) 1 0) (own es) vs (λ v listed. one_gone e es fresh.0 v) in
     omega arith
 
-at_least : (f : ℕ → ℕ) (xs : List ℕ) (x : ℕ) → Contains xs x → f x ≤ sum_by f xs
+pub at_least : (f : ℕ → ℕ) (xs : List ℕ) (x : ℕ) → Contains xs x → f x ≤ sum_by f xs
 at_least f [] x here = absurd (Contains-none x here)
 at_least f (y ∷ xs) x here =
     let split = sum_by-cons f y xs in

@@ -59,3 +59,4 @@ pub mod Pairs
 pub mod Without
 pub mod JoinedLists
 pub mod Differing
+pub mod IntegerSizes

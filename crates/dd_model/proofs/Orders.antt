@@ -83,3 +83,6 @@ not_below_both s t a b = not_below_itself s (code_cmp_total.trans s t s a b)
 pub job_not_below_itself : (j k : Job) → IsJobBelow j k → j.size ≡ k.size → j.prefix ≡ k.prefix → ⊥
 job_not_below_itself j k less size prefix =
     not_less_than_itself job_cmp job_cmp_total k (subst (λ j. IsJobBelow j k) (λ i. record { size = size i; prefix = prefix i }) less)
+
+pub jobs_not_both : (j k : Job) → IsJobBelow j k → IsJobBelow k j → ⊥
+jobs_not_both j k a b = job_not_below_itself j j (job_cmp_total.trans j k j a b) refl refl

@@ -212,7 +212,7 @@ pub record HasLength (s : Symbol) (i j : Index) (d : ℕ) : Type 0 where
   pub n : ℕ
   pub length : IsLength s i j d n
 
-has_length : (s : Symbol) → AreInvolutions s → (p : Pair) (i j : Index) → AreLetters p i j → (d : ℕ) → IsChamber s d → op s i d ≡ d → HasLength s i j d
+pub has_length : (s : Symbol) → AreInvolutions s → (p : Pair) (i j : Index) → AreLetters p i j → (d : ℕ) → IsChamber s d → op s i d ≡ d → HasLength s i j d
 has_length s inv p i j are d h fixed =
     let P : ℕ → Type 0 = λ t. walked s i j (suc t) d ≡ walked s i j t d in
     let decide : (t : ℕ) → Decided (P t) = λ t. cases_eq (walked s i j (suc t) d) (walked s i j t d) in

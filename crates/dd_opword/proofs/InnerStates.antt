@@ -1,7 +1,7 @@
 -- A word takes the two tables as one along its outer moves, and the inner part by the reduced word of these moves.
 use Rattle.std.proofs.Common.{◌≡◌, ℕ, zero, suc, ◌+◌, ◌*◌, [], ◌∷◌, ◌++◌, Option, Some, None, refl, sym, ap, ◌∙◌, arith}
 use Rattle.std.proofs.Math.Nat.{mul-suc}
-use Rattle.std.proofs.lemmas.List.{append_assoc}
+use Rattle.dd_model.proofs.Words.{power_add}
 use Rattle.dd_model.specs.declared.index.Index.{Index}
 use Rattle.dd_model.specs.declared.index.Index.TheVariants.{Zero, One, Two}
 use Rattle.dd_model.specs.Symbol.{Word, power}
@@ -162,13 +162,6 @@ run-back outer inner both v to a x h inside back =
     ∙ ap (λ w. with_outer outer (stepped (step inner) w a) (part_after outer v x)) back.word
     ∙ ap (with_outer outer (stepped (step inner) to a)) back.part
 
--- so many times the word
-power-add : (w : Word) (a b : ℕ) → power w (a + b) ≡ power w a ++ power w b
-power-add w zero b = let e : zero + b ≡ b = omega arith in ap (power w) e
-power-add w (suc a) b =
-    let e : suc a + b ≡ suc (a + b) = omega arith in
-    ap (power w) e ∙ ap (λ u. w ++ u) (power-add w a b) ∙ sym (append_assoc w (power w a) (power w b))
-
 pub run-rounds : (outer inner : Table) → AreTogether outer inner → (v to : Word) (c k : ℕ) (a : State) (x : ℕ) → IsState inner a → IsPart outer x
     → LeadsBack outer (power v c) x to
     → run (composed outer inner) (power v (c * k)) (with_outer outer a x) ≡ with_outer outer (repeated (stepped (step inner) to) k a) x
@@ -181,7 +174,7 @@ run-rounds outer inner both v to c (suc k) a x h inside back =
     let next = stepped (step inner) to a in
     let hn = stepped_within (IsState inner) (step inner) steps to a h in
     ap (λ n. run (composed outer inner) (power v n) (with_outer outer a x)) e
-    ∙ ap (λ w. run (composed outer inner) w (with_outer outer a x)) (power-add v c (c * k))
+    ∙ ap (λ w. run (composed outer inner) w (with_outer outer a x)) (power_add v c (c * k))
     ∙ run-append (composed outer inner) (power v c) (power v (c * k)) (with_outer outer a x)
     ∙ ap (run (composed outer inner) (power v (c * k))) (run-back outer inner both (power v c) to a x h inside back)
     ∙ run-rounds outer inner both v to c k next x hn inside back

@@ -67,11 +67,6 @@ done_more [] list (d ∷ es) e long = absurd (omega arith)
 done_more (l ∷ lists) list [] e long = absurd (omega arith)
 done_more (l ∷ lists) list (d ∷ es) e long = ap (λ ds. entry_of d.number d.job (Done l) ∷ ds) (done_more lists list es e (omega arith))
 
-pub jobs_done : (lists : List (List Symbol)) (es : List Entry) → jobs_of (done_with lists es) ≡ jobs_of es
-jobs_done [] es = refl
-jobs_done (l ∷ lists) [] = refl
-jobs_done (l ∷ lists) (e ∷ es) = ap (λ js. e.job ∷ js) (jobs_done lists es)
-
 -- one more of the entries is done with what is under its job
 pub found_push : (q : Request) (lists : List (List Symbol)) (list : List Symbol) (es : List Entry) (at : ℕ) (e : Entry) → at < length es → e ≡ get_or es at e → length lists ≡ at
     → AllByRecursion (IsFound q) (done_with lists (take at es)) → AreMembersUnder q e.job list → AllByRecursion (IsFound q) (done_with (lists ++ list ∷ []) (take (at + 1) es))

@@ -1,31 +1,18 @@
 -- Each joint of a boundary has a next one.
-use Rattle.std.proofs.Common.{◌≡◌, ◌≢◌, ℕ, suc, ◌*◌, refl, sym, ap, inl, inr, ⊎_elim, arith}
-use Rattle.std.proofs.lemmas.Bool.{cases_eq}
+use Rattle.std.proofs.Common.{◌≡◌, ◌≢◌, refl, sym, ap, inl, inr, ⊎_elim}
 use Rattle.dd_model.specs.declared.index.Index.{Index}
 use Rattle.dd_model.specs.declared.index.Index.TheVariants.{Zero, One, Two}
 use Rattle.dd_model.specs.declared.pair.Pair.{Pair}
 use Rattle.dd_model.specs.declared.pair.Pair.TheVariants.{Tile, Vertex, Edge}
-use Rattle.dd_model.specs.Symbol.{Symbol, IsSymbol, AreInvolutions, IsChamber, op}
+use Rattle.dd_model.specs.Symbol.{Symbol, IsSymbol, AreInvolutions}
 use Rattle.dd_model.proofs.Branching.{branching_exists}
-use Rattle.dd_model.proofs.CellSearch.{Decided, find_below, least_where}
 use Rattle.dd_name.specs.declared.flags.Flag.{Flag}
 use Rattle.dd_name.specs.declared.joints.Joint.{Joint}
-use Rattle.dd_name.specs.Flags.{IsOfPair, AreLetters}
+use Rattle.dd_name.specs.Flags.{IsOfPair}
 use Rattle.dd_name.specs.Rounds.{IsEnd, IsJoined, IsJoint, IsLinked}
-use Rattle.dd_name.proofs.ChainLemmas.{letter, walked, walked_within, in_cell_walked, other_letter, letters_apart, letter_at_of_pair, never_unstopped, returns_stopped, HasLength, flag_at}
+use Rattle.dd_name.proofs.ChainLemmas.{letter, walked, walked_within, in_cell_walked, other_letter, letters_apart, letter_at_of_pair, returns_stopped, has_length, flag_at}
 
 -- ## The other end of a chain
-
-chain_length : (s : Symbol) → AreInvolutions s → (p : Pair) (i j : Index) → AreLetters p i j → (d : ℕ) → IsChamber s d → op s i d ≡ d → HasLength s i j d
-chain_length s inv p i j are d h fixed =
-    let P : ℕ → Type 0 = λ t. walked s i j (suc t) d ≡ walked s i j t d in
-    let decide : (t : ℕ) → Decided (P t) = λ t. cases_eq (walked s i j (suc t) d) (walked s i j t d) in
-    ⊎_elim
-    (λ found.
-    let least = least_where P decide found.0 found.2 in
-    record { n = least.0; length = record { stop = least.1; before = λ t low there. let e = least.2 t there in omega arith } })
-    (λ none. absurd (never_unstopped s inv p i j are d h fixed (λ has. none has.t has.below has.stop)))
-    (find_below P decide (2 * s.size))
 
 pub record HasOtherEnd (s : Symbol) (p : Pair) (f : Flag) : Type 0 where
   pub flag : Flag
@@ -38,7 +25,7 @@ other_end_exists s inv p f end =
     let h = end.flag.chamber in
     let other = other_letter p i end.letter in
     let j = other.j in
-    let has = chain_length s inv p i j other.letters d h end.flag.fixed in
+    let has = has_length s inv p i j other.letters d h end.flag.fixed in
     let last = flag_at (walked s i j has.n d) (letter i j has.n) in
     record {
       flag = last;

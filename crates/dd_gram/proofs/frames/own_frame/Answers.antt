@@ -5,7 +5,8 @@ use Rattle.dd_gram.specs.Form.{IsGramOfSome}
 use Rattle.dd_gram.specs.declared.forms.Gram.{Gram}
 use Rattle.dd_gram.proofs.KeptForms.{form_positive, form_definite}
 use Rattle.dd_gram.proofs.SizeLemmas.{HasSize, form_size, read128}
-use Rattle.dd_gram.proofs.FrameLemmas.{at_128, whole_part, quotient_size, whole_root, root_size, nonzero, not_minus_one, fits_128, lean, lean_size, sides, sides_size, beside, beside_size, less, less_size, area, area_size, area_positive, read_cast, fits_cast}
+use Rattle.dd_model.proofs.IntegerSizes.{quotient_size}
+use Rattle.dd_gram.proofs.FrameLemmas.{at_128, whole_part, whole_root, root_size, nonzero, not_minus_one, fits_128, lean, lean_size, sides, sides_size, beside, beside_size, less, less_size, area, area_size, area_positive, read_cast, fits_cast}
 use Rattle.dd_gram.proofs.frames.own_frame.Goals as goal
 
 size : (g : Gram) → IsGramOfSome g → HasSize g (2 ^ 43)

@@ -5,7 +5,8 @@ use Rattle.dd_model.specs.Jobs.{AreMembersUnder, IsJobOf}
 use Rattle.dd_front.specs.Absorbed.{IsFound}
 use Rattle.dd_front.specs.Joining.{done_with}
 use Rattle.dd_front.specs.Machine.{jobs_of}
-use Rattle.dd_steal.proofs.InTurn.{come_from_own, found_push, job_at, jobs_done}
+use Rattle.dd_front.proofs.Rounding.{jobs_with}
+use Rattle.dd_steal.proofs.InTurn.{come_from_own, found_push, job_at}
 use Rattle.dd_steal.proofs.alone.find_each.Goals as goal
 
 pub members_under-requires-clause-job : goal.members_under-requires-clause-job
@@ -44,5 +45,5 @@ returns-clause-come g c =
     let q = g.F.Finder.request c.args.finder.now in
     let es = c.args.entries.now in
     let all : take c.loop-entry.entry-index es ≡ es = take_all c.loop-entry.entry-index es (omega arith) in
-    come_from_own q (jobs_of es) (done_with c.loop-entry.lists.items es) c.requires.ascending c.requires.apart (jobs_done c.loop-entry.lists.items es)
+    come_from_own q (jobs_of es) (done_with c.loop-entry.lists.items es) c.requires.ascending c.requires.apart (jobs_with c.loop-entry.lists.items es)
     (subst (λ ds. AllByRecursion (IsFound q) (done_with c.loop-entry.lists.items ds)) all i.found)
