@@ -2,5 +2,5 @@ use Rattle.std.proofs.Common.{sym, ◌∙◌}
 use Rattle.dd_branch_tables.specs.Rows.{partial_of}
 use Rattle.dd_test_search.proofs.share_trials.answers.Goals as goal
 
-pub rules_out-before-requires-clause-kept : goal.rules_out-before-requires-clause-kept
-rules_out-before-requires-clause-kept c = c.start-start.ensures (partial_of c.empty-rows.result) (c.empty-rows.ensures.size ∙ sym c.of-classes.ensures.size)
+pub rules_out-before-requires : goal.rules_out-before-requires
+rules_out-before-requires c = record { kept = c.start-start.ensures (partial_of c.empty-rows.result) (c.empty-rows.ensures.size ∙ sym c.of-classes.ensures.size) }
