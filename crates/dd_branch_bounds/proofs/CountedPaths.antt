@@ -40,12 +40,6 @@ none_left s p old x = record { near = λ e no. absurd no; fewer = λ z no. absur
 
 -- ## A cell that is counted
 
--- a chain, or a cycle where none is
-whole_chain : (s : Symbol) (p : Pair) (d count own : ℕ) → IsChamber s d → ((members : List ℕ) → AreMembers s p d members → length members ≤ count)
-    → ((members : List ℕ) → AreMembers s p d members → sum_by (fixed_flags s p) members ≤ 2)
-    → ((members : List ℕ) → AreMembers s p d members → sum_by (λ x. all_degrees s / degree s p x) members * share_unit ≤ all_degrees s * own) → IsWholeAt s p d count 1 own
-whole_chain s p d count own h few flags total = record { chamber = h; size = few; fixed = λ members are. let e = flags members are in omega (arith, e); total = total }
-
 module _ (q : Request) (C : Symbol → Type 0) (n : ℕ) (p : Pair) (full : AreTables C n) (old : ℕ → PathEnd) (total : ℕ) (are : ArePathEnds q C n p old total)
     (s : Symbol) (c : C s) (wanted : Wanted q s) (R K : ℕ → Type 0) (first : Census) (told : AreCounted s p old first) where
   -- ## The ends of a path meet

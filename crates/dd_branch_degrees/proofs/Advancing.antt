@@ -434,7 +434,3 @@ found_entered a b m entered old new more = record {
     );
   };
 }
-
--- what is not whole has room for a degree
-pub room_here : (a : Assignment) (next whole : ℕ) → IsAssignment a → next ≢ whole → next ≡ told a → whole ≡ length a.places.items → told a < 2 * a.table.size
-room_here a next whole is other own all = let short = is.short in let count = is.places.count in omega (arith, short, count, other, own, all)

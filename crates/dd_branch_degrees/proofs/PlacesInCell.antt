@@ -1,7 +1,5 @@
 -- What is told at the least chamber of a cell is told at the others.
-use Rattle.std.proofs.Common.{◌≡◌, ℕ, ◌+◌, ◌-◌, ◌*◌, ◌/◌, ◌<◌, ◌≤◌, List, [], ◌∷◌, length, slice_index_or, sym, ap, ◌∙◌, subst, inr, ⊎_elim, arith}
-use Rattle.std.proofs.lemmas.Bool.{cases_lt}
-use Rattle.std.proofs.lemmas.List.{get_or_append_left, get_or_push, length_push}
+use Rattle.std.proofs.Common.{◌≡◌, ℕ, ◌+◌, ◌-◌, ◌*◌, ◌/◌, ◌<◌, ◌≤◌, List, [], ◌∷◌, slice_index_or, sym, ap, ◌∙◌, subst, inr, arith}
 use Rattle.dd_model.specs.declared.allowed.Allowed.{Allowed}
 use Rattle.dd_model.specs.declared.pair.Pair.{Pair}
 use Rattle.dd_model.specs.Symbol.{Symbol, AreInvolutions, IsChamber}
@@ -9,7 +7,7 @@ use Rattle.dd_model.proofs.CellWalks.{in_cell-sym}
 use Rattle.dd_model.proofs.Words.{act_within}
 use Rattle.dd_cells.specs.Cells.{IsSmallerInCell}
 use Rattle.dd_cells.proofs.ShapesInCell.{shape_beside}
-use Rattle.dd_branch_degrees.specs.Place.{AreBounds, HasPlaceOf, HasPlaces, IsPlaceOf}
+use Rattle.dd_branch_degrees.specs.Place.{AreBounds, IsPlaceOf}
 use Rattle.dd_branch_degrees.specs.declared.places.DegreeSlot.{DegreeSlot}
 
 -- a smaller chamber of a cell is a chamber
@@ -49,24 +47,3 @@ told_before t set p first d e places x low high all =
     let at : first + (e - 1) ≡ first + e - 1 = omega arith in
     subst (λ n. IsPlaceOf t set p first n (slice_index_or places (first + e - 1) x)) back
     (subst (λ n. IsPlaceOf t set p first (e - 1 + 1) (slice_index_or places n x)) at (all (e - 1) x (omega arith)))
-
--- one place more
-pub placed_more : (t : Symbol) (set : Allowed) (p : Pair) (old : List DegreeSlot) (m : ℕ) (now new : List DegreeSlot) → HasPlaces t set p old m now → HasPlaceOf t set p (length old) (m + 1) now new → HasPlaces t set p old (m + 1) new
-placed_more t set p old m now new has more =
-    let y = more.place in
-    let long : length new ≡ length now + 1 = ap length more.added ∙ length_push now y in
-    let longer = has.longer in
-    record {
-      longer = omega (arith, long, longer);
-      kept = λ j x low. ap (λ xs. slice_index_or xs j x) more.added ∙ get_or_append_left now (y ∷ []) x j (omega (arith, low, longer)) ∙ has.kept j x low;
-      each = λ k x low. ⊎_elim
-          (λ early.
-          let same : slice_index_or new (length old + k) x ≡ slice_index_or now (length old + k) x = ap (λ xs. slice_index_or xs (length old + k) x) more.added ∙ get_or_append_left now (y ∷ []) x (length old + k) (omega (arith, early, longer)) in
-          subst (IsPlaceOf t set p (length old) (k + 1)) (sym same) (has.each k x early))
-          (λ late.
-          let here : m ≡ k = omega (arith, low, late) in
-          let at : length now ≡ length old + k = omega (arith, here, longer) in
-          let last : slice_index_or new (length old + k) x ≡ y = ap (λ xs. slice_index_or xs (length old + k) x) more.added ∙ get_or_push now y x (length old + k) at in
-          subst (IsPlaceOf t set p (length old) (k + 1)) (sym last) (subst (λ n. IsPlaceOf t set p (length old) (n + 1) y) here more.is))
-          (cases_lt k m);
-    }

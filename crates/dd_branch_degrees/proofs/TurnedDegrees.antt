@@ -1,5 +1,5 @@
 -- The numberings of a symbol from a chamber to which its involutions may be turned.
-use Rattle.std.proofs.Common.{IfSome, Vec, ◌≡◌, ◌↔◌, ℕ, suc, ◌+◌, ◌-◌, ◌<◌, ◌≤◌, List, get_or, drop, drop-cons, ⊎_elim, [], ◌∷◌, ◌++◌, length, length-append, refl, sym, ap, ◌∙◌, subst, arith}
+use Rattle.std.proofs.Common.{◌≡◌, ◌↔◌, ℕ, suc, ◌+◌, ◌-◌, ◌<◌, ◌≤◌, List, get_or, drop, drop-cons, ⊎_elim, [], ◌∷◌, ◌++◌, length, length-append, refl, sym, ap, ◌∙◌, subst, arith}
 use Rattle.std.proofs.lemmas.List.{length-map}
 use Rattle.std.proofs.lemmas.Bool.{cases_lt}
 use Rattle.std.specs.Ordering.{nat_cmp, ordering_then}
@@ -22,9 +22,6 @@ use Rattle.dd_symbol.proofs.TableLemmas.{with_same}
 use Rattle.dd_branch_tables.proofs.BareTables.{images_alike}
 use Rattle.std.proofs.lemmas.List.{get_or-map, get_or_append_left, get_or_default, get_or_push}
 use Rattle.std.specs.List.{Contains}
-use Rattle.std.specs.Global.{Global}
-use Rattle.std.specs.declared.option.Option.{Option}
-use Rattle.std.specs.declared.option.Option.TheVariants.{None, Some}
 use Rattle.dd_canon.specs.Ties.{IsLeastFrom}
 use Rattle.dd_branch_degrees.specs.Automorphism.{AreAutomorphisms, IsBehind, IsAutomorphism, IsWithin, along_list}
 use Rattle.dd_branch_degrees.specs.declared.automorphisms.Automorphism.{Automorphism}
@@ -181,8 +178,3 @@ automorphisms_with t m01 m12 ds xs are = record {
 
 pub visit_with : (t : Symbol) (m01 m12 : List ℕ) → IsFirstVisit t → IsFirstVisit (with_degrees t m01 m12)
 visit_with t m01 m12 visit = subst (Grows 1) (sym (images_alike t (with_degrees t m01 m12) (with_same t m01 m12))) visit
-
-pub some_automorphisms : (t s : Symbol) (m01 m12 ds es : List ℕ) (found : Option (Vec Automorphism Global)) → s ≡ with_degrees t m01 m12 → es ≡ ds → IfSome found (λ all. AreAutomorphisms t ds all.items) → IfSome found (λ all. AreAutomorphisms s es all.items)
-some_automorphisms t s m01 m12 ds es None same ties none = none
-some_automorphisms t s m01 m12 ds es (Some all) same ties are =
-    subst (λ xs. AreAutomorphisms s xs all.items) (sym ties) (subst (λ u. AreAutomorphisms u ds all.items) (sym same) (automorphisms_with t m01 m12 ds all.items are))

@@ -1,5 +1,5 @@
 -- How far a search has come from a state at its levels, for states of any kind.
-use Rattle.std.proofs.Common.{◌≡◌, ◌↔◌, ◌⊎◌, ℕ, ◌*◌, ◌<◌, ◌≤◌, List, [], ◌∷◌, ◌++◌, length, refl, sym, ap, ◌∙◌, subst, inl, inr, ⊎_elim, arith}
+use Rattle.std.proofs.Common.{◌≡◌, ◌↔◌, ◌⊎◌, ℕ, ◌*◌, ◌<◌, ◌≤◌, List, [], ◌∷◌, ◌++◌, length, sym, ap, ◌∙◌, subst, inl, inr, ⊎_elim, arith}
 use Rattle.dd_model.specs.Symbol.{Symbol}
 use Rattle.dd_model.specs.Code.{IsBelow}
 use Rattle.dd_model.specs.declared.requests.Request.{Request}
@@ -40,18 +40,6 @@ module _ {S : Type 0} (request : S → Request) (wanted : Request → Symbol →
     pub left : (s : Symbol) → IsLeftAt prefix undone (wanted (request begun)) (size begun) begun first s ↔ IsLeftAt prefix undone (wanted (request begun)) (size begun) state levels s
     pub lighter : weight levels ≤ weight first
 
-  -- at the first state
-  pub not_gone : (begun : S) (first : List Level) → valid begun → IsAt request wanted size prefix end depth undone valid begun first → HasCome begun first begun first
-  not_gone begun first v at = record {
-    valid_now = v;
-    same_request = refl;
-    same_size = refl;
-    at = at;
-    same_first = refl;
-    left = λ s. ((λ l. l), (λ l. l));
-    lighter = omega arith;
-  }
-
   -- what is said of the request and the size of a state is said of those of the first one
   pub of_first : (begun state : S) → request state ≡ request begun → size state ≡ size begun → (P : (Symbol → Type 0) → ℕ → Type 0) → P (wanted (request state)) (size state) → P (wanted (request begun)) (size begun)
   of_first begun state q n P p = subst (λ k. P (wanted (request begun)) k) n (subst (λ r. P (wanted r) (size state)) q p)
@@ -73,12 +61,6 @@ module _ {S : Type 0} (request : S → Request) (wanted : Request → Symbol →
         left = λ s. through (come.left s) (left_others (left_none (wanted (request begun)) (size begun) (prefix state) level.left s empty));
         lighter = let most = come.lighter in let less = lighter_popped level (before ∷ levels) empty in omega (arith, most, less);
       }
-
-  -- there was no level before it
-  pub came_to_end : (begun state : S) (first : List Level) (level : Level) → HasCome begun first state (level ∷ []) → HasNone level.left
-      → (s : Symbol) → IsLeftAt prefix undone (wanted (request begun)) (size begun) begun first s → ⊥
-  came_to_end begun state first level come empty s left =
-      (through (come.left s) (left_others (left_none (wanted (request begun)) (size begun) (prefix state) level.left s empty))).0 left
 
   -- The least number that was left is tried, and nothing is under the prefix with it.
   pub came_dead : (begun state : S) (first levels : List Level) (level : Level) (m : ℕ) (rest : ChamberSet) → end (size begun) ≤ 5 * size begun → HasCome begun first state (level ∷ levels) → IsFirst level.left m rest

@@ -96,13 +96,6 @@ start_more stem k Smaller is whole met other larger open_ inside old = absurd (o
 start_more stem k Larger is whole met other larger open_ inside old = larger_more stem k old (larger refl)
 start_more stem k (Open place) is whole met other larger open_ inside old = agreeing_more stem k old inside (agreeing_of_open stem (k + 1) is whole met (open_ place refl))
 
-pub no_starts : (stem : Stem) → IsStem stem → AreNotSmallerTo stem 1
-no_starts stem is = record {
-  ties = [];
-  open_ = record { chambers = λ d there. absurd (omega (arith, there)); others = λ d low high. absurd (omega (arith, low, high)) };
-  agreeing = λ d there. absurd (omega (arith, there));
-}
-
 -- ## The table
 
 -- no numbering of the table from a tie is smaller

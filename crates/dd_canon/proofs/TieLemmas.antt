@@ -32,13 +32,6 @@ first_of_standing s o is con standing not_less =
     (λ same. subst IsFirstVisit same u.1.first_visit)
     (numbered_wins s u.0 s 1 (count_from 1 s.size) is con one u.1 is (identity_isomorphism s is) (item-count_from s.size 1 (omega arith) pos))
 
-pub no_ties : (s : Symbol) (ds : List ℕ) → ds ≡ [] → AreTiesTo s 0 ds
-no_ties s ds none = record {
-  chambers = λ d there. absurd (let low = (subst (λ xs. Contains xs d) none there).1 in omega (arith, low));
-  first = λ some. absurd (omega (arith, some));
-  others = λ d low high. absurd (omega (arith, low, high));
-}
-
 -- one start more
 pub more_ties : (s : Symbol) (k : ℕ) (ds new : List ℕ) (o : Ordering) → IsTable s → Connected s → IsChamber s (k + 1) → AreTiesTo s k ds → IsStanding s s (k + 1) o → is_lt o ≡ false
     → (new ≡ ds ++ (k + 1) ∷ []) ⊎ (((o ≡ Greater) ⊎ (k + 1 ≡ 1)) × (new ≡ ds)) → AreTiesTo s (k + 1) new
@@ -103,6 +96,3 @@ pub smaller_start : (s : Symbol) (ds : List ℕ) (k : ℕ) (o : Ordering) → Is
 smaller_start s ds k o is con h low standing less least =
     let u = numbered_from s (get_or ds k 0) is.table con h in
     least.none (get_or ds k 0) u.0 (k, low, get_or_default ds k (get_or ds k 0) 0 low) u.1 (below_back u.0 s (standing.stands u.0 u.1 ∙ less_of o less))
-
-pub no_starts : (s : Symbol) (ds : List ℕ) → length ds ≡ 0 → IsLeastFrom s ds
-no_starts s ds none = record { none = λ d u there. absurd (let low = there.1 in omega (arith, low, none)) }

@@ -4,7 +4,7 @@ use Rattle.dd_model.specs.declared.pair.Pair.{Pair}
 use Rattle.dd_model.specs.Symbol.{Symbol, AreInvolutions, IsChamber}
 use Rattle.dd_model.specs.Cell.{InCell, IsChain, IsLeastTurns}
 use Rattle.dd_model.proofs.CellWalks.{in_cell-trans, in_cell-sym}
-use Rattle.dd_symbol.specs.Cells.{IsLeastFor, IsKindOf, IsShapeOf}
+use Rattle.dd_symbol.specs.Cells.{IsKindOf, IsShapeOf}
 use Rattle.dd_symbol.specs.declared.kind.Kind.{Kind}
 use Rattle.dd_symbol.specs.declared.kind.Kind.TheVariants.{Cycle, Chain}
 use Rattle.dd_symbol.specs.declared.shapes.CellShape.{CellShape}

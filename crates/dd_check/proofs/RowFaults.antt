@@ -1,9 +1,9 @@
 -- What a line tells, or which fault it has.
-use Rattle.std.proofs.Common.{◌≡◌, ℕ, List, sym, ap, ◌∙◌, subst}
+use Rattle.std.proofs.Common.{◌≡◌, ℕ, List, sym, ◌∙◌, subst}
 use Rattle.std.specs.Prelude.{Result, Ok, Err, IfErr, IsErrAnd}
 use Rattle.dd_check.specs.declared.faults.CheckFault.{CheckFault}
-use Rattle.dd_check.specs.declared.faults.CheckFault.TheVariants.{Shape, Range}
-use Rattle.dd_check.specs.Texts.{Text, words_of}
+use Rattle.dd_check.specs.declared.faults.CheckFault.TheVariants.{Range}
+use Rattle.dd_check.specs.Texts.{Text}
 use Rattle.dd_check.specs.Faults.{Tells, FirstFault, shape, range, after}
 use Rattle.dd_check.specs.Lines.{HasWords, IsMissing, IsToldInRange, IsFaultHere}
 
@@ -14,18 +14,9 @@ missing lines k form in_range fault h = shape h.shape (λ a t. h.none t.line t.i
 pub tells : {A : Type 0} (lines : List Text) (k : ℕ) (form : List Text → A → Type 0) (words : List Text) (a : A) → HasWords lines k words → form words a → Tells form lines k a
 tells lines k form words a h f = record { line = h.line; is_line = h.is_line; form_is = subst (λ ws. form ws a) (sym h.words_are) f }
 
-pub unformed : {A : Type 0} (lines : List Text) (k : ℕ) (form : List Text → A → Type 0) (in_range : A → Type 0) (words : List Text) (fault : CheckFault)
-    → fault ≡ Shape k → HasWords lines k words → ((a : A) → form words a → ⊥) → IsFaultHere lines k form in_range fault
-unformed lines k form in_range words fault e h none = shape e (λ a t.
-    none a (subst (λ ws. form ws a) (ap words_of (sym t.is_line.line_is ∙ h.is_line.line_is) ∙ h.words_are) t.form_is))
-
 pub out_of_range : {A : Type 0} (lines : List Text) (k : ℕ) (form : List Text → A → Type 0) (in_range : A → Type 0) (words : List Text) (a : A) (fault : CheckFault)
     → fault ≡ Range k → HasWords lines k words → form words a → (in_range a → ⊥) → IsFaultHere lines k form in_range fault
 out_of_range lines k form in_range words a fault e h f out = range a e (tells lines k form words a h f) out
-
-pub told_in_range : {A : Type 0} (lines : List Text) (k : ℕ) (form : List Text → A → Type 0) (in_range : A → Type 0) (words : List Text) (a : A)
-    → HasWords lines k words → form words a → in_range a → IsToldInRange lines k form in_range a
-told_in_range lines k form in_range words a h f r = record { tells = tells lines k form words a h f; in_range = r }
 
 -- a fault of this line is the first of the lines from here on
 pub here : {A : Type 0} (lines : List Text) (k : ℕ) (form : List Text → A → Type 0) (in_range : A → Type 0) (later : A → CheckFault → Type 0) (fault : CheckFault)

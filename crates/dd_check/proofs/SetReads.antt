@@ -8,7 +8,7 @@ use Rattle.dd_model.specs.declared.allowed.Allowed.{Allowed}
 use Rattle.dd_check.specs.declared.items.Item.{Item}
 use Rattle.dd_check.specs.declared.items.Item.TheVariants.{One, Span}
 use Rattle.dd_check.specs.Texts.{Text}
-use Rattle.dd_check.specs.Sets.{low_of, high_of, IsItem, AreItems, HasNumberIn, IsSetOf}
+use Rattle.dd_check.specs.Sets.{low_of, high_of, IsItem, AreItems, HasNumberIn}
 
 -- ---- words and values
 
@@ -58,9 +58,6 @@ pub all_low : (items : List Item) → AllByRecursion (λ item. 0 ≤ low_of item
 all_low [] = tt
 all_low (item ∷ items) = (omega arith, all_low items)
 
-pub still_at_start : (items : List Item) → StillAre items items 0
-still_at_start items = record { there = λ h. (h, all_low items); back = λ h. h.0 }
-
 pub ends_in_order : (item : Item) → IsItem item → low_of item ≤ high_of item
 ends_in_order (One number) h = omega arith
 ends_in_order (Span low high) h = let a = h.1 in omega arith
@@ -81,9 +78,6 @@ still_more all item rest next is from h = record {
 
 pub not_item : (all : List Item) (item : Item) (rest : List Item) (next : ℕ) → (IsItem item → ⊥) → StillAre all (item ∷ rest) next → AreItems all → ⊥
 not_item all item rest next never h a = never (h.there a).0.each.0
-
-pub not_apart : (all : List Item) (item : Item) (rest : List Item) (next : ℕ) → low_of item < next → StillAre all (item ∷ rest) next → AreItems all → ⊥
-not_apart all item rest next low h a = let b = (h.there a).1.0 in omega arith
 
 -- ---- the numbers of items
 
@@ -110,9 +104,6 @@ pub record IsSetSoFar (all rest : List Item) (set : Allowed) : Type 0 where
   pub back : (m : ℕ) → HasNumberIn all m → IsIn set m ⊎ HasNumberIn rest m
   pub later : (m : ℕ) → HasNumberIn rest m → HasNumberIn all m
 
-pub no_set_yet : (all : List Item) (set : Allowed) → ((m : ℕ) → IsIn set m → ⊥) → IsSetSoFar all all set
-no_set_yet all set none = record { there = λ m h. absurd (none m h); back = λ m h. inr h; later = λ m h. h }
-
 pub set_more : (all rest : List Item) (item : Item) (set new : Allowed) → ((m : ℕ) → IsIn new m ↔ (IsIn set m ⊎ ((low_of item ≤ m) × (m ≤ high_of item))))
     → IsSetSoFar all (item ∷ rest) set → IsSetSoFar all rest new
 set_more all rest item set new same h = record {
@@ -123,9 +114,6 @@ set_more all rest item set new same h = record {
   ];
   later = λ m has. h.later m (number_later item rest m has);
 }
-
-pub set_whole : (all : List Item) (set : Allowed) → IsSetSoFar all [] set → IsSetOf all set
-set_whole all set h m = (h.there m, λ has. elim (h.back m has) [ inl is ↦ is | inr left ↦ absurd (no_number m left) ])
 
 -- the ends of one of the items in range
 pub each_item : (items : List Item) (k : ℕ) (d : Item) → k < length items → AllByRecursion IsItem items → IsItem (get_or items k d)

@@ -1,13 +1,12 @@
 -- Which texts begin with the line of a shard.
-use Rattle.std.proofs.Common.{◌≡◌, ◌≢◌, ◌↔◌, IsTrue, ℕ, zero, suc, ◌+◌, ◌-◌, ◌*◌, ◌<◌, ◌≤◌, min, Bool, Result, Ok, ⊎_elim, List, [], ◌∷◌, ◌++◌, length, get_or, take, drop, append_assoc, Option, None, Some, refl, sym, ap, ◌∙◌, subst, inl, inr, arith}
+use Rattle.std.proofs.Common.{◌≡◌, ◌≢◌, ◌↔◌, IsTrue, ℕ, zero, suc, ◌+◌, ◌-◌, ◌*◌, ◌<◌, ◌≤◌, min, Bool, Result, Ok, ⊎_elim, List, [], ◌∷◌, ◌++◌, length, get_or, take, drop, append_assoc, refl, sym, ap, ◌∙◌, subst, inl, inr, arith}
 use Rattle.std.proofs.lemmas.Bool.{cases_lt}
 use Rattle.std.proofs.lemmas.List.{append_cancel_left, take_all}
 use Rattle.std.proofs.Math.Seq.{take-length, take-suc}
 use Rattle.std.proofs.lemmas.List.Elements.{Contains-append_cases}
-use Rattle.std.specs.Prelude.{codes, decimal, MatchOption, IfOk}
+use Rattle.std.specs.Prelude.{codes, decimal, IfOk}
 use Rattle.std.specs.Fmt.{digits}
 use Rattle.std.specs.List.{join_with_byte, Contains}
-use Rattle.std.specs.Borrow.{Bor}
 use Rattle.dd_model.specs.Request.{IsValid}
 use Rattle.dd_model.specs.declared.jobs.Job.{Job}
 use Rattle.dd_model.specs.declared.requests.Request.{Request}
@@ -56,21 +55,11 @@ line_bytes shard rest =
 pub line_length : (shard : Shard) (rest : Text) → length (shard_line shard ++ rest) ≡ 20 + length rest
 line_length shard rest = let n = ap length (line_bytes shard rest) in omega (arith, n)
 
--- the words of the line come first
-words_first : (shard : Shard) (text rest : Text) → IsRest shard text rest → text ≡ shard_words ++ number_bytes shard rest
-words_first shard text rest is = is ∙ line_bytes shard rest
-
 pub rest_after : (shard : Shard) (xs rest : Text) → IsRest shard (shard_words ++ xs) rest → xs ≡ number_bytes shard rest
 rest_after shard xs rest is = append_cancel_left shard_words xs (number_bytes shard rest) (is ∙ line_bytes shard rest)
 
 pub after_rest : (shard : Shard) (xs rest : Text) → xs ≡ number_bytes shard rest → IsRest shard (shard_words ++ xs) rest
 after_rest shard xs rest is = ap (λ ys. shard_words ++ ys) is ∙ sym (line_bytes shard rest)
-
--- what is told of a text whose first bytes are the words, is told of the text
-pub words_before : (r : Option (Bor Text)) (text : Text) → MatchOption r ((rest : Text) → text ≢ shard_words ++ rest) (λ xs. text ≡ shard_words ++ xs.now)
-    → r ≡ None → (shard : Shard) (rest : Text) → IsRest shard text rest → ⊥
-words_before None text none e shard rest is = none (number_bytes shard rest) (words_first shard text rest is)
-words_before (Some xs) text h e shard rest is = absurd (cc)
 
 -- four bytes and what comes after them
 pub four_bytes : (xs : Text) → 4 ≤ length xs → (d0 d1 d2 d3 : ℕ) → xs ≡ get_or xs 0 d0 ∷ get_or xs 1 d1 ∷ get_or xs 2 d2 ∷ get_or xs 3 d3 ∷ take (length xs - 4) (drop 4 xs)

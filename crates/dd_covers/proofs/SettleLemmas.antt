@@ -20,7 +20,7 @@ use Rattle.dd_covers.specs.CellNumbers.{numbered}
 use Rattle.dd_covers.specs.Ends.{Holds, one_end, other_end}
 use Rattle.dd_covers.specs.Joins.{either, new_end, old_end, IsJoinedBy, IsJoin, AreJoins}
 use Rattle.dd_covers.specs.Settling.{IsThisSide, IsPut, shift_of, AreReady, IsSettled}
-use Rattle.dd_covers.specs.Shifts.{shift, HaveSize, AreBelow}
+use Rattle.dd_covers.specs.Shifts.{shift, HaveSize}
 use Rattle.dd_covers.specs.TorusCover.{sum_along, round, AreColors, AreTorusShifts}
 use Rattle.dd_covers.specs.Visits.{IsVisitOrder, IsFirstStep, IsFree, AreEndsJoined}
 use Rattle.dd_covers.specs.declared.join.Join.{Join}
@@ -652,9 +652,6 @@ settled_on s k white x b js j u x' b' done = record { order = u.order; visits = 
 
 pub settled_all : (s : Symbol) (k : ℕ) (white : List Bool) (x : Shifts) (b : List ℕ) → IsUnderWay s k white x b [] → AreTorusShifts s k (shift x)
 settled_all s k white x b u = shifts_settled s k white u.order x b u.settling u.visits
-
-pub settled_below : (s : Symbol) (k : ℕ) (white : List Bool) (x : Shifts) (b : List ℕ) (js : List Join) → IsUnderWay s k white x b js → AreBelow s k x
-settled_below s k white x b js u = record { lengths = u.settling.sizes; below = u.settling.below }
 
 -- what gives no last side has none
 pub nothing_popped : (js : List Join) → (0 < length js → false ≡ true) → js ≡ []

@@ -21,14 +21,6 @@ unfoldable pub table : Net → ℕ → Table
 table net zero = record { number = first_entry net; scale = pos 1 }
 table net (suc k) = after (suc k) (table net k)
 
-pub table-first : (net : Net) → table net zero ≡ record { number = first_entry net; scale = pos 1 }
-unfolding table
-table-first net = refl
-
-pub table-after : (net : Net) (k : ℕ) → table net (suc k) ≡ after (suc k) (table net k)
-unfolding table
-table-after net k = refl
-
 -- A table that came of steps with pivots other than 0: what solves its first rows solves those of the first table.
 pub record IsSound (net : Net) (k : ℕ) : Type 0 where
   pub scale : (table net k).scale ≢ pos 0

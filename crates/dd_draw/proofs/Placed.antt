@@ -89,10 +89,6 @@ narrow_points net k rows points t are = all_narrow points at_place
           y = subst IsWithin (sym (are.y i inside)) ((t.each i inside).each net.vertices (omega arith)).within;
         }
 
-pub points_none : (vertices : ℕ) (rows : List (List Fraction)) (points : List Point) → points ≡ [] ++ origin ∷ [] → ArePointsTo vertices zero rows points
-points_none vertices rows points e = subst (ArePointsTo vertices zero rows) (sym e)
-    (record { many = omega arith; start = refl; x = λ i l. absurd (omega arith); y = λ i l. absurd (omega arith) })
-
 pub points_more : (vertices n : ℕ) (rows : List (List Fraction)) (xs : List Fraction) (points points' : List Point)
     → points' ≡ points ++ record { x = number_at xs (vertices - 1); y = number_at xs vertices } ∷ [] → row_at rows n ≡ xs → ArePointsTo vertices n rows points
     → ArePointsTo vertices (n + 1) rows points'

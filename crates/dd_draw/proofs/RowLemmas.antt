@@ -1,13 +1,10 @@
 -- Rows that grow by one number.
-use Rattle.std.proofs.Common.{◌≡◌, ℕ, ◌+◌, ◌<◌, pos, List, [], ◌∷◌, ◌++◌, length, get_or, refl, sym, ◌∙◌, subst, below_more, arith}
+use Rattle.std.proofs.Common.{◌≡◌, ℕ, ◌+◌, ◌<◌, pos, List, [], ◌∷◌, ◌++◌, length, get_or, sym, ◌∙◌, subst, below_more, arith}
 use Rattle.std.proofs.lemmas.List.{length-append, get_or_append_left, get_or_push, get_or_default}
 use Rattle.dd_cells.specs.declared.fractions.Fraction.{Fraction}
 use Rattle.dd_draw.specs.Elimination.{Ratio}
 use Rattle.dd_draw.specs.Limit.{IsNarrow}
 use Rattle.dd_draw.specs.Rows.{AreMade, number_at}
-
-pub made_none : (r : ℕ → Ratio) (Wide : ℕ → Type 0) → AreMade r Wide 0 []
-made_none r Wide = record { many = refl; each = λ j l. absurd (omega arith); none_wide = λ j l. absurd (omega arith) }
 
 pub made_more : (r : ℕ → Ratio) (Wide : ℕ → Type 0) (n : ℕ) (xs ys : List Fraction) (x : Fraction) → ys ≡ xs ++ x ∷ []
     → AreMade r Wide n xs → IsNarrow x (r n) → ¬ Wide n → AreMade r Wide (n + 1) ys

@@ -33,9 +33,6 @@ pub record IsBegun (net : Net) (n : ℕ) (rows : List (List Fraction)) : Type 0 
   pub many : length rows ≡ n
   pub each : (i : ℕ) → i < n → IsRowOf net zero (suc i) (row_at rows i)
 
-pub begun_none : (net : Net) → IsBegun net zero []
-begun_none net = record { many = refl; each = λ i l. absurd (omega arith) }
-
 pub first_row_of : (net : Net) (i : ℕ) (new : List Fraction) → AreMade (λ j. whole (first_entry net i (suc j))) (λ j. IsWide (whole (first_entry net i (suc j)))) (net.vertices + 1) new
     → IsRowOf net zero i new
 first_row_of net i new made = record {

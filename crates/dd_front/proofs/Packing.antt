@@ -39,11 +39,6 @@ pub record IsReading (ps : List PackedJob) (all : List Job) (at : ℕ) (jobs : L
 next_one : (ps : List PackedJob) (at : ℕ) (p : PackedJob) → at < length ps → p ≡ get_or ps at p → drop at ps ≡ p ∷ drop (suc at) ps
 next_one ps at p low is = drop-cons ps at p low ∙ ap (λ c. c ∷ drop (suc at) ps) (sym is)
 
--- the numbers of the next job are there
-pub enough_left : (ps : List PackedJob) (all : List Job) (at : ℕ) (jobs : List Job) (left : List ℕ) (p : PackedJob) → IsReading ps all at jobs left → at < length ps → p ≡ get_or ps at p
-    → p.count ≤ length left
-enough_left ps all at jobs left p is low here = let sum = ap together (next_one ps at p low here) in omega (arith, is.packed, sum)
-
 -- one more job is read
 pub read_more : (ps : List PackedJob) (all : List Job) (at : ℕ) (jobs now : List Job) (left : List ℕ) (p : PackedJob) → IsReading ps all at jobs left → at < length ps → p ≡ get_or ps at p
     → now ≡ jobs ++ job_of p.size (take p.count left) ∷ [] → IsReading ps all (suc at) now (drop p.count left)

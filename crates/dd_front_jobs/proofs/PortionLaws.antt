@@ -13,8 +13,6 @@ use Rattle.dd_model.specs.declared.requests.Request.{Request}
 use Rattle.dd_model.specs.declared.jobs.Job.{Job}
 use Rattle.dd_model.specs.declared.jobs.Position.{Position}
 use Rattle.dd_model.proofs.Lists.{Contains-head}
-use Rattle.dd_model.proofs.Texts.{lines_unique}
-use Rattle.dd_model.proofs.Without.{without_unique}
 use Rattle.dd_front_jobs.specs.declared.shards.Shard.{Shard}
 use Rattle.dd_front_jobs.specs.Opening.{IsOpening, IsOpeningJob}
 use Rattle.dd_front_jobs.specs.Shards.{IsShardJob, IsShardOpening}
@@ -136,12 +134,3 @@ members_unique p ss ts a b =
     one_ascending ss ts a.ascending b.ascending
     (λ s there. (b.members s).1 ((a.members s).0 there))
     (λ s there. (a.members s).1 ((b.members s).0 there))
-
--- and one text
-pub portion_text_unique : (p : Portion) (at : Position) (c : ℕ) (a b : List ℕ) → IsPortionText p at c a → IsPortionText p at c b → a ≡ b
-portion_text_unique p at c a b x y =
-    let t = told_text p at c a x in
-    let u = told_text p at c b y in
-    let all = members_unique p t.members u.members t.catalogue u.catalogue in
-    let later = without_unique (IsBefore at) t.members t.later u.later t.not_before (subst (λ ss. IsWithout (IsBefore at) ss u.later) (sym all) u.not_before) in
-    lines_unique c t.later a b t.lines (subst (λ ss. AreLines c ss b) (sym later) u.lines)

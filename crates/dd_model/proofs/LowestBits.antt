@@ -16,9 +16,6 @@ pub record IsLowestBit (n t : ℕ) : Type 0 where
 pub lowest_bit : (n : ℕ) → 0 < n → n < 2 ^ 64 → IsLowestBit n (trailing_zeros w64 n)
 lowest_bit n some small = let told = bit_at-trailing_zeros w64 n some small in record { set_ = told.1; none_below = told.2 }
 
-pub lowest_below : (n : ℕ) → 0 < n → n < 2 ^ 64 → trailing_zeros w64 n < 64
-lowest_below n some small = (bit_at-trailing_zeros w64 n some small).0
-
 half_less : (n : ℕ) → n % 2 ≡ 0 → (n - 1) / 2 ≡ n / 2 - 1
 half_less n even = omega arith
 

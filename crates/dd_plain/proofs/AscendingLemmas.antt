@@ -26,10 +26,6 @@ pub ascending-insert : (xs ys : List Symbol) (x : Symbol) → IsAscending (xs ++
 ascending-insert [] ys x h before after = (after, h)
 ascending-insert (y ∷ xs) ys x h before after = (all-append (IsBelow y) xs x ys h.0 before.0, ascending-insert xs ys x h.1 before.1 after)
 
--- what is above the first of an ascending list is above all of it
-pub above_all : (x y : Symbol) (ys : List Symbol) → IsAscending (y ∷ ys) → IsBelow x y → AllByRecursion (IsBelow x) (y ∷ ys)
-above_all x y ys h below = (below, all_above x y below ys h.0)
-
 pub Contains-insert : (xs ys : List Symbol) (x : Symbol) (s : Symbol) → Contains (xs ++ x ∷ ys) s ↔ (Contains (xs ++ ys) s ⊎ (s ≡ x))
 Contains-insert xs ys x s = (
   (λ h.

@@ -1,11 +1,9 @@
 -- Classes of chambers that are refined until nothing more is told.
-use Rattle.std.proofs.Common.{◌≡◌, ℕ, ◌+◌, ◌-◌, ◌*◌, ◌<◌, ◌≤◌, List, [], ◌∷◌, length, replicate, get_or, sym, ap, ◌∙◌, subst, arith}
-use Rattle.std.proofs.lemmas.List.{get_or-replicate}
+use Rattle.std.proofs.Common.{◌≡◌, ℕ, ◌+◌, ◌-◌, ◌*◌, ◌<◌, ◌≤◌, List, [], ◌∷◌, length, get_or, sym, ap, ◌∙◌, subst, arith}
 use Rattle.dd_model.specs.declared.index.Index.{Index}
 use Rattle.dd_model.specs.declared.index.Index.TheVariants.{Zero, One, Two}
 use Rattle.dd_model.specs.Symbol.{Symbol, IsChamber, AreInvolutions, Word, item, op, act}
 use Rattle.dd_model.specs.Minimal.{Alike, Minimal}
-use Rattle.dd_model.proofs.Lists.{ones_at}
 use Rattle.dd_quotient.specs.Alike.{AreAlikeClasses, IsRefined, signature}
 use Rattle.dd_quotient.proofs.SumLemmas.{total, total-lt, total-bound}
 

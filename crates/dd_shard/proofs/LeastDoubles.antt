@@ -107,7 +107,3 @@ double_here ms k a b least p q low from is it same place first h =
     (double_more_from ms (k - 1) least p q b (subst (λ j. IsLeast ms j least) now h) (omega arith)
     (neighbors ms k a b (λ x y. x.symbol ≡ y.symbol) low from is it same)
     (neighbors ms k a b (λ x y. y ≡ b) low from is it refl) place first)
-
-pub least_whole : (ms : List Member) (k : ℕ) (least : Option ListPlace) → length ms ≤ k → IsLeast ms k least → IsLeast ms (length ms) least
-least_whole ms k None all h = λ j d low. h j d (omega arith)
-least_whole ms k (Some p) all h = record { at = h.at; within = h.within; same = h.same; is = h.is; least = λ j d low. h.least j d (omega arith) }

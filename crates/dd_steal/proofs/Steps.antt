@@ -1,13 +1,10 @@
 -- What a sweep puts to the log.
-use Rattle.std.proofs.Common.{List, [], ◌∷◌, ◌++◌, append_assoc, append-nil, sym, ◌∙◌, ap}
+use Rattle.std.proofs.Common.{List, [], ◌∷◌, ◌++◌, append_assoc, ◌∙◌, ap}
 use Rattle.dd_model.proofs.Ascending.{all-append}
 use Rattle.dd_front.specs.declared.event.Event.{Event}
 use Rattle.dd_board.specs.Desk.{DeskView}
 use Rattle.dd_board.specs.Calls.{Books}
 use Rattle.dd_steal.specs.Sweep.{IsSwept, IsSweep}
-
-pub swept_none : (log : List Event) → IsSwept log log
-swept_none log = record { more = []; log = sym (append-nil log); are = tt }
 
 pub swept_one : (old new : DeskView) (event : Event) → Books event old new → IsSweep event → IsSwept old.log new.log
 swept_one old new event books is = record { more = event ∷ []; log = books.log; are = (is, tt) }

@@ -9,7 +9,6 @@ use Rattle.dd_ports.specs.Texts.{SameTexts, SameOthers}
 use Rattle.dd_ports.specs.declared.sink.SinkFault.{SinkFault as WriteFault}
 use Rattle.dd_ports.specs.declared.sink.SinkFault.TheVariants as sink
 use Rattle.dd_check.specs.declared.checkpoint.Checkpoint.{Checkpoint}
-use Rattle.dd_check.specs.declared.kinds.ResumeKind.{ResumeKind}
 use Rattle.dd_check.specs.Calls.{kind_of, Begin, Resume}
 use Rattle.dd_check.specs.ChainStarts.{Start, first_start, next_start}
 use Rattle.dd_pages_and_checkpoints.specs.declared.fault.RunFault.{RunFault}
@@ -25,8 +24,8 @@ use Rattle.dd_suite_tasks.specs.declared.ending.Ending.TheVariants.{Done, Usage,
 use Rattle.dd_suite_tasks.specs.Beginnings.{HoldsCheck}
 use Rattle.dd_suite_tasks.specs.Endings.{run_ending}
 use Rattle.dd_suite_tasks.specs.Lone.{run_result, IsLoneEnding}
-use Rattle.dd_suite_tasks.specs.Outcomes.{IsRunEnding, IsHeldStop, IsRunOutcome, EndsRunFrom}
-use Rattle.dd_suite_tasks.specs.Outside.{Before, After, WritesNothing, KeepsNames}
+use Rattle.dd_suite_tasks.specs.Outcomes.{IsRunEnding, IsRunOutcome, EndsRunFrom}
+use Rattle.dd_suite_tasks.specs.Outside.{Before, After, KeepsNames}
 use Rattle.dd_suite.proofs.RunEndings.{run_told, run_cause, sink_end}
 
 -- ## Runs under a name
@@ -111,21 +110,6 @@ module _ (s : Start) (name : List ℕ) (round : ℕ) (pause : Option ℕ) (befor
   }
 
 -- ## Calls that never began to run
-
-pub stopped_outcome : (kind : ResumeKind) (ending : Ending) (name : List ℕ) (round : ℕ) (pause : Option ℕ) (before : Before) (after : After)
-    → IsHeldStop kind ending before.tells (before.held name) before.store_faults after.store_faults → WritesNothing before after → KeepsNames before after
-    → IsRunOutcome (record { task = Resume kind name; round = round; pause = pause }) ending before after
-stopped_outcome kind Done name round pause before after c nothing same = absurd c
-stopped_outcome kind Usage name round pause before after c nothing same = absurd c
-stopped_outcome kind (Refused fault) name round pause before after c nothing same = absurd c
-stopped_outcome kind (RefusedSymbol refusal) name round pause before after c nothing same = absurd c
-stopped_outcome kind (RefusedCheck fault) name round pause before after c nothing same = inr (record { not_run = record { stopped = tt; nothing = nothing; same = same }; cause = c })
-stopped_outcome kind (RefusedMerge refusal) name round pause before after c nothing same = absurd c
-stopped_outcome kind (Paused lines) name round pause before after c nothing same = absurd c
-stopped_outcome kind StoreFault name round pause before after c nothing same = inr (record { not_run = record { stopped = tt; nothing = nothing; same = same }; cause = c })
-stopped_outcome kind SinkFault name round pause before after c nothing same = absurd c
-stopped_outcome kind Memory name round pause before after c nothing same = inr (record { not_run = record { stopped = tt; nothing = nothing; same = same }; cause = c })
-stopped_outcome kind TooManyLines name round pause before after c nothing same = absurd c
 
 -- ## Runs without a name
 

@@ -5,15 +5,10 @@ use Rattle.dd_ports.specs.Grows.{GrowsByPrefix}
 use Rattle.dd_check.specs.declared.shard_faults.ShardFault.{ShardFault}
 use Rattle.dd_check.specs.ShardFaults.{HasKindFault}
 use Rattle.dd_check.proofs.KindFaults.{no_kind_fault}
-use Rattle.dd_front_jobs.specs.declared.shards.Shard.{Shard}
-use Rattle.dd_check.specs.declared.checkpoint.Checkpoint.{Checkpoint}
-use Rattle.dd_check.specs.Accepted.{IsCheckpointText}
 use Rattle.dd_check.specs.ShardChecks.{IsAcceptedText}
 use Rattle.dd_check.proofs.Exclusion.{no_fault as never_both}
 use Rattle.dd_front_jobs.specs.Portions.{IsPortionText}
-use Rattle.dd_check.specs.declared.kinds.ResumeKind.{ResumeKind}
-use Rattle.dd_check.specs.declared.kinds.ResumeKind.TheVariants.{Catalogues, Shards}
-use Rattle.dd_check.specs.Calls.{kind_of, Task, Begin, Resume}
+use Rattle.dd_check.specs.Calls.{Task, Begin, Resume}
 use Rattle.dd_check.specs.ChainStarts.{Start}
 use Rattle.dd_pages_and_checkpoints.specs.declared.fault.RunFault.{RunFault}
 use Rattle.dd_pages_and_checkpoints.specs.declared.fault.RunFault.TheVariants as fault

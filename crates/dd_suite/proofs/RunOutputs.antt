@@ -2,7 +2,6 @@
 use Rattle.std.proofs.Common.{◌≡◌, ℕ, ◌≤◌, List, None, Some, Option, Result, Ok, IfOk, length, drop, sym, subst, arith, inl, inr}
 use Rattle.std.specs.Io.KnownBytes.{Appends}
 use Rattle.dd_model.specs.Symbol.{Symbol}
-use Rattle.dd_model.specs.Text.{beginning}
 use Rattle.dd_front_jobs.specs.declared.portions.Portion.{Portion}
 use Rattle.dd_front_jobs.specs.Portions.{ArePortionMembers, IsPortionText}
 use Rattle.dd_front_jobs.proofs.PortionLaws.{members_unique}

@@ -139,11 +139,6 @@ pub stop_of_net : (s : Symbol) (net : Net) (stop : Stop SymbolFault) → IsTorus
 stop_of_net s net (Refused why) of few is = inr (inr (record { net = net; is_net = of; few = few; wide = is }))
 stop_of_net s net Memory of few is = tt
 
--- a symbol that is not flat is not drawn
-pub stop_of_curved : (s : Symbol) (stop : Stop SymbolFault) → IsStop (IsCurved s) stop → IsStop (IsUndrawn s) stop
-stop_of_curved s (Refused why) is = inl is
-stop_of_curved s Memory is = tt
-
 -- one drawing more
 pub drawings_more : (shape : Option Frame) (ss : List Symbol) (s : Symbol) (text one : List ℕ) → AreDrawings shape ss text → IsDrawing shape s one → AreDrawings shape (ss ++ s ∷ []) (text ++ one)
 drawings_more shape [] s text one is drawing = (one, [], drawing, refl, ap (λ a. a ++ one) is ∙ sym (append-nil one))

@@ -19,7 +19,7 @@ use Rattle.dd_text.specs.declared.faults.FileFault.{FileFault}
 use Rattle.dd_suite_commands.specs.declared.merge_refusal.MergeRefusal.{MergeRefusal}
 use Rattle.dd_suite_commands.specs.declared.merge_refusal.MergeRefusal.TheVariants.{File, NotAscending, Doubled}
 use Rattle.dd_suite_commands.specs.Files.{IsFaulty}
-use Rattle.dd_suite_commands.specs.Merges.{bytes_of, AreRead, AreReadEach, IsReadingOf, IsMergedText, IsUnread, IsMergeRefusal, IsFileRefusal, IsReadRefusal, IsListRefusal}
+use Rattle.dd_suite_commands.specs.Merges.{bytes_of, AreRead, AreReadEach, IsReadingOf, IsMergedText, IsUnread, IsMergeRefusal, IsFileRefusal, IsReadRefusal}
 use Rattle.dd_suite_commands.specs.Stops.{IsStop}
 use Rattle.dd_suite_commands.specs.declared.stop.Stop.{Stop}
 use Rattle.dd_suite_commands.specs.declared.stop.Stop.TheVariants.{Refused, Memory}
@@ -118,19 +118,6 @@ read_stop files lists k n file Memory all low is e h = tt
 read_stop files lists k n file (Refused (File m fault)) all low is e h = unread_next files lists k m file fault all low is (h.0 ∙ e) h.1
 read_stop files lists k n file (Refused (NotAscending m symbol)) all low is e h = absurd h
 read_stop files lists k n file (Refused (Doubled m symbol)) all low is e h = absurd h
-
--- a reason why files are not read, or why their lists are not merged, is one why files are not merged
-pub stop_of_read : (files : List (List ℕ)) (stop : Stop MergeRefusal) → IsStop (IsReadRefusal files) stop → IsStop (IsMergeRefusal files) stop
-stop_of_read files Memory h = tt
-stop_of_read files (Refused (File m fault)) h = h
-stop_of_read files (Refused (NotAscending m symbol)) h = absurd h
-stop_of_read files (Refused (Doubled m symbol)) h = absurd h
-
-pub stop_of_lists : (files : List (List ℕ)) (lists : List (List Symbol)) (stop : Stop MergeRefusal) → AreRead files lists → IsStop (IsListRefusal lists) stop → IsStop (IsMergeRefusal files) stop
-stop_of_lists files lists Memory read h = tt
-stop_of_lists files lists (Refused (File m fault)) read h = absurd h
-stop_of_lists files lists (Refused (NotAscending m symbol)) read h = record { lists = lists; read = read; fault = h }
-stop_of_lists files lists (Refused (Doubled m symbol)) read h = record { lists = lists; read = read; fault = h }
 
 pub file_at : (vs : List (Vec ℕ Global)) (k : ℕ) (v : Vec ℕ Global) (d : List ℕ) → k < length vs → v ≡ get_or vs k v → get_or (bytes_of vs) k d ≡ v.items
 file_at vs k v d low is = get_or-map (λ (file : Vec ℕ Global). file.items) vs k v d low ∙ ap (λ (file : Vec ℕ Global). file.items) (sym is)

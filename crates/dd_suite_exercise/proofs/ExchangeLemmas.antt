@@ -78,18 +78,3 @@ pub record IsExchanging (left z : ℕ) (xs : List ℕ) (all start : ℕ) (ys : L
   pub within : left < length xs
   pub list : exchanged left z xs ≡ exchanged all start ys
   pub draws : after_draws left z ≡ after_draws all start
-
--- one exchange is done
-pub one_exchanged : (left next_left z next_z all start : ℕ) (xs new ys : List ℕ) → IsExchanging left z xs all start ys → left ≡ next_left + 1 → next_z ≡ next z
-    → new ≡ swap xs left (answer z (left + 1)) → IsExchanging next_left next_z new all start ys
-one_exchanged zero next_left z next_z all start xs new ys is e at swaps = absurd (omega (arith, e))
-one_exchanged (suc left) next_left z next_z all start xs new ys is e at swaps =
-    let same : next_left ≡ left = omega (arith, e) in
-    let within = is.within in
-    let long = ap length swaps ∙ length-swap xs (suc left) (answer z (suc left + 1)) in
-    record {
-      long = long ∙ is.long;
-      within = omega (arith, e, within, long);
-      list = ap (λ k. exchanged k next_z new) same ∙ ap (λ n. exchanged left n new) at ∙ ap (exchanged left (next z)) swaps ∙ is.list;
-      draws = ap (λ k. after_draws k next_z) same ∙ ap (after_draws left) at ∙ is.draws;
-    }

@@ -1,10 +1,10 @@
 -- Items, one after the other.
-use Rattle.std.proofs.Common.{◌≡◌, ◌≤◌, ℕ, ◌+◌, ◌-◌, List, [], ◌∷◌, ◌++◌, refl, ap, ◌∙◌, subst, arith}
+use Rattle.std.proofs.Common.{◌≡◌, ◌≤◌, ℕ, ◌+◌, ◌-◌, List, [], ◌∷◌, ◌++◌, refl, ap, ◌∙◌, arith}
 use Rattle.dd_model.specs.Symbol.{Symbol}
 use Rattle.dd_model.specs.Code.{IsLeastForm}
 use Rattle.dd_model.specs.Isomorphic.{IsIsomorphism}
 use Rattle.dd_suite_exercise.specs.Draws.{after_draws}
-use Rattle.dd_suite_exercise.specs.Items.{IsCover, IsItem, AreItems, after_item, after_items}
+use Rattle.dd_suite_exercise.specs.Items.{IsItem, AreItems, after_item, after_items}
 use Rattle.dd_suite_exercise.specs.Renumbering.{renumbering}
 use Rattle.dd_suite_exercise.proofs.DrawLemmas.{draws_joined}
 
@@ -16,17 +16,6 @@ items_more seeds z (t ∷ ss) s a is = (a.0, items_more seeds (after_item z t) s
 pub after_more : (z : ℕ) (ss : List Symbol) (s : Symbol) → after_items z (ss ++ s ∷ []) ≡ after_item (after_items z ss) s
 after_more z [] s = refl
 after_more z (t ∷ ss) s = after_more (after_item z t) ss s
-
--- a cover, renumbered, in its least form
-pub item_of_cover : (seeds : List Symbol) (z : ℕ) (cover renumbered form : Symbol) (list : List ℕ) (y : ℕ) → IsCover seeds z cover → y ≡ after_draws 4 z
-    → list ≡ renumbering cover.size y → IsIsomorphism cover renumbered list → IsLeastForm renumbered form → IsItem seeds z form
-item_of_cover seeds z cover renumbered form list y covers at is iso least = record {
-  cover = cover;
-  covers = covers;
-  renumbered = renumbered;
-  renumbers = subst (IsIsomorphism cover renumbered) (is ∙ ap (renumbering cover.size) at) iso;
-  least = least;
-}
 
 pub item_draws : (z : ℕ) (cover renumbered form : Symbol) (list : List ℕ) (y x : ℕ) → 1 ≤ cover.size → y ≡ after_draws 4 z → x ≡ after_draws (cover.size - 1) y
     → IsIsomorphism cover renumbered list → IsLeastForm renumbered form → x ≡ after_item z form

@@ -1,13 +1,11 @@
 -- The first bytes of files, one more than a file may have, do for the whole files.
-use Rattle.std.proofs.Common.{◌≡◌, ◌≢◌, ℕ, zero, suc, ◌+◌, ◌<◌, ◌≤◌, List, [], ◌∷◌, ◌++◌, length, length-append, take, get_or, take-suc, Bool, true, false, Option, Some, Ok, refl, sym, ap, ◌∙◌, subst, arith}
+use Rattle.std.proofs.Common.{◌≡◌, ◌≢◌, ℕ, zero, suc, ◌+◌, ◌<◌, ◌≤◌, List, [], ◌∷◌, ◌++◌, length, length-append, take, get_or, take-suc, Bool, true, Option, refl, sym, ap, ◌∙◌, subst, arith}
 use Rattle.std.proofs.lemmas.List.{append-nil, map-append}
 use Rattle.std.specs.Global.{Global}
 use Rattle.std.specs.declared.vec.Vec.{Vec}
 use Rattle.dd_model.specs.Symbol.{Symbol}
 use Rattle.dd_model.specs.Reading.{Reads}
-use Rattle.dd_ports.specs.Texts.{Fills, Fetches, SameTexts}
-use Rattle.dd_ports.specs.declared.store.Fetched.{Fetched}
-use Rattle.dd_ports.specs.declared.store.Fetched.TheVariants.{Whole, Longer}
+use Rattle.dd_ports.specs.Texts.{SameTexts}
 use Rattle.dd_text.specs.declared.faults.FileFault.{FileFault}
 use Rattle.dd_text.specs.declared.faults.Why.{Why}
 use Rattle.dd_text.specs.declared.faults.Why.TheVariants.{Stray, UnexpectedEnd, NumberTooLong, Dimension, Size, ListShort, ListLong, Image, Symbol as NoSymbol, TooManySymbols, Long, Memory as NoRoom}
@@ -20,16 +18,6 @@ use Rattle.dd_suite_commands.specs.Merges.{bytes_of, AreRead, IsMergedText, IsMe
 use Rattle.dd_suite_tasks.specs.Merges.{AreAllFetched, IsFetchedFront, AreFetchedFronts, IsMergeOfHeld, HoldUnmerged}
 
 -- ## One front
-
-pub front_fetched : (tells : Bool) (held : Option (List ℕ)) (most : ℕ) (into : List ℕ) (r : Fetched) → Fills most into (Ok r) → (tells ≡ true → Fetches held into (Ok r))
-    → IsFetchedFront tells held most into
-front_fetched tells held most into Whole fills holds =
-    record { rest = []; fetched = λ told. holds told ∙ ap Some (sym (append-nil into)); whole = λ short. refl }
-front_fetched true held most into Longer fills holds =
-    let more = holds refl in
-    record { rest = more.0; fetched = λ told. more.2; whole = λ short. absurd (omega (arith, fills)) }
-front_fetched false held most into Longer fills holds =
-    record { rest = []; fetched = λ told. absurd (cc); whole = λ short. refl }
 
 -- what is fetched later is what was held before
 pub front_before : (old new : Bool) (held later : List ℕ → Option (List ℕ)) (most : ℕ) (name front : List ℕ) → (old ≡ true → (new ≡ true) × SameTexts held later)

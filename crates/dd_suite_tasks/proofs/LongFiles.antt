@@ -1,13 +1,10 @@
 -- A name that holds more bytes than are fetched.
 use Rattle.std.proofs.Common.{◌≡◌, ℕ, List, [], ◌∷◌, ◌++◌, ◌+◌, ◌<◌, length, Bool, true, false, Option, Some, refl, arith, length-append}
 use Rattle.dd_check.specs.declared.faults.CheckFault.TheVariants as check
-use Rattle.dd_check.specs.declared.kinds.ResumeKind.TheVariants.{Catalogues}
-use Rattle.dd_check.specs.declared.shard_faults.ShardFault.TheVariants.{Check}
 use Rattle.dd_text.specs.declared.faults.FileFault.{FileFault}
 use Rattle.dd_text.specs.declared.faults.Why.TheVariants.{Long}
 use Rattle.dd_suite_commands.specs.Files.{IsFaulty}
-use Rattle.dd_suite_tasks.specs.Beginnings.{HoldsNoCheck}
-use Rattle.dd_suite_tasks.specs.Held.{HoldsMore, HoldsFaulty}
+use Rattle.dd_suite_tasks.specs.Held.{HoldsMore}
 
 -- Where a store tells, the bytes are what it holds; else any bytes that begin so, and are more, will do.
 pub more_held : (tells : Bool) (held : Option (List ℕ)) (into : List ℕ) (most : ℕ) → length into ≡ most
@@ -38,10 +35,3 @@ long_faulty bytes long = record {
   first = record { long = long; symbol = refl; place = refl };
   no_memory = λ e. (cc);
 }
-
-pub long_file : (tells : Bool) (held : Option (List ℕ)) → HoldsMore tells held 16777216 → HoldsFaulty tells held (record { symbol = 0; at = 16777216; why = Long })
-unfolding too_long
-long_file tells held more = record { bytes = more.bytes; fetched = more.fetched; faulty = long_faulty more.bytes more.more }
-
-pub long_check : (tells : Bool) (held : Option (List ℕ)) → HoldsMore tells held 4096 → HoldsNoCheck Catalogues tells held (Check check.Long)
-long_check tells held more = record { bytes = more.bytes; fetched = more.fetched; faulty = more.more }

@@ -1,19 +1,10 @@
 -- How the inverse of a map is written.
-use Rattle.std.proofs.Common.{◌≡◌, ℕ, ◌+◌, ◌-◌, ◌<◌, ◌≤◌, List, length, get_or, set, replicate, sym, ap, ◌∙◌, subst, inl, inr, ⊎_elim, arith}
+use Rattle.std.proofs.Common.{◌≡◌, ℕ, ◌+◌, ◌-◌, ◌<◌, ◌≤◌, List, get_or, set, sym, ap, ◌∙◌, subst, inl, inr, ⊎_elim, arith}
 use Rattle.std.proofs.lemmas.Bool.{cases_eq, cases_lt}
-use Rattle.std.proofs.lemmas.List.{get_or-set_same, get_or-set_other, length-set, length-replicate, get_or-replicate}
+use Rattle.std.proofs.lemmas.List.{get_or-set_same, get_or-set_other, length-set}
 use Rattle.dd_model.specs.Symbol.{item}
 use Rattle.dd_model.specs.Isomorphic.{IsBijection}
 use Rattle.dd_symbol.specs.Maps.{AreInverse, IsWritten}
-
-pub nothing_written : (n : ℕ) (f : List ℕ) → length f ≡ n → IsWritten n 0 f (replicate n 0)
-nothing_written n f e = record {
-  images = e;
-  back_images = length-replicate n 0;
-  within = λ d low high. absurd (omega arith);
-  written = λ x low high. inl (get_or-replicate n (x - 1) 0 0 (omega arith));
-  kept = λ b d low high. absurd (omega arith);
-}
 
 one_to_one : (n : ℕ) (f : List ℕ) → IsBijection n f → (d e : ℕ) → 1 ≤ d → d ≤ n → 1 ≤ e → e ≤ n → item f d ≡ item f e → d ≡ e
 one_to_one n f b d e ld hd le he same = sym (b.left.undone d ld hd) ∙ ap (item b.inverse) same ∙ b.left.undone e le he

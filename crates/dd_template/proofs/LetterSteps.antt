@@ -4,7 +4,7 @@ use Rattle.std.proofs.Common.{◌≡◌, ℕ, zero, suc, [], ◌∷◌, refl, sy
 use Rattle.dd_model.specs.declared.index.Index.{Index}
 use Rattle.dd_model.specs.declared.index.Index.TheVariants.{Zero, One, Two}
 use Rattle.dd_model.specs.Symbol.{Word}
-use Rattle.dd_template.specs.Reduced.{strike, put, reduced, IsReduced}
+use Rattle.dd_template.specs.Reduced.{strike, put, IsReduced}
 use Rattle.dd_template.proofs.ReducedLemmas.{put_reduced, put_twice, put_exchanged}
 
 pub record AreSteps {A : Type 0} (P : A → Type 0) (f : Index → A → A) : Type 0 where

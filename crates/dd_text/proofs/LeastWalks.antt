@@ -1,5 +1,5 @@
 -- The walk round a cell that ends at a chamber smaller than its first one.
-use Rattle.std.proofs.Common.{◌≡◌, ℕ, ◌+◌, ◌<◌, ◌≤◌, refl, sym, ap, ◌∙◌, subst, ⊎_elim, arith}
+use Rattle.std.proofs.Common.{◌≡◌, ℕ, ◌+◌, ◌<◌, ◌≤◌, sym, ap, ◌∙◌, subst, ⊎_elim, arith}
 use Rattle.dd_model.specs.declared.pair.Pair.{Pair}
 use Rattle.dd_model.specs.Symbol.{Symbol, AreInvolutions, IsChamber, first, op}
 use Rattle.dd_model.specs.Cell.{InCell, IsLeastOfCell, turned}
@@ -15,15 +15,6 @@ pub record IsWalking (s : Symbol) (p : Pair) (d k place : ℕ) : Type 0 where
   pub low : d ≤ place
   pub unfixed : (j : ℕ) → 1 ≤ j → j < k + 1 → turned s p j d ≡ d → ⊥
   pub above : (x : ℕ) → IsMet s p d k x → d ≤ x
-
-pub walk_begins : (s : Symbol) (p : Pair) (d : ℕ) → IsChamber s d → IsWalking s p d 0 d
-walk_begins s p d h = record {
-  at = refl;
-  chamber = h;
-  low = omega arith;
-  unfixed = λ j low high fixed. absurd (omega arith);
-  above = λ x met. let none = met.below in absurd (omega arith);
-}
 
 -- nothing smaller is met on one turn more
 above_more : (s : Symbol) (p : Pair) (d k place neighbor next : ℕ) → IsWalking s p d k place → IsTurn s p place neighbor next → d ≤ neighbor

@@ -1,7 +1,7 @@
 -- Nodes are joined, part by part.
 use Rattle.std.proofs.Common.{◌≡◌, ◌≢◌, ℕ, zero, suc, ◌+◌, ◌-◌, ◌<◌, ◌≤◌, ◌⊎◌, List, [], ◌∷◌, ◌++◌, length, get_or, set, refl, sym, ap, ◌∙◌, subst, ⊎_elim, arith}
 use Rattle.std.proofs.lemmas.Bool.{cases_lt, cases_eq}
-use Rattle.std.proofs.lemmas.List.{get_or-set_same, get_or-set_other, get_or_append_left, get_or_push, length-set}
+use Rattle.std.proofs.lemmas.List.{get_or-set_same, get_or-set_other, length-set}
 use Rattle.dd_union_find.specs.Parts.{IsFalling, IsLevel, AreInOnePart, HaveSameParts, AreJoinedAt, AreJoinedAlong}
 
 -- ## The head of a part
@@ -64,20 +64,6 @@ pub beyond : (above : List ℕ) (n : ℕ) → length above ≤ n → get_or abov
 beyond [] n high = refl
 beyond (x ∷ above) zero high = absurd (omega arith)
 beyond (x ∷ above) (suc n) high = beyond above n (omega arith)
-
-pub own_falls : (above : List ℕ) → ((n : ℕ) → n < length above → get_or above n 0 ≡ n) → IsFalling above
-own_falls above own n =
-    ⊎_elim
-    (λ inside. let e = own n inside in omega arith)
-    (λ high. let e = beyond above n high in omega arith)
-    (cases_lt n (length above))
-
-pub own_pushed : (above : List ℕ) (m : ℕ) → length above ≡ m → ((n : ℕ) → n < m → get_or above n 0 ≡ n) → (n : ℕ) → n < m + 1 → get_or (above ++ m ∷ []) n 0 ≡ n
-own_pushed above m many own n low =
-    ⊎_elim
-    (λ inside. get_or_append_left above (m ∷ []) 0 n (omega arith) ∙ own n inside)
-    (λ last. get_or_push above m 0 n (omega arith) ∙ (let e : m ≡ n = omega arith in e))
-    (cases_lt n m)
 
 -- ## A node is put below another one
 
@@ -173,8 +159,6 @@ module _ (zeroth first second : List ℕ) (one : HaveSameParts zeroth first) (tw
   one_part same h level = let v = values h level in sym v.0 ∙ ap h same ∙ v.1
 
   module _ (high low : ℕ) (ordered : AreOrdered x y high low) (inside : high < length second) where
-    pub joined_falls : IsFalling (set second high low)
-    joined_falls = put_falls second high low falls inside ordered.0
 
     head_high : get_or second high 0 ≡ high
     head_high = ⊎_elim (λ e. subst (λ n. get_or second n 0 ≡ n) (sym e.0) head_x) (λ e. subst (λ n. get_or second n 0 ≡ n) (sym e.0) head_y) ordered.1
@@ -223,14 +207,6 @@ smaller_above above falls p inside moves =
     (get_or above p 0, omega arith, λ h level. level p inside)
 
 -- ## Two lists
-
-pub joined_at_none : (above ones others : List ℕ) → AreJoinedAlong above ones others 0 above
-joined_at_none above ones others = record {
-  lengths = refl;
-  to = λ h level same. level;
-  from = λ h level. level;
-  joined = λ k low. absurd (omega arith);
-}
 
 pub joined_one_more : (old now new ones others : List ℕ) (n : ℕ) → AreJoinedAlong old ones others n now → AreJoinedAt now (get_or ones n 0) (get_or others n 0) new → AreJoinedAlong old ones others (n + 1) new
 joined_one_more old now new ones others n before step = record {

@@ -5,7 +5,7 @@ use Rattle.std.specs.Str.{chars}
 use Rattle.std.specs.Option.{option_map_or}
 use Rattle.clap.specs.Lexer.{long_of, short_of}
 use Rattle.clap.specs.Words.{Rule, Row, Shape, Text, new_rule}
-use Rattle.clap.specs.Walk.{Held, Walk, Step, Waiting, Names, idle, option, next, trailing, value, subcommand, word_met, walked, after_step, to_positional, subcommand_met, subcommand_or_other, long_or_other, long_word, long_met, option_met, flag_met, after_flag, short_or_plain, short_word, bundle, bundle_met, bundle_step, plain, plain_word, option_word, arg_by_long, arg_by_id, arg_by_index, arg_by_short, settled, settled_rows, reacted, used, pushed, takes_values, pending_count, most_values, positional_held}
+use Rattle.clap.specs.Walk.{Held, Walk, Step, Waiting, idle, option, trailing, word_met, walked, after_step, subcommand_met, subcommand_or_other, long_or_other, long_word, long_met, after_flag, short_or_plain, bundle_met, bundle_step, plain, plain_word, arg_by_long, arg_by_short}
 use Rattle.clap.specs.Simple.{filled, with_index}
 use Rattle.clap.specs.Faults.{turn_fault, word_fault, other_fault, flag_word_fault, long_fault, step_fault, bundle_fault, flags_fault, bundle_step_fault, short_fault}
 use Rattle.clap.specs.Kinds.{or_else}

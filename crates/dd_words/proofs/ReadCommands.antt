@@ -22,7 +22,7 @@ use Rattle.dd_words.specs.Values.{Text, IsName}
 use Rattle.dd_words.specs.Layout.{IsLaid}
 use Rattle.dd_words.specs.Given.{Given, AreSingle}
 use Rattle.dd_words.specs.Laying.{texts}
-use Rattle.dd_words.specs.Grammar.{IsRun, IsCatalogue, IsSharded, IsResumed, IsDrawn, AreMerged, IsOnFile, IsRequested, IsSaid, IsCommand, OnOne, OnTwo, OnThree}
+use Rattle.dd_words.specs.Grammar.{IsRun, IsCatalogue, IsSharded, IsResumed, IsDrawn, IsOnFile, IsRequested, IsSaid, IsCommand, OnOne, OnTwo, OnThree}
 use Rattle.dd_words.specs.GivenValues.{IsNumberIfGiven, IsNameIfGiven}
 use Rattle.dd_words.specs.FirstWords.{first_word, verb_of}
 use Rattle.dd_words.specs.Reading.{IsReadAs}
@@ -168,10 +168,6 @@ pub name_more : (ws : List (Bor Text)) (k : ℕ) (d : Bor Text) (old new : List 
     → texts (take k ws) ≡ old → texts (take (k + 1) ws) ≡ new
 name_more ws k d old new name low same is before =
     map_more (λ text. text.now) ws k d low ∙ ap (λ xs. xs ++ (get_or ws k d).now ∷ []) before ∙ ap (λ x. old ++ x ∷ []) same ∙ sym is
-
-pub no_merge : (xs : List Text) (ss : List Given) → ((files : List Text) → AreMerged xs files → ⊥) → (c : Command) → IsReadAs verb.Merge xs ss c → ⊥
-no_merge xs ss none (command.Merge files) h = none files h.said
-no_merge xs ss none other h = let same = h.verb_is in absurd (cc)
 
 pub some_told : {A : Type 0} (o : Option A) → is_some o ≡ true → IsSome o
 some_told None e = absurd (cc)

@@ -5,7 +5,7 @@ use Rattle.dd_model.specs.Cell.{AreCells}
 use Rattle.dd_model.specs.declared.pair.Pair.TheVariants.{Edge}
 use Rattle.dd_cells.specs.declared.cell.Cell.{Cell}
 use Rattle.dd_lattice.specs.Lists.{AreVertexNumbers}
-use Rattle.dd_lattice.specs.NetOf.{IsEdgeOf, AreNetParts}
+use Rattle.dd_lattice.specs.NetOf.{IsEdgeOf}
 use Rattle.dd_lattice.specs.Paths.{shift_by}
 use Rattle.dd_lattice.specs.Shifts.{IsLeftEdge, AreShifts}
 use Rattle.dd_lattice.proofs.KindLemmas.{ascending}

@@ -1,4 +1,4 @@
-use Rattle.std.proofs.Common.{◌≡◌, sym, ap, ◌∙◌, subst, arith}
+use Rattle.std.proofs.Common.{◌≡◌, sym, ap, ◌∙◌}
 use Rattle.dd_branch_tables.specs.Rows.{depth_of}
 use Rattle.dd_branch_tables.specs.Stem.{shortened}
 use Rattle.dd_branch_tables.specs.declared.stem.Stem.{Stem}

@@ -1,5 +1,5 @@
-use Rattle.std.proofs.Common.{◌≡◌, ◌+◌, length, sym, subst, arith}
-use Rattle.dd_front.specs.Invariant.{IsFront, AreParts}
+use Rattle.std.proofs.Common.{◌≡◌, ◌+◌, length, sym, arith}
+use Rattle.dd_front.specs.Invariant.{AreParts}
 use Rattle.dd_front.proofs.Lasting.{front_opened}
 use Rattle.dd_front.proofs.front.Front.open.Goals as goal
 

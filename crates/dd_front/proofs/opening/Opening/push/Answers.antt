@@ -1,6 +1,5 @@
-use Rattle.std.proofs.Common.{ap, ◌∙◌, ◌++◌, ◌∷◌, [], refl, sym}
-use Rattle.dd_front.specs.Opening.{unpacked}
-use Rattle.dd_front.proofs.Packing.{job_of, unpacked_push, packed_push}
+use Rattle.std.proofs.Common.{◌∙◌, ◌++◌, ◌∷◌, [], refl, sym}
+use Rattle.dd_front.proofs.Packing.{unpacked_push, packed_push}
 use Rattle.dd_front.proofs.opening.Opening.push.Goals as goal
 
 pub invariant_of-self-2 : goal.invariant_of-self-2

@@ -1,4 +1,4 @@
-use Rattle.std.proofs.Common.{◌-◌, ◌<◌, length, false, sym, subst, arith}
+use Rattle.std.proofs.Common.{◌-◌, ◌<◌, false, sym, subst, arith}
 use Rattle.std.proofs.lemmas.List.{get_or_read}
 use Rattle.std.specs.Bool.{OnTrue, OnFalse}
 use Rattle.dd_lattice.specs.Steps.{IsCrossingAt}
