@@ -25,6 +25,7 @@ use crate::after_round::AfterRound;
 use crate::emission::{reach_member, write_done};
 use crate::output::Output;
 use crate::rounds::{do_kept_round, front_of, stands_at_job};
+use crate::tuning::LINES_A_CHECKPOINT;
 use crate::workshop::Workshop;
 use dd_front::{Finder, Front};
 use dd_pages_and_checkpoints::{Finish, Limit, MOST_LINES, Page, Run, RunFault, save, save_first};
@@ -32,9 +33,6 @@ use dd_ports::{Gate, Sink, SinkFault, Store};
 use std::alloc::Global;
 use std::sync::Wait;
 use std::thread::Threads;
-
-/// After how many lines a checkpoint is put, also in the middle of a round.
-const LINES_A_CHECKPOINT: u64 = 65_536;
 
 /// Writes the lines of a run, and keeps its checkpoint under the name, so that a run that was
 /// stopped can be resumed. It puts the checkpoint after each round with lines, at a pause and at

@@ -57,6 +57,7 @@ mod output;
 mod parts;
 mod resumed_jobs;
 mod rounds;
+mod tuning;
 mod workshop;
 
 pub use catalogue::write_catalogue;

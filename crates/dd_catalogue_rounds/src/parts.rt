@@ -2,40 +2,13 @@ ghost use Rattle.std.specs.Bool.{OnTrue, OnFalse};
 ghost use Rattle.std.specs.Prelude.{◌≡◌, ◌*◌, ◌<◌, IsTrue, IfOk, OnOk, MatchBool, length};
 ghost use Rattle.dd_catalogue_rounds.specs.Splits.{IsReady, IsSplit, IsRefined, IsNoLonger, IsToSplit};
 
+use crate::tuning::{
+    FEW_CLASSES, MANY_CHAMBERS, MANY_NUMBERS, MOST_MISSING, NUMBERS_A_CHAMBER, NUMBERS_BEYOND,
+    NUMBERS_LESS, NUMBERS_LESS_FROM_1, NUMBERS_LESS_FROM_2, NUMBERS_OF_OPENING,
+};
 use dd_front::{Event, Finder, Front, JobList};
 use dd_model::{Job, Memory, Position, Request};
 use std::alloc::Global;
-
-/// At most some ten thousand members are under a job of `n` chambers whose prefix has `5 n - L`
-/// numbers. `L` depends on the least degree that is allowed: 90, 65 for degree 2, 45 for degree 1.
-/// This was counted up to 30 chambers, and up to 16 with degree 1.
-const NUMBERS_A_CHAMBER: u64 = 5;
-
-/// A job is small if it has these numbers. From 40 numbers on, it needs only three more for each
-/// chamber: else there would be about as many jobs of 36 chambers as members. So no job of an
-/// opening for fewer than 20 chambers is large, but for degrees below 3.
-const MANY_NUMBERS: u64 = 40;
-
-const NUMBERS_BEYOND: u64 = 3;
-
-/// A small job lacks at most this many of the numbers of a job with some ten thousand members. So
-/// its weight is at most 32, also for degrees below 3.
-const MOST_MISSING: u64 = 20;
-
-const NUMBERS_LESS: u64 = 90;
-
-const NUMBERS_LESS_FROM_2: u64 = 65;
-
-const NUMBERS_LESS_FROM_1: u64 = 45;
-
-/// If no more classes of tiles or of vertices are allowed than this, few members are under any job.
-const FEW_CLASSES: u32 = 4;
-
-/// With so few classes, degrees below 3 still give many members to a size from this many chambers
-/// on. A job is then small if it has as many numbers as those of an opening.
-const MANY_CHAMBERS: u32 = 13;
-
-const NUMBERS_OF_OPENING: u64 = 9;
 
 /// A job with more children than this stays whole. No table has more, so none does.
 const MOST_CHILDREN: usize = 255;

@@ -16,6 +16,7 @@ ghost use Rattle.dd_catalogue_rounds.specs.Splits.{IsReady, IsGroupDone};
 
 use crate::parts::{split_large, weight_of};
 use crate::resumed_jobs::parts_from;
+use crate::tuning::{JOBS_ALONE, LONG_ROUND_WEIGHT, ROUND_WEIGHT, WORKERS_A_JOB};
 use crate::workshop::Workshop;
 use dd_front::{Entry, Finder, Front, State};
 use dd_front_jobs::Pace;
@@ -26,21 +27,6 @@ use dd_steal::{find_each, run_round};
 use std::alloc::Global;
 use std::sync::Wait;
 use std::thread::Threads;
-
-/// How many workers a job may keep busy by its parts. More threads than that would be started for
-/// nothing.
-const WORKERS_A_JOB: u32 = 8;
-
-/// How many jobs one worker does before what it found is written: few, so that few members are held
-/// at once, and what is written is still near.
-const JOBS_ALONE: u32 = 4;
-
-/// How much the jobs of a round weigh together at most, so that a round holds few members.
-const ROUND_WEIGHT: u64 = 64;
-
-/// How much they weigh at most if several workers keep no checkpoint. Lighter rounds would start
-/// threads for little, and heavier ones would hold more members.
-const LONG_ROUND_WEIGHT: u64 = 128;
 
 /// The jobs that are not wholly before a position.
 pub fn jobs_from(mut jobs: Vec<Job>, at: &Position) -> Vec<Job>

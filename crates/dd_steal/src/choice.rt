@@ -1,16 +1,8 @@
 ghost use Rattle.std.specs.Prelude.{◌*◌, ◌<◌, IsTrue, length};
 
+use crate::tuning::{AHEAD, LARGE, LONGEST_FOR_MANY, LONGEST_IF_FEW, LONGEST_IF_LARGE};
+use crate::tuning::{LONGEST_IF_SCARCE, MANY_OTHERS, SCARCE};
 use dd_model::Job;
-
-/// How many jobs for each worker are to wait.
-const AHEAD: u64 = 4;
-
-/// While fewer jobs than this wait for each worker, longer jobs are split too.
-const SCARCE: u64 = 2;
-
-/// From this number of chambers on, a job of a few numbers may have more under it than all other
-/// jobs of its round.
-const LARGE: u32 = 16;
 
 /// Returns whether something may be under one of a job's children. If nothing is under any of them,
 /// a search may return a single child, with the number 0.
@@ -23,11 +15,13 @@ pub fn is_worth_a_split(children: &[Job]) -> bool {
 /// workers then have nothing to do at last.
 fn longest_split(size: u32, waiting: u64, others: u64) -> u64 {
     if waiting / SCARCE <= others {
-        30
+        LONGEST_IF_SCARCE
+    } else if waiting / AHEAD <= others && others < MANY_OTHERS {
+        LONGEST_IF_FEW
     } else if waiting / AHEAD <= others {
-        if others < 8 { 18 } else { 24 }
+        LONGEST_FOR_MANY
     } else if size >= LARGE {
-        15
+        LONGEST_IF_LARGE
     } else {
         0
     }

@@ -8,6 +8,7 @@ mod ended;
 mod last_sweep;
 mod round;
 mod ticket_search;
+mod tuning;
 mod worker;
 
 pub use alone::find_each;

@@ -2,6 +2,7 @@ ghost use Rattle.std.specs.Prelude.{◌≡◌, ◌<◌, ◌≤◌, ◌+◌, Opti
 ghost use Rattle.dd_steal_deques.specs.Hands.{hand_pushed, hand_popped, hand_stolen, hand_passes, hand_place, HasAllOfHand};
 ghost use Rattle.dd_steal.specs.Worker.{IsLeftWith, held_by, held_after};
 
+use crate::tuning::{LOOKS, MOST_LOOKS};
 use dd_board::{Board, Seat};
 use dd_front::{Naming, Taken, Ticket};
 use dd_model::Memory;
@@ -9,13 +10,6 @@ use dd_steal_deques::Hand;
 use std::hint;
 use std::sync::Wait;
 use std::sync::ledger::Ledger;
-
-/// How often a worker looks for a job that is open, while none is just being split, before it is
-/// through: some 50 microseconds.
-const LOOKS: u32 = 2000;
-
-/// How often it looks at all: some seconds.
-const MOST_LOOKS: u32 = 100_000_000;
 
 /// Returns a ticket of another worker's deque: the others are asked in turn.
 fn steal_one<N: Naming, R: Wait>(rt: &R, hand: &mut Hand<N>) -> Option<Ticket<N>>
