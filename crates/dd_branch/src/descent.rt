@@ -46,7 +46,6 @@ impl Model for Descent {
 }
 
 /// Takes in the numbers that are known after the prefix, where that is asked.
-#[inline(always)]
 fn absorb(stem: &mut Stem, with_known: bool)
     requires { IsStem stem.old }
     ensures stem { IsStem stem.new }

@@ -67,7 +67,6 @@ impl Census {
     }
 
     /// Counts a fixed flag.
-    #[inline(always)]
     fn add_flag(&mut self)
         ensures { HasFlag self.old self.new }
     {
@@ -78,7 +77,6 @@ impl Census {
     }
 
     /// Counts a whole cell with the chambers of a path of a class, which add at most `most`.
-    #[inline(always)]
     pub(crate) fn add_cell(&mut self, class: Class, most: u64)
         requires { most ≤ 64 * share_unit }
         ensures { HasCell self.old class.number most self.new }
@@ -96,7 +94,6 @@ impl Census {
 
     /// Counts what an involution has fixed at the end of a path: a flag, and the path as a whole
     /// cell if its other end is fixed.
-    #[inline(always)]
     pub(crate) fn add_fixed_end(&mut self, class: Class, most: u64)
         requires { most ≤ 64 * share_unit }
         ensures { HasFixedEnd self.old class.number most self.new }
@@ -109,7 +106,6 @@ impl Census {
 
     /// Counts two paths whose ends an involution has joined as a whole cell, if both other ends are
     /// fixed.
-    #[inline(always)]
     pub(crate) fn add_joined(&mut self, one: Class, other: Class, most: u64)
         requires most { most ≤ 64 * share_unit }
         requires few { one.number % 64 + other.number % 64 < 64 }

@@ -51,7 +51,6 @@ impl PairPaths {
     }
 
     /// What stands at a flag.
-    #[inline(always)]
     fn end(&self, flag: Flag) -> End
         ensures { slice_get self.now.ends flag.number ≡ Some result }
     {
@@ -59,7 +58,6 @@ impl PairPaths {
     }
 
     /// The total where paths that had so much have become one that has so much.
-    #[inline(always)]
     fn total_after(&self, had: u64, has: u64) -> u64
         requires total { self.now.total ≤ 36 * share_unit }
         requires had { had ≤ self.now.total }
@@ -99,7 +97,6 @@ impl PairPaths {
     }
 
     /// The census where two flags are joined.
-    #[inline(always)]
     pub(crate) fn census_with(&self, shares: &ClassShares, x: Flag, y: Flag) -> Census
         requires some { IsSideOfSome shares.now self.now }
         ensures { (partial : Tiling) (test : Tiling → Bool)
@@ -220,7 +217,6 @@ impl PairPaths {
 
     /// Joins the two ends of a path, which closes it. False where no wanted symbol completes the
     /// table, since the request allows the closed path no degree.
-    #[inline(always)]
     fn close(&mut self, shares: &ClassShares, x: Flag, mate: Flag) -> bool
         requires some { IsSideOfSome shares.now self.old }
         requires live { 1 ≤ (ends_of shares.now self.old x.number).chambers }

@@ -173,7 +173,6 @@ impl TablePaths {
     /// What the cells of both pairs add at most. A pair that the image at a place of the code does
     /// not change is limited as the request limits it, and only that. Returns None if the pair has
     /// more cells than the request allows.
-    #[inline(always)]
     fn bounds(&self, classes: &PathShares, table: &PartialTable, place: u8) -> Option<(u64, u64)>
         requires kept { AreSides classes.now (partial_of table.now) self.now }
         ensures none { IfNone result ((s : Tiling)
@@ -354,7 +353,6 @@ impl TablePaths {
     }
 
     /// Returns whether the totals are too small.
-    #[inline(always)]
     fn are_too_small(&self, classes: &PathShares, table: &PartialTable) -> bool
         requires kept { AreSides classes.now (partial_of table.now) self.now }
         ensures { IsTrue result → (s : Tiling)
@@ -366,7 +364,6 @@ impl TablePaths {
     /// Returns whether it is sure that no wanted symbol completes the table: the shares are too
     /// small, where the limits of the request are looked at, too, or there are more cells than
     /// these allow.
-    #[inline(always)]
     pub fn rules_out(&self, classes: &PathShares, table: &PartialTable) -> bool
         requires kept { AreSides classes.now (partial_of table.now) self.now }
         ensures { IsTrue result → (s : Tiling)
@@ -396,7 +393,6 @@ fn sets_limits(request: &Request) -> bool {
 
 /// Returns true only if no table is that of a wanted symbol: the censuses of both pairs have more
 /// cells than the limits of the request allow, or the totals are too small.
-#[inline(always)]
 fn exceed(
     request: &Request,
     size: u8,

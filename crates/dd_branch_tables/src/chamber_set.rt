@@ -46,7 +46,6 @@ impl ChamberSet {
     }
 
     /// Adds a chamber.
-    #[inline(always)]
     pub fn insert(&mut self, chamber: u8)
         requires { chamber ≤ 36 }
         ensures { HasMore self.old chamber self.new }
@@ -55,7 +54,6 @@ impl ChamberSet {
     }
 
     /// Takes the least chamber out. Returns None if the set is empty.
-    #[inline(always)]
     pub fn take_first(&mut self) -> Option<u8>
         ensures { MatchOption result (HasNone self.old)
             (λ chamber. IsFirst self.old chamber self.new) }

@@ -75,7 +75,6 @@ impl Stem {
     /// The numbers that may come next: the one that is known there, or each chamber without an
     /// image up to the first that has not been met. There are none where the chamber whose image is
     /// next has not been met.
-    #[inline(always)]
     pub fn candidates(&self) -> ChamberSet
         requires stem { IsStem self.now }
         requires room { length (prefix_of self.now) < 3 * size_of self.now }

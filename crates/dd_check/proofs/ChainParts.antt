@@ -13,8 +13,8 @@ use Rattle.dd_check.specs.Ranges.{IsInRange}
 use Rattle.dd_check.specs.ShardChecks.{IsShardPlace, IsShardCheckpoint, IsSavedText, IsAcceptedText}
 use Rattle.dd_check.proofs.Exclusion.{one_checkpoint}
 use Rattle.dd_check.proofs.ShardTexts.{one_shard_text, shard_reads_or_not}
-use Rattle.dd_check.specs.declared.kinds.ResumeKind.{ResumeKind}
-use Rattle.dd_check.specs.declared.kinds.ResumeKind.TheVariants.{Catalogues, Shards}
+use Rattle.dd_check.specs.declared.checkpoint.ResumeKind.{ResumeKind}
+use Rattle.dd_check.specs.declared.checkpoint.ResumeKind.TheVariants.{Catalogues, Shards}
 use Rattle.dd_check.specs.Calls.{kind_of, Task, Begin, Resume, Call}
 use Rattle.dd_check.specs.ChainStarts.{Holds, HoldsKind, Start, first_start, next_start, StartsNext, Starts, StartsAt}
 use Rattle.dd_check.specs.ChainPuts.{DoCountsFit, IsStop, HasPut}

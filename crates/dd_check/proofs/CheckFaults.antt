@@ -4,8 +4,8 @@ use Rattle.std.specs.Prelude.{codes}
 use Rattle.dd_model.specs.declared.allowed.Allowed.{Allowed}
 use Rattle.dd_model.specs.declared.jobs.Position.{Position}
 use Rattle.dd_check.specs.declared.faults.CheckFault.{CheckFault}
-use Rattle.dd_check.specs.declared.limits.Limits.{Limits}
-use Rattle.dd_check.specs.declared.limits.OldLimits.{OldLimits}
+use Rattle.dd_check.specs.declared.raw_values.Limits.{Limits}
+use Rattle.dd_check.specs.declared.raw_values.OldLimits.{OldLimits}
 use Rattle.dd_check.specs.Texts.{Text}
 use Rattle.dd_check.specs.Sets.{AreItems}
 use Rattle.dd_check.specs.Rows.{IsNumberRow, IsLimitsRow, IsOldLimitsRow, IsSetRow, IsPlaceRow}

@@ -6,7 +6,7 @@ use Rattle.dd_model.specs.Allowed.{IsFrom}
 use Rattle.dd_model.specs.Request.{HasNumber}
 use Rattle.dd_model.specs.declared.allowed.Allowed.{Allowed}
 use Rattle.dd_check.specs.declared.checkpoint.Checkpoint.{Checkpoint}
-use Rattle.dd_check.specs.declared.items.Item.{Item}
+use Rattle.dd_check.specs.declared.raw_values.Item.{Item}
 use Rattle.dd_check.specs.Texts.{Text, words_of, lines_of}
 use Rattle.dd_check.specs.Sets.{low_of, AreItems, IsSetOf}
 use Rattle.dd_check.specs.Rows.{number_row, limits_row, old_limits_row, set_row, place_row}

@@ -6,7 +6,7 @@ use Rattle.dd_model.proofs.AllowedSets.{same_sets, same_from_sets}
 use Rattle.dd_check.specs.declared.checkpoint.Checkpoint.{Checkpoint}
 use Rattle.dd_check.specs.declared.faults.CheckFault.{CheckFault}
 use Rattle.dd_check.specs.declared.faults.CheckFault.TheVariants.{Version, Shape, Range, Position, Long, Memory}
-use Rattle.dd_check.specs.declared.items.Item.{Item}
+use Rattle.dd_check.specs.declared.raw_values.Item.{Item}
 use Rattle.dd_check.specs.Texts.{Text, lines_of, words_of}
 use Rattle.dd_check.specs.Sets.{IsSetOf, HasNumberIn}
 use Rattle.dd_check.specs.Ranges.{IsInRange, IsInOldRange}

@@ -10,7 +10,7 @@ use Rattle.dd_check.specs.declared.checkpoint.Checkpoint.{Checkpoint}
 use Rattle.dd_check.specs.ShardChecks.{IsAcceptedText}
 use Rattle.dd_front_jobs.proofs.ShardLaws.{same_shard}
 use Rattle.dd_check.specs.Texts.{Text}
-use Rattle.dd_check.specs.declared.kinds.ResumeKind.{ResumeKind}
+use Rattle.dd_check.specs.declared.checkpoint.ResumeKind.{ResumeKind}
 use Rattle.dd_check.specs.Calls.{kind_of, Begin, Resume, Call}
 use Rattle.dd_check.specs.ChainStarts.{Holds, HoldsKind, Start, first_start, next_start, StartsAt}
 use Rattle.dd_check.specs.ChainPuts.{Puts}

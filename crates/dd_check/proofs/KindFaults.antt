@@ -6,8 +6,8 @@ use Rattle.dd_model.proofs.Lists.{cons_head, cons_tail}
 use Rattle.dd_front_jobs.specs.declared.shards.Shard.{Shard}
 use Rattle.dd_check.specs.declared.checkpoint.Checkpoint.{Checkpoint}
 use Rattle.dd_check.specs.declared.faults.CheckFault.TheVariants.{Long}
-use Rattle.dd_check.specs.declared.shard_faults.ShardFault.{ShardFault}
-use Rattle.dd_check.specs.declared.shard_faults.ShardFault.TheVariants.{First, Check, Other, Memory}
+use Rattle.dd_check.specs.declared.faults.ShardFault.{ShardFault}
+use Rattle.dd_check.specs.declared.faults.ShardFault.TheVariants.{First, Check, Other, Memory}
 use Rattle.dd_check.specs.Texts.{Text}
 use Rattle.dd_check.specs.Accepted.{IsCheckpointText}
 use Rattle.dd_check.specs.Calls.{kind_of}

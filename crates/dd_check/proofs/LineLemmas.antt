@@ -5,7 +5,7 @@ use Rattle.std.specs.List.{flat_map}
 use Rattle.std.proofs.lemmas.List.{append-nil}
 use Rattle.dd_model.specs.Line.{after_space}
 use Rattle.dd_check.specs.declared.checkpoint.Checkpoint.{Checkpoint}
-use Rattle.dd_check.specs.declared.items.Item.{Item}
+use Rattle.dd_check.specs.declared.raw_values.Item.{Item}
 use Rattle.dd_check.specs.Texts.{Text, line_text}
 use Rattle.dd_check.specs.Rows.{number_row, limits_row, set_row, place_row}
 use Rattle.dd_check.specs.Checks.{limits_of, check_text}

@@ -5,8 +5,8 @@ use Rattle.std.proofs.lemmas.Bool.{cases_lt}
 use Rattle.dd_model.proofs.Lists.{each_of}
 use Rattle.dd_model.specs.declared.allowed.Allowed.{Allowed}
 use Rattle.dd_check.specs.declared.checkpoint.Checkpoint.{Checkpoint}
-use Rattle.dd_check.specs.declared.items.Item.{Item}
-use Rattle.dd_check.specs.declared.items.Item.TheVariants.{One, Span}
+use Rattle.dd_check.specs.declared.raw_values.Item.{Item}
+use Rattle.dd_check.specs.declared.raw_values.Item.TheVariants.{One, Span}
 use Rattle.dd_check.specs.Texts.{Text}
 use Rattle.dd_check.specs.Sets.{low_of, high_of, IsItem, ArePartedItems, AreParted, AreItems, HasNumberIn, IsSetOf}
 use Rattle.dd_check.specs.Checks.{check_text, IsCheckText}

@@ -6,8 +6,8 @@ use Rattle.std.proofs.Math.Seq.{take-length}
 use Rattle.std.specs.Borrow.{Bor}
 use Rattle.dd_model.specs.declared.jobs.Position.{Position}
 use Rattle.dd_model.specs.declared.jobs.Position.TheVariants.{At as AtJob, End as NoJob}
-use Rattle.dd_check.specs.declared.raw_position.RawPosition.{RawPosition}
-use Rattle.dd_check.specs.declared.raw_position.RawPosition.TheVariants.{At, End}
+use Rattle.dd_check.specs.declared.raw_values.RawPosition.{RawPosition}
+use Rattle.dd_check.specs.declared.raw_values.RawPosition.TheVariants.{At, End}
 use Rattle.dd_check.specs.Texts.{Text, texts}
 use Rattle.dd_check.specs.Rows.{IsPlaceRow}
 use Rattle.dd_check.specs.Told.{IsWhatTellsEnd, IsWhatTellsJob, IsWhatTellsPlace}

@@ -10,8 +10,8 @@ use Rattle.dd_model.proofs.Lists.{Contains-none, Contains-one, Contains-head}
 use Rattle.dd_model.specs.declared.allowed.Allowed.{Allowed}
 use Rattle.dd_model.specs.Allowed.{IsIn}
 use Rattle.dd_model.proofs.AllowedLemmas.{in_small}
-use Rattle.dd_check.specs.declared.items.Item.{Item}
-use Rattle.dd_check.specs.declared.items.Item.TheVariants.{One, Span}
+use Rattle.dd_check.specs.declared.raw_values.Item.{Item}
+use Rattle.dd_check.specs.declared.raw_values.Item.TheVariants.{One, Span}
 use Rattle.dd_check.specs.Sets.{item_text, set_text, low_of, high_of, IsItem, ArePartedItems, AreParted, AreItems, HasNumberIn, IsSetOf}
 use Rattle.dd_check.specs.Texts.{Text}
 use Rattle.dd_check.specs.Writing.{run_of, next_item, AddsSet}

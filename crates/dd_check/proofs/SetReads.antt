@@ -5,8 +5,8 @@ use Rattle.std.proofs.lemmas.List.{map-append}
 use Rattle.dd_model.proofs.Lists.{Contains-none, Contains-cases, Contains-head, Contains-later}
 use Rattle.dd_model.specs.Allowed.{IsIn}
 use Rattle.dd_model.specs.declared.allowed.Allowed.{Allowed}
-use Rattle.dd_check.specs.declared.items.Item.{Item}
-use Rattle.dd_check.specs.declared.items.Item.TheVariants.{One, Span}
+use Rattle.dd_check.specs.declared.raw_values.Item.{Item}
+use Rattle.dd_check.specs.declared.raw_values.Item.TheVariants.{One, Span}
 use Rattle.dd_check.specs.Texts.{Text}
 use Rattle.dd_check.specs.Sets.{low_of, high_of, IsItem, AreItems, HasNumberIn}
 

@@ -8,9 +8,9 @@ use Rattle.dd_model.specs.Line.{after_space}
 use Rattle.dd_model.specs.declared.jobs.Position.{Position}
 use Rattle.dd_model.specs.declared.jobs.Position.TheVariants.{At, End}
 use Rattle.dd_check.specs.declared.checkpoint.Checkpoint.{Checkpoint}
-use Rattle.dd_check.specs.declared.items.Item.{Item}
-use Rattle.dd_check.specs.declared.items.Item.TheVariants.{One, Span}
-use Rattle.dd_check.specs.declared.limits.Limits.{Limits}
+use Rattle.dd_check.specs.declared.raw_values.Item.{Item}
+use Rattle.dd_check.specs.declared.raw_values.Item.TheVariants.{One, Span}
+use Rattle.dd_check.specs.declared.raw_values.Limits.{Limits}
 use Rattle.dd_check.specs.Texts.{Text, line_text, page}
 use Rattle.dd_check.specs.Sets.{item_text, set_text, low_of, high_of, IsItem, AreParted, AreItems}
 use Rattle.dd_check.specs.Rows.{number_row, filter_word, limits_row, set_row, place_row, IsTold}

@@ -7,10 +7,10 @@ use Rattle.dd_model.specs.declared.jobs.Job.{Job}
 use Rattle.dd_model.specs.declared.jobs.Position.{Position}
 use Rattle.dd_model.specs.declared.jobs.Position.TheVariants.{At, End}
 use Rattle.dd_check.specs.declared.checkpoint.Checkpoint.{Checkpoint}
-use Rattle.dd_check.specs.declared.items.Item.{Item}
-use Rattle.dd_check.specs.declared.items.Item.TheVariants.{One, Span}
-use Rattle.dd_check.specs.declared.limits.Limits.{Limits}
-use Rattle.dd_check.specs.declared.limits.OldLimits.{OldLimits}
+use Rattle.dd_check.specs.declared.raw_values.Item.{Item}
+use Rattle.dd_check.specs.declared.raw_values.Item.TheVariants.{One, Span}
+use Rattle.dd_check.specs.declared.raw_values.Limits.{Limits}
+use Rattle.dd_check.specs.declared.raw_values.OldLimits.{OldLimits}
 use Rattle.dd_model.specs.declared.allowed.Allowed.{Allowed}
 use Rattle.dd_model.specs.Request.{HasNumber}
 use Rattle.dd_check.proofs.SetReads.{no_number}

@@ -9,13 +9,13 @@ use Rattle.std.proofs.lemmas.List.Splits.{length-slice_split}
 use Rattle.std.specs.Cmp.Lexicographic.{same_text, other_text, pointwise}
 use Rattle.std.specs.Prelude.{not, nat_eq, ◌==◌}
 use Rattle.std.proofs.lemmas.Bool.Decides.{nat_tests}
-use Rattle.dd_check.specs.declared.items.Item.{Item}
-use Rattle.dd_check.specs.declared.items.Item.TheVariants.{One, Span}
+use Rattle.dd_check.specs.declared.raw_values.Item.{Item}
+use Rattle.dd_check.specs.declared.raw_values.Item.TheVariants.{One, Span}
 use Rattle.dd_check.specs.Texts.{Text, texts, parts_of}
 use Rattle.dd_check.specs.Numerals.{IsShort, IsNumeral}
 use Rattle.dd_check.specs.Sets.{ends_of, item_text, set_text}
-use Rattle.dd_check.specs.declared.limits.Limits.{Limits}
-use Rattle.dd_check.specs.declared.limits.OldLimits.{OldLimits}
+use Rattle.dd_check.specs.declared.raw_values.Limits.{Limits}
+use Rattle.dd_check.specs.declared.raw_values.OldLimits.{OldLimits}
 use Rattle.dd_check.specs.Rows.{IsShortItem, IsNumberRow, IsLimitsRow, IsOldLimitsRow, IsSetRow}
 use Rattle.dd_check.specs.Faults.{IsLine}
 use Rattle.dd_check.specs.Told.{AreEnds, IsItemWord, AreItemWords, IsSetWord, IsWhatTells, IsWhatTellsItems, AreLimitWords, AreOldLimitWords, AreNumerals}

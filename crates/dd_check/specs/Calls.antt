@@ -4,8 +4,8 @@ use Rattle.dd_model.specs.declared.requests.Request.{Request}
 use Rattle.dd_front_jobs.specs.declared.shards.Shard.{Shard}
 use Rattle.dd_front_jobs.specs.declared.portions.Portion.{Portion}
 use Rattle.dd_front_jobs.specs.Portions.{whole}
-use Rattle.dd_check.specs.declared.kinds.ResumeKind.{ResumeKind}
-use Rattle.dd_check.specs.declared.kinds.ResumeKind.TheVariants.{Catalogues, Shards}
+use Rattle.dd_check.specs.declared.checkpoint.ResumeKind.{ResumeKind}
+use Rattle.dd_check.specs.declared.checkpoint.ResumeKind.TheVariants.{Catalogues, Shards}
 use Rattle.dd_check.specs.Texts.{Text}
 
 -- which texts the runs of a catalogue go on from, and those of the shard if there is one

@@ -7,7 +7,7 @@ use Rattle.dd_front_jobs.specs.declared.portions.Portion.{Portion}
 use Rattle.dd_check.specs.declared.checkpoint.Checkpoint.{Checkpoint}
 use Rattle.dd_check.specs.Texts.{Text}
 use Rattle.dd_check.specs.ShardChecks.{IsAcceptedText}
-use Rattle.dd_check.specs.declared.kinds.ResumeKind.{ResumeKind}
+use Rattle.dd_check.specs.declared.checkpoint.ResumeKind.{ResumeKind}
 use Rattle.dd_check.specs.Calls.{kind_of, Task, Begin, Resume, Call}
 
 -- a name holds a checkpoint text of these values, whoever wrote it: one of a catalogue, or of the shard if there is one

@@ -4,7 +4,7 @@ use Rattle.dd_model.specs.Request.{IsValid}
 use Rattle.dd_front_jobs.specs.declared.portions.Portion.{Portion}
 use Rattle.dd_check.specs.declared.checkpoint.Checkpoint.{Checkpoint}
 use Rattle.dd_check.specs.Texts.{Text}
-use Rattle.dd_check.specs.declared.kinds.ResumeKind.{ResumeKind}
+use Rattle.dd_check.specs.declared.checkpoint.ResumeKind.{ResumeKind}
 use Rattle.dd_check.specs.Calls.{kind_of, Task, Begin, Resume, Ending, Call}
 use Rattle.dd_check.specs.ChainStarts.{Holds, HoldsKind, Start, StartsAt}
 use Rattle.dd_check.specs.Clauses.{HasWorked}

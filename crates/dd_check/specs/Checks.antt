@@ -4,9 +4,9 @@ use Rattle.dd_model.specs.Allowed.{IsFrom}
 use Rattle.dd_model.specs.Request.{IsValid}
 use Rattle.dd_model.specs.declared.requests.Request.{Request}
 use Rattle.dd_check.specs.declared.checkpoint.Checkpoint.{Checkpoint}
-use Rattle.dd_check.specs.declared.items.Item.{Item}
-use Rattle.dd_check.specs.declared.limits.Limits.{Limits}
-use Rattle.dd_check.specs.declared.limits.OldLimits.{OldLimits}
+use Rattle.dd_check.specs.declared.raw_values.Item.{Item}
+use Rattle.dd_check.specs.declared.raw_values.Limits.{Limits}
+use Rattle.dd_check.specs.declared.raw_values.OldLimits.{OldLimits}
 use Rattle.dd_check.specs.Texts.{Text, page}
 use Rattle.dd_check.specs.Sets.{AreItems, IsSetOf}
 use Rattle.dd_check.specs.Rows.{number_row, limits_row, old_limits_row, set_row, place_row, IsTold}

@@ -3,7 +3,7 @@ use Rattle.std.specs.Prelude.{◌≡◌, ℕ, List}
 use Rattle.dd_model.specs.declared.allowed.Allowed.{Allowed}
 use Rattle.dd_check.specs.declared.faults.CheckFault.{CheckFault}
 use Rattle.dd_check.specs.declared.faults.CheckFault.TheVariants.{Shape, Memory}
-use Rattle.dd_check.specs.declared.items.Item.{Item}
+use Rattle.dd_check.specs.declared.raw_values.Item.{Item}
 use Rattle.dd_check.specs.Texts.{Text, words_of}
 use Rattle.dd_check.specs.Sets.{AreItems, IsSetOf}
 use Rattle.dd_check.specs.Rows.{IsSetRow}

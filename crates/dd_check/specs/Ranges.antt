@@ -3,8 +3,8 @@ use Rattle.std.specs.Prelude.{ℕ, ◌*◌, ◌^◌, ◌<◌, ◌≤◌, List, l
 use Rattle.dd_model.specs.declared.jobs.Job.{Job}
 use Rattle.dd_model.specs.declared.jobs.Position.{Position}
 use Rattle.dd_model.specs.declared.jobs.Position.TheVariants.{At, End}
-use Rattle.dd_check.specs.declared.limits.Limits.{Limits}
-use Rattle.dd_check.specs.declared.limits.OldLimits.{OldLimits}
+use Rattle.dd_check.specs.declared.raw_values.Limits.{Limits}
+use Rattle.dd_check.specs.declared.raw_values.OldLimits.{OldLimits}
 
 abbrev pub IsFromTo : ℕ → ℕ → ℕ → Type 0
 IsFromTo low high number = (low ≤ number) × (number ≤ high)

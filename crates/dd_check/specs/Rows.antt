@@ -4,9 +4,9 @@ use Rattle.std.specs.List.{AllByRecursion}
 use Rattle.dd_model.specs.declared.jobs.Job.{Job}
 use Rattle.dd_model.specs.declared.jobs.Position.{Position}
 use Rattle.dd_model.specs.declared.jobs.Position.TheVariants.{At, End}
-use Rattle.dd_check.specs.declared.items.Item.{Item}
-use Rattle.dd_check.specs.declared.limits.Limits.{Limits}
-use Rattle.dd_check.specs.declared.limits.OldLimits.{OldLimits}
+use Rattle.dd_check.specs.declared.raw_values.Item.{Item}
+use Rattle.dd_check.specs.declared.raw_values.Limits.{Limits}
+use Rattle.dd_check.specs.declared.raw_values.OldLimits.{OldLimits}
 use Rattle.dd_check.specs.Texts.{Text}
 use Rattle.dd_check.specs.Numerals.{IsShort}
 use Rattle.dd_check.specs.Sets.{ends_of, set_text}

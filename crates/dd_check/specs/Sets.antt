@@ -3,8 +3,8 @@ use Rattle.std.specs.Prelude.{◌↔◌, ℕ, ◌+◌, ◌<◌, ◌≤◌, List,
 use Rattle.std.specs.List.{AllByRecursion, Contains, join_with_byte}
 use Rattle.dd_model.specs.Allowed.{IsIn}
 use Rattle.dd_model.specs.declared.allowed.Allowed.{Allowed}
-use Rattle.dd_check.specs.declared.items.Item.{Item}
-use Rattle.dd_check.specs.declared.items.Item.TheVariants.{One, Span}
+use Rattle.dd_check.specs.declared.raw_values.Item.{Item}
+use Rattle.dd_check.specs.declared.raw_values.Item.TheVariants.{One, Span}
 use Rattle.dd_check.specs.Texts.{Text}
 
 -- the numbers that are written for an item

@@ -3,10 +3,10 @@ use Rattle.std.specs.Prelude.{◌≡◌, ◌++◌, ℕ, ◌+◌, List, codes}
 use Rattle.dd_front_jobs.specs.declared.shards.Shard.{Shard}
 use Rattle.dd_check.specs.declared.checkpoint.Checkpoint.{Checkpoint}
 use Rattle.dd_check.specs.declared.faults.CheckFault.{CheckFault}
-use Rattle.dd_check.specs.declared.kinds.ResumeKind.{ResumeKind}
-use Rattle.dd_check.specs.declared.kinds.ResumeKind.TheVariants.{Catalogues, Shards}
-use Rattle.dd_check.specs.declared.shard_faults.ShardFault.{ShardFault}
-use Rattle.dd_check.specs.declared.shard_faults.ShardFault.TheVariants.{First, Check, Other, Memory}
+use Rattle.dd_check.specs.declared.checkpoint.ResumeKind.{ResumeKind}
+use Rattle.dd_check.specs.declared.checkpoint.ResumeKind.TheVariants.{Catalogues, Shards}
+use Rattle.dd_check.specs.declared.faults.ShardFault.{ShardFault}
+use Rattle.dd_check.specs.declared.faults.ShardFault.TheVariants.{First, Check, Other, Memory}
 use Rattle.dd_check.specs.Texts.{Text}
 use Rattle.dd_check.specs.Accepted.{IsCheckpointText}
 use Rattle.dd_check.specs.Messages.{check_fault_text}

@@ -5,11 +5,11 @@ use Rattle.std.specs.Global.{Global}
 use Rattle.dd_model.specs.declared.jobs.Job.{Job}
 use Rattle.dd_model.specs.declared.jobs.Position.{Position}
 use Rattle.dd_model.specs.declared.jobs.Position.TheVariants.{At as AtJob, End as NoJob}
-use Rattle.dd_check.specs.declared.items.Item.{Item}
-use Rattle.dd_check.specs.declared.limits.Limits.{Limits}
-use Rattle.dd_check.specs.declared.limits.OldLimits.{OldLimits}
-use Rattle.dd_check.specs.declared.raw_position.RawPosition.{RawPosition}
-use Rattle.dd_check.specs.declared.raw_position.RawPosition.TheVariants.{At, End}
+use Rattle.dd_check.specs.declared.raw_values.Item.{Item}
+use Rattle.dd_check.specs.declared.raw_values.Limits.{Limits}
+use Rattle.dd_check.specs.declared.raw_values.OldLimits.{OldLimits}
+use Rattle.dd_check.specs.declared.raw_values.RawPosition.{RawPosition}
+use Rattle.dd_check.specs.declared.raw_values.RawPosition.TheVariants.{At, End}
 use Rattle.dd_check.specs.Texts.{Text}
 use Rattle.dd_check.specs.Numerals.{IsShort, IsNumeral}
 use Rattle.dd_check.specs.Sets.{ends_of, item_text, set_text}

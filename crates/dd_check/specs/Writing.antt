@@ -2,8 +2,8 @@
 use Rattle.std.specs.Prelude.{◌≡◌, ℕ, Bool, true, false, List, ◌++◌, ◌==◌, Option, codes, if◌then◌else◌}
 use Rattle.dd_model.specs.declared.allowed.Allowed.{Allowed}
 use Rattle.dd_check.specs.declared.checkpoint.Checkpoint.{Checkpoint}
-use Rattle.dd_check.specs.declared.items.Item.{Item}
-use Rattle.dd_check.specs.declared.items.Item.TheVariants.{One, Span}
+use Rattle.dd_check.specs.declared.raw_values.Item.{Item}
+use Rattle.dd_check.specs.declared.raw_values.Item.TheVariants.{One, Span}
 use Rattle.dd_check.specs.Texts.{Text, line_text}
 use Rattle.dd_check.specs.Rows.{set_row}
 use Rattle.dd_check.specs.Sets.{AreItems, IsSetOf, item_text, set_text}

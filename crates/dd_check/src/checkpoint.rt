@@ -14,3 +14,12 @@ pub struct Checkpoint {
     /// Where the next run begins.
     pub at: Position,
 }
+
+/// Which kind of texts a run resumes from.
+#[derive(Clone, Copy)]
+pub enum ResumeKind {
+    /// Texts of catalogues.
+    Catalogues,
+    /// Texts of shards.
+    Shards,
+}

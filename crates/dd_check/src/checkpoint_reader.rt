@@ -9,10 +9,10 @@ ghost use Rattle.dd_check.specs.Outcomes.{AreShortLines, AreNewLines, AreOldLine
 
 use crate::checkpoint::Checkpoint;
 use crate::faults::CheckFault;
-use crate::line_fields::{limits_at, number_at, old_limits_at, old_place_at, place_at, set_at};
-use crate::lines::{end_at, is_first};
-use crate::parts::parts;
-use crate::stops::{is_old_place, is_place};
+use crate::lines::{
+    end_at, is_first, limits_at, number_at, old_limits_at, old_place_at, parts, place_at, set_at,
+};
+use crate::ranges::{is_old_place, is_place};
 use dd_model::{Allowed, Request};
 use std::alloc::Global;
 

@@ -10,7 +10,7 @@ ghost use Rattle.dd_check.specs.Writing.{AddsShardCheck};
 ghost use Rattle.dd_check.specs.ShardChecks.{shard_line};
 
 use crate::checkpoint::Checkpoint;
-use crate::runs::{begins_run, last_of_run};
+use crate::sets::{begins_run, last_of_run};
 use dd_front_jobs::Shard;
 use dd_model::{Allowed, Job, Memory, Position, Request};
 use std::alloc::AllocError;

@@ -1,10 +1,13 @@
-ghost use Rattle.std.specs.Prelude.{◌≡◌, ◌⊎◌, ◌↔◌, ◌*◌, ◌<◌, ◌≤◌, IsTrue};
-ghost use Rattle.dd_check.specs.Ranges.{IsFromTo, AreLimits, AreOldLimits, AreImagesAndDegrees, AreImages};
-ghost use Rattle.dd_check.specs.Ranges.{IsInRange, IsInOldRange};
-ghost use Rattle.dd_check.specs.Told.{position_of};
+ghost use Rattle.std.specs.Prelude.{◌≡◌, ◌⊎◌, ◌↔◌, ◌*◌, ◌<◌, ◌≤◌, IsTrue, ℕ, IfOk, length, slice_index};
+ghost use Rattle.dd_check.specs.Ranges.{IsFromTo, AreLimits, AreOldLimits, AreImagesAndDegrees, AreImages, IsInRange, IsInOldRange};
+ghost use Rattle.dd_check.specs.Told.{position_of, IsSmallPlace};
+ghost use Rattle.dd_front_jobs.specs.Opening.{IsOpeningJob};
+ghost use Rattle.dd_check.specs.Places.{IsOldPlace, IsPlace, IsWholePlace};
 
-use crate::limits::{Limits, OldLimits};
-use crate::raw_position::RawPosition;
+use crate::raw_values::{Limits, OldLimits, RawPosition};
+use dd_front_jobs::is_opening;
+use dd_model::{Job, Memory, Position, Prefix, Request};
+use std::alloc::Global;
 
 /// Returns whether the numbers of a request are in range.
 pub(crate) fn are_limits(limits: &Limits) -> bool
@@ -89,4 +92,83 @@ fn are_images(size: u64, numbers: &[u64]) -> bool
         }
     }
     true
+}
+
+/// Returns the position that a text gives.
+pub(crate) fn position(alloc: Global, place: &RawPosition) -> Result<Position, Memory>
+    requires { IsSmallPlace place.now }
+    ensures { IfOk result (λ at. at ≡ position_of place.now) }
+{
+    match place {
+        RawPosition::At(size, numbers) => {
+            let size = *size as u32;
+            let prefix = prefix_of(alloc, numbers)?;
+            Ok(Position::At(Job { size, prefix }))
+        }
+        RawPosition::End => Ok(Position::End),
+    }
+}
+
+/// Returns the prefix that has these numbers.
+fn prefix_of(alloc: Global, numbers: &[u64]) -> Result<Prefix, Memory>
+    requires { (t : ℕ) → t < length numbers.now → slice_index numbers.now t ≤ 216 }
+    ensures { IfOk result (λ prefix. prefix ≡ numbers.now) }
+{
+    let mut bytes = Vec::new(alloc);
+    for number in numbers {
+        bytes.push(*number as u8)?;
+    }
+    Prefix::from_slice(alloc, &bytes)
+}
+
+/// Returns whether a catalogue may stop at a position: at the end, at a job of the opening, or at a
+/// whole code. A whole code is given by its size and as many numbers as it has, of which the first
+/// are a job of the opening.
+pub(crate) fn is_place(alloc: Global, q: &Request, at: &Position) -> Result<bool, Memory>
+    ensures { IfOk result (λ answer. IsTrue answer ↔ IsPlace q.now at.now) }
+{
+    match at {
+        Position::At(job) => is_job_place(alloc, q, job),
+        Position::End => Ok(true),
+    }
+}
+
+/// Returns whether a job is one of the opening, or has as many numbers as a whole code.
+fn is_job_place(alloc: Global, q: &Request, job: &Job) -> Result<bool, Memory>
+    ensures { IfOk result (λ answer. IsTrue answer
+        ↔ (IsOpeningJob q.now job.now ⊎ IsWholePlace q.now job.now)) }
+{
+    if is_opening(q, job) {
+        return Ok(true);
+    }
+    is_whole_place(alloc, q, job)
+}
+
+/// Returns whether a job has as many numbers as a whole code, and the first are a job of the
+/// opening.
+fn is_whole_place(alloc: Global, q: &Request, job: &Job) -> Result<bool, Memory>
+    ensures { IfOk result (λ answer. IsTrue answer ↔ IsWholePlace q.now job.now) }
+{
+    let numbers = job.prefix.as_slice();
+    if numbers.len() as u64 != 5 * job.size as u64 {
+        return Ok(false);
+    }
+    let count = (3 * job.size as usize).min(9);
+    let prefix = Prefix::from_slice(alloc, &numbers[..count])?;
+    let first = Job {
+        size: job.size,
+        prefix,
+    };
+    Ok(is_opening(q, &first))
+}
+
+/// Returns whether a catalogue may stop at a position of version 1: at the end, or at a job of the
+/// opening.
+pub(crate) fn is_old_place(q: &Request, at: &Position) -> bool
+    ensures { IsTrue result ↔ IsOldPlace q.now at.now }
+{
+    match at {
+        Position::At(job) => is_opening(q, job),
+        Position::End => true,
+    }
 }

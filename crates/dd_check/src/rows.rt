@@ -1,12 +1,49 @@
-ghost use Rattle.std.specs.Prelude.{◌≡◌, Bool, MatchOption};
+ghost use Rattle.std.specs.Prelude.{◌≡◌, ◌↔◌, IsTrue, decimal, Bool, MatchOption, IfOk};
+ghost use Rattle.dd_check.specs.Numerals.{IsNumeral};
+ghost use Rattle.dd_check.specs.Told.{IsWhatTells, AreLimitWords, AreOldLimitWords, IsWhatTellsEnd, IsWhatTellsJob, IsWhatTellsNumbers, IsWhatTellsPlace};
 ghost use Rattle.dd_check.specs.Texts.{texts};
 ghost use Rattle.dd_check.specs.Rows.{IsNumberRow, IsLimitsRow, IsOldLimitsRow, filter_word};
-ghost use Rattle.dd_check.specs.Told.{IsWhatTells, AreLimitWords, AreOldLimitWords};
-ghost use Rattle.dd_check.specs.declared.limits.Limits.{Limits};
-ghost use Rattle.dd_check.specs.declared.limits.OldLimits.{OldLimits};
+ghost use Rattle.dd_check.specs.declared.raw_values.Limits.{Limits};
+ghost use Rattle.dd_check.specs.declared.raw_values.OldLimits.{OldLimits};
 
-use crate::limits::{Limits, OldLimits};
-use crate::numbers::read_number;
+use crate::raw_values::{Limits, OldLimits, RawPosition};
+use dd_model::Memory;
+use itoa::Buffer;
+use std::alloc::Global;
+use std::str;
+
+/// One more than the greatest number of 19 digits.
+const LIMIT: u64 = 10_000_000_000_000_000_000;
+
+/// Returns the number of a word that is written as the number is: without a leading zero, and with
+/// at most 19 digits.
+pub(crate) fn read_number(word: &[u8]) -> Option<u64>
+    ensures { IsWhatTells IsNumeral word.now result }
+{
+    let text = match str::from_utf8(word) {
+        Ok(text) => text,
+        Err(_) => return None,
+    };
+    let number = match text.parse::<u64>() {
+        Ok(number) => number,
+        Err(_) => return None,
+    };
+    if number >= LIMIT {
+        return None;
+    }
+    if !is_written(word, number) {
+        return None;
+    }
+    Some(number)
+}
+
+/// Returns whether a word is a number in decimal.
+fn is_written(word: &[u8], number: u64) -> bool
+    ensures { IsTrue result ↔ (word.now ≡ decimal number) }
+{
+    let mut digits = Buffer::new();
+    word == digits.format(number).as_bytes()
+}
 
 /// Returns the number after a word.
 pub(crate) fn number_row(words: &[&[u8]], key: &[u8]) -> Option<u64>
@@ -98,4 +135,57 @@ fn read_filter(word: &[u8]) -> Option<bool>
         return Some(false);
     }
     None
+}
+
+/// Returns the position that the words of a line are.
+pub(crate) fn place_row(alloc: Global, words: &[&[u8]]) -> Result<Option<RawPosition>, Memory>
+    ensures { IfOk result (λ told. IsWhatTellsPlace (texts words.now) told) }
+{
+    let [word, first, rest @ ..] = words else {
+        return Ok(None)
+    };
+    if *word != b"at".as_slice() {
+        return Ok(None);
+    }
+    if rest.is_empty() {
+        return Ok(end_of(first));
+    }
+    read_place(alloc, first, rest)
+}
+
+/// Returns the end of all positions, if the word says so.
+fn end_of(word: &[u8]) -> Option<RawPosition>
+    ensures { IsWhatTellsEnd word.now result }
+{
+    if word == b"end".as_slice() {
+        return Some(RawPosition::End);
+    }
+    None
+}
+
+/// Returns the position that a word for its size and words for its numbers are.
+fn read_place(alloc: Global, size: &[u8], rest: &[&[u8]]) -> Result<Option<RawPosition>, Memory>
+    ensures { IfOk result (λ told. IsWhatTellsJob size.now (texts rest.now) told) }
+{
+    let Some(size) = read_number(size) else {
+        return Ok(None);
+    };
+    match read_numbers(alloc, rest)? {
+        Some(numbers) => Ok(Some(RawPosition::At(size, numbers))),
+        None => Ok(None),
+    }
+}
+
+/// Returns the numbers that some words are.
+fn read_numbers(alloc: Global, words: &[&[u8]]) -> Result<Option<Vec<u64>>, Memory>
+    ensures { IfOk result (λ told. IsWhatTellsNumbers (texts words.now) told) }
+{
+    let mut numbers = Vec::new(alloc);
+    for word in words {
+        match read_number(word) {
+            Some(number) => numbers.push(number)?,
+            None => return Ok(None),
+        }
+    }
+    Ok(Some(numbers))
 }

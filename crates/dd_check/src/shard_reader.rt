@@ -10,8 +10,7 @@ ghost use Rattle.dd_check.specs.ShardFaults.{shard_words, AreDigits, IsRest, IsR
 
 use crate::checkpoint::Checkpoint;
 use crate::checkpoint_reader::read_checkpoint;
-use crate::faults::CheckFault;
-use crate::shard_faults::ShardFault;
+use crate::faults::{CheckFault, ShardFault};
 use dd_front_jobs::{Shard, shard_opening};
 use dd_model::{Job, Memory, Position, Request};
 use std::alloc::Global;

@@ -8,7 +8,7 @@ use Rattle.dd_ports.specs.Causes.{Rose}
 use Rattle.dd_ports.specs.Grows.{GrowsByPrefix}
 use Rattle.dd_ports.specs.declared.sink.SinkFault.{SinkFault as WriteFault}
 use Rattle.dd_ports.specs.declared.sink.SinkFault.TheVariants.{Failed, Memory as NoRoom}
-use Rattle.dd_check.specs.declared.kinds.ResumeKind.{ResumeKind}
+use Rattle.dd_check.specs.declared.checkpoint.ResumeKind.{ResumeKind}
 use Rattle.dd_check.specs.Calls.{Begin, Resume}
 use Rattle.dd_check.specs.ChainStarts.{Start}
 use Rattle.dd_pages_and_checkpoints.specs.MostLines.{most_lines}

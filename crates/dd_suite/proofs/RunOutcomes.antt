@@ -2,7 +2,7 @@
 use Rattle.std.proofs.Common.{◌≡◌, ◌⊎◌, ℕ, List, true, Option, Some, None, Result, Err, IfOk, inl, inr, refl, sym, ap, ◌∙◌, subst}
 use Rattle.dd_ports.specs.Causes.{Rose}
 use Rattle.dd_ports.specs.Grows.{GrowsByPrefix}
-use Rattle.dd_check.specs.declared.shard_faults.ShardFault.{ShardFault}
+use Rattle.dd_check.specs.declared.faults.ShardFault.{ShardFault}
 use Rattle.dd_check.specs.ShardFaults.{HasKindFault}
 use Rattle.dd_check.proofs.KindFaults.{no_kind_fault}
 use Rattle.dd_check.specs.ShardChecks.{IsAcceptedText}

@@ -2,7 +2,7 @@
 use Rattle.std.proofs.Common.{◌≡◌, ℕ, List, ◌++◌, Option, None, Some, Bool}
 use Rattle.dd_front_jobs.specs.declared.shards.Shard.{Shard}
 use Rattle.dd_check.specs.declared.checkpoint.Checkpoint.{Checkpoint}
-use Rattle.dd_check.specs.declared.kinds.ResumeKind.TheVariants.{Shards}
+use Rattle.dd_check.specs.declared.checkpoint.ResumeKind.TheVariants.{Shards}
 use Rattle.dd_check.specs.Calls.{kind_of}
 use Rattle.dd_check.specs.ShardChecks.{IsAcceptedText}
 use Rattle.dd_check.proofs.KindFaults.{whole_read, whole_faulty}

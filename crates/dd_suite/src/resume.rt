@@ -1,7 +1,7 @@
 ghost use Rattle.std.specs.Prelude.{◌≡◌, ◌≤◌, IfOk, IfErr, IsSome, true};
 ghost use Rattle.dd_model.specs.Request.{IsValid};
 ghost use Rattle.dd_model.specs.Position.{IsPosition};
-ghost use Rattle.dd_check.specs.declared.kinds.ResumeKind.TheVariants.{Catalogues, Shards};
+ghost use Rattle.dd_check.specs.declared.checkpoint.ResumeKind.TheVariants.{Catalogues, Shards};
 ghost use Rattle.dd_check.specs.Calls.{kind_of, Resume};
 ghost use Rattle.dd_ports.specs.Texts.{SameTexts};
 ghost use Rattle.dd_check.specs.ShardChecks.{IsAcceptedText};

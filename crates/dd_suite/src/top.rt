@@ -7,7 +7,7 @@ ghost use Rattle.dd_ports.specs.Texts.{SameTexts};
 ghost use Rattle.dd_model.specs.Symbol.{Symbol};
 ghost use Rattle.dd_front_jobs.specs.declared.portions.Portion.{Portion};
 ghost use Rattle.dd_front_jobs.specs.Portions.{ArePortionMembers};
-ghost use Rattle.dd_check.specs.declared.kinds.ResumeKind.{ResumeKind};
+ghost use Rattle.dd_check.specs.declared.checkpoint.ResumeKind.{ResumeKind};
 ghost use Rattle.dd_pages_and_checkpoints.specs.MostLines.{most_lines};
 ghost use Rattle.dd_suite_tasks.specs.Words.{Order, AskForRun, AskFor, AskToResume, NameFile, AreTaken};
 ghost use Rattle.dd_suite_tasks.specs.Beginnings.{HoldsSomeCheck};

@@ -11,8 +11,8 @@ use Rattle.dd_ports.specs.Sinks.{memory_sink_held}
 use Rattle.dd_ports.specs.declared.memory_sink.MemorySink.{MemorySink}
 use Rattle.dd_check.specs.Between.{AreLinesBetween}
 use Rattle.dd_front_jobs.specs.Portions.{whole}
-use Rattle.dd_check.specs.declared.kinds.ResumeKind.{ResumeKind}
-use Rattle.dd_check.specs.declared.kinds.ResumeKind.TheVariants.{Catalogues}
+use Rattle.dd_check.specs.declared.checkpoint.ResumeKind.{ResumeKind}
+use Rattle.dd_check.specs.declared.checkpoint.ResumeKind.TheVariants.{Catalogues}
 use Rattle.dd_check.specs.ShardFaults.{HasKindFault}
 use Rattle.dd_check.specs.Calls.{Begin, Resume}
 use Rattle.dd_check.specs.ChainStarts.{Start, StartsAt}

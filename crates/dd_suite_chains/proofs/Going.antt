@@ -6,7 +6,7 @@ use Rattle.dd_model.specs.Text.{beginning}
 use Rattle.dd_model.specs.declared.requests.Request.{Request}
 use Rattle.dd_ports.specs.declared.memory_sink.MemorySink.{MemorySink}
 use Rattle.dd_front_jobs.specs.Portions.{whole}
-use Rattle.dd_check.specs.declared.kinds.ResumeKind.TheVariants.{Catalogues}
+use Rattle.dd_check.specs.declared.checkpoint.ResumeKind.TheVariants.{Catalogues}
 use Rattle.dd_check.specs.Calls.{Task, Begin, Resume}
 use Rattle.dd_check.specs.Chains.{kind_of_task, IsPart, IsJoined}
 use Rattle.dd_check.specs.ChainStarts.{Holds, Start, next_start, Starts, StartsAt}

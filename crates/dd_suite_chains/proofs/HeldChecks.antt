@@ -19,7 +19,7 @@ use Rattle.dd_model.proofs.Positions.{before_or_not, below_over, below_symbol}
 use Rattle.dd_model.proofs.Texts.{nothing_before}
 use Rattle.dd_model.proofs.AscendingFronts.{begins_with}
 use Rattle.dd_check.specs.declared.checkpoint.Checkpoint.{Checkpoint}
-use Rattle.dd_check.specs.declared.shard_faults.ShardFault.{ShardFault}
+use Rattle.dd_check.specs.declared.faults.ShardFault.{ShardFault}
 use Rattle.dd_check.specs.Accepted.{IsCheckpointText}
 use Rattle.dd_check.specs.Checks.{IsCheckText}
 use Rattle.dd_check.specs.ShardFaults.{HasKindFault}
@@ -28,7 +28,7 @@ use Rattle.dd_check.proofs.Exclusion.{one_checkpoint}
 use Rattle.dd_check.proofs.ShortTexts.{written_reads_back}
 use Rattle.dd_check.specs.Between.{IsMemberBetween, AreLinesBetween}
 use Rattle.dd_front_jobs.specs.Portions.{whole}
-use Rattle.dd_check.specs.declared.kinds.ResumeKind.TheVariants.{Catalogues}
+use Rattle.dd_check.specs.declared.checkpoint.ResumeKind.TheVariants.{Catalogues}
 use Rattle.dd_check.specs.Calls.{Begin, Resume, Call}
 use Rattle.dd_check.specs.ShardChecks.{IsSavedText}
 use Rattle.dd_check.specs.Clauses.{MeetsClauses}

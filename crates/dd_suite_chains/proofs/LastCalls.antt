@@ -4,7 +4,7 @@ use Rattle.std.specs.List.{HoldsAt}
 use Rattle.dd_model.specs.Request.{IsValid}
 use Rattle.dd_model.specs.declared.requests.Request.{Request}
 use Rattle.dd_ports.specs.declared.memory_sink.MemorySink.{MemorySink}
-use Rattle.dd_check.specs.declared.kinds.ResumeKind.TheVariants.{Catalogues}
+use Rattle.dd_check.specs.declared.checkpoint.ResumeKind.TheVariants.{Catalogues}
 use Rattle.dd_check.specs.Calls.{Task, Resume}
 use Rattle.dd_check.specs.ChainStarts.{Start, Starts, StartsAt}
 use Rattle.dd_suite.specs.Chains.{ProgramCall, call_of}

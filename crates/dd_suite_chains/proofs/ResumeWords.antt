@@ -8,7 +8,7 @@ use Rattle.dd_words.specs.Values.{IsName}
 use Rattle.dd_words.specs.declared.commands.Command.TheVariants as command
 use Rattle.dd_front_jobs.specs.Portions.{whole}
 use Rattle.dd_front_jobs.specs.declared.pace.Pace.{Pace}
-use Rattle.dd_check.specs.declared.kinds.ResumeKind.TheVariants.{Catalogues}
+use Rattle.dd_check.specs.declared.checkpoint.ResumeKind.TheVariants.{Catalogues}
 use Rattle.dd_check.specs.Calls.{Begin, Resume}
 use Rattle.dd_suite_tasks.specs.Words.{Order, AskForRun}
 use Rattle.dd_suite_chains.specs.Words.{AskToKeep, resume_words}

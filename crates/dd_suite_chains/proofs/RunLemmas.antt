@@ -5,7 +5,7 @@ use Rattle.dd_model.specs.Request.{IsValid}
 use Rattle.dd_ports.specs.declared.memory_sink.MemorySink.{MemorySink}
 use Rattle.dd_words.proofs.Validity.{valid}
 use Rattle.dd_check.specs.declared.checkpoint.Checkpoint.{Checkpoint}
-use Rattle.dd_check.specs.declared.kinds.ResumeKind.TheVariants.{Catalogues}
+use Rattle.dd_check.specs.declared.checkpoint.ResumeKind.TheVariants.{Catalogues}
 use Rattle.dd_check.specs.Calls.{Task, Call}
 use Rattle.dd_check.specs.Chains.{AreResumed, IsChain, HasBegun}
 use Rattle.dd_front_jobs.specs.declared.shards.Shard.{Shard}

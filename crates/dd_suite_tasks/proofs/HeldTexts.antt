@@ -5,7 +5,7 @@ use Rattle.dd_suite_commands.specs.declared.commands.FileCommand.{FileCommand}
 use Rattle.dd_suite_commands.specs.Files.{IsFileText}
 use Rattle.dd_suite_commands.proofs.FileTexts.{file_text_unique}
 use Rattle.dd_check.specs.ShardChecks.{IsAcceptedText}
-use Rattle.dd_check.specs.declared.kinds.ResumeKind.{ResumeKind}
+use Rattle.dd_check.specs.declared.checkpoint.ResumeKind.{ResumeKind}
 use Rattle.dd_check.specs.ChainStarts.{Start, next_start}
 use Rattle.dd_check.proofs.ChainParts.{one_accepted}
 use Rattle.dd_suite_tasks.specs.Beginnings.{BeginsNext}

@@ -4,7 +4,7 @@ use Rattle.dd_pages_and_checkpoints.specs.declared.fault.RunFault.{RunFault}
 use Rattle.dd_pages_and_checkpoints.specs.declared.fault.RunFault.TheVariants as fault
 use Rattle.dd_pages_and_checkpoints.specs.declared.finish.Finish.{Finish}
 use Rattle.dd_pages_and_checkpoints.specs.declared.finish.Finish.TheVariants as finish
-use Rattle.dd_check.specs.declared.shard_faults.ShardFault.{ShardFault}
+use Rattle.dd_check.specs.declared.faults.ShardFault.{ShardFault}
 use Rattle.dd_check.specs.ShardFaults.{shard_fault_text}
 use Rattle.dd_suite_commands.specs.declared.command_fault.CommandFault.{CommandFault}
 use Rattle.dd_suite_commands.specs.declared.command_fault.CommandFault.TheVariants.{File, Symbol, Memory as NoRoom}

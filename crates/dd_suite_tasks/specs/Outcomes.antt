@@ -1,7 +1,7 @@
 -- Why a run ended, and why a call with its words never began to run.
 use Rattle.std.specs.Prelude.{◌≡◌, ◌⊎◌, ℕ, List, Option, Result, Bool}
 use Rattle.dd_ports.specs.Causes.{Rose}
-use Rattle.dd_check.specs.declared.kinds.ResumeKind.{ResumeKind}
+use Rattle.dd_check.specs.declared.checkpoint.ResumeKind.{ResumeKind}
 use Rattle.dd_check.specs.ShardFaults.{HasKindFault}
 use Rattle.dd_check.specs.Calls.{Task}
 use Rattle.dd_check.specs.ChainStarts.{Start}

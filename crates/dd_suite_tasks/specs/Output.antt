@@ -6,7 +6,7 @@ use Rattle.dd_model.specs.declared.jobs.Position.TheVariants.{End}
 use Rattle.dd_front_jobs.specs.declared.portions.Portion.{Portion}
 use Rattle.dd_front_jobs.specs.Portions.{IsPortionText}
 use Rattle.dd_check.specs.Between.{AreLinesBetween}
-use Rattle.dd_check.specs.declared.kinds.ResumeKind.{ResumeKind}
+use Rattle.dd_check.specs.declared.checkpoint.ResumeKind.{ResumeKind}
 use Rattle.dd_check.specs.ChainStarts.{Start}
 use Rattle.dd_suite_commands.specs.declared.commands.FileCommand.{FileCommand}
 use Rattle.dd_pages_and_checkpoints.specs.MostLines.{most_lines}

@@ -8,8 +8,8 @@ use Rattle.dd_words.specs.declared.commands.FileKind.TheVariants as kind
 use Rattle.dd_front_jobs.specs.declared.pace.Pace.{Pace}
 use Rattle.dd_front_jobs.specs.declared.shards.Shard.{Shard}
 use Rattle.dd_front_jobs.specs.declared.portions.Portion.{Portion}
-use Rattle.dd_check.specs.declared.kinds.ResumeKind.{ResumeKind}
-use Rattle.dd_check.specs.declared.kinds.ResumeKind.TheVariants.{Catalogues, Shards}
+use Rattle.dd_check.specs.declared.checkpoint.ResumeKind.{ResumeKind}
+use Rattle.dd_check.specs.declared.checkpoint.ResumeKind.TheVariants.{Catalogues, Shards}
 use Rattle.dd_check.specs.Calls.{Task, Begin, Resume}
 use Rattle.dd_suite_commands.specs.declared.commands.FileCommand.{FileCommand}
 use Rattle.dd_suite_commands.specs.declared.commands.FileCommand.TheVariants.{Symbols, Info, Sheets, Draw}

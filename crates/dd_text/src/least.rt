@@ -8,7 +8,6 @@ use dd_symbol::Symbol;
 
 /// Returns whether a chamber is the least one of its cell. The walk round the cell ends at the
 /// first chamber that is smaller.
-#[inline(always)]
 fn is_least(symbol: &Symbol, pair: Pair, chamber: u32) -> bool
     requires { IsChamber symbol.now chamber }
     ensures { IsTrue result ↔ IsLeastOfCell symbol.now pair chamber }

@@ -8,7 +8,6 @@ const NUMBER_START: usize = 3;
 
 /// Counts up the number of a line, which ends at a place, and returns where it ends then. The nines
 /// at its end become zeros, and the digit before them increases by one.
-#[inline(always)]
 pub(crate) fn count_up(text: &mut Vec<u8>, end: usize) -> Result<usize, Memory>
     requires some { 3 ≤ end }
     requires within { end ≤ length text.old.items }

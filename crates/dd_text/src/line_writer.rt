@@ -87,9 +87,7 @@ pub(crate) fn put_image(out: &mut Vec<u8>, chamber: u32, image: u32) -> Result<(
     Ok(())
 }
 
-/// Appends the degrees of a pair at some chambers. It is inlined where the pair is known, so that
-/// the pair is not tested again for each chamber.
-#[inline(always)]
+/// Appends the degrees of a pair at some chambers.
 fn put_degrees(
     out: &mut Vec<u8>,
     symbol: &Symbol,
@@ -109,7 +107,6 @@ fn put_degrees(
 }
 
 /// Appends a number of a list, after a space where the list has begun.
-#[inline(always)]
 fn put_next(out: &mut Vec<u8>, begun: bool, number: u32) -> Result<(), Memory>
     ensures { OnOk result (out.new.items ≡ out.old.items ++ next_number begun number) }
 {
@@ -135,7 +132,6 @@ fn put_spaced(out: &mut Vec<u8>, number: u32) -> Result<(), Memory>
 }
 
 /// The digit of a number below 10.
-#[inline(always)]
 fn digit(number: u32) -> u8
     requires { number < 10 }
     ensures { result ≡ 48 + number }
@@ -155,7 +151,6 @@ pub(crate) fn put_ordinal(out: &mut Vec<u8>, k: u128) -> Result<(), Memory>
 }
 
 /// Appends a number in decimal, at once where it has one or two digits, as most have.
-#[inline(always)]
 pub(crate) fn put_number(out: &mut Vec<u8>, number: u32) -> Result<(), Memory>
     ensures { OnOk result (out.new.items ≡ out.old.items ++ decimal number) }
 {

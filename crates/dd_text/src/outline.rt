@@ -70,7 +70,6 @@ impl Outline {
 
     /// Keeps the number of the line, puts the number of chambers after it, and takes chamber 1,
     /// which is the least one of its cells.
-    #[inline(always)]
     fn begin(&mut self, symbol: &Symbol) -> Result<(), Memory>
         ensures { OnOk result (IsBegun symbol.now self.old self.new) }
     {
@@ -88,7 +87,6 @@ impl Outline {
     }
 
     /// Keeps only the number of the line.
-    #[inline(always)]
     fn clear(&mut self)
         ensures head { self.new.head.items ≡ take self.old.number_end self.old.head.items }
         ensures end { self.new.number_end ≡ self.old.number_end }
@@ -105,7 +103,6 @@ impl Outline {
     }
 
     /// Moves to another chamber: puts its images, and lists it if it is the least one of a cell.
-    #[inline(always)]
     fn tell(&mut self, symbol: &Symbol, chamber: u32) -> Result<(), Memory>
         requires { IsChamber symbol.now chamber }
         ensures { OnOk result (TellsChamber symbol.now chamber self.old self.new) }
@@ -120,7 +117,6 @@ impl Outline {
     }
 
     /// Puts the images of s1 and s2 after those of s0.
-    #[inline(always)]
     fn finish(&mut self) -> Result<(), Memory>
         ensures { OnOk result (IsFinished self.old self.new) }
     {
@@ -153,7 +149,6 @@ impl Outline {
     }
 
     /// Goes on to the next line number.
-    #[inline(always)]
     pub(crate) fn advance(&mut self) -> Result<(), Memory>
         requires some { 3 ≤ self.old.number_end }
         requires within { self.old.number_end ≤ length self.old.head.items }
@@ -181,7 +176,6 @@ impl Outline {
     }
 
     /// Appends the line of a symbol of a list, likewise.
-    #[inline(always)]
     pub(crate) fn put_listed(
         &mut self,
         out: &mut Vec<u8>,

@@ -6,7 +6,6 @@ ghost use Rattle.dd_text.specs.Images.{IsWithin};
 use dd_model::Memory;
 
 /// Appends a degree in decimal, where there is room for three digits.
-#[inline(always)]
 fn put_degree(out: &mut Vec<u8>, degree: u8)
     requires { vec_len out.old + 3 ≤ vec_capacity out.old }
     ensures degree { out.new.items ≡ out.old.items ++ decimal degree }
@@ -29,7 +28,6 @@ fn put_degree(out: &mut Vec<u8>, degree: u8)
 
 /// Appends the degrees at some chambers, one for each chamber being listed, where there is room for
 /// a space and three digits for each.
-#[inline(always)]
 fn put_at(out: &mut Vec<u8>, degrees: &[u8], chambers: &[u32])
     requires within { All (IsWithin (length degrees.now)) chambers.now }
     requires room { vec_len out.old + 4 * length chambers.now ≤ vec_capacity out.old }
@@ -50,7 +48,6 @@ fn put_at(out: &mut Vec<u8>, degrees: &[u8], chambers: &[u32])
 
 /// Appends the degrees of the tiles and of the vertices at their least chambers, and the line's
 /// end. It asks for room for all of it once.
-#[inline(always)]
 pub(crate) fn put_told(
     out: &mut Vec<u8>,
     m01: &[u8],

@@ -1,5 +1,0 @@
-use Rattle.dd_check.proofs.Exclusion.{one_checkpoint}
-use Rattle.dd_check.proofs.text_laws.a_checkpoint_text_tells_one_checkpoint.Goals as goal
-
-pub returns : goal.returns
-returns c = one_checkpoint
