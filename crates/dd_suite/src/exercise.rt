@@ -1,7 +1,8 @@
-ghost use Rattle.std.specs.Prelude.{◌≡◌, ◌≤◌, ℕ, List, true};
+ghost use Rattle.std.specs.Prelude.{◌≡◌, ◌≤◌, ℕ, List};
 ghost use Rattle.dd_ports.specs.Grows.{GrowsByPrefix};
 ghost use Rattle.dd_suite_exercise.specs.Exercise.{IsExerciseText};
 ghost use Rattle.dd_suite_tasks.specs.Stops.{IsWriteEnding, AppendsExercise};
+ghost use Rattle.dd_suite_tasks.specs.Outside.{KeepsSure};
 
 use dd_model::Memory;
 use dd_ports::Sink;
@@ -18,8 +19,7 @@ pub fn write_exercise<O: Sink>(alloc: Global, start: u32, count: u32, out: &mut 
         → AppendsExercise start count (O.held out.old) (O.held out.new) }
     ensures cause { IsWriteEnding result (O.faults out.old) (O.faults out.new) }
     ensures count { O.faults out.old ≤ O.faults out.new }
-    ensures sure { O.sure out.old ≡ true
-        → (O.faults out.new ≡ O.faults out.old) × (result ≡ Ending.SinkFault → ⊥) }
+    ensures sure { KeepsSure O.Sink out.old out.new result }
 {
     match dd_suite_exercise::exercise(alloc, start, count) {
         Ok(text) => write_text(&text, out),

@@ -3,6 +3,7 @@ ghost use Rattle.dd_model.specs.Request.{IsValid};
 ghost use Rattle.dd_check.specs.Calls.{Begin};
 ghost use Rattle.dd_pages_and_checkpoints.specs.Runs.{start_of, IsPause};
 ghost use Rattle.dd_suite_tasks.specs.Outcomes.{IsRunOutcome, EndsRunFrom};
+ghost use Rattle.dd_suite_tasks.specs.Outside.{before_of, after_of, KeepsSure};
 
 use dd_branch::Search;
 use dd_catalogue_rounds::{Workshop, write_run};
@@ -31,26 +32,13 @@ pub fn write_kept<R: Threads + Wait + Sync, S: Store, G: Gate + Sync, O: Sink>(
           pause = pause;
         })
         result
-        (record {
-          tells = S.tells store.old;
-          held = S.held store.old;
-          store_faults = S.faults store.old;
-          written = O.held out.old;
-          sink_faults = O.faults out.old;
-        })
-        (record {
-          held = S.held store.new;
-          store_faults = S.faults store.new;
-          written = O.held out.new;
-          sink_faults = O.faults out.new;
-        }) }
+        (before_of S.Store O.Sink store.old out.old) (after_of S.Store O.Sink store.new out.new) }
     ensures tells { S.tells store.old ≡ true → S.tells store.new ≡ true }
     ensures store_count { S.faults store.old ≤ S.faults store.new }
     ensures sink_count { O.faults out.old ≤ O.faults out.new }
     ensures store_sure { S.sure store.old ≡ true
         → (S.faults store.new ≡ S.faults store.old) × (result ≡ Ending.StoreFault → ⊥) }
-    ensures sink_sure { O.sure out.old ≡ true
-        → (O.faults out.new ≡ O.faults out.old) × (result ≡ Ending.SinkFault → ⊥) }
+    ensures sink_sure { KeepsSure O.Sink out.old out.new result }
 {
     let Ok(run) = Run::first(workshop.alloc, *portion, pace, pause) else {
         return Ending::Memory;
@@ -69,26 +57,13 @@ pub fn keep_run<R: Threads + Wait + Sync, S: Store, G: Gate + Sync, O: Sink>(
     ensures run { EndsRunFrom
         (start_of run.now) name.now run.now.pace.round run.now.pause
         result
-        (record {
-          tells = S.tells store.old;
-          held = S.held store.old;
-          store_faults = S.faults store.old;
-          written = O.held out.old;
-          sink_faults = O.faults out.old;
-        })
-        (record {
-          held = S.held store.new;
-          store_faults = S.faults store.new;
-          written = O.held out.new;
-          sink_faults = O.faults out.new;
-        }) }
+        (before_of S.Store O.Sink store.old out.old) (after_of S.Store O.Sink store.new out.new) }
     ensures tells { S.tells store.old ≡ true → S.tells store.new ≡ true }
     ensures store_count { S.faults store.old ≤ S.faults store.new }
     ensures sink_count { O.faults out.old ≤ O.faults out.new }
     ensures store_sure { S.sure store.old ≡ true
         → (S.faults store.new ≡ S.faults store.old) × (result ≡ Ending.StoreFault → ⊥) }
-    ensures sink_sure { O.sure out.old ≡ true
-        → (O.faults out.new ≡ O.faults out.old) × (result ≡ Ending.SinkFault → ⊥) }
+    ensures sink_sure { KeepsSure O.Sink out.old out.new result }
 {
     let mut search = Search::new(&run.portion.request);
     let ended = write_run(workshop, &mut search, run, name, store, out);

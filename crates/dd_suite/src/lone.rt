@@ -1,6 +1,7 @@
-ghost use Rattle.std.specs.Prelude.{◌≡◌, ◌≤◌, true};
+ghost use Rattle.std.specs.Prelude.{◌≡◌, ◌≤◌};
 ghost use Rattle.dd_model.specs.Request.{IsValid};
 ghost use Rattle.dd_suite_tasks.specs.Lone.{IsLoneEnding, run_result};
+ghost use Rattle.dd_suite_tasks.specs.Outside.{KeepsSure};
 
 use dd_branch::Search;
 use dd_catalogue_rounds::{Workshop, write_catalogue};
@@ -22,8 +23,7 @@ pub fn write_lone<R: Threads + Wait + Sync, G: Gate + Sync, O: Sink>(
     ensures ending { IsLoneEnding result portion.now (O.held out.old) (O.held out.new)
         (O.faults out.old) (O.faults out.new) }
     ensures count { O.faults out.old ≤ O.faults out.new }
-    ensures sure { O.sure out.old ≡ true
-        → (O.faults out.new ≡ O.faults out.old) × (result ≡ Ending.SinkFault → ⊥) }
+    ensures sure { KeepsSure O.Sink out.old out.new result }
 {
     let Ok(run) = Run::first(workshop.alloc, *portion, pace, None) else {
         return Ending::Memory;

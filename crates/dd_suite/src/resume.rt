@@ -3,12 +3,12 @@ ghost use Rattle.dd_model.specs.Request.{IsValid};
 ghost use Rattle.dd_model.specs.Position.{IsPosition};
 ghost use Rattle.dd_check.specs.declared.checkpoint.ResumeKind.TheVariants.{Catalogues, Shards};
 ghost use Rattle.dd_check.specs.Calls.{kind_of, Resume};
-ghost use Rattle.dd_ports.specs.Texts.{SameTexts};
 ghost use Rattle.dd_check.specs.ShardChecks.{IsAcceptedText};
 ghost use Rattle.dd_check.specs.ChainStarts.{next_start};
 ghost use Rattle.dd_pages_and_checkpoints.specs.Runs.{start_of};
 ghost use Rattle.dd_suite_tasks.specs.Beginnings.{HoldsCheck};
 ghost use Rattle.dd_suite_tasks.specs.Outcomes.{IsRunOutcome, IsReadStop, IsHeldStop};
+ghost use Rattle.dd_suite_tasks.specs.Outside.{before_of, after_of, KeepsTexts, KeepsSure};
 ghost use Rattle.dd_pages_and_checkpoints.specs.MostLines.{most_lines};
 
 use crate::kept::keep_run;
@@ -47,8 +47,7 @@ fn fetch_check<S: Store>(
     ensures why { IfErr result (λ ending.
         IsHeldStop kind ending (S.tells store.old) (S.held store.old name.now)
         (S.faults store.old) (S.faults store.new)) }
-    ensures same { S.tells store.old ≡ true
-        → (S.tells store.new ≡ true) × SameTexts (S.held store.old) (S.held store.new) }
+    ensures same { KeepsTexts S.Store store.old store.new }
     ensures count { S.faults store.old ≤ S.faults store.new }
     ensures sure { S.sure store.old ≡ true → S.sure store.new ≡ true }
     ensures passes { S.sure store.old ≡ true → IsSome (S.held store.old name.now)
@@ -68,8 +67,7 @@ fn fetch_catalogue<S: Store>(alloc: Global, name: &str, store: &mut S) -> Result
     ensures why { IfErr result (λ ending.
         IsHeldStop Catalogues ending (S.tells store.old) (S.held store.old name.now)
         (S.faults store.old) (S.faults store.new)) }
-    ensures same { S.tells store.old ≡ true
-        → (S.tells store.new ≡ true) × SameTexts (S.held store.old) (S.held store.new) }
+    ensures same { KeepsTexts S.Store store.old store.new }
     ensures count { S.faults store.old ≤ S.faults store.new }
     ensures sure { S.sure store.old ≡ true → S.sure store.new ≡ true }
     ensures passes { S.sure store.old ≡ true → IsSome (S.held store.old name.now)
@@ -105,8 +103,7 @@ fn fetch_shard<S: Store>(alloc: Global, name: &str, store: &mut S) -> Result<Sav
     ensures why { IfErr result (λ ending.
         IsHeldStop Shards ending (S.tells store.old) (S.held store.old name.now)
         (S.faults store.old) (S.faults store.new)) }
-    ensures same { S.tells store.old ≡ true
-        → (S.tells store.new ≡ true) × SameTexts (S.held store.old) (S.held store.new) }
+    ensures same { KeepsTexts S.Store store.old store.new }
     ensures count { S.faults store.old ≤ S.faults store.new }
     ensures sure { S.sure store.old ≡ true → S.sure store.new ≡ true }
     ensures passes { S.sure store.old ≡ true → IsSome (S.held store.old name.now)
@@ -151,26 +148,13 @@ pub fn resume<R: Threads + Wait + Sync, S: Store, G: Gate + Sync, O: Sink>(
     ensures outcome { IsRunOutcome
         (record { task = Resume kind name.now; round = pace.round; pause = pause })
         result
-        (record {
-          tells = S.tells store.old;
-          held = S.held store.old;
-          store_faults = S.faults store.old;
-          written = O.held out.old;
-          sink_faults = O.faults out.old;
-        })
-        (record {
-          held = S.held store.new;
-          store_faults = S.faults store.new;
-          written = O.held out.new;
-          sink_faults = O.faults out.new;
-        }) }
+        (before_of S.Store O.Sink store.old out.old) (after_of S.Store O.Sink store.new out.new) }
     ensures tells { S.tells store.old ≡ true → S.tells store.new ≡ true }
     ensures store_count { S.faults store.old ≤ S.faults store.new }
     ensures sink_count { O.faults out.old ≤ O.faults out.new }
     ensures store_sure { S.sure store.old ≡ true → IsSome (S.held store.old name.now)
         → (S.faults store.new ≡ S.faults store.old) × (result ≡ Ending.StoreFault → ⊥) }
-    ensures sink_sure { O.sure out.old ≡ true
-        → (O.faults out.new ≡ O.faults out.old) × (result ≡ Ending.SinkFault → ⊥) }
+    ensures sink_sure { KeepsSure O.Sink out.old out.new result }
 {
     let saved = match fetch_check(workshop.alloc, kind, name, store) {
         Ok(saved) => saved,

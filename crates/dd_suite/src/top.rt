@@ -18,8 +18,9 @@ ghost use Rattle.dd_suite_tasks.specs.Arguments.{KeepUnder, SameButKept};
 ghost use Rattle.dd_suite_tasks.specs.Merges.{AskToMerge, IsMergeOfHeld};
 ghost use Rattle.dd_suite_tasks.specs.MergeEndings.{IsMergeAccepted};
 ghost use Rattle.dd_suite_tasks.specs.Cuts.{Pauses, CutsShort, IsEndOfOwn};
-ghost use Rattle.dd_suite_tasks.specs.Messages.{TellsOf};
+ghost use Rattle.dd_suite_tasks.specs.Messages.{TellsOf, stream_of};
 ghost use Rattle.dd_suite_tasks.specs.Stops.{IsOutcome};
+ghost use Rattle.dd_suite_tasks.specs.Outside.{before_of, after_of, KeepsSure};
 
 use crate::exercise::write_exercise;
 use crate::kept::write_kept;
@@ -58,19 +59,7 @@ pub fn run<R: Threads + Wait + Sync, S: Store, O: Sink, E: Sink, G: Gate + Sync>
     ensures call { (order : Order) → AskForRun (map rc_str_bytes words.now) order
         → IsCallOf order
         result
-        (record {
-          tells = S.tells store.old;
-          held = S.held store.old;
-          store_faults = S.faults store.old;
-          written = O.held out.old;
-          sink_faults = O.faults out.old;
-        })
-        (record {
-          held = S.held store.new;
-          store_faults = S.faults store.new;
-          written = O.held out.new;
-          sink_faults = O.faults out.new;
-        }) }
+        (before_of S.Store O.Sink store.old out.old) (after_of S.Store O.Sink store.new out.new) }
     ensures not_resumed { (kind : ResumeKind) (name : List ℕ)
         → AskToResume (map rc_str_bytes words.now) kind name
         → (HoldsSomeCheck kind (S.tells store.old) (S.held store.old name) → ⊥)
@@ -136,16 +125,7 @@ pub fn run<R: Threads + Wait + Sync, S: Store, O: Sink, E: Sink, G: Gate + Sync>
     // ran out of memory, or if there was no memory to make the line of a refusal.
     ensures err { TellsOf result
         (map rc_str_bytes words.now) (S.tells store.old) (S.held store.old)
-        (record {
-          held = E.held err.old;
-          faults = E.faults err.old;
-          shortages = E.shortages err.old;
-        })
-        (record {
-          held = E.held err.new;
-          faults = E.faults err.new;
-          shortages = E.shortages err.new;
-        }) }
+        (stream_of E.Sink err.old) (stream_of E.Sink err.new) }
     ensures err_count { E.faults err.old ≤ E.faults err.new }
 {
     let ending = perform(&Workshop { rt, alloc, gate }, words, store, out);
@@ -162,27 +142,14 @@ fn perform<R: Threads + Wait + Sync, S: Store, O: Sink, G: Gate + Sync>(
 ) -> Ending
     ensures outcome { IsOutcome (map rc_str_bytes words.now)
         result
-        (record {
-          tells = S.tells store.old;
-          held = S.held store.old;
-          store_faults = S.faults store.old;
-          written = O.held out.old;
-          sink_faults = O.faults out.old;
-        })
-        (record {
-          held = S.held store.new;
-          store_faults = S.faults store.new;
-          written = O.held out.new;
-          sink_faults = O.faults out.new;
-        }) }
+        (before_of S.Store O.Sink store.old out.old) (after_of S.Store O.Sink store.new out.new) }
     ensures tells { S.tells store.old ≡ true → S.tells store.new ≡ true }
     ensures store_count { S.faults store.old ≤ S.faults store.new }
     ensures sink_count { O.faults out.old ≤ O.faults out.new }
     ensures store_sure { S.sure store.old ≡ true
         → AreHeld (map rc_str_bytes words.now) (S.tells store.old) (S.held store.old)
         → (S.faults store.new ≡ S.faults store.old) × (result ≡ Ending.StoreFault → ⊥) }
-    ensures sink_sure { O.sure out.old ≡ true
-        → (O.faults out.new ≡ O.faults out.old) × (result ≡ Ending.SinkFault → ⊥) }
+    ensures sink_sure { KeepsSure O.Sink out.old out.new result }
 {
     let alloc = workshop.alloc;
     let task = match read_task(alloc, words) {

@@ -3,6 +3,7 @@ use Rattle.std.specs.Prelude.{◌≡◌, ◌⊎◌, ℕ, List, Option, Bool}
 use Rattle.std.specs.Io.KnownBytes.{Appends}
 use Rattle.dd_ports.specs.Causes.{Rose}
 use Rattle.dd_ports.specs.Grows.{GrowsByPrefix}
+use Rattle.dd_ports.specs.declared.sink.Sink.{Ghosts as Sinks}
 use Rattle.dd_suite_tasks.specs.declared.status.Status.{Status}
 use Rattle.dd_suite_tasks.specs.declared.ending.Ending.{Ending}
 use Rattle.dd_suite_tasks.specs.declared.ending.Ending.TheVariants.{Refused, RefusedSymbol, RefusedCheck, RefusedMerge, Paused}
@@ -28,6 +29,9 @@ pub record Stream : Type 0 where
   pub held : Option (List ℕ)
   pub faults : ℕ
   pub shortages : ℕ
+
+abbrev pub stream_of : {E : Type 0} → Sinks E → E → Stream
+stream_of e err = record { held = e.held err; faults = e.faults err; shortages = e.shortages err }
 
 -- the line quotes a part of a file, so that a text is made of it before it is written
 abbrev pub IsMade : Ending → Type 0

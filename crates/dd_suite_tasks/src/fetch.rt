@@ -1,9 +1,9 @@
 ghost use Rattle.std.specs.Prelude.{◌≡◌, IfOk, MatchOption, IsSome, true};
 ghost use Rattle.dd_ports.specs.declared.store.StoreFault.TheVariants.{Failed};
 ghost use Rattle.dd_ports.specs.Causes.{HasCause, StaysSure};
-ghost use Rattle.dd_ports.specs.Texts.{SameTexts};
 ghost use Rattle.dd_suite_tasks.specs.Held.{AreFetched, HoldsMore};
 ghost use Rattle.dd_suite_tasks.specs.Merges.{IsFetchedFront};
+ghost use Rattle.dd_suite_tasks.specs.Outside.{KeepsTexts};
 
 use dd_ports::{Fetched, Store, StoreFault};
 use std::alloc::Global;
@@ -18,8 +18,7 @@ pub fn fetch_all<S: Store>(
     ensures bytes { IfOk result (λ bytes. MatchOption bytes
         (HoldsMore (S.tells store.old) (S.held store.old name.now) most)
         (λ bytes. AreFetched (S.tells store.old) (S.held store.old name.now) bytes.items)) }
-    ensures same { S.tells store.old ≡ true
-        → (S.tells store.new ≡ true) × SameTexts (S.held store.old) (S.held store.new) }
+    ensures same { KeepsTexts S.Store store.old store.new }
     ensures cause { HasCause Failed (S.faults store.old) (S.faults store.new) result }
     ensures sure { S.sure store.old ≡ true → S.sure store.new ≡ true }
     ensures passes { S.sure store.old ≡ true → IsSome (S.held store.old name.now)
@@ -41,8 +40,7 @@ pub fn fetch_front<S: Store>(
 ) -> Result<Vec<u8>, StoreFault>
     ensures front { IfOk result (λ front.
         IsFetchedFront (S.tells store.old) (S.held store.old name.now) most front.items) }
-    ensures same { S.tells store.old ≡ true
-        → (S.tells store.new ≡ true) × SameTexts (S.held store.old) (S.held store.new) }
+    ensures same { KeepsTexts S.Store store.old store.new }
     ensures cause { HasCause Failed (S.faults store.old) (S.faults store.new) result }
     ensures sure { S.sure store.old ≡ true → S.sure store.new ≡ true }
     ensures passes { S.sure store.old ≡ true → IsSome (S.held store.old name.now)

@@ -1,9 +1,9 @@
 ghost use Rattle.std.specs.Prelude.{◌≡◌, ◌≤◌, ℕ, List, true, IfOk, IfErr, IsSome};
 ghost use Rattle.std.specs.Io.KnownBytes.{Appends};
 ghost use Rattle.dd_ports.specs.Grows.{GrowsByPrefix};
-ghost use Rattle.dd_ports.specs.Texts.{SameTexts};
 ghost use Rattle.dd_suite_tasks.specs.Held.{AreFetched, IsTextOfHeld, AppendsFileText};
 ghost use Rattle.dd_suite_tasks.specs.Stops.{IsFetchStop, IsWriteEnding, HasFileCause};
+ghost use Rattle.dd_suite_tasks.specs.Outside.{before_of, after_of, KeepsTexts, KeepsSure};
 
 use crate::ending::Ending;
 use crate::fetch::fetch_all;
@@ -22,8 +22,7 @@ fn fetch_file<S: Store>(alloc: Global, name: &str, store: &mut S) -> Result<Vec<
     ensures why { IfErr result (λ ending.
         IsFetchStop ending (S.tells store.old) (S.held store.old name.now)
         (S.faults store.old) (S.faults store.new)) }
-    ensures same { S.tells store.old ≡ true
-        → (S.tells store.new ≡ true) × SameTexts (S.held store.old) (S.held store.new) }
+    ensures same { KeepsTexts S.Store store.old store.new }
     ensures count { S.faults store.old ≤ S.faults store.new }
     ensures sure { S.sure store.old ≡ true → IsSome (S.held store.old name.now)
         → S.faults store.new ≡ S.faults store.old }
@@ -48,8 +47,7 @@ pub fn write_text<O: Sink>(text: &[u8], out: &mut O) -> Ending
     ensures whole { result ≡ Ending.Done → Appends (O.held out.old) (O.held out.new) text.now }
     ensures cause { IsWriteEnding result (O.faults out.old) (O.faults out.new) }
     ensures count { O.faults out.old ≤ O.faults out.new }
-    ensures sure { O.sure out.old ≡ true
-        → (O.faults out.new ≡ O.faults out.old) × (result ≡ Ending.SinkFault → ⊥) }
+    ensures sure { KeepsSure O.Sink out.old out.new result }
 {
     match write_all_of(out, text) {
         Ok(()) => Ending::Done,
@@ -72,27 +70,13 @@ pub fn write_file<S: Store, O: Sink>(
     ensures whole { result ≡ Ending.Done → AppendsFileText command (S.tells store.old)
         (S.held store.old name.now) (O.held out.old) (O.held out.new) }
     ensures cause { HasFileCause command name.now result
-        (record {
-          tells = S.tells store.old;
-          held = S.held store.old;
-          store_faults = S.faults store.old;
-          written = O.held out.old;
-          sink_faults = O.faults out.old;
-        })
-        (record {
-          held = S.held store.new;
-          store_faults = S.faults store.new;
-          written = O.held out.new;
-          sink_faults = O.faults out.new;
-        }) }
-    ensures same { S.tells store.old ≡ true
-        → (S.tells store.new ≡ true) × SameTexts (S.held store.old) (S.held store.new) }
+        (before_of S.Store O.Sink store.old out.old) (after_of S.Store O.Sink store.new out.new) }
+    ensures same { KeepsTexts S.Store store.old store.new }
     ensures store_count { S.faults store.old ≤ S.faults store.new }
     ensures sink_count { O.faults out.old ≤ O.faults out.new }
     ensures store_sure { S.sure store.old ≡ true → IsSome (S.held store.old name.now)
         → (S.faults store.new ≡ S.faults store.old) × (result ≡ Ending.StoreFault → ⊥) }
-    ensures sink_sure { O.sure out.old ≡ true
-        → (O.faults out.new ≡ O.faults out.old) × (result ≡ Ending.SinkFault → ⊥) }
+    ensures sink_sure { KeepsSure O.Sink out.old out.new result }
 {
     let bytes = match fetch_file(alloc, name, store) {
         Ok(bytes) => bytes,

@@ -1,11 +1,11 @@
-ghost use Rattle.std.specs.Prelude.{◌≡◌, ◌≤◌, ℕ, List, true, length, IfOk, IfErr, IsSome};
+ghost use Rattle.std.specs.Prelude.{◌≡◌, ◌≤◌, ℕ, List, true, length, IfOk, IsSome};
 ghost use Rattle.std.specs.List.{AllByRecursion};
 ghost use Rattle.dd_ports.specs.declared.store.StoreFault.TheVariants.{Failed};
 ghost use Rattle.dd_ports.specs.Causes.{HasCause, StaysSure};
 ghost use Rattle.dd_ports.specs.Grows.{GrowsByPrefix};
-ghost use Rattle.dd_ports.specs.Texts.{SameTexts};
 ghost use Rattle.dd_suite_commands.specs.Merges.{bytes_of};
 ghost use Rattle.dd_suite_tasks.specs.Merges.{AreFetchedFronts, IsMergeOfHeld, AppendsMerge, HasMergeCause};
+ghost use Rattle.dd_suite_tasks.specs.Outside.{before_of, after_of, KeepsTexts, KeepsSure};
 
 use crate::ending::Ending;
 use crate::fetch::fetch_front;
@@ -27,8 +27,7 @@ fn fetch_files<S: Store>(
 ) -> Result<Vec<Vec<u8>>, StoreFault>
     ensures fronts { IfOk result (λ files. AreFetchedFronts (S.tells store.old) (S.held store.old)
         16777217 names.now (bytes_of files.items)) }
-    ensures same { S.tells store.old ≡ true
-        → (S.tells store.new ≡ true) × SameTexts (S.held store.old) (S.held store.new) }
+    ensures same { KeepsTexts S.Store store.old store.new }
     ensures cause { HasCause Failed (S.faults store.old) (S.faults store.new) result }
     ensures passes { S.sure store.old ≡ true → S.tells store.old ≡ true
         → AllByRecursion (λ name. IsSome (S.held store.old name)) names.now
@@ -58,28 +57,14 @@ pub fn write_merge<R: Threads + Sync, S: Store, O: Sink>(
     ensures whole { result ≡ Ending.Done → AppendsMerge names.now (S.tells store.old)
         (S.held store.old) (O.held out.old) (O.held out.new) }
     ensures cause { HasMergeCause names.now result
-        (record {
-          tells = S.tells store.old;
-          held = S.held store.old;
-          store_faults = S.faults store.old;
-          written = O.held out.old;
-          sink_faults = O.faults out.old;
-        })
-        (record {
-          held = S.held store.new;
-          store_faults = S.faults store.new;
-          written = O.held out.new;
-          sink_faults = O.faults out.new;
-        }) }
-    ensures same { S.tells store.old ≡ true
-        → (S.tells store.new ≡ true) × SameTexts (S.held store.old) (S.held store.new) }
+        (before_of S.Store O.Sink store.old out.old) (after_of S.Store O.Sink store.new out.new) }
+    ensures same { KeepsTexts S.Store store.old store.new }
     ensures store_count { S.faults store.old ≤ S.faults store.new }
     ensures sink_count { O.faults out.old ≤ O.faults out.new }
     ensures store_sure { S.sure store.old ≡ true → S.tells store.old ≡ true
         → AllByRecursion (λ name. IsSome (S.held store.old name)) names.now
         → (S.faults store.new ≡ S.faults store.old) × (result ≡ Ending.StoreFault → ⊥) }
-    ensures sink_sure { O.sure out.old ≡ true
-        → (O.faults out.new ≡ O.faults out.old) × (result ≡ Ending.SinkFault → ⊥) }
+    ensures sink_sure { KeepsSure O.Sink out.old out.new result }
 {
     let files = match fetch_files(alloc, names, store) {
         Ok(files) => files,

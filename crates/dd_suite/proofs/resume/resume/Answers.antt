@@ -3,7 +3,7 @@ use Rattle.dd_check.specs.ChainStarts.{next_start}
 use Rattle.dd_pages_and_checkpoints.specs.Runs.{start_of}
 use Rattle.dd_check.specs.Calls.{Resume}
 use Rattle.dd_suite_tasks.specs.Outcomes.{IsRunOutcome}
-use Rattle.dd_suite_tasks.specs.Outside.{Before, After}
+use Rattle.dd_suite_tasks.specs.Outside.{before_of, after_of}
 use Rattle.dd_suite.proofs.CheckValues.{check_valid, check_counts, check_position, saved_check}
 use Rattle.dd_suite.proofs.RunCalls.{resumed_outcome, same_run, ends_earlier}
 use Rattle.dd_suite.proofs.resume.resume.Goals as goal
@@ -34,19 +34,8 @@ next_run-run-requires-clause-position g c =
 
 pub returns-clause-outcome : goal.returns-clause-outcome
 returns-clause-outcome g c =
-    let before : Before = record {
-      tells = g.S.Store.tells c.args.store.now;
-      held = g.S.Store.held c.args.store.now;
-      store_faults = g.S.Store.faults c.args.store.now;
-      written = g.O.Sink.held c.args.out.now;
-      sink_faults = g.O.Sink.faults c.args.out.now;
-    } in
-    let after : After = record {
-      held = g.S.Store.held c.keep_run.new.store;
-      store_faults = g.S.Store.faults c.keep_run.new.store;
-      written = g.O.Sink.held c.keep_run.new.out;
-      sink_faults = g.O.Sink.faults c.keep_run.new.out;
-    } in
+    let before = before_of g.S.Store g.O.Sink c.args.store.now c.args.out.now in
+    let after = after_of g.S.Store g.O.Sink c.keep_run.new.store c.keep_run.new.out in
     let saved = c.in-Ok.saved in
     let holds = c.in-Ok.ensures.check in
     let run = c.next_run-run.result in

@@ -5,7 +5,7 @@ use Rattle.std.specs.Rc.{rc_str_bytes}
 use Rattle.dd_check.specs.Calls.{Begin, Resume as Next}
 use Rattle.dd_suite_tasks.specs.declared.task.Task.TheVariants.{Alone, Kept, Resume, OnFile, Merge, Exercise}
 use Rattle.dd_suite_tasks.specs.Outcomes.{IsRunOutcome}
-use Rattle.dd_suite_tasks.specs.Outside.{Before, After}
+use Rattle.dd_suite_tasks.specs.Outside.{before_of, after_of}
 use Rattle.dd_suite_tasks.specs.Stops.{EndsOnFile, on_file, of_merge, of_exercise, of_run}
 use Rattle.dd_suite_tasks.specs.Merges.{AskToMerge}
 use Rattle.dd_suite_tasks.specs.MergeEndings.{EndsMerge}
@@ -30,19 +30,8 @@ returns-in-Alone-clause-outcome g c =
     let q = c.in-Alone.portion in
     let pace = c.in-Alone.pace in
     let asked = lone_asked words q pace (asked_of words c.in-Ok-Some.field-0 c.in-Ok-Some.task (Alone q pace) c.in-Ok-Some.ensures c.in-Ok-Some.field-0-is c.in-Alone.is) in
-    let before : Before = record {
-      tells = g.S.Store.tells c.args.store.now;
-      held = g.S.Store.held c.args.store.now;
-      store_faults = g.S.Store.faults c.args.store.now;
-      written = g.O.Sink.held c.args.out.now;
-      sink_faults = g.O.Sink.faults c.args.out.now;
-    } in
-    let after : After = record {
-      held = g.S.Store.held c.args.store.now;
-      store_faults = g.S.Store.faults c.args.store.now;
-      written = g.O.Sink.held c.write_lone.new.out;
-      sink_faults = g.O.Sink.faults c.write_lone.new.out;
-    } in
+    let before = before_of g.S.Store g.O.Sink c.args.store.now c.args.out.now in
+    let after = after_of g.S.Store g.O.Sink c.args.store.now c.write_lone.new.out in
     of_run (record { task = Begin q None; round = pace.round; pause = None }) asked.asked
     (lone_outcome q pace.round c.write_lone.result before after c.write_lone.ensures.ending (λ told other. refl))
 
@@ -54,19 +43,8 @@ returns-in-Kept-clause-outcome g c =
     let pace = c.in-Kept.pace in
     let pause = c.in-Kept.pause in
     let asked = kept_asked words q name pace pause (asked_of words c.in-Ok-Some.field-0 c.in-Ok-Some.task (Kept q name pace pause) c.in-Ok-Some.ensures c.in-Ok-Some.field-0-is c.in-Kept.is) in
-    let before : Before = record {
-      tells = g.S.Store.tells c.args.store.now;
-      held = g.S.Store.held c.args.store.now;
-      store_faults = g.S.Store.faults c.args.store.now;
-      written = g.O.Sink.held c.args.out.now;
-      sink_faults = g.O.Sink.faults c.args.out.now;
-    } in
-    let after : After = record {
-      held = g.S.Store.held c.write_kept.new.store;
-      store_faults = g.S.Store.faults c.write_kept.new.store;
-      written = g.O.Sink.held c.write_kept.new.out;
-      sink_faults = g.O.Sink.faults c.write_kept.new.out;
-    } in
+    let before = before_of g.S.Store g.O.Sink c.args.store.now c.args.out.now in
+    let after = after_of g.S.Store g.O.Sink c.write_kept.new.store c.write_kept.new.out in
     of_run (record { task = Begin q (Some name); round = pace.round; pause = pause }) asked.asked
     (subst (λ (n : List ℕ). IsRunOutcome (record { task = Begin q (Some n); round = pace.round; pause = pause }) c.write_kept.result before after) c.as_str.ensures c.write_kept.ensures.outcome)
 
@@ -78,19 +56,8 @@ returns-in-Resume-clause-outcome g c =
     let pace = c.in-Resume.pace in
     let pause = c.in-Resume.pause in
     let asked = resume_asked words kind name pace pause (asked_of words c.in-Ok-Some.field-0 c.in-Ok-Some.task (Resume kind name pace pause) c.in-Ok-Some.ensures c.in-Ok-Some.field-0-is c.in-Resume.is) in
-    let before : Before = record {
-      tells = g.S.Store.tells c.args.store.now;
-      held = g.S.Store.held c.args.store.now;
-      store_faults = g.S.Store.faults c.args.store.now;
-      written = g.O.Sink.held c.args.out.now;
-      sink_faults = g.O.Sink.faults c.args.out.now;
-    } in
-    let after : After = record {
-      held = g.S.Store.held c.resume.new.store;
-      store_faults = g.S.Store.faults c.resume.new.store;
-      written = g.O.Sink.held c.resume.new.out;
-      sink_faults = g.O.Sink.faults c.resume.new.out;
-    } in
+    let before = before_of g.S.Store g.O.Sink c.args.store.now c.args.out.now in
+    let after = after_of g.S.Store g.O.Sink c.resume.new.store c.resume.new.out in
     of_run (record { task = Next kind name; round = pace.round; pause = pause }) asked
     (subst (λ (n : List ℕ). IsRunOutcome (record { task = Next kind n; round = pace.round; pause = pause }) c.resume.result before after) c.as_str-in-Resume.ensures c.resume.ensures.outcome)
 
@@ -112,19 +79,8 @@ returns-in-OnFile-clause-outcome g c =
     let command = c.in-OnFile.command in
     let name = c.in-OnFile.name in
     let asked : IsOnFile words command name = file_asked words command name (asked_of words c.in-Ok-Some.field-0 c.in-Ok-Some.task (OnFile command name) c.in-Ok-Some.ensures c.in-Ok-Some.field-0-is c.in-OnFile.is) in
-    let before : Before = record {
-      tells = g.S.Store.tells c.args.store.now;
-      held = g.S.Store.held c.args.store.now;
-      store_faults = g.S.Store.faults c.args.store.now;
-      written = g.O.Sink.held c.args.out.now;
-      sink_faults = g.O.Sink.faults c.args.out.now;
-    } in
-    let after : After = record {
-      held = g.S.Store.held c.write_file.new.store;
-      store_faults = g.S.Store.faults c.write_file.new.store;
-      written = g.O.Sink.held c.write_file.new.out;
-      sink_faults = g.O.Sink.faults c.write_file.new.out;
-    } in
+    let before = before_of g.S.Store g.O.Sink c.args.store.now c.args.out.now in
+    let after = after_of g.S.Store g.O.Sink c.write_file.new.store c.write_file.new.out in
     on_file command name asked
     (subst (λ (n : List ℕ). EndsOnFile command n c.write_file.result before after) c.as_str-in-OnFile.ensures
     (record { cause = c.write_file.ensures.cause; prefix = c.write_file.ensures.prefix; whole = c.write_file.ensures.whole; same = λ told. (c.write_file.ensures.same told).1 }))
@@ -149,19 +105,8 @@ returns-in-Merge-clause-outcome g c =
     let words = map rc_str_bytes c.args.words.now in
     let names = c.in-Merge.names in
     let asked : AskToMerge words names = merge_asked words names (asked_of words c.in-Ok-Some.field-0 c.in-Ok-Some.task (Merge names) c.in-Ok-Some.ensures c.in-Ok-Some.field-0-is c.in-Merge.is) in
-    let before : Before = record {
-      tells = g.S.Store.tells c.args.store.now;
-      held = g.S.Store.held c.args.store.now;
-      store_faults = g.S.Store.faults c.args.store.now;
-      written = g.O.Sink.held c.args.out.now;
-      sink_faults = g.O.Sink.faults c.args.out.now;
-    } in
-    let after : After = record {
-      held = g.S.Store.held c.write_merge.new.store;
-      store_faults = g.S.Store.faults c.write_merge.new.store;
-      written = g.O.Sink.held c.write_merge.new.out;
-      sink_faults = g.O.Sink.faults c.write_merge.new.out;
-    } in
+    let before = before_of g.S.Store g.O.Sink c.args.store.now c.args.out.now in
+    let after = after_of g.S.Store g.O.Sink c.write_merge.new.store c.write_merge.new.out in
     of_merge names asked
     (subst (λ ns. EndsMerge ns c.write_merge.result before after) c.as_slice.ensures
     (record { cause = c.write_merge.ensures.cause; prefix = c.write_merge.ensures.prefix; whole = c.write_merge.ensures.whole; same = λ told. (c.write_merge.ensures.same told).1 }))
