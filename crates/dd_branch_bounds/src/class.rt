@@ -3,6 +3,9 @@ ghost use Rattle.dd_branch_bounds.specs.Classes.{joined_class};
 
 /// What is known of a path in one number: how many chambers it has, and 64 more where an involution
 /// is known to fix one of them; 0 where there is no path.
+///
+/// A path of 3 chambers has the class 3, and 67 if one of them is known to be fixed. Joined to a
+/// path of the class 2 it has the class 5, or 69. The classes 67 and 66 make 69, too.
 #[derive(Clone, Copy, Drop)]
 pub(crate) struct Class {
     number: u8,

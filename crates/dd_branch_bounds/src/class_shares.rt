@@ -20,6 +20,10 @@ use dd_model::{Pair, Request};
 ///
 /// The sum of two paths that are joined is at the sum of their classes, also if the path that they
 /// make has no ends.
+///
+/// In a table of 8 chambers, a cell with the 5 chambers of the class 5 has at least 3 turns, and at
+/// least 5 turns with those of the class 69. Paths of the classes 67 and 66 make a whole cell of 5
+/// turns if their ends are joined: its sum is at 67 + 66, which is 128 and these turns.
 #[derive(Clone, Copy, Drop)]
 pub(crate) struct ClassShares {
     pub(crate) request: Request,

@@ -57,11 +57,15 @@ fn sides_of(shape: &CellShape, chamber: u32) -> u8
     }
 }
 
-/// The parts of sides with the branching values 1 to 6, each at its value.
+/// The parts of sides with the branching values 1 to 6, each at its value: 12, 6, 4, 3 and 2
+/// twelfths for the values 1, 2, 3, 4 and 6. The value 5 is not tried.
 const PARTS: [u8; 7] = [0, 12, 6, 4, 3, 2, 2];
 
 /// The branching values of flat symbols, each at what a side with it has of the budget beyond 2.
 /// The table spares the search for degrees a division.
+///
+/// The values 1, 2, 3, 4 and 6 are at 10, 4, 2, 1 and 0. So a cycle with 3 turns that takes 4
+/// beyond its least takes 2 for each of its 2 sides: its value is 3, and its degree 9.
 const VALUES: [u8; 11] = [6, 4, 3, 0, 2, 0, 0, 0, 0, 0, 1];
 
 /// Returns what `sides` sides of a cell with a branching value take of the budget beyond 2 each.
@@ -76,6 +80,9 @@ fn share_of(value: u8, sides: u8) -> u8
 
 /// Returns what a degree of a cell with these turns and sides may take of the budget beyond its
 /// least, as bits: a share for each branching value that a set allows.
+///
+/// If the set has 4 and 6, a cell with 2 turns may have the values 2 and 3. A chain then takes 4 or
+/// 2, which are the bits 4 and 2; a cycle takes 8 or 4.
 fn shares_of(set: &Allowed, turns: u8, sides: u8) -> u32
     requires turns { turns ≤ 36 }
     requires sides { sides ≤ 2 }

@@ -20,6 +20,9 @@ pub(crate) struct Rests {
 }
 
 /// What the degrees from a place on may have beyond their least, by what the later ones may have.
+///
+/// If a chain may take 2 or 4, and the later ones together 2 or 4, then all may take 4, 6 or 8.
+/// These are the bits 59, 57 and 55.
 fn surplus_with(place: &DegreeSlot, later: u64) -> u64
     ensures { HasSurplusWith place.now later result }
 {
@@ -66,6 +69,9 @@ impl Rests {
     /// Returns those of the shares of a place, as bits, that leave to the later places what these
     /// may take, if `left` is left for all. From 64 on that is not kept, and the most that they may
     /// take decides.
+    ///
+    /// If 8 is left, and the later places may take 2 or 4, then of the shares 2 and 4 only 4 fits.
+    /// If 6 is left, both do.
     pub(crate) fn fitting(&self, later: usize, shares: u32, left: u16) -> u64
         requires later { later < 73 }
         requires small { left + slice_index self.now.least later ≤ 4096 }
