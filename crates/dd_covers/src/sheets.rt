@@ -8,11 +8,8 @@ ghost use Rattle.dd_covers.specs.Shifts.{AreBelow, shifts_by, shift};
 use crate::cover::Cover;
 use crate::shifts::Shifts;
 use dd_model::{Index, Map, Memory, Pair};
-use dd_symbol::{Connected, Refusal, Symbol, build, item};
+use dd_symbol::{Connected, Symbol, build_known_lists, item};
 use std::alloc::Global;
-
-/// The most chambers of a cover.
-const MOST_CHAMBERS: u32 = 16384;
 
 impl Shifts {
     /// The shifts of an involution.
@@ -123,14 +120,7 @@ fn sheets(alloc: Global, s: &Connected, k: u32, shifts: &Shifts) -> Result<Conne
     ];
     let m01 = degrees(alloc, symbol, Pair::Tile, k)?;
     let m12 = degrees(alloc, symbol, Pair::Vertex, k)?;
-    match build(alloc, ops, m01, m12, MOST_CHAMBERS) {
-        Ok(cover) => Ok(cover),
-        Err(why) => match why {
-            Refusal::Memory => Err(Memory),
-            // The sheets are a connected symbol, so that only memory can be wanting.
-            _ => unreachable!(),
-        },
-    }
+    build_known_lists(alloc, ops, m01, m12)
 }
 
 /// Returns the cover of k sheets, which are known to be a symbol.

@@ -10,7 +10,7 @@ use Rattle.dd_model.specs.Cell.{IsWordOf, InCell, turned, IsLeastTurns, IsBranch
 use Rattle.dd_model.specs.Small.{IsSmallSymbol}
 use Rattle.dd_model.proofs.Turns.{turned-suc, turned-last, turned_within}
 use Rattle.dd_model.proofs.Transport.{in_cell_within}
-use Rattle.dd_symbol.specs.Building.{listed, HaveOneLength, IsAccepted}
+use Rattle.dd_symbol.specs.Building.{listed, IsAccepted}
 use Rattle.dd_model.proofs.Codes.{items_again}
 use Rattle.dd_quotient.specs.Dual.{dual_of, degrees_of}
 
@@ -151,22 +151,15 @@ connected-dual s all d h =
     record { word = flips there.word; leads = act-flips s there.word 1 ∙ there.leads }
 
 -- five copied lists are those of the dual
-pub listed-dual : (s : Symbol) (s2 s1 s0 m12 m01 : List ℕ) → IsTable s → s2 ≡ s.s2 → s1 ≡ s.s1 → s0 ≡ s.s0 → m12 ≡ s.m12 → m01 ≡ s.m01
-    → listed s2 s1 s0 m12 m01 ≡ dual_of s
-listed-dual s s2 s1 s0 m12 m01 is a b c d e = rw a (rw b (rw c (rw d (rw e (
-    ap (λ n. record { size = n; s0 = s.s2; s1 = s.s1; s2 = s.s0; m01 = s.m12; m12 = s.m01 }) (is.lengths Two))))))
-
-pub lengths-dual : (s t : Symbol) → IsTable s → t ≡ dual_of s → HaveOneLength t
-lengths-dual s t is e = subst HaveOneLength (sym e)
-    (record { s1 = is.lengths One; s2 = is.lengths Zero; m01 = is.m12_length; m12 = is.m01_length })
+pub listed-dual : {s t : Symbol} {s2 s1 s0 m12 m01 : List ℕ} → IsTable s → t ≡ s → s2 ≡ operation t Two → s1 ≡ operation t One → s0 ≡ operation t Zero
+    → m12 ≡ degrees_of t Vertex → m01 ≡ degrees_of t Tile → listed s2 s1 s0 m12 m01 ≡ dual_of s
+listed-dual {s} {t} {s2} {s1} {s0} {m12} {m01} is same a b c d e =
+    let vertices = items_again s.m12 s.size is.m12_length in
+    let tiles = items_again s.m01 s.size is.m01_length in
+    rw a (rw b (rw c (rw d (rw e (rw same (rw vertices (rw tiles (
+    ap (λ n. record { size = n; s0 = s.s2; s1 = s.s1; s2 = s.s0; m01 = s.m12; m12 = s.m01 }) (is.lengths Two)))))))))
 
 -- the dual is a symbol that is taken
 pub accepted-dual : (s t : Symbol) → IsSmallSymbol s → Connected s → t ≡ dual_of s → IsAccepted 16384 t
 accepted-dual s t is all e = subst (IsAccepted 16384) (sym e)
     (record { symbol = small_symbol-dual s is; connected = connected-dual s all; within = is.size })
-
-pub tile_degrees : (s : Symbol) → IsTable s → degrees_of s Tile ≡ s.m01
-tile_degrees s table = items_again s.m01 s.size table.m01_length
-
-pub vertex_degrees : (s : Symbol) → IsTable s → degrees_of s Vertex ≡ s.m12
-vertex_degrees s table = items_again s.m12 s.size table.m12_length

@@ -5,7 +5,7 @@ ghost use Rattle.dd_model.specs.Small.{IsSmallSymbol};
 ghost use Rattle.dd_quotient.specs.Dual.{dual_of, degrees_of};
 
 use dd_model::{Index, Memory, Pair};
-use dd_symbol::{Connected, Refusal, Symbol, build};
+use dd_symbol::{Connected, Symbol, build_known_lists};
 use std::alloc::Global;
 
 /// The dual of the dual is the symbol.
@@ -53,12 +53,5 @@ pub fn dual(alloc: Global, s: &Connected) -> Result<Connected, Memory>
     ];
     let m01 = degrees(alloc, symbol, Pair::Vertex)?;
     let m12 = degrees(alloc, symbol, Pair::Tile)?;
-    match build(alloc, ops, m01, m12, 16384) {
-        Ok(dual) => Ok(dual),
-        Err(why) => match why {
-            Refusal::Memory => Err(Memory),
-            // The dual of a connected symbol is one, so that only memory can be wanting.
-            _ => unreachable!(),
-        },
-    }
+    build_known_lists(alloc, ops, m01, m12)
 }

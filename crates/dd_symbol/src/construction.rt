@@ -131,3 +131,23 @@ pub fn build(
     let involutions = Involutions::from_lists(alloc, &ImageLists { s0, s1, s2 })?;
     build_on(alloc, involutions, m01, m12)
 }
+
+/// The connected symbol with these lists, which are known to be those of one with branching values
+/// of at most 30.
+pub fn build_known_lists(
+    alloc: Global,
+    ops: [Vec<u32>; 3],
+    m01: Vec<u32>,
+    m12: Vec<u32>,
+) -> Result<Connected, Memory>
+    requires { IsConnectedSymbol (given ops m01.items m12.items) }
+    ensures { IfOk result (λ it. it ≡ given ops m01.items m12.items) }
+{
+    match build(alloc, ops, m01, m12, 16384) {
+        Ok(symbol) => Ok(symbol),
+        Err(why) => match why {
+            Refusal::Memory => Err(Memory),
+            _ => unreachable!(),
+        },
+    }
+}

@@ -26,6 +26,7 @@
 //!   `from_known_bytes`.
 //! - A caller may have a table (`Table::known`) and the turns of its places. It calls
 //!   `build_known`. `with_places` of dd_branch_degrees counts the turns. It walks each cell once.
+//! - A caller may have lists that it made from those of a symbol. It calls `build_known_lists`.
 //! - A caller may have the degrees of a symbol with the same involutions. It calls
 //!   `with_known_degrees`, which copies the images.
 #![tactic(auto)]
@@ -49,7 +50,7 @@ mod symbol_ref;
 mod walk;
 
 pub use connected::Connected;
-pub use construction::{build, build_fitting, build_known, build_on};
+pub use construction::{build, build_fitting, build_known, build_known_lists, build_on};
 pub use involutions::{ImageLists, Involutions};
 pub use kind::Kind;
 pub use maps::{inverse, is_bijection, item};

@@ -4,7 +4,7 @@ use Rattle.std.proofs.lemmas.List.{append_assoc, append-nil, map-append}
 use Rattle.std.proofs.lemmas.List.Concat.{flat_map-append}
 use Rattle.std.proofs.lemmas.Nat.{mul-le}
 use Rattle.std.specs.List.{flat_map}
-use Rattle.dd_model.specs.declared.index.Index.TheVariants.{Zero, One, Two}
+use Rattle.dd_model.specs.declared.index.Index.TheVariants.{Zero}
 use Rattle.dd_model.specs.declared.pair.Pair.{Pair}
 use Rattle.dd_model.specs.Symbol.{Symbol, IsChamber, degree}
 use Rattle.dd_model.specs.Connected.{Connected}
@@ -14,7 +14,7 @@ use Rattle.dd_model.proofs.Branching.{branching_exists}
 use Rattle.dd_model.proofs.CellWalks.{has_period}
 use Rattle.dd_model.proofs.Turns.{IsLeastTurns-from_period, least_turns_unique}
 use Rattle.dd_model.proofs.CountFrom.{count_from-more}
-use Rattle.dd_symbol.specs.Building.{listed, HaveOneLength, IsAccepted}
+use Rattle.dd_symbol.specs.Building.{listed, IsAccepted}
 use Rattle.dd_template.specs.Table.{Table}
 use Rattle.dd_template.specs.Made.{made}
 use Rattle.dd_template.specs.Lawful.{IsLawful}
@@ -69,25 +69,17 @@ one_chamber_more before after g k was here =
 
 -- ## What is built
 
--- the lists of what a lawful table makes have one length
-pub lengths-made : (t : Table) (s u : Symbol) → IsLawful t → IsSmallSymbol s → u ≡ made t s → HaveOneLength u
-lengths-made t s u lawful small e =
-    let table = made_table t s lawful.lists.some lawful.moves.undone small.symbol.table in
-    subst HaveOneLength (sym e) (record { s1 = table.lengths One; s2 = table.lengths Two; m01 = table.m01_length; m12 = table.m12_length })
-
 -- five lists that are those of what a lawful table makes
-pub listed-made : (t : Table) (s u : Symbol) (s0 s1 s2 m01 m12 : List ℕ) → IsLawful t → IsSmallSymbol s → u ≡ s
-    → s0 ≡ (made t u).s0 → s1 ≡ (made t u).s1 → s2 ≡ (made t u).s2 → m01 ≡ (made t u).m01 → m12 ≡ (made t u).m12
+pub listed-made : {t : Table} {s u : Symbol} {s0 s1 s2 m01 m12 : List ℕ} → IsLawful t → IsSmallSymbol s → u ≡ s
+    → s0 ≡ (made t u).s0 → s1 ≡ (made t u).s1 → s2 ≡ (made t u).s2 → m01 ≡ (made t s).m01 → m12 ≡ (made t s).m12
     → listed s0 s1 s2 m01 m12 ≡ made t s
-listed-made t s u s0 s1 s2 m01 m12 lawful small same a b c d e =
+listed-made {t} {s} {u} {s0} {s1} {s2} {m01} {m12} lawful small same a b c d e =
     let table = made_table t s lawful.lists.some lawful.moves.undone small.symbol.table in
-    let size : length s0 ≡ s.size * t.parts = ap length a ∙ ap (λ v. length (made t v).s0) same ∙ table.lengths Zero in
     let as0 = a ∙ ap (λ v. (made t v).s0) same in
     let as1 = b ∙ ap (λ v. (made t v).s1) same in
     let as2 = c ∙ ap (λ v. (made t v).s2) same in
-    let am01 = d ∙ ap (λ v. (made t v).m01) same in
-    let am12 = e ∙ ap (λ v. (made t v).m12) same in
-    λ i. record { size = size i; s0 = as0 i; s1 = as1 i; s2 = as2 i; m01 = am01 i; m12 = am12 i }
+    let size : length s0 ≡ s.size * t.parts = ap length as0 ∙ table.lengths Zero in
+    λ i. record { size = size i; s0 = as0 i; s1 = as1 i; s2 = as2 i; m01 = d i; m12 = e i }
 
 -- what a lawful table makes of a connected symbol is accepted
 pub accepted-made : (t : Table) (s u : Symbol) → IsLawful t → IsSmallSymbol s → Connected s → s.size * t.parts ≤ 1024 → u ≡ made t s → IsAccepted 1024 u

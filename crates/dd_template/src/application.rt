@@ -9,7 +9,7 @@ ghost use Rattle.dd_template.specs.Table.{table_of};
 use crate::tables::{Degree, Template};
 use crate::undone::Undone;
 use dd_model::{Index, Memory, Pair};
-use dd_symbol::{Connected, Refusal, Symbol, build};
+use dd_symbol::{Connected, Symbol, build_known_lists};
 use std::alloc::Global;
 
 /// The most chambers of a symbol that is made.
@@ -174,12 +174,5 @@ pub fn apply<const K: usize>(
     ];
     let m01 = template.degrees(alloc, symbol, Pair::Tile)?;
     let m12 = template.degrees(alloc, symbol, Pair::Vertex)?;
-    match build(alloc, ops, m01, m12, MOST_CHAMBERS) {
-        Ok(derived) => Ok(derived),
-        Err(why) => match why {
-            Refusal::Memory => Err(ApplyFault::Memory),
-            // What a lawful table makes of a connected symbol is one.
-            _ => unreachable!(),
-        },
-    }
+    Ok(build_known_lists(alloc, ops, m01, m12)?)
 }
