@@ -16,7 +16,7 @@ fn jobs_of(alloc: Global, jobs: &[Job]) -> Result<Vec<Job>, Memory>
 }
 
 /// An equal event. A list of members is shared and not copied.
-pub fn copy_of(alloc: Global, event: &Event) -> Result<Event, Memory>
+pub(crate) fn copy_of(alloc: Global, event: &Event) -> Result<Event, Memory>
     ensures { IfOk result (λ copy. copy ≡ event.now) }
 {
     Ok(match event {

@@ -17,7 +17,7 @@ use std::sync::ledger::Ledger;
 
 /// A desk and the books of its calls.
 #[derive(Drop)]
-pub struct Counted<N: Naming, K: Ledger, L: Ledger, S: Ledger, D: Ledger, B: Ledger> {
+pub(crate) struct Counted<N: Naming, K: Ledger, L: Ledger, S: Ledger, D: Ledger, B: Ledger> {
     pub(crate) desk: Desk<N>,
     pub(crate) books: Books<K, L, S, D, B>,
 }

@@ -22,7 +22,7 @@ fn is_out_with(entry: &Entry, job: &Job) -> bool
 }
 
 /// Returns whether the entry of a number is out with this job.
-pub fn has_out_with(front: &Front, number: u64, job: &Job) -> bool
+pub(crate) fn has_out_with(front: &Front, number: u64, job: &Job) -> bool
     ensures { IsTrue result ↔ Contains front.now.entries (entry_of number job.now State.Out) }
 {
     match front.entry(number) {
@@ -32,7 +32,7 @@ pub fn has_out_with(front: &Front, number: u64, job: &Job) -> bool
 }
 
 /// Where a round begins.
-pub fn place_of_first(jobs: &[Job]) -> Result<Position, Memory>
+pub(crate) fn place_of_first(jobs: &[Job]) -> Result<Position, Memory>
     ensures { IfOk result (λ place. place ≡ first_place jobs.now) }
 {
     match jobs.first() {

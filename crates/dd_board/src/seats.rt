@@ -10,7 +10,7 @@ use std::alloc::Global;
 use std::sync::ledger::Ledger;
 
 /// Returns a seat for each of `workers` workers, among whom the shares are dealt out.
-pub fn seats_of<K: Ledger, L: Ledger, S: Ledger, D: Ledger, B: Ledger>(
+pub(crate) fn seats_of<K: Ledger, L: Ledger, S: Ledger, D: Ledger, B: Ledger>(
     alloc: Global,
     mut shares: Shares<K, L, S, D, B>,
     count: u32,
@@ -32,7 +32,7 @@ pub fn seats_of<K: Ledger, L: Ledger, S: Ledger, D: Ledger, B: Ledger>(
 }
 
 /// All shares of the seats, together.
-pub fn all_shares<K: Ledger, L: Ledger, S: Ledger, D: Ledger, B: Ledger>(
+pub(crate) fn all_shares<K: Ledger, L: Ledger, S: Ledger, D: Ledger, B: Ledger>(
     mut seats: Vec<Seat<K, L, S, D, B>>,
 ) -> Shares<K, L, S, D, B>
     requires { 0 < length seats.items }

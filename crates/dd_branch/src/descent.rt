@@ -368,21 +368,16 @@ impl PrefixSearch for Descent {
     ghost use Rattle.dd_branch_tables.specs.Stem.{prefix_of, size_of};
     ghost use Rattle.dd_branch.specs.Descent.{IsDescent, shorter};
 
-    ghost request = { λ d. d.request };
-
-    ghost wanted = { λ q s. IsMember q s };
-
-    ghost size = { λ d. size_of d.stem };
-
-    ghost prefix = { λ d. prefix_of d.stem };
-
-    ghost end = { λ n. 3 * n };
-
-    ghost depth = { λ d. length d.levels };
-
-    ghost undone = { λ d _. shorter d };
-
-    ghost valid = { λ d. IsDescent d };
+    ghost laws = { record {
+        request = λ d. d.request;
+        wanted = λ q s. IsMember q s;
+        size = λ d. size_of d.stem;
+        prefix = λ d. prefix_of d.stem;
+        end = λ n. 3 * n;
+        depth = λ d. length d.levels;
+        undone = λ d _. shorter d;
+        valid = λ d. IsDescent d
+    } };
 
     ghost end_small = { Prim.search rules };
 

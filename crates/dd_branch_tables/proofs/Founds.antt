@@ -9,29 +9,30 @@ use Rattle.dd_model.specs.Wanted.{IsAscending}
 use Rattle.dd_model.specs.declared.requests.Request.{Request}
 use Rattle.dd_model.proofs.Ascending.{ascending-append}
 use Rattle.dd_front_jobs.specs.Under.{IsUnder, AreUnder, Appends}
+use Rattle.dd_branch_tables.specs.Search.{SearchLaws}
 use Rattle.dd_branch_tables.specs.Levels.{IsAt, IsLeft, IsLeftAt, first_at}
 use Rattle.dd_branch_tables.specs.declared.level.Level.{Level}
 
-module _ {S : Type 0} (request : S → Request) (wanted : Request → Symbol → Type 0) (size : S → ℕ) (prefix : S → List ℕ) (end : ℕ → ℕ) (depth : S → ℕ) (undone : S → ℕ → S) (valid : S → Type 0) where
+module _ {S : Type 0} (laws : SearchLaws S) where
   -- Of what is under the prefix of the first state some has been found, ascending, and the rest is left, and comes after it.
   pub record AreFound (begun state : S) (levels : List Level) (found : List Symbol) : Type 0 where
     pub ascending : IsAscending found
-    pub all : (s : Symbol) → IsUnder (wanted (request begun)) (size begun) (prefix begun) s
-        ↔ (Contains found s ⊎ IsLeftAt prefix undone (wanted (request begun)) (size begun) state levels s)
-    pub before : (s t : Symbol) → Contains found s → IsLeftAt prefix undone (wanted (request begun)) (size begun) state levels t → IsBelow s t
+    pub all : (s : Symbol) → IsUnder (laws.wanted (laws.request begun)) (laws.size begun) (laws.prefix begun) s
+        ↔ (Contains found s ⊎ IsLeftAt laws (laws.wanted (laws.request begun)) (laws.size begun) state levels s)
+    pub before : (s t : Symbol) → Contains found s → IsLeftAt laws (laws.wanted (laws.request begun)) (laws.size begun) state levels t → IsBelow s t
 
   -- The search stands at its last level, and what it has found has been added to a list.
   pub record HasFound (begun : S) (old : List Symbol) (state : S) (levels : List Level) (new : List Symbol) : Type 0 where
-    pub valid_now : valid state
-    pub same_request : request state ≡ request begun
-    pub same_size : size state ≡ size begun
-    pub at : IsAt request wanted size prefix end depth undone valid state levels
-    pub same_first : first_at undone state levels ≡ begun
+    pub valid_now : laws.valid state
+    pub same_request : laws.request state ≡ laws.request begun
+    pub same_size : laws.size state ≡ laws.size begun
+    pub at : IsAt laws state levels
+    pub same_first : first_at laws state levels ≡ begun
     pub list : Appends (AreFound begun state levels) old new
 
   -- nothing has been found yet
-  pub none_found : (begun : S) (levels : List Level) (old : List Symbol) → valid begun → IsAt request wanted size prefix end depth undone valid begun levels → first_at undone begun levels ≡ begun
-      → ((s : Symbol) → IsUnder (wanted (request begun)) (size begun) (prefix begun) s ↔ IsLeftAt prefix undone (wanted (request begun)) (size begun) begun levels s)
+  pub none_found : (begun : S) (levels : List Level) (old : List Symbol) → laws.valid begun → IsAt laws begun levels → first_at laws begun levels ≡ begun
+      → ((s : Symbol) → IsUnder (laws.wanted (laws.request begun)) (laws.size begun) (laws.prefix begun) s ↔ IsLeftAt laws (laws.wanted (laws.request begun)) (laws.size begun) begun levels s)
       → HasFound begun old begun levels old
   none_found begun levels old v at same left = record {
     valid_now = v;
@@ -52,12 +53,12 @@ module _ {S : Type 0} (request : S → Request) (wanted : Request → Symbol →
 
   -- what is under the next whole prefix has been added
   pub more_found : (begun old_state state back : S) (old_levels levels : List Level) (old mid new : List Symbol) → HasFound begun old old_state old_levels mid
-      → valid back → request back ≡ request begun → size back ≡ size begun → IsAt request wanted size prefix end depth undone valid back levels → first_at undone back levels ≡ begun
-      → ((s : Symbol) → IsLeftAt prefix undone (wanted (request begun)) (size begun) old_state old_levels s
-      ↔ (IsUnder (wanted (request begun)) (size begun) (prefix state) s ⊎ IsLeft prefix undone (wanted (request begun)) (size begun) state levels s))
-      → ((s t : Symbol) → IsUnder (wanted (request begun)) (size begun) (prefix state) s → IsLeft prefix undone (wanted (request begun)) (size begun) state levels t → IsBelow s t)
-      → ((s : Symbol) → IsLeft prefix undone (wanted (request begun)) (size begun) state levels s ↔ IsLeftAt prefix undone (wanted (request begun)) (size begun) back levels s)
-      → Appends (AreUnder (wanted (request begun)) (size begun) (prefix state)) mid new → HasFound begun old back levels new
+      → laws.valid back → laws.request back ≡ laws.request begun → laws.size back ≡ laws.size begun → IsAt laws back levels → first_at laws back levels ≡ begun
+      → ((s : Symbol) → IsLeftAt laws (laws.wanted (laws.request begun)) (laws.size begun) old_state old_levels s
+      ↔ (IsUnder (laws.wanted (laws.request begun)) (laws.size begun) (laws.prefix state) s ⊎ IsLeft laws (laws.wanted (laws.request begun)) (laws.size begun) state levels s))
+      → ((s t : Symbol) → IsUnder (laws.wanted (laws.request begun)) (laws.size begun) (laws.prefix state) s → IsLeft laws (laws.wanted (laws.request begun)) (laws.size begun) state levels t → IsBelow s t)
+      → ((s : Symbol) → IsLeft laws (laws.wanted (laws.request begun)) (laws.size begun) state levels s ↔ IsLeftAt laws (laws.wanted (laws.request begun)) (laws.size begun) back levels s)
+      → Appends (AreUnder (laws.wanted (laws.request begun)) (laws.size begun) (laws.prefix state)) mid new → HasFound begun old back levels new
   more_found begun old_state state back old_levels levels old mid new found v q n at same parts order left more =
       let ss = found.list.list in
       let ts = more.list in
@@ -96,8 +97,8 @@ module _ {S : Type 0} (request : S → Request) (wanted : Request → Symbol →
 
   -- nothing is left
   pub all_found : (begun state : S) (levels : List Level) (old new : List Symbol) → HasFound begun old state levels new
-      → ((s : Symbol) → IsLeftAt prefix undone (wanted (request begun)) (size begun) state levels s → ⊥)
-      → Appends (AreUnder (wanted (request begun)) (size begun) (prefix begun)) old new
+      → ((s : Symbol) → IsLeftAt laws (laws.wanted (laws.request begun)) (laws.size begun) state levels s → ⊥)
+      → Appends (AreUnder (laws.wanted (laws.request begun)) (laws.size begun) (laws.prefix begun)) old new
   all_found begun state levels old new found none = record {
     list = found.list.list;
     grown = found.list.grown;

@@ -8,40 +8,41 @@ use Rattle.dd_model.specs.Code.{IsBelow}
 use Rattle.dd_model.specs.declared.requests.Request.{Request}
 use Rattle.dd_front_jobs.specs.Under.{IsUnder, HasNothingUnder, next_number}
 use Rattle.dd_branch_tables.specs.Chambers.{bit_of, HasNone, IsFirst}
+use Rattle.dd_branch_tables.specs.Search.{SearchLaws}
 use Rattle.dd_branch_tables.specs.Levels.{IsBeyond, IsToTry, IsLeft, IsLeftAt}
 use Rattle.dd_branch_tables.specs.declared.chamber_set.ChamberSet.{ChamberSet}
 use Rattle.dd_branch_tables.specs.declared.level.Level.{Level}
 use Rattle.dd_branch_tables.proofs.Prefixes.{below_next, extended, shortened}
 
 -- each level has a longer prefix than the one before it
-pub few_levels : {S : Type 0} (request : S → Request) (wanted : Request → Symbol → Type 0) (size : S → ℕ) (prefix : S → List ℕ) (end : ℕ → ℕ) (depth : S → ℕ) (undone : S → ℕ → S) (valid : S → Type 0)
-    → (state : S) (levels : List Level) → IsBeyond request wanted size prefix end depth undone valid state levels → length levels ≤ length (prefix state)
-few_levels request wanted size prefix end depth undone valid state [] beyond = omega arith
-few_levels request wanted size prefix end depth undone valid state (level ∷ levels) beyond =
-    let few = few_levels request wanted size prefix end depth undone valid (undone state level.mark) levels beyond.1 in
+pub few_levels : {S : Type 0} (laws : SearchLaws S)
+    → (state : S) (levels : List Level) → IsBeyond laws state levels → length levels ≤ length (laws.prefix state)
+few_levels laws state [] beyond = omega arith
+few_levels laws state (level ∷ levels) beyond =
+    let few = few_levels laws (laws.undone state level.mark) levels beyond.1 in
     let longer = beyond.0.longer.longer in
     omega arith
 
 -- what is under the prefix of a state comes before what is left at its levels
-pub below_left : {S : Type 0} (request : S → Request) (wanted : Request → Symbol → Type 0) (size : S → ℕ) (prefix : S → List ℕ) (end : ℕ → ℕ) (depth : S → ℕ) (undone : S → ℕ → S) (valid : S → Type 0)
-    → (W : Symbol → Type 0) (n : ℕ) → end n ≤ 5 * n → (state : S) (levels : List Level) → wanted (request state) ≡ W → size state ≡ n
-    → IsBeyond request wanted size prefix end depth undone valid state levels → (s t : Symbol) → IsUnder W n (prefix state) s → IsLeft prefix undone W n state levels t → IsBelow s t
-below_left request wanted size prefix end depth undone valid W n low state [] same_w same_n beyond s t under left = absurd left
-below_left request wanted size prefix end depth undone valid W n low state (level ∷ levels) same_w same_n beyond s t under left =
-    let there = undone state level.mark in
+pub below_left : {S : Type 0} (laws : SearchLaws S)
+    → (W : Symbol → Type 0) (n : ℕ) → laws.end n ≤ 5 * n → (state : S) (levels : List Level) → laws.wanted (laws.request state) ≡ W → laws.size state ≡ n
+    → IsBeyond laws state levels → (s t : Symbol) → IsUnder W n (laws.prefix state) s → IsLeft laws W n state levels t → IsBelow s t
+below_left laws W n low state [] same_w same_n beyond s t under left = absurd left
+below_left laws W n low state (level ∷ levels) same_w same_n beyond s t under left =
+    let there = laws.undone state level.mark in
     let step = beyond.0 in
-    let w : wanted (request there) ≡ W = ap wanted (sym step.longer.same_request) ∙ same_w in
-    let size_there : size there ≡ n = sym step.longer.same_size ∙ same_n in
-    let after = subst (λ V. IsUnder V n (prefix there ++ step.number ∷ []) s) w (subst (λ k. IsUnder (wanted (request there)) k (prefix there ++ step.number ∷ []) s) size_there
-    ((step.longer.same.same s).0 (subst (λ k. IsUnder (wanted (request there)) k (prefix state) s) (sym size_there) (subst (λ V. IsUnder V n (prefix state) s) (sym w) under)))) in
-    let parts = shortened W n (prefix there) step.number s after in
-    let room = subst (λ k. length (prefix there) < end k) size_there step.room in
+    let w : laws.wanted (laws.request there) ≡ W = ap laws.wanted (sym step.longer.same_request) ∙ same_w in
+    let size_there : laws.size there ≡ n = sym step.longer.same_size ∙ same_n in
+    let after = subst (λ V. IsUnder V n (laws.prefix there ++ step.number ∷ []) s) w (subst (λ k. IsUnder (laws.wanted (laws.request there)) k (laws.prefix there ++ step.number ∷ []) s) size_there
+    ((step.longer.same.same s).0 (subst (λ k. IsUnder (laws.wanted (laws.request there)) k (laws.prefix state) s) (sym size_there) (subst (λ V. IsUnder V n (laws.prefix state) s) (sym w) under)))) in
+    let parts = shortened W n (laws.prefix there) step.number s after in
+    let room = subst (λ k. length (laws.prefix there) < laws.end k) size_there step.room in
     ⊎_elim
-    (λ (here : IsToTry W n (prefix there) level.left t).
-    let later = step.later (next_number (prefix there) t) here.told in
+    (λ (here : IsToTry W n (laws.prefix there) level.left t).
+    let later = step.later (next_number (laws.prefix there) t) here.told in
     let next = parts.1 in
-    below_next W n (prefix there) s t (omega (arith, room, low)) parts.0 here.under (omega (arith, later, next)))
-    (λ deeper. below_left request wanted size prefix end depth undone valid W n low there levels w size_there beyond.1 s t parts.0 deeper)
+    below_next W n (laws.prefix there) s t (omega (arith, room, low)) parts.0 here.under (omega (arith, later, next)))
+    (λ deeper. below_left laws W n low there levels w size_there beyond.1 s t parts.0 deeper)
     left
 
 -- nothing is left at a level without numbers
@@ -98,8 +99,8 @@ later_left left m rest k first told = ⊎_elim
     (cases_eq k m)
 
 -- what is left at one level alone
-pub at_one : {S : Type 0} (prefix : S → List ℕ) (undone : S → ℕ → S) (W : Symbol → Type 0) (n : ℕ) (state : S) (levels : List Level) (level : Level) → levels ≡ level ∷ []
-    → (s : Symbol) → IsToTry W n (prefix state) level.left s ↔ IsLeftAt prefix undone W n state levels s
-at_one prefix undone W n state levels level is s =
-    subst (λ ls. IsToTry W n (prefix state) level.left s ↔ IsLeftAt prefix undone W n state ls s) (sym is)
+pub at_one : {S : Type 0} (laws : SearchLaws S) (W : Symbol → Type 0) (n : ℕ) (state : S) (levels : List Level) (level : Level) → levels ≡ level ∷ []
+    → (s : Symbol) → IsToTry W n (laws.prefix state) level.left s ↔ IsLeftAt laws W n state levels s
+at_one laws W n state levels level is s =
+    subst (λ ls. IsToTry W n (laws.prefix state) level.left s ↔ IsLeftAt laws W n state ls s) (sym is)
     ((λ try. inl try), (λ either. ⊎_elim (λ try. try) (λ none. absurd none) either))

@@ -11,12 +11,13 @@ use dd_model::Memory;
 pub trait CollectingSearch: PrefixSearch {
     /// Adds what is under a whole prefix.
     fn add(&mut self, list: &mut SymbolList) -> Result<(), Memory>
-        requires valid { Self.valid self.old }
-        requires whole { length (Self.prefix self.old) ≡ Self.end (Self.size self.old) }
+        requires valid { Self.laws.valid self.old }
+        requires whole { length (Self.laws.prefix self.old)
+            ≡ Self.laws.end (Self.laws.size self.old) }
         ensures same { OnOk result (self.new ≡ self.old) }
         ensures list { OnOk result (Appends
-            (AreUnder (Self.wanted (Self.request self.old)) (Self.size self.old)
-            (Self.prefix self.old))
+            (AreUnder (Self.laws.wanted (Self.laws.request self.old)) (Self.laws.size self.old)
+            (Self.laws.prefix self.old))
             list.old list.new) }
         ensures grown { HasGrown list.old list.new };
 }
@@ -25,11 +26,12 @@ pub trait CollectingSearch: PrefixSearch {
 /// then has what it had, perhaps with more behind it, and the search stands anywhere: neither is of
 /// use any more.
 pub fn find<T: CollectingSearch>(search: &mut T, list: &mut SymbolList) -> Result<(), Memory>
-    requires valid { T.valid search.old }
-    requires short { length (T.prefix search.old) ≤ T.end (T.size search.old) }
+    requires valid { T.laws.valid search.old }
+    requires short { length (T.laws.prefix search.old) ≤ T.laws.end (T.laws.size search.old) }
     ensures same { OnOk result (search.new ≡ search.old) }
     ensures list { OnOk result (Appends
-        (AreUnder (T.wanted (T.request search.old)) (T.size search.old) (T.prefix search.old))
+        (AreUnder (T.laws.wanted (T.laws.request search.old)) (T.laws.size search.old)
+        (T.laws.prefix search.old))
         list.old list.new) }
     ensures grown { HasGrown list.old list.new }
 {

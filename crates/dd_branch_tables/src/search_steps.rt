@@ -11,14 +11,14 @@ use crate::prefix_search::PrefixSearch;
 
 /// The levels of a search that begins where it stands: all under its prefix is left to be tried.
 pub fn begin<T: PrefixSearch>(search: &T) -> Levels
-    requires valid { T.valid search.now }
-    requires room { length (T.prefix search.now) < T.end (T.size search.now) }
-    ensures at { IsAt T.request T.wanted T.size T.prefix T.end T.depth T.undone T.valid
-        search.now result }
-    ensures left { (s : Tiling) → IsUnder (T.wanted (T.request search.now)) (T.size search.now)
-        (T.prefix search.now) s ↔ IsLeftAt T.prefix T.undone (T.wanted (T.request search.now))
-        (T.size search.now) search.now result s }
-    ensures first { first_at T.undone search.now result ≡ search.now }
+    requires valid { T.laws.valid search.now }
+    requires room { length (T.laws.prefix search.now) < T.laws.end (T.laws.size search.now) }
+    ensures at { IsAt T.laws search.now result }
+    ensures left { (s : Tiling) → IsUnder (T.laws.wanted (T.laws.request search.now))
+        (T.laws.size search.now) (T.laws.prefix search.now) s
+        ↔ IsLeftAt T.laws (T.laws.wanted (T.laws.request search.now)) (T.laws.size search.now)
+        search.now result s }
+    ensures first { first_at T.laws search.now result ≡ search.now }
 {
     let mut levels = Levels::none();
     levels.push(Level {
@@ -31,33 +31,33 @@ pub fn begin<T: PrefixSearch>(search: &T) -> Levels
 /// Moves from the last level to the next whole prefix under which something may be. Returns false
 /// if nothing is left, and the search is then where it began. It takes no memory.
 pub fn advance<T: PrefixSearch>(search: &mut T, levels: &mut Levels) -> bool
-    requires valid { T.valid search.old }
-    requires at { IsAt T.request T.wanted T.size T.prefix T.end T.depth T.undone T.valid
-        search.old levels.old }
-    ensures valid { T.valid search.new }
-    ensures request { T.request search.new ≡ T.request search.old }
-    ensures size { T.size search.new ≡ T.size search.old }
+    requires valid { T.laws.valid search.old }
+    requires at { IsAt T.laws search.old levels.old }
+    ensures valid { T.laws.valid search.new }
+    ensures request { T.laws.request search.new ≡ T.laws.request search.old }
+    ensures size { T.laws.size search.new ≡ T.laws.size search.old }
     ensures whole { OnTrue result
-        (length (T.prefix search.new) ≡ T.end (T.size search.old)) }
-    ensures beyond { OnTrue result (IsBeyond T.request T.wanted T.size T.prefix T.end T.depth
-        T.undone T.valid search.new levels.new) }
-    ensures first { OnTrue result (first_of T.undone search.new levels.new
-        ≡ first_at T.undone search.old levels.old) }
+        (length (T.laws.prefix search.new) ≡ T.laws.end (T.laws.size search.old)) }
+    ensures beyond { OnTrue result (IsBeyond T.laws search.new levels.new) }
+    ensures first { OnTrue result (first_of T.laws search.new levels.new
+        ≡ first_at T.laws search.old levels.old) }
     ensures left { OnTrue result ((s : Tiling)
-        → IsLeftAt T.prefix T.undone (T.wanted (T.request search.old)) (T.size search.old)
+        → IsLeftAt T.laws (T.laws.wanted (T.laws.request search.old)) (T.laws.size search.old)
         search.old levels.old s
-        ↔ (IsUnder (T.wanted (T.request search.old)) (T.size search.old) (T.prefix search.new) s
-        ⊎ IsLeft T.prefix T.undone (T.wanted (T.request search.old)) (T.size search.old)
+        ↔ (IsUnder (T.laws.wanted (T.laws.request search.old)) (T.laws.size search.old)
+        (T.laws.prefix search.new) s
+        ⊎ IsLeft T.laws (T.laws.wanted (T.laws.request search.old)) (T.laws.size search.old)
         search.new levels.new s)) }
     ensures order { OnTrue result ((s t : Tiling)
-        → IsUnder (T.wanted (T.request search.old)) (T.size search.old) (T.prefix search.new) s
-        → IsLeft T.prefix T.undone (T.wanted (T.request search.old)) (T.size search.old)
+        → IsUnder (T.laws.wanted (T.laws.request search.old)) (T.laws.size search.old)
+        (T.laws.prefix search.new) s
+        → IsLeft T.laws (T.laws.wanted (T.laws.request search.old)) (T.laws.size search.old)
         search.new levels.new t → IsBelow s t) }
     ensures lighter { OnTrue result (weight levels.new < weight levels.old) }
     ensures none { OnFalse result ((s : Tiling)
-        → IsLeftAt T.prefix T.undone (T.wanted (T.request search.old)) (T.size search.old)
+        → IsLeftAt T.laws (T.laws.wanted (T.laws.request search.old)) (T.laws.size search.old)
         search.old levels.old s → ⊥) }
-    ensures back { OnFalse result (search.new ≡ first_at T.undone search.old levels.old) }
+    ensures back { OnFalse result (search.new ≡ first_at T.laws search.old levels.old) }
     ensures empty { OnFalse result (levels.new ≡ []) }
 {
     let Some(mut level) = levels.pop() else {
@@ -88,21 +88,19 @@ pub fn advance<T: PrefixSearch>(search: &mut T, levels: &mut Levels) -> bool
 
 /// Goes back to the last level.
 pub fn go_back<T: PrefixSearch>(search: &mut T, levels: &mut Levels)
-    requires valid { T.valid search.old }
-    requires beyond { IsBeyond T.request T.wanted T.size T.prefix T.end T.depth T.undone T.valid
-        search.old levels.old }
-    ensures valid { T.valid search.new }
-    ensures request { T.request search.new ≡ T.request search.old }
-    ensures size { T.size search.new ≡ T.size search.old }
+    requires valid { T.laws.valid search.old }
+    requires beyond { IsBeyond T.laws search.old levels.old }
+    ensures valid { T.laws.valid search.new }
+    ensures request { T.laws.request search.new ≡ T.laws.request search.old }
+    ensures size { T.laws.size search.new ≡ T.laws.size search.old }
     ensures levels { levels.new ≡ levels.old }
-    ensures at { IsAt T.request T.wanted T.size T.prefix T.end T.depth T.undone T.valid
-        search.new levels.old }
-    ensures first { first_at T.undone search.new levels.old
-        ≡ first_of T.undone search.old levels.old }
+    ensures at { IsAt T.laws search.new levels.old }
+    ensures first { first_at T.laws search.new levels.old
+        ≡ first_of T.laws search.old levels.old }
     ensures left { (s : Tiling)
-        → IsLeft T.prefix T.undone (T.wanted (T.request search.old)) (T.size search.old)
+        → IsLeft T.laws (T.laws.wanted (T.laws.request search.old)) (T.laws.size search.old)
         search.old levels.old s
-        ↔ IsLeftAt T.prefix T.undone (T.wanted (T.request search.old)) (T.size search.old)
+        ↔ IsLeftAt T.laws (T.laws.wanted (T.laws.request search.old)) (T.laws.size search.old)
         search.new levels.old s }
 {
     if let Some(level) = levels.pop() {

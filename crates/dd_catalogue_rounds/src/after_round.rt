@@ -1,7 +1,7 @@
 use dd_pages_and_checkpoints::Finish;
 
 /// What follows a round.
-pub enum AfterRound {
+pub(crate) enum AfterRound {
     /// The next round. The name has the checkpoint of where the front stands, if the value is true.
     Next(bool),
     /// The end of the run.

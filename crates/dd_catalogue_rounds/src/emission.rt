@@ -35,7 +35,7 @@ fn next_list(front: &mut Front) -> Members
 
 /// Takes the entries off the front that are done and have no member to emit, and brings the front
 /// to the next member. Returns false if there is none. It fails only if an allocation fails.
-pub fn reach_member(front: &mut Front) -> Result<bool, Memory>
+pub(crate) fn reach_member(front: &mut Front) -> Result<bool, Memory>
     requires lines { front.old.lines ≤ most_lines }
     requires done { AreDoneThenOpen front.old.entries }
     ensures reached { IfOk result (λ more. MatchBool more
@@ -54,7 +54,7 @@ pub fn reach_member(front: &mut Front) -> Result<bool, Memory>
 /// Emits the entries at the front that are done, and puts their lines, made by `threads` threads,
 /// to the page. If there is a line after the last one that may be written, the front stops at its
 /// member, and the call returns false.
-pub fn write_done<R: Threads + Sync, O: Sink>(
+pub(crate) fn write_done<R: Threads + Sync, O: Sink>(
     rt: &R,
     threads: u32,
     last: u64,

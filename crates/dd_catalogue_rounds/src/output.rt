@@ -3,7 +3,7 @@ use dd_pages_and_checkpoints::Page;
 
 /// Where a run that writes lines stands.
 #[derive(Drop)]
-pub struct Output {
+pub(crate) struct Output {
     /// The jobs on their way, and the members that are not emitted yet.
     pub front: Front,
     /// The lines on their way.

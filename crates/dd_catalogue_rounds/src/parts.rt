@@ -50,7 +50,7 @@ fn allows_few_classes(request: &Request) -> bool {
 
 /// Returns the weight of a job: about how many times ten thousand members are under it at most. It
 /// doubles for every four numbers that the job has less. If only few classes are allowed, it is 1.
-pub fn weight_of(request: &Request, job: &Job) -> u64 {
+pub(crate) fn weight_of(request: &Request, job: &Job) -> u64 {
     if allows_few_classes(request) {
         return 1;
     }
@@ -60,7 +60,7 @@ pub fn weight_of(request: &Request, job: &Job) -> u64 {
 }
 
 /// Returns whether more members may be under a job of a request than a round is to hold.
-pub fn is_large(request: &Request, job: &Job) -> bool
+pub(crate) fn is_large(request: &Request, job: &Job) -> bool
     ensures { IsTrue result → length job.now.prefix < 3 * job.now.size }
 {
     let numbers = job.prefix.as_slice().len() as u64;
@@ -123,7 +123,7 @@ fn split_first<F: Finder>(alloc: Global, finder: &mut F, front: &mut Front) -> R
 }
 
 /// Puts parts in the place of the first job, until the first one is small.
-pub fn split_large<F: Finder>(
+pub(crate) fn split_large<F: Finder>(
     alloc: Global,
     finder: &mut F,
     front: &mut Front,

@@ -43,7 +43,7 @@ fn cut_first<F: Finder>(
 
 /// Returns the jobs that a run has to do, with parts in the place of the first one if the run's
 /// position is within it. The first run of a chain has whole jobs.
-pub fn parts_from<F: Finder>(
+pub(crate) fn parts_from<F: Finder>(
     alloc: Global,
     finder: &mut F,
     run: &Run,

@@ -29,7 +29,7 @@ use std::sync::Wait;
 use std::thread::Threads;
 
 /// The jobs that are not wholly before a position.
-pub fn jobs_from(mut jobs: Vec<Job>, at: &Position) -> Vec<Job>
+pub(crate) fn jobs_from(mut jobs: Vec<Job>, at: &Position) -> Vec<Job>
     ensures { IsWithout (IsWhollyBefore at.now) jobs.items result.items }
 {
     jobs.retain(|job| !job.is_wholly_before(at));
@@ -53,7 +53,7 @@ fn open_front(alloc: Global, run: &Run, jobs: Vec<Job>) -> Result<Front, Memory>
 }
 
 /// Returns a front with the jobs of a run.
-pub fn front_of<F: Finder>(alloc: Global, finder: &mut F, run: &Run) -> Result<Front, Memory>
+pub(crate) fn front_of<F: Finder>(alloc: Global, finder: &mut F, run: &Run) -> Result<Front, Memory>
     requires request { F.request finder.old ≡ run.now.portion.request }
     ensures request { F.request finder.new ≡ F.request finder.old }
     ensures started { IfOk result (IsStarted (start_of run.now)) }
@@ -82,7 +82,7 @@ fn whole_sizes(alloc: Global, request: &Request) -> Result<Vec<Job>, Memory>
 /// shows its jobs. One worker that does a whole catalogue begins with a job for each size, and a
 /// large one is done in parts. So the many prefixes of an opening with nothing under them are no
 /// jobs.
-pub fn lone_front_of<F: Finder>(alloc: Global, finder: &mut F, run: &Run) -> Result<Front, Memory>
+pub(crate) fn lone_front_of<F: Finder>(alloc: Global, finder: &mut F, run: &Run) -> Result<Front, Memory>
     requires request { F.request finder.old ≡ run.now.portion.request }
     ensures request { F.request finder.new ≡ F.request finder.old }
     ensures begun { IfOk result (IsBegun (start_of run.now)) }
@@ -151,7 +151,7 @@ fn pace_without_empty_jobs<F: Finder>(
 /// one. A large job is done in parts. One worker does a few jobs of the round at a time. If there
 /// are several workers, jobs under which nothing is are not counted. It fails only if an allocation
 /// fails.
-pub fn do_long_round<R: Threads + Wait + Sync, F: Finder + Sync, G: Gate + Sync>(
+pub(crate) fn do_long_round<R: Threads + Wait + Sync, F: Finder + Sync, G: Gate + Sync>(
     workshop: &Workshop<'_, R, G>,
     finder: &mut F,
     pace: Pace,
@@ -174,7 +174,7 @@ pub fn do_long_round<R: Threads + Wait + Sync, F: Finder + Sync, G: Gate + Sync>
 
 /// Does the next round of a front whose run keeps checkpoints, and returns whether there was one. A
 /// large job is done in parts. It fails only if an allocation fails.
-pub fn do_kept_round<R: Threads + Wait + Sync, F: Finder + Sync, G: Gate + Sync>(
+pub(crate) fn do_kept_round<R: Threads + Wait + Sync, F: Finder + Sync, G: Gate + Sync>(
     workshop: &Workshop<'_, R, G>,
     finder: &mut F,
     pace: Pace,
@@ -193,7 +193,7 @@ pub fn do_kept_round<R: Threads + Wait + Sync, F: Finder + Sync, G: Gate + Sync>
 
 /// Returns whether a front stands at a job with as many numbers as those of an opening, or at the
 /// end.
-pub fn stands_at_job(front: &Front) -> Result<bool, Memory>
+pub(crate) fn stands_at_job(front: &Front) -> Result<bool, Memory>
     ensures { IfOk result (λ yes. IsTrue yes
         → (at : Place) × StandsAt front.now.from front.now.entries at × IsLongAsWhole at) }
 {
@@ -233,7 +233,7 @@ fn do_round_alone<F: Finder, G: Gate>(
 
 /// Does the next round of a front, and returns whether there was one. It fails only if an
 /// allocation fails, and the front is then as before.
-pub fn do_round<R: Threads + Wait + Sync, F: Finder + Sync, G: Gate + Sync>(
+pub(crate) fn do_round<R: Threads + Wait + Sync, F: Finder + Sync, G: Gate + Sync>(
     workshop: &Workshop<'_, R, G>,
     finder: &mut F,
     pace: Pace,
@@ -261,7 +261,7 @@ pub fn do_round<R: Threads + Wait + Sync, F: Finder + Sync, G: Gate + Sync>(
 }
 
 /// How many members the first entry has, where it is done.
-pub fn count_at_front(front: &Front) -> Option<u128>
+pub(crate) fn count_at_front(front: &Front) -> Option<u128>
     ensures { MatchOption result ((list : List Symbol) → ¬ HasFirst front.now list)
         (λ count. (count < 2 ^ 127) × ((list : List Symbol) × HasFirst front.now list
         × (length list ≡ count))) }

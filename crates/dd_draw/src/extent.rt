@@ -6,7 +6,7 @@ use crate::spot::Spot;
 
 /// The least box that has some spots.
 #[derive(Clone, Copy)]
-pub struct Extent {
+pub(crate) struct Extent {
     pub left: i128,
     pub top: i128,
     pub right: i128,

@@ -8,7 +8,7 @@ use dd_model::Frame;
 
 /// Where something is printed, in thousandths of the side of a cell.
 #[derive(Clone, Copy)]
-pub struct Spot {
+pub(crate) struct Spot {
     pub x: i128,
     pub y: i128,
 }

@@ -11,7 +11,7 @@ use std::mem;
 
 /// Entries in order, with numbers of their own. The first one can leave without memory.
 #[derive(Drop)]
-pub struct EntryList {
+pub(crate) struct EntryList {
     /// The entries, after those that have left.
     all: Vec<Entry>,
     /// How many have left.

@@ -6,7 +6,7 @@ use dd_model::{Job, Memory, Position};
 use std::alloc::Global;
 
 /// Open entries of jobs, numbered from `first` on.
-pub fn listed(alloc: Global, first: u64, jobs: Vec<Job>) -> Result<Vec<Entry>, Memory>
+pub(crate) fn listed(alloc: Global, first: u64, jobs: Vec<Job>) -> Result<Vec<Entry>, Memory>
     requires { first + length jobs.items < 2 ^ 64 }
     ensures { IfOk result (λ entries. entries.items ≡ open_entries first jobs.items) }
 {
@@ -24,7 +24,7 @@ pub fn listed(alloc: Global, first: u64, jobs: Vec<Job>) -> Result<Vec<Entry>, M
 }
 
 /// Returns where a machine is that has these entries and continues from a position.
-pub fn position_of(entries: &[Entry], from: &Position) -> Result<Position, Memory>
+pub(crate) fn position_of(entries: &[Entry], from: &Position) -> Result<Position, Memory>
     ensures { IfOk result (λ position. StandsAt from.now entries.now position) }
 {
     let Some(entry) = entries.first() else {

@@ -12,7 +12,7 @@ use crate::members::Members;
 
 /// The place of the entry of a number, counted from 0. It is looked for on both sides of a place,
 /// the nearest entries first, so that one which stands near is found at once in a long list.
-pub fn place_near(entries: &[Entry], number: u64, near: usize) -> Option<usize>
+pub(crate) fn place_near(entries: &[Entry], number: u64, near: usize) -> Option<usize>
     requires own { HaveOwnNumbers entries.now }
     requires near { near ≤ length entries.now }
     ensures { MatchOption result (HasNoneOf number entries.now) (IsPlaceOf number entries.now) }
@@ -29,7 +29,7 @@ pub fn place_near(entries: &[Entry], number: u64, near: usize) -> Option<usize>
 }
 
 /// The first open entry.
-pub fn first_open(entries: &[Entry]) -> Option<&Entry>
+pub(crate) fn first_open(entries: &[Entry]) -> Option<&Entry>
     ensures { MatchOption result (AllByRecursion (λ e. e.state ≢ State.Open) entries.now)
         (λ entry. IsFirstOpen entries.now entry.now) }
 {
@@ -42,7 +42,7 @@ pub fn first_open(entries: &[Entry]) -> Option<&Entry>
 }
 
 /// The list of the first entry, where it is done.
-pub fn first_list(entries: &[Entry]) -> Option<&Members>
+pub(crate) fn first_list(entries: &[Entry]) -> Option<&Members>
     ensures { MatchOption result (BeginsNotDone entries.now)
         (λ list. (rest : List Row) × BeginsDone entries.now list.now rest) }
 {
@@ -54,7 +54,7 @@ pub fn first_list(entries: &[Entry]) -> Option<&Members>
 
 /// Returns a number of first entries that are not open, after the entry at a place gets a state, if
 /// `shut` were not open before. There may be more.
-pub fn shut_after(entries: &[Entry], shut: usize, place: usize, state: &State) -> usize
+pub(crate) fn shut_after(entries: &[Entry], shut: usize, place: usize, state: &State) -> usize
     requires shut { IsShutTo shut entries.now }
     requires place { place < length entries.now }
     ensures { IsShutTo result (with_state_at place state.now entries.now) }

@@ -6,7 +6,7 @@ use std::marker::Model;
 
 /// A job without the numbers of its prefix.
 #[derive(Drop)]
-pub struct PackedJob {
+pub(crate) struct PackedJob {
     pub size: u32,
     /// The number of numbers in the prefix.
     pub count: usize,
@@ -16,7 +16,7 @@ pub struct PackedJob {
 /// There are thousands of them, so they are kept in little memory: the numbers of all prefixes
 /// are in one vector.
 #[derive(Drop)]
-pub struct Opening {
+pub(crate) struct Opening {
     packed: Vec<PackedJob>,
     numbers: Vec<u8>,
 }

@@ -16,7 +16,7 @@ use Rattle.dd_model.proofs.Orders.{list_not_below_itself, not_below_itself, not_
 use Rattle.dd_branch_tables.specs.Levels.{IsLeft, IsLeftAt}
 use Rattle.dd_front_jobs.specs.Under.{IsUnder, HasNothingUnder}
 use Rattle.dd_branch_tables.specs.declared.level.Level.{Level}
-use Rattle.dd_invol.specs.Growth.{Growing, size_at, prefix_at, taken_back}
+use Rattle.dd_invol.specs.Growth.{Growing, size_at, prefix_at, table_laws}
 use Rattle.dd_invol.specs.NextTable.{IsAhead, IsSoughtAt, here}
 use Rattle.dd_branch_tables.specs.Stem.{Any, IsStem}
 use Rattle.dd_invol.specs.TableSearch.{IsAtLevel, IsLeftTo, IsComing, IsSearched}
@@ -31,8 +31,8 @@ pub record HasGoneOn (from : Growing) (levels : List Level) (to : Growing) (othe
   pub whole : length (prefix_at to) ≡ 3 * size_at from
   pub same_request : to.request ≡ from.request
   pub same_size : size_at to ≡ size_at from
-  pub parts : (s : Symbol) → IsLeftTo from levels s ↔ (IsUnder Any (size_at from) (prefix_at to) s ⊎ IsLeft prefix_at taken_back Any (size_at from) to others s)
-  pub order : (s t : Symbol) → IsUnder Any (size_at from) (prefix_at to) s → IsLeft prefix_at taken_back Any (size_at from) to others t → IsBelow s t
+  pub parts : (s : Symbol) → IsLeftTo from levels s ↔ (IsUnder Any (size_at from) (prefix_at to) s ⊎ IsLeft table_laws Any (size_at from) to others s)
+  pub order : (s t : Symbol) → IsUnder Any (size_at from) (prefix_at to) s → IsLeft table_laws Any (size_at from) to others t → IsBelow s t
 
 -- From there it has gone back to the last level.
 pub record HasGoneBack (to : Growing) (levels : List Level) (back : Growing) : Type 0 where
@@ -40,7 +40,7 @@ pub record HasGoneBack (to : Growing) (levels : List Level) (back : Growing) : T
   pub at : IsAtLevel back levels
   pub same_request : back.request ≡ to.request
   pub same_size : size_at back ≡ size_at to
-  pub left : (s : Symbol) → IsLeft prefix_at taken_back Any (size_at to) to levels s ↔ IsLeftTo back levels s
+  pub left : (s : Symbol) → IsLeft table_laws Any (size_at to) to levels s ↔ IsLeftTo back levels s
 
 -- a listed table under a longer prefix is listed there
 listed_there : (q : Request) (job : Job) (t : Growing) (n : ℕ) (s : Symbol) → size_at t ≡ n → IsListed q job s → IsUnder Any n (prefix_at t) s → IsListed q (here t.stem) s
@@ -58,13 +58,13 @@ module _ (q : Request) (job : Job) (old new : TableSearch) (to : Growing)
   n : ℕ
   n = size_at old.tables
 
-  still_left : (s : Symbol) → IsLeft prefix_at taken_back Any n to new.levels s → IsLeftTo new.tables new.levels s
+  still_left : (s : Symbol) → IsLeft table_laws Any n to new.levels s → IsLeftTo new.tables new.levels s
   unfolding n
-  still_left s left = (back.left s).0 (subst (λ k. IsLeft prefix_at taken_back Any k to new.levels s) (sym on.same_size) left)
+  still_left s left = (back.left s).0 (subst (λ k. IsLeft table_laws Any k to new.levels s) (sym on.same_size) left)
 
-  was_left : (s : Symbol) → IsLeftTo new.tables new.levels s → IsLeft prefix_at taken_back Any n to new.levels s
+  was_left : (s : Symbol) → IsLeftTo new.tables new.levels s → IsLeft table_laws Any n to new.levels s
   unfolding n
-  was_left s left = subst (λ k. IsLeft prefix_at taken_back Any k to new.levels s) on.same_size ((back.left s).1 left)
+  was_left s left = subst (λ k. IsLeft table_laws Any k to new.levels s) on.same_size ((back.left s).1 left)
 
   at_first : (s : Symbol) → IsLeftTo new.tables new.levels s → IsLeftTo old.tables old.levels s
   unfolding n
@@ -243,14 +243,14 @@ pub record IsSeeking (old now : TableSearch) : Type 0 where
 
 -- how it went back, told of the state from which it did
 pub gone_back : (to there : Growing) (levels others : List Level) (back : Growing) → there ≡ to → others ≡ levels → IsStem back.stem → back.request ≡ there.request → size_at back ≡ size_at there → IsAtLevel back levels
-    → ((s : Symbol) → IsLeft prefix_at taken_back Any (size_at there) there levels s ↔ IsLeftAt prefix_at taken_back Any (size_at there) back levels s) → HasGoneBack to others back
+    → ((s : Symbol) → IsLeft table_laws Any (size_at there) there levels s ↔ IsLeftAt table_laws Any (size_at there) back levels s) → HasGoneBack to others back
 gone_back to there levels others back same lists stem request size at left =
     subst (λ ls. HasGoneBack to ls back) (sym lists) (subst (λ t. HasGoneBack t levels back) same (record {
       stem = stem;
       at = at;
       same_request = request;
       same_size = size;
-      left = λ s. subst (λ k. IsLeft prefix_at taken_back Any (size_at there) there levels s ↔ IsLeftAt prefix_at taken_back Any k back levels s) (sym size) (left s);
+      left = λ s. subst (λ k. IsLeft table_laws Any (size_at there) there levels s ↔ IsLeftAt table_laws Any k back levels s) (sym size) (left s);
     }))
 
 -- nothing is left

@@ -1,13 +1,12 @@
 -- The search of a walk: how far it has come, and the listed tables that are left.
-use Rattle.std.specs.Prelude.{◌≡◌, ◌⊎◌, ℕ, ◌*◌, List}
+use Rattle.std.specs.Prelude.{◌≡◌, ◌⊎◌, ℕ, List}
 use Rattle.dd_model.specs.Symbol.{Symbol}
 use Rattle.dd_model.specs.declared.requests.Request.{Request}
 use Rattle.dd_model.specs.declared.jobs.Job.{Job}
 use Rattle.dd_branch_tables.specs.Levels.{IsAt, IsLeftAt}
 use Rattle.dd_front_jobs.specs.Under.{IsUnder}
 use Rattle.dd_branch_tables.specs.declared.level.Level.{Level}
-use Rattle.dd_invol.specs.Growth.{Growing, asked_of, size_at, prefix_at, taken_back}
-use Rattle.dd_branch_tables.specs.Rows.{depth_of}
+use Rattle.dd_invol.specs.Growth.{Growing, size_at, table_laws}
 use Rattle.dd_branch_tables.specs.Stem.{Any, IsStem}
 use Rattle.dd_invol.specs.NextTable.{IsAhead}
 use Rattle.dd_branch_tables.specs.Walk.{IsListed, IsPast, IsWalk}
@@ -15,11 +14,11 @@ use Rattle.dd_invol.specs.declared.table_search.TableSearch.{TableSearch}
 
 -- a search for tables stands at the last of its levels
 abbrev pub IsAtLevel : Growing → List Level → Type 0
-IsAtLevel t levels = IsAt asked_of (λ q s. Any s) size_at prefix_at (λ n. 3 * n) (λ g. depth_of g.stem.rows) taken_back (λ g. IsStem g.stem) t levels
+IsAtLevel t levels = IsAt table_laws t levels
 
 -- what is left to a search for tables at its levels
 abbrev pub IsLeftTo : Growing → List Level → Symbol → Type 0
-IsLeftTo t levels s = IsLeftAt prefix_at taken_back Any (size_at t) t levels s
+IsLeftTo t levels s = IsLeftAt table_laws Any (size_at t) t levels s
 
 -- The search goes over what is under a job. All listed tables past the images that it has seen are left, and nothing that is not past them.
 pub record IsComing (q : Request) (job : Job) (search : TableSearch) : Type 0 where

@@ -93,25 +93,9 @@ impl Tables {
 
 impl PrefixSearch for Tables {
     ghost use Rattle.std.proofs.Common.{rules};
-    ghost use Rattle.dd_branch_tables.specs.Rows.{depth_of};
-    ghost use Rattle.dd_branch_tables.specs.Stem.{Any, IsStem};
-    ghost use Rattle.dd_invol.specs.Growth.{asked_of, size_at, prefix_at, taken_back};
+    ghost use Rattle.dd_invol.specs.Growth.{table_laws};
 
-    ghost request = { λ t. asked_of t };
-
-    ghost wanted = { λ q s. Any s };
-
-    ghost size = { λ t. size_at t };
-
-    ghost prefix = { λ t. prefix_at t };
-
-    ghost end = { λ n. 3 * n };
-
-    ghost depth = { λ t. depth_of t.stem.rows };
-
-    ghost undone = { λ t mark. taken_back t mark };
-
-    ghost valid = { λ t. IsStem t.stem };
+    ghost laws = { table_laws };
 
     ghost end_small = { Prim.search rules };
 

@@ -35,7 +35,7 @@ fn written(alloc: Global, rounds: &[Round]) -> Result<Vec<Orders>, Memory>
 }
 
 /// The written corners of the rounds, descending.
-pub fn boundaries(alloc: Global, rounds: &[Round]) -> Result<Boundaries, Memory>
+pub(crate) fn boundaries(alloc: Global, rounds: &[Round]) -> Result<Boundaries, Memory>
     ensures { IfOk result (λ boundaries. AreBoundaries rounds.now boundaries) }
 {
     let mut lists = written(alloc, rounds)?;

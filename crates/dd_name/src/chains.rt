@@ -8,7 +8,7 @@ use std::mem::swap;
 
 /// The other end of the chain of a pair that begins at a flag. The two involutions lead in turn
 /// from chamber to chamber, until one fixes a chamber.
-pub fn other_end(symbol: &Symbol, pair: Pair, flag: Flag) -> Flag
+pub(crate) fn other_end(symbol: &Symbol, pair: Pair, flag: Flag) -> Flag
     requires { IsEnd symbol.now pair flag }
     ensures joined { IsJoined symbol.now pair flag result }
     ensures symbol { IsSmallSymbol symbol.now }

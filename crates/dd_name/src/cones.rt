@@ -21,7 +21,7 @@ fn push_cones(cones: &mut Vec<u32>, cells: &[Cell]) -> Result<(), Memory>
 }
 
 /// The cones of a symbol.
-pub fn cones(alloc: Global, s: &Connected) -> Result<Orders, Memory>
+pub(crate) fn cones(alloc: Global, s: &Connected) -> Result<Orders, Memory>
     ensures { IfOk result (λ cones. AreCones s.now cones) }
 {
     let mut cones = Vec::new(alloc);

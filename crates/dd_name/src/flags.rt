@@ -6,7 +6,7 @@ use dd_model::{Index, Pair};
 
 /// A chamber and an involution, which fixes it where the chamber lies at the border.
 #[derive(Debug, Clone, Copy, PartialEq, Eq)]
-pub struct Flag {
+pub(crate) struct Flag {
     /// The chamber.
     pub chamber: u32,
     /// The involution.
@@ -45,7 +45,7 @@ impl Flag {
 }
 
 /// The other involution of a pair.
-pub fn other_index(pair: Pair, index: Index) -> Index
+pub(crate) fn other_index(pair: Pair, index: Index) -> Index
     requires { IsOfPair pair index }
     ensures { AreLetters pair index result }
 {
@@ -59,7 +59,7 @@ pub fn other_index(pair: Pair, index: Index) -> Index
 }
 
 /// The first of the two pairs that hold an involution.
-pub fn first_pair(index: Index) -> Pair
+pub(crate) fn first_pair(index: Index) -> Pair
     ensures { result ≡ first_pair_of index }
 {
     match index {
@@ -69,7 +69,7 @@ pub fn first_pair(index: Index) -> Pair
 }
 
 /// The other of the two pairs that hold an involution.
-pub fn other_pair(pair: Pair, index: Index) -> Pair
+pub(crate) fn other_pair(pair: Pair, index: Index) -> Pair
     requires { IsOfPair pair index }
     ensures holds { IsOfPair result index }
     ensures other { pair ≢ result }

@@ -21,7 +21,7 @@ fn greatest_rotation(doubled: &[u32]) -> &[u32]
 }
 
 /// The greatest of all rotations of a list and of its reversal.
-pub fn greatest_turned(alloc: Global, list: &[u32]) -> Result<Orders, Memory>
+pub(crate) fn greatest_turned(alloc: Global, list: &[u32]) -> Result<Orders, Memory>
     ensures { IfOk result (λ turned. IsGreatestTurned list.now turned) }
 {
     let mut doubled = Vec::from_slice(alloc, list)?;

@@ -12,7 +12,7 @@ use std::marker::Model;
 
 /// Once round a boundary.
 #[derive(Drop)]
-pub struct Round {
+pub(crate) struct Round {
     joints: Vec<Joint>,
 }
 
@@ -81,7 +81,7 @@ fn look_at(
 }
 
 /// The boundaries, ascending by the flags at which they begin.
-pub fn rounds(alloc: Global, s: &Connected) -> Result<Vec<Round>, Memory>
+pub(crate) fn rounds(alloc: Global, s: &Connected) -> Result<Vec<Round>, Memory>
     ensures { IfOk result (λ rounds. AreRounds s.now rounds.items) }
 {
     let size = s.symbol().size() as usize;

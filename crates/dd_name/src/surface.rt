@@ -18,7 +18,7 @@ fn room(s: &Connected, boundaries: usize) -> u32
 }
 
 /// Returns the numbers of handles and of crosscaps of a surface with `boundaries` boundaries.
-pub fn handles_and_crosscaps(
+pub(crate) fn handles_and_crosscaps(
     alloc: Global,
     s: &Connected,
     boundaries: usize,

@@ -72,7 +72,7 @@ fn parts_of(size: usize, before: u64, mut members: Members) -> Result<Vec<Number
 
 /// Returns the lines of members, numbered from `before + 1` on, as texts that follow each other. If
 /// there are many, a few parts for each of the threads are made at once.
-pub fn lines_by<R: Threads + Sync>(
+pub(crate) fn lines_by<R: Threads + Sync>(
     rt: &R,
     threads: u32,
     before: u64,

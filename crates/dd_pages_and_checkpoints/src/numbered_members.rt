@@ -4,7 +4,7 @@ use dd_front::Members;
 
 /// Members whose lines one thread makes, and how many lines come before theirs.
 #[derive(Drop)]
-pub struct NumberedMembers {
+pub(crate) struct NumberedMembers {
     pub before: u64,
     pub members: Members,
     ghost few: { before + length members < 2 ^ 64 },

@@ -31,7 +31,7 @@ fn place_of(list: &[Connected], symbol: &Connected) -> Result<usize, usize>
 
 /// Symbols in ascending order, each once.
 #[derive(Drop)]
-pub struct AscendingList {
+pub(crate) struct AscendingList {
     list: Vec<Connected>,
 }
 

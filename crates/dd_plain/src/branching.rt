@@ -14,7 +14,7 @@ fn is_crystallographic(value: u32) -> bool
 }
 
 /// Returns whether each branching value of a pair is 1, 2, 3, 4 or 6.
-pub fn has_crystallographic_cells(s: &Connected, pair: Pair) -> bool
+pub(crate) fn has_crystallographic_cells(s: &Connected, pair: Pair) -> bool
     ensures { IsTrue result
         ↔ ((d v : ℕ) → IsChamber s.now d → IsBranching s.now pair d v → IsCrystallographic v) }
 {

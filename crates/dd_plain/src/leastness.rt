@@ -28,7 +28,7 @@ fn is_beaten_by(alloc: Global, symbol: &Connected, number: u64) -> Result<bool, 
 }
 
 /// Returns whether no renumbering has a smaller code, for a symbol of at most three chambers.
-pub fn is_least(alloc: Global, symbol: &Connected) -> Result<bool, Memory>
+pub(crate) fn is_least(alloc: Global, symbol: &Connected) -> Result<bool, Memory>
     requires { symbol.now.size ≤ 3 }
     ensures { IfOk result (λ least. IsTrue least ↔ Least symbol.now) }
 {

@@ -8,18 +8,18 @@ use dd_symbol::{Connected, Refusal, build};
 use std::alloc::Global;
 
 /// The chambers of a symbol of three chambers.
-pub const CHAMBERS: [u32; 3] = [1, 2, 3];
+pub(crate) const CHAMBERS: [u32; 3] = [1, 2, 3];
 
 /// The degrees that a branching value 1, 2, 3, 4 or 6 and one, two or three turns can give.
-pub const DEGREES: [u32; 9] = [1, 2, 3, 4, 6, 8, 9, 12, 18];
+pub(crate) const DEGREES: [u32; 9] = [1, 2, 3, 4, 6, 8, 9, 12, 18];
 
 /// The number of the list of degrees whose items are all 6: each digit is the place of 6 in
 /// `DEGREES`.
-pub const SIXES: u64 = 364;
+pub(crate) const SIXES: u64 = 364;
 
 /// Five lists of one size: the numbers of three lists of chambers and of two lists of degrees.
 #[derive(Clone, Copy)]
-pub struct Trial {
+pub(crate) struct Trial {
     /// How many chambers there are, from 1 to 3.
     pub size: u32,
     pub s0: u64,
@@ -31,7 +31,7 @@ pub struct Trial {
 
 /// The symbol with the five lists of a trial, if they are those of a connected symbol of at most
 /// three chambers.
-pub fn symbol_of(alloc: Global, trial: Trial) -> Result<Option<Connected>, Memory>
+pub(crate) fn symbol_of(alloc: Global, trial: Trial) -> Result<Option<Connected>, Memory>
     ensures symbol { IfOk result (λ found. IfSome found (λ symbol. symbol ≡ tried trial)) }
     ensures some { IfOk result (λ found. IsSome found ↔ IsAccepted 3 (tried trial)) }
 {
@@ -50,7 +50,7 @@ pub fn symbol_of(alloc: Global, trial: Trial) -> Result<Option<Connected>, Memor
 
 /// Returns whether the five lists of a trial are those of a connected symbol of at most three
 /// chambers.
-pub fn is_accepted(alloc: Global, trial: Trial) -> Result<bool, Memory>
+pub(crate) fn is_accepted(alloc: Global, trial: Trial) -> Result<bool, Memory>
     ensures { IfOk result (λ yes. IsTrue yes ↔ IsAccepted 3 (tried trial)) }
 {
     Ok(symbol_of(alloc, trial)?.is_some())

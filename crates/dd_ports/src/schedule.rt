@@ -3,7 +3,7 @@ ghost use Rattle.std.specs.List.{list_any};
 
 /// Which calls fail, by their numbers from 1.
 #[derive(Drop)]
-pub struct Schedule {
+pub(crate) struct Schedule {
     fails: Vec<u64>,
     next: u64,
 }

@@ -7,7 +7,7 @@ use std::collections::BTreeMap;
 
 /// Texts in memory, by their names.
 #[derive(Drop)]
-pub struct Shelf {
+pub(crate) struct Shelf {
     alloc: Global,
     texts: BTreeMap<String, Vec<u8>>,
 }
@@ -50,7 +50,7 @@ impl Shelf {
 }
 
 /// Copies the first bytes of a text.
-pub fn fill(text: &[u8], into: &mut Vec<u8>, limit: usize) -> Result<Fetched, AllocError>
+pub(crate) fn fill(text: &[u8], into: &mut Vec<u8>, limit: usize) -> Result<Fetched, AllocError>
     requires { into.old.items ≡ [] }
     ensures { FillsFrom text.now limit into.new.items result }
 {

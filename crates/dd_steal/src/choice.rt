@@ -6,7 +6,7 @@ use dd_model::Job;
 
 /// Returns whether something may be under one of a job's children. If nothing is under any of them,
 /// a search may return a single child, with the number 0.
-pub fn is_worth_a_split(children: &[Job]) -> bool {
+pub(crate) fn is_worth_a_split(children: &[Job]) -> bool {
     !matches!(children, [only] if only.prefix.as_slice().last() == Some(&0))
 }
 
@@ -29,7 +29,7 @@ fn longest_split(size: u32, waiting: u64, others: u64) -> u64 {
 
 /// Returns whether a job is to be split. Its prefix is short, so that much may be under it. It may
 /// be longer if fewer jobs wait for the workers. A single worker splits none.
-pub fn is_to_split(job: &Job, waiting: u64, others: usize) -> bool
+pub(crate) fn is_to_split(job: &Job, waiting: u64, others: usize) -> bool
     ensures { IsTrue result → length job.now.prefix < 3 * job.now.size }
 {
     let numbers = job.prefix.as_slice().len() as u64;

@@ -5,13 +5,13 @@ use std::alloc::Global;
 
 /// A worker's seat at the board and its hand of the rack.
 #[derive(Drop)]
-pub struct CrewMember<S: Drop, H: Drop> {
+pub(crate) struct CrewMember<S: Drop, H: Drop> {
     pub seat: S,
     pub hand: H,
 }
 
 /// The workers of a round.
-pub fn crew_of<S: Drop, H: Drop>(
+pub(crate) fn crew_of<S: Drop, H: Drop>(
     alloc: Global,
     seats: Vec<S>,
     hands: Vec<H>,
@@ -27,7 +27,7 @@ pub fn crew_of<S: Drop, H: Drop>(
 }
 
 /// Their seats.
-pub fn seats_of<S: Drop, H: Drop>(
+pub(crate) fn seats_of<S: Drop, H: Drop>(
     alloc: Global,
     crew: Vec<CrewMember<S, H>>,
 ) -> Result<Vec<S>, Memory>

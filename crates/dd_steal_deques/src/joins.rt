@@ -10,7 +10,7 @@ use dd_front::Naming;
 use std::alloc::Global;
 
 /// Joins a way to the owner of the deque into which it leads.
-pub fn join_way<N: Naming>(hands: &mut Vec<Hand<N>>, way: Way<N>)
+pub(crate) fn join_way<N: Naming>(hands: &mut Vec<Hand<N>>, way: Way<N>)
     requires { LeadsInto (map hand_deck hands.old.items) (way_end way) }
     ensures decks { map hand_deck hands.new.items ≡ map hand_deck hands.old.items }
     ensures ways { map hand_ways hands.new.items ≡ map hand_ways hands.old.items }
@@ -25,7 +25,7 @@ pub fn join_way<N: Naming>(hands: &mut Vec<Hand<N>>, way: Way<N>)
 }
 
 /// Joins ways to the owners of the deques into which they lead.
-pub fn join_ways<N: Naming>(hands: &mut Vec<Hand<N>>, ways: Vec<Way<N>>)
+pub(crate) fn join_ways<N: Naming>(hands: &mut Vec<Hand<N>>, ways: Vec<Way<N>>)
     requires { All (LeadsInto (map hand_deck hands.old.items)) (map way_end ways.items) }
     ensures decks { map hand_deck hands.new.items ≡ map hand_deck hands.old.items }
     ensures ways { map hand_ways hands.new.items ≡ map hand_ways hands.old.items }
@@ -41,7 +41,7 @@ pub fn join_ways<N: Naming>(hands: &mut Vec<Hand<N>>, ways: Vec<Way<N>>)
 }
 
 /// Joins all ways of the hands of a rack.
-pub fn join_all<N: Naming>(hands: &mut Vec<Hand<N>>, alloc: Global)
+pub(crate) fn join_all<N: Naming>(hands: &mut Vec<Hand<N>>, alloc: Global)
     requires { IsRack (map hand_place hands.old.items) }
     ensures pushed { map hand_pushed hands.new.items ≡ map hand_pushed hands.old.items }
     ensures popped { sum_by hand_popped hands.new.items

@@ -12,7 +12,7 @@ use dd_model::Memory;
 use std::alloc::Global;
 
 /// Returns a hand for each of `workers` workers, with an empty deque and no ways.
-pub fn bare_hands<N: Naming>(alloc: Global, workers: u32, room: u32) -> Result<Vec<Hand<N>>, Memory>
+pub(crate) fn bare_hands<N: Naming>(alloc: Global, workers: u32, room: u32) -> Result<Vec<Hand<N>>, Memory>
     ensures count { IfOk result (λ hands. length hands.items ≡ workers) }
     ensures new { IfOk result (λ hands. All (IsNew room) hands.items) }
     ensures alone { IfOk result (λ hands. All HasNoPasses hands.items) }
@@ -27,7 +27,7 @@ pub fn bare_hands<N: Naming>(alloc: Global, workers: u32, room: u32) -> Result<V
 }
 
 /// Ways into the deques of all hands but the one at this index.
-pub fn ways_for<N: Naming>(
+pub(crate) fn ways_for<N: Naming>(
     hands: &mut Vec<Hand<N>>,
     alloc: Global,
     index: usize,
@@ -55,7 +55,7 @@ pub fn ways_for<N: Naming>(
 }
 
 /// Gives each hand its ways into the deques of the others.
-pub fn link<N: Naming>(hands: &mut Vec<Hand<N>>, alloc: Global) -> Result<(), Memory>
+pub(crate) fn link<N: Naming>(hands: &mut Vec<Hand<N>>, alloc: Global) -> Result<(), Memory>
     requires few { length hands.old.items ≤ 64 }
     requires alone { All HasNoPasses hands.old.items }
     ensures count { length hands.new.items ≡ length hands.old.items }

@@ -25,7 +25,7 @@ impl<N: Naming> Protocol<Slot<N>, Known> for Numbered {
 }
 
 /// The owner gives a ticket the next number.
-pub struct Pushed;
+pub(crate) struct Pushed;
 
 impl<N: Naming> Outcome<Slot<N>, Known> for Pushed {
     ghost use Rattle.std.specs.Prelude.{◌≡◌, ◌+◌};
@@ -35,7 +35,7 @@ impl<N: Naming> Outcome<Slot<N>, Known> for Pushed {
 }
 
 /// The owner takes the first ticket.
-pub struct Popped;
+pub(crate) struct Popped;
 
 impl<N: Naming> Outcome<Slot<N>, Known> for Popped {
     ghost use Rattle.std.specs.Prelude.{map};
@@ -47,7 +47,7 @@ impl<N: Naming> Outcome<Slot<N>, Known> for Popped {
 }
 
 /// A thief takes the first ticket. From an empty deque it learns nothing.
-pub struct Stolen;
+pub(crate) struct Stolen;
 
 impl<N: Naming> Outcome<Slot<N>, Known> for Stolen {
     ghost use Rattle.std.specs.Prelude.{◌≡◌, map};
@@ -57,7 +57,7 @@ impl<N: Naming> Outcome<Slot<N>, Known> for Stolen {
 }
 
 /// A pass is cut off from the owner's, or joined to it again.
-pub struct Passes;
+pub(crate) struct Passes;
 
 impl Split<Known> for Passes {
     ghost use Rattle.std.specs.Prelude.{◌+◌, true, false, []};

@@ -10,7 +10,7 @@ use dd_suite_tasks::{Ending, write_text};
 use std::alloc::Global;
 
 /// Writes the text of an exercise of `count` items from a number on.
-pub fn write_exercise<O: Sink>(alloc: Global, start: u32, count: u32, out: &mut O) -> Ending
+pub(crate) fn write_exercise<O: Sink>(alloc: Global, start: u32, count: u32, out: &mut O) -> Ending
     requires start { start ≤ 2147483647 }
     requires count { count ≤ 10000 }
     ensures prefix { (text : List ℕ) → IsExerciseText start count text

@@ -15,7 +15,7 @@ use std::sync::Wait;
 use std::thread::Threads;
 
 /// Writes a catalogue or a shard by a run that keeps its checkpoint under a name.
-pub fn write_kept<R: Threads + Wait + Sync, S: Store, G: Gate + Sync, O: Sink>(
+pub(crate) fn write_kept<R: Threads + Wait + Sync, S: Store, G: Gate + Sync, O: Sink>(
     workshop: &Workshop<'_, R, G>,
     portion: &Portion,
     name: &str,
@@ -47,7 +47,7 @@ pub fn write_kept<R: Threads + Wait + Sync, S: Store, G: Gate + Sync, O: Sink>(
 }
 
 /// Writes the lines of a run that keeps its checkpoint under a name.
-pub fn keep_run<R: Threads + Wait + Sync, S: Store, G: Gate + Sync, O: Sink>(
+pub(crate) fn keep_run<R: Threads + Wait + Sync, S: Store, G: Gate + Sync, O: Sink>(
     workshop: &Workshop<'_, R, G>,
     run: &Run,
     name: &str,

@@ -13,7 +13,7 @@ use std::sync::Wait;
 use std::thread::Threads;
 
 /// Writes a catalogue or a shard without a checkpoint.
-pub fn write_lone<R: Threads + Wait + Sync, G: Gate + Sync, O: Sink>(
+pub(crate) fn write_lone<R: Threads + Wait + Sync, G: Gate + Sync, O: Sink>(
     workshop: &Workshop<'_, R, G>,
     portion: &Portion,
     pace: Pace,

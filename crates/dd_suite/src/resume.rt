@@ -136,7 +136,7 @@ fn shard_of(alloc: Global, bytes: &[u8]) -> Result<Saved, Ending>
 
 /// Resumes from the checkpoint of a name, of a catalogue or of a shard, by a run with the next
 /// number.
-pub fn resume<R: Threads + Wait + Sync, S: Store, G: Gate + Sync, O: Sink>(
+pub(crate) fn resume<R: Threads + Wait + Sync, S: Store, G: Gate + Sync, O: Sink>(
     workshop: &Workshop<'_, R, G>,
     kind: ResumeKind,
     name: &str,

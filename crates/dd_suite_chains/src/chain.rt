@@ -18,7 +18,7 @@ use std::thread::Threads;
 
 /// What a chain of runs holds between two of them.
 #[derive(Drop)]
-pub struct Chain<'a> {
+pub(crate) struct Chain<'a> {
     /// The words of the next run.
     pub words: &'a [RcStr],
     /// The number of the next run, if it can begin.

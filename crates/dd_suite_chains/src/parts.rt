@@ -44,7 +44,7 @@ fn is_number(number: Option<u64>, run: u64) -> bool
 /// Appends what a run gives that is not the last. This is as many bytes of its output as its
 /// checkpoint says, if the text under the name has the run's number, and nothing otherwise. Returns
 /// the number of the run that resumes from the text, if it is a checkpoint text.
-pub fn add_part(
+pub(crate) fn add_part(
     alloc: Global,
     text: &[u8],
     number: Option<u64>,

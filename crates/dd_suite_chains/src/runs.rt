@@ -15,7 +15,7 @@ use std::sync::Wait;
 use std::thread::Threads;
 
 /// Makes one run, into the sink of this number.
-pub fn run_into<R: Threads + Wait + Sync, G: Gate + Sync>(
+pub(crate) fn run_into<R: Threads + Wait + Sync, G: Gate + Sync>(
     workshop: &Workshop<'_, R, G>,
     words: &[RcStr],
     store: &mut MemoryStore,
@@ -41,7 +41,7 @@ pub fn run_into<R: Threads + Wait + Sync, G: Gate + Sync>(
 
 /// The text under the name, where a chain goes on after a run with this status, if another sink is
 /// left.
-pub fn text_to_go_on<'a>(
+pub(crate) fn text_to_go_on<'a>(
     status: Status,
     more: bool,
     store: &'a MemoryStore,

@@ -7,7 +7,7 @@ use std::alloc::Global;
 use std::rc::RcStr;
 
 /// Returns the words that resume from the name.
-pub fn words_to_go_on(alloc: Global, name: &str) -> Result<[RcStr; 2], Memory>
+pub(crate) fn words_to_go_on(alloc: Global, name: &str) -> Result<[RcStr; 2], Memory>
     ensures { IfOk result (λ words. map rc_str_bytes words ≡ resume_words name.now) }
 {
     let first = RcStr::from_str(alloc, "resume")?;

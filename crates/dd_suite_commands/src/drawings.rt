@@ -102,7 +102,7 @@ fn put_drawing(
 }
 
 /// The drawings of symbols, one after the other.
-pub fn drawings_of(
+pub(crate) fn drawings_of(
     alloc: Global,
     shape: Option<Frame>,
     symbols: &[Connected],

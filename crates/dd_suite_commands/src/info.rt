@@ -13,7 +13,7 @@ use dd_symbol::Connected;
 use std::alloc::Global;
 
 /// Returns a line of facts for each symbol, and how often each group comes.
-pub fn info_of(alloc: Global, symbols: &[Connected]) -> Result<Vec<u8>, Memory>
+pub(crate) fn info_of(alloc: Global, symbols: &[Connected]) -> Result<Vec<u8>, Memory>
     requires { length symbols.now ≤ 1000000 }
     ensures { IfOk result (λ text. IsInfo symbols.now text.items) }
 {

@@ -27,7 +27,7 @@ use dd_text::put_lines;
 use std::alloc::Global;
 
 /// The lines of what a command makes of symbols, numbered from 1.
-pub fn lines_of(
+pub(crate) fn lines_of(
     alloc: Global,
     command: SymbolCommand,
     symbols: Vec<Connected>,

@@ -11,7 +11,7 @@ use std::alloc::Global;
 
 /// What may be made of a symbol first.
 #[derive(Clone, Copy, Debug, PartialEq, Eq)]
-pub enum Change {
+pub(crate) enum Change {
     /// The symbol itself.
     Nothing,
     /// Its dual.

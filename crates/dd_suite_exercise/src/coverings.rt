@@ -10,7 +10,7 @@ use std::alloc::Global;
 
 /// By what a symbol is covered.
 #[derive(Clone, Copy, Debug, PartialEq, Eq)]
-pub enum Covering {
+pub(crate) enum Covering {
     /// The symbol itself.
     Nothing,
     /// Its oriented cover.

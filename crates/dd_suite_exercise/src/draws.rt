@@ -4,7 +4,7 @@ use std::marker::Model;
 
 /// Makes a number of each number, and answers draws by them.
 #[derive(Drop)]
-pub struct Generator {
+pub(crate) struct Generator {
     number: u64,
 }
 

@@ -13,7 +13,7 @@ use dd_symbol::Connected;
 use std::alloc::Global;
 
 /// The next item: a cover, renumbered, in its least form.
-pub fn next_item(
+pub(crate) fn next_item(
     alloc: Global,
     seeds: &[Connected],
     generator: &mut Generator,

@@ -7,7 +7,7 @@ use dd_symbol::Connected;
 use std::alloc::Global;
 
 /// The symbols with which items begin: those of `catalogue 2`.
-pub fn seeds(alloc: Global) -> Result<Vec<Connected>, Memory>
+pub(crate) fn seeds(alloc: Global) -> Result<Vec<Connected>, Memory>
     ensures seeds { IfOk result (λ seeds. AreSeeds seeds.items) }
 {
     plain_catalogue(alloc, &Request::up_to(2))

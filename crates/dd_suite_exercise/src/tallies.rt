@@ -12,7 +12,7 @@ use std::alloc::Global;
 
 /// What is counted of items.
 #[derive(Drop)]
-pub struct Tally {
+pub(crate) struct Tally {
     /// The chambers of all.
     pub chambers: u64,
     /// How often each came, by their lines.

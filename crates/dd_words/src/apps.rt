@@ -38,7 +38,7 @@ pub static SETTINGS: [Setting; 12] = [
 ];
 
 /// Returns what clap needs of a verb: its arguments and its settings, and nothing of clap's own.
-pub fn app_for<'a>(alloc: Global, verb: Verb) -> Result<App<'a>, AllocError>
+pub(crate) fn app_for<'a>(alloc: Global, verb: Verb) -> Result<App<'a>, AllocError>
     ensures { IfOk result (λ app. app_of app ≡ app_for verb) }
 {
     let app = with_places(bare_app(alloc), alloc, verb, PLACES.as_slice())?;

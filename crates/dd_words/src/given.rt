@@ -162,7 +162,7 @@ impl<'a> Settings<'a> {
 }
 
 /// The name of a file or of a checkpoint.
-pub fn read_name(alloc: Global, word: &str) -> Result<Name, WordsFault>
+pub(crate) fn read_name(alloc: Global, word: &str) -> Result<Name, WordsFault>
     ensures same { IfOk result (λ name. word.now ≡ name) }
     ensures name { IfOk result IsName }
     ensures not_taken { result ≡ Err WordsFault.NotTaken → IsName word.now → ⊥ }
@@ -175,7 +175,7 @@ pub fn read_name(alloc: Global, word: &str) -> Result<Name, WordsFault>
 }
 
 /// The names of files.
-pub fn read_names(alloc: Global, words: &[&str]) -> Result<Names, WordsFault>
+pub(crate) fn read_names(alloc: Global, words: &[&str]) -> Result<Names, WordsFault>
     ensures same { IfOk result (λ names. texts words.now ≡ names) }
     ensures names { IfOk result (AllByRecursion IsName) }
     ensures not_taken { result ≡ Err WordsFault.NotTaken

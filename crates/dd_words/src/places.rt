@@ -5,7 +5,7 @@ use crate::verbs::Verb;
 
 /// The place of an argument of a command.
 #[derive(Clone, Copy)]
-pub enum Place {
+pub(crate) enum Place {
     /// The first argument.
     First,
     /// The second argument.

@@ -11,7 +11,7 @@ use dd_model::Request;
 
 /// How a catalogue is run.
 #[derive(Clone, Copy)]
-pub struct RunSettings {
+pub(crate) struct RunSettings {
     /// By how many workers, and with how many jobs in a round.
     pub pace: Pace,
     /// After how many lines it pauses.
@@ -19,7 +19,7 @@ pub struct RunSettings {
 }
 
 /// The request of an argument and settings.
-pub fn read_request(chambers: &str, settings: &Settings<'_>) -> Option<Request>
+pub(crate) fn read_request(chambers: &str, settings: &Settings<'_>) -> Option<Request>
     ensures some { IfSome result (IsRequested chambers.now settings.now) }
     ensures none { IfNone result ((q : Request) → IsRequested chambers.now settings.now q → ⊥) }
 {
@@ -40,7 +40,7 @@ pub fn read_request(chambers: &str, settings: &Settings<'_>) -> Option<Request>
 }
 
 /// How the settings ask a catalogue to be run.
-pub fn read_run(settings: &Settings<'_>) -> Option<RunSettings>
+pub(crate) fn read_run(settings: &Settings<'_>) -> Option<RunSettings>
     ensures some { IfSome result (λ run. IsRun settings.now run.pace run.pause) }
     ensures none { IfNone result ((pace : Numbers) (pause : Option ℕ)
         → IsRun settings.now pace pause → ⊥) }

@@ -10,7 +10,7 @@ use dd_model::Allowed;
 const GREATEST: u64 = 216;
 
 /// The set of a word of items with commas between them.
-pub fn read_set(word: &str) -> Option<Allowed>
+pub(crate) fn read_set(word: &str) -> Option<Allowed>
     ensures some { IfSome result (λ a. IsSetWord word.now a) }
     ensures none { IfNone result ((a : Allowed) → IsSetWord word.now a → ⊥) }
 {

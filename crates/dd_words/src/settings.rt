@@ -5,7 +5,7 @@ use crate::verbs::Verb;
 
 /// What an option of a command sets.
 #[derive(Clone, Copy, PartialEq, Eq)]
-pub enum Setting {
+pub(crate) enum Setting {
     /// The most classes of tiles.
     Tiles,
     /// The most classes of vertices.
@@ -34,7 +34,7 @@ pub enum Setting {
 
 /// A setting that was given, and its value; that of a flag is empty.
 #[derive(Clone, Copy)]
-pub struct Given<'a> {
+pub(crate) struct Given<'a> {
     /// The setting.
     pub setting: Setting,
     /// Its value.

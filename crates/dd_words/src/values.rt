@@ -2,7 +2,7 @@ ghost use Rattle.std.specs.Prelude.{◌≡◌, ◌↔◌, ◌+◌, ◌<◌, ◌�
 ghost use Rattle.dd_words.specs.Values.{IsNumber, IsNumberIn, IsName};
 
 /// The value of one to ten decimal digits.
-pub fn read_number(text: &str) -> Option<u64>
+pub(crate) fn read_number(text: &str) -> Option<u64>
     ensures some { IfSome result (λ n. IsNumber text.now n) }
     ensures none { IfNone result ((n : ℕ) → IsNumber text.now n → ⊥) }
 {
@@ -21,7 +21,7 @@ pub fn read_number(text: &str) -> Option<u64>
 }
 
 /// The value of a number that is in a range.
-pub fn read_number_in(text: &str, low: u32, high: u32) -> Option<u32>
+pub(crate) fn read_number_in(text: &str, low: u32, high: u32) -> Option<u32>
     ensures some { IfSome result (λ n. IsNumberIn low high text.now n) }
     ensures none { IfNone result ((n : ℕ) → IsNumberIn low high text.now n → ⊥) }
 {
@@ -36,7 +36,7 @@ pub fn read_number_in(text: &str, low: u32, high: u32) -> Option<u32>
 }
 
 /// Returns whether a word may name a file: it is not empty and does not begin with a dash.
-pub fn is_name(word: &str) -> bool
+pub(crate) fn is_name(word: &str) -> bool
     ensures { IsTrue result ↔ IsName word.now }
 {
     match word.as_bytes().first() {

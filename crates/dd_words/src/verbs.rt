@@ -6,7 +6,7 @@ use dd_template::Operation;
 
 /// What the first word of a command says.
 #[derive(Clone, Copy)]
-pub enum Verb {
+pub(crate) enum Verb {
     /// `catalogue`.
     Catalogue,
     /// `resume`.

@@ -12,13 +12,13 @@ pub begin-levels-requires-clause-room : goal.begin-levels-requires-clause-room
 begin-levels-requires-clause-room g c =
     let T = g.T.PrefixSearch in
     let S = c.args.search.now in
-    not_whole c.is_whole.result (length (T.prefix S)) (T.end (T.size S)) c.if-is_whole.false c.is_whole.ensures.whole c.requires.short
+    not_whole c.is_whole.result (length (T.laws.prefix S)) (T.laws.end (T.laws.size S)) c.if-is_whole.false c.is_whole.ensures.whole c.requires.short
 
 pub loop-levels-init : goal.loop-levels-init
 loop-levels-init g c =
     let T = g.T.PrefixSearch in
     let begun = c.begin-levels.ensures in
-    none_found T.request T.wanted T.size T.prefix T.end T.depth T.undone T.valid c.args.search.now c.begin-levels.result c.args.list.now c.requires.valid begun.at begun.first begun.left
+    none_found T.laws c.args.search.now c.begin-levels.result c.args.list.now c.requires.valid begun.at begun.first begun.left
 
 pub loop-levels-preserved : goal.loop-levels-preserved
 loop-levels-preserved g c =
@@ -34,24 +34,24 @@ loop-levels-preserved g c =
     let same = c.in_ok-add.ensures.same in
     let request = on.request ∙ i.same_request in
     let size = on.size ∙ i.same_size in
-    let parts = of_first T.request T.wanted T.size T.prefix T.end T.depth T.undone T.valid begun old i.same_request i.same_size
-    (λ V k. (s : Symbol) → IsLeftAt T.prefix T.undone V k old c.loop-levels.levels s ↔ (IsUnder V k (T.prefix new) s ⊎ IsLeft T.prefix T.undone V k new levels s)) on.left in
-    let order = of_first T.request T.wanted T.size T.prefix T.end T.depth T.undone T.valid begun old i.same_request i.same_size
-    (λ V k. (s u : Symbol) → IsUnder V k (T.prefix new) s → IsLeft T.prefix T.undone V k new levels u → IsBelow s u) on.order in
-    let left = of_first T.request T.wanted T.size T.prefix T.end T.depth T.undone T.valid begun new request size
-    (λ V k. (s : Symbol) → IsLeft T.prefix T.undone V k new levels s ↔ IsLeftAt T.prefix T.undone V k there levels s)
-    (subst (λ x. (s : Symbol) → IsLeft T.prefix T.undone (T.wanted (T.request x)) (T.size x) x levels s ↔ IsLeftAt T.prefix T.undone (T.wanted (T.request x)) (T.size x) there levels s) same back.left) in
-    let more = of_first T.request T.wanted T.size T.prefix T.end T.depth T.undone T.valid begun new request size
-    (λ V k. Appends (AreUnder V k (T.prefix new)) c.loop-levels.list c.add-in-loop-levels.new.list) c.in_ok-add.ensures.list in
-    let first : first_at T.undone there levels ≡ begun = back.first ∙ ap (λ x. first_of T.undone x levels) same ∙ on.first ∙ i.same_first in
-    subst (λ ls. HasFound T.request T.wanted T.size T.prefix T.end T.depth T.undone T.valid begun c.args.list.now there ls c.add-in-loop-levels.new.list) (sym back.levels)
-    (more_found T.request T.wanted T.size T.prefix T.end T.depth T.undone T.valid begun old new there c.loop-levels.levels levels c.args.list.now c.loop-levels.list c.add-in-loop-levels.new.list i
-    back.valid (back.request ∙ ap T.request same ∙ request) (back.size ∙ ap T.size same ∙ size) back.at first parts order left more)
+    let parts = of_first T.laws begun old i.same_request i.same_size
+    (λ V k. (s : Symbol) → IsLeftAt T.laws V k old c.loop-levels.levels s ↔ (IsUnder V k (T.laws.prefix new) s ⊎ IsLeft T.laws V k new levels s)) on.left in
+    let order = of_first T.laws begun old i.same_request i.same_size
+    (λ V k. (s u : Symbol) → IsUnder V k (T.laws.prefix new) s → IsLeft T.laws V k new levels u → IsBelow s u) on.order in
+    let left = of_first T.laws begun new request size
+    (λ V k. (s : Symbol) → IsLeft T.laws V k new levels s ↔ IsLeftAt T.laws V k there levels s)
+    (subst (λ x. (s : Symbol) → IsLeft T.laws (T.laws.wanted (T.laws.request x)) (T.laws.size x) x levels s ↔ IsLeftAt T.laws (T.laws.wanted (T.laws.request x)) (T.laws.size x) there levels s) same back.left) in
+    let more = of_first T.laws begun new request size
+    (λ V k. Appends (AreUnder V k (T.laws.prefix new)) c.loop-levels.list c.add-in-loop-levels.new.list) c.in_ok-add.ensures.list in
+    let first : first_at T.laws there levels ≡ begun = back.first ∙ ap (λ x. first_of T.laws x levels) same ∙ on.first ∙ i.same_first in
+    subst (λ ls. HasFound T.laws begun c.args.list.now there ls c.add-in-loop-levels.new.list) (sym back.levels)
+    (more_found T.laws begun old new there c.loop-levels.levels levels c.args.list.now c.loop-levels.list c.add-in-loop-levels.new.list i
+    back.valid (back.request ∙ ap T.laws.request same ∙ request) (back.size ∙ ap T.laws.size same ∙ size) back.at first parts order left more)
 
 pub returns-clause-list : goal.returns-clause-list
 returns-clause-list g c =
     let T = g.T.PrefixSearch in
     let i = c.loop-levels.invariant in
-    all_found T.request T.wanted T.size T.prefix T.end T.depth T.undone T.valid c.args.search.now c.loop-levels.search c.loop-levels.levels c.args.list.now c.loop-levels.list i
-    (λ s. of_first T.request T.wanted T.size T.prefix T.end T.depth T.undone T.valid c.args.search.now c.loop-levels.search i.same_request i.same_size
-    (λ V k. IsLeftAt T.prefix T.undone V k c.loop-levels.search c.loop-levels.levels s → ⊥) (c.loop-levels-test.ensures.none s))
+    all_found T.laws c.args.search.now c.loop-levels.search c.loop-levels.levels c.args.list.now c.loop-levels.list i
+    (λ s. of_first T.laws c.args.search.now c.loop-levels.search i.same_request i.same_size
+    (λ V k. IsLeftAt T.laws V k c.loop-levels.search c.loop-levels.levels s → ⊥) (c.loop-levels-test.ensures.none s))

@@ -21,8 +21,8 @@ loop-number-preserved g c =
     let levels = c.loop-number.levels in
     let come = c.loop-number.invariant in
     let taken = c.in-Some-take_first.ensures in
-    subst (λ s. HasCome T.request T.wanted T.size T.prefix T.end T.depth T.undone T.valid S0 L0 s (record { mark = level.mark; left = c.take_first.new.self } ∷ levels)) (sym c.if-enter.ensures.same)
-    (came_dead T.request T.wanted T.size T.prefix T.end T.depth T.undone T.valid S0 S L0 levels level c.in-Some-take_first.number c.take_first.new.self (g.met.T.PrefixSearch.end_small (T.size c.args.search.now)) come taken c.if-enter.ensures.dead)
+    subst (λ s. HasCome T.laws S0 L0 s (record { mark = level.mark; left = c.take_first.new.self } ∷ levels)) (sym c.if-enter.ensures.same)
+    (came_dead T.laws S0 S L0 levels level c.in-Some-take_first.number c.take_first.new.self (g.met.T.PrefixSearch.end_small (T.laws.size c.args.search.now)) come taken c.if-enter.ensures.dead)
 
 pub loop-number-smaller : goal.loop-number-smaller
 loop-number-smaller g c =
@@ -46,9 +46,9 @@ push-requires g c =
     let levels = c.loop-number.levels in
     let come = c.loop-number.invariant in
     let taken = c.in-Some-take_first.ensures in
-    let few = few_levels T.request T.wanted T.size T.prefix T.end T.depth T.undone T.valid S levels come.at.1 in
+    let few = few_levels T.laws S levels come.at.1 in
     let room = come.at.0.room in
-    let bound : T.end (T.size S) ≤ 108 = subst (λ n. T.end n ≤ 108) c.if-enter.ensures.alive.same_size c.is_whole-is_whole.ensures.few in
+    let bound : T.laws.end (T.laws.size S) ≤ 108 = subst (λ n. T.laws.end n ≤ 108) c.if-enter.ensures.alive.same_size c.is_whole-is_whole.ensures.few in
     omega (arith, few, room, bound)
 
 pub returns-then-is_whole-clause-beyond : goal.returns-then-is_whole-clause-beyond
@@ -61,9 +61,9 @@ returns-then-is_whole-clause-beyond g c =
     let levels = c.loop-number.levels in
     let come = c.loop-number.invariant in
     let taken = c.in-Some-take_first.ensures in
-    let entered = subst (λ ls. HasEntered T.request T.wanted T.size T.prefix T.end T.depth T.undone T.valid S0 L0 c.enter.new.self ls) (sym c.push.ensures)
-    (came_in T.request T.wanted T.size T.prefix T.end T.depth T.undone T.valid S0 S c.enter.new.self L0 levels level c.in-Some-take_first.number c.take_first.new.self
-    (g.met.T.PrefixSearch.end_small (T.size c.args.search.now)) come taken c.if-enter.ensures.alive c.if-enter.ensures.undone) in
+    let entered = subst (λ ls. HasEntered T.laws S0 L0 c.enter.new.self ls) (sym c.push.ensures)
+    (came_in T.laws S0 S c.enter.new.self L0 levels level c.in-Some-take_first.number c.take_first.new.self
+    (g.met.T.PrefixSearch.end_small (T.laws.size c.args.search.now)) come taken c.if-enter.ensures.alive c.if-enter.ensures.undone) in
     entered.beyond
 
 pub returns-then-is_whole-clause-left : goal.returns-then-is_whole-clause-left
@@ -76,9 +76,9 @@ returns-then-is_whole-clause-left g c =
     let levels = c.loop-number.levels in
     let come = c.loop-number.invariant in
     let taken = c.in-Some-take_first.ensures in
-    let entered = subst (λ ls. HasEntered T.request T.wanted T.size T.prefix T.end T.depth T.undone T.valid S0 L0 c.enter.new.self ls) (sym c.push.ensures)
-    (came_in T.request T.wanted T.size T.prefix T.end T.depth T.undone T.valid S0 S c.enter.new.self L0 levels level c.in-Some-take_first.number c.take_first.new.self
-    (g.met.T.PrefixSearch.end_small (T.size c.args.search.now)) come taken c.if-enter.ensures.alive c.if-enter.ensures.undone) in
+    let entered = subst (λ ls. HasEntered T.laws S0 L0 c.enter.new.self ls) (sym c.push.ensures)
+    (came_in T.laws S0 S c.enter.new.self L0 levels level c.in-Some-take_first.number c.take_first.new.self
+    (g.met.T.PrefixSearch.end_small (T.laws.size c.args.search.now)) come taken c.if-enter.ensures.alive c.if-enter.ensures.undone) in
     entered.left
 
 pub returns-then-is_whole-clause-order : goal.returns-then-is_whole-clause-order
@@ -91,10 +91,10 @@ returns-then-is_whole-clause-order g c =
     let levels = c.loop-number.levels in
     let come = c.loop-number.invariant in
     let taken = c.in-Some-take_first.ensures in
-    let entered = subst (λ ls. HasEntered T.request T.wanted T.size T.prefix T.end T.depth T.undone T.valid S0 L0 c.enter.new.self ls) (sym c.push.ensures)
-    (came_in T.request T.wanted T.size T.prefix T.end T.depth T.undone T.valid S0 S c.enter.new.self L0 levels level c.in-Some-take_first.number c.take_first.new.self
-    (g.met.T.PrefixSearch.end_small (T.size c.args.search.now)) come taken c.if-enter.ensures.alive c.if-enter.ensures.undone) in
-    comes_first T.request T.wanted T.size T.prefix T.end T.depth T.undone T.valid S0 c.enter.new.self L0 c.push.new.self (g.met.T.PrefixSearch.end_small (T.size c.args.search.now)) entered
+    let entered = subst (λ ls. HasEntered T.laws S0 L0 c.enter.new.self ls) (sym c.push.ensures)
+    (came_in T.laws S0 S c.enter.new.self L0 levels level c.in-Some-take_first.number c.take_first.new.self
+    (g.met.T.PrefixSearch.end_small (T.laws.size c.args.search.now)) come taken c.if-enter.ensures.alive c.if-enter.ensures.undone) in
+    comes_first T.laws S0 c.enter.new.self L0 c.push.new.self (g.met.T.PrefixSearch.end_small (T.laws.size c.args.search.now)) entered
 
 pub returns-then-is_whole-clause-lighter : goal.returns-then-is_whole-clause-lighter
 returns-then-is_whole-clause-lighter g c =
@@ -106,9 +106,9 @@ returns-then-is_whole-clause-lighter g c =
     let levels = c.loop-number.levels in
     let come = c.loop-number.invariant in
     let taken = c.in-Some-take_first.ensures in
-    let entered = subst (λ ls. HasEntered T.request T.wanted T.size T.prefix T.end T.depth T.undone T.valid S0 L0 c.enter.new.self ls) (sym c.push.ensures)
-    (came_in T.request T.wanted T.size T.prefix T.end T.depth T.undone T.valid S0 S c.enter.new.self L0 levels level c.in-Some-take_first.number c.take_first.new.self
-    (g.met.T.PrefixSearch.end_small (T.size c.args.search.now)) come taken c.if-enter.ensures.alive c.if-enter.ensures.undone) in
+    let entered = subst (λ ls. HasEntered T.laws S0 L0 c.enter.new.self ls) (sym c.push.ensures)
+    (came_in T.laws S0 S c.enter.new.self L0 levels level c.in-Some-take_first.number c.take_first.new.self
+    (g.met.T.PrefixSearch.end_small (T.laws.size c.args.search.now)) come taken c.if-enter.ensures.alive c.if-enter.ensures.undone) in
     entered.lighter
 
 pub loop-number-smaller-then-enter : goal.loop-number-smaller-then-enter
@@ -121,9 +121,9 @@ loop-number-smaller-then-enter g c =
     let levels = c.loop-number.levels in
     let come = c.loop-number.invariant in
     let taken = c.in-Some-take_first.ensures in
-    let few = few_levels T.request T.wanted T.size T.prefix T.end T.depth T.undone T.valid S levels come.at.1 in
+    let few = few_levels T.laws S levels come.at.1 in
     let room = come.at.0.room in
-    let bound : T.end (T.size S) ≤ 108 = subst (λ n. T.end n ≤ 108) c.if-enter.ensures.alive.same_size c.is_whole-is_whole.ensures.few in
+    let bound : T.laws.end (T.laws.size S) ≤ 108 = subst (λ n. T.laws.end n ≤ 108) c.if-enter.ensures.alive.same_size c.is_whole-is_whole.ensures.few in
     let small : c.candidates.result.bits < 2 ^ 64 = search rules in
     let later : Level = record { mark = level.mark; left = c.take_first.new.self } in
     let new : Level = record { mark = c.mark.result; left = c.candidates.result } in
@@ -141,12 +141,12 @@ loop-number-preserved-then-enter g c =
     let levels = c.loop-number.levels in
     let come = c.loop-number.invariant in
     let taken = c.in-Some-take_first.ensures in
-    let entered = subst (λ ls. HasEntered T.request T.wanted T.size T.prefix T.end T.depth T.undone T.valid S0 L0 c.enter.new.self ls) (sym c.push.ensures)
-    (came_in T.request T.wanted T.size T.prefix T.end T.depth T.undone T.valid S0 S c.enter.new.self L0 levels level c.in-Some-take_first.number c.take_first.new.self
-    (g.met.T.PrefixSearch.end_small (T.size c.args.search.now)) come taken c.if-enter.ensures.alive c.if-enter.ensures.undone) in
-    let few = few_levels T.request T.wanted T.size T.prefix T.end T.depth T.undone T.valid S levels come.at.1 in
+    let entered = subst (λ ls. HasEntered T.laws S0 L0 c.enter.new.self ls) (sym c.push.ensures)
+    (came_in T.laws S0 S c.enter.new.self L0 levels level c.in-Some-take_first.number c.take_first.new.self
+    (g.met.T.PrefixSearch.end_small (T.laws.size c.args.search.now)) come taken c.if-enter.ensures.alive c.if-enter.ensures.undone) in
+    let few = few_levels T.laws S levels come.at.1 in
     let room = come.at.0.room in
-    let bound : T.end (T.size S) ≤ 108 = subst (λ n. T.end n ≤ 108) c.if-enter.ensures.alive.same_size c.is_whole-is_whole.ensures.few in
+    let bound : T.laws.end (T.laws.size S) ≤ 108 = subst (λ n. T.laws.end n ≤ 108) c.if-enter.ensures.alive.same_size c.is_whole-is_whole.ensures.few in
     let small : c.candidates.result.bits < 2 ^ 64 = search rules in
     let later : Level = record { mark = level.mark; left = c.take_first.new.self } in
     let new : Level = record { mark = c.mark.result; left = c.candidates.result } in
@@ -154,7 +154,7 @@ loop-number-preserved-then-enter g c =
     (lighter_entered level later new levels taken.fewer small (omega (arith, few, room, bound))) in
     let before = come.lighter in
     let size = sym c.if-enter.ensures.alive.same_size in
-    let short = subst (λ n. length (T.prefix c.enter.new.self) ≤ T.end n) size c.if-enter.ensures.alive.short in
-    let inside = not_whole c.is_whole-is_whole.result (length (T.prefix c.enter.new.self)) (T.end (T.size c.enter.new.self)) c.if-is_whole.false c.is_whole-is_whole.ensures.whole short in
-    came_on T.request T.wanted T.size T.prefix T.end T.depth T.undone T.valid S0 c.enter.new.self L0 c.push.new.self new
-    (g.met.T.PrefixSearch.end_small (T.size c.args.search.now)) c.enter.ensures.valid entered c.mark.ensures inside c.candidates.ensures (omega (arith, falls, before))
+    let short = subst (λ n. length (T.laws.prefix c.enter.new.self) ≤ T.laws.end n) size c.if-enter.ensures.alive.short in
+    let inside = not_whole c.is_whole-is_whole.result (length (T.laws.prefix c.enter.new.self)) (T.laws.end (T.laws.size c.enter.new.self)) c.if-is_whole.false c.is_whole-is_whole.ensures.whole short in
+    came_on T.laws S0 c.enter.new.self L0 c.push.new.self new
+    (g.met.T.PrefixSearch.end_small (T.laws.size c.args.search.now)) c.enter.ensures.valid entered c.mark.ensures inside c.candidates.ensures (omega (arith, falls, before))

@@ -8,10 +8,10 @@ pub returns-clause-left : goal.returns-clause-left
 returns-clause-left g c s =
     let T = g.T.PrefixSearch in
     let S = c.args.search.now in
-    let W = T.wanted (T.request S) in
+    let W = T.laws.wanted (T.laws.request S) in
     let room = c.requires.room in
-    let end = g.met.T.PrefixSearch.end_small (T.size S) in
+    let end = g.met.T.PrefixSearch.end_small (T.laws.size S) in
     let level : Level = record { mark = c.mark.result; left = c.candidates.result } in
     through
-    (all_to_try W (T.size S) (T.prefix S) c.candidates.result s (omega (arith, room, end)) c.candidates.ensures)
-    (at_one T.prefix T.undone W (T.size S) S c.push.new.self level (c.push.ensures ∙ ap (λ ls. level ∷ ls) c.none-levels.ensures) s)
+    (all_to_try W (T.laws.size S) (T.laws.prefix S) c.candidates.result s (omega (arith, room, end)) c.candidates.ensures)
+    (at_one T.laws W (T.laws.size S) S c.push.new.self level (c.push.ensures ∙ ap (λ ls. level ∷ ls) c.none-levels.ensures) s)
