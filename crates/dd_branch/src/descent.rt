@@ -369,14 +369,14 @@ impl PrefixSearch for Descent {
     ghost use Rattle.dd_branch.specs.Descent.{IsDescent, shorter};
 
     ghost laws = { record {
-        request = λ d. d.request;
-        wanted = λ q s. IsMember q s;
-        size = λ d. size_of d.stem;
-        prefix = λ d. prefix_of d.stem;
-        end = λ n. 3 * n;
-        depth = λ d. length d.levels;
-        undone = λ d _. shorter d;
-        valid = λ d. IsDescent d
+      request = λ d. d.request;
+      wanted = λ q s. IsMember q s;
+      size = λ d. size_of d.stem;
+      prefix = λ d. prefix_of d.stem;
+      end = λ n. 3 * n;
+      depth = λ d. length d.levels;
+      undone = λ d _. shorter d;
+      valid = λ d. IsDescent d;
     } };
 
     ghost end_small = { Prim.search rules };

@@ -82,7 +82,11 @@ fn whole_sizes(alloc: Global, request: &Request) -> Result<Vec<Job>, Memory>
 /// shows its jobs. One worker that does a whole catalogue begins with a job for each size, and a
 /// large one is done in parts. So the many prefixes of an opening with nothing under them are no
 /// jobs.
-pub(crate) fn lone_front_of<F: Finder>(alloc: Global, finder: &mut F, run: &Run) -> Result<Front, Memory>
+pub(crate) fn lone_front_of<F: Finder>(
+    alloc: Global,
+    finder: &mut F,
+    run: &Run,
+) -> Result<Front, Memory>
     requires request { F.request finder.old ≡ run.now.portion.request }
     ensures request { F.request finder.new ≡ F.request finder.old }
     ensures begun { IfOk result (IsBegun (start_of run.now)) }

@@ -23,7 +23,11 @@ fn list_of(entry: Entry) -> Members
 
 /// What the entries of a round have for each job that went into it: the jobs are those of the first
 /// of the old entries.
-pub(crate) fn join(alloc: Global, olds: &[Entry], handed: Vec<Entry>) -> Result<Vec<Members>, Memory>
+pub(crate) fn join(
+    alloc: Global,
+    olds: &[Entry],
+    handed: Vec<Entry>,
+) -> Result<Vec<Members>, Memory>
     requires come { (k : ℕ) × AreBlocks (jobs_of (take k olds.now)) handed.items }
     requires done { AllByRecursion (λ e. IsDone e.state) handed.items }
     requires some { handed.items ≢ [] }

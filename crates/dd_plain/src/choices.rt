@@ -14,7 +14,12 @@ pub fn each_list_has_a_number()
 /// Returns list number `number` of the lists of `count` items of a table. Write the number in the
 /// base of the table's length, the last digit first: each digit is the place in the table of one
 /// item.
-pub(crate) fn list_of(alloc: Global, table: &[u32], count: u32, number: u64) -> Result<Vec<u32>, Memory>
+pub(crate) fn list_of(
+    alloc: Global,
+    table: &[u32],
+    count: u32,
+    number: u64,
+) -> Result<Vec<u32>, Memory>
     requires some { 1 ≤ length table.now }
     ensures length { IfOk result (λ list. length list.items ≡ count) }
     ensures items { IfOk result (λ list. list.items ≡ choices table.now count number) }

@@ -1,7 +1,9 @@
 ghost use Rattle.std.specs.Prelude.{◌*◌, ◌<◌, IsTrue, length};
 
-use crate::tuning::{AHEAD, LARGE, LONGEST_FOR_MANY, LONGEST_IF_FEW, LONGEST_IF_LARGE};
-use crate::tuning::{LONGEST_IF_SCARCE, MANY_OTHERS, SCARCE};
+use crate::tuning::{
+    AHEAD, LARGE, LONGEST_FOR_MANY, LONGEST_IF_FEW, LONGEST_IF_LARGE, LONGEST_IF_SCARCE,
+    MANY_OTHERS, SCARCE,
+};
 use dd_model::Job;
 
 /// Returns whether something may be under one of a job's children. If nothing is under any of them,

@@ -12,7 +12,11 @@ use dd_model::Memory;
 use std::alloc::Global;
 
 /// Returns a hand for each of `workers` workers, with an empty deque and no ways.
-pub(crate) fn bare_hands<N: Naming>(alloc: Global, workers: u32, room: u32) -> Result<Vec<Hand<N>>, Memory>
+pub(crate) fn bare_hands<N: Naming>(
+    alloc: Global,
+    workers: u32,
+    room: u32,
+) -> Result<Vec<Hand<N>>, Memory>
     ensures count { IfOk result (λ hands. length hands.items ≡ workers) }
     ensures new { IfOk result (λ hands. All (IsNew room) hands.items) }
     ensures alone { IfOk result (λ hands. All HasNoPasses hands.items) }

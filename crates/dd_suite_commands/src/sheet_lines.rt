@@ -14,7 +14,10 @@ use std::alloc::Global;
 
 /// Writes a line for each symbol: its number in the file, and the number of sheets of its torus
 /// cover.
-pub(crate) fn sheet_lines_of(alloc: Global, symbols: &[Connected]) -> Result<Vec<u8>, Stop<SymbolRefusal>>
+pub(crate) fn sheet_lines_of(
+    alloc: Global,
+    symbols: &[Connected],
+) -> Result<Vec<u8>, Stop<SymbolRefusal>>
     ensures text { IfOk result (λ text. AreSheetLines 1 symbols.now text.items) }
     ensures why { IfErr result (IsStop (IsFirstCurved 1 symbols.now)) }
 {

@@ -8,7 +8,11 @@ use dd_model::Memory;
 use std::alloc::Global;
 
 /// Returns new numbers for `size` chambers.
-pub(crate) fn renumbering(alloc: Global, size: u32, generator: &mut Generator) -> Result<Vec<u32>, Memory>
+pub(crate) fn renumbering(
+    alloc: Global,
+    size: u32,
+    generator: &mut Generator,
+) -> Result<Vec<u32>, Memory>
     requires { (1 ≤ size) × (size ≤ 16384) }
     ensures list { IfOk result (λ list. list.items ≡ renumbering size generator.old) }
     ensures draws { IfOk result (λ _. generator.new ≡ after_draws (size - 1) generator.old) }

@@ -159,7 +159,6 @@ module _ (zeroth first second : List ℕ) (one : HaveSameParts zeroth first) (tw
   one_part same h level = let v = values h level in sym v.0 ∙ ap h same ∙ v.1
 
   module _ (high low : ℕ) (ordered : AreOrdered x y high low) (inside : high < length second) where
-
     head_high : get_or second high 0 ≡ high
     head_high = ⊎_elim (λ e. subst (λ n. get_or second n 0 ≡ n) (sym e.0) head_x) (λ e. subst (λ n. get_or second n 0 ≡ n) (sym e.0) head_y) ordered.1
 

@@ -25,7 +25,11 @@ pub(crate) struct Laid<'a> {
 }
 
 /// The arguments and the settings of the words after a verb, as clap reads them.
-pub(crate) fn lay_out<'a>(alloc: Global, verb: Verb, words: &'a [RcStr]) -> Result<Laid<'a>, WordsFault>
+pub(crate) fn lay_out<'a>(
+    alloc: Global,
+    verb: Verb,
+    words: &'a [RcStr],
+) -> Result<Laid<'a>, WordsFault>
     ensures matched { IfOk result (λ laid.
         AreMatched verb (map rc_str_bytes words.now) (arguments_in laid) (settings_in laid)) }
     ensures not_taken { result ≡ Err WordsFault.NotTaken
