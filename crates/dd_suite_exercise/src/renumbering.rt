@@ -23,7 +23,6 @@ pub(crate) fn renumbering(
 
 /// Returns the numbers from 1 to `size`.
 fn numbers(alloc: Global, size: u32) -> Result<Vec<u32>, Memory>
-    requires { size ≤ 16384 }
     ensures { IfOk result (λ list. list.items ≡ count_from 1 size) }
 {
     let mut list = Vec::with_capacity(alloc, size as usize)?;
