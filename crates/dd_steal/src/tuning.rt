@@ -12,10 +12,10 @@ pub(crate) const SCARCE: u64 = 2;
 /// split, so that no worker waits.
 pub(crate) const LONGEST_IF_SCARCE: u64 = 30;
 
-/// The same while jobs are not scarce, but fewer wait than are to.
+/// How many it may have while jobs are not scarce, but fewer wait than are to.
 pub(crate) const LONGEST_IF_FEW: u64 = 18;
 
-/// The same for many workers, which need more jobs.
+/// How many it may have then if there are many workers, which need more jobs.
 pub(crate) const LONGEST_FOR_MANY: u64 = 24;
 
 /// From this number of other workers on, there are many.
