@@ -1,9 +1,6 @@
 ghost use Rattle.std.specs.Prelude.{◌*◌, ◌<◌, IsTrue, length};
 
-use crate::tuning::{
-    AHEAD, LARGE, LONGEST_FOR_MANY, LONGEST_IF_FEW, LONGEST_IF_LARGE, LONGEST_IF_SCARCE,
-    MANY_OTHERS, SCARCE,
-};
+use crate::tuning::{AHEAD, LARGE, LONGEST, MANY_OTHERS, SCARCE};
 use dd_model::Job;
 
 /// Returns whether something may be under one of a job's children. If nothing is under any of them,
@@ -17,13 +14,13 @@ pub(crate) fn is_worth_a_split(children: &[Job]) -> bool {
 /// workers then have nothing to do at last.
 fn longest_split(size: u32, waiting: u64, others: u64) -> u64 {
     if waiting / SCARCE <= others {
-        LONGEST_IF_SCARCE
+        LONGEST.scarce
     } else if waiting / AHEAD <= others && others < MANY_OTHERS {
-        LONGEST_IF_FEW
+        LONGEST.few
     } else if waiting / AHEAD <= others {
-        LONGEST_FOR_MANY
+        LONGEST.few_for_many
     } else if size >= LARGE {
-        LONGEST_IF_LARGE
+        LONGEST.large
     } else {
         0
     }

@@ -96,15 +96,7 @@ fn steal_or_wait<N: Naming, K: Ledger, L: Ledger, S: Ledger, D: Ledger, B: Ledge
 /// The next ticket: the first of the worker's own deque, else that of the first job that is open,
 /// else one of another worker. A worker that has done a job and finds its deque empty takes another
 /// job ahead.
-pub(crate) fn next_ticket<
-    N: Naming,
-    K: Ledger,
-    L: Ledger,
-    S: Ledger,
-    D: Ledger,
-    B: Ledger,
-    R: Wait,
->(
+pub fn next_ticket<N: Naming, K: Ledger, L: Ledger, S: Ledger, D: Ledger, B: Ledger, R: Wait>(
     rt: &R,
     board: &Board<N, K, L, S, D, B>,
     seat: &mut Seat<K, L, S, D, B>,

@@ -8,15 +8,25 @@ pub(crate) const AHEAD: u64 = 4;
 /// While fewer jobs than this wait for each worker, longer jobs are split too.
 pub(crate) const SCARCE: u64 = 2;
 
-/// How many numbers a job may have that is split while jobs are scarce. Nearly any job is then
-/// split, so that no worker waits.
-pub(crate) const LONGEST_IF_SCARCE: u64 = 30;
+/// How many numbers a job may have that is split.
+#[derive(Clone, Copy)]
+pub(crate) struct Longest {
+    /// While jobs are scarce: nearly any job is then split, so that no worker waits.
+    pub scarce: u64,
+    /// While jobs are not scarce, but fewer wait than are to.
+    pub few: u64,
+    /// In that case, if there are many workers, which need more jobs.
+    pub few_for_many: u64,
+    /// Although enough jobs wait, if the job is large.
+    pub large: u64,
+}
 
-/// How many it may have while jobs are not scarce, but fewer wait than are to.
-pub(crate) const LONGEST_IF_FEW: u64 = 18;
-
-/// How many it may have then if there are many workers, which need more jobs.
-pub(crate) const LONGEST_FOR_MANY: u64 = 24;
+pub(crate) const LONGEST: Longest = Longest {
+    scarce: 30,
+    few: 18,
+    few_for_many: 24,
+    large: 15,
+};
 
 /// From this number of other workers on, there are many.
 pub(crate) const MANY_OTHERS: u64 = 8;
@@ -24,9 +34,6 @@ pub(crate) const MANY_OTHERS: u64 = 8;
 /// From this number of chambers on, a job of a few numbers may have more under it than all other
 /// jobs of its round. So it is split although enough jobs wait.
 pub(crate) const LARGE: u32 = 16;
-
-/// How many numbers a large job may have that is split although enough jobs wait.
-pub(crate) const LONGEST_IF_LARGE: u64 = 15;
 
 /// How often a worker looks for a job that is open, while none is just being split, before it is
 /// through: some 50 microseconds. With more, processors are busy with nothing at the end of a
