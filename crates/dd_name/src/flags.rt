@@ -6,7 +6,7 @@ use dd_model::{Index, Pair};
 
 /// A chamber and an involution, which fixes it where the chamber lies at the border.
 #[derive(Debug, Clone, Copy, PartialEq, Eq)]
-pub(crate) struct Flag {
+pub struct Flag {
     /// The chamber.
     pub chamber: u32,
     /// The involution.

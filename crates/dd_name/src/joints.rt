@@ -6,7 +6,7 @@ use dd_symbol::Symbol;
 /// A flag of a boundary, the pair of the chain that joins it to the next, and the value of that
 /// chain.
 #[derive(Debug, Clone, Copy, PartialEq, Eq)]
-pub(crate) struct Joint {
+pub struct Joint {
     /// The flag at which the chain begins.
     pub flag: Flag,
     /// The pair of the chain.
