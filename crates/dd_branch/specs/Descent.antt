@@ -7,7 +7,7 @@ use Rattle.dd_model.specs.Request.{IsValid}
 use Rattle.dd_model.specs.Wanted.{IsMember}
 use Rattle.dd_model.specs.declared.requests.Request.{Request}
 use Rattle.dd_branch_tables.specs.Rows.{partial_of}
-use Rattle.dd_branch_tables.specs.Search.{GoesOn}
+use Rattle.dd_branch_tables.specs.Search.{SearchLaws, GoesOn}
 use Rattle.dd_branch_tables.specs.Stem.{IsStem, prefix_of, size_of, cut_to}
 use Rattle.dd_branch_tables.specs.declared.stem.Stem.{Stem}
 use Rattle.dd_branch_bounds.specs.Kept.{Shares, AreKept, with_sides}
@@ -60,6 +60,19 @@ pub record GoesBack (d : Descending) : Type 0 where
   pub levels : (k : ℕ) → k ≤ length d.levels → IsDescent (gone_back k d)
   pub empty : prefix_of (gone_back (length d.levels) d).stem ≡ []
 
+-- what the search says of its states
+abbrev pub descent_laws : SearchLaws Descending
+descent_laws = record {
+  request = λ d. d.request;
+  wanted = λ q s. IsMember q s;
+  size = λ d. size_of d.stem;
+  prefix = λ d. prefix_of d.stem;
+  end = λ n. 3 * n;
+  depth = λ d. length d.levels;
+  undone = λ d _. shorter d;
+  valid = λ d. IsDescent d;
+}
+
 -- the search with a number more at the end of its prefix, and with what follows from it
 abbrev pub HasDescended : ℕ → Descending → Descending → Type 0
-HasDescended number old new = GoesOn (λ d. d.request) (λ q s. IsMember q s) (λ d. size_of d.stem) (λ d. prefix_of d.stem) (λ n. 3 * n) number old new
+HasDescended number old new = GoesOn descent_laws number old new

@@ -365,19 +365,9 @@ impl Descent {
 
 impl PrefixSearch for Descent {
     ghost use Rattle.std.proofs.Common.{rules};
-    ghost use Rattle.dd_branch_tables.specs.Stem.{prefix_of, size_of};
-    ghost use Rattle.dd_branch.specs.Descent.{IsDescent, shorter};
+    ghost use Rattle.dd_branch.specs.Descent.{descent_laws};
 
-    ghost laws = { record {
-      request = λ d. d.request;
-      wanted = λ q s. IsMember q s;
-      size = λ d. size_of d.stem;
-      prefix = λ d. prefix_of d.stem;
-      end = λ n. 3 * n;
-      depth = λ d. length d.levels;
-      undone = λ d _. shorter d;
-      valid = λ d. IsDescent d;
-    } };
+    ghost laws = { descent_laws };
 
     ghost end_small = { Prim.search rules };
 
