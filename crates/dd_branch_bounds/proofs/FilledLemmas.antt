@@ -3,12 +3,12 @@ use Rattle.std.proofs.Common.{◌≡◌, ◌≢◌, ℕ, zero, suc, ◌+◌, ◌
 use Rattle.std.proofs.lemmas.List.{get_or-take, get_or-drop, length-take-le}
 use Rattle.dd_model.specs.Partial.{Completes}
 use Rattle.dd_model.specs.Symbol.{Symbol, op}
-use Rattle.dd_front_jobs.specs.Places.{index_at}
 use Rattle.dd_branch_tables.specs.Rows.{Rows, partial_of, last_of, popped, unwind, HasNumberAt, IsReady}
 use Rattle.dd_branch_tables.proofs.RowsLemmas.{told_at}
 use Rattle.dd_branch_bounds.specs.Kept.{IsImage}
 use Rattle.dd_branch_bounds.specs.declared.link.Link.{Link}
 use Rattle.dd_branch_bounds.proofs.ShareGrowth.{cleared_or_same}
+use Rattle.dd_model.specs.Indices.{index_at}
 
 -- what was put in last, some steps back
 last_back : (k j : ℕ) (r : Rows) → j + k + 1 ≡ length r.trail → last_of (unwind k r) ≡ get_or r.trail j 0

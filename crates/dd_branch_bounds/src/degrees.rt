@@ -33,30 +33,13 @@ pub fn least_degree(request: &Request, pair: Pair, from: u32) -> u32
     217
 }
 
-/// SHARE_UNIT divided by the degree, rounded up. No division is made for the degrees that paths
-/// have most often.
+/// SHARE_UNIT divided by the degree, rounded up.
 pub fn share_of(degree: u32) -> u64
     requires { 1 ≤ degree }
     ensures share { result ≡ (share_unit - 1) / degree + 1 }
     ensures small { result ≤ share_unit }
 {
-    if degree > 12 {
-        return (SHARE_UNIT - 1) / u64::from(degree) + 1;
-    }
-    match degree {
-        1 => SHARE_UNIT,
-        2 => SHARE_UNIT / 2,
-        3 => SHARE_UNIT / 3,
-        4 => SHARE_UNIT / 4,
-        5 => SHARE_UNIT / 5,
-        6 => SHARE_UNIT / 6,
-        7 => SHARE_UNIT / 7,
-        8 => SHARE_UNIT / 8,
-        9 => SHARE_UNIT / 9,
-        10 => SHARE_UNIT / 10,
-        11 => SHARE_UNIT / 11,
-        _ => SHARE_UNIT / 12,
-    }
+    (SHARE_UNIT - 1) / u64::from(degree) + 1
 }
 
 /// Returns whether a cell of `turns` turns may have the branching value.

@@ -14,7 +14,7 @@ mod class_shares;
 mod degrees;
 mod end;
 mod end_laws;
-mod flag;
+mod flag_number;
 mod kept_laws;
 mod link;
 mod pair_paths;

@@ -1,7 +1,8 @@
 ghost use Rattle.std.specs.Prelude.{◌≡◌, ◌+◌, ◌*◌, ◌/◌, ◌%◌, ◌≤◌, ◌<◌};
-ghost use Rattle.dd_front_jobs.specs.Places.{index_at};
+ghost use Rattle.dd_model.specs.Indices.{index_at};
 
-use crate::flag::Flag;
+use crate::flag_number::FlagNumber;
+use dd_branch_tables::index_at;
 use dd_model::Index;
 
 /// An image: the involution, a chamber, and where it leads.
@@ -14,13 +15,6 @@ pub(crate) struct Link {
     ghost image_within: { image ≤ 36 },
 }
 
-/// The involution of a place of a code.
-pub(crate) fn index_of(place: u8) -> Index
-    ensures { result ≡ index_at (place % 3) }
-{
-    Index::ALL[usize::from(place % 3)]
-}
-
 impl Link {
     /// Returns the image that a number at a place of a code means.
     pub(crate) fn told(place: u8, number: u8) -> Link
@@ -31,22 +25,22 @@ impl Link {
         ensures image { result.image ≡ number }
     {
         Link {
-            index: index_of(place),
+            index: index_at(place),
             chamber: 1 + place / 3,
             image: number,
         }
     }
 
     /// Its two flags at the first (0) or the second (1) involution of a pair.
-    pub(crate) fn flags(&self, side: u8) -> (Flag, Flag)
+    pub(crate) fn flags(&self, side: u8) -> (FlagNumber, FlagNumber)
         requires { side ≤ 1 }
         ensures first { result.0.number ≡ 2 * self.now.chamber + side }
         ensures second { result.1.number ≡ 2 * self.now.image + side }
     {
-        let first = Flag {
+        let first = FlagNumber {
             number: 2 * self.chamber + side,
         };
-        let second = Flag {
+        let second = FlagNumber {
             number: 2 * self.image + side,
         };
         (first, second)

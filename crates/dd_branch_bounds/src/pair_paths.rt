@@ -12,7 +12,7 @@ use crate::census::{Census, is_limited};
 use crate::class::Class;
 use crate::class_shares::ClassShares;
 use crate::end::End;
-use crate::flag::Flag;
+use crate::flag_number::FlagNumber;
 use dd_model::Pair;
 
 /// The paths of a pair in a table that a search fills, kept at their ends, and the sum of the
@@ -51,7 +51,7 @@ impl PairPaths {
     }
 
     /// What stands at a flag.
-    fn end(&self, flag: Flag) -> End
+    fn end(&self, flag: FlagNumber) -> End
         ensures { slice_get self.now.ends flag.number ≡ Some result }
     {
         self.ends[usize::from(flag.number)]
@@ -69,7 +69,7 @@ impl PairPaths {
 
     /// The total where two flags are joined.
     #[inline(always)]
-    pub(crate) fn total_with(&self, shares: &ClassShares, x: Flag, y: Flag) -> u64
+    pub(crate) fn total_with(&self, shares: &ClassShares, x: FlagNumber, y: FlagNumber) -> u64
         requires some { IsSideOfSome shares.now self.now }
         ensures total { (partial : Tiling) (test : Tiling → Bool)
             → IsJoin (Passes partial test) shares.now.pair x.number y.number
@@ -97,7 +97,7 @@ impl PairPaths {
     }
 
     /// The census where two flags are joined.
-    pub(crate) fn census_with(&self, shares: &ClassShares, x: Flag, y: Flag) -> Census
+    pub(crate) fn census_with(&self, shares: &ClassShares, x: FlagNumber, y: FlagNumber) -> Census
         requires some { IsSideOfSome shares.now self.now }
         ensures { (partial : Tiling) (test : Tiling → Bool)
             → IsJoin (Passes partial test) shares.now.pair x.number y.number
@@ -134,8 +134,8 @@ impl PairPaths {
         &self,
         shares: &ClassShares,
         pair: Pair,
-        x: Flag,
-        y: Flag,
+        x: FlagNumber,
+        y: FlagNumber,
         bound: u64,
     ) -> Option<u64>
         requires same { shares.now.pair ≡ pair }
@@ -163,7 +163,7 @@ impl PairPaths {
     /// Fixes the end of a path, which closes it where the other one is fixed. False where no wanted
     /// symbol completes the table, since the request allows the closed path no degree.
     #[inline(always)]
-    fn cap(&mut self, shares: &ClassShares, x: Flag) -> bool
+    fn cap(&mut self, shares: &ClassShares, x: FlagNumber) -> bool
         requires some { IsSideOfSome shares.now self.old }
         requires live { 1 ≤ (ends_of shares.now self.old x.number).chambers }
         ensures side { (partial : Tiling)
@@ -187,7 +187,7 @@ impl PairPaths {
     /// Joins the ends of two paths, which closes them where the other ends are fixed. False where
     /// no wanted symbol completes the table, since the request allows the closed path no degree.
     #[inline(always)]
-    fn connect(&mut self, shares: &ClassShares, x: Flag, y: Flag) -> bool
+    fn connect(&mut self, shares: &ClassShares, x: FlagNumber, y: FlagNumber) -> bool
         requires some { IsSideOfSome shares.now self.old }
         requires first_end { 1 ≤ (ends_of shares.now self.old x.number).chambers }
         requires second_end { 1 ≤ (ends_of shares.now self.old y.number).chambers }
@@ -217,7 +217,7 @@ impl PairPaths {
 
     /// Joins the two ends of a path, which closes it. False where no wanted symbol completes the
     /// table, since the request allows the closed path no degree.
-    fn close(&mut self, shares: &ClassShares, x: Flag, mate: Flag) -> bool
+    fn close(&mut self, shares: &ClassShares, x: FlagNumber, mate: FlagNumber) -> bool
         requires some { IsSideOfSome shares.now self.old }
         requires live { 1 ≤ (ends_of shares.now self.old x.number).chambers }
         requires apart { mate.number ≢ x.number }
@@ -242,7 +242,7 @@ impl PairPaths {
     /// Joins two flags of which one is led to the other. False where no wanted symbol completes the
     /// table, since the request allows their cell no degree.
     #[inline(always)]
-    pub(crate) fn join(&mut self, shares: &ClassShares, x: Flag, y: Flag) -> bool
+    pub(crate) fn join(&mut self, shares: &ClassShares, x: FlagNumber, y: FlagNumber) -> bool
         requires some { IsSideOfSome shares.now self.old }
         ensures side { (partial : Tiling)
             → IsJoin (Passes partial (λ _. true)) shares.now.pair x.number y.number

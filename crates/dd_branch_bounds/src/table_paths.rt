@@ -14,10 +14,10 @@ ghost use Rattle.dd_branch_bounds.specs.Sides.{AreBounds, KeepsBounds};
 
 use crate::census::Census;
 use crate::degrees::SHARE_UNIT;
-use crate::link::{Link, index_of};
+use crate::link::Link;
 use crate::pair_paths::PairPaths;
 use crate::path_shares::PathShares;
-use dd_branch_tables::{ChamberSet, PartialTable};
+use dd_branch_tables::{ChamberSet, PartialTable, index_at};
 use dd_model::{Index, Pair, Request};
 
 /// The paths of both pairs of a table that a search fills, with two shares for each chamber, one
@@ -184,7 +184,7 @@ impl TablePaths {
         let vertices = self.vertices.total;
         let request = &classes.request;
         let size = table.size();
-        match index_of(place) {
+        match index_at(place) {
             Index::Zero => {
                 let corners = &self.vertices.census;
                 let Some(most) = corners.limited(request, Pair::Vertex, size, vertices) else {

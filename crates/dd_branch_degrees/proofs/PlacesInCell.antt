@@ -5,9 +5,8 @@ use Rattle.dd_model.specs.declared.pair.Pair.{Pair}
 use Rattle.dd_model.specs.Symbol.{Symbol, AreInvolutions, IsChamber}
 use Rattle.dd_model.proofs.CellWalks.{in_cell-sym}
 use Rattle.dd_model.proofs.Words.{act_within}
-use Rattle.dd_cells.specs.Cells.{IsSmallerInCell}
 use Rattle.dd_cells.proofs.ShapesInCell.{shape_beside}
-use Rattle.dd_branch_degrees.specs.Place.{AreBounds, IsPlaceOf}
+use Rattle.dd_branch_degrees.specs.Place.{AreBounds, IsPlaceOf, IsSmallerInCell}
 use Rattle.dd_branch_degrees.specs.declared.places.DegreeSlot.{DegreeSlot}
 
 -- a smaller chamber of a cell is a chamber

@@ -11,6 +11,7 @@ use Rattle.dd_symbol.specs.declared.kind.Kind.TheVariants.{Cycle, Chain}
 use Rattle.dd_symbol.specs.declared.shapes.CellShape.{CellShape}
 use Rattle.dd_branch_degrees.specs.Choice.{HasShares, IsChoice}
 use Rattle.dd_branch_degrees.specs.declared.places.DegreeSlot.{DegreeSlot}
+use Rattle.dd_model.specs.Cell.{InCell}
 
 -- how many chambers a cell has for each turn
 abbrev pub sides_of : Kind → ℕ
@@ -64,3 +65,8 @@ pub record ArePlaces (q : Request) (t : Symbol) (places : List DegreeSlot) : Typ
   pub count : length places ≡ 2 * t.size
   pub tiles : (k : ℕ) (x : DegreeSlot) → k < t.size → IsPlaceOf t q.faces Tile 0 (k + 1) (slice_index_or places k x)
   pub vertices : (k : ℕ) (x : DegreeSlot) → k < t.size → IsPlaceOf t q.degrees Vertex t.size (k + 1) (slice_index_or places (t.size + k) x)
+
+-- another chamber of the cell of d, which is smaller
+pub record IsSmallerInCell (s : Symbol) (p : Pair) (d e : ℕ) : Type 0 where
+  pub smaller : e < d
+  pub in_cell : InCell s p d e

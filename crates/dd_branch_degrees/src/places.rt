@@ -1,11 +1,10 @@
 ghost use Rattle.std.specs.Prelude.{◌≡◌, ◌↔◌, ℕ, ◌+◌, ◌*◌, ◌/◌, ◌≤◌, ◌<◌, IsTrue, IfSome, length, slice_index_or};
 ghost use Rattle.std.specs.Int.{bit_at};
 ghost use Rattle.dd_model.specs.Symbol.{IsChamber};
-ghost use Rattle.dd_cells.specs.Cells.{IsSmallerInCell};
 ghost use Rattle.dd_symbol.specs.Images.{AreThreeInvolutions};
 ghost use Rattle.dd_model.specs.Wanted.{IsCrystallographic};
 ghost use Rattle.dd_branch_degrees.specs.Choice.{HasBranching, HasShares};
-ghost use Rattle.dd_branch_degrees.specs.Place.{ArePlaces, AreTurns, HasPlaceOf, HasPlaces, HasSides, IsPlaceOf};
+ghost use Rattle.dd_branch_degrees.specs.Place.{ArePlaces, AreTurns, HasPlaceOf, HasPlaces, HasSides, IsPlaceOf, IsSmallerInCell};
 ghost use Rattle.dd_branch_degrees.specs.declared.places.DegreeSlot.{DegreeSlot as Known};
 
 use arrayvec::ArrayVec;

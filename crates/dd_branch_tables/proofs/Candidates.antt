@@ -1,7 +1,6 @@
 -- Numbers with which nothing is under the prefix of a stem.
 use Rattle.std.proofs.Common.{◌≡◌, ◌≢◌, ℕ, ◌+◌, ◌*◌, ◌/◌, ◌%◌, ◌<◌, ◌≤◌, ◌⊎◌, [], ◌∷◌, ◌++◌, length, subst, sym, ◌∙◌, ⊎_elim, arith}
 use Rattle.dd_model.specs.Symbol.{op}
-use Rattle.dd_front_jobs.specs.Places.{index_at}
 use Rattle.dd_front_jobs.specs.FirstVisit.{greatest}
 use Rattle.dd_branch_tables.specs.Rows.{partial_of}
 use Rattle.dd_branch_tables.specs.Stem.{Any, prefix_of, size_of, IsStem}
@@ -10,6 +9,7 @@ use Rattle.dd_branch_tables.specs.declared.stem.Stem.{Stem}
 use Rattle.dd_branch_tables.proofs.Prefixes.{shortened}
 use Rattle.dd_branch_tables.proofs.RowsLemmas.{leads_back}
 use Rattle.dd_branch_tables.proofs.Stems.{known_next, next_inside, not_taken}
+use Rattle.dd_model.specs.Indices.{index_at}
 
 pub none_of_none : (stem : Stem) (m : ℕ) → HasNothingUnder Any (size_of stem) (prefix_of stem) → HasNothingUnder Any (size_of stem) (prefix_of stem ++ m ∷ [])
 none_of_none stem m none s under = none s (shortened Any (size_of stem) (prefix_of stem) m s under).0

@@ -4,11 +4,12 @@ use Rattle.std.proofs.lemmas.Bool.{cases_lt, cases_eq}
 use Rattle.dd_model.specs.declared.index.Index.{Index}
 use Rattle.dd_model.specs.declared.index.Index.TheVariants.{Zero, One, Two}
 use Rattle.dd_model.specs.Symbol.{Symbol, op}
-use Rattle.dd_front_jobs.specs.Places.{index_at, place}
+use Rattle.dd_front_jobs.specs.Places.{place}
 use Rattle.dd_branch_tables.specs.Commuting.{CommuteAt, CommutesAt, IsCommuting, KeepsCommuting, KeepsOthers}
 use Rattle.dd_branch_tables.specs.Rows.{Rows, partial_of, IsReady, Learns}
 use Rattle.dd_front_jobs.proofs.Places.{chamber_of_place, index_of_place}
 use Rattle.dd_branch_tables.proofs.RowsLemmas.{IsPut, leads_back, op_partial, op_past, put_else}
+use Rattle.dd_model.specs.Indices.{index_at}
 
 -- ## Images that lead back
 

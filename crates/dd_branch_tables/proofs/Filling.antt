@@ -5,9 +5,10 @@ use Rattle.dd_model.specs.declared.index.Index.{Index}
 use Rattle.dd_model.specs.declared.index.Index.TheVariants.{Zero, Two}
 use Rattle.dd_model.specs.Symbol.{Symbol, IsTable, IsChamber, op, operation}
 use Rattle.dd_model.specs.Partial.{Completes}
-use Rattle.dd_front_jobs.specs.Places.{index_at, place}
+use Rattle.dd_front_jobs.specs.Places.{place}
 use Rattle.dd_branch_tables.specs.Rows.{Rows, partial_of, Learns, Excludes, Commutes}
 use Rattle.dd_front_jobs.proofs.Places.{index_of_place, chamber_of_place}
+use Rattle.dd_model.specs.Indices.{index_at}
 
 -- what a symbol has at the place of an image
 pub at_place : (s : Symbol) (i : Index) (d e t : ℕ) → t ≡ place i d → op s i d ≡ e → op s (index_at (t % 3)) (1 + t / 3) ≡ e

@@ -6,12 +6,12 @@ use Rattle.dd_model.specs.declared.requests.Request.{Request}
 use Rattle.dd_model.specs.Symbol.{Symbol, op}
 use Rattle.dd_model.specs.Wanted.{IsMember}
 use Rattle.dd_model.proofs.LeastForms.{least_as_table}
-use Rattle.dd_front_jobs.specs.Places.{index_at}
 use Rattle.dd_front_jobs.specs.Orderly.{IsOrderly}
 use Rattle.dd_front_jobs.specs.Under.{IsUnder, HasNothingUnder, Follows}
 use Rattle.dd_branch_tables.specs.Rows.{Rows, partial_of, Learns, Excludes, Commutes}
 use Rattle.dd_front_jobs.proofs.Places.{code_at}
 use Rattle.dd_branch_tables.proofs.Prefixes.{shortened}
+use Rattle.dd_model.specs.Indices.{index_at}
 
 -- a member of a catalogue is orderly
 pub member_orderly : (q : Request) (s : Symbol) → IsMember q s → IsOrderly s

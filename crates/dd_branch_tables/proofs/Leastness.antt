@@ -8,7 +8,6 @@ use Rattle.dd_model.specs.FirstVisit.{LeastTable}
 use Rattle.dd_model.specs.Partial.{Completes}
 use Rattle.dd_model.proofs.Exchanges.{renumbered, renumbered_isomorphism, renumbered_table}
 use Rattle.dd_model.proofs.LeastForms.{below_back}
-use Rattle.dd_front_jobs.specs.Places.{index_at}
 use Rattle.dd_branch_tables.specs.Beaten.{Extends, Reads, IsBeatenBy, IsUndercut, ReadsKnown, BeatsPrefix, IsBeaten}
 use Rattle.dd_front_jobs.specs.Under.{Follows, HasNothingUnder}
 use Rattle.dd_model.proofs.Ascending.{below_at, begins_at}
@@ -16,6 +15,7 @@ use Rattle.dd_branch_tables.proofs.Distinct.{all_map}
 use Rattle.dd_branch_tables.proofs.Orders.{numbering}
 use Rattle.dd_front_jobs.proofs.Places.{code_at}
 use Rattle.dd_model.proofs.Codes.{length-code}
+use Rattle.dd_model.specs.Indices.{index_at}
 
 -- the number at a place, where the chambers of the list come first
 reads_there : (s : Symbol) → IsTable s → (order : List ℕ) (f : List ℕ) (b : IsBijection s.size f) → Extends order b.inverse

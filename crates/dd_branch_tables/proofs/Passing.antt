@@ -15,12 +15,12 @@ use Rattle.dd_model.proofs.Ascending.{begins_at, begins_from}
 use Rattle.dd_model.proofs.Codes.{length-flat_images, length-code}
 use Rattle.dd_canon.specs.Traversal.{unnumbered, IsVisit, IsMeeting, IsTraversal}
 use Rattle.dd_canon.proofs.Traversals.{advance, begin, falls_behind}
-use Rattle.dd_front_jobs.specs.Places.{index_at}
 use Rattle.dd_branch_tables.specs.Open.{IsAgreeing, HasUnknown}
 use Rattle.dd_branch_tables.specs.Passed.{IsPassed}
 use Rattle.dd_branch_tables.specs.Rows.{HasNumberAt}
 use Rattle.dd_front_jobs.proofs.Places.{code_at, images_at}
 use Rattle.dd_branch_tables.proofs.Traversing.{AreInside, ReadsSo, IsMetAt}
+use Rattle.dd_model.specs.Indices.{index_at}
 
 -- ## Numbers of the first n chambers alone
 

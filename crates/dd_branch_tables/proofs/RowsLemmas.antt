@@ -17,9 +17,10 @@ use Rattle.dd_canon.specs.Traversal.{unnumbered}
 use Rattle.dd_canon.proofs.Meetings.{numbered_counts_not}
 use Rattle.dd_model.proofs.Lists.{zero_at}
 use Rattle.dd_model.proofs.CountFrom.{length-count_from, get_or-map-count_from}
-use Rattle.dd_front_jobs.specs.Places.{index_at, place, back_of, bits_of}
+use Rattle.dd_front_jobs.specs.Places.{place, back_of, bits_of}
 use Rattle.dd_branch_tables.specs.Rows.{Rows, images_in, partial_from, partial_of, depth_of, cleared, flipped, last_of, popped, unwind, unwound, HasNumberAt, IsReady, Learns, Excludes}
 use Rattle.dd_front_jobs.proofs.Places.{index_of_place, chamber_of_place, place_of_place}
+use Rattle.dd_model.specs.Indices.{index_at}
 
 same_place : (i : Index) (d : ℕ) → place i (1 + (d - 1)) ≡ place i d
 same_place Zero d = omega arith

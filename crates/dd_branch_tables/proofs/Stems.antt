@@ -5,7 +5,6 @@ use Rattle.std.proofs.lemmas.List.{get_or_append_left, get_or_push, length_push,
 use Rattle.dd_model.specs.declared.index.Index.{Index}
 use Rattle.dd_model.specs.declared.index.Index.TheVariants.{Zero}
 use Rattle.dd_model.specs.Symbol.{Symbol, op}
-use Rattle.dd_front_jobs.specs.Places.{index_at}
 use Rattle.dd_front_jobs.specs.FirstVisit.{greatest}
 use Rattle.dd_branch_tables.specs.Rows.{partial_of, depth_of, IsReady, HasNumberAt, Learns}
 use Rattle.dd_branch_tables.specs.Commuting.{IsCommuting}
@@ -18,6 +17,7 @@ use Rattle.dd_branch_tables.proofs.Follows.{Puts, follows_put, follows_none}
 use Rattle.dd_model.specs.Code.{code}
 use Rattle.dd_front_jobs.proofs.CodeFronts.{leads_out}
 use Rattle.dd_front_jobs.proofs.Growth.{next_small, begins_take, one_le_greatest}
+use Rattle.dd_model.specs.Indices.{index_at}
 
 -- what is looked for is orderly
 pub any_under : (W : Symbol → Type 0) (n : ℕ) (prefix : List ℕ) (s : Symbol) → IsUnder W n prefix s → IsUnder Any n prefix s

@@ -7,7 +7,7 @@ use Rattle.dd_model.specs.Symbol.{Symbol, IsTable, op, operation}
 use Rattle.dd_model.specs.Lists.{Begins}
 use Rattle.dd_model.specs.Code.{code, all_images}
 use Rattle.dd_model.proofs.Codes.{length-flat_images, length-code}
-use Rattle.dd_front_jobs.specs.Places.{index_at, place}
+use Rattle.dd_front_jobs.specs.Places.{place}
 use Rattle.dd_symbol.specs.Images.{of_rows}
 use Rattle.dd_symbol.proofs.TableLemmas.{item-first, item-column, lengths}
 use Rattle.dd_branch_tables.specs.Table.{images_of, told}
@@ -16,6 +16,7 @@ use Rattle.dd_model.proofs.Ascending.{begins_at, begins_from}
 use Rattle.dd_front_jobs.proofs.Places.{code_at, chamber_of_place}
 use Rattle.dd_front_jobs.proofs.CodeFronts.{image_at}
 use Rattle.dd_model.proofs.SameInvolutions.{op-same}
+use Rattle.dd_model.specs.Indices.{index_at}
 
 -- the first 3n numbers of two lists are the same
 pub record AgreeOnImages (n : ℕ) (xs ys : List ℕ) : Type 0 where

@@ -7,11 +7,11 @@ use Rattle.dd_model.specs.Symbol.{Symbol, item, op}
 use Rattle.dd_model.proofs.Lists.{zero_at}
 use Rattle.std.proofs.lemmas.List.{length-replicate}
 use Rattle.dd_canon.specs.Traversal.{unnumbered, IsVisit, IsMeeting}
-use Rattle.dd_front_jobs.specs.Places.{index_at}
 use Rattle.dd_branch_tables.specs.Visit.{AreNumbered}
 use Rattle.dd_branch_tables.specs.Beaten.{ReadsKnown, IsBeaten, Extends, AreMet}
 use Rattle.dd_branch_tables.specs.declared.traversal.Visit.{Visit}
 use Rattle.dd_branch_tables.proofs.Distinct.{distinct_from, all_from}
+use Rattle.dd_model.specs.Indices.{index_at}
 
 -- so many zeros
 abbrev pub zeros : ℕ → List ℕ

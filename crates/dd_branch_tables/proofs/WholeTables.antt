@@ -10,7 +10,7 @@ use Rattle.dd_model.specs.Symbol.{Symbol, IsChamber, AreInvolutions, HasDegree, 
 use Rattle.dd_model.specs.Connected.{IsReached}
 use Rattle.dd_model.specs.FirstVisit.{Grows}
 use Rattle.dd_model.proofs.Words.{act-append}
-use Rattle.dd_front_jobs.specs.Places.{index_at, place}
+use Rattle.dd_front_jobs.specs.Places.{place}
 use Rattle.dd_front_jobs.specs.FirstVisit.{AreMet}
 use Rattle.dd_branch_tables.specs.Rows.{partial_of}
 use Rattle.dd_branch_tables.specs.Stem.{IsStem, prefix_of, size_of}
@@ -21,6 +21,7 @@ use Rattle.dd_branch_tables.proofs.Commuting.{op_small, ready_leads_back}
 use Rattle.dd_branch_tables.proofs.Filling.{from_place}
 use Rattle.dd_front_jobs.proofs.Places.{place_of_place}
 use Rattle.dd_branch_tables.proofs.TableFronts.{lengths_told, place_inside, told_at, told_begins}
+use Rattle.dd_model.specs.Indices.{index_at}
 
 -- ## Connectedness
 

@@ -4,8 +4,8 @@ use Rattle.std.specs.List.{AllByRecursion}
 use Rattle.dd_model.specs.Symbol.{Symbol, IsTable, IsChamber, item, op}
 use Rattle.dd_model.specs.Isomorphic.{Isomorphic}
 use Rattle.dd_model.specs.Code.{code}
-use Rattle.dd_front_jobs.specs.Places.{index_at}
 use Rattle.dd_branch_tables.specs.Distinct.{AreDistinct}
+use Rattle.dd_model.specs.Indices.{index_at}
 
 -- Under the numbers that a list gives to its chambers, in order, the number at place u is e.
 pub record Reads (s : Symbol) (order : List ℕ) (u e : ℕ) : Type 0 where

@@ -25,7 +25,7 @@ IsBeyond laws state (level ∷ levels) =
     × IsBeyond laws (laws.undone state level.mark) levels
 
 -- a search stands at a level
-pub record IsOpen {S : Type 0} (laws : SearchLaws S) (level : Level) (state : S) : Type 0 where
+pub record IsOpenLevel {S : Type 0} (laws : SearchLaws S) (level : Level) (state : S) : Type 0 where
   pub mark : level.mark ≡ laws.depth state
   pub room : length (laws.prefix state) < laws.end (laws.size state)
 
@@ -33,7 +33,7 @@ pub record IsOpen {S : Type 0} (laws : SearchLaws S) (level : Level) (state : S)
 abbrev pub IsAt : {S : Type 0} → SearchLaws S → S → List Level → Type 0
 IsAt laws state [] = Unit
 IsAt laws state (level ∷ levels) =
-    IsOpen laws level state × IsBeyond laws state levels
+    IsOpenLevel laws level state × IsBeyond laws state levels
 
 -- what is still to be tried after a prefix: all under it whose next numbers are left
 pub record IsToTry (W : Symbol → Type 0) (n : ℕ) (prefix : List ℕ) (left : ChamberSet) (s : Symbol) : Type 0 where

@@ -9,7 +9,8 @@ use Rattle.dd_model.specs.Symbol.{Symbol, IsChamber, HasDegree, op}
 use Rattle.dd_model.specs.Code.{count_from}
 use Rattle.dd_model.specs.Partial.{Completes}
 use Rattle.dd_canon.specs.Traversal.{unnumbered}
-use Rattle.dd_front_jobs.specs.Places.{index_at, place, back_of, bits_of}
+use Rattle.dd_front_jobs.specs.Places.{place, back_of, bits_of}
+use Rattle.dd_model.specs.Indices.{index_at}
 
 -- What is known of three involutions of a number of chambers: the images in the order of codes, where 0 is an image that is not
 -- known, for each involution the chambers without images as bits, and one of each two places that were filled at once, in order.

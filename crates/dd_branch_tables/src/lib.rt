@@ -20,7 +20,7 @@ pub use chamber_set::ChamberSet;
 pub use collecting_search::{CollectingSearch, find};
 pub use level::Level;
 pub use levels::Levels;
-pub use partial_table::{PartialTable, place_of};
+pub use partial_table::{PartialTable, index_at, place_of};
 pub use prefix_search::PrefixSearch;
 pub use search_steps::{advance, begin, go_back};
 pub use starts::Starts;

@@ -1,7 +1,8 @@
 ghost use Rattle.std.specs.Prelude.{◌≡◌, ◌≢◌, ℕ, ◌+◌, ◌-◌, ◌*◌, ◌/◌, ◌%◌, ◌≤◌, ◌<◌, length, drop, slice_index};
 ghost use Rattle.std.specs.Bool.{OnTrue, OnFalse};
 ghost use Rattle.dd_model.specs.Symbol.{op};
-ghost use Rattle.dd_front_jobs.specs.Places.{index_at, place, back_of, bits_of};
+ghost use Rattle.dd_front_jobs.specs.Places.{place, back_of, bits_of};
+ghost use Rattle.dd_model.specs.Indices.{index_at};
 
 use crate::chamber_set::ChamberSet;
 use arrayvec::ArrayVec;
@@ -15,16 +16,11 @@ pub fn place_of(i: Index, chamber: u8) -> u8
     ensures place { result ≡ place i chamber }
     ensures inside { result < 108 }
 {
-    let row = 3 * (chamber - 1);
-    match i {
-        Index::Zero => row,
-        Index::One => row + 1,
-        Index::Two => row + 2,
-    }
+    3 * (chamber - 1) + i.number()
 }
 
 /// The involution of a place.
-pub(crate) fn index_at(place: u8) -> Index
+pub fn index_at(place: u8) -> Index
     ensures { result ≡ index_at (place % 3) }
 {
     match place % 3 {

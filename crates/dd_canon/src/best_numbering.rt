@@ -6,7 +6,7 @@ ghost use Rattle.dd_model.specs.Code.{code_cmp};
 ghost use Rattle.dd_model.specs.Isomorphic.{IsIsomorphism};
 ghost use Rattle.dd_canon.specs.Best.{IsBestNumbering};
 
-use crate::steps::Tally;
+use crate::steps::Comparer;
 use crate::visits::NumberedChambers;
 use dd_model::Memory;
 use dd_symbol::Connected;
@@ -55,7 +55,7 @@ impl BestNumbering {
 
     /// Compares the numbering from the next start with the best one, and keeps the better. Returns
     /// whether the new one is better.
-    pub(crate) fn improve<T: Tally>(
+    pub(crate) fn improve<T: Comparer>(
         &mut self,
         alloc: Global,
         s: &Connected,
@@ -99,7 +99,7 @@ impl BestNumbering {
     }
 
     /// Compares the numberings from all other starts than chamber 1, and keeps the best.
-    pub(crate) fn improve_to_end<T: Tally>(
+    pub(crate) fn improve_to_end<T: Comparer>(
         &mut self,
         alloc: Global,
         s: &Connected,
@@ -118,7 +118,7 @@ impl BestNumbering {
 
 /// Returns the best of all numberings by first visits, in at most 5 n n comparisons of code numbers
 /// for n chambers.
-pub(crate) fn best_numbering<T: Tally>(
+pub(crate) fn best_numbering<T: Comparer>(
     alloc: Global,
     s: &Connected,
     steps: &mut T,

@@ -6,7 +6,7 @@ ghost use Rattle.dd_model.specs.Symbol.{IsChamber, item, Symbol as Tiling};
 ghost use Rattle.dd_model.specs.FirstVisit.{rows};
 ghost use Rattle.dd_canon.specs.Traversal.{IsVisit, IsMeeting, IsExtension, IsTraversal};
 
-use crate::steps::Tally;
+use crate::steps::Comparer;
 use dd_model::{Memory, Pair};
 use dd_symbol::{Connected, SymbolRef, item};
 use std::alloc::Global;
@@ -67,7 +67,7 @@ impl NumberedChambers {
     }
 
     /// The number of an image, compared with another number after what stands before it.
-    fn step<T: Tally>(
+    fn step<T: Comparer>(
         &mut self,
         s: &SymbolRef<'_>,
         image: u32,
@@ -87,7 +87,7 @@ impl NumberedChambers {
     }
 
     /// The three images of the chamber with number k, as long as they do not fall behind.
-    fn row<T: Tally>(
+    fn row<T: Comparer>(
         &mut self,
         s: &SymbolRef<'_>,
         form: &SymbolRef<'_>,
@@ -122,7 +122,12 @@ impl NumberedChambers {
     }
 
     /// The rows of all chambers, as long as they do not fall behind.
-    fn rows<T: Tally>(&mut self, s: &SymbolRef<'_>, form: &SymbolRef<'_>, steps: &mut T) -> Ordering
+    fn rows<T: Comparer>(
+        &mut self,
+        s: &SymbolRef<'_>,
+        form: &SymbolRef<'_>,
+        steps: &mut T,
+    ) -> Ordering
         requires ready { IsReady s.now self.old }
         requires traversal { IsTraversal s.now form.now
             self.old.order.items self.old.number.items 1 (λ u. rows u 1 s.now.size) Equal }
@@ -144,7 +149,7 @@ impl NumberedChambers {
     }
 
     /// The degrees of a pair in the order of the numbers.
-    fn degrees<T: Tally>(
+    fn degrees<T: Comparer>(
         &self,
         s: &SymbolRef<'_>,
         form: &SymbolRef<'_>,
@@ -170,7 +175,7 @@ impl NumberedChambers {
     }
 
     /// How the code by first visits from a start stands to that of a form of the same size.
-    pub(crate) fn stand<T: Tally>(
+    pub(crate) fn stand<T: Comparer>(
         &mut self,
         s: &Connected,
         start: u32,

@@ -25,8 +25,3 @@ pub record IsCellOf (s : Symbol) (p : Pair) (c : Cell) : Type 0 where
 pub record AreCellsOf (s : Symbol) (p : Pair) (cells : List Cell) : Type 0 where
   pub least_chambers : AreCells s p (map (λ c. c.least) cells)
   pub each : AllByRecursion (IsCellOf s p) cells
-
--- another chamber of the cell of d, which is smaller
-pub record IsSmallerInCell (s : Symbol) (p : Pair) (d e : ℕ) : Type 0 where
-  pub smaller : e < d
-  pub in_cell : InCell s p d e

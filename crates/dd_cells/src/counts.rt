@@ -1,55 +1,22 @@
-ghost use Rattle.std.specs.Prelude.{◌≡◌, ◌↔◌, ◌≤◌, ℕ, IsTrue, MatchOption, List, length, pos, ◌+ℤ◌, ◌≤ℤ◌};
-ghost use Rattle.dd_model.specs.Symbol.{IsChamber};
-ghost use Rattle.dd_model.specs.Cell.{IsLeastOfCell, AreCells};
+ghost use Rattle.std.specs.Prelude.{◌≡◌, ◌↔◌, ◌≤◌, ℕ, IsTrue, List, length, pos, ◌+ℤ◌, ◌≤ℤ◌};
+ghost use Rattle.dd_model.specs.Cell.{AreCells};
 ghost use Rattle.dd_model.specs.Wanted.{AtMost};
-ghost use Rattle.dd_cells.specs.Cells.{IsSmallerInCell};
 ghost use Rattle.dd_cells.specs.Euler.{orbits as orbits_of, IsEuler};
+ghost use Rattle.dd_model.specs.Small.{most_chambers};
 
 use dd_model::{Index, Pair};
 use dd_symbol::{Connected, Symbol};
-
-/// A smaller chamber of the cell of a chamber; None where that is the least of its cell. The walk
-/// through the cell ends at a smaller chamber.
-fn smaller_in_cell(symbol: &Symbol, pair: Pair, chamber: u32) -> Option<u32>
-    requires { IsChamber symbol.now chamber }
-    ensures { MatchOption result (IsLeastOfCell symbol.now pair chamber)
-        (λ smaller. IsSmallerInCell symbol.now pair chamber smaller) }
-{
-    let mut place = chamber;
-    for _turn in 0..symbol.size() {
-        let neighbor = symbol.op(pair.first(), place);
-        if neighbor < chamber {
-            return Some(neighbor);
-        }
-        place = symbol.op(pair.second(), neighbor);
-        if place < chamber {
-            return Some(place);
-        }
-        if place == chamber {
-            return None;
-        }
-    }
-    unreachable!()
-}
-
-/// Returns whether a chamber is the least of its cell.
-pub(crate) fn is_least_of_cell(symbol: &Symbol, pair: Pair, chamber: u32) -> bool
-    requires { IsChamber symbol.now chamber }
-    ensures { IsTrue result ↔ IsLeastOfCell symbol.now pair chamber }
-{
-    smaller_in_cell(symbol, pair, chamber).is_none()
-}
 
 /// The number of cells of a pair. It takes no memory.
 pub fn count(s: &Connected, pair: Pair) -> u32
     ensures cells { (chambers : List ℕ) → AreCells s.now pair chambers → result ≡ length chambers }
     ensures exist { (chambers : List ℕ) × AreCells s.now pair chambers }
-    ensures small { result ≤ 16384 }
+    ensures small { result ≤ most_chambers }
 {
     let symbol = s.symbol();
     let mut cells = 0;
     for k in 0..symbol.size() {
-        if is_least_of_cell(symbol, pair, k + 1) {
+        if symbol.is_least_of_cell(pair, k + 1) {
             cells += 1;
         }
     }
@@ -66,7 +33,7 @@ pub fn has_at_most(s: &Connected, pair: Pair, limit: u32) -> bool
 /// The number of orbits of an involution.
 fn orbits(symbol: &Symbol, i: Index) -> u32
     ensures orbits { result ≡ orbits_of symbol.now i }
-    ensures small { result ≤ 16384 }
+    ensures small { result ≤ most_chambers }
 {
     let mut orbits = 0;
     for k in 0..symbol.size() {

@@ -4,8 +4,8 @@ ghost use Rattle.dd_model.specs.Code.{chambers};
 ghost use Rattle.dd_model.specs.Flat.{Flat, all_degrees, reciprocals};
 ghost use Rattle.dd_cells.specs.Cells.{AreMembers};
 ghost use Rattle.dd_cells.specs.Curvature.{IsCurvature, IsReciprocalSum};
+ghost use Rattle.dd_model.specs.Small.{most_chambers};
 
-use crate::counts::is_least_of_cell;
 use crate::fractions::Fraction;
 use dd_model::Pair;
 use dd_symbol::{Connected, Kind};
@@ -32,14 +32,14 @@ fn cell_share(s: &Connected, pair: Pair, chamber: u32) -> u64
 /// The sum of 1/m over all chambers, in parts of `COMMON_MULTIPLE`.
 fn reciprocal_sum(s: &Connected, pair: Pair) -> u64
     ensures sum { IsReciprocalSum s.now pair (chambers s.now) COMMON_MULTIPLE result }
-    ensures small { result ≤ 16384 * (2 * COMMON_MULTIPLE) }
+    ensures small { result ≤ most_chambers * (2 * COMMON_MULTIPLE) }
     ensures table { IsTable s.now }
 {
     let symbol = s.symbol();
     let mut sum = 0;
     for k in 0..symbol.size() {
         let chamber = k + 1;
-        if is_least_of_cell(symbol, pair, chamber) {
+        if symbol.is_least_of_cell(pair, chamber) {
             sum += cell_share(s, pair, chamber);
         }
     }

@@ -34,7 +34,6 @@ use Rattle.dd_covers.proofs.CellFlows.{least_side, flow, IsSide, cell_flow}
 use Rattle.dd_covers.proofs.Congruences.{AreCongruent, both_ways, remainders, remainder_none, mod_congruent}
 use Rattle.dd_covers.proofs.Demands.{demand, demand_is, demands_none}
 use Rattle.dd_covers.proofs.EulerLemmas.{all_cells, all_ascending}
-use Rattle.dd_covers.proofs.FreeSides.{place_below}
 use Rattle.dd_covers.proofs.Labels.{Link, labels}
 use Rattle.dd_covers.proofs.Levels.{one_value, one_holds, other_holds}
 use Rattle.dd_covers.proofs.Nodes.{decoded, decoded_at}
@@ -49,6 +48,7 @@ use Rattle.dd_covers.proofs.Spanning.{level_everywhere}
 use Rattle.dd_covers.proofs.ToldCells.{all_told}
 use Rattle.dd_covers.proofs.Trees.{Step}
 use Rattle.dd_covers.proofs.Uniqueness.{sums_congruent}
+use Rattle.dd_model.proofs.AllIndices.{index_low}
 
 -- ## Colors with chamber 1 white
 
@@ -207,7 +207,7 @@ module _ (s : Symbol) (is : IsSymbol s) (connected : Connected s) (oriented : Is
   wants = demand s is oriented flat k (plane_multiples s is connected oriented flat k great)
 
   below_top : (i : Index) (d : ℕ) → IsChamber s d → rank i d < top
-  below_top i d h = let p = place_below i in let up = h.1 in omega arith
+  below_top i d h = let p = index_low i in let up = h.1 in omega arith
 
   root_listed : (p : Pair) (d : ℕ) → IsChamber s d → Contains vs (numbered s p (root p d))
   root_listed p d h = number_listed s ds p (root p d) (((are_cells p).members (root p d)).1 ((roots p).least d h))

@@ -17,12 +17,14 @@ use Rattle.dd_model.proofs.Transport.{act-along}
 use Rattle.dd_cells.proofs.CellSums.{AreRoots}
 use Rattle.dd_cells.proofs.ColoringLemmas.{by_index}
 use Rattle.dd_covers.specs.Ends.{one_end, other_end, IsOfCells, IsLevel}
-use Rattle.dd_covers.specs.Visits.{place_of, rank, IsBefore, IsFirstStep, IsFree, AreEndsJoined, IsVisitOrder}
+use Rattle.dd_covers.specs.Visits.{rank, IsBefore, IsFirstStep, IsFree, AreEndsJoined, IsVisitOrder}
 use Rattle.dd_covers.proofs.Nodes.{root_beside, decoded, decoded_at}
 use Rattle.dd_covers.specs.CellNumbers.{numbered}
 use Rattle.dd_covers.proofs.Labels.{Link, labels, linked, label_value}
 use Rattle.dd_covers.proofs.Sides.{all_sides, side_listed}
 use Rattle.dd_covers.proofs.Trees.{Step}
+use Rattle.dd_model.specs.Indices.{index_number}
+use Rattle.dd_model.proofs.AllIndices.{index_low, index_same}
 
 -- ## There is one order of first visits
 
@@ -41,38 +43,22 @@ order_unique s table all f g a b =
     ∙ sym (act-along s b.numbered b.is.map table.involutions fb.morphism there.word 1 one) ∙ ap (item b.is.map) there.leads) in
     sym a.map ∙ maps ∙ b.map
 
--- ## Places of involutions
-
-pub place_below : (i : Index) → place_of i < 3
-place_below Zero = omega arith
-place_below One = omega arith
-place_below Two = omega arith
-
-pub place_same : (i j : Index) → place_of i ≡ place_of j → i ≡ j
-place_same Zero Zero e = refl
-place_same Zero One e = absurd (omega arith)
-place_same Zero Two e = absurd (omega arith)
-place_same One Zero e = absurd (omega arith)
-place_same One One e = refl
-place_same One Two e = absurd (omega arith)
-place_same Two Zero e = absurd (omega arith)
-place_same Two One e = absurd (omega arith)
-place_same Two Two e = refl
+-- ## Ranks
 
 pub before_from_rank : (i j : Index) (d e : ℕ) → rank j e < rank i d → IsBefore e j d i
 before_from_rank i j d e less =
-    let pi = place_below i in
-    let pj = place_below j in
+    let pi = index_low i in
+    let pj = index_low j in
     ⊎_elim (λ low. inl low) (λ high. inr (omega arith, omega arith)) (cases_lt e d)
 
 pub rank_from_before : (i j : Index) (d e : ℕ) → IsBefore e j d i → rank j e < rank i d
-rank_from_before i j d e b = let p = place_below j in let q = place_below i in ⊎_elim (λ less. omega arith) (λ both. let e1 = both.0 in let e2 = both.1 in omega arith) b
+rank_from_before i j d e b = let p = index_low j in let q = index_low i in ⊎_elim (λ less. omega arith) (λ both. let e1 = both.0 in let e2 = both.1 in omega arith) b
 
 pub rank_cases : (i j : Index) (k c : ℕ) → rank j c < rank i k + 1 → (rank j c < rank i k) ⊎ ((j ≡ i) × (c ≡ k))
 rank_cases i j k c low =
-    let p = place_below i in
-    let q = place_below j in
-    ⊎_elim (λ less. inl less) (λ more. let e : place_of j ≡ place_of i = omega arith in inr (place_same j i e, omega arith)) (cases_lt (rank j c) (rank i k))
+    let p = index_low i in
+    let q = index_low j in
+    ⊎_elim (λ less. inl less) (λ more. let e : index_number j ≡ index_number i = omega arith in inr (index_same j i e, omega arith)) (cases_lt (rank j c) (rank i k))
 
 -- ## What is free is decided
 
@@ -84,7 +70,7 @@ decide_before m i n j =
     (λ same. ⊎_elim
     (λ low. inl (inr (same, low)))
     (λ high. inr (λ b. ⊎_elim (λ less. absurd (omega arith)) (λ both. let q = both.1 in absurd (omega arith)) b))
-    (cases_lt (place_of i) (place_of j)))
+    (cases_lt (index_number i) (index_number j)))
     (λ other. inr (λ b. ⊎_elim (λ less. absurd (omega arith)) (λ both. other both.0) b))
     (cases_eq m n))
     (cases_lt m n)

@@ -21,11 +21,12 @@ use Rattle.dd_covers.specs.SideLists.{IsFreeSide, AreAscending, AreFreeSides}
 use Rattle.dd_covers.specs.Visits.{rank, IsVisitOrder, AreEndsJoined}
 use Rattle.dd_covers.specs.declared.join.Join.{Join}
 use Rattle.dd_covers.specs.declared.side.Side.{Side}
-use Rattle.dd_covers.proofs.FreeSides.{place_below, rank_from_before}
+use Rattle.dd_covers.proofs.FreeSides.{rank_from_before}
 use Rattle.dd_covers.proofs.Levels.{one_value}
 use Rattle.dd_covers.proofs.Mapped.{Contains-from_map}
 use Rattle.dd_covers.proofs.Nodes.{root_beside}
 use Rattle.dd_covers.proofs.Spanning.{level_everywhere}
+use Rattle.dd_model.proofs.AllIndices.{index_low}
 
 -- ## Numbers of cells
 
@@ -122,7 +123,7 @@ module _ (s : Symbol) (table : IsTable s) (all : Connected s) (f : List ℕ) (vi
       ∙ ap (flag reached) (sym (to_is x is))
 
   rank_low : (i : Index) (d : ℕ) → IsChamber s d → rank i d < 3 * (s.size + 1)
-  rank_low i d h = let p = place_below i in omega (arith, h.1)
+  rank_low i d h = let p = index_low i in omega (arith, h.1)
 
   next_parted : (j : Join) → IsNext sides reached j → AreEndsJoined s f j.side.index j.side.chamber → ⊥
   next_parted j next joined =

@@ -11,27 +11,18 @@ use Rattle.dd_model.proofs.CellSearch.{Decided}
 use Rattle.dd_model.proofs.Lists.{Contains-none, Contains-head, Contains-later, Contains-cases, Contains-map}
 use Rattle.dd_cells.proofs.CellSums.{AreRoots}
 use Rattle.dd_covers.specs.Ends.{one_end, other_end, IsOfCells, IsLevel}
-use Rattle.dd_covers.specs.Visits.{place_of, rank, IsFree, AreEndsJoined}
-use Rattle.dd_covers.proofs.FreeSides.{keep_if, decide_free, place_below, rank_from_before}
+use Rattle.dd_covers.specs.Visits.{rank, IsFree, AreEndsJoined}
+use Rattle.dd_covers.proofs.FreeSides.{keep_if, decide_free, rank_from_before}
 use Rattle.dd_covers.proofs.Labels.{Link, labels, linked}
 use Rattle.dd_covers.proofs.Nodes.{root_beside}
 use Rattle.dd_covers.specs.CellNumbers.{numbered}
 use Rattle.dd_covers.proofs.Sides.{same_index, index_same}
 use Rattle.dd_covers.proofs.Solving.{AreValues}
 use Rattle.dd_covers.proofs.Trees.{Step}
+use Rattle.dd_model.specs.Indices.{index_number, index_at}
+use Rattle.dd_model.proofs.AllIndices.{index_low, index_at_number, number_at}
 
 -- ## Sides by rank
-
-abbrev index_at : ℕ → Index
-index_at zero = Zero
-index_at (suc zero) = One
-index_at (suc (suc n)) = Two
-
-place_at : (n : ℕ) → n < 3 → place_of (index_at n) ≡ n
-place_at zero h = refl
-place_at (suc zero) h = refl
-place_at (suc (suc zero)) h = refl
-place_at (suc (suc (suc n))) h = absurd (omega arith)
 
 abbrev step_of : ℕ → Step
 step_of n = record { chamber = n / 3; index = index_at (n % 3) }
@@ -39,7 +30,7 @@ step_of n = record { chamber = n / 3; index = index_at (n % 3) }
 rank_of_step : (n : ℕ) → rank (index_at (n % 3)) (n / 3) ≡ n
 rank_of_step n =
     let low : n % 3 < 3 = grind arith in
-    let e = place_at (n % 3) low in
+    let e = number_at (n % 3) low in
     let split : 3 * (n / 3) + n % 3 ≡ n = grind arith in
     omega arith
 
@@ -49,15 +40,10 @@ quotient_of d p low = grind arith
 rest_of : (d p : ℕ) → p < 3 → (3 * d + p) % 3 ≡ p
 rest_of d p low = grind arith
 
-index_of_place : (i : Index) → index_at (place_of i) ≡ i
-index_of_place Zero = refl
-index_of_place One = refl
-index_of_place Two = refl
-
 step_of_rank : (i : Index) (d : ℕ) → step_of (rank i d) ≡ record { chamber = d; index = i }
 step_of_rank i d =
-    let a = quotient_of d (place_of i) (place_below i) in
-    let b = ap index_at (rest_of d (place_of i) (place_below i)) ∙ index_of_place i in
+    let a = quotient_of d (index_number i) (index_low i) in
+    let b = ap index_at (rest_of d (index_number i) (index_low i)) ∙ index_at_number i in
     λ j. record { chamber = a j; index = b j }
 
 -- ## Values at sides

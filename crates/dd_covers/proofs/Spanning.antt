@@ -11,9 +11,11 @@ use Rattle.dd_model.proofs.FirstVisits.{IsMet, met_all, injective}
 use Rattle.dd_model.proofs.Transport.{Connected-along}
 use Rattle.dd_cells.proofs.ColoringLemmas.{by_index}
 use Rattle.dd_covers.specs.Ends.{IsOfCells, IsLevel}
-use Rattle.dd_covers.specs.Visits.{place_of, IsVisitOrder, IsFirstStep, IsFree}
-use Rattle.dd_covers.proofs.FreeSides.{decide_first, place_same}
+use Rattle.dd_covers.specs.Visits.{IsVisitOrder, IsFirstStep, IsFree}
+use Rattle.dd_covers.proofs.FreeSides.{decide_first}
 use Rattle.dd_covers.proofs.Levels.{third, level_beside}
+use Rattle.dd_model.specs.Indices.{index_number}
+use Rattle.dd_model.proofs.AllIndices.{index_same}
 
 -- ## Every chamber but the first has a neighbor of a smaller number
 
@@ -115,12 +117,12 @@ module _ (s : Symbol) (table : IsTable s) (all : Connected s) (f : List ℕ) (vi
       let ej = (inv j).involutive c h in
       ⊎_elim
       (λ same. ⊎_elim
-      (λ e. place_same i j e)
+      (λ e. index_same i j e)
       (λ o. ⊎_elim
       (λ low. absurd (b.first i (op s i c) hi (ei ∙ sym ej) (inr (same, low))))
       (λ high. absurd (a.first j (op s j c) hj (ej ∙ sym ei) (inr (sym same, high))))
       o)
-      (cases_order (place_of i) (place_of j)))
+      (cases_order (index_number i) (index_number j)))
       (λ o. ⊎_elim
       (λ low. absurd (b.first i (op s i c) hi (ei ∙ sym ej) (inl low)))
       (λ high. absurd (a.first j (op s j c) hj (ej ∙ sym ei) (inl high)))

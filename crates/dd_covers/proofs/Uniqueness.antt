@@ -23,13 +23,15 @@ use Rattle.dd_covers.specs.Ends.{one_end, other_end, IsOfCells, IsLevel}
 use Rattle.dd_covers.specs.PlaneValues.{IsGreatestValue}
 use Rattle.dd_covers.specs.Sheets.{sheets_of, below_sheets}
 use Rattle.dd_covers.specs.TorusCover.{AreTorusShifts, IsTorusCoverOf}
-use Rattle.dd_covers.specs.Visits.{place_of, rank, IsFirstStep, IsFree, AreEndsJoined}
+use Rattle.dd_covers.specs.Visits.{rank, IsFirstStep, IsFree, AreEndsJoined}
 use Rattle.dd_covers.proofs.CellEquations.{outward, inward, cell_equation}
 use Rattle.dd_covers.proofs.Congruences.{AreCongruent, congruent_same, congruent_times, remainders, no_remainder}
-use Rattle.dd_covers.proofs.FreeSides.{before_from_rank, AreParted, joined_or_parted, decide_free, decide_first, order_unique, place_below, place_same}
+use Rattle.dd_covers.proofs.FreeSides.{before_from_rank, AreParted, joined_or_parted, decide_free, decide_first, order_unique}
 use Rattle.dd_covers.proofs.Levels.{level_beside, one_holds, other_holds}
 use Rattle.dd_covers.proofs.SheetLemmas.{mod_same, shifts_same}
 use Rattle.dd_covers.proofs.WhiteSums.{whites}
+use Rattle.dd_model.specs.Indices.{index_number}
+use Rattle.dd_model.proofs.AllIndices.{index_low, index_same}
 
 -- ## Sums
 
@@ -331,11 +333,11 @@ module _ (s : Symbol) (is : IsSymbol s) (all : Connected s) (k : ℕ) (x y : Ind
         ⊎_elim
         (λ own. ⊎_elim
         (λ same.
-        let pi = place_below i in
-        let pj = place_below j in
+        let pi = index_low i in
+        let pj = index_low j in
         let at : e ≡ d = omega arith in
-        let place : place_of j ≡ place_of i = omega arith in
-        absurd (apart (place_same j i place, at)))
+        let place : index_number j ≡ index_number i = omega arith in
+        absurd (apart (index_same j i place, at)))
         (λ other. ⊎_elim
         (λ less. inl (parted.level j e own (before_from_rank i j d e less)))
         (λ more. inr (later j e own (omega arith)))
@@ -385,7 +387,7 @@ module _ (s : Symbol) (is : IsSymbol s) (all : Connected s) (k : ℕ) (x y : Ind
         (cases_Bool (white d))
 
   equal_free : (fuel : ℕ) → Later fuel
-  equal_free zero i d free enough = let high = free.chamber.1 in let p = place_below i in absurd (omega arith)
+  equal_free zero i d free enough = let high = free.chamber.1 in let p = index_low i in absurd (omega arith)
   equal_free (suc fuel) i d free enough =
       let roots = λ (p : Pair). has_roots s is.table.involutions p in
       ⊎_elim

@@ -18,7 +18,8 @@ use Rattle.dd_covers.specs.TorusCover.{AreColors}
 use Rattle.dd_covers.specs.Visits.{rank, IsVisitOrder}
 use Rattle.dd_covers.specs.Visiting.{IsVisiting}
 use Rattle.dd_covers.proofs.Assembled.{has_colors}
-use Rattle.dd_covers.proofs.FreeSides.{place_below, rank_cases}
+use Rattle.dd_covers.proofs.FreeSides.{rank_cases}
+use Rattle.dd_model.proofs.AllIndices.{index_low}
 
 -- ## Images that are first met come in order
 
@@ -30,7 +31,7 @@ next_at t (suc n) k g m c i grows low pos from to met =
     ⊎_elim
     (λ here. subst (λ z. ((j : Index) (d : ℕ) → k ≤ d → rank j d < rank i z → op t j d ≤ m) → op t i z ≤ m + 1) here (own i) met)
     (λ other.
-    let p = place_below i in
+    let p = index_low i in
     let a = met Zero k (omega arith) (omega arith) in
     let b = met One k (omega arith) (omega arith) in
     let d = met Two k (omega arith) (omega arith) in
@@ -44,7 +45,7 @@ next_at t (suc n) k g m c i grows low pos from to met =
 next_visit : (t : Symbol) (m c : ℕ) (i : Index) → IsFirstVisit t → 1 ≤ m → IsChamber t c → ((j : Index) (d : ℕ) → 1 ≤ d → d ≤ t.size → rank j d < rank i c → op t j d ≤ m) → op t i c ≤ m + 1
 next_visit t m c i first pos h met =
     next_at t t.size 1 1 m c i first pos pos h.0 (omega (arith, h.1))
-    (λ j d low before. let p = place_below i in met j d low (omega (arith, h.1)) before)
+    (λ j d low before. let p = index_low i in met j d low (omega (arith, h.1)) before)
 
 -- ## The steps
 
@@ -221,7 +222,7 @@ visits_reach s order number white k v few =
     let some = table.chambers in
     ⊎_elim
     (λ less.
-    let met : IsMet t (m + 1) m = record { met = λ i c low below. let p = place_below i in v.taken i c low (omega arith) (omega arith) } in
+    let met : IsMet t (m + 1) m = record { met = λ i c low below. let p = index_low i in v.taken i c low (omega arith) (omega arith) } in
     let last : IsChamber t t.size = (omega arith, omega arith) in
     let bound = met_all t m v.numbering.table (Connected-along s t v.numbering.map table iso all) v.begun met t.size last in
     omega arith)

@@ -11,11 +11,12 @@ use Rattle.dd_covers.specs.declared.shifts.Shifts.{Shifts}
 use Rattle.dd_covers.specs.Sheets.{sheets_of, below_sheets, turned}
 use Rattle.dd_covers.specs.Shifts.{AreBelow, shift}
 use Rattle.dd_covers.specs.OrientedCover.{IsOrientedCover}
+use Rattle.dd_model.specs.Small.{most_chambers}
 
 -- the shifts are below k, and the k sheets are a connected symbol of at most 16,384 chambers
 pub record AreSheets (s : Symbol) (k : ℕ) (x : Shifts) : Type 0 where
   pub shifts : AreBelow s k x
-  pub small : k * s.size ≤ 16384
+  pub small : k * s.size ≤ most_chambers
   pub symbol : IsConnectedSymbol (sheets_of s k (shift x))
 
 -- k sheets, the chambers below theirs, and the chambers in the sheets after theirs

@@ -3,9 +3,9 @@ use Rattle.std.specs.Prelude.{◌≡◌, ◌≢◌, ◌⊎◌, ℕ, ◌+◌, ◌
 use Rattle.dd_model.specs.Symbol.{Symbol, IsChamber, item, op}
 use Rattle.dd_model.specs.FirstVisit.{IsNumberedFrom}
 use Rattle.dd_model.specs.declared.index.Index.{Index}
-use Rattle.dd_model.specs.declared.index.Index.TheVariants.{Zero, One, Two}
 use Rattle.dd_model.specs.declared.pair.Pair.{Pair}
 use Rattle.dd_covers.specs.Ends.{IsOfCells, IsLevel}
+use Rattle.dd_model.specs.Indices.{index_number}
 
 -- the number of each chamber in the order of first visits from chamber 1
 pub record IsVisitOrder (s : Symbol) (f : List ℕ) : Type 0 where
@@ -13,18 +13,13 @@ pub record IsVisitOrder (s : Symbol) (f : List ℕ) : Type 0 where
   pub is : IsNumberedFrom s 1 numbered
   pub map : is.map ≡ f
 
-abbrev pub place_of : Index → ℕ
-place_of Zero = 0
-place_of One = 1
-place_of Two = 2
-
 -- steps, or sides, by a number and then by the involution, as numbers
 abbrev pub rank : Index → ℕ → ℕ
-rank i d = 3 * d + place_of i
+rank i d = 3 * d + index_number i
 
 -- by a number, and then by the involution
 abbrev pub IsBefore : ℕ → Index → ℕ → Index → Type 0
-IsBefore m i n j = (m < n) ⊎ ((m ≡ n) × (place_of i < place_of j))
+IsBefore m i n j = (m < n) ⊎ ((m ≡ n) × (index_number i < index_number j))
 
 -- By the step from d by involution i a chamber is first reached: of all steps to it, this is the one from the chamber of the
 -- least number, and by the first involution. Chamber 1 is reached by none.

@@ -6,6 +6,7 @@ ghost use Rattle.dd_covers.specs.Ends.{one_end as one_end_of, other_end as other
 ghost use Rattle.dd_covers.specs.Visits.{rank as rank_of, IsFirstStep, IsFree};
 ghost use Rattle.dd_covers.specs.Visiting.{AreVisitNumbers};
 ghost use Rattle.dd_covers.specs.SideLists.{AreFreeSidesTo, AreFreeSides};
+ghost use Rattle.dd_model.specs.Small.{most_chambers};
 
 use crate::side::Side;
 use dd_model::{Index, Memory, Pair};
@@ -14,14 +15,10 @@ use std::alloc::Global;
 
 /// Steps, and sides, by a chamber and then by the involution.
 fn rank(i: Index, chamber: u32) -> u32
-    requires { chamber ≤ 16384 }
+    requires { chamber ≤ most_chambers }
     ensures { result ≡ rank_of i chamber }
 {
-    match i {
-        Index::Zero => 3 * chamber,
-        Index::One => 3 * chamber + 1,
-        Index::Two => 3 * chamber + 2,
-    }
+    3 * chamber + u32::from(i.number())
 }
 
 /// Returns whether the step from the chamber `there` leads to a chamber that is reached sooner by

@@ -4,6 +4,7 @@ ghost use Rattle.dd_model.specs.Code.{chambers};
 ghost use Rattle.dd_covers.specs.Covers.{AreSheets, IsCoverBy};
 ghost use Rattle.dd_covers.specs.Sheets.{all_sheets, all_images_in, alike, sheets_of, below_sheets, degrees_of, turned};
 ghost use Rattle.dd_covers.specs.Shifts.{AreBelow, shifts_by, shift};
+ghost use Rattle.dd_model.specs.Small.{most_chambers};
 
 use crate::cover::Cover;
 use crate::shifts::Shifts;
@@ -33,7 +34,7 @@ fn images(
     shifts: &Shifts,
 ) -> Result<Vec<u32>, Memory>
     requires shifts { AreBelow symbol.now k shifts.now }
-    requires small { k * symbol.now.size ≤ 16384 }
+    requires small { k * symbol.now.size ≤ most_chambers }
     ensures { IfOk result (λ images. images.items
         ≡ all_images_in symbol.now k (shift shifts.now i) i) }
 {
@@ -94,7 +95,7 @@ pub(crate) fn below(alloc: Global, symbol: &Symbol, k: u32) -> Result<Map, Memor
 
 /// Returns the chamber in the next sheet, for each chamber of k sheets.
 fn turn(alloc: Global, symbol: &Symbol, k: u32) -> Result<Map, Memory>
-    requires { k * symbol.now.size ≤ 16384 }
+    requires { k * symbol.now.size ≤ most_chambers }
     ensures { IfOk result (λ map. map ≡ turned symbol.now k 1) }
 {
     let mut turn = Vec::new(alloc);

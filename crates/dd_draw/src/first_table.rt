@@ -5,7 +5,7 @@ ghost use Rattle.dd_draw.specs.FirstTable.{share_of};
 ghost use Rattle.dd_draw.specs.Limit.{IsWide};
 ghost use Rattle.dd_draw.specs.Rows.{AreMade, IsRowFault};
 
-use crate::entry::Entry;
+use crate::bounded_fraction::BoundedFraction;
 use crate::fractions::LIMIT;
 use crate::place_fault::PlaceFault;
 use crate::small_net::SmallNet;
@@ -93,7 +93,11 @@ fn first_entry(net: &Net, row: u32, column: u32) -> i128
 }
 
 /// Returns a row of the first table.
-pub(crate) fn first_row(alloc: Global, small: &SmallNet, row: u32) -> Result<Vec<Entry>, PlaceFault>
+pub(crate) fn first_row(
+    alloc: Global,
+    small: &SmallNet,
+    row: u32,
+) -> Result<Vec<BoundedFraction>, PlaceFault>
     requires { row < small.now.net.now.vertices }
     ensures made { IfOk result (λ new.
         AreMade (λ j. whole (first_entry small.now.net.now row (suc j)))
@@ -115,7 +119,7 @@ pub(crate) fn first_row(alloc: Global, small: &SmallNet, row: u32) -> Result<Vec
             });
         }
         let fraction = Fraction { num: entry, den: 1 };
-        new.push(Entry { fraction })?;
+        new.push(BoundedFraction { fraction })?;
     }
     Ok(new)
 }

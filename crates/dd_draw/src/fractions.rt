@@ -3,7 +3,7 @@ ghost use Rattle.std.specs.Int.{IsGcd};
 ghost use Rattle.dd_draw.specs.Elimination.{quotient, product, difference};
 ghost use Rattle.dd_draw.specs.Limit.{IsWide, IsNarrow, IsFound, ratio_of};
 
-use crate::entry::Entry;
+use crate::bounded_fraction::BoundedFraction;
 use dd_cells::Fraction;
 
 /// The greatest size of numerators and denominators.
@@ -24,7 +24,7 @@ fn gcd(a: u128, b: u128) -> u128
 }
 
 /// The fraction `num / den` in lowest terms, or None where it is over the limit.
-fn reduced(num: i128, den: i128) -> Option<Entry>
+fn reduced(num: i128, den: i128) -> Option<BoundedFraction>
     requires { pos 0 <ℤ den }
     ensures { MatchOption result (IsWide (record { over = num; under = den }))
         (λ x. IsNarrow x (record { over = num; under = den })) }
@@ -38,7 +38,7 @@ fn reduced(num: i128, den: i128) -> Option<Entry>
         return None;
     }
     let num = if num < 0 { -(top as i128) } else { top as i128 };
-    Some(Entry {
+    Some(BoundedFraction {
         fraction: Fraction {
             num,
             den: bottom as i128,
@@ -47,7 +47,7 @@ fn reduced(num: i128, den: i128) -> Option<Entry>
 }
 
 /// The quotient in lowest terms, or None where it is over the limit.
-pub(crate) fn over(a: Entry, b: Entry) -> Option<Entry>
+pub(crate) fn over(a: BoundedFraction, b: BoundedFraction) -> Option<BoundedFraction>
     requires { b.num ≢ pos 0 }
     ensures { IsFound (quotient (ratio_of a) (ratio_of b)) result }
 {
@@ -63,7 +63,11 @@ pub(crate) fn over(a: Entry, b: Entry) -> Option<Entry>
 }
 
 /// A number less a product, in lowest terms, or None where it or the product is over the limit.
-pub(crate) fn less_product(a: Entry, b: Entry, c: Entry) -> Option<Entry>
+pub(crate) fn less_product(
+    a: BoundedFraction,
+    b: BoundedFraction,
+    c: BoundedFraction,
+) -> Option<BoundedFraction>
     ensures { MatchOption result
         (IsWide (difference (ratio_of a) (product (ratio_of b) (ratio_of c)))
         ⊎ IsWide (product (ratio_of b) (ratio_of c)))

@@ -1,8 +1,8 @@
 //! Exact placement of nets.
 #![tactic(auto)]
 
+mod bounded_fraction;
 mod document;
-mod entry;
 mod extent;
 mod first_table;
 mod fractions;

@@ -7,7 +7,7 @@ ghost use Rattle.dd_draw.specs.Tables.{lists, row_at, IsPlaceFault};
 ghost use Rattle.dd_draw.specs.declared.place_fault.PlaceFault.TheVariants as faults;
 ghost use Rattle.dd_draw.specs.Width.{Place, IsPlaceOf, IsWideAt};
 
-use crate::entry::Entry;
+use crate::bounded_fraction::BoundedFraction;
 use crate::place_fault::PlaceFault;
 use crate::places::Places;
 use crate::point::Point;
@@ -23,7 +23,11 @@ pub const MOST_VERTICES: u32 = 96;
 
 /// Returns the points that the last table has. The first vertex is at the origin. The coordinates
 /// of each other vertex are in the two columns of the shifts.
-fn points_of(alloc: Global, small: &SmallNet, rows: &[Vec<Entry>]) -> Result<Vec<Point>, Memory>
+fn points_of(
+    alloc: Global,
+    small: &SmallNet,
+    rows: &[Vec<BoundedFraction>],
+) -> Result<Vec<Point>, Memory>
     requires { (i : ℕ) → i < length rows.now
         → length (row_at (lists rows.now) i) ≡ small.now.net.now.vertices + 1 }
     ensures { IfOk result (λ points. ArePointsTo small.now.net.now.vertices (length rows.now)

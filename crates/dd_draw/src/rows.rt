@@ -2,7 +2,7 @@ ghost use Rattle.std.specs.Prelude.{◌≡◌, ◌≢◌, ◌⊎◌, ◌≤◌, 
 ghost use Rattle.dd_draw.specs.Limit.{IsWide};
 ghost use Rattle.dd_draw.specs.Rows.{AreMade, IsRowFault, quotients, products, remainders};
 
-use crate::entry::Entry;
+use crate::bounded_fraction::BoundedFraction;
 use crate::fractions::{less_product, over};
 use crate::place_fault::PlaceFault;
 use std::alloc::Global;
@@ -10,10 +10,10 @@ use std::alloc::Global;
 /// Returns the row of a step, divided by its pivot.
 pub(crate) fn divided(
     alloc: Global,
-    row: &[Entry],
-    pivot: Entry,
+    row: &[BoundedFraction],
+    pivot: BoundedFraction,
     step: u32,
-) -> Result<Vec<Entry>, PlaceFault>
+) -> Result<Vec<BoundedFraction>, PlaceFault>
     requires few { length row.now ≤ 97 }
     requires nonzero { pivot.num ≢ pos 0 }
     ensures made { IfOk result (λ new. AreMade (quotients row.now pivot)
@@ -39,12 +39,12 @@ pub(crate) fn divided(
 /// Returns another row, less its factor times the row of the step.
 pub(crate) fn remaining(
     alloc: Global,
-    row: &[Entry],
-    factor: Entry,
-    top: &[Entry],
+    row: &[BoundedFraction],
+    factor: BoundedFraction,
+    top: &[BoundedFraction],
     step: u32,
     row_number: u32,
-) -> Result<Vec<Entry>, PlaceFault>
+) -> Result<Vec<BoundedFraction>, PlaceFault>
     requires few { length row.now ≤ 97 }
     requires as_long { length top.now ≡ length row.now }
     ensures made { IfOk result (λ new. AreMade (remainders row.now factor top.now)

@@ -1,7 +1,7 @@
 ghost use Rattle.std.specs.Prelude.{◌≡◌, ◌<◌, ◌+◌, ℕ, suc, length, IfOk, IfErr};
 ghost use Rattle.dd_draw.specs.Tables.{lists, IsTable, IsPlaceFault};
 
-use crate::entry::Entry;
+use crate::bounded_fraction::BoundedFraction;
 use crate::first_table::first_row;
 use crate::place_fault::PlaceFault;
 use crate::rows::{divided, remaining};
@@ -9,7 +9,7 @@ use crate::small_net::SmallNet;
 use std::alloc::Global;
 
 /// Returns the first table: a row for each vertex but the first.
-fn first_table(alloc: Global, small: &SmallNet) -> Result<Vec<Vec<Entry>>, PlaceFault>
+fn first_table(alloc: Global, small: &SmallNet) -> Result<Vec<Vec<BoundedFraction>>, PlaceFault>
     ensures table { IfOk result (λ rows. IsTable small.now.net.now 0 (lists rows.items)) }
     ensures fault { IfErr result (λ why. IsPlaceFault small.now.net.now why) }
 {
@@ -25,7 +25,7 @@ fn first_table(alloc: Global, small: &SmallNet) -> Result<Vec<Vec<Entry>>, Place
 fn eliminate(
     alloc: Global,
     small: &SmallNet,
-    rows: &mut Vec<Vec<Entry>>,
+    rows: &mut Vec<Vec<BoundedFraction>>,
     place: usize,
 ) -> Result<(), PlaceFault>
     requires place { suc place < small.now.net.now.vertices }
@@ -50,7 +50,10 @@ fn eliminate(
 }
 
 /// Returns the last table.
-pub(crate) fn last_table(alloc: Global, small: &SmallNet) -> Result<Vec<Vec<Entry>>, PlaceFault>
+pub(crate) fn last_table(
+    alloc: Global,
+    small: &SmallNet,
+) -> Result<Vec<Vec<BoundedFraction>>, PlaceFault>
     ensures table { IfOk result (λ rows. (k : ℕ) → suc k ≡ small.now.net.now.vertices
         → IsTable small.now.net.now k (lists rows.items)) }
     ensures fault { IfErr result (λ why. IsPlaceFault small.now.net.now why) }

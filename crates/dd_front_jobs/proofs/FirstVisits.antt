@@ -6,12 +6,12 @@ use Rattle.std.proofs.lemmas.List.Elements.{Contains-append_cases}
 use Rattle.std.specs.List.{Contains}
 use Rattle.dd_model.specs.declared.index.Index.{Index}
 use Rattle.dd_model.specs.declared.index.Index.TheVariants.{Zero, One, Two}
-use Rattle.dd_model.proofs.Numberings.{rank}
-use Rattle.dd_front_jobs.specs.Places.{index_at, place}
+use Rattle.dd_front_jobs.specs.Places.{place}
 use Rattle.dd_front_jobs.specs.FirstVisit.{image_in, IsTold, greatest, IsFirstVisitPrefix, CanFollow}
 use Rattle.dd_front_jobs.proofs.Places.{chamber_of_place, place_of_place}
+use Rattle.dd_model.specs.Indices.{index_at, index_number}
 
-rank_of_place : (i : Index) (d : ℕ) → place i d % 3 ≡ rank i
+rank_of_place : (i : Index) (d : ℕ) → place i d % 3 ≡ index_number i
 rank_of_place Zero d = omega arith
 rank_of_place One d = omega arith
 rank_of_place Two d = omega arith

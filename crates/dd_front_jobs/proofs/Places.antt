@@ -6,8 +6,9 @@ use Rattle.dd_model.specs.declared.index.Index.{Index}
 use Rattle.dd_model.specs.declared.index.Index.TheVariants.{Zero, One, Two}
 use Rattle.dd_model.specs.Symbol.{Symbol, IsTable, IsChamber, op}
 use Rattle.dd_model.specs.Code.{count_from, images, code, all_images}
-use Rattle.dd_front_jobs.specs.Places.{index_at, place}
+use Rattle.dd_front_jobs.specs.Places.{place}
 use Rattle.dd_model.proofs.Codes.{length-flat_images}
+use Rattle.dd_model.specs.Indices.{index_at}
 
 pub images_at : (s : Symbol) (k n t : ℕ) → t < 3 * n → get_or (flat_map (images s) (count_from k n)) t 0 ≡ op s (index_at (t % 3)) (k + t / 3)
 images_at s k zero t low = absurd (omega arith)

@@ -1,13 +1,7 @@
--- The places of a code.
+-- The places of a code. Place t has the image of chamber 1 + t / 3 under the involution of number t % 3.
 use Rattle.std.specs.Prelude.{ℕ, zero, suc, ◌+◌, ◌-◌, ◌*◌, ◌%◌, ◌^◌, bit_or}
 use Rattle.dd_model.specs.declared.index.Index.{Index}
 use Rattle.dd_model.specs.declared.index.Index.TheVariants.{Zero, One, Two}
-
--- The involution of a number below 3. Place t of a code has the image of chamber 1 + t / 3 under that of t % 3.
-abbrev pub index_at : ℕ → Index
-index_at zero = Zero
-index_at (suc zero) = One
-index_at (suc (suc r)) = Two
 
 -- the place of the image of a chamber, places being counted from 0
 abbrev pub place : Index → ℕ → ℕ

@@ -10,6 +10,7 @@ use Rattle.dd_gram.specs.Shifts.{AreNumbers}
 use Rattle.dd_gram.specs.Walks.{IsWalk, IsClosedWalk, sum_along}
 use Rattle.dd_gram.specs.declared.basis.Basis.{Basis}
 use Rattle.dd_gram.specs.declared.forms.Matrix.{Matrix}
+use Rattle.dd_model.specs.Small.{most_chambers}
 
 -- a walk from the vertex of a chamber to the vertex with a number
 abbrev pub IsWalkTo : (t : Symbol) → (net : Net) → IsNet t net → ℕ → List ℕ → ℕ → Type 0
@@ -34,8 +35,8 @@ pub record IsBasis (t : Symbol) (net : Net) (basis : Basis) : Type 0 where
   pub y : (is : IsNet t net) → AreNumbers t is.second basis.numbers.y.items
   pub first : (is : IsNet t net) → IsLoop t net is basis.first.items (pos 1) (pos 0)
   pub second : (is : IsNet t net) → IsLoop t net is basis.second.items (pos 0) (pos 1)
-  pub few_first : length basis.first.items ≤ 16384
-  pub few_second : length basis.second.items ≤ 16384
+  pub few_first : length basis.first.items ≤ most_chambers
+  pub few_second : length basis.second.items ≤ most_chambers
 
 -- the basis is that of some torus, of which the map is a symmetry
 pub record ServesFor (basis : Basis) (map : List ℕ) : Type 0 where
@@ -48,7 +49,7 @@ pub record ServesFor (basis : Basis) (map : List ℕ) : Type 0 where
 
 -- its numbers are at most 16,384 in size
 pub record IsSmallMatrix (m : Matrix) : Type 0 where
-  pub xx : nat_abs m.xx ≤ 16384
-  pub xy : nat_abs m.xy ≤ 16384
-  pub yx : nat_abs m.yx ≤ 16384
-  pub yy : nat_abs m.yy ≤ 16384
+  pub xx : nat_abs m.xx ≤ most_chambers
+  pub xy : nat_abs m.xy ≤ most_chambers
+  pub yx : nat_abs m.yx ≤ most_chambers
+  pub yy : nat_abs m.yy ≤ most_chambers

@@ -2,6 +2,7 @@ ghost use Rattle.std.specs.Prelude.{◌≡◌, ◌≤◌, ℕ, nat_abs, length, 
 ghost use Rattle.std.specs.List.{Contains};
 ghost use Rattle.dd_gram.specs.Shifts.{number_at, HasSmallImage};
 ghost use Rattle.dd_gram.specs.Walks.{sum_along, image_walk};
+ghost use Rattle.dd_model.specs.Small.{most_chambers};
 
 use crate::edge_numbers::EdgeNumbers;
 use crate::forms::Matrix;
@@ -15,7 +16,7 @@ use std::alloc::Global;
 /// The sum of a number of chambers over the image of a walk.
 fn sum_of_images(numbers: &[i64], map: &Map, walk: &[u32]) -> i64
     requires each { (d : ℕ) → Contains walk.now d → HasSmallImage numbers.now map.now d }
-    requires few { length walk.now ≤ 16384 }
+    requires few { length walk.now ≤ most_chambers }
     ensures sum { result ≡ sum_along (number_at numbers.now) (image_walk map.now walk.now) }
     ensures small { nat_abs result ≤ length walk.now }
 {

@@ -1,9 +1,7 @@
 -- The cells of three involutions whose images stand in one list.
-use Rattle.std.proofs.Common.{◌≡◌, ◌↔◌, ℕ, true, false, IsTrue, ◌<◌, ◌≤◌, List, get_or, refl, sym, ap, ◌∙◌, subst, arith}
+use Rattle.std.proofs.Common.{◌≡◌, ℕ, ◌≤◌, List, get_or, sym, ap, ◌∙◌, subst}
 use Rattle.dd_model.specs.declared.index.Index.{Index}
-use Rattle.dd_model.specs.declared.pair.Pair.{Pair}
-use Rattle.dd_model.specs.Symbol.{Symbol, AreInvolutions, IsChamber, op}
-use Rattle.dd_model.specs.Cell.{InCell, IsLeastOfCell}
+use Rattle.dd_model.specs.Symbol.{AreInvolutions, IsChamber, op}
 use Rattle.dd_symbol.specs.Images.{of_rows}
 use Rattle.dd_front_jobs.specs.Places.{place}
 use Rattle.dd_branch_tables.proofs.TableFronts.{rows_at}
@@ -15,11 +13,3 @@ read_image n images i d at result low high is told = told ∙ ap (λ k. get_or i
 -- an image is a chamber
 pub is_chamber : (n : ℕ) (images : List ℕ) (i : Index) (d result : ℕ) → AreInvolutions (of_rows n images) → (1 ≤ d) × (d ≤ n) → result ≡ op (of_rows n images) i d → (1 ≤ result) × (result ≤ n)
 is_chamber n images i d result inv h is = subst (IsChamber (of_rows n images)) (sym is) ((inv i).within d h)
-
--- a smaller chamber of the cell
-pub not_least : (s : Symbol) (p : Pair) (d e : ℕ) → InCell s p d e → e < d → IsTrue false ↔ IsLeastOfCell s p d
-not_least s p d e there smaller = ((λ wrong. absurd cc), (λ least. let low = least.1 e there in absurd (omega arith)))
-
--- no smaller chamber of the cell
-pub least : (s : Symbol) (p : Pair) (d : ℕ) → IsLeastOfCell s p d → IsTrue true ↔ IsLeastOfCell s p d
-least s p d is = ((λ yes. is), (λ again. refl))

@@ -1,8 +1,28 @@
--- The three involutions as a list: what holds at each place of it holds of each.
-use Rattle.std.proofs.Common.{◌≡◌, ℕ, ◌+◌, ◌<◌, [], ◌∷◌, slice_index_or, subst, ⊎_elim, arith}
+-- The three involutions by number, and as a list: what holds at each place of it holds of each.
+use Rattle.std.proofs.Common.{◌≡◌, ℕ, zero, suc, ◌+◌, ◌<◌, [], ◌∷◌, slice_index_or, refl, sym, ap, ◌∙◌, subst, ⊎_elim, arith}
 use Rattle.std.proofs.lemmas.Bool.{cases_lt}
 use Rattle.dd_model.specs.declared.index.Index.{Index}
 use Rattle.dd_model.specs.declared.index.Index.TheVariants.{Zero, One, Two}
+use Rattle.dd_model.specs.Indices.{index_number, index_at}
+
+pub index_low : (i : Index) → index_number i < 3
+index_low Zero = omega arith
+index_low One = omega arith
+index_low Two = omega arith
+
+pub index_at_number : (i : Index) → index_at (index_number i) ≡ i
+index_at_number Zero = refl
+index_at_number One = refl
+index_at_number Two = refl
+
+pub number_at : (n : ℕ) → n < 3 → index_number (index_at n) ≡ n
+number_at zero h = refl
+number_at (suc zero) h = refl
+number_at (suc (suc zero)) h = refl
+number_at (suc (suc (suc n))) h = absurd (omega arith)
+
+pub index_same : (i j : Index) → index_number i ≡ index_number j → i ≡ j
+index_same i j e = sym (index_at_number i) ∙ ap index_at e ∙ index_at_number j
 
 -- the involution at a place of the list
 abbrev pub index_at_place : ℕ → Index

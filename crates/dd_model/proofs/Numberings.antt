@@ -12,26 +12,8 @@ use Rattle.dd_model.proofs.Isomorphisms.{IsIsomorphism-after}
 use Rattle.dd_model.proofs.Exchanges.{renumbered, renumbered_table, renumbered_isomorphism, swapped, swapped_first, swapped_other, swap, swap_bijection, item-table}
 use Rattle.dd_model.proofs.Transport.{Connected-along}
 use Rattle.dd_model.proofs.FirstVisits.{met_all}
-
--- the place of an involution in the code of a chamber
-abbrev pub rank : Index → ℕ
-rank Zero = 0
-rank One = 1
-rank Two = 2
-
-rank_low : (i : Index) → rank i ≤ 2
-rank_low i = elim i as (λ j. rank j ≤ 2) [ Zero ↦ omega arith | One ↦ omega arith | Two ↦ omega arith ]
-
-rank_same : (i j : Index) → rank i ≡ rank j → i ≡ j
-rank_same Zero Zero e = refl
-rank_same Zero One e = absurd (omega (arith, e))
-rank_same Zero Two e = absurd (omega (arith, e))
-rank_same One Zero e = absurd (omega (arith, e))
-rank_same One One e = refl
-rank_same One Two e = absurd (omega (arith, e))
-rank_same Two Zero e = absurd (omega (arith, e))
-rank_same Two One e = absurd (omega (arith, e))
-rank_same Two Two e = refl
+use Rattle.dd_model.specs.Indices.{index_number}
+use Rattle.dd_model.proofs.AllIndices.{index_low, index_same}
 
 -- s in numbers that begin with a start chamber
 pub record IsStarted (s : Symbol) (start : ℕ) (t : Symbol) : Type 0 where
@@ -40,13 +22,13 @@ pub record IsStarted (s : Symbol) (start : ℕ) (t : Symbol) : Type 0 where
   pub isomorphism : IsIsomorphism s t map
   pub start_first : item map start ≡ 1
 
--- u has the images of t before place p, chamber d's image under i being at 3 d + rank i
+-- u has the images of t before place p, chamber d's image under i being at 3 d + index_number i
 pub record IsSameBefore (p : ℕ) (t u : Symbol) : Type 0 where
-  pub same : (i : Index) (d : ℕ) → 1 ≤ d → 3 * d + rank i < p → op t i d ≡ op u i d
+  pub same : (i : Index) (d : ℕ) → 1 ≤ d → 3 * d + index_number i < p → op t i d ≡ op u i d
 
 -- The images before place p are first visits of the chambers to m. What comes from p on decides.
 pub record IsBegun (n p : ℕ) (rest : Symbol → List ℕ) (m : ℕ) (t : Symbol) : Type 0 where
-  pub met : (i : Index) (d : ℕ) → 1 ≤ d → 3 * d + rank i < p → op t i d ≤ m
+  pub met : (i : Index) (d : ℕ) → 1 ≤ d → 3 * d + index_number i < p → op t i d ≤ m
   pub decides : (u : Symbol) → IsSameBefore p t u → Grows m (rest u) → Grows 1 (rows u 1 n)
 
 -- A next image is at most one more than m, after an exchange of it with m + 1 if need be.
@@ -64,7 +46,7 @@ started_along s t u start g is h a iu iso one = record {
 }
 
 next_image : (s t : Symbol) (start n p : ℕ) (rest : Symbol → List ℕ) (k : ℕ) (i : Index) (m : ℕ) → IsTable s → IsChamber s start → IsStarted s start t → IsBegun n p rest m t
-    → p ≡ 3 * k + rank i → IsChamber t k → k ≤ m → (u : Symbol) × IsNext s start p k i m t u
+    → p ≡ 3 * k + index_number i → IsChamber t k → k ≤ m → (u : Symbol) × IsNext s start p k i m t u
 next_image s t start n p rest k i m is h a begun place hk low =
     ⊎_elim
     (λ small. (t, record { started = a; same = record { same = λ j d _ _. refl }; next = omega arith }))
@@ -81,7 +63,7 @@ next_image s t start n p rest k i m is h a begun place hk low =
     let kept : (d : ℕ) → 1 ≤ d → d ≤ m → item f d ≡ d =
     λ d ld hd. item-table (swapped x y) t.size d ld (omega arith) ∙ swapped_other x y d (λ e. omega arith) (λ e. omega arith) in
     let moved : item f x ≡ y = item-table (swapped x y) t.size x hx.0 hx.1 ∙ swapped_first x y in
-    let hi = rank_low i in (
+    let hi = index_low i in (
       u,
       record {
         started = started_along s t u start f is h a iu iso (kept 1 (omega arith) (omega arith));
@@ -97,13 +79,13 @@ next_image s t start n p rest k i m is h a begun place hk low =
     ))
     (cases_lt (op t i k) (m + 2))
 
-before_or_here : (p k d : ℕ) (i j : Index) → p ≡ 3 * k + rank i → 3 * d + rank j < p + 1 → (3 * d + rank j < p) ⊎ ((d ≡ k) × (j ≡ i))
+before_or_here : (p k d : ℕ) (i j : Index) → p ≡ 3 * k + index_number i → 3 * d + index_number j < p + 1 → (3 * d + index_number j < p) ⊎ ((d ≡ k) × (j ≡ i))
 before_or_here p k d i j place h =
-    let a = rank_low i in
-    let b = rank_low j in
-    ⊎_elim (λ before. inl before) (λ here. inr (omega arith, rank_same j i (omega arith))) (cases_lt (3 * d + rank j) p)
+    let a = index_low i in
+    let b = index_low j in
+    ⊎_elim (λ before. inl before) (λ here. inr (omega arith, index_same j i (omega arith))) (cases_lt (3 * d + index_number j) p)
 
-more_begun : (n p : ℕ) (rest : Symbol → List ℕ) (k : ℕ) (i : Index) (m : ℕ) (t u : Symbol) → IsBegun n p (λ v. op v i k ∷ rest v) m t → p ≡ 3 * k + rank i → 1 ≤ k
+more_begun : (n p : ℕ) (rest : Symbol → List ℕ) (k : ℕ) (i : Index) (m : ℕ) (t u : Symbol) → IsBegun n p (λ v. op v i k ∷ rest v) m t → p ≡ 3 * k + index_number i → 1 ≤ k
     → IsSameBefore p t u → op u i k ≤ m + 1 → IsBegun n (p + 1) rest (max m (op u i k)) u
 more_begun n p rest k i m t u begun place low same next = record {
   met = λ j d ld h. ⊎_elim
@@ -126,7 +108,7 @@ pub record IsState (s : Symbol) (start n p : ℕ) (rest : Symbol → List ℕ) (
   pub enough : low ≤ m
 
 advance : (s : Symbol) (start n p : ℕ) (rest : Symbol → List ℕ) (k : ℕ) (i : Index) (low : ℕ) → IsTable s → IsChamber s start → IsState s start n p (λ v. op v i k ∷ rest v) low
-    → p ≡ 3 * k + rank i → IsChamber s k → k ≤ low → IsState s start n (p + 1) rest low
+    → p ≡ 3 * k + index_number i → IsChamber s k → k ≤ low → IsState s start n (p + 1) rest low
 advance s start n p rest k i low is h st place hk met =
     let t = st.symbol in
     let size = st.started.isomorphism.size in
@@ -148,7 +130,7 @@ row_met s t start n k m rest is con a begun pos up lk hk =
     let e : k ≡ m + 1 = omega arith in
     let size = a.isomorphism.size in
     met_all t m a.table (Connected-along s t a.map is a.isomorphism con) pos
-    (record { met = λ i d ld hd. let r = rank_low i in begun.met i d ld (omega arith) }) k (lk, omega arith))
+    (record { met = λ i d ld hd. let r = index_low i in begun.met i d ld (omega arith) }) k (lk, omega arith))
     (λ inside. inside)
     (cases_lt m k)
 

@@ -1,6 +1,7 @@
 pub mod Lists
 pub mod Allowed
 pub mod Request
+pub mod Indices
 pub mod Symbol
 pub mod Connected
 pub mod Isomorphic

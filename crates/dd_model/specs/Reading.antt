@@ -75,9 +75,13 @@ pub record ReadsTo (bytes : List ℕ) (ss : List Symbol) (d : Cursor) : Type 0 w
   pub symbols : symbols_of items ≡ ss
   pub readable : AllByRecursion IsReadable ss
 
+-- how many bytes a file has at most
+abbrev pub most_bytes : ℕ
+most_bytes = 16777216
+
 -- the file is a row of blanks, comments and spellings of these symbols
 pub record Reads (bytes : List ℕ) (ss : List Symbol) : Type 0 where
-  pub short : length bytes ≤ 16777216
+  pub short : length bytes ≤ most_bytes
   pub end : Cursor
   pub row : ReadsTo bytes ss end
   pub whole : end.rest ≡ []

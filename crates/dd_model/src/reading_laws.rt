@@ -1,6 +1,6 @@
 ghost use Rattle.std.specs.Prelude.{◌≡◌, ℕ, ◌+◌, ◌<◌, ◌≤◌, List, [], ◌∷◌, codes, length};
 ghost use Rattle.dd_model.specs.Symbol.{Symbol};
-ghost use Rattle.dd_model.specs.Reading.{IsReadable, Reads};
+ghost use Rattle.dd_model.specs.Reading.{IsReadable, Reads, most_bytes};
 ghost use Rattle.dd_model.specs.Line.{IsLine};
 ghost use Rattle.dd_model.specs.Text.{AreLines};
 ghost use Rattle.std.specs.List.{AllByRecursion};
@@ -25,8 +25,8 @@ pub fn a_file_of_one_symbol()
 /// What is written reads back to the symbols, where the numbers of the lines have at most 9 digits.
 pub fn lines_read_back()
     ensures line { (k : ℕ) (symbol : Symbol) (line : List ℕ) → IsLine k symbol line
-        → IsReadable symbol → k < 1000000000 → length line ≤ 16777216 → Reads line (symbol ∷ []) }
+        → IsReadable symbol → k < 1000000000 → length line ≤ most_bytes → Reads line (symbol ∷ []) }
     ensures lines { (k : ℕ) (symbols : List Symbol) (bytes : List ℕ) → AreLines k symbols bytes
         → AllByRecursion IsReadable symbols → k + length symbols < 1000000000
-        → length symbols ≤ 1000000 → length bytes ≤ 16777216 → Reads bytes symbols }
+        → length symbols ≤ 1000000 → length bytes ≤ most_bytes → Reads bytes symbols }
 {}

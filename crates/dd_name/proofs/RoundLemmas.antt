@@ -13,9 +13,10 @@ use Rattle.dd_model.proofs.CellLists.{increasing_unique}
 use Rattle.dd_model.proofs.Lists.{Contains-head, Contains-later, Contains-cases, Contains-none}
 use Rattle.dd_name.specs.declared.flags.Flag.{Flag}
 use Rattle.dd_name.specs.declared.joints.Joint.{Joint}
-use Rattle.dd_name.specs.Flags.{IsOfPair, index_number, place_of}
+use Rattle.dd_name.specs.Flags.{IsOfPair, place_of}
 use Rattle.dd_name.specs.Rounds.{IsJoined, IsJoint, IsLinked, AreLinked, flags, first_pair, IsRoundFrom, IsRound, start_place, AreRounds}
 use Rattle.dd_name.proofs.ChainLemmas.{other_end_unique, joined-sym, same_flag}
+use Rattle.dd_model.proofs.AllIndices.{index_low, index_same}
 
 -- ## Pairs and places
 
@@ -61,28 +62,12 @@ two_pairs i p q r of_p of_q of_r a b =
     (pair_of i r of_r))
     (pair_of i p of_p)
 
-index_small : (i : Index) → index_number i < 3
-index_small Zero = omega arith
-index_small One = omega arith
-index_small Two = omega arith
-
-index_apart : (i j : Index) → index_number i ≡ index_number j → i ≡ j
-index_apart Zero Zero e = refl
-index_apart Zero One e = absurd (omega arith)
-index_apart Zero Two e = absurd (omega arith)
-index_apart One Zero e = absurd (omega arith)
-index_apart One One e = refl
-index_apart One Two e = absurd (omega arith)
-index_apart Two Zero e = absurd (omega arith)
-index_apart Two One e = absurd (omega arith)
-index_apart Two Two e = refl
-
 -- flags at one place are equal
 pub place_apart : (f g : Flag) → place_of f ≡ place_of g → f ≡ g
 place_apart f g e =
-    let a = index_small f.index in
-    let b = index_small g.index in
-    same_flag f g (omega (arith, a, b, e)) (index_apart f.index g.index (omega (arith, a, b, e)))
+    let a = index_low f.index in
+    let b = index_low g.index in
+    same_flag f g (omega (arith, a, b, e)) (index_same f.index g.index (omega (arith, a, b, e)))
 
 -- ## The next joint
 

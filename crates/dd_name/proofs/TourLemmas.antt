@@ -14,12 +14,13 @@ use Rattle.dd_model.proofs.CellLists.{increasing-push}
 use Rattle.dd_model.proofs.Lists.{Contains-head, Contains-later, Contains-cases, Contains-none, cons_head, cons_tail}
 use Rattle.dd_name.specs.declared.flags.Flag.{Flag}
 use Rattle.dd_name.specs.declared.joints.Joint.{Joint}
-use Rattle.dd_name.specs.Flags.{IsFlag, IsOfPair, index_number, place_of}
+use Rattle.dd_name.specs.Flags.{IsFlag, IsOfPair, place_of}
 use Rattle.dd_name.specs.Rounds.{IsJoined, IsJoint, IsLinked, AreLinked, AreDistinct, flags, first_pair, IsRoundFrom, IsRound, start_place, AreRounds}
 use Rattle.dd_name.specs.Marks.{IsMarked, AreMarks, IsNewRound, AreTold}
 use Rattle.dd_name.proofs.ChainLemmas.{other_end_unique, joined-sym}
 use Rattle.dd_name.proofs.ListLemmas.{distinct-push, distinct-append, flat_map-push, all-push}
 use Rattle.dd_name.proofs.RoundLemmas.{pair_cases, two_pairs, place_apart, same_joint}
+use Rattle.dd_model.proofs.AllIndices.{index_low}
 
 -- ## Marks
 
@@ -40,11 +41,6 @@ marked-set marks x f within = (
       (λ same. ap (λ (g : Flag). get_or (set marks (place_of x) true) (place_of g) false) (sym same) ∙ get_or-set_same marks (place_of x) true false within)
       either,
 )
-
-index_low : (i : Index) → index_number i ≤ 2
-index_low Zero = omega arith
-index_low One = omega arith
-index_low Two = omega arith
 
 -- the place of a flag of a chamber is among the marks
 pub place_within : (s : Symbol) (f : Flag) → IsChamber s f.chamber → place_of f < 3 * s.size + 3

@@ -2,20 +2,14 @@
 use Rattle.std.specs.Prelude.{◌≡◌, ◌⊎◌, ℕ, ◌+◌, ◌*◌}
 use Rattle.dd_model.specs.Symbol.{Symbol, IsChamber, op, first, second}
 use Rattle.dd_model.specs.declared.index.Index.{Index}
-use Rattle.dd_model.specs.declared.index.Index.TheVariants.{Zero, One, Two}
 use Rattle.dd_model.specs.declared.pair.Pair.{Pair}
 use Rattle.dd_name.specs.declared.flags.Flag.{Flag}
+use Rattle.dd_model.specs.Indices.{index_number}
 
 -- the involution fixes the chamber
 pub record IsFlag (s : Symbol) (f : Flag) : Type 0 where
   pub chamber : IsChamber s f.chamber
   pub fixed : op s f.index f.chamber ≡ f.chamber
-
--- the number of an involution
-abbrev pub index_number : Index → ℕ
-index_number Zero = 0
-index_number One = 1
-index_number Two = 2
 
 -- the place of a flag in the order of flags: by chamber, and then by involution
 abbrev pub place_of : Flag → ℕ

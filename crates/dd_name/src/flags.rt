@@ -21,12 +21,7 @@ impl Flag {
     pub fn place(self) -> usize
         ensures { result ≡ place_of self }
     {
-        let chamber = 3 * self.chamber as usize;
-        match self.index {
-            Index::Zero => chamber,
-            Index::One => chamber + 1,
-            Index::Two => chamber + 2,
-        }
+        3 * self.chamber as usize + usize::from(self.index.number())
     }
 
     /// The flag at a place.

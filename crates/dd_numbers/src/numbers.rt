@@ -1,6 +1,7 @@
 ghost use Rattle.std.specs.Prelude.{◌≡◌, ℕ, ◌+◌, ◌<◌, ◌≤◌, ◌↔◌, ◌++◌, ◌∷◌, [], take, length, slice_index, IsTrue, IfSome, IfOk, OnOk};
 ghost use Rattle.std.specs.Ordering.{nat_cmp};
 ghost use Rattle.std.specs.Cmp.Lexicographic.{slice_cmp};
+ghost use Rattle.dd_model.specs.Small.{most_chambers};
 
 use crate::numbers_ref::NumbersRef;
 use dd_model::Memory;
@@ -99,7 +100,7 @@ impl Numbers {
     /// more than 255 chambers, some numbers don't fit in a byte. The list then begins in words, so
     /// that it is not copied on the way.
     pub fn with_room_for(alloc: Global, size: usize) -> Result<Numbers, Memory>
-        requires { size ≤ 16384 }
+        requires { size ≤ most_chambers }
         ensures { IfOk result (λ it. it ≡ []) }
     {
         let room = 5 * size;

@@ -5,7 +5,7 @@ ghost use Rattle.dd_quotient.specs.Faults.{IsMinimalFault};
 use crate::classes::alike_classes;
 use crate::ranks::{degrees_of, images_of, ranks_of};
 use dd_model::{Index, Map, Memory, Pair};
-use dd_symbol::{Connected, Refusal, build};
+use dd_symbol::{Connected, MOST_CHAMBERS, Refusal, build};
 use std::alloc::Global;
 
 /// Why the workbench keeps no minimal image of a symbol.
@@ -48,7 +48,7 @@ pub fn minimal_image(alloc: Global, s: &Connected) -> Result<(Connected, Map), M
     ];
     let m01 = degrees_of(alloc, symbol, leaders, Pair::Tile)?;
     let m12 = degrees_of(alloc, symbol, leaders, Pair::Vertex)?;
-    match build(alloc, ops, m01, m12, 16384) {
+    match build(alloc, ops, m01, m12, MOST_CHAMBERS) {
         Ok(image) => Ok((image, Map::from_vec(all.ranks))),
         Err(why) => match why {
             Refusal::BranchingTooLarge { v, .. } => Err(MinimalFault::BranchingTooLarge { v }),

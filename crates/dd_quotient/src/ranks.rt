@@ -1,6 +1,7 @@
 ghost use Rattle.std.specs.Prelude.{◌≡◌, ℕ, ◌-◌, ◌≤◌, length, IfOk, OnOk};
 ghost use Rattle.dd_model.specs.Symbol.{IsChamber, item};
 ghost use Rattle.dd_quotient.specs.Ranks.{HaveLeaders, IsRank, AreRanks, AreValues, image_of, degree_of};
+ghost use Rattle.dd_model.specs.Small.{most_chambers};
 
 use dd_model::{Index, Memory, Pair};
 use dd_symbol::Symbol;
@@ -40,7 +41,7 @@ impl Ranks {
 /// The leaders of classes, and the rank of each chamber.
 pub(crate) fn ranks_of(alloc: Global, classes: &[u32]) -> Result<Ranks, Memory>
     requires led { HaveLeaders classes.now }
-    requires few { length classes.now ≤ 16384 }
+    requires few { length classes.now ≤ most_chambers }
     ensures { IfOk result (λ all. AreRanks classes.now all.leaders.items all.ranks.items
         (length classes.now)) }
 {

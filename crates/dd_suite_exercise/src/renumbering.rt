@@ -2,6 +2,7 @@ ghost use Rattle.std.specs.Prelude.{◌≡◌, ◌+◌, ◌-◌, ◌≤◌, leng
 ghost use Rattle.dd_model.specs.Code.{count_from};
 ghost use Rattle.dd_suite_exercise.specs.Draws.{after_draws};
 ghost use Rattle.dd_suite_exercise.specs.Renumbering.{exchanged, renumbering};
+ghost use Rattle.dd_model.specs.Small.{most_chambers};
 
 use crate::draws::Generator;
 use dd_model::Memory;
@@ -13,7 +14,7 @@ pub(crate) fn renumbering(
     size: u32,
     generator: &mut Generator,
 ) -> Result<Vec<u32>, Memory>
-    requires { (1 ≤ size) × (size ≤ 16384) }
+    requires { (1 ≤ size) × (size ≤ most_chambers) }
     ensures list { IfOk result (λ list. list.items ≡ renumbering size generator.old) }
     ensures draws { IfOk result (λ _. generator.new ≡ after_draws (size - 1) generator.old) }
 {

@@ -9,11 +9,8 @@ use crate::ending::Ending;
 use crate::fetch::fetch_all;
 use dd_ports::{Sink, SinkFault, Store, StoreFault, write_all_of};
 use dd_suite_commands::{FileCommand, text_of_file};
-use dd_text::{FileFault, Why};
+use dd_text::{FileFault, MOST_BYTES, Why};
 use std::alloc::Global;
-
-/// The most bytes of a file.
-const MOST_BYTES: usize = 16777216;
 
 /// All that a name holds.
 fn fetch_file<S: Store>(alloc: Global, name: &str, store: &mut S) -> Result<Vec<u8>, Ending>

@@ -1,4 +1,4 @@
-ghost use Rattle.std.specs.Prelude.{◌≡◌, ◌≤◌, ℕ, List, true, length, IfOk, IsSome};
+ghost use Rattle.std.specs.Prelude.{◌≡◌, ◌+◌, ◌≤◌, ℕ, List, true, length, IfOk, IsSome};
 ghost use Rattle.std.specs.List.{AllByRecursion};
 ghost use Rattle.dd_ports.specs.declared.store.StoreFault.TheVariants.{Failed};
 ghost use Rattle.dd_ports.specs.Causes.{HasCause, StaysSure};
@@ -6,27 +6,26 @@ ghost use Rattle.dd_ports.specs.Grows.{GrowsByPrefix};
 ghost use Rattle.dd_suite_commands.specs.Merges.{bytes_of};
 ghost use Rattle.dd_suite_tasks.specs.Merges.{AreFetchedFronts, IsMergeOfHeld, AppendsMerge, HasMergeCause};
 ghost use Rattle.dd_suite_tasks.specs.Outside.{before_of, after_of, KeepsTexts, KeepsSure};
+ghost use Rattle.dd_model.specs.Reading.{most_bytes};
 
 use crate::ending::Ending;
 use crate::fetch::fetch_front;
 use crate::file::write_text;
 use dd_ports::{Sink, Store, StoreFault};
 use dd_suite_commands::{Stop, merge_files};
+use dd_text::MOST_BYTES;
 use dd_words::Name;
 use std::alloc::Global;
 use std::thread::Threads;
 
-/// One byte more than a file may have.
-const MOST_BYTES: usize = 16777217;
-
-/// Returns the bytes that each name holds, or only the first 16,777,217 of them.
+/// Returns the bytes that each name holds, or only one more of them than a file may have.
 fn fetch_files<S: Store>(
     alloc: Global,
     names: &[Name],
     store: &mut S,
 ) -> Result<Vec<Vec<u8>>, StoreFault>
     ensures fronts { IfOk result (λ files. AreFetchedFronts (S.tells store.old) (S.held store.old)
-        16777217 names.now (bytes_of files.items)) }
+        (most_bytes + 1) names.now (bytes_of files.items)) }
     ensures same { KeepsTexts S.Store store.old store.new }
     ensures cause { HasCause Failed (S.faults store.old) (S.faults store.new) result }
     ensures passes { S.sure store.old ≡ true → S.tells store.old ≡ true
@@ -35,7 +34,7 @@ fn fetch_files<S: Store>(
 {
     let mut files = Vec::new(alloc);
     for name in names {
-        let file = fetch_front(alloc, name.as_str(), MOST_BYTES, store)?;
+        let file = fetch_front(alloc, name.as_str(), MOST_BYTES + 1, store)?;
         files.push(file)?;
     }
     Ok(files)

@@ -7,4 +7,5 @@ pub mod RefusalRows
 pub mod MapLemmas
 pub mod RenumberLemmas
 pub mod CellShapes
+pub mod LeastWalks
 pub mod SameCells

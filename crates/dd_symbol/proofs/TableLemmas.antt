@@ -16,8 +16,9 @@ use Rattle.dd_symbol.specs.declared.code_table.CodeTable.{CodeTable}
 use Rattle.dd_model.specs.Involutions.{HaveSameInvolutions}
 use Rattle.dd_model.proofs.SameInvolutions.{involutions-same}
 use Rattle.dd_model.proofs.Transport.{HaveLengths}
-use Rattle.dd_symbol.specs.Rows.{HasRows, row_place}
+use Rattle.dd_symbol.specs.Rows.{HasRows}
 use Rattle.dd_symbol.specs.Building.{listed}
+use Rattle.dd_model.specs.Indices.{index_number}
 
 -- ## What stands where
 
@@ -38,8 +39,8 @@ item-first xs n d low high =
     item-column xs 0 n d low high ∙ ap (λ k. get_or xs k 0) e
 
 -- the image under each of the involutions
-pub item-row : (n : ℕ) (xs : List ℕ) (i : Index) (d : ℕ) → 1 ≤ d → d ≤ n → op (of_code n xs) i d ≡ get_or xs (3 * (d - 1) + row_place i) 0
-item-row n xs i d low high = elim i as (λ j. op (of_code n xs) j d ≡ get_or xs (3 * (d - 1) + row_place j) 0) [
+pub item-row : (n : ℕ) (xs : List ℕ) (i : Index) (d : ℕ) → 1 ≤ d → d ≤ n → op (of_code n xs) i d ≡ get_or xs (3 * (d - 1) + index_number i) 0
+item-row n xs i d low high = elim i as (λ j. op (of_code n xs) j d ≡ get_or xs (3 * (d - 1) + index_number j) 0) [
   | Zero ↦ item-column xs 0 n d low high
   | One ↦ item-column xs 1 n d low high
   | Two ↦ item-column xs 2 n d low high

@@ -4,6 +4,7 @@ use Rattle.dd_model.specs.declared.index.Index.{Index}
 use Rattle.dd_model.specs.Symbol.{Symbol, AreInvolutions, operation}
 use Rattle.dd_model.specs.Code.{count_from}
 use Rattle.dd_symbol.specs.declared.code_rows.CodeRows.{CodeRows}
+use Rattle.dd_model.specs.Small.{most_chambers}
 
 -- the images under one involution in rows of three: every third number from place i on, n of them
 unfoldable pub column : List ℕ → ℕ → ℕ → List ℕ
@@ -27,6 +28,6 @@ rows_of r = of_code r.size r.numbers
 
 -- three involutions of at most 16,384 chambers, an image of each chamber in each list
 pub record AreThreeInvolutions (s : Symbol) : Type 0 where
-  pub small : s.size ≤ 16384
+  pub small : s.size ≤ most_chambers
   pub lengths : (i : Index) → length (operation s i) ≡ s.size
   pub involutions : AreInvolutions s

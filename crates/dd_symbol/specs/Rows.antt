@@ -9,9 +9,3 @@ pub record HasRows (h : Index → ℕ → ℕ) (k : ℕ) (xs : List ℕ) : Type 
   pub zero : (e : ℕ) → 1 ≤ e → e ≤ k → slice_index xs (3 * (e - 1)) ≡ h Zero e
   pub one : (e : ℕ) → 1 ≤ e → e ≤ k → slice_index xs (3 * (e - 1) + 1) ≡ h One e
   pub two : (e : ℕ) → 1 ≤ e → e ≤ k → slice_index xs (3 * (e - 1) + 2) ≡ h Two e
-
--- where the image under an involution stands in the row of a chamber
-abbrev pub row_place : Index → ℕ
-row_place Zero = 0
-row_place One = 1
-row_place Two = 2

@@ -1,5 +1,5 @@
 ghost use Rattle.std.specs.Prelude.{◌≡◌, ◌<◌, ◌≤◌, ◌*◌, ◌↔◌, IsTrue, IfOk, length};
-ghost use Rattle.dd_symbol.specs.Rows.{row_place};
+ghost use Rattle.dd_model.specs.Small.{most_chambers};
 
 use dd_model::{Index, Memory};
 use dd_numbers::Numbers;
@@ -12,20 +12,7 @@ pub(crate) struct CodeRows {
     pub(crate) numbers: Numbers,
     pub(crate) size: u32,
     ghost length: { 3 * size ≤ length numbers },
-    ghost small: { size < 16385 },
-}
-
-/// Where the image under an involution stands in the row of a chamber. It is a choice of a number,
-/// and not of a call, so that a list is read in one place.
-fn row_place(i: Index) -> usize
-    ensures place { result ≡ row_place i }
-    ensures small { result < 3 }
-{
-    match i {
-        Index::Zero => 0,
-        Index::One => 1,
-        Index::Two => 2,
-    }
+    ghost small: { size ≤ most_chambers },
 }
 
 impl CodeRows {
@@ -36,7 +23,7 @@ impl CodeRows {
     /// and with room for degrees.
     pub(crate) fn from_bytes(alloc: Global, images: &[u8], size: u32) -> Result<CodeRows, Memory>
         requires length { length images.now ≡ 3 * size }
-        requires small { size ≤ 16384 }
+        requires small { size ≤ most_chambers }
         ensures { IfOk result (λ rows. rows_of rows ≡ of_rows size images.now) }
     {
         let mut numbers = Numbers::with_room(alloc, 5 * size as usize)?;
@@ -47,7 +34,7 @@ impl CodeRows {
     /// The number of chambers, at most 16,384.
     pub(crate) fn size(&self) -> u32
         ensures size { result ≡ (rows_of self.now).size }
-        ensures small { result < 16385 }
+        ensures small { result ≤ most_chambers }
     {
         self.size
     }
@@ -64,6 +51,7 @@ impl CodeRows {
         requires { IsChamber (rows_of self.now) chamber }
         ensures { result ≡ op (rows_of self.now) i chamber }
     {
-        self.numbers.get(3 * (chamber as usize - 1) + row_place(i))
+        self.numbers
+            .get(3 * (chamber as usize - 1) + usize::from(i.number()))
     }
 }

@@ -1,5 +1,6 @@
 ghost use Rattle.std.specs.Prelude.{◌≡◌, ◌≤◌, length, IfOk};
 ghost use Rattle.dd_symbol.specs.Images.{AreThreeInvolutions};
+ghost use Rattle.dd_model.specs.Small.{most_chambers};
 
 use crate::involutions::Involutions;
 use crate::symbol_ref::SymbolRef;
@@ -28,7 +29,7 @@ impl CodeTable {
     /// The number of chambers, at most 16,384.
     pub(crate) fn size(&self) -> u32
         ensures size { result ≡ (symbol_of self.now).size }
-        ensures small { result ≤ 16384 }
+        ensures small { result ≤ most_chambers }
     {
         self.involutions.size()
     }

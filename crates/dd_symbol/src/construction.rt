@@ -3,13 +3,13 @@ ghost use Rattle.dd_symbol.specs.Building.{given, HaveOneLength, IsAccepted, IsB
 ghost use Rattle.dd_symbol.specs.Images.{with_degrees};
 ghost use Rattle.dd_symbol.specs.Conditions.{AreConnected};
 ghost use Rattle.dd_symbol.specs.Refusals.{IsRefused, IsFault};
-ghost use Rattle.dd_model.specs.Small.{IsSmallSymbol};
+ghost use Rattle.dd_model.specs.Small.{IsSmallSymbol, most_chambers};
 
 use crate::code_table::CodeTable;
 use crate::connected::Connected;
 use crate::involutions::{ImageLists, Involutions};
 use crate::refusals::Refusal;
-use crate::symbol::Symbol;
+use crate::symbol::{MOST_CHAMBERS, Symbol};
 use dd_model::Memory;
 use std::alloc::Global;
 
@@ -116,7 +116,7 @@ pub fn build(
     limit: u32,
 ) -> Result<Connected, Refusal>
     requires lengths { HaveOneLength (given ops m01.items m12.items) }
-    requires limit { limit ≤ 16384 }
+    requires limit { limit ≤ most_chambers }
     ensures symbol { IfOk result (λ connected. connected ≡ given ops m01.items m12.items) }
     ensures accepted { IfOk result (λ _. IsAccepted limit (given ops m01.items m12.items)) }
     ensures refused { IfErr result (λ why.
@@ -143,7 +143,7 @@ pub fn build_known_lists(
     requires { IsConnectedSymbol (given ops m01.items m12.items) }
     ensures { IfOk result (λ it. it ≡ given ops m01.items m12.items) }
 {
-    match build(alloc, ops, m01, m12, 16384) {
+    match build(alloc, ops, m01, m12, MOST_CHAMBERS) {
         Ok(symbol) => Ok(symbol),
         Err(why) => match why {
             Refusal::Memory => Err(Memory),

@@ -2,6 +2,7 @@ ghost use Rattle.std.specs.Prelude.{◌≡◌, ◌↔◌, ◌≤◌, ◌<◌, �
 ghost use Rattle.dd_symbol.specs.Building.{listed};
 ghost use Rattle.dd_symbol.specs.Rows.{HasRows};
 ghost use Rattle.dd_model.specs.Symbol.{op};
+ghost use Rattle.dd_model.specs.Small.{most_chambers};
 
 use crate::code_rows::CodeRows;
 use crate::refusals::Refusal;
@@ -38,7 +39,7 @@ pub struct ImageLists<'a> {
     pub s2: &'a [u32],
     pub ghost ones: { length s1.now ≡ length s0.now },
     pub ghost twos: { length s2.now ≡ length s0.now },
-    pub ghost small: { length s0.now ≤ 16384 },
+    pub ghost small: { length s0.now ≤ most_chambers },
 }
 
 /// The images of three lists, chamber by chamber, with room for degrees.
@@ -72,7 +73,7 @@ impl Involutions {
         size: u32,
     ) -> Result<Option<Involutions>, Memory>
         requires length { length images.now ≡ 3 * size }
-        requires small { size ≤ 16384 }
+        requires small { size ≤ most_chambers }
         ensures { IfOk result (λ found. MatchOption found
             (AreInvolutions (of_rows size images.now) → ⊥) (λ it. it ≡ of_rows size images.now)) }
     {
@@ -86,7 +87,7 @@ impl Involutions {
     /// The involutions with these images, in the same order, which are known to be those of some.
     pub fn from_known_bytes(alloc: Global, images: &[u8], size: u32) -> Result<Involutions, Memory>
         requires length { length images.now ≡ 3 * size }
-        requires small { size ≤ 16384 }
+        requires small { size ≤ most_chambers }
         requires involutions { AreInvolutions (of_rows size images.now) }
         ensures { IfOk result (λ it. it ≡ of_rows size images.now) }
     {

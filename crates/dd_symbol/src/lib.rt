@@ -56,5 +56,5 @@ pub use kind::Kind;
 pub use maps::{inverse, is_bijection, item};
 pub use refusals::{Refusal, refusals_exclude_each_other};
 pub use shapes::CellShape;
-pub use symbol::{Symbol, cmp_code};
+pub use symbol::{MOST_CHAMBERS, Symbol, cmp_code};
 pub use symbol_ref::SymbolRef;

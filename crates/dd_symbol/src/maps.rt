@@ -2,6 +2,7 @@ ghost use Rattle.std.specs.Prelude.{◌≡◌, ℕ, ◌<◌, ◌≤◌, ◌^◌,
 ghost use Rattle.dd_model.specs.Isomorphic.{IsBijection};
 ghost use Rattle.dd_model.specs.Symbol.{item};
 ghost use Rattle.dd_symbol.specs.Maps.{AreInverse};
+ghost use Rattle.dd_model.specs.Small.{most_chambers};
 
 use dd_model::Memory;
 use std::alloc::Global;
@@ -17,7 +18,7 @@ pub fn item(list: &[u32], chamber: u32) -> u32
 
 /// The map that undoes a map of the chambers, if there is one.
 pub fn inverse(alloc: Global, map: &[u32]) -> Result<Option<Vec<u32>>, Memory>
-    requires { length map.now ≤ 16384 }
+    requires { length map.now ≤ most_chambers }
     ensures { IfOk result (λ found. MatchOption found
         (¬ (IsBijection (length map.now) map.now))
         (λ back. AreInverse (length map.now) map.now back.items)) }
@@ -46,7 +47,7 @@ pub fn inverse(alloc: Global, map: &[u32]) -> Result<Option<Vec<u32>>, Memory>
 
 /// Returns whether a list is a bijection of the chambers.
 pub fn is_bijection(alloc: Global, map: &[u32]) -> Result<bool, Memory>
-    requires { length map.now ≤ 16384 }
+    requires { length map.now ≤ most_chambers }
     ensures { IfOk result (λ yes. IsTrue yes ↔ IsBijection (length map.now) map.now) }
 {
     match inverse(alloc, map)? {

@@ -1,4 +1,5 @@
 ghost use Rattle.std.specs.Prelude.{◌≡◌, ℕ, ◌≤◌, List, [], ◌∷◌, map, length, IfOk, OnOk};
+ghost use Rattle.dd_model.specs.Small.{most_chambers};
 
 use crate::code_rows::CodeRows;
 use crate::code_table::CodeTable;
@@ -72,7 +73,7 @@ impl CodeTable {
     fn degrees_in(&self, alloc: Global, pair: Pair, back: &[u32]) -> Result<Vec<u32>, Memory>
         requires within { (e : ℕ) → 1 ≤ e → e ≤ length back.now
             → IsChamber (symbol_of self.now) (item back.now e) }
-        requires size { length back.now ≤ 16384 }
+        requires size { length back.now ≤ most_chambers }
         ensures { IfOk result (λ degrees.
             degrees.items ≡ map (degree (symbol_of self.now) pair) back.now) }
     {

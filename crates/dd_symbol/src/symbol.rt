@@ -12,7 +12,10 @@ use std::alloc::Global;
 use std::cmp::Ordering;
 use std::marker::Model;
 
-/// A symbol of at most 16,384 chambers with branching values of at most 30.
+/// How many chambers a symbol has at most.
+pub const MOST_CHAMBERS: u32 = 16_384;
+
+/// A symbol of at most `MOST_CHAMBERS` chambers with branching values of at most 30.
 #[derive(Drop)]
 pub struct Symbol {
     table: CodeTable,
@@ -33,14 +36,14 @@ impl Model for Symbol {
 
 impl Symbol {
     ghost use Rattle.dd_model.specs.Symbol.{IsChamber, op, degree};
-    ghost use Rattle.dd_model.specs.Cell.{IsBranching, AreCells};
+    ghost use Rattle.dd_model.specs.Cell.{IsBranching, IsLeastOfCell, AreCells};
     ghost use Rattle.dd_model.specs.Code.{code, images};
     ghost use Rattle.dd_model.specs.Involutions.{HaveSameInvolutions};
     ghost use Rattle.dd_model.specs.Position.{IsBefore};
     ghost use Rattle.dd_symbol.specs.Table.{symbol_of};
     ghost use Rattle.dd_symbol.specs.Images.{with_degrees};
     ghost use Rattle.dd_symbol.specs.Cells.{IsShapeOf};
-    ghost use Rattle.dd_model.specs.Small.{IsSmallSymbol};
+    ghost use Rattle.dd_model.specs.Small.{IsSmallSymbol, most_chambers};
 
     /// The symbol of a table.
     pub(crate) fn from_table(table: CodeTable) -> Self
@@ -53,7 +56,7 @@ impl Symbol {
     /// The number of chambers, at most 16,384.
     pub fn size(&self) -> u32
         ensures size { result ≡ self.now.size }
-        ensures small { result ≤ 16384 }
+        ensures small { result ≤ most_chambers }
         ensures symbol { IsSmallSymbol self.now }
     {
         self.table.size()
@@ -128,6 +131,29 @@ impl Symbol {
         ensures { IsShapeOf self.now pair chamber result }
     {
         self.table.involutions.cell(pair, chamber)
+    }
+
+    /// Returns whether a chamber is the least of its cell. The walk through the cell ends at the
+    /// first chamber that is smaller. It takes no memory.
+    pub fn is_least_of_cell(&self, pair: Pair, chamber: u32) -> bool
+        requires { IsChamber self.now chamber }
+        ensures { IsTrue result ↔ IsLeastOfCell self.now pair chamber }
+    {
+        let mut place = chamber;
+        for _turn in 0..self.size() {
+            let neighbor = self.op(pair.first(), place);
+            if neighbor < chamber {
+                return false;
+            }
+            place = self.op(pair.second(), neighbor);
+            if place < chamber {
+                return false;
+            }
+            if place == chamber {
+                return true;
+            }
+        }
+        unreachable!()
     }
 
     /// The least chambers of the cells of a pair, ascending: one for each cell.

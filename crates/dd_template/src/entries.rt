@@ -1,7 +1,7 @@
 ghost use Rattle.std.specs.Prelude.{◌≡◌, ℕ, ◌<◌, ◌≤◌, ◌↔◌, IsTrue};
 
 use crate::lawful::goes_by;
-use crate::part::Part;
+use crate::part_number::PartNumber;
 use crate::tables::Degree;
 use crate::undone::Undone;
 use dd_model::Pair;
@@ -11,7 +11,7 @@ impl<'a, const K: usize> Undone<'a, K> {
     ghost use Rattle.dd_template.specs.Entries.{AllFit, GoWithin, IsApart, IsTurned, Fits, entries};
 
     /// Returns whether the moves of a pair go by the involutions of another, or by none.
-    fn go_within(&self, pair: Pair, other: Pair, part: Part<K>) -> bool
+    fn go_within(&self, pair: Pair, other: Pair, part: PartNumber<K>) -> bool
         ensures { IsTrue result ↔ GoWithin (table_of self.now.table.now) pair other
             part.entry.number }
     {
@@ -20,7 +20,7 @@ impl<'a, const K: usize> Undone<'a, K> {
     }
 
     /// Returns whether fewer turns do not lead a part back to itself.
-    fn is_apart(&self, pair: Pair, part: Part<K>, turns: usize) -> bool
+    fn is_apart(&self, pair: Pair, part: PartNumber<K>, turns: usize) -> bool
         requires { turns ≤ 64 }
         ensures { IsTrue result ↔ IsApart (table_of self.now.table.now) pair part.entry.number
             turns }
@@ -35,7 +35,7 @@ impl<'a, const K: usize> Undone<'a, K> {
 
     /// Returns whether a part is first met again after `turns` turns, with two letters of the other
     /// pair.
-    fn is_turned(&self, pair: Pair, other: Pair, part: Part<K>, turns: u32) -> bool
+    fn is_turned(&self, pair: Pair, other: Pair, part: PartNumber<K>, turns: u32) -> bool
         ensures { IsTrue result ↔ IsTurned (table_of self.now.table.now) pair other
             part.entry.number turns }
     {
@@ -49,7 +49,7 @@ impl<'a, const K: usize> Undone<'a, K> {
     }
 
     /// Returns whether the entry of a part fits the moves of its pair.
-    fn fits(&self, pair: Pair, part: Part<K>) -> bool
+    fn fits(&self, pair: Pair, part: PartNumber<K>) -> bool
         ensures { IsTrue result ↔ Fits (table_of self.now.table.now) pair part.entry.number
             (entry (entries (table_of self.now.table.now) pair) part.entry.number) }
     {
@@ -73,7 +73,7 @@ impl<'a, const K: usize> Undone<'a, K> {
         ensures { IsTrue result ↔ AllFit (table_of self.now.table.now) pair }
     {
         for part in 0..K {
-            if !self.fits(pair, Part { number: part }) {
+            if !self.fits(pair, PartNumber { number: part }) {
                 return false;
             }
         }

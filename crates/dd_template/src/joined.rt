@@ -1,6 +1,6 @@
 ghost use Rattle.std.specs.Prelude.{◌≡◌, ℕ, ◌<◌, ◌≤◌, ◌↔◌, IsTrue, MatchOption, length};
 
-use crate::part::Part;
+use crate::part_number::PartNumber;
 use crate::tables::Template;
 use crate::undone::Undone;
 use dd_model::Index;
@@ -11,7 +11,7 @@ impl<'a, const K: usize> Undone<'a, K> {
     ghost use Rattle.dd_template.specs.Connecting.{AreJoined};
 
     /// The part to which a move leads that stays in the chamber, if that part is not met.
-    fn next_by(&self, met: &[bool; K], index: Index, part: Part<K>) -> Option<usize>
+    fn next_by(&self, met: &[bool; K], index: Index, part: PartNumber<K>) -> Option<usize>
         requires { IsMet met.now part.number }
         ensures { MatchOption result (LeadsToMet (table_of self.now.table.now) met.now index
             part.entry.number)
@@ -31,7 +31,7 @@ impl<'a, const K: usize> Undone<'a, K> {
     {
         for part in 0..K {
             if met[part] {
-                let from = Part { number: part };
+                let from = PartNumber { number: part };
                 let zero = self.next_by(met, Index::Zero, from);
                 if zero.is_some() {
                     return zero;

@@ -1,7 +1,7 @@
 ghost use Rattle.std.specs.Prelude.{◌≡◌, ◌⊎◌, ℕ, ◌+◌, ◌*◌, ◌<◌, ◌≤◌, ◌↔◌, IsTrue, [], length};
 ghost use Rattle.dd_template.specs.Entries.{GoesBy};
 
-use crate::part::Part;
+use crate::part_number::PartNumber;
 use crate::tables::{Degree, Move, Template};
 use crate::undone::Undone;
 use crate::words::Letters;
@@ -108,7 +108,7 @@ impl<'a, const K: usize> Undone<'a, K> {
     ghost use Rattle.dd_template.specs.Entries.{AreConstant, IsConstant};
 
     /// Returns where `turns` turns of a pair lead.
-    pub(crate) fn turned(&self, pair: Pair, part: Part<K>, turns: usize) -> WalkEnd
+    pub(crate) fn turned(&self, pair: Pair, part: PartNumber<K>, turns: usize) -> WalkEnd
         requires { turns ≤ 64 }
         ensures part { result.part ≡ part_after (table_of self.now.table.now)
             (power (turn pair) turns) part.entry.number }
@@ -131,7 +131,7 @@ impl<'a, const K: usize> Undone<'a, K> {
 
     /// Returns whether `turns` turns of a pair lead a part back to itself with a word that reduces
     /// to none.
-    pub(crate) fn leads_back(&self, pair: Pair, part: Part<K>, turns: usize) -> bool
+    pub(crate) fn leads_back(&self, pair: Pair, part: PartNumber<K>, turns: usize) -> bool
         requires { turns ≤ 64 }
         ensures { IsTrue result ↔ LeadsBack (table_of self.now.table.now)
             (power (turn pair) turns) part.entry.number [] }
@@ -145,7 +145,7 @@ impl<'a, const K: usize> Undone<'a, K> {
         ensures { IsTrue result ↔ Commute (table_of self.now.table.now) }
     {
         for part in 0..K {
-            if !self.leads_back(Pair::Edge, Part { number: part }, 2) {
+            if !self.leads_back(Pair::Edge, PartNumber { number: part }, 2) {
                 return false;
             }
         }
@@ -153,7 +153,7 @@ impl<'a, const K: usize> Undone<'a, K> {
     }
 
     /// Returns whether the entries are equal along the moves of the pair from a part.
-    fn is_constant(&self, pair: Pair, part: Part<K>) -> bool
+    fn is_constant(&self, pair: Pair, part: PartNumber<K>) -> bool
         ensures { IsTrue result ↔ IsConstant (table_of self.now.table.now) pair part.entry.number }
     {
         let own = self.table.entry_of(pair, part.number);
@@ -167,7 +167,7 @@ impl<'a, const K: usize> Undone<'a, K> {
         ensures { IsTrue result ↔ AreConstant (table_of self.now.table.now) pair }
     {
         for part in 0..K {
-            if !self.is_constant(pair, Part { number: part }) {
+            if !self.is_constant(pair, PartNumber { number: part }) {
                 return false;
             }
         }

@@ -12,7 +12,7 @@ mod laws;
 mod made_laws;
 mod named;
 mod operations;
-mod part;
+mod part_number;
 mod tables;
 mod undone;
 mod words;

@@ -1,7 +1,7 @@
 ghost use Rattle.std.specs.Prelude.{◌≡◌, ◌↔◌, ℕ, ◌*◌, ◌≤◌, []};
 ghost use Rattle.dd_model.specs.Cell.{IsBranching};
 ghost use Rattle.dd_model.specs.Flat.{Flat};
-ghost use Rattle.dd_model.specs.Small.{IsSmallSymbol};
+ghost use Rattle.dd_model.specs.Small.{IsSmallSymbol, most_chambers};
 ghost use Rattle.dd_model.specs.Symbol.{Symbol, IsChamber, IsSymbol, Word, act, item, op};
 ghost use Rattle.dd_model.specs.Connected.{Connected};
 ghost use Rattle.dd_model.specs.declared.index.Index.{Index};
@@ -79,7 +79,7 @@ pub fn branching_values_stay_small()
     ensures small { (t : Table) (s : Symbol) → IsLawful t → IsSymbol s → HasSmallBranching s
         → HasSmallBranching (made t s) }
     ensures kept { (t : Table) (s : Symbol) → IsLawful t → IsSmallSymbol s
-        → s.size * t.parts ≤ 16384 → IsSmallSymbol (made t s) }
+        → s.size * t.parts ≤ most_chambers → IsSmallSymbol (made t s) }
 {}
 
 /// What a lawful table makes of a symbol has its curvature.

@@ -1,5 +1,4 @@
 pub mod Spacing
-mod LeastWalks
 pub mod LineTexts
 pub mod LinesAdded
 pub mod NextPart

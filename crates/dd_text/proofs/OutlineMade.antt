@@ -14,7 +14,7 @@ use Rattle.dd_text.specs.Making.{IsBegun, IsFinished, TellsChamber}
 use Rattle.dd_text.specs.Outline.{HasNumber, IsOutlineOf}
 use Rattle.dd_text.specs.Told.{AddsLeast, TellsImage}
 use Rattle.dd_text.specs.declared.outline.Outline.{Outline}
-use Rattle.dd_text.proofs.LeastWalks.{one_is_least}
+use Rattle.dd_symbol.proofs.LeastWalks.{one_is_least}
 use Rattle.dd_text.proofs.Spacing.{told_after, told_after-start, told_after-told, told_after-passed, told_after-end}
 
 -- after the first chamber, what is told so far and what is left are all images

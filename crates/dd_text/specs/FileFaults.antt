@@ -2,7 +2,7 @@
 use Rattle.std.specs.Prelude.{◌≡◌, ◌≢◌, ◌⊎◌, ℕ, ◌+◌, ◌<◌, ◌≤◌, false, List, ◌∷◌, length}
 use Rattle.dd_model.specs.Symbol.{Symbol}
 use Rattle.dd_model.specs.Parts.{Cursor, is_blank}
-use Rattle.dd_model.specs.Reading.{ReadsTo}
+use Rattle.dd_model.specs.Reading.{ReadsTo, most_bytes}
 use Rattle.dd_text.specs.declared.faults.Why.{Why}
 use Rattle.dd_text.specs.declared.faults.Why.TheVariants.{Stray, UnexpectedEnd, NumberTooLong, Dimension, Size, ListShort, ListLong, Image, Symbol as Refused, TooManySymbols, Long, Memory}
 use Rattle.dd_text.specs.declared.faults.FileFault.{FileFault}
@@ -49,7 +49,7 @@ IsNextFault c count Memory at = Unit {0}
 
 -- up to the fault the file is a row of blanks, comments and symbols
 pub record IsFaultWithin (bytes : List ℕ) (fault : FileFault) : Type 0 where
-  pub short : length bytes ≤ 16777216
+  pub short : length bytes ≤ most_bytes
   pub symbols : List Symbol
   pub here : Cursor
   pub row : ReadsTo bytes symbols here
@@ -59,9 +59,9 @@ pub record IsFaultWithin (bytes : List ℕ) (fault : FileFault) : Type 0 where
 
 -- the file is too long
 pub record IsTooLongFile (bytes : List ℕ) (fault : FileFault) : Type 0 where
-  pub long : 16777216 < length bytes
+  pub long : most_bytes < length bytes
   pub symbol : fault.symbol ≡ 0
-  pub place : fault.at ≡ 16777216
+  pub place : fault.at ≡ most_bytes
 
 -- the fault of a file, of this kind
 abbrev pub IsFileFaultOf : List ℕ → FileFault → Why → Type 0

@@ -15,11 +15,11 @@ use dd_model::Pair;
 use dd_symbol::{Connected, ImageLists, Involutions, Refusal, build_on};
 use std::alloc::Global;
 
-/// The most bytes of a file.
-const MOST_BYTES: usize = 16777216;
+/// How many bytes a file has at most.
+pub const MOST_BYTES: usize = 16_777_216;
 
-/// The most symbols of a file.
-const MOST_SYMBOLS: usize = 1000000;
+/// How many symbols a file has at most.
+const MOST_SYMBOLS: usize = 1_000_000;
 
 /// Why a symbol is not read that is refused.
 fn why_of(refusal: Refusal) -> Why

@@ -1,33 +1,9 @@
-ghost use Rattle.std.specs.Prelude.{◌≡◌, ◌↔◌, IsTrue, OnOk};
+ghost use Rattle.std.specs.Prelude.{◌≡◌, OnOk};
 ghost use Rattle.dd_model.specs.Symbol.{IsChamber, op, first as pair_first, second as pair_second};
-ghost use Rattle.dd_model.specs.Cell.{IsLeastOfCell};
 ghost use Rattle.dd_text.specs.Told.{AddsLeast};
 
 use dd_model::{Memory, Pair};
 use dd_symbol::Symbol;
-
-/// Returns whether a chamber is the least one of its cell. The walk round the cell ends at the
-/// first chamber that is smaller.
-fn is_least(symbol: &Symbol, pair: Pair, chamber: u32) -> bool
-    requires { IsChamber symbol.now chamber }
-    ensures { IsTrue result ↔ IsLeastOfCell symbol.now pair chamber }
-{
-    let mut place = chamber;
-    for _turn in 0..symbol.size() {
-        let neighbor = symbol.op(pair.first(), place);
-        if neighbor < chamber {
-            return false;
-        }
-        place = symbol.op(pair.second(), neighbor);
-        if place < chamber {
-            return false;
-        }
-        if place == chamber {
-            return true;
-        }
-    }
-    unreachable!()
-}
 
 /// Appends a chamber where it is the least one of its cell. Its two neighbors there are known, and
 /// the cell is walked only where neither is smaller. It is inlined where the pair is known, so that
@@ -52,7 +28,7 @@ pub(crate) fn add_least(
     if second < chamber {
         return Ok(());
     }
-    if !is_least(symbol, pair, chamber) {
+    if !symbol.is_least_of_cell(pair, chamber) {
         return Ok(());
     }
     chambers.push(chamber)?;

@@ -19,6 +19,6 @@ mod told_degrees;
 
 pub use fault_laws::{a_faulty_file_spells_nothing, a_file_has_one_fault};
 pub use faults::{FileFault, Why};
-pub use file_reader::read_file;
+pub use file_reader::{MOST_BYTES, read_file};
 pub use line_writer::{put_line, put_lines};
 pub use list_lines::put_list;

@@ -1,5 +1,6 @@
 ghost use Rattle.std.specs.Prelude.{◌≡◌, ◌+◌, ◌≤◌, [], length, IfNone, IfSome};
 ghost use Rattle.dd_model.specs.Parts.{is_blank};
+ghost use Rattle.dd_model.specs.Reading.{most_bytes};
 
 use dd_model::{Part, Placed};
 
@@ -15,7 +16,7 @@ pub(crate) fn is_blank(byte: u8) -> bool
 pub(crate) struct Reader<'a> {
     at: u32,
     rest: &'a [u8],
-    ghost short: { at + length rest.now ≤ 16777216 },
+    ghost short: { at + length rest.now ≤ most_bytes },
 }
 
 impl<'a> Reader<'a> {
@@ -25,7 +26,7 @@ impl<'a> Reader<'a> {
 
     /// Stands at the beginning of a file.
     pub fn new(bytes: &'a [u8]) -> Self
-        requires { length bytes.now ≤ 16777216 }
+        requires { length bytes.now ≤ most_bytes }
         ensures { cursor_of result ≡ start bytes.now }
     {
         Reader { at: 0, rest: bytes }

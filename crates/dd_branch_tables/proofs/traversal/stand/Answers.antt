@@ -1,11 +1,11 @@
 use Rattle.std.proofs.Common.{◌≡◌, ℕ, ◌+◌, ◌-◌, ◌*◌, ◌/◌, ◌%◌, ◌≢◌, ◌<◌, ◌≤◌, List, length, get_or, sym, ap, ◌∙◌, inl, inr, arith}
 use Rattle.dd_model.specs.Symbol.{Symbol, op}
 use Rattle.dd_canon.specs.Traversal.{IsVisit, IsMeeting}
-use Rattle.dd_front_jobs.specs.Places.{index_at}
 use Rattle.dd_branch_tables.specs.Rows.{partial_of, HasNumberAt}
 use Rattle.dd_branch_tables.proofs.Passing.{ReadsNext, passing_begun, passing_more, passed_here, agreeing_here, unknown_here}
 use Rattle.dd_branch_tables.proofs.Traversing.{AreInside, extends_met, inside_begun, inside_met, met_at, reads_more, beats_here, visit_of}
 use Rattle.dd_branch_tables.proofs.traversal.stand.Goals as goal
+use Rattle.dd_model.specs.Indices.{index_at}
 
 -- what is read at a place of the row of a chamber, whose first place is known
 read_at : (P : Symbol) (xs : List ℕ) (row offset u first image : ℕ) → u ≡ 3 * row + offset → offset < 3 → first ≡ 3 * (get_or xs row 0 - 1) → 1 ≤ get_or xs row 0 → HasNumberAt (first + offset) image P

@@ -3,13 +3,13 @@ use Rattle.std.proofs.lemmas.Bool.{eq-eqb, eqb-true}
 use Rattle.std.specs.Prelude.{nat_eq}
 use Rattle.dd_model.specs.Partial.{Completes}
 use Rattle.dd_model.specs.Symbol.{Symbol, op}
-use Rattle.dd_front_jobs.specs.Places.{index_at}
 use Rattle.dd_branch_tables.specs.Rows.{partial_of, HasNumberAt}
 use Rattle.dd_branch_bounds.specs.Kept.{IsImage}
 use Rattle.dd_branch_bounds.specs.Passing.{Passes}
 use Rattle.dd_branch_bounds.specs.declared.link.Link.{Link}
 use Rattle.dd_branch_bounds.proofs.KeptBounds.{none_of_bounds}
 use Rattle.dd_branch_bounds.proofs.table_paths.TablePaths.is_ruled_out.Goals as goal
+use Rattle.dd_model.specs.Indices.{index_at}
 
 -- whether a table has a number at a place
 abbrev has_number : ℕ → ℕ → Symbol → Bool

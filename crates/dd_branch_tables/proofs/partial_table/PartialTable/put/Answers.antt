@@ -3,13 +3,13 @@ use denote.Enum.Bare.{same_true, same_false}
 use Rattle.dd_model.specs.contracts.index.Index.{the_type}
 use Rattle.dd_model.specs.declared.index.Index.TheVariants.{One}
 use Rattle.dd_model.specs.Symbol.{Symbol, op}
-use Rattle.dd_front_jobs.specs.Places.{index_at}
 use Rattle.dd_branch_tables.specs.Commuting.{CommutesAt}
 use Rattle.dd_branch_tables.specs.Rows.{partial_of, unwound, Commutes}
 use Rattle.dd_branch_tables.proofs.Commuting.{commuting_beside, commuting_round, ready_leads_back}
 use Rattle.dd_branch_tables.proofs.RowsLemmas.{learns_both, undone_after}
 use Rattle.dd_branch_tables.proofs.Filling.{image_inside, learns_from, still_known}
 use Rattle.dd_branch_tables.proofs.partial_table.PartialTable.put.Goals as goal
+use Rattle.dd_model.specs.Indices.{index_at}
 
 pub returns-then-number-eq0-clause-clash : goal.returns-then-number-eq0-clause-clash
 returns-then-number-eq0-clause-clash c s full has =

@@ -2,7 +2,6 @@ use Rattle.std.proofs.Common.{◌≡◌, ◌≢◌, ◌+◌, ◌-◌, ◌%◌, l
 use Rattle.std.proofs.lemmas.Bool.{cases_eq, cases_lt}
 use Rattle.dd_model.specs.declared.index.Index.{Index}
 use Rattle.dd_model.specs.Symbol.{op}
-use Rattle.dd_front_jobs.specs.Places.{index_at}
 use Rattle.dd_front_jobs.specs.FirstVisit.{greatest}
 use Rattle.dd_branch_tables.specs.Chambers.{bit_of}
 use Rattle.dd_branch_tables.specs.Rows.{partial_of}
@@ -10,6 +9,7 @@ use Rattle.dd_branch_tables.specs.Stem.{prefix_of}
 use Rattle.dd_branch_tables.proofs.Candidates.{none_of_none, none_but_known, none_but_free}
 use Rattle.dd_branch_tables.proofs.Stems.{known_is}
 use Rattle.dd_branch_tables.proofs.stem.Stem.candidates.Goals as goal
+use Rattle.dd_model.specs.Indices.{index_at}
 
 pub returns-then-is_stuck-clause-others : goal.returns-then-is_stuck-clause-others
 returns-then-is_stuck-clause-others c m none = none_of_none c.args.self.now m (c.is_stuck.ensures c.if-is_stuck.true)

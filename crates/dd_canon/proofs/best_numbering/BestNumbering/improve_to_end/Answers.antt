@@ -10,7 +10,7 @@ returns-in_err-improve-clause-count g c =
     let size : c.symbol.result.now.size ≡ s.size = ap (λ (t : Symbol). t.size) c.symbol.ensures.same in
     let end = c.size-k-end.ensures.size in
     let test = c.loop-k-test.true in
-    one_more_counted s.size c.loop-k.k (g.T.Tally.count c.args.steps.now) (g.T.Tally.count c.loop-k.steps) (g.T.Tally.count c.improve.new.steps) (omega (arith, size, end, test)) c.loop-k.invariant.count c.improve.ensures.count
+    one_more_counted s.size c.loop-k.k (g.T.Comparer.count c.args.steps.now) (g.T.Comparer.count c.loop-k.steps) (g.T.Comparer.count c.improve.new.steps) (omega (arith, size, end, test)) c.loop-k.invariant.count c.improve.ensures.count
 
 pub returns-clause-best : goal.returns-clause-best
 returns-clause-best g c =
@@ -29,7 +29,7 @@ returns-clause-count g c =
     let end = c.size-k-end.ensures.size in
     let high = c.loop-k.auto.k-end in
     let some = c.symbol.ensures.symbol.symbol.table.chambers in
-    all_counted s.size c.loop-k.k (g.T.Tally.count c.args.steps.now) (g.T.Tally.count c.loop-k.steps) (omega (arith, size, end, high, some)) c.loop-k.invariant.count
+    all_counted s.size c.loop-k.k (g.T.Comparer.count c.args.steps.now) (g.T.Comparer.count c.loop-k.steps) (omega (arith, size, end, high, some)) c.loop-k.invariant.count
 
 pub improve-requires-clause-best : goal.improve-requires-clause-best
 improve-requires-clause-best g c =

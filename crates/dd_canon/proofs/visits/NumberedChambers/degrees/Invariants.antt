@@ -10,5 +10,5 @@ abbrev pub invariant-loop-k : goal.invariant-loop-k
 invariant-loop-k g l = record {
   order : (t : Symbol) (f : List ℕ) → IsExtension l.s l.self.order.items t f
       → slice_cmp nat_cmp (drop l.k (degree_list t l.pair)) (drop l.k (degree_list l.form l.pair)) ≡ slice_cmp nat_cmp (degree_list t l.pair) (degree_list l.form l.pair);
-  count : g.T.Tally.count l.steps ≤ g.T.Tally.count l.initial.steps + l.k;
+  count : g.T.Comparer.count l.steps ≤ g.T.Comparer.count l.initial.steps + l.k;
 }

@@ -10,5 +10,5 @@ invariant-loop-k g l = record {
   ready : IsReady l.s l.self;
   traversal : IsTraversal l.s l.form l.self.order.items l.self.number.items (l.k + 1) (λ u. rows u (l.k + 1) (l.s.size - l.k)) l.so_far;
   start : item l.self.order.items 1 ≡ item l.initial.self.order.items 1;
-  count : g.T.Tally.count l.steps ≤ g.T.Tally.count l.initial.steps + 3 * l.k;
+  count : g.T.Comparer.count l.steps ≤ g.T.Comparer.count l.initial.steps + 3 * l.k;
 }

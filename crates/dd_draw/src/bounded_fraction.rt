@@ -4,11 +4,11 @@ use std::marker::Model;
 /// A number of a table: a fraction in lowest terms whose numerator and denominator are within the
 /// limit.
 #[derive(Clone, Copy)]
-pub(crate) struct Entry {
+pub(crate) struct BoundedFraction {
     pub(crate) fraction: Fraction,
 }
 
-impl Model for Entry {
+impl Model for BoundedFraction {
     ghost use Rattle.dd_cells.specs.declared.fractions.Fraction.{Fraction as Number};
     ghost use Rattle.dd_draw.specs.Limit.{IsWithin};
 
@@ -21,7 +21,7 @@ impl Model for Entry {
     ghost inverse = { λ x. record { fraction = x } };
 }
 
-impl Entry {
+impl BoundedFraction {
     ghost use Rattle.std.specs.Prelude.{◌≡◌};
     ghost use Rattle.dd_draw.specs.Limit.{IsWithin};
 
