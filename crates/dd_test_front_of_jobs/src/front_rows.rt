@@ -2,20 +2,9 @@ use crate::front_events::is_job_of;
 use dd_branch::Search;
 use dd_front::{Event, Finder, Front, Members};
 use dd_member_lists::SymbolList;
-use dd_model::{Allowed, Job, Memory, Position, Prefix, Request};
+use dd_model::{Job, Memory, Position, Prefix, Request};
 use std::alloc::Global;
 use std::process::Abort;
-
-fn asked() -> Request {
-    Request {
-        chambers: 2,
-        tiles: 0,
-        vertices: 0,
-        faces: Allowed::least(3),
-        degrees: Allowed::least(3),
-        minimal: false,
-    }
-}
 
 /// The job (1; 1 1 1).
 fn whole_job<R: Abort>(rt: &R, alloc: Global) -> Job {
@@ -25,7 +14,7 @@ fn whole_job<R: Abort>(rt: &R, alloc: Global) -> Job {
 
 /// A front with the one job (1; 1 1 1), after five lines.
 fn opened<R: Abort>(rt: &R, alloc: Global) -> Front {
-    let request = asked();
+    let request = Request::up_to(2);
     assert!(rt; request.is_valid());
     let mut jobs = Vec::new(alloc);
     jobs.push(whole_job(rt, alloc)).expect(rt, "room for a job");
@@ -92,7 +81,7 @@ fn nothing_is_emitted_of_an_open_entry(rt: HostRuntime) {
 
 /// The members under the job of one chamber.
 fn list_of_singles<R: Abort>(rt: &R, alloc: Global, job: &Job) -> SymbolList {
-    let request = asked();
+    let request = Request::up_to(2);
     assert!(rt; request.is_valid() && is_job_of(&request, job));
     let mut search = Search::new(&request);
     search.find(alloc, job).expect(rt, "the members")

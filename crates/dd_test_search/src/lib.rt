@@ -5,6 +5,8 @@
 #[cfg(test)]
 mod codes;
 #[cfg(test)]
+mod fixtures;
+#[cfg(test)]
 mod member_rows;
 #[cfg(test)]
 mod search_rows;

@@ -2,22 +2,18 @@ ghost use Rattle.std.specs.Prelude.{◌≡◌, ◌≤◌};
 ghost use Rattle.dd_branch.specs.Descent.{IsDescent};
 
 use crate::codes::have_codes;
+use crate::fixtures::job;
 use dd_branch::{Descent, Search};
 use dd_branch_bounds::PathShares;
 use dd_branch_tables::PrefixSearch;
 use dd_front::Finder;
 use dd_member_lists::SymbolList;
-use dd_model::{Job, Prefix, Request};
+use dd_model::{Job, Request};
 use std::alloc::Global;
 use std::process::Abort;
 
 /// The numbers of a search that are not known before, by its size.
 const NODES: [(u8, u64); 4] = [(6, 252), (8, 879), (10, 2630), (12, 8548)];
-
-fn job<R: Abort + Alloc<A = Global>>(rt: &R, size: u32, numbers: &[u8]) -> Job {
-    let prefix = Prefix::from_slice(rt.alloc(), numbers).expect(rt, "a prefix");
-    Job { size, prefix }
-}
 
 /// The members of at most two chambers under a job.
 fn found<R: Abort + Alloc<A = Global>>(rt: &R, job: &Job) -> SymbolList {
@@ -39,14 +35,14 @@ fn finds<const N: usize, R: Abort + Alloc<A = Global>>(
 
 #[test]
 fn one_chamber_is_found(rt: HostRuntime) {
-    let job = job(&rt, 1, &[1, 1, 1]);
+    let job = job(&rt, rt.alloc(), 1, &[1, 1, 1]);
     let expected = [[1, 1, 1, 3, 6], [1, 1, 1, 4, 4], [1, 1, 1, 6, 3]];
     assert!(rt; finds(&rt, &job, expected.as_slice()));
 }
 
 #[test]
 fn two_chambers_are_found(rt: HostRuntime) {
-    let job = job(&rt, 2, &[1, 1, 2, 2, 2, 1]);
+    let job = job(&rt, rt.alloc(), 2, &[1, 1, 2, 2, 2, 1]);
     let expected = [
         [1, 1, 2, 2, 2, 1, 3, 3, 6, 6],
         [1, 1, 2, 2, 2, 1, 3, 6, 4, 4],
@@ -64,7 +60,7 @@ fn may_find<R: Abort + Alloc<A = Global>>(rt: &R, job: &Job) -> bool {
 }
 
 fn may_find_from<R: Abort + Alloc<A = Global>>(rt: &R, numbers: &[u8]) -> bool {
-    let job = job(rt, 2, numbers);
+    let job = job(rt, rt.alloc(), 2, numbers);
     may_find(rt, &job)
 }
 
@@ -94,7 +90,7 @@ fn splits<R: Abort + Alloc<A = Global>>(rt: &R, job: &Job, first: &[u8], second:
 
 #[test]
 fn a_job_is_split(rt: HostRuntime) {
-    let job = job(&rt, 2, &[1]);
+    let job = job(&rt, rt.alloc(), 2, &[1]);
     assert!(rt; splits(&rt, &job, &[1, 1], &[1, 2]));
 }
 

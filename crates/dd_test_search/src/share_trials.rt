@@ -3,24 +3,11 @@ ghost use Rattle.dd_branch_tables.specs.Rows.{partial_of, IsReady};
 ghost use Rattle.dd_branch_tables.specs.Stem.{IsStem};
 ghost use Rattle.dd_branch_bounds.specs.Kept.{AreSides};
 
+use crate::fixtures::asked;
 use dd_branch_bounds::{PathShares, TablePaths, parity_rules_out};
 use dd_branch_tables::{PartialTable, Stem, Visit};
-use dd_model::{Allowed, Request};
+use dd_model::Allowed;
 use std::test::Fail;
-
-/// Returns a request for at most `tiles` classes of tiles, with degrees from a least one on.
-fn asked(tiles: u32, least: u32) -> Request
-    requires { (1 ≤ least) × (least ≤ 36) }
-{
-    Request {
-        chambers: 36,
-        tiles,
-        vertices: 0,
-        faces: Allowed::least(least),
-        degrees: Allowed::least(least),
-        minimal: false,
-    }
-}
 
 /// Returns whether nothing with `size` chambers is sought.
 fn is_empty(tiles: u32, least: u32, size: u8) -> bool
@@ -28,7 +15,7 @@ fn is_empty(tiles: u32, least: u32, size: u8) -> bool
     requires size { (1 ≤ size) × (size ≤ 36) }
 {
     let rows = PartialTable::empty(size);
-    let classes = PathShares::of(&asked(tiles, least), size);
+    let classes = PathShares::of(&asked(36, tiles, least), size);
     TablePaths::start(&classes).rules_out(&classes, &rows)
 }
 
@@ -71,7 +58,7 @@ fn put(
 fn answers() -> [bool; 6] {
     let empty = PartialTable::empty(6);
     let mut rows = PartialTable::empty(6);
-    let classes = PathShares::of(&asked(0, 4), 6);
+    let classes = PathShares::of(&asked(36, 0, 4), 6);
     let start = TablePaths::start(&classes);
     let mut sides = start;
     let before = sides.rules_out(&classes, &rows);
@@ -110,7 +97,7 @@ fn is_empty_with_a_tile(tiles: u32, least: u32) -> bool
     requires { (1 ≤ least) × (least ≤ 36) }
 {
     let mut rows = PartialTable::empty(3);
-    let classes = PathShares::of(&asked(tiles, least), 3);
+    let classes = PathShares::of(&asked(36, tiles, least), 3);
     let mut sides = TablePaths::start(&classes);
     put(&mut rows, &classes, &mut sides, 0, 1)
         && put(&mut rows, &classes, &mut sides, 1, 1)
@@ -132,7 +119,7 @@ fn a_whole_tile_leaves_no_room(rt: HostRuntime) -> Result<(), Fail> {
 fn answers_for_pentagons() -> [bool; 3] {
     let mut faces = Allowed::none();
     faces.add(5);
-    let mut request = asked(0, 3);
+    let mut request = asked(36, 0, 3);
     request.faces = faces;
     let mut rows = PartialTable::empty(20);
     let classes = PathShares::of(&request, 20);
@@ -157,7 +144,7 @@ fn is_empty_with_a_chain(size: u8) -> bool
     requires { (1 ≤ size) × (size ≤ 36) }
 {
     let mut rows = PartialTable::empty(size);
-    let classes = PathShares::of(&asked(1, 3), size);
+    let classes = PathShares::of(&asked(36, 1, 3), size);
     let mut sides = TablePaths::start(&classes);
     put(&mut rows, &classes, &mut sides, 0, 1) && sides.rules_out(&classes, &rows)
 }
@@ -167,7 +154,7 @@ fn is_refused_with_a_chain(size: u8) -> bool
     requires { (1 ≤ size) × (size ≤ 36) }
 {
     let rows = PartialTable::empty(size);
-    let classes = PathShares::of(&asked(1, 3), size);
+    let classes = PathShares::of(&asked(36, 1, 3), size);
     TablePaths::start(&classes).rules_out_number(&classes, &rows, 0, 1)
 }
 
@@ -240,7 +227,7 @@ fn nodes_of(tiles: u32, least: u32, size: u8) -> u64
 {
     let mut stem = Stem::new(size);
     let mut visit = Visit::new();
-    let classes = PathShares::of(&asked(tiles, least), size);
+    let classes = PathShares::of(&asked(36, tiles, least), size);
     let start = TablePaths::start(&classes);
     count_nodes(&mut stem, &mut visit, &classes, &start, 0)
 }

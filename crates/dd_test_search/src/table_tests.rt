@@ -1,36 +1,14 @@
 ghost use Rattle.std.specs.Prelude.{◌≡◌};
 ghost use Rattle.dd_branch_tables.specs.Stem.{IsStem};
 
+use crate::fixtures::{asked, job, opened, tables};
 use dd_branch_degrees::Table;
 use dd_branch_tables::{Stem, Visit};
-use dd_front_jobs::{is_opening, opening};
-use dd_invol::{Walk, children, tables_under};
-use dd_model::{Allowed, Index, Job, Prefix, Request};
+use dd_front_jobs::is_opening;
+use dd_invol::{Walk, children};
+use dd_model::{Index, Job, Request};
 use std::alloc::Global;
 use std::process::Abort;
-
-fn asked(chambers: u32) -> Request {
-    Request {
-        chambers,
-        tiles: 0,
-        vertices: 0,
-        faces: Allowed::least(3),
-        degrees: Allowed::least(3),
-        minimal: false,
-    }
-}
-
-fn job<R: Abort>(rt: &R, alloc: Global, size: u32, numbers: &[u8]) -> Job {
-    let prefix = Prefix::from_slice(alloc, numbers).expect(rt, "a prefix");
-    Job { size, prefix }
-}
-
-/// Returns the opening of a request for at most `chambers` chambers.
-fn opened<R: Abort>(rt: &R, alloc: Global, chambers: u32) -> Vec<Job> {
-    let q = asked(chambers);
-    assert!(rt; q.is_valid());
-    opening(alloc, &q).expect(rt, "the jobs")
-}
 
 fn count_of(jobs: &[Job], size: u32) -> usize {
     jobs.iter().filter(|job| job.size == size).count()
@@ -51,7 +29,7 @@ fn opening_of_two_chambers(rt: HostRuntime) {
         &[2, 2, 1, 1, 1, 2],
         &[2, 2, 2, 1, 1, 1],
     ];
-    let jobs = opened(&rt, rt.alloc(), 2);
+    let jobs = opened(&rt, rt.alloc(), &asked(2, 0, 3));
     assert_eq!(rt; jobs.len(), 8);
     assert!(rt; has(&jobs[0], 1, &[1, 1, 1]));
     for (job, numbers) in jobs.iter().skip(1).zip(expected.iter()) {
@@ -72,7 +50,7 @@ fn openings_by_size(rt: HostRuntime) {
         (8, 317),
         (9, 317),
     ];
-    let jobs = opened(&rt, rt.alloc(), 9);
+    let jobs = opened(&rt, rt.alloc(), &asked(9, 0, 3));
     for (size, expected) in counts {
         assert_eq!(rt; count_of(jobs.as_slice(), size), expected);
     }
@@ -81,7 +59,7 @@ fn openings_by_size(rt: HostRuntime) {
 /// Returns whether a job of two chambers is one of an opening.
 fn is_opening_job<R: Abort>(rt: &R, alloc: Global, numbers: &[u8]) -> bool {
     let job = job(rt, alloc, 2, numbers);
-    is_opening(&asked(2), &job)
+    is_opening(&asked(2, 0, 3), &job)
 }
 
 #[test]
@@ -91,7 +69,7 @@ fn jobs_of_an_opening(rt: HostRuntime) {
 }
 
 fn children_of<R: Abort>(rt: &R, alloc: Global, job: &Job) -> Vec<Job> {
-    let q = asked(2);
+    let q = asked(2, 0, 3);
     assert!(rt; q.is_valid() && job.size == 2 && job.size <= q.chambers);
     assert!(rt; job.prefix.as_slice().len() < 6);
     children(alloc, &q, job).expect(rt, "the children")
@@ -184,13 +162,6 @@ fn tables_from_numbers(rt: HostRuntime) {
     }
 }
 
-/// The tables under a job.
-fn tables<R: Abort>(rt: &R, alloc: Global, q: &Request, job: &Job) -> Vec<Table> {
-    assert!(rt; q.is_valid() && job.size >= 1 && job.size <= q.chambers);
-    assert!(rt; job.prefix.as_slice().len() as u64 <= 3 * job.size as u64);
-    tables_under(alloc, q, job).expect(rt, "the tables")
-}
-
 /// The images of chamber 1 of a table.
 fn first_images(table: &Table) -> [u32; 3] {
     let symbol = table.symbol().symbol();
@@ -203,9 +174,9 @@ fn first_images(table: &Table) -> [u32; 3] {
 
 /// How many tables of a size all jobs of the opening have.
 fn count_walked<R: Abort>(rt: &R, alloc: Global, size: u32) -> usize {
-    let q = asked(5);
+    let q = asked(5, 0, 3);
     let mut count = 0usize;
-    for job in &opened(rt, alloc, 5) {
+    for job in &opened(rt, alloc, &q) {
         if job.size == size {
             count = count.saturating_add(tables(rt, alloc, &q, job).len());
         }
@@ -237,7 +208,7 @@ fn begin_with(tables: &[Table], expected: &[[u32; 3]]) -> bool {
 
 #[test]
 fn a_walk_ascends(rt: HostRuntime) {
-    let tables = tables_from(&rt, rt.alloc(), &asked(2), &[1]);
+    let tables = tables_from(&rt, rt.alloc(), &asked(2, 0, 3), &[1]);
     assert!(rt; begin_with(&tables, &[[1, 1, 2], [1, 2, 1], [1, 2, 2]]));
 }
 
@@ -266,7 +237,7 @@ fn walk_from<R: Abort>(rt: &R, alloc: Global, q: &Request, job: &Job) -> Walk {
 /// The walk from the job (2; 1).
 fn walk<R: Abort>(rt: &R, alloc: Global) -> Walk {
     let job = job(rt, alloc, 2, &[1]);
-    walk_from(rt, alloc, &asked(2), &job)
+    walk_from(rt, alloc, &asked(2, 0, 3), &job)
 }
 
 /// The images of the table to which a walk goes on, where there is one.
@@ -290,7 +261,7 @@ fn a_walk_advances(rt: HostRuntime) {
 /// Returns the tables of two chambers for a request with limits on the classes of tiles and of
 /// vertices.
 fn limited<R: Abort>(rt: &R, alloc: Global, tiles: u32, vertices: u32) -> Vec<Table> {
-    let mut q = asked(2);
+    let mut q = asked(2, 0, 3);
     q.tiles = tiles;
     q.vertices = vertices;
     tables_from(rt, alloc, &q, &[])

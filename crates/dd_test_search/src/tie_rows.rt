@@ -2,41 +2,14 @@ ghost use Rattle.std.specs.Prelude.{◌≤◌};
 ghost use Rattle.dd_model.specs.Request.{IsValid};
 ghost use Rattle.dd_model.specs.Jobs.{IsJobOf};
 
+use crate::fixtures::{asked, opened, tables};
 use dd_branch_degrees::{Table, Ties, members_of};
 use dd_canon::tied_starts;
-use dd_front_jobs::opening;
-use dd_invol::tables_under;
 use dd_member_lists::SymbolList;
-use dd_model::{Allowed, Job, Request};
+use dd_model::{Job, Request};
 use dd_symbol::Connected;
 use std::alloc::Global;
 use std::process::Abort;
-
-/// Returns the request for at most `chambers` chambers, with all degrees.
-fn asked(chambers: u32) -> Request {
-    Request {
-        chambers,
-        tiles: 0,
-        vertices: 0,
-        faces: Allowed::least(1),
-        degrees: Allowed::least(1),
-        minimal: false,
-    }
-}
-
-/// The jobs with which the catalogue of a request begins.
-fn jobs<R: Abort + Alloc<A = Global>>(rt: &R, request: &Request) -> Vec<Job> {
-    assert!(rt; request.is_valid());
-    opening(rt.alloc(), request).expect(rt, "the jobs")
-}
-
-/// The tables under a job.
-fn tables<R: Abort + Alloc<A = Global>>(rt: &R, request: &Request, job: &Job) -> Vec<Table> {
-    assert!(rt; request.is_valid());
-    assert!(rt; job.size >= 1 && job.size <= request.chambers);
-    assert!(rt; job.prefix.as_slice().len() as u64 <= 3 * job.size as u64);
-    tables_under(rt.alloc(), request, job).expect(rt, "the tables")
-}
 
 /// What is known of the other chambers from which a table may be numbered as it stands.
 fn ties_of<R: Abort + Alloc<A = Global>>(rt: &R, table: &Table) -> Ties {
@@ -57,7 +30,7 @@ fn counts_of_ties<R: Abort + Alloc<A = Global>>(rt: &R, table: &Table) -> (u64, 
 
 /// Returns the same for all tables under a job.
 fn ties_under<R: Abort + Alloc<A = Global>>(rt: &R, request: &Request, job: &Job) -> (u64, u64) {
-    let tables = tables(rt, request, job);
+    let tables = tables(rt, rt.alloc(), request, job);
     let mut ties = 0u64;
     let mut found = 0u64;
     for table in &tables {
@@ -71,10 +44,10 @@ fn ties_under<R: Abort + Alloc<A = Global>>(rt: &R, request: &Request, job: &Job
 /// No contract says that automorphisms are found: where there are none, numberings are compared.
 #[test]
 fn each_tie_has_an_automorphism(rt: HostRuntime) {
-    let request = asked(8);
+    let request = asked(8, 0, 1);
     let mut ties = 0u64;
     let mut found = 0u64;
-    for job in &jobs(&rt, &request) {
+    for job in &opened(&rt, rt.alloc(), &request) {
         let (more, others) = ties_under(&rt, &request, job);
         ties = ties.saturating_add(more);
         found = found.saturating_add(others);
@@ -121,7 +94,7 @@ fn counts_of_members<R: Abort + Alloc<A = Global>>(
 fn members_under<R: Abort + Alloc<A = Global>>(rt: &R, request: &Request, job: &Job) -> (u64, u64) {
     let mut members = 0u64;
     let mut made = 0u64;
-    for table in tables(rt, request, job) {
+    for table in tables(rt, rt.alloc(), request, job) {
         let (more, others) = counts_of_members(rt, request, table);
         members = members.saturating_add(more);
         made = made.saturating_add(others);
@@ -132,10 +105,10 @@ fn members_under<R: Abort + Alloc<A = Global>>(rt: &R, request: &Request, job: &
 /// The flat symbols on least tables are those that the ties of their tables make of the members.
 #[test]
 fn ties_make_the_flat_symbols_of_the_members(rt: HostRuntime) {
-    let request = asked(10);
+    let request = asked(10, 0, 1);
     let mut members = 0u64;
     let mut made = 0u64;
-    for job in &jobs(&rt, &request) {
+    for job in &opened(&rt, rt.alloc(), &request) {
         let (more, others) = members_under(&rt, &request, job);
         members = members.saturating_add(more);
         made = made.saturating_add(others);

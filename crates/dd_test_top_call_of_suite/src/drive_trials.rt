@@ -2,7 +2,8 @@ ghost use Rattle.std.specs.Prelude.{IfSome, map};
 ghost use Rattle.std.specs.Rc.{rc_str_bytes};
 ghost use Rattle.dd_suite_chains.specs.Words.{AskToKeep};
 
-use dd_ports::{MemorySink, MemoryStore, OpenGate, SureSink, SureStore};
+use crate::running::{sink_failing_at, words_of};
+use dd_ports::{MemoryStore, OpenGate, SureSink, SureStore};
 use dd_suite::run;
 use dd_suite_chains::{Drive, drive};
 use dd_suite_tasks::Status;
@@ -25,15 +26,6 @@ struct Faults {
     write: u64,
 }
 
-fn words_of<R: Abort>(rt: &R, alloc: Global, texts: &[&str]) -> Vec<RcStr> {
-    let mut words = Vec::new(alloc);
-    for text in texts {
-        let word = RcStr::from_str(alloc, text).expect(rt, "a word");
-        words.push(word).expect(rt, "room for a word");
-    }
-    words
-}
-
 /// The name under which words of a catalogue keep a checkpoint.
 fn kept_name(alloc: Global, words: &[RcStr]) -> Option<Name>
     ensures { IfSome result (AskToKeep (map rc_str_bytes words.now)) }
@@ -51,19 +43,14 @@ fn number<R: Abort>(rt: &R, alloc: Global, number: u64) -> Vec<u64> {
     Vec::from_slice(alloc, &[number]).expect(rt, "a number")
 }
 
-/// A sink that fails at the write of this number.
-fn sink_failing_at<R: Abort>(rt: &R, alloc: Global, write: u64) -> MemorySink {
-    MemorySink::new(alloc, number(rt, alloc, write), 1000)
-}
-
 /// What a chain of at most two runs comes to.
 fn driven<R: Threads + Wait + Sync + Abort>(rt: &R, alloc: Global, faults: Faults) -> Drive {
     let words = words_of(rt, alloc, FIRST.as_slice());
     let name = kept_name(alloc, &words).expect(rt, "words that keep a checkpoint");
     let calls = number(rt, alloc, faults.call);
     let mut store = MemoryStore::new(alloc, calls, faults.keeps_new);
-    let first = sink_failing_at(rt, alloc, faults.write);
-    let mut sinks = [first, sink_failing_at(rt, alloc, 0)];
+    let first = sink_failing_at(rt, alloc, faults.write, 1000);
+    let mut sinks = [first, sink_failing_at(rt, alloc, 0, 1000)];
     let driven = drive(
         rt,
         alloc,
