@@ -1,4 +1,4 @@
-use crate::running::{run_words, sink_failing_at, written};
+use crate::running::{Faults, run_words, sink_failing_at, store_of, written};
 use dd_check::read_checkpoint;
 use dd_ports::{MemoryStore, SureSink};
 use dd_suite_tasks::Status;
@@ -10,22 +10,8 @@ use std::thread::Threads;
 /// The words of the first call.
 const FIRST: [&str; 6] = ["catalogue", "3", "--round", "1", "--checkpoint", "c"];
 
-/// Which call of the store fails, and what it leaves, and which write of the first run fails; 0 is
-/// none.
-#[derive(Clone, Copy, Debug)]
-struct Faults {
-    call: u64,
-    keeps_new: bool,
-    write: u64,
-}
-
 /// How many calls a chain has at most.
 const MOST_CALLS: u32 = 4;
-
-fn store_of<R: Abort>(rt: &R, alloc: Global, call: u64, keeps_new: bool) -> MemoryStore {
-    let calls = Vec::from_slice(alloc, &[call]).expect(rt, "a number");
-    MemoryStore::new(alloc, calls, keeps_new)
-}
 
 /// Returns the number of the run of the checkpoint that the name holds, and its number of bytes;
 /// zeros if there is none.

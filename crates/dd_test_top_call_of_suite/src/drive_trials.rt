@@ -2,8 +2,8 @@ ghost use Rattle.std.specs.Prelude.{IfSome, map};
 ghost use Rattle.std.specs.Rc.{rc_str_bytes};
 ghost use Rattle.dd_suite_chains.specs.Words.{AskToKeep};
 
-use crate::running::{sink_failing_at, words_of};
-use dd_ports::{MemoryStore, OpenGate, SureSink, SureStore};
+use crate::running::{Faults, sink_failing_at, store_of, words_of};
+use dd_ports::{OpenGate, SureSink, SureStore};
 use dd_suite::run;
 use dd_suite_chains::{Drive, drive};
 use dd_suite_tasks::Status;
@@ -16,15 +16,6 @@ use std::thread::Threads;
 
 /// The words of the first run.
 const FIRST: [&str; 6] = ["catalogue", "2", "--round", "1", "--checkpoint", "c"];
-
-/// Which call of the store fails, and what it leaves, and which write of the first run fails; 0 is
-/// none.
-#[derive(Clone, Copy, Debug)]
-struct Faults {
-    call: u64,
-    keeps_new: bool,
-    write: u64,
-}
 
 /// The name under which words of a catalogue keep a checkpoint.
 fn kept_name(alloc: Global, words: &[RcStr]) -> Option<Name>
@@ -39,16 +30,11 @@ fn kept_name(alloc: Global, words: &[RcStr]) -> Option<Name>
     }
 }
 
-fn number<R: Abort>(rt: &R, alloc: Global, number: u64) -> Vec<u64> {
-    Vec::from_slice(alloc, &[number]).expect(rt, "a number")
-}
-
 /// What a chain of at most two runs comes to.
 fn driven<R: Threads + Wait + Sync + Abort>(rt: &R, alloc: Global, faults: Faults) -> Drive {
     let words = words_of(rt, alloc, FIRST.as_slice());
     let name = kept_name(alloc, &words).expect(rt, "words that keep a checkpoint");
-    let calls = number(rt, alloc, faults.call);
-    let mut store = MemoryStore::new(alloc, calls, faults.keeps_new);
+    let mut store = store_of(rt, alloc, faults.call, faults.keeps_new);
     let first = sink_failing_at(rt, alloc, faults.write, 1000);
     let mut sinks = [first, sink_failing_at(rt, alloc, 0, 1000)];
     let driven = drive(

@@ -1,6 +1,6 @@
 ghost use Rattle.std.specs.Prelude.{◌<◌};
 
-use dd_ports::{MemorySink, OpenGate, Sink, Store, SureSink, SureStore};
+use dd_ports::{MemorySink, MemoryStore, OpenGate, Sink, Store, SureSink, SureStore};
 use dd_suite::run;
 use dd_suite_tasks::Status;
 use std::alloc::Global;
@@ -9,6 +9,15 @@ use std::rc::RcStr;
 use std::sync::Wait;
 use std::thread::Threads;
 
+/// Which call of the store fails, and what it leaves, and which write of the first run fails; 0 is
+/// none.
+#[derive(Clone, Copy, Debug)]
+pub(crate) struct Faults {
+    pub(crate) call: u64,
+    pub(crate) keeps_new: bool,
+    pub(crate) write: u64,
+}
+
 pub(crate) fn words_of<R: Abort>(rt: &R, alloc: Global, texts: &[&str]) -> Vec<RcStr> {
     let mut words = Vec::new(alloc);
     for text in texts {
@@ -16,6 +25,12 @@ pub(crate) fn words_of<R: Abort>(rt: &R, alloc: Global, texts: &[&str]) -> Vec<R
         words.push(word).expect(rt, "room for a word");
     }
     words
+}
+
+/// A store whose call of this number fails.
+pub(crate) fn store_of<R: Abort>(rt: &R, alloc: Global, call: u64, keeps_new: bool) -> MemoryStore {
+    let calls = Vec::from_slice(alloc, &[call]).expect(rt, "a number");
+    MemoryStore::new(alloc, calls, keeps_new)
 }
 
 /// A store that holds this file under `f`.
