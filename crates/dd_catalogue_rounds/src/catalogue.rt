@@ -1,6 +1,7 @@
 ghost use Rattle.std.specs.Prelude.{◌≡◌, ◌≤◌, ℕ, List, true};
 ghost use Rattle.dd_ports.specs.declared.sink.SinkFault.TheVariants.{Failed};
-ghost use Rattle.dd_ports.specs.Causes.{HasCause, StaysSure};
+ghost use Rattle.dd_ports.specs.Causes.{HasCause};
+ghost use Rattle.dd_ports.specs.States.{SinkStaysSure};
 ghost use Rattle.dd_pages_and_checkpoints.specs.Runs.{start_of};
 ghost use Rattle.dd_pages_and_checkpoints.specs.Pages.{IsEmpty};
 ghost use Rattle.dd_catalogue_rounds.specs.Works.{IsBegun};
@@ -29,8 +30,7 @@ pub fn write_catalogue<R: Threads + Wait + Sync, F: Finder + Sync, G: Gate + Syn
     ensures output { (output : List ℕ) × IsOutput (start_of run.now) run.now.pause
         (O.held out.old) (O.held out.new) result output }
     ensures cause { HasCause Failed (O.faults out.old) (O.faults out.new) result }
-    ensures sure { O.sure out.old ≡ true
-        → StaysSure Failed (O.faults out.old) (O.faults out.new) (O.sure out.new) result }
+    ensures sure { SinkStaysSure O.Sink Failed out.old out.new result }
 {
     let Ok(mut front) = lone_front_of(workshop.alloc, finder, run) else {
         return Err(SinkFault::Memory);
@@ -57,8 +57,7 @@ fn write_rounds<R: Threads + Wait + Sync, F: Finder + Sync, G: Gate + Sync, O: S
     ensures output { (output : List ℕ) × IsOutput (start_of run.now) run.now.pause
         (O.held out.old) (O.held out.new) result output }
     ensures cause { HasCause Failed (O.faults out.old) (O.faults out.new) result }
-    ensures sure { O.sure out.old ≡ true
-        → StaysSure Failed (O.faults out.old) (O.faults out.new) (O.sure out.new) result }
+    ensures sure { SinkStaysSure O.Sink Failed out.old out.new result }
 {
     let limit = run.limit();
     while let Ok(more) = do_long_round(workshop, finder, run.pace, front) {

@@ -1,8 +1,8 @@
 ghost use Rattle.std.specs.Prelude.{◌≡◌, ◌≤◌, ◌<◌, ℕ, Bool, List, Option, if◌then◌else◌, IfOk, OnOk, MatchBool, MatchOption, true, false};
 ghost use Rattle.std.specs.Bool.{OnTrue, OnFalse};
 ghost use Rattle.dd_ports.specs.declared.sink.SinkFault.TheVariants.{Failed};
-ghost use Rattle.dd_ports.specs.Causes.{HasCause, StaysSure};
-ghost use Rattle.dd_ports.specs.Texts.{SameOthers};
+ghost use Rattle.dd_ports.specs.Causes.{HasCause};
+ghost use Rattle.dd_ports.specs.States.{KeepsOthers, SinkStaysSure, StoreStaysSure};
 ghost use Rattle.dd_check.specs.Clauses.{HasWork};
 ghost use Rattle.dd_pages_and_checkpoints.specs.declared.fault.RunFault.TheVariants.{Store as StoreFailed, Sink as SinkFailed};
 ghost use Rattle.dd_pages_and_checkpoints.specs.Pages.{IsEmpty};
@@ -53,14 +53,11 @@ pub fn write_run<R: Threads + Wait + Sync, F: Finder + Sync, G: Gate + Sync, S: 
     ensures run { HasRun (start_of run.now) run.now.pace.round run.now.pause
         (O.held out.old) (O.held out.new)
         (S.tells store.old) (S.held store.old name.now) (S.held store.new name.now) result }
-    ensures others { S.tells store.old ≡ true → (S.tells store.new ≡ true)
-        × SameOthers name.now (S.held store.old) (S.held store.new) }
+    ensures others { KeepsOthers S.Store name.now store.old store.new }
     ensures store_cause { HasCause StoreFailed (S.faults store.old) (S.faults store.new) result }
     ensures sink_cause { HasCause SinkFailed (O.faults out.old) (O.faults out.new) result }
-    ensures store_sure { S.sure store.old ≡ true → StaysSure StoreFailed
-        (S.faults store.old) (S.faults store.new) (S.sure store.new) result }
-    ensures sink_sure { O.sure out.old ≡ true → StaysSure SinkFailed
-        (O.faults out.old) (O.faults out.new) (O.sure out.new) result }
+    ensures store_sure { StoreStaysSure S.Store StoreFailed store.old store.new result }
+    ensures sink_sure { SinkStaysSure O.Sink SinkFailed out.old out.new result }
 {
     let Ok(front) = front_of(workshop.alloc, finder, run) else {
         return Err(RunFault::Memory);
@@ -93,14 +90,11 @@ fn keep_rounds<R: Threads + Wait + Sync, F: Finder + Sync, G: Gate + Sync, S: St
     ensures run { HasRun (start_of run.now) run.now.pace.round run.now.pause
         (O.held out.old) (O.held out.new)
         (S.tells store.old) (S.held store.old name.now) (S.held store.new name.now) result }
-    ensures others { S.tells store.old ≡ true → (S.tells store.new ≡ true)
-        × SameOthers name.now (S.held store.old) (S.held store.new) }
+    ensures others { KeepsOthers S.Store name.now store.old store.new }
     ensures store_cause { HasCause StoreFailed (S.faults store.old) (S.faults store.new) result }
     ensures sink_cause { HasCause SinkFailed (O.faults out.old) (O.faults out.new) result }
-    ensures store_sure { S.sure store.old ≡ true → StaysSure StoreFailed
-        (S.faults store.old) (S.faults store.new) (S.sure store.new) result }
-    ensures sink_sure { O.sure out.old ≡ true → StaysSure SinkFailed
-        (O.faults out.old) (O.faults out.new) (O.sure out.new) result }
+    ensures store_sure { StoreStaysSure S.Store StoreFailed store.old store.new result }
+    ensures sink_sure { SinkStaysSure O.Sink SinkFailed out.old out.new result }
 {
     save_first(
         workshop.alloc,
@@ -157,14 +151,11 @@ fn keep_round<R: Threads + Sync, G, S: Store, O: Sink>(
         (S.held store.new name.now) (O.held out.new) output.new.page output.new.front result }
     ensures waiting { IfOk result (λ step. StillWait step output.old.front output.new.front) }
     ensures room { IfOk result (IsWithin output.new.page limit.last) }
-    ensures others { S.tells store.old ≡ true → (S.tells store.new ≡ true)
-        × SameOthers name.now (S.held store.old) (S.held store.new) }
+    ensures others { KeepsOthers S.Store name.now store.old store.new }
     ensures store_cause { HasCause StoreFailed (S.faults store.old) (S.faults store.new) result }
     ensures sink_cause { HasCause SinkFailed (O.faults out.old) (O.faults out.new) result }
-    ensures store_sure { S.sure store.old ≡ true → StaysSure StoreFailed
-        (S.faults store.old) (S.faults store.new) (S.sure store.new) result }
-    ensures sink_sure { O.sure out.old ≡ true → StaysSure SinkFailed
-        (O.faults out.old) (O.faults out.new) (O.sure out.new) result }
+    ensures store_sure { StoreStaysSure S.Store StoreFailed store.old store.new result }
+    ensures sink_sure { SinkStaysSure O.Sink SinkFailed out.old out.new result }
 {
     if output.is_kept {
         return write_kept(workshop, run, name, limit, output, store, out);
@@ -200,14 +191,11 @@ fn write_kept<R: Threads + Sync, G, S: Store, O: Sink>(
         (S.held store.new name.now) (O.held out.new) output.new.page output.new.front result }
     ensures waiting { IfOk result (λ step. StillWait step output.old.front output.new.front) }
     ensures room { IfOk result (IsWithin output.new.page limit.last) }
-    ensures others { S.tells store.old ≡ true → (S.tells store.new ≡ true)
-        × SameOthers name.now (S.held store.old) (S.held store.new) }
+    ensures others { KeepsOthers S.Store name.now store.old store.new }
     ensures store_cause { HasCause StoreFailed (S.faults store.old) (S.faults store.new) result }
     ensures sink_cause { HasCause SinkFailed (O.faults out.old) (O.faults out.new) result }
-    ensures store_sure { S.sure store.old ≡ true → StaysSure StoreFailed
-        (S.faults store.old) (S.faults store.new) (S.sure store.new) result }
-    ensures sink_sure { O.sure out.old ≡ true → StaysSure SinkFailed
-        (O.faults out.old) (O.faults out.new) (O.sure out.new) result }
+    ensures store_sure { StoreStaysSure S.Store StoreFailed store.old store.new result }
+    ensures sink_sure { SinkStaysSure O.Sink SinkFailed out.old out.new result }
 {
     loop {
         match write_part(workshop, run, name, limit, output, store, out)? {
@@ -244,14 +232,11 @@ fn write_part<R: Threads + Sync, G, S: Store, O: Sink>(
     ensures room { IfOk result (λ step. MatchOption step
         ((output.old.page.count < output.new.page.count) × (output.new.page.count ≤ limit.last))
         (IsWithin output.new.page limit.last)) }
-    ensures others { S.tells store.old ≡ true → (S.tells store.new ≡ true)
-        × SameOthers name.now (S.held store.old) (S.held store.new) }
+    ensures others { KeepsOthers S.Store name.now store.old store.new }
     ensures store_cause { HasCause StoreFailed (S.faults store.old) (S.faults store.new) result }
     ensures sink_cause { HasCause SinkFailed (O.faults out.old) (O.faults out.new) result }
-    ensures store_sure { S.sure store.old ≡ true → StaysSure StoreFailed
-        (S.faults store.old) (S.faults store.new) (S.sure store.new) result }
-    ensures sink_sure { O.sure out.old ≡ true → StaysSure SinkFailed
-        (O.faults out.old) (O.faults out.new) (O.sure out.new) result }
+    ensures store_sure { StoreStaysSure S.Store StoreFailed store.old store.new result }
+    ensures sink_sure { SinkStaysSure O.Sink SinkFailed out.old out.new result }
 {
     let alloc = workshop.alloc;
     let Output { front, page, .. } = output;
@@ -293,12 +278,10 @@ fn keep_member<S: Store>(
         → LeavesMember w run.now.pause tells start before
         (S.held store.new name.now) now page.now front.new result }
     ensures waiting { OnOk result (open_jobs front.new.entries ≡ open_jobs front.old.entries) }
-    ensures others { S.tells store.old ≡ true → (S.tells store.new ≡ true)
-        × SameOthers name.now (S.held store.old) (S.held store.new) }
+    ensures others { KeepsOthers S.Store name.now store.old store.new }
     ensures cause { HasCause StoreFailed (S.faults store.old) (S.faults store.new) result }
     ensures no_sink { result ≡ Err SinkFailed → ⊥ }
-    ensures sure { S.sure store.old ≡ true → StaysSure StoreFailed
-        (S.faults store.old) (S.faults store.new) (S.sure store.new) result }
+    ensures sure { StoreStaysSure S.Store StoreFailed store.old store.new result }
 {
     let Ok(more) = reach_member(front) else {
         return Err(RunFault::Memory);
@@ -331,12 +314,10 @@ fn keep_place<S: Store>(
         → Leaves (start_of run.now) most run.now.pause tells start before
         (S.held store.new name.now) now page.now front.now result }
     ensures next { IfOk result IsNextStep }
-    ensures others { S.tells store.old ≡ true → (S.tells store.new ≡ true)
-        × SameOthers name.now (S.held store.old) (S.held store.new) }
+    ensures others { KeepsOthers S.Store name.now store.old store.new }
     ensures cause { HasCause StoreFailed (S.faults store.old) (S.faults store.new) result }
     ensures no_sink { result ≡ Err SinkFailed → ⊥ }
-    ensures sure { S.sure store.old ≡ true → StaysSure StoreFailed
-        (S.faults store.old) (S.faults store.new) (S.sure store.new) result }
+    ensures sure { StoreStaysSure S.Store StoreFailed store.old store.new result }
 {
     if page.count >= MOST_LINES {
         return Ok(AfterRound::Next(false));
@@ -374,8 +355,7 @@ fn write_round<R: Threads + Sync, O: Sink>(
     ensures part { WritesPart (O.held out.old) (O.held out.new) page.old front.old }
     ensures cause { HasCause SinkFailed (O.faults out.old) (O.faults out.new) result }
     ensures no_store { result ≡ Err StoreFailed → ⊥ }
-    ensures sure { O.sure out.old ≡ true → StaysSure SinkFailed
-        (O.faults out.old) (O.faults out.new) (O.sure out.new) result }
+    ensures sure { SinkStaysSure O.Sink SinkFailed out.old out.new result }
 {
     match write_and_flush(rt, threads, last, front, page, out) {
         Ok(all) => Ok(all),
@@ -406,8 +386,7 @@ fn write_and_flush<R: Threads + Sync, O: Sink>(
     ensures still { OnOk result (open_jobs front.new.entries ≡ open_jobs front.old.entries) }
     ensures part { WritesPart (O.held out.old) (O.held out.new) page.old front.old }
     ensures cause { HasCause Failed (O.faults out.old) (O.faults out.new) result }
-    ensures sure { O.sure out.old ≡ true
-        → StaysSure Failed (O.faults out.old) (O.faults out.new) (O.sure out.new) result }
+    ensures sure { SinkStaysSure O.Sink Failed out.old out.new result }
 {
     let all = write_done(rt, threads, last, front, page, out)?;
     page.flush(rt, threads, out)?;
@@ -431,12 +410,10 @@ fn end_full<S: Store>(
         (Saves (start_of run.now) page.now front.now
         (S.held store.old name.now) (S.held store.new name.now) result)
         (S.held store.new name.now ≡ S.held store.old name.now) }
-    ensures others { S.tells store.old ≡ true → (S.tells store.new ≡ true)
-        × SameOthers name.now (S.held store.old) (S.held store.new) }
+    ensures others { KeepsOthers S.Store name.now store.old store.new }
     ensures cause { HasCause StoreFailed (S.faults store.old) (S.faults store.new) result }
     ensures no_sink { result ≡ Err SinkFailed → ⊥ }
-    ensures sure { S.sure store.old ≡ true → StaysSure StoreFailed
-        (S.faults store.old) (S.faults store.new) (S.sure store.new) result }
+    ensures sure { StoreStaysSure S.Store StoreFailed store.old store.new result }
 {
     if !limit.pauses {
         return Ok(Finish::CutShort);

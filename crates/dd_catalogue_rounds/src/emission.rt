@@ -1,7 +1,8 @@
 ghost use Rattle.std.specs.Prelude.{◌≡◌, ◌+◌, ◌≤◌, List, IfOk, OnOk, MatchBool, true};
 ghost use Rattle.std.specs.Bool.{OnTrue, OnFalse};
 ghost use Rattle.dd_ports.specs.declared.sink.SinkFault.TheVariants.{Failed};
-ghost use Rattle.dd_ports.specs.Causes.{HasCause, StaysSure};
+ghost use Rattle.dd_ports.specs.Causes.{HasCause};
+ghost use Rattle.dd_ports.specs.States.{SinkStaysSure};
 ghost use Rattle.dd_model.specs.Symbol.{Symbol};
 ghost use Rattle.dd_front.specs.declared.event.Event.TheVariants.{Part};
 ghost use Rattle.dd_front.specs.Allowed.{HasFirst, MayPart};
@@ -74,8 +75,7 @@ pub(crate) fn write_done<R: Threads + Sync, O: Sink>(
     ensures still { OnOk result (open_jobs front.new.entries ≡ open_jobs front.old.entries) }
     ensures part { WritesPart (O.held out.old) (O.held out.new) page.old front.old }
     ensures cause { HasCause Failed (O.faults out.old) (O.faults out.new) result }
-    ensures sure { O.sure out.old ≡ true
-        → StaysSure Failed (O.faults out.old) (O.faults out.new) (O.sure out.new) result }
+    ensures sure { SinkStaysSure O.Sink Failed out.old out.new result }
 {
     while count_at_front(front).is_some() {
         let room = last - page.count;
@@ -106,8 +106,7 @@ fn write_last<R: Threads + Sync, O: Sink>(
     ensures still { OnOk result (open_jobs front.new.entries ≡ open_jobs front.old.entries) }
     ensures part { WritesPart (O.held out.old) (O.held out.new) page.old front.old }
     ensures cause { HasCause Failed (O.faults out.old) (O.faults out.new) result }
-    ensures sure { O.sure out.old ≡ true
-        → StaysSure Failed (O.faults out.old) (O.faults out.new) (O.sure out.new) result }
+    ensures sure { SinkStaysSure O.Sink Failed out.old out.new result }
 {
     let Ok(list) = front.part(count) else {
         return Err(SinkFault::Memory);

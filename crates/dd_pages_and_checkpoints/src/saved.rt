@@ -1,7 +1,7 @@
 ghost use Rattle.std.specs.Prelude.{◌≡◌, IfOk, OnOk, true};
 ghost use Rattle.dd_check.specs.Writing.{AddsSaved};
-ghost use Rattle.dd_ports.specs.Causes.{HasCause, StaysSure};
-ghost use Rattle.dd_ports.specs.Texts.{SameOthers};
+ghost use Rattle.dd_ports.specs.Causes.{HasCause};
+ghost use Rattle.dd_ports.specs.States.{KeepsOthers, StoreStaysSure};
 ghost use Rattle.dd_pages_and_checkpoints.specs.declared.fault.RunFault.TheVariants.{Store as StoreFailed, Sink as SinkFailed};
 ghost use Rattle.dd_pages_and_checkpoints.specs.Runs.{start_of};
 ghost use Rattle.dd_pages_and_checkpoints.specs.Saves.{IsCheckAt, Saves, SavesFirst};
@@ -56,12 +56,10 @@ pub fn save<S: Store>(
 ) -> Result<(), RunFault>
     ensures saves { S.tells store.old ≡ true → Saves (start_of run.now) page.now front.now
         (S.held store.old name.now) (S.held store.new name.now) result }
-    ensures others { S.tells store.old ≡ true → (S.tells store.new ≡ true)
-        × SameOthers name.now (S.held store.old) (S.held store.new) }
+    ensures others { KeepsOthers S.Store name.now store.old store.new }
     ensures cause { HasCause StoreFailed (S.faults store.old) (S.faults store.new) result }
     ensures no_sink { result ≡ Err SinkFailed → ⊥ }
-    ensures sure { S.sure store.old ≡ true → StaysSure StoreFailed
-        (S.faults store.old) (S.faults store.new) (S.sure store.new) result }
+    ensures sure { StoreStaysSure S.Store StoreFailed store.old store.new result }
 {
     let Ok(text) = check_text(alloc, run, front, page) else {
         return Err(RunFault::Memory);
@@ -84,12 +82,10 @@ pub fn save_first<S: Store>(
 ) -> Result<(), RunFault>
     ensures saves { S.tells store.old ≡ true → SavesFirst (start_of run.now) page.now front.now
         (S.held store.old name.now) (S.held store.new name.now) result }
-    ensures others { S.tells store.old ≡ true → (S.tells store.new ≡ true)
-        × SameOthers name.now (S.held store.old) (S.held store.new) }
+    ensures others { KeepsOthers S.Store name.now store.old store.new }
     ensures cause { HasCause StoreFailed (S.faults store.old) (S.faults store.new) result }
     ensures no_sink { result ≡ Err SinkFailed → ⊥ }
-    ensures sure { S.sure store.old ≡ true → StaysSure StoreFailed
-        (S.faults store.old) (S.faults store.new) (S.sure store.new) result }
+    ensures sure { StoreStaysSure S.Store StoreFailed store.old store.new result }
 {
     if run.number != 1 {
         return Ok(());

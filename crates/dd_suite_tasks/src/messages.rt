@@ -1,8 +1,9 @@
 ghost use Rattle.std.specs.Prelude.{◌≡◌, ◌≤◌, OnOk, IsErrOf, true};
 ghost use Rattle.std.specs.Io.KnownBytes.{Appends};
 ghost use Rattle.dd_ports.specs.declared.sink.SinkFault.TheVariants.{Failed, Memory};
-ghost use Rattle.dd_ports.specs.Causes.{HasCause, StaysSure};
+ghost use Rattle.dd_ports.specs.Causes.{HasCause};
 ghost use Rattle.dd_ports.specs.Grows.{GrowsByPrefix};
+ghost use Rattle.dd_ports.specs.States.{SinkStaysSure};
 ghost use Rattle.dd_suite_tasks.specs.Endings.{message_of, fault_line, refusal_line};
 ghost use Rattle.dd_suite_tasks.specs.Endings.{check_line, merge_line, pause_line};
 ghost use Rattle.dd_suite_tasks.specs.Messages.{IsShort};
@@ -24,8 +25,7 @@ pub fn tell<E: Sink>(alloc: Global, ending: Ending, err: &mut E) -> Result<(), S
     ensures shortage { IsErrOf result Memory
         → IsShort ending (E.shortages err.old) (E.shortages err.new) }
     ensures shortages { E.shortages err.old ≤ E.shortages err.new }
-    ensures sure { E.sure err.old ≡ true
-        → StaysSure Failed (E.faults err.old) (E.faults err.new) (E.sure err.new) result }
+    ensures sure { SinkStaysSure E.Sink Failed err.old err.new result }
 {
     match ending {
         Ending::Done => Ok(()),
@@ -48,8 +48,7 @@ fn tell_fault<E: Sink>(alloc: Global, fault: FileFault, err: &mut E) -> Result<(
     ensures prefix { GrowsByPrefix (E.held err.old) (E.held err.new) (fault_line fault) }
     ensures cause { HasCause Failed (E.faults err.old) (E.faults err.new) result }
     ensures shortages { E.shortages err.old ≤ E.shortages err.new }
-    ensures sure { E.sure err.old ≡ true
-        → StaysSure Failed (E.faults err.old) (E.faults err.new) (E.sure err.new) result }
+    ensures sure { SinkStaysSure E.Sink Failed err.old err.new result }
 {
     let line = format!(in alloc; "dressline: file: {fault}\n")?;
     write_all_of(err, line.as_bytes())
@@ -66,8 +65,7 @@ fn tell_refusal<E: Sink>(
     ensures prefix { GrowsByPrefix (E.held err.old) (E.held err.new) (refusal_line refusal) }
     ensures cause { HasCause Failed (E.faults err.old) (E.faults err.new) result }
     ensures shortages { E.shortages err.old ≤ E.shortages err.new }
-    ensures sure { E.sure err.old ≡ true
-        → StaysSure Failed (E.faults err.old) (E.faults err.new) (E.sure err.new) result }
+    ensures sure { SinkStaysSure E.Sink Failed err.old err.new result }
 {
     let line = format!(in alloc; "dressline: {refusal}\n")?;
     write_all_of(err, line.as_bytes())
@@ -79,8 +77,7 @@ fn tell_check<E: Sink>(alloc: Global, fault: ShardFault, err: &mut E) -> Result<
     ensures prefix { GrowsByPrefix (E.held err.old) (E.held err.new) (check_line fault) }
     ensures cause { HasCause Failed (E.faults err.old) (E.faults err.new) result }
     ensures shortages { E.shortages err.old ≤ E.shortages err.new }
-    ensures sure { E.sure err.old ≡ true
-        → StaysSure Failed (E.faults err.old) (E.faults err.new) (E.sure err.new) result }
+    ensures sure { SinkStaysSure E.Sink Failed err.old err.new result }
 {
     let line = format!(in alloc; "dressline: checkpoint: {fault}\n")?;
     write_all_of(err, line.as_bytes())
@@ -92,8 +89,7 @@ fn tell_merge<E: Sink>(alloc: Global, refusal: MergeRefusal, err: &mut E) -> Res
     ensures prefix { GrowsByPrefix (E.held err.old) (E.held err.new) (merge_line refusal) }
     ensures cause { HasCause Failed (E.faults err.old) (E.faults err.new) result }
     ensures shortages { E.shortages err.old ≤ E.shortages err.new }
-    ensures sure { E.sure err.old ≡ true
-        → StaysSure Failed (E.faults err.old) (E.faults err.new) (E.sure err.new) result }
+    ensures sure { SinkStaysSure E.Sink Failed err.old err.new result }
 {
     let line = format!(in alloc; "dressline: {refusal}\n")?;
     write_all_of(err, line.as_bytes())
@@ -105,8 +101,7 @@ fn tell_pause<E: Sink>(lines: u64, err: &mut E) -> Result<(), SinkFault>
     ensures prefix { GrowsByPrefix (E.held err.old) (E.held err.new) (pause_line lines) }
     ensures cause { HasCause Failed (E.faults err.old) (E.faults err.new) result }
     ensures shortage { HasCause Memory (E.shortages err.old) (E.shortages err.new) result }
-    ensures sure { E.sure err.old ≡ true
-        → StaysSure Failed (E.faults err.old) (E.faults err.new) (E.sure err.new) result }
+    ensures sure { SinkStaysSure E.Sink Failed err.old err.new result }
 {
     let mut digits = Buffer::new();
     write_all_of(err, b"dressline: paused at ")?;
