@@ -51,6 +51,18 @@ abbrev pub IsLeftAt : {S : Type 0} → SearchLaws S → (Symbol → Type 0) → 
 IsLeftAt laws W n state [] s = ⊥
 IsLeftAt laws W n state (level ∷ levels) s = IsToTry W n (laws.prefix state) level.left s ⊎ IsLeft laws W n state levels s
 
+-- under the prefix of a state, where the request and the size are those of the state in which a call began
+abbrev pub IsUnderState : {S : Type 0} → SearchLaws S → S → S → Symbol → Type 0
+IsUnderState laws begun state s = IsUnder (laws.wanted (laws.request begun)) (laws.size begun) (laws.prefix state) s
+
+-- what is still to be tried, likewise
+abbrev pub IsStillLeft : {S : Type 0} → SearchLaws S → S → S → List Level → Symbol → Type 0
+IsStillLeft laws begun state levels s = IsLeft laws (laws.wanted (laws.request begun)) (laws.size begun) state levels s
+
+-- the same where the state is that of the last level
+abbrev pub IsStillLeftAt : {S : Type 0} → SearchLaws S → S → S → List Level → Symbol → Type 0
+IsStillLeftAt laws begun state levels s = IsLeftAt laws (laws.wanted (laws.request begun)) (laws.size begun) state levels s
+
 -- the state at the first level from which the search came to a state, or the state itself
 abbrev pub first_of : {S : Type 0} → SearchLaws S → S → List Level → S
 first_of laws state [] = state

@@ -2,8 +2,7 @@ ghost use Rattle.std.specs.Prelude.{◌≡◌, ◌⊎◌, ◌↔◌, ◌<◌, []
 ghost use Rattle.std.specs.Bool.{OnTrue, OnFalse};
 ghost use Rattle.dd_model.specs.Symbol.{Symbol as Tiling};
 ghost use Rattle.dd_model.specs.Code.{IsBelow};
-ghost use Rattle.dd_front_jobs.specs.Under.{IsUnder};
-ghost use Rattle.dd_branch_tables.specs.Levels.{IsAt, IsBeyond, IsLeft, IsLeftAt, first_at, first_of, weight};
+ghost use Rattle.dd_branch_tables.specs.Levels.{IsAt, IsBeyond, IsStillLeft, IsStillLeftAt, IsUnderState, first_at, first_of, weight};
 
 use crate::level::Level;
 use crate::levels::Levels;
@@ -14,10 +13,8 @@ pub fn begin<T: PrefixSearch>(search: &T) -> Levels
     requires valid { T.laws.valid search.now }
     requires room { length (T.laws.prefix search.now) < T.laws.end (T.laws.size search.now) }
     ensures at { IsAt T.laws search.now result }
-    ensures left { (s : Tiling) → IsUnder (T.laws.wanted (T.laws.request search.now))
-        (T.laws.size search.now) (T.laws.prefix search.now) s
-        ↔ IsLeftAt T.laws (T.laws.wanted (T.laws.request search.now)) (T.laws.size search.now)
-        search.now result s }
+    ensures left { (s : Tiling) → IsUnderState T.laws search.now search.now s
+        ↔ IsStillLeftAt T.laws search.now search.now result s }
     ensures first { first_at T.laws search.now result ≡ search.now }
 {
     let mut levels = Levels::none();
@@ -42,21 +39,14 @@ pub fn advance<T: PrefixSearch>(search: &mut T, levels: &mut Levels) -> bool
     ensures first { OnTrue result (first_of T.laws search.new levels.new
         ≡ first_at T.laws search.old levels.old) }
     ensures left { OnTrue result ((s : Tiling)
-        → IsLeftAt T.laws (T.laws.wanted (T.laws.request search.old)) (T.laws.size search.old)
-        search.old levels.old s
-        ↔ (IsUnder (T.laws.wanted (T.laws.request search.old)) (T.laws.size search.old)
-        (T.laws.prefix search.new) s
-        ⊎ IsLeft T.laws (T.laws.wanted (T.laws.request search.old)) (T.laws.size search.old)
-        search.new levels.new s)) }
-    ensures order { OnTrue result ((s t : Tiling)
-        → IsUnder (T.laws.wanted (T.laws.request search.old)) (T.laws.size search.old)
-        (T.laws.prefix search.new) s
-        → IsLeft T.laws (T.laws.wanted (T.laws.request search.old)) (T.laws.size search.old)
-        search.new levels.new t → IsBelow s t) }
+        → IsStillLeftAt T.laws search.old search.old levels.old s
+        ↔ (IsUnderState T.laws search.old search.new s
+        ⊎ IsStillLeft T.laws search.old search.new levels.new s)) }
+    ensures order { OnTrue result ((s t : Tiling) → IsUnderState T.laws search.old search.new s
+        → IsStillLeft T.laws search.old search.new levels.new t → IsBelow s t) }
     ensures lighter { OnTrue result (weight levels.new < weight levels.old) }
     ensures none { OnFalse result ((s : Tiling)
-        → IsLeftAt T.laws (T.laws.wanted (T.laws.request search.old)) (T.laws.size search.old)
-        search.old levels.old s → ⊥) }
+        → IsStillLeftAt T.laws search.old search.old levels.old s → ⊥) }
     ensures back { OnFalse result (search.new ≡ first_at T.laws search.old levels.old) }
     ensures empty { OnFalse result (levels.new ≡ []) }
 {
@@ -97,11 +87,8 @@ pub fn go_back<T: PrefixSearch>(search: &mut T, levels: &mut Levels)
     ensures at { IsAt T.laws search.new levels.old }
     ensures first { first_at T.laws search.new levels.old
         ≡ first_of T.laws search.old levels.old }
-    ensures left { (s : Tiling)
-        → IsLeft T.laws (T.laws.wanted (T.laws.request search.old)) (T.laws.size search.old)
-        search.old levels.old s
-        ↔ IsLeftAt T.laws (T.laws.wanted (T.laws.request search.old)) (T.laws.size search.old)
-        search.new levels.old s }
+    ensures left { (s : Tiling) → IsStillLeft T.laws search.old search.old levels.old s
+        ↔ IsStillLeftAt T.laws search.old search.new levels.old s }
 {
     if let Some(level) = levels.pop() {
         search.leave(level.mark);
