@@ -66,23 +66,6 @@ impl Collected {
         self.write(out)
     }
 
-    /// Puts a text behind what is collected, and writes where that is enough.
-    fn put<O: Sink>(&mut self, text: Vec<u8>, out: &mut O) -> Result<(), SinkFault>
-        requires { HasRoomFor self.old text.items }
-        ensures sent { OnOk result (IsSent (O.held out.old) (O.held out.new)
-            (self.old.lines.items ++ text.items) self.old.written self.new) }
-        ensures part { IsSentInPart (O.held out.old) (O.held out.new)
-            (self.old.lines.items ++ text.items) self.old.written self.new }
-        ensures cause { HasCause Failed (O.faults out.old) (O.faults out.new) result }
-        ensures sure { O.sure out.old ≡ true
-            → StaysSure Failed (O.faults out.old) (O.faults out.new) (O.sure out.new) result }
-    {
-        let Ok(()) = put_behind(&mut self.lines, text) else {
-            return Err(SinkFault::Memory);
-        };
-        self.write_if_full(out)
-    }
-
     /// Puts texts behind what is collected, one after the other, and writes each time that is
     /// enough.
     pub(crate) fn put_all<O: Sink>(
@@ -100,7 +83,10 @@ impl Collected {
             → StaysSure Failed (O.faults out.old) (O.faults out.new) (O.sure out.new) result }
     {
         for text in texts {
-            self.put(text, out)?;
+            let Ok(()) = put_behind(&mut self.lines, text) else {
+                return Err(SinkFault::Memory);
+            };
+            self.write_if_full(out)?;
         }
         Ok(())
     }

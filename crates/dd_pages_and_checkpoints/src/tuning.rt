@@ -1,8 +1,8 @@
 //! The numbers that were chosen by measurement. They change how long a run takes and how much
 //! memory it needs, and not what it writes.
 
-/// How many bytes are collected before they are written. With fewer, more writes are made; with
-/// more, the bytes have left the processor's cache when they are written.
+/// How many bytes are collected before they are written. With fewer, there are more writes; with
+/// more, they take more memory.
 pub(crate) const FULL: usize = 65_536;
 
 /// How many members wait until several threads make their lines. With fewer, threads are started
