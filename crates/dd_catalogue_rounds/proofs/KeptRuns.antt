@@ -88,7 +88,7 @@ more_put s held base z output c is all put =
     }
 
 -- a checkpoint that was put where the machine stands, with all its lines written
-pub check_put : (s : Start) (page : Page) (f : Machine) (held : Option (List ℕ)) (output : List ℕ) (check : HoldsCheckAt s page f held) → page.bytes ≡ length output
+pub check_put : (s : Start) (page : Page) (f : Machine) (held : Option (List ℕ)) (output : List ℕ) (check : HoldsCheckAt s page f held) → page.collected.written ≡ length output
     → AreLinesBetween s.portion s.at check.is_check.check.at s.lines page.count output → IsStop s.portion check.is_check.check.at → IsPut held output s check.is_check.check
 check_put s page f held output check bytes lines stop =
     let c = check.is_check.check in
@@ -152,7 +152,7 @@ other_fault s most pause old now tells before after a b run = record {
 module _ (w : Way) (tells here : Bool) (old before held now : Option (List ℕ)) (page : Page) (f : Machine) (mid : IsMid w tells here old before held now page f) where
   -- nothing was written since the round began
   none_written : mid.under.lines.written ≡ []
-  none_written = no_more w.base mid.under.lines.written page.bytes mid.under.lines.bytes mid.settled
+  none_written = no_more w.base mid.under.lines.written page.collected.written mid.under.lines.bytes mid.settled
 
   whole_base : w.base ++ mid.under.lines.written ≡ w.base
   whole_base = ap (λ xs. w.base ++ xs) none_written ∙ append-nil w.base
@@ -436,7 +436,7 @@ module _ (w : Way) (now : Option (List ℕ)) (page : Page) (h : Machine) (way : 
             appended = appends_nothing now;
             made = way.lines.made;
             parts = way.lines.parts;
-            lines = subst (λ xs. AreLines w.start.lines way.lines.made (xs ++ page.buffer.items)) (sym (append-nil base)) way.lines.lines;
+            lines = subst (λ xs. AreLines w.start.lines way.lines.made (xs ++ page.collected.lines.items)) (sym (append-nil base)) way.lines.lines;
             count = way.lines.count;
             bytes = way.lines.bytes ∙ ap length (sym (append-nil base));
           };
@@ -493,8 +493,8 @@ kept_more s most before held base more since p here k rounds = record {
 -- ## Heads
 
 -- what is left where nothing was written
-pub none_more : (w : Way) (now : Option (List ℕ)) (page : Page) (f : Machine) (way : IsUnderWay w now page f) → page.bytes ≡ length w.base → w.base ≡ w.base ++ way.lines.written
-none_more w now page f way settled = sym (ap (λ xs. w.base ++ xs) (no_more w.base way.lines.written page.bytes way.lines.bytes settled) ∙ append-nil w.base)
+pub none_more : (w : Way) (now : Option (List ℕ)) (page : Page) (f : Machine) (way : IsUnderWay w now page f) → page.collected.written ≡ length w.base → w.base ≡ w.base ++ way.lines.written
+none_more w now page f way settled = sym (ap (λ xs. w.base ++ xs) (no_more w.base way.lines.written page.collected.written way.lines.bytes settled) ∙ append-nil w.base)
 
 -- a round has ended: all its entries have left
 module _ (w : Way) (now : Option (List ℕ)) (page : Page) (h : Machine) (way : IsUnderWay w now page h) (empty : IsEmpty page) (work : AreWork w.start.portion w.since w.ahead)
@@ -535,7 +535,7 @@ nothing_done s most pause old before tells fault = record {
   left = λ told. record { held = inl (record { same = refl; of_round = none_shown s most s.at }); first = λ one worked. absurd (not_worked [] fault (Err fault) refl refl worked); idle = λ later none. refl; finish = tt };
 }
 
-module _ (s : Start) (most : ℕ) (some : 1 ≤ most) (old before held : Option (List ℕ)) (page : Page) (f : Machine) (begun : IsStarted s f) (empty : IsEmpty page) (count : page.count ≡ s.lines) (bytes : page.bytes ≡ 0) where
+module _ (s : Start) (most : ℕ) (some : 1 ≤ most) (old before held : Option (List ℕ)) (page : Page) (f : Machine) (begun : IsStarted s f) (empty : IsEmpty page) (count : page.count ≡ s.lines) (bytes : page.collected.written ≡ 0) where
   listed : jobs_of f.entries ≡ begun.jobs
   listed = ap jobs_of begun.opened.entries ∙ jobs_opened 1 begun.jobs
 

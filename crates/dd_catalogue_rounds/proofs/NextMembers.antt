@@ -122,7 +122,7 @@ module _ (w : Way) (tells : Bool) (old before held now : Option (List ℕ)) (pag
           (λ told. subst (IsOfRound w.start w.most (mid.kept told).at) (sym (written_none whole)) (mid.kept told).rounds) after result finish saves
         where
           written_none : (some : IsFull w now page limit.last m) → w.base ++ some.lines.written ≡ w.base
-          written_none some = ap (λ xs. w.base ++ xs) (no_more w.base some.lines.written page.bytes some.lines.bytes mid.settled) ∙ append-nil w.base
+          written_none some = ap (λ xs. w.base ++ xs) (no_more w.base some.lines.written page.collected.written some.lines.bytes mid.settled) ∙ append-nil w.base
 
       -- its checkpoint could not be put
       pub member_unsaved : page.count < limit.last → (after : Option (List ℕ)) (fault : RunFault) → (tells ≡ true → Saves {T = Unit} w.start page m held after (Err fault)) → HasRun w.start w.most pause old now tells before after (Err fault)

@@ -50,7 +50,7 @@ plain_here w now page f none way opens = record {
 }
 
 -- nothing was done yet
-pub plain_begun : (s : Start) (known : Option (List ℕ)) (page : Page) (f : Machine) (begun : IsBegun s f) → IsEmpty page → page.count ≡ s.lines → page.bytes ≡ 0 → IsUnderWay (plain_way s begun.jobs known f) known page f
+pub plain_begun : (s : Start) (known : Option (List ℕ)) (page : Page) (f : Machine) (begun : IsBegun s f) → IsEmpty page → page.count ≡ s.lines → page.collected.written ≡ 0 → IsUnderWay (plain_way s begun.jobs known f) known page f
 plain_begun s known page f begun empty count bytes =
     plain_here (record { start = s; jobs = begun.jobs; base = []; known = known; from = s.at; since = s.at; ahead = begun.jobs; most = 0; round = [] }) known page f refl
     (way_first s known page f s.at 0 [] begun empty count bytes) (begun_open s f begun)

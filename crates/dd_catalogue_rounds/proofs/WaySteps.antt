@@ -72,7 +72,7 @@ pub begun_open : (s : Start) (f : Machine) → IsBegun s f → AreOpen f.entries
 begun_open s f begun = subst AreOpen (sym begun.opened.entries) (opened_open 1 begun.jobs)
 
 -- no job is done yet
-abbrev pub way_first : (s : Start) (known : Option (List ℕ)) (page : Page) (f : Machine) (p : Position) (most : ℕ) (round : List Job) (begun : IsBegun s f) → IsEmpty page → page.count ≡ s.lines → page.bytes ≡ 0
+abbrev pub way_first : (s : Start) (known : Option (List ℕ)) (page : Page) (f : Machine) (p : Position) (most : ℕ) (round : List Job) (begun : IsBegun s f) → IsEmpty page → page.count ≡ s.lines → page.collected.written ≡ 0
     → IsUnderWay (record { start = s; jobs = begun.jobs; base = []; known = known; from = s.at; since = p; ahead = begun.jobs; most = most; round = round }) known page f
 way_first s known page f p most round begun empty count bytes =
     let o = begun.opened in
@@ -94,7 +94,7 @@ way_first s known page f p most round begun empty count bytes =
         recent = λ m there. absurd (Contains-none m there);
         of_round = none_done w f.entries (begun_open s f begun);
       };
-      lines = record { written = []; appended = appends_nothing known; made = []; parts = sym empty.waiting; lines = empty.buffer; count = omega (arith, count); bytes = bytes };
+      lines = record { written = []; appended = appends_nothing known; made = []; parts = sym empty.waiting; lines = empty.collected; count = omega (arith, count); bytes = bytes };
     }
 
 -- a round is done, of jobs that are parts of those of the way

@@ -58,7 +58,7 @@ pub record IsMid (w : Way) (tells here : Bool) (old before held now : Option (Li
   pub known_is : w.known ≡ now
   pub under : IsUnderWay w now page f
   pub empty : IsEmpty page
-  pub settled : page.bytes ≡ length w.base
+  pub settled : page.collected.written ≡ length w.base
   pub some : 1 ≤ w.most
   pub work : AreWork w.start.portion w.since w.ahead
   pub later : AllByRecursion (λ j. ¬ IsWhollyBefore w.from j) w.ahead

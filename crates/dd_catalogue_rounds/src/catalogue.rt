@@ -52,7 +52,7 @@ fn write_rounds<R: Threads + Wait + Sync, F: Finder + Sync, G: Gate + Sync, O: S
     requires begun { IsBegun (start_of run.now) front.old }
     requires empty { IsEmpty page.old }
     requires count { page.old.count ≡ run.now.lines }
-    requires bytes { page.old.bytes ≡ 0 }
+    requires bytes { page.old.collected.written ≡ 0 }
     ensures request { F.request finder.new ≡ F.request finder.old }
     ensures output { (output : List ℕ) × IsOutput (start_of run.now) run.now.pause
         (O.held out.old) (O.held out.new) result output }

@@ -85,7 +85,7 @@ fn keep_rounds<R: Threads + Wait + Sync, F: Finder + Sync, G: Gate + Sync, S: St
     requires begun { IsStarted (start_of run.now) output.old.front }
     requires empty { IsEmpty output.old.page }
     requires count { output.old.page.count ≡ run.now.lines }
-    requires bytes { output.old.page.bytes ≡ 0 }
+    requires bytes { output.old.page.collected.written ≡ 0 }
     ensures request { F.request finder.new ≡ F.request finder.old }
     ensures run { HasRun (start_of run.now) run.now.pace.round run.now.pause
         (O.held out.old) (O.held out.new)

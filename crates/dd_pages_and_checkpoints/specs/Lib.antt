@@ -1,6 +1,7 @@
 pub mod Texts
 pub mod MostLines
 pub mod Parts
+pub mod Sent
 pub mod Pages
 pub mod Rounds
 pub mod Runs

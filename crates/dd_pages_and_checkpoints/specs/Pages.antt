@@ -1,5 +1,5 @@
 -- The lines of a catalogue on their way out.
-use Rattle.std.specs.Prelude.{◌≡◌, ℕ, ◌+◌, ◌*◌, ◌^◌, ◌≤◌, List, [], ◌++◌, Option, length}
+use Rattle.std.specs.Prelude.{◌≡◌, ℕ, ◌+◌, List, [], ◌++◌, Option, length}
 use Rattle.std.specs.Io.KnownBytes.{Appends}
 use Rattle.dd_model.specs.Symbol.{Symbol}
 use Rattle.dd_model.specs.Text.{AreLines}
@@ -12,25 +12,14 @@ pub record HasLines (k : ℕ) (base : List ℕ) (start now : Option (List ℕ)) 
   pub appended : Appends start now written
   pub made : List Symbol
   pub parts : ss ≡ made ++ page.waiting
-  pub lines : AreLines k made ((base ++ written) ++ page.buffer.items)
+  pub lines : AreLines k made ((base ++ written) ++ page.collected.lines.items)
   pub count : page.count ≡ k + length ss
-  pub bytes : page.bytes ≡ length (base ++ written)
+  pub bytes : page.collected.written ≡ length (base ++ written)
 
 -- no member waits, and nothing is collected
 pub record IsEmpty (page : Page) : Type 0 where
   pub waiting : page.waiting ≡ []
-  pub buffer : page.buffer.items ≡ []
-
--- Each line has fewer than 2^63 bytes, and so many are left for this text, whose lines are counted and no longer wait.
-abbrev pub HasRoomFor : Page → List ℕ → Type 0
-HasRoomFor page text = page.bytes + length page.buffer.items + length text + 2 ^ 63 * length page.waiting ≤ 2 ^ 63 * page.count
-
--- Of a text a front was written, and the rest is collected; the bytes of the front are counted, after so many before them.
-pub record IsSent (before now : Option (List ℕ)) (text : List ℕ) (sum : ℕ) (page : Page) : Type 0 where
-  pub written : List ℕ
-  pub appended : Appends before now written
-  pub parts : text ≡ written ++ page.buffer.items
-  pub bytes : page.bytes ≡ sum + length written
+  pub collected : page.collected.lines.items ≡ []
 
 -- Whatever a page had the lines of, it has still.
 abbrev pub KeepsLines : Option (List ℕ) → Option (List ℕ) → Page → Page → Type 0

@@ -24,7 +24,7 @@ pub record IsCheckAt (s : Start) (page : Page) (f : Machine) (text : List ℕ) :
   pub run : check.run ≡ s.number
   pub request : check.request ≡ s.portion.request
   pub lines : check.lines ≡ page.count
-  pub bytes : check.bytes ≡ page.bytes
+  pub bytes : check.bytes ≡ page.collected.written
   pub stands : StandsAt f.from f.entries check.at
 
 -- the name holds it

@@ -2,6 +2,7 @@
 //! that it keeps.
 #![tactic(auto)]
 
+mod collected;
 mod fault;
 mod finish;
 mod limit;
@@ -10,7 +11,9 @@ mod numbered_members;
 mod pages;
 mod run;
 mod saved;
+mod tuning;
 
+pub use collected::Collected;
 pub use fault::RunFault;
 pub use finish::Finish;
 pub use limit::{Limit, MOST_LINES};

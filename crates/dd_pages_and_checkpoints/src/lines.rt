@@ -4,19 +4,12 @@ ghost use Rattle.dd_pages_and_checkpoints.specs.Texts.{joined};
 ghost use Rattle.dd_pages_and_checkpoints.specs.Parts.{AreParts};
 
 use crate::numbered_members::NumberedMembers;
+use crate::tuning::{FEWEST, PARTS};
 use dd_front::Members;
 use dd_model::Memory;
 use dd_text::put_list;
 use std::thread;
 use std::thread::Threads;
-
-/// How many lines a thread makes at least, so that it is worth its start.
-const FEWEST: usize = 2048;
-
-/// How many parts there are for each thread, each with a thread of its own. Equally many members
-/// may take twice as long if few of them share a table. The processors should not wait for the last
-/// part. More threads would keep more memory.
-const PARTS: usize = 2;
 
 /// Returns how many bytes the lines of some members take, or a few more. A catalogue goes by size,
 /// so the first member decides.

@@ -21,7 +21,7 @@ fn check_text(alloc: Global, run: &Run, front: &Front, page: &Page) -> Result<Ve
     ensures { IfOk result (λ text. IsCheckAt (start_of run.now) page.now front.now text.items) }
 {
     let number = run.number;
-    let bytes = page.bytes;
+    let bytes = page.collected.written;
     let check = Checkpoint {
         run: number,
         request: run.portion.request,

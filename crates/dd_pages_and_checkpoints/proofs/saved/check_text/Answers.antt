@@ -5,7 +5,7 @@ use Rattle.dd_pages_and_checkpoints.proofs.saved.check_text.Goals as goal
 
 pub returns : goal.returns
 returns c =
-    let check : Checkpoint = record { run = c.args.run.now.number; request = c.args.run.now.portion.request; lines = c.from.result; bytes = c.args.page.now.bytes; at = c.in_ok-position.field-0 } in
+    let check : Checkpoint = record { run = c.args.run.now.number; request = c.args.run.now.portion.request; lines = c.from.result; bytes = c.args.page.now.collected.written; at = c.in_ok-position.field-0 } in
     let adds = c.in_ok-write_saved.ensures in
     let text : c.write_saved.new.out.items ≡ adds.check = adds.text ∙ ap (λ (xs : List ℕ). xs ++ adds.check) c.new-text.ensures.items in
     record {

@@ -13,4 +13,4 @@ returns-then-self-lt-BATCH-clause-front g c k base start ss has =
     front_of_more k base start held ss c.args.members (front_kept k base start held c.args.self.now ss has)
 
 pub returns-clause-front : goal.returns-clause-front
-returns-clause-front g c k base start ss has = c.make.ensures.front k base start (ss ++ c.args.members) (c.in-Ok.ensures.lines (g.O.Sink.held c.args.out.now) k base start ss has)
+returns-clause-front g c k base start ss has = c.render.ensures.front k base start (ss ++ c.args.members) (c.in-Ok.ensures.lines (g.O.Sink.held c.args.out.now) k base start ss has)

@@ -6,8 +6,8 @@ use Rattle.dd_pages_and_checkpoints.proofs.PageLemmas.{front_kept, front_of_more
 use Rattle.dd_pages_and_checkpoints.proofs.PageParts.{part_added, front_part, all_added, all_counted}
 use Rattle.dd_pages_and_checkpoints.proofs.pages.Page.add_in_parts.Goals as goal
 
-pub returns-in_err-make-clause-front : goal.returns-in_err-make-clause-front
-returns-in_err-make-clause-front g c k base start ss has = front_of_more k base start _ ss c.args.members.now (c.make.ensures.front k base start ss has)
+pub returns-in_err-render-clause-front : goal.returns-in_err-render-clause-front
+returns-in_err-render-clause-front g c k base start ss has = front_of_more k base start _ ss c.args.members.now (c.render.ensures.front k base start ss has)
 
 pub returns-in_err-add_list-clause-front : goal.returns-in_err-add_list-clause-front
 returns-in_err-add_list-clause-front g c =
