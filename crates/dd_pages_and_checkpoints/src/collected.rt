@@ -1,6 +1,7 @@
 ghost use Rattle.std.specs.Prelude.{◌≡◌, ◌+◌, ◌^◌, ◌≤◌, ◌++◌, [], OnOk, OnErr, true, length};
 ghost use Rattle.dd_ports.specs.declared.sink.SinkFault.TheVariants.{Failed};
-ghost use Rattle.dd_ports.specs.Causes.{HasCause, StaysSure};
+ghost use Rattle.dd_ports.specs.Causes.{HasCause};
+ghost use Rattle.dd_ports.specs.States.{SinkStaysSure};
 ghost use Rattle.dd_pages_and_checkpoints.specs.Texts.{joined};
 
 use crate::tuning::FULL;
@@ -40,8 +41,7 @@ impl Collected {
         ensures part { IsSentInPart (O.held out.old) (O.held out.new)
             self.old.lines.items self.old.written self.new }
         ensures cause { HasCause Failed (O.faults out.old) (O.faults out.new) result }
-        ensures sure { O.sure out.old ≡ true
-            → StaysSure Failed (O.faults out.old) (O.faults out.new) (O.sure out.new) result }
+        ensures sure { SinkStaysSure O.Sink Failed out.old out.new result }
     {
         write_all_of(out, &self.lines)?;
         let written = self.written + self.lines.len() as u128;
@@ -57,8 +57,7 @@ impl Collected {
         ensures part { IsSentInPart (O.held out.old) (O.held out.new)
             self.old.lines.items self.old.written self.new }
         ensures cause { HasCause Failed (O.faults out.old) (O.faults out.new) result }
-        ensures sure { O.sure out.old ≡ true
-            → StaysSure Failed (O.faults out.old) (O.faults out.new) (O.sure out.new) result }
+        ensures sure { SinkStaysSure O.Sink Failed out.old out.new result }
     {
         if self.lines.len() < FULL {
             return Ok(());
@@ -79,8 +78,7 @@ impl Collected {
         ensures part { IsSentInPart (O.held out.old) (O.held out.new)
             (self.old.lines.items ++ joined texts.items) self.old.written self.new }
         ensures cause { HasCause Failed (O.faults out.old) (O.faults out.new) result }
-        ensures sure { O.sure out.old ≡ true
-            → StaysSure Failed (O.faults out.old) (O.faults out.new) (O.sure out.new) result }
+        ensures sure { SinkStaysSure O.Sink Failed out.old out.new result }
     {
         for text in texts {
             let Ok(()) = put_behind(&mut self.lines, text) else {

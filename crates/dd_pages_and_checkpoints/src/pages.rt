@@ -1,6 +1,7 @@
 ghost use Rattle.std.specs.Prelude.{◌≡◌, ◌+◌, ◌*◌, ◌^◌, ◌≤◌, ℕ, List, [], Option, OnOk, true, length};
 ghost use Rattle.dd_ports.specs.declared.sink.SinkFault.TheVariants.{Failed};
-ghost use Rattle.dd_ports.specs.Causes.{HasCause, StaysSure};
+ghost use Rattle.dd_ports.specs.Causes.{HasCause};
+ghost use Rattle.dd_ports.specs.States.{SinkStaysSure};
 ghost use Rattle.dd_pages_and_checkpoints.specs.MostLines.{most_lines};
 
 use crate::collected::Collected;
@@ -63,8 +64,7 @@ impl Page {
         ensures count { self.new.count ≡ self.old.count }
         ensures front { WritesFront (O.held out.old) (O.held out.new) self.old }
         ensures cause { HasCause Failed (O.faults out.old) (O.faults out.new) result }
-        ensures sure { O.sure out.old ≡ true
-            → StaysSure Failed (O.faults out.old) (O.faults out.new) (O.sure out.new) result }
+        ensures sure { SinkStaysSure O.Sink Failed out.old out.new result }
     {
         if self.waiting.len() == 0 {
             return Ok(());
@@ -93,8 +93,7 @@ impl Page {
         ensures count { self.new.count ≡ self.old.count }
         ensures front { WritesFront (O.held out.old) (O.held out.new) self.old }
         ensures cause { HasCause Failed (O.faults out.old) (O.faults out.new) result }
-        ensures sure { O.sure out.old ≡ true
-            → StaysSure Failed (O.faults out.old) (O.faults out.new) (O.sure out.new) result }
+        ensures sure { SinkStaysSure O.Sink Failed out.old out.new result }
     {
         self.render(rt, threads, out)?;
         self.collected.write(out)?;
@@ -127,8 +126,7 @@ impl Page {
         ensures count { OnOk result (self.new.count ≡ self.old.count + length part.now) }
         ensures front { WritesFrontOf (O.held out.old) (O.held out.new) self.old part.now }
         ensures cause { HasCause Failed (O.faults out.old) (O.faults out.new) result }
-        ensures sure { O.sure out.old ≡ true
-            → StaysSure Failed (O.faults out.old) (O.faults out.new) (O.sure out.new) result }
+        ensures sure { SinkStaysSure O.Sink Failed out.old out.new result }
     {
         let before = self.count;
         self.count = before + part.len() as u64;
@@ -150,8 +148,7 @@ impl Page {
         ensures count { OnOk result (self.new.count ≡ self.old.count + length list.entry) }
         ensures front { WritesFrontOf (O.held out.old) (O.held out.new) self.old list.entry }
         ensures cause { HasCause Failed (O.faults out.old) (O.faults out.new) result }
-        ensures sure { O.sure out.old ≡ true
-            → StaysSure Failed (O.faults out.old) (O.faults out.new) (O.sure out.new) result }
+        ensures sure { SinkStaysSure O.Sink Failed out.old out.new result }
     {
         let mut left = list;
         while left.len() > 0 {
@@ -175,8 +172,7 @@ impl Page {
         ensures count { OnOk result (self.new.count ≡ self.old.count + length members.now) }
         ensures front { WritesFrontOf (O.held out.old) (O.held out.new) self.old members.now }
         ensures cause { HasCause Failed (O.faults out.old) (O.faults out.new) result }
-        ensures sure { O.sure out.old ≡ true
-            → StaysSure Failed (O.faults out.old) (O.faults out.new) (O.sure out.new) result }
+        ensures sure { SinkStaysSure O.Sink Failed out.old out.new result }
     {
         // The lines of members that wait come before these.
         self.render(rt, 1, out)?;
@@ -201,8 +197,7 @@ impl Page {
         ensures count { OnOk result (self.new.count ≡ self.old.count + length members) }
         ensures front { WritesFrontOf (O.held out.old) (O.held out.new) self.old members }
         ensures cause { HasCause Failed (O.faults out.old) (O.faults out.new) result }
-        ensures sure { O.sure out.old ≡ true
-            → StaysSure Failed (O.faults out.old) (O.faults out.new) (O.sure out.new) result }
+        ensures sure { SinkStaysSure O.Sink Failed out.old out.new result }
     {
         if threads == 1 {
             return self.add_in_parts(rt, &members, out);
