@@ -53,6 +53,7 @@ mod after_round;
 mod catalogue;
 mod chain;
 mod emission;
+mod kept_round;
 mod output;
 mod parts;
 mod resumed_jobs;

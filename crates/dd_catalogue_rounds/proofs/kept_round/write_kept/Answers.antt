@@ -4,7 +4,7 @@ use Rattle.dd_pages_and_checkpoints.specs.Names.{HasRun}
 use Rattle.dd_pages_and_checkpoints.specs.Runs.{start_of}
 use Rattle.dd_catalogue_rounds.specs.Steps.{Leaves}
 use Rattle.dd_catalogue_rounds.proofs.KeptRuns.{other_fault, untold}
-use Rattle.dd_catalogue_rounds.proofs.chain.write_kept.Goals as goal
+use Rattle.dd_catalogue_rounds.proofs.kept_round.write_kept.Goals as goal
 
 pub loop-step-init : goal.loop-step-init
 loop-step-init g c = record {

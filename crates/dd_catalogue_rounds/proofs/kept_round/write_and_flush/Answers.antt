@@ -1,5 +1,5 @@
 use Rattle.dd_catalogue_rounds.proofs.WaySteps.{goes_on_flushed, room_flushed, full_up_flushed, part_flushed}
-use Rattle.dd_catalogue_rounds.proofs.chain.write_and_flush.Goals as goal
+use Rattle.dd_catalogue_rounds.proofs.kept_round.write_and_flush.Goals as goal
 
 pub returns-clause-all : goal.returns-clause-all
 returns-clause-all g c =

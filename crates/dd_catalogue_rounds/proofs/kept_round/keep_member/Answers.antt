@@ -8,7 +8,7 @@ use Rattle.dd_pages_and_checkpoints.specs.declared.finish.Finish.{Finish}
 use Rattle.dd_pages_and_checkpoints.specs.declared.fault.RunFault.TheVariants.{Memory}
 use Rattle.dd_catalogue_rounds.proofs.KeptRuns.{mid_stopped}
 use Rattle.dd_catalogue_rounds.proofs.NextMembers.{emptied_waiting, member_full, member_none, member_saved, member_unsaved, next_waiting}
-use Rattle.dd_catalogue_rounds.proofs.chain.keep_member.Goals as goal
+use Rattle.dd_catalogue_rounds.proofs.kept_round.keep_member.Goals as goal
 
 pub returns-in_default-clause-leaves : goal.returns-in_default-clause-leaves
 returns-in_default-clause-leaves g c w tells before start now same still mid =

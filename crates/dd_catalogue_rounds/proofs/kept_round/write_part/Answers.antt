@@ -13,7 +13,7 @@ use Rattle.dd_catalogue_rounds.specs.Ways.{IsFull}
 use Rattle.dd_catalogue_rounds.proofs.KeptRuns.{other_fault}
 use Rattle.dd_catalogue_rounds.proofs.KeptGroups.{written_full, written_head, written_part}
 use Rattle.dd_catalogue_rounds.proofs.NextMembers.{after_saved, after_unsaved, less_than, more_than}
-use Rattle.dd_catalogue_rounds.proofs.chain.write_part.Goals as goal
+use Rattle.dd_catalogue_rounds.proofs.kept_round.write_part.Goals as goal
 
 pub write_round-requires-clause-any : goal.write_round-requires-clause-any
 write_round-requires-clause-any g c κs within = record { any = c.requires.mid.way; way = c.requires.mid.mid.under }

@@ -3,7 +3,7 @@ use Rattle.std.proofs.lemmas.Result.{err_from_is_err_and}
 use Rattle.dd_pages_and_checkpoints.specs.Runs.{start_of}
 use Rattle.dd_pages_and_checkpoints.specs.declared.fault.RunFault.TheVariants.{Memory}
 use Rattle.dd_catalogue_rounds.proofs.KeptGroups.{head_saved, head_stopped, head_unsaved}
-use Rattle.dd_catalogue_rounds.proofs.chain.keep_place.Goals as goal
+use Rattle.dd_catalogue_rounds.proofs.kept_round.keep_place.Goals as goal
 
 pub returns-in_default-clause-leaves : goal.returns-in_default-clause-leaves
 returns-in_default-clause-leaves g c most tells before start now still head =

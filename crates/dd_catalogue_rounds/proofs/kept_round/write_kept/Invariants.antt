@@ -6,7 +6,7 @@ use Rattle.dd_pages_and_checkpoints.specs.Runs.{start_of}
 use Rattle.dd_catalogue_rounds.specs.Ways.{Way}
 use Rattle.dd_catalogue_rounds.specs.Kept.{IsMid}
 use Rattle.dd_catalogue_rounds.specs.Steps.{GoesOnHere, IsSomeMid}
-use Rattle.dd_catalogue_rounds.proofs.chain.write_kept.Given as goal
+use Rattle.dd_catalogue_rounds.proofs.kept_round.write_kept.Given as goal
 
 -- lines of the round were written, the name has the checkpoint of where the front stands, and as many jobs wait as before
 abbrev pub invariant-loop-step : goal.invariant-loop-step
