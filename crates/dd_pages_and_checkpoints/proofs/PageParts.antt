@@ -67,12 +67,6 @@ all_added before now old new all left none has k base start ss lines =
     subst (λ ts. HasLines k base start now new (ss ++ ts)) (sym whole) (has.adds k base start ss lines)
 
 -- and all are counted
-pub count_of_all : (before now : Option (List ℕ)) (old new : Page) (all left : List Symbol) → length left ≡ 0 → HasAdded before now old new all left → new.count ≡ old.count + length all
-count_of_all before now old new all left none has =
-    let whole = has.count in
-    let size = ap length has.parts ∙ length-append has.done left in
-    omega (arith, none, whole, size)
-
 pub all_counted : (before now : Option (List ℕ)) (old new : Page) (all left : List Symbol) → left ≡ [] → HasAdded before now old new all left → new.count ≡ old.count + length all
 all_counted before now old new all left none has =
     let whole = ap length (has.parts ∙ ap (λ ts. has.done ++ ts) none ∙ append-nil has.done) in

@@ -16,7 +16,7 @@ pub struct Collected {
     ghost few: { written + length lines.items ≤ 2 ^ 127 },
 }
 
-/// Puts a text behind what is collected. Where nothing is collected, the text is taken as it is and
+/// Puts a text behind what is collected. If nothing is collected, the text is taken as it is and
 /// not copied.
 fn put_behind(collected: &mut Vec<u8>, text: Vec<u8>) -> Result<(), Memory>
     ensures text { OnOk result (collected.new.items ≡ collected.old.items ++ text.items) }
@@ -37,7 +37,7 @@ impl Collected {
     pub(crate) fn write<O: Sink>(&mut self, out: &mut O) -> Result<(), SinkFault>
         ensures sent { OnOk result (IsSent (O.held out.old) (O.held out.new)
             self.old.lines.items self.old.written self.new) }
-        ensures all { OnOk result (self.new.lines.items ≡ []) }
+        ensures empty { OnOk result (self.new.lines.items ≡ []) }
         ensures part { IsSentInPart (O.held out.old) (O.held out.new)
             self.old.lines.items self.old.written self.new }
         ensures cause { HasCause Failed (O.faults out.old) (O.faults out.new) result }
@@ -50,7 +50,7 @@ impl Collected {
         Ok(())
     }
 
-    /// Writes what is collected where that is enough.
+    /// Writes what is collected if that is enough.
     pub(crate) fn write_if_full<O: Sink>(&mut self, out: &mut O) -> Result<(), SinkFault>
         ensures sent { OnOk result (IsSent (O.held out.old) (O.held out.new)
             self.old.lines.items self.old.written self.new) }

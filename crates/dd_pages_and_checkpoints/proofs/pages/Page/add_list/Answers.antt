@@ -1,7 +1,7 @@
 use Rattle.std.proofs.Common.{◌≡◌, ◌<◌, [], length, refl, ap, ◌∙◌, arith}
 use Rattle.std.proofs.lemmas.List.{length-drop, nil_from_length}
 use Rattle.dd_pages_and_checkpoints.proofs.PageLemmas.{front_kept}
-use Rattle.dd_pages_and_checkpoints.proofs.PageParts.{count_of_all, parted, none_added, part_added, part_fits, front_part, all_added}
+use Rattle.dd_pages_and_checkpoints.proofs.PageParts.{parted, none_added, part_added, part_fits, front_part, all_added, all_counted}
 use Rattle.dd_pages_and_checkpoints.proofs.pages.Page.add_list.Goals as goal
 
 pub loop-left-init : goal.loop-left-init
@@ -52,9 +52,8 @@ returns-clause-waiting g c = c.loop-left.invariant.0.waiting
 
 pub returns-clause-count : goal.returns-clause-count
 returns-clause-count g c =
-    let has = c.loop-left.invariant.0 in
-    let none : length c.loop-left.left ≡ 0 = omega (arith, c.loop-left-test.false, c.len.ensures) in
-    count_of_all _ _ _ _ _ _ none has
+    let none : c.loop-left.left ≡ [] = nil_from_length _ (omega (arith, c.loop-left-test.false, c.len.ensures)) in
+    all_counted _ _ _ _ _ _ none c.loop-left.invariant.0
 
 pub returns-clause-front : goal.returns-clause-front
 returns-clause-front g c k base start ss has =
