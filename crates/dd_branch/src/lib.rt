@@ -40,6 +40,7 @@
 #![tactic(auto)]
 
 mod descent;
+mod job_descent;
 mod laws;
 mod search;
 mod undo_point;

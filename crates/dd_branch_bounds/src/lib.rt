@@ -21,6 +21,7 @@ mod pair_paths;
 mod parity;
 mod path_shares;
 mod share_laws;
+mod sieve;
 mod table_paths;
 
 pub use degrees::{SHARE_UNIT, least_degree, share_of, share_of_cell};
