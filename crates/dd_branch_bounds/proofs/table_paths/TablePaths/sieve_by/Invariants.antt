@@ -3,7 +3,7 @@ use Rattle.dd_model.specs.Symbol.{Symbol}
 use Rattle.dd_branch_tables.specs.Chambers.{bit_of}
 use Rattle.dd_branch_tables.specs.Rows.{partial_of, HasNumberAt}
 use Rattle.dd_branch_bounds.specs.Shares.{IsSought}
-use Rattle.dd_branch_bounds.proofs.sieve.TablePaths.sieve_by.Given as goal
+use Rattle.dd_branch_bounds.proofs.table_paths.TablePaths.sieve_by.Given as goal
 
 abbrev pub invariant-loop-number : goal.invariant-loop-number
 invariant-loop-number l =

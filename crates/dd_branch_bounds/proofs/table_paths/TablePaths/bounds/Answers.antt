@@ -2,7 +2,7 @@ use Rattle.std.proofs.Common.{sym, ◌∙◌, arith}
 use Rattle.dd_model.specs.declared.pair.Pair.TheVariants.{Tile, Vertex}
 use Rattle.dd_branch_tables.specs.Rows.{partial_of}
 use Rattle.dd_branch_bounds.proofs.KeptBounds.{bounds_kept, census_counts}
-use Rattle.dd_branch_bounds.proofs.sieve.TablePaths.bounds.Goals as goal
+use Rattle.dd_branch_bounds.proofs.table_paths.TablePaths.bounds.Goals as goal
 
 pub returns-in_default-clause-none : goal.returns-in_default-clause-none
 returns-in_default-clause-none c s sought =

@@ -1,7 +1,7 @@
 use Rattle.std.proofs.Common.{◌≡◌, take}
 use Rattle.dd_branch_tables.specs.Stem.{prefix_of, size_of}
 use Rattle.dd_branch.specs.Descent.{GoesBack}
-use Rattle.dd_branch.proofs.job_descent.Descent.reach.Given as goal
+use Rattle.dd_branch.proofs.descent.Descent.reach.Given as goal
 
 abbrev pub invariant-loop-place : goal.invariant-loop-place
 invariant-loop-place l = record {

@@ -8,7 +8,7 @@ use Rattle.dd_front_jobs.specs.Under.{HasNothingUnder}
 use Rattle.dd_branch.specs.Descent.{Descending}
 use Rattle.dd_branch.proofs.Descents.{no_member_under_front}
 use Rattle.dd_branch.proofs.GoingBack.{goes_back_longer, is_descent}
-use Rattle.dd_branch.proofs.job_descent.Descent.reach.Goals as goal
+use Rattle.dd_branch.proofs.descent.Descent.reach.Goals as goal
 
 pub loop-place-init : goal.loop-place-init
 loop-place-init c =

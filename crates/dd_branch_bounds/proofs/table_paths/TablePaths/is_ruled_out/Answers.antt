@@ -8,7 +8,7 @@ use Rattle.dd_branch_bounds.specs.Kept.{IsImage}
 use Rattle.dd_branch_bounds.specs.Passing.{Passes}
 use Rattle.dd_branch_bounds.specs.declared.link.Link.{Link}
 use Rattle.dd_branch_bounds.proofs.KeptBounds.{none_of_bounds}
-use Rattle.dd_branch_bounds.proofs.sieve.TablePaths.is_ruled_out.Goals as goal
+use Rattle.dd_branch_bounds.proofs.table_paths.TablePaths.is_ruled_out.Goals as goal
 use Rattle.dd_model.specs.Indices.{index_at}
 
 -- whether a table has a number at a place

@@ -1,7 +1,7 @@
 use Rattle.std.proofs.Common.{◌≡◌, length}
 use Rattle.dd_branch_tables.specs.Stem.{size_of}
 use Rattle.dd_branch.specs.Descent.{GoesBack}
-use Rattle.dd_branch.proofs.job_descent.Descent.go_back.Given as goal
+use Rattle.dd_branch.proofs.descent.Descent.go_back.Given as goal
 
 abbrev pub invariant-loop-self : goal.invariant-loop-self
 invariant-loop-self l = record {

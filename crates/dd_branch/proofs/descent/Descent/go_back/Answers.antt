@@ -6,7 +6,7 @@ use Rattle.dd_model.proofs.SmallerPlaces.{begins_by_test}
 use Rattle.dd_branch_tables.specs.Stem.{prefix_of, size_of}
 use Rattle.dd_branch.specs.Descent.{Descending, GoesBack}
 use Rattle.dd_branch.proofs.GoingBack.{fewer_levels, goes_back_shorter, has_levels, same_request, same_size}
-use Rattle.dd_branch.proofs.job_descent.Descent.go_back.Goals as goal
+use Rattle.dd_branch.proofs.descent.Descent.go_back.Goals as goal
 
 pub drop_level-requires : goal.drop_level-requires
 drop_level-requires c =

@@ -3,7 +3,7 @@ use Rattle.std.proofs.lemmas.Bool.{cases_eq}
 use Rattle.std.proofs.lemmas.Nat.Bits.{bit_at-zero}
 use Rattle.std.specs.Int.{bit_at}
 use Rattle.dd_branch_tables.specs.Chambers.{bit_of}
-use Rattle.dd_branch_bounds.proofs.sieve.TablePaths.sieve_by.Goals as goal
+use Rattle.dd_branch_bounds.proofs.table_paths.TablePaths.sieve_by.Goals as goal
 
 pub loop-number-preserved-then-not-is_ruled_out : goal.loop-number-preserved-then-not-is_ruled_out
 loop-number-preserved-then-not-is_ruled_out c m asked gone out = ⊎_elim

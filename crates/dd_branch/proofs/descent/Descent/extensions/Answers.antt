@@ -5,8 +5,8 @@ use Rattle.dd_branch.specs.Descent.{GoesBack}
 use Rattle.dd_branch.proofs.Descents.{dead_job}
 use Rattle.dd_branch.proofs.GoingBack.{is_descent}
 use Rattle.dd_branch.proofs.Splits.{HasReached, extensions_dead, none_extended}
-use Rattle.dd_branch.proofs.job_descent.Descent.extensions.Goals as goal
-use Rattle.dd_branch.proofs.job_descent.Descent.extensions.Goals.{then-may_grow+in_ok-child+in_ok-push, else-may_grow}
+use Rattle.dd_branch.proofs.descent.Descent.extensions.Goals as goal
+use Rattle.dd_branch.proofs.descent.Descent.extensions.Goals.{then-may_grow+in_ok-child+in_ok-push, else-may_grow}
 
 pub returns-then-not-reach-clause-jobs : goal.returns-then-not-reach-clause-jobs
 returns-then-not-reach-clause-jobs c =

@@ -2,7 +2,7 @@ use Rattle.std.proofs.Common.{◌+◌}
 use Rattle.dd_branch_tables.proofs.Extensions.{AreExtensionsBelow}
 use Rattle.dd_branch.specs.Descent.{GoesBack}
 use Rattle.dd_branch.proofs.Splits.{HasReached}
-use Rattle.dd_branch.proofs.job_descent.Descent.extensions.Given as goal
+use Rattle.dd_branch.proofs.descent.Descent.extensions.Given as goal
 
 abbrev pub invariant-loop-k : goal.invariant-loop-k
 invariant-loop-k l = record {
