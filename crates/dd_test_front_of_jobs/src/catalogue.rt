@@ -1,7 +1,7 @@
 ghost use Rattle.std.specs.Prelude.{◌≤◌};
 ghost use Rattle.dd_model.specs.Request.{IsValid};
 
-use crate::plain_front::Span;
+use crate::plain_front::PlaceRange;
 use dd_front::Members;
 use dd_model::{Code, Job, Memory, Request};
 use dd_plain::plain_catalogue;
@@ -48,7 +48,7 @@ impl Catalogue {
     }
 
     /// Where the members under a job stand.
-    fn span(&self, job: &Job) -> Span {
+    fn span(&self, job: &Job) -> PlaceRange {
         let mut span = (0, 0);
         for (place, (member, code)) in self.members.iter().zip(self.codes.iter()).enumerate() {
             if begins(job, member, code) {
@@ -59,7 +59,7 @@ impl Catalogue {
         span
     }
 
-    pub(crate) fn spans(&self, alloc: Global, jobs: &[Job]) -> Result<Vec<Span>, Memory> {
+    pub(crate) fn spans(&self, alloc: Global, jobs: &[Job]) -> Result<Vec<PlaceRange>, Memory> {
         let mut spans = Vec::new(alloc);
         for job in jobs {
             spans.push(self.span(job))?;
@@ -68,7 +68,7 @@ impl Catalogue {
     }
 
     /// Returns whether a list has the members at these places.
-    pub(crate) fn has(&self, list: &Members, (first, end): Span) -> Result<bool, Memory> {
+    pub(crate) fn has(&self, list: &Members, (first, end): PlaceRange) -> Result<bool, Memory> {
         let Some(members) = self.members.as_slice().get(first..end) else {
             return Ok(false);
         };

@@ -7,7 +7,7 @@ ghost use Rattle.dd_front.specs.Machine.{entry_of};
 ghost use Rattle.dd_front.specs.Room.{HasRoomToEmit};
 
 use crate::catalogue::Catalogue;
-use crate::plain_front::{Action, Span};
+use crate::plain_front::{Action, PlaceRange};
 use dd_branch::Search;
 use dd_front::{Event, Finder, Front, JobList, Members, State};
 use dd_model::{Job, Memory, Request};
@@ -148,7 +148,7 @@ fn split_job(
     catalogue: &Catalogue,
     entry: u64,
     job: &Job,
-) -> Result<Vec<Span>, Fail>
+) -> Result<Vec<PlaceRange>, Fail>
     requires { Contains front.old.entries (entry_of entry job.now Out) }
 {
     let request = front.request();
@@ -188,7 +188,7 @@ fn split(
     front: &mut Front,
     catalogue: &Catalogue,
     entry: u64,
-) -> Result<Option<Vec<Span>>, Fail> {
+) -> Result<Option<Vec<PlaceRange>>, Fail> {
     if !may_split(alloc, front, entry) {
         return Ok(None);
     }
@@ -238,7 +238,7 @@ fn part(front: &mut Front, count: u64) -> Result<Option<Members>, Fail> {
 /// What a front did: the parts of a split, and what was emitted.
 #[derive(Drop)]
 pub(crate) struct Deed {
-    pub(crate) parts: Vec<Span>,
+    pub(crate) parts: Vec<PlaceRange>,
     pub(crate) emitted: Option<Members>,
 }
 

@@ -5,7 +5,7 @@ ghost use Rattle.dd_model.specs.Jobs.{AreAscendingJobs, AreApart};
 use crate::catalogue::Catalogue;
 use crate::front_events::{Deed, deed_of};
 use crate::plain_front::{Action, PlainFront, Stage};
-use crate::random_actions::Numbers;
+use crate::random_actions::RandomNumbers;
 use dd_front::{Front, State};
 use dd_front_jobs::opening;
 use dd_model::{Job, Memory, Position, Prefix, Request};
@@ -108,7 +108,7 @@ fn is_whole(front: &Front, number: u64) -> bool {
 }
 
 /// The next event. A job that has no parts is finished and not split.
-fn next_action(numbers: &mut Numbers, front: &Front, plain: &PlainFront) -> Action {
+fn next_action(numbers: &mut RandomNumbers, front: &Front, plain: &PlainFront) -> Action {
     match numbers.action(plain) {
         Action::Split(entry) => if is_whole(front, entry) {
             Action::Finish(entry)
@@ -183,7 +183,7 @@ fn both_of<R: Abort>(
 fn do_next(
     alloc: Global,
     catalogue: &Catalogue,
-    numbers: &mut Numbers,
+    numbers: &mut RandomNumbers,
     front: &mut Front,
     plain: &mut PlainFront,
 ) -> Result<(Action, Outcome), Fail> {
@@ -201,7 +201,7 @@ fn run_list<R: Abort>(
     counts: &mut [u32],
 ) -> Result<(), Fail> {
     let (mut front, mut plain) = both_of(rt, alloc, catalogue, seed % 2 == 0);
-    let mut numbers = Numbers::from_seed(seed);
+    let mut numbers = RandomNumbers::from_seed(seed);
     for _ in 0..EVENTS {
         let done = do_next(alloc, catalogue, &mut numbers, &mut front, &mut plain);
         let (action, outcome) = done?;

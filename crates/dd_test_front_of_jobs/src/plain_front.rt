@@ -1,7 +1,7 @@
 use std::alloc::{AllocError, Global};
 
 /// The places of members in their catalogue: from the first number on, and before the second one.
-pub(crate) type Span = (usize, usize);
+pub(crate) type PlaceRange = (usize, usize);
 
 /// An event without its worker, its jobs and its list.
 #[derive(Clone, Copy, Debug)]
@@ -27,18 +27,18 @@ pub(crate) enum Stage {
 
 /// An entry, and where its members stand.
 #[derive(Clone, Copy)]
-pub(crate) struct Row {
+pub(crate) struct PlainEntry {
     pub(crate) number: u64,
     pub(crate) stage: Stage,
-    span: Span,
+    span: PlaceRange,
 }
 
 /// A front as a plain list: it knows no jobs and no symbols, and only where members stand.
 #[derive(Drop)]
 pub(crate) struct PlainFront {
     alloc: Global,
-    opening: Vec<Span>,
-    pub(crate) rows: Vec<Row>,
+    opening: Vec<PlaceRange>,
+    pub(crate) rows: Vec<PlainEntry>,
     pub(crate) next_number: u64,
     pub(crate) lines: u128,
     next_place: usize,
@@ -47,11 +47,15 @@ pub(crate) struct PlainFront {
 }
 
 /// Open rows, numbered from `first` on.
-fn open_rows(alloc: Global, first: u64, spans: &[Span]) -> Result<Vec<Row>, AllocError> {
+fn open_rows(
+    alloc: Global,
+    first: u64,
+    spans: &[PlaceRange],
+) -> Result<Vec<PlainEntry>, AllocError> {
     let mut rows = Vec::new(alloc);
     let mut number = first;
     for span in spans {
-        rows.push(Row {
+        rows.push(PlainEntry {
             number,
             stage: Stage::Open,
             span: *span,
@@ -64,7 +68,7 @@ fn open_rows(alloc: Global, first: u64, spans: &[Span]) -> Result<Vec<Row>, Allo
 impl PlainFront {
     pub(crate) fn open(
         alloc: Global,
-        opening: Vec<Span>,
+        opening: Vec<PlaceRange>,
         lines: u128,
     ) -> Result<PlainFront, AllocError> {
         let rows = open_rows(alloc, 1, opening.as_slice())?;
@@ -88,7 +92,7 @@ impl PlainFront {
 
     /// Where those members stand that the first entry has and that were not emitted yet, where it
     /// is done.
-    fn left(&self) -> Option<Span> {
+    fn left(&self) -> Option<PlaceRange> {
         let row = self.rows.first()?;
         if row.stage != Stage::Done {
             return None;
@@ -121,7 +125,7 @@ impl PlainFront {
     }
 
     /// Puts open rows in the place of the one of a number.
-    fn split(&mut self, number: u64, parts: &[Span]) -> Result<(), AllocError> {
+    fn split(&mut self, number: u64, parts: &[PlaceRange]) -> Result<(), AllocError> {
         let mut rows = Vec::new(self.alloc);
         for row in &self.rows {
             if row.number == number {
@@ -139,7 +143,7 @@ impl PlainFront {
     }
 
     /// Goes on at a place, and answers where the members stand that were passed over.
-    fn go_to(&mut self, first: usize, place: usize) -> Span {
+    fn go_to(&mut self, first: usize, place: usize) -> PlaceRange {
         self.next_place = place;
         self.lines = self
             .lines
@@ -163,7 +167,11 @@ impl PlainFront {
 
     /// Does what is allowed, with the parts of a split, and answers where the members stand that
     /// are emitted.
-    pub(crate) fn act(&mut self, action: Action, parts: &[Span]) -> Result<Span, AllocError> {
+    pub(crate) fn act(
+        &mut self,
+        action: Action,
+        parts: &[PlaceRange],
+    ) -> Result<PlaceRange, AllocError> {
         let left = self.left();
         match action {
             Action::Take(number) => self.set(number, Stage::Out),

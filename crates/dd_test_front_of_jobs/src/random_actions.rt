@@ -2,13 +2,13 @@ use crate::plain_front::{Action, PlainFront};
 
 /// Numbers from a linear congruence.
 #[derive(Drop)]
-pub(crate) struct Numbers {
+pub(crate) struct RandomNumbers {
     state: u64,
 }
 
-impl Numbers {
-    pub(crate) fn from_seed(seed: u64) -> Numbers {
-        Numbers { state: seed }
+impl RandomNumbers {
+    pub(crate) fn from_seed(seed: u64) -> RandomNumbers {
+        RandomNumbers { state: seed }
     }
 
     /// The next number, below a bound.

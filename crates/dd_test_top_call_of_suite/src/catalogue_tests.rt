@@ -9,16 +9,16 @@ use std::sync::Wait;
 use std::thread::Threads;
 
 /// A limit on the classes of tiles or of vertices, where 0 sets none, and its word.
-type Limit = (u32, &'static str);
+type ClassLimit = (u32, &'static str);
 
-const TILES: [Limit; 4] = [
+const TILES: [ClassLimit; 4] = [
     (0, ""),
     (1, "--tiles=1"),
     (2, "--tiles=2"),
     (3, "--tiles=3"),
 ];
 
-const VERTICES: [Limit; 4] = [
+const VERTICES: [ClassLimit; 4] = [
     (0, ""),
     (1, "--vertices=1"),
     (2, "--vertices=2"),
