@@ -1,4 +1,4 @@
-ghost use Rattle.std.specs.Prelude.{◌≡◌, ℕ, ◌+◌, ◌-◌, ◌*◌, ◌/◌, ◌≤◌, ◌↔◌, IsTrue};
+ghost use Rattle.std.specs.Prelude.{◌≡◌, ◌⊎◌, ℕ, ◌+◌, ◌-◌, ◌*◌, ◌/◌, ◌≤◌, ◌↔◌, IsTrue};
 ghost use Rattle.dd_model.specs.Wanted.{IsCrystallographic};
 ghost use Rattle.dd_branch_bounds.specs.Shares.{IsAllowed};
 ghost use Rattle.dd_branch_bounds.specs.Units.{share_unit};
@@ -19,11 +19,13 @@ fn allows(request: &Request, pair: Pair, degree: u32) -> bool
     }
 }
 
-/// A number that no allowed degree is less than, of those that are no less than another.
+/// The least degree from another number on that a request allows to the cells of a pair. It is 217
+/// if the request allows none of these numbers.
 pub fn least_degree(request: &Request, pair: Pair, from: u32) -> u32
     requires { from ≤ 36 }
     ensures from { from ≤ result }
     ensures least { (m : ℕ) → IsAllowed request.now pair m → from ≤ m → result ≤ m }
+    ensures allowed { IsAllowed request.now pair result ⊎ (result ≡ 217) }
 {
     for degree in from..217 {
         if allows(request, pair, degree) {

@@ -1,4 +1,5 @@
-ghost use Rattle.std.specs.Prelude.{◌<◌};
+ghost use Rattle.std.specs.Prelude.{◌≡◌, ◌<◌, List, None};
+ghost use Rattle.dd_ports.specs.Stores.{memory_store_held};
 
 use dd_ports::{MemorySink, MemoryStore, OpenGate, Sink, Store, SureSink, SureStore};
 use dd_suite::run;
@@ -27,8 +28,10 @@ pub(crate) fn words_of<R: Abort>(rt: &R, alloc: Global, texts: &[&str]) -> Vec<R
     words
 }
 
-/// A store whose call of this number fails.
-pub(crate) fn store_of<R: Abort>(rt: &R, alloc: Global, call: u64, keeps_new: bool) -> MemoryStore {
+/// A store in which no name holds anything, and whose call of this number fails.
+pub(crate) fn store_of<R: Abort>(rt: &R, alloc: Global, call: u64, keeps_new: bool) -> MemoryStore
+    ensures { (name : List _) → memory_store_held result name ≡ None }
+{
     let calls = Vec::from_slice(alloc, &[call]).expect(rt, "a number");
     MemoryStore::new(alloc, calls, keeps_new)
 }
