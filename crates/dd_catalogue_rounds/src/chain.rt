@@ -131,7 +131,8 @@ fn keep_round<R: Threads + Sync, G, S: Store, O: Sink>(
 ) -> Result<AfterRound, RunFault>
     requires limit { IsLimit run.now.lines run.now.pause limit }
     requires room { output.old.page.count ≤ limit.last }
-    requires mid { IsSomeMid (start_of run.now) output.old.is_kept (O.held out.old) output.old.page output.old.front }
+    requires mid { IsSomeMid (start_of run.now) output.old.is_kept (O.held out.old) output.old.page
+        output.old.front }
     ensures leaves { (w : Way) (tells : Bool) (before start : Option (List ℕ))
         → w.start ≡ start_of run.now → (tells ≡ true → S.tells store.old ≡ true)
         → IsMid w tells output.old.is_kept start before (S.held store.old name.now)

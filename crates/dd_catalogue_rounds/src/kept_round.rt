@@ -46,7 +46,8 @@ pub(crate) fn write_kept<R: Threads + Sync, G, S: Store, O: Sink>(
 ) -> Result<AfterRound, RunFault>
     requires limit { IsLimit run.now.lines run.now.pause limit }
     requires room { output.old.page.count ≤ limit.last }
-    requires mid { IsSomeMid (start_of run.now) true (O.held out.old) output.old.page output.old.front }
+    requires mid { IsSomeMid (start_of run.now) true (O.held out.old) output.old.page
+        output.old.front }
     ensures leaves { (w : Way) (tells : Bool) (before start : Option (List ℕ))
         → w.start ≡ start_of run.now → (tells ≡ true → S.tells store.old ≡ true)
         → IsMid w tells true start before (S.held store.old name.now)
@@ -83,7 +84,8 @@ fn write_part<R: Threads + Sync, G, S: Store, O: Sink>(
 ) -> Result<Option<AfterRound>, RunFault>
     requires limit { IsLimit run.now.lines run.now.pause limit }
     requires room { output.old.page.count ≤ limit.last }
-    requires mid { IsSomeMid (start_of run.now) true (O.held out.old) output.old.page output.old.front }
+    requires mid { IsSomeMid (start_of run.now) true (O.held out.old) output.old.page
+        output.old.front }
     ensures leaves { (w : Way) (tells : Bool) (before start : Option (List ℕ))
         → w.start ≡ start_of run.now → (tells ≡ true → S.tells store.old ≡ true)
         → IsMid w tells true start before (S.held store.old name.now)
