@@ -6,8 +6,8 @@ ghost use Rattle.dd_model.specs.declared.pair.Pair.TheVariants.{Tile, Vertex};
 ghost use Rattle.dd_branch_bounds.specs.Shares.{BoundsReciprocals};
 ghost use Rattle.dd_branch_bounds.specs.Units.{share_unit};
 
-use crate::class::Class;
 use crate::degrees::SHARE_UNIT;
+use crate::path_class::PathClass;
 use dd_model::{Pair, Request};
 
 /// How many whole cells and how many fixed flags a census has at most. A table has no more.
@@ -77,7 +77,7 @@ impl Census {
     }
 
     /// Counts a whole cell with the chambers of a path of a class, which add at most `most`.
-    pub(crate) fn add_cell(&mut self, class: Class, most: u64)
+    pub(crate) fn add_cell(&mut self, class: PathClass, most: u64)
         requires { most ≤ 64 * share_unit }
         ensures { HasCell self.old class.number most self.new }
     {
@@ -94,7 +94,7 @@ impl Census {
 
     /// Counts what an involution has fixed at the end of a path: a flag, and the path as a whole
     /// cell if its other end is fixed.
-    pub(crate) fn add_fixed_end(&mut self, class: Class, most: u64)
+    pub(crate) fn add_fixed_end(&mut self, class: PathClass, most: u64)
         requires { most ≤ 64 * share_unit }
         ensures { HasFixedEnd self.old class.number most self.new }
     {
@@ -106,7 +106,7 @@ impl Census {
 
     /// Counts two paths whose ends an involution has joined as a whole cell, if both other ends are
     /// fixed.
-    pub(crate) fn add_joined(&mut self, one: Class, other: Class, most: u64)
+    pub(crate) fn add_joined(&mut self, one: PathClass, other: PathClass, most: u64)
         requires most { most ≤ 64 * share_unit }
         requires few { one.number % 64 + other.number % 64 < 64 }
         ensures { HasJoined self.old one.number other.number most self.new }

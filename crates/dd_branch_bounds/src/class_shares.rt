@@ -6,8 +6,8 @@ ghost use Rattle.dd_branch_bounds.specs.Classes.{IsClassShare, IsClassWeight, Ar
 ghost use Rattle.dd_branch_bounds.specs.Classes.{IsWeightOf, IsWholeShare};
 ghost use Rattle.dd_branch_bounds.specs.Classes.{IsClosedShare, IsCappedShare, IsJoinedShare};
 
-use crate::class::Class;
 use crate::degrees::{least_degree, share_of, share_of_cell};
+use crate::path_class::PathClass;
 use dd_model::{Pair, Request};
 
 /// The sums of shares of the chambers of paths, for one pair and one size of tables, by class of
@@ -110,7 +110,7 @@ impl ClassShares {
     }
 
     /// What the chambers of a path with ends have together.
-    pub(crate) fn weight(&self, class: Class) -> u64
+    pub(crate) fn weight(&self, class: PathClass) -> u64
         ensures told { result ≡ class.number % 64 * share_in self.now.weights class.number }
         ensures small { result ≤ 64 * share_unit }
     {
@@ -118,7 +118,7 @@ impl ClassShares {
     }
 
     /// What the chambers of a path without ends have together: it is a whole cell.
-    pub(crate) fn closed(&self, class: Class) -> u64
+    pub(crate) fn closed(&self, class: PathClass) -> u64
         ensures told { IsWeightOf (IsClosedShare self.now.request self.now.pair class.number)
             (class.number % 64) result }
         ensures small { result ≤ 64 * share_unit }
@@ -134,7 +134,7 @@ impl ClassShares {
     }
 
     /// What the chambers of a path of the class have after an involution has fixed its end.
-    pub(crate) fn capped(&self, class: Class) -> u64
+    pub(crate) fn capped(&self, class: PathClass) -> u64
         ensures told { IsWeightOf
             (IsCappedShare self.now.request self.now.pair self.now.weights class.number)
             (class.number % 64) result }
@@ -144,7 +144,7 @@ impl ClassShares {
     }
 
     /// What the chambers of two paths have after an involution has joined their ends.
-    pub(crate) fn joined(&self, one: Class, other: Class) -> u64
+    pub(crate) fn joined(&self, one: PathClass, other: PathClass) -> u64
         requires few { one.number % 64 + other.number % 64 < 64 }
         ensures told { IsWeightOf
             (IsJoinedShare self.now.request self.now.pair self.now.weights one.number other.number)

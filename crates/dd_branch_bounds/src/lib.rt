@@ -9,7 +9,6 @@
 #![tactic(auto)]
 
 mod census;
-mod class;
 mod class_shares;
 mod degrees;
 mod end;
@@ -19,6 +18,7 @@ mod kept_laws;
 mod link;
 mod pair_paths;
 mod parity;
+mod path_class;
 mod path_shares;
 mod share_laws;
 mod sieve;

@@ -9,10 +9,10 @@ ghost use Rattle.dd_branch_bounds.specs.Sides.{class_weight, KeepsBounds};
 ghost use Rattle.dd_model.specs.Wanted.{Wanted};
 
 use crate::census::{Census, is_limited};
-use crate::class::Class;
 use crate::class_shares::ClassShares;
 use crate::end::End;
 use crate::flag_number::FlagNumber;
+use crate::path_class::PathClass;
 use dd_model::Pair;
 
 /// The paths of a pair in a table that a search fills, kept at their ends, and the sum of the
@@ -32,7 +32,7 @@ impl PairPaths {
             → IsSide shares.now partial result }
     {
         let size = shares.size;
-        let class = Class::of(1);
+        let class = PathClass::of(1);
         let mut ends = [End::none(); 74];
         for k in 0..size {
             let flag = 2 * (k + 1);

@@ -26,7 +26,7 @@ use Rattle.dd_branch_degrees.proofs.Choices.{IsValue, choice_told, share_told, v
 
 -- the assignment with other degrees
 abbrev pub with_list : Assignment → List ℕ → Assignment
-with_list a xs = record { alloc = a.alloc; request = a.request; table = a.table; ties = a.ties; places = a.places; rests = a.rests; degrees = record { items = xs }; first = a.first }
+with_list a xs = record { alloc = a.alloc; request = a.request; table = a.table; ties = a.ties; places = a.places; budgets = a.budgets; degrees = record { items = xs }; first = a.first }
 
 -- the assignment with one more
 abbrev pub with_degree : Assignment → ℕ → Assignment
@@ -39,12 +39,12 @@ below : (k n : ℕ) → k ≤ n → k ≢ n → k < n
 below k n low other = ⊎_elim (λ less. less) (λ more. absurd (other (omega (arith, low, more)))) (cases_lt k n)
 
 -- what is left is small
-rest_small : (a : Assignment) → IsAssignment a → (d j : ℕ) → j + d ≡ 2 * a.table.size → (get_or a.rests.most j 0 ≤ d * 24) × (get_or a.rests.least j 0 ≤ d * 24)
+rest_small : (a : Assignment) → IsAssignment a → (d j : ℕ) → j + d ≡ 2 * a.table.size → (get_or a.budgets.most j 0 ≤ d * 24) × (get_or a.budgets.least j 0 ≤ d * 24)
 rest_small a is zero j end =
     let count = is.places.count in
     let at : length a.places.items ≡ j = omega (arith, end, count) in
-    let most : get_or a.rests.most j 0 ≡ 0 = ap (λ i. get_or a.rests.most i 0) (sym at) ∙ is.rests.no_most in
-    let least : get_or a.rests.least j 0 ≡ 0 = ap (λ i. get_or a.rests.least i 0) (sym at) ∙ is.rests.no_least in
+    let most : get_or a.budgets.most j 0 ≡ 0 = ap (λ i. get_or a.budgets.most i 0) (sym at) ∙ is.budgets.no_most in
+    let least : get_or a.budgets.least j 0 ≡ 0 = ap (λ i. get_or a.budgets.least i 0) (sym at) ∙ is.budgets.no_least in
     (omega (arith, most), omega (arith, least))
 rest_small a is (suc d) j end =
     let count = is.places.count in
@@ -52,14 +52,14 @@ rest_small a is (suc d) j end =
     let sound = sound_next a is j no_place (omega (arith, end)) in
     let few = sound.sides in
     let up = sound.most in
-    let most = is.rests.each_most j no_place (omega (arith, end, count)) in
-    let least = is.rests.each_least j no_place (omega (arith, end, count)) in
+    let most = is.budgets.each_most j no_place (omega (arith, end, count)) in
+    let least = is.budgets.each_least j no_place (omega (arith, end, count)) in
     let b_most = before.0 in
     let b_least = before.1 in
     (omega (arith, most, up, few, b_most), omega (arith, least, few, b_least))
 
-pub rests_small : (a : Assignment) → IsAssignment a → (j : ℕ) → j ≤ 2 * a.table.size → (get_or a.rests.most j 0 ≤ 1728) × (get_or a.rests.least j 0 ≤ 1728)
-rests_small a is j low =
+pub budgets_small : (a : Assignment) → IsAssignment a → (j : ℕ) → j ≤ 2 * a.table.size → (get_or a.budgets.most j 0 ≤ 1728) × (get_or a.budgets.least j 0 ≤ 1728)
+budgets_small a is j low =
     let small = rest_small a is (2 * a.table.size - j) j (omega (arith, low)) in
     let few = is.table.small in
     let most = small.0 in
@@ -77,7 +77,7 @@ more_told a m is room last =
       ties = is.ties;
       automorphisms = is.automorphisms;
       places = is.places;
-      rests = is.rests;
+      budgets = is.budgets;
       short = omega (arith, room, long);
       each = λ j x low. ⊎_elim
           (λ early.
@@ -196,12 +196,12 @@ forced_more a b m is old room other copied =
     let long : length (b.degrees.items ++ m ∷ []) ≡ told b + 1 = length_push b.degrees.items m in
     let longer = old.longer in
     let count = is.places.count in
-    let most = is.rests.each_most (told b) no_place (omega (arith, count, room)) in
-    let least = is.rests.each_least (told b) no_place (omega (arith, count, room)) in
+    let most = is.budgets.each_most (told b) no_place (omega (arith, count, room)) in
+    let least = is.budgets.each_least (told b) no_place (omega (arith, count, room)) in
     let spends = spent_more b m in
     let whole = length-prefix b is in
-    let at_most : get_or b.rests.most (length (b.degrees.items ++ m ∷ [])) 0 ≡ get_or b.rests.most (told b + 1) 0 = ap (λ j. get_or b.rests.most j 0) long in
-    let at_least : get_or b.rests.least (length (b.degrees.items ++ m ∷ [])) 0 ≡ get_or b.rests.least (told b + 1) 0 = ap (λ j. get_or b.rests.least j 0) long in
+    let at_most : get_or b.budgets.most (length (b.degrees.items ++ m ∷ [])) 0 ≡ get_or b.budgets.most (told b + 1) 0 = ap (λ j. get_or b.budgets.most j 0) long in
+    let at_least : get_or b.budgets.least (length (b.degrees.items ++ m ∷ [])) 0 ≡ get_or b.budgets.least (told b + 1) 0 = ap (λ j. get_or b.budgets.least j 0) long in
     let none_spent = none.0 in
     let none_most = none.1 in
     let none_least = none.2 in
@@ -234,8 +234,8 @@ entered a b m is room forced =
     let longer = forced.longer in
     let spends = spent_more a m in
     let more = forced.spent in
-    let most = ap (λ j. get_or a.rests.most j 0) long in
-    let least = ap (λ j. get_or a.rests.least j 0) long in
+    let most = ap (λ j. get_or a.budgets.most j 0) long in
+    let least = ap (λ j. get_or a.budgets.least j 0) long in
     record {
       back =
           let once : take (told a) b.degrees.items ≡ take (told a) (a.degrees.items ++ m ∷ []) =
@@ -258,8 +258,8 @@ part_of_value a v is room =
     ap (λ w. (next_place a).sides * (12 / w)) (quotient_is v (next_place a).turns (v * (next_place a).turns) some refl)
 
 -- what the later degrees have at least
-pub least_after : (a : Assignment) → IsAssignment a → told a < 2 * a.table.size → get_or a.rests.least (told a) 0 ≡ get_or a.rests.least (told a + 1) 0 + 2 * (next_place a).sides
-least_after a is room = let count = is.places.count in is.rests.each_least (told a) no_place (omega (arith, room, count))
+pub least_after : (a : Assignment) → IsAssignment a → told a < 2 * a.table.size → get_or a.budgets.least (told a) 0 ≡ get_or a.budgets.least (told a + 1) 0 + 2 * (next_place a).sides
+least_after a is room = let count = is.places.count in is.budgets.each_least (told a) no_place (omega (arith, room, count))
 
 -- the degree that a place has with a share
 abbrev pub IsDegreeWith : DegreeSlot → ℕ → ℕ → Type 0
@@ -285,9 +285,9 @@ budget_more a b m left e is room budget part entered fits =
 pub record Spends (a : Assignment) (s : Symbol) : Type 0 where
   pub chosen : AllAreChosen a.request a.table s a.places.items
   pub upto : spent a.places.items (degree_at s) 0 (told a) ≡ spent_by a
-  pub most : (k : ℕ) → k ≤ 2 * a.table.size → 6 * a.table.size ≤ spent a.places.items (degree_at s) 0 k + get_or a.rests.most k 0
-  pub least : (k : ℕ) → k ≤ 2 * a.table.size → spent a.places.items (degree_at s) 0 k + get_or a.rests.least k 0 ≤ 6 * a.table.size
-  pub surplus : (k e p : ℕ) → k ≤ 2 * a.table.size → spent a.places.items (degree_at s) 0 k + get_or a.rests.least k 0 + e ≡ 6 * a.table.size → p + e ≡ 63 → bit_at (get_or a.rests.surplus k 0) p ≡ 1
+  pub most : (k : ℕ) → k ≤ 2 * a.table.size → 6 * a.table.size ≤ spent a.places.items (degree_at s) 0 k + get_or a.budgets.most k 0
+  pub least : (k : ℕ) → k ≤ 2 * a.table.size → spent a.places.items (degree_at s) 0 k + get_or a.budgets.least k 0 ≤ 6 * a.table.size
+  pub surplus : (k e p : ℕ) → k ≤ 2 * a.table.size → spent a.places.items (degree_at s) 0 k + get_or a.budgets.least k 0 + e ≡ 6 * a.table.size → p + e ≡ 63 → bit_at (get_or a.budgets.surplus k 0) p ≡ 1
 
 pub spends : (a : Assignment) → IsAssignment a → (s : Symbol) → IsMemberUnder a (prefix_of a) s → Spends a s
 spends a is s under =
@@ -302,9 +302,9 @@ spends a is s under =
     record {
       chosen = all;
       upto = spent_same places (degree_at s) (λ j. get_or a.degrees.items j 0) (told a) (λ j low. told_degree a is s under j low);
-      most = λ k low. let up = spent_at_most places a.rests (degree_at s) is.rests bounded (length places - k) k (omega (arith, low, count)) in omega (arith, up, whole);
-      least = λ k low. let down = spent_at_least places a.rests (degree_at s) is.rests bounded (length places - k) k (omega (arith, low, count)) in omega (arith, down, whole);
-      surplus = λ k e p low all. spent_as_told places a.rests (degree_at s) is.rests bounded (length places - k) k e p (omega (arith, low, count)) (all ∙ sym whole);
+      most = λ k low. let up = spent_at_most places a.budgets (degree_at s) is.budgets bounded (length places - k) k (omega (arith, low, count)) in omega (arith, up, whole);
+      least = λ k low. let down = spent_at_least places a.budgets (degree_at s) is.budgets bounded (length places - k) k (omega (arith, low, count)) in omega (arith, down, whole);
+      surplus = λ k e p low all. spent_as_told places a.budgets (degree_at s) is.budgets bounded (length places - k) k e p (omega (arith, low, count)) (all ∙ sym whole);
     }
 
 -- the next degree of a member is a choice
@@ -322,9 +322,9 @@ next_choice a is room s under P tile vertex =
 
 -- the later degrees may have what is left of the budget
 pub record MeetsBudget (a : Assignment) (n : ℕ) : Type 0 where
-  pub enough : 6 * a.table.size ≤ n + get_or a.rests.most (told a + 1) 0
-  pub room : n + get_or a.rests.least (told a + 1) 0 ≤ 6 * a.table.size
-  pub surplus : (e p : ℕ) → n + get_or a.rests.least (told a + 1) 0 + e ≡ 6 * a.table.size → p + e ≡ 63 → bit_at (get_or a.rests.surplus (told a + 1) 0) p ≡ 1
+  pub enough : 6 * a.table.size ≤ n + get_or a.budgets.most (told a + 1) 0
+  pub room : n + get_or a.budgets.least (told a + 1) 0 ≤ 6 * a.table.size
+  pub surplus : (e p : ℕ) → n + get_or a.budgets.least (told a + 1) 0 + e ≡ 6 * a.table.size → p + e ≡ 63 → bit_at (get_or a.budgets.surplus (told a + 1) 0) p ≡ 1
 
 -- with the branching value of a member it is so
 pub budget_of_member : (a : Assignment) (v n : ℕ) → IsAssignment a → told a < 2 * a.table.size → n ≡ spent_by a + (next_place a).sides * (12 / v) → (s : Symbol) → IsMemberUnder a (prefix_of a) s → next_number (prefix_of a) s ≡ v * (next_place a).turns
@@ -339,12 +339,12 @@ budget_of_member a v n is room so_far s under next =
     let most = has.most (suc (told a)) (omega (arith, room)) in
     let least = has.least (suc (told a)) (omega (arith, room)) in
     let step = spent_next a.places.items (degree_at s) (told a) in
-    let at_most = ap (λ j. get_or a.rests.most j 0) e in
-    let at_least = ap (λ j. get_or a.rests.least j 0) e in
+    let at_most = ap (λ j. get_or a.budgets.most j 0) e in
+    let at_least = ap (λ j. get_or a.budgets.least j 0) e in
     record {
       enough = omega (arith, part, here, upto, so_far, step, most, at_most);
       room = omega (arith, part, here, upto, so_far, step, least, at_least);
-      surplus = λ rest p all mirror. ap (λ j. bit_at (get_or a.rests.surplus j 0) p) (sym e)
+      surplus = λ rest p all mirror. ap (λ j. bit_at (get_or a.budgets.surplus j 0) p) (sym e)
           ∙ has.surplus (suc (told a)) rest p (omega (arith, room)) (omega (arith, part, here, upto, so_far, step, at_least, all)) mirror;
     }
 

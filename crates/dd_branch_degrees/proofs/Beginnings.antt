@@ -27,7 +27,7 @@ use Rattle.dd_branch_degrees.specs.Assignment.{HasLimits, IsAssignment, IsAtRoot
 use Rattle.dd_branch_degrees.specs.Budget.{no_place}
 use Rattle.dd_branch_degrees.specs.Members.{AreMembersWith}
 use Rattle.dd_branch_degrees.specs.Place.{ArePlaces, HasPlaces, IsPlaceOf}
-use Rattle.dd_branch_degrees.specs.Rests.{AreRests}
+use Rattle.dd_branch_degrees.specs.LaterBudgets.{AreLaterBudgets}
 use Rattle.dd_branch_degrees.specs.declared.assignment.Assignment.{Assignment}
 use Rattle.dd_branch_degrees.specs.declared.places.DegreeSlot.{DegreeSlot}
 use Rattle.dd_branch_degrees.proofs.Advancing.{sound_next}
@@ -62,8 +62,8 @@ both_places q t none mid new empty tiles vertices =
 
 -- ## The beginning
 
-pub begun : (a : Assignment) → IsBareTable a.table → HasLimits a.request a.table → AreTies a.table a.ties.starts.items → IfSome a.ties.automorphisms (λ all. AreAutomorphisms a.table a.ties.starts.items all.items) → ArePlaces a.request a.table a.places.items → AreRests a.places.items a.rests → a.degrees.items ≡ [] → IsAssignment a
-begun a table limits ties automorphisms places rests empty =
+pub begun : (a : Assignment) → IsBareTable a.table → HasLimits a.request a.table → AreTies a.table a.ties.starts.items → IfSome a.ties.automorphisms (λ all. AreAutomorphisms a.table a.ties.starts.items all.items) → ArePlaces a.request a.table a.places.items → AreLaterBudgets a.places.items a.budgets → a.degrees.items ≡ [] → IsAssignment a
+begun a table limits ties automorphisms places budgets empty =
     let none : told a ≡ 0 = ap length empty in
     record {
       table = table;
@@ -71,7 +71,7 @@ begun a table limits ties automorphisms places rests empty =
       ties = ties;
       automorphisms = automorphisms;
       places = places;
-      rests = rests;
+      budgets = budgets;
       short = omega (arith, none);
       each = λ j x low. absurd (omega (arith, none, low));
     }

@@ -23,9 +23,9 @@ use Rattle.dd_branch_degrees.specs.Assignment.{degree_at}
 use Rattle.dd_branch_degrees.specs.Budget.{no_place, twelfths, spent}
 use Rattle.dd_branch_degrees.specs.Choice.{IsChoice}
 use Rattle.dd_branch_degrees.specs.Place.{IsPlaceOf, sides_of}
-use Rattle.dd_branch_degrees.specs.Rests.{AreRests}
+use Rattle.dd_branch_degrees.specs.LaterBudgets.{AreLaterBudgets}
 use Rattle.dd_branch_degrees.specs.declared.places.DegreeSlot.{DegreeSlot}
-use Rattle.dd_branch_degrees.specs.declared.rests.Rests.{Rests}
+use Rattle.dd_branch_degrees.specs.declared.later_budgets.LaterBudgets.{LaterBudgets}
 use Rattle.dd_branch_degrees.proofs.Choices.{divides_twelve, part_at_most}
 
 -- ## Sums of parts
@@ -160,56 +160,56 @@ least_part x part has =
     let is = has.is in
     omega (arith, is)
 
-pub spent_at_most : (places : List DegreeSlot) (rests : Rests) (f : ℕ → ℕ) → AreRests places rests → AreBounded places f → (d k : ℕ) → k + d ≡ length places
-    → spent places f 0 (length places) ≤ spent places f 0 k + get_or rests.most k 0
-spent_at_most places rests f are bounded zero k end =
+pub spent_at_most : (places : List DegreeSlot) (budgets : LaterBudgets) (f : ℕ → ℕ) → AreLaterBudgets places budgets → AreBounded places f → (d k : ℕ) → k + d ≡ length places
+    → spent places f 0 (length places) ≤ spent places f 0 k + get_or budgets.most k 0
+spent_at_most places budgets f are bounded zero k end =
     let at : k ≡ length places = omega (arith, end) in
     let same = ap (spent places f 0) at in
     omega (arith, same)
-spent_at_most places rests f are bounded (suc d) k end =
-    let rest = spent_at_most places rests f are bounded d (suc k) (omega (arith, end)) in
+spent_at_most places budgets f are bounded (suc d) k end =
+    let rest = spent_at_most places budgets f are bounded d (suc k) (omega (arith, end)) in
     let each = are.each_most k no_place (omega (arith, end)) in
     let one = bounded.most k (omega (arith, end)) in
     let e : suc k ≡ k + 1 = omega arith in
-    let same = ap (λ j. get_or rests.most j 0) e in
+    let same = ap (λ j. get_or budgets.most j 0) e in
     let next = spent_next places f k in
     omega (arith, rest, each, one, same, next)
 
-pub spent_at_least : (places : List DegreeSlot) (rests : Rests) (f : ℕ → ℕ) → AreRests places rests → AreBounded places f → (d k : ℕ) → k + d ≡ length places
-    → spent places f 0 k + get_or rests.least k 0 ≤ spent places f 0 (length places)
-spent_at_least places rests f are bounded zero k end =
+pub spent_at_least : (places : List DegreeSlot) (budgets : LaterBudgets) (f : ℕ → ℕ) → AreLaterBudgets places budgets → AreBounded places f → (d k : ℕ) → k + d ≡ length places
+    → spent places f 0 k + get_or budgets.least k 0 ≤ spent places f 0 (length places)
+spent_at_least places budgets f are bounded zero k end =
     let at : k ≡ length places = omega (arith, end) in
     let same = ap (spent places f 0) at in
-    let none : get_or rests.least k 0 ≡ 0 = ap (λ j. get_or rests.least j 0) at ∙ are.no_least in
+    let none : get_or budgets.least k 0 ≡ 0 = ap (λ j. get_or budgets.least j 0) at ∙ are.no_least in
     omega (arith, same, none)
-spent_at_least places rests f are bounded (suc d) k end =
-    let rest = spent_at_least places rests f are bounded d (suc k) (omega (arith, end)) in
+spent_at_least places budgets f are bounded (suc d) k end =
+    let rest = spent_at_least places budgets f are bounded d (suc k) (omega (arith, end)) in
     let each = are.each_least k no_place (omega (arith, end)) in
     let one = least_part (get_or places k no_place) _ (bounded.parts k (omega (arith, end))) in
     let e : suc k ≡ k + 1 = omega arith in
-    let same = ap (λ j. get_or rests.least j 0) e in
+    let same = ap (λ j. get_or budgets.least j 0) e in
     let next = spent_next places f k in
     omega (arith, rest, each, one, same, next)
 
 -- what is spent beyond the least from a place on is one of the bits
-pub spent_as_told : (places : List DegreeSlot) (rests : Rests) (f : ℕ → ℕ) → AreRests places rests → AreBounded places f → (d k e p : ℕ) → k + d ≡ length places
-    → spent places f 0 k + get_or rests.least k 0 + e ≡ spent places f 0 (length places) → p + e ≡ 63 → bit_at (get_or rests.surplus k 0) p ≡ 1
-spent_as_told places rests f are bounded zero k e p end whole mirror =
+pub spent_as_told : (places : List DegreeSlot) (budgets : LaterBudgets) (f : ℕ → ℕ) → AreLaterBudgets places budgets → AreBounded places f → (d k e p : ℕ) → k + d ≡ length places
+    → spent places f 0 k + get_or budgets.least k 0 + e ≡ spent places f 0 (length places) → p + e ≡ 63 → bit_at (get_or budgets.surplus k 0) p ≡ 1
+spent_as_told places budgets f are bounded zero k e p end whole mirror =
     let at : k ≡ length places = omega (arith, end) in
     let same = ap (spent places f 0) at in
     let none : p ≡ 63 = omega (arith, same, whole, mirror) in
-    ap (λ j. bit_at (get_or rests.surplus j 0) p) at ∙ ap (bit_at (get_or rests.surplus (length places) 0)) none ∙ are.no_surplus
-spent_as_told places rests f are bounded (suc d) k e p end whole mirror =
+    ap (λ j. bit_at (get_or budgets.surplus j 0) p) at ∙ ap (bit_at (get_or budgets.surplus (length places) 0)) none ∙ are.no_surplus
+spent_as_told places budgets f are bounded (suc d) k e p end whole mirror =
     let x = get_or places k no_place in
-    let low = spent_at_least places rests f are bounded d (suc k) (omega (arith, end)) in
-    let rest : ℕ = spent places f 0 (length places) - (spent places f 0 (suc k) + get_or rests.least (suc k) 0) in
+    let low = spent_at_least places budgets f are bounded d (suc k) (omega (arith, end)) in
+    let rest : ℕ = spent places f 0 (length places) - (spent places f 0 (suc k) + get_or budgets.least (suc k) 0) in
     let part = bounded.parts k (omega (arith, end)) in
     let is = part.is in
     let each = are.each_least k no_place (omega (arith, end)) in
     let same : suc k ≡ k + 1 = omega arith in
-    let same_least = ap (λ j. get_or rests.least j 0) same in
+    let same_least = ap (λ j. get_or budgets.least j 0) same in
     let next = spent_next places f k in
     let up : rest + part.share ≡ e = omega (arith, low, each, is, same_least, next, whole) in
-    let before = spent_as_told places rests f are bounded d (suc k) rest (p + part.share) (omega (arith, end)) (omega (arith, low)) (omega (arith, up, mirror)) in
-    let there : bit_at (get_or rests.surplus (k + 1) 0) (p + part.share) ≡ 1 = ap (λ j. bit_at (get_or rests.surplus j 0) (p + part.share)) (sym same) ∙ before in
+    let before = spent_as_told places budgets f are bounded d (suc k) rest (p + part.share) (omega (arith, end)) (omega (arith, low)) (omega (arith, up, mirror)) in
+    let there : bit_at (get_or budgets.surplus (k + 1) 0) (p + part.share) ≡ 1 = ap (λ j. bit_at (get_or budgets.surplus j 0) (p + part.share)) (sym same) ∙ before in
     are.each_surplus k no_place (omega (arith, end)) part.share (p + part.share) p part.none part.allowed there refl

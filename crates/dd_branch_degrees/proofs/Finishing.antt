@@ -106,8 +106,8 @@ told_more a b c m is room old entered next =
 
 -- ## The end
 
-least_at_end : (a : Assignment) → IsAssignment a → told a ≡ 2 * a.table.size → get_or a.rests.least (told a) 0 ≡ 0
-least_at_end a is whole = let count = is.places.count in ap (λ j. get_or a.rests.least j 0) (whole ∙ sym count) ∙ is.rests.no_least
+least_at_end : (a : Assignment) → IsAssignment a → told a ≡ 2 * a.table.size → get_or a.budgets.least (told a) 0 ≡ 0
+least_at_end a is whole = let count = is.places.count in ap (λ j. get_or a.budgets.least j 0) (whole ∙ sym count) ∙ is.budgets.no_least
 
 -- where all degrees are told and something is left, there is no member
 pub none_at_end : (a : Assignment) (left : ℕ) → IsAssignment a → told a ≡ 2 * a.table.size → HasBudget a left → (left ≡ 0 → ⊥) → (s : Symbol) → IsMemberUnder a (prefix_of a) s → ⊥
@@ -115,7 +115,7 @@ none_at_end a left is whole budget some s under =
     let has = spends a is s under in
     let count = is.places.count in
     let most = has.most (told a) (omega (arith, whole)) in
-    let none = ap (λ j. get_or a.rests.most j 0) (whole ∙ sym count) ∙ is.rests.no_most in
+    let none = ap (λ j. get_or a.budgets.most j 0) (whole ∙ sym count) ∙ is.budgets.no_most in
     let upto = has.upto in
     let least = least_at_end a is whole in
     some (omega (arith, most, none, upto, least, budget))

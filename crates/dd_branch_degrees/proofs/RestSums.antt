@@ -3,7 +3,7 @@ use Rattle.std.proofs.Common.{◌≡◌, ℕ, ◌+◌, ◌-◌, ◌*◌, ◌<◌
 use Rattle.std.proofs.lemmas.Bool.{cases_lt}
 use Rattle.std.proofs.lemmas.List.{get_or-set_same, get_or-set_other, get_or_default, get_or-replicate}
 use Rattle.std.specs.Int.{bit_at}
-use Rattle.dd_branch_degrees.specs.Rests.{HasSurplusWith}
+use Rattle.dd_branch_degrees.specs.LaterBudgets.{HasSurplusWith}
 use Rattle.dd_branch_degrees.specs.declared.places.DegreeSlot.{DegreeSlot}
 
 pub none_yet : (n : ℕ) → n ≤ 72 → get_or {A = ℕ} (replicate 73 0) n 0 ≡ 0

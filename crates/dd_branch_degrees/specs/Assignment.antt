@@ -13,7 +13,7 @@ use Rattle.dd_branch_degrees.specs.Budget.{no_place, spent}
 use Rattle.dd_branch_degrees.specs.Choice.{IsChoice}
 use Rattle.dd_branch_degrees.specs.Automorphism.{AreAutomorphisms}
 use Rattle.dd_branch_degrees.specs.Place.{ArePlaces}
-use Rattle.dd_branch_degrees.specs.Rests.{AreRests}
+use Rattle.dd_branch_degrees.specs.LaterBudgets.{AreLaterBudgets}
 use Rattle.dd_branch_degrees.specs.declared.places.DegreeSlot.{DegreeSlot}
 use Rattle.dd_branch_degrees.specs.declared.assignment.Assignment.{Assignment}
 
@@ -41,7 +41,7 @@ shortened a mark = record {
   table = a.table;
   ties = a.ties;
   places = a.places;
-  rests = a.rests;
+  budgets = a.budgets;
   degrees = record { items = take mark a.degrees.items };
   first = a.first;
 }
@@ -73,7 +73,7 @@ pub record IsAssignment (a : Assignment) : Type 0 where
   pub ties : AreTies a.table a.ties.starts.items
   pub automorphisms : IfSome a.ties.automorphisms (λ all. AreAutomorphisms a.table a.ties.starts.items all.items)
   pub places : ArePlaces a.request a.table a.places.items
-  pub rests : AreRests a.places.items a.rests
+  pub budgets : AreLaterBudgets a.places.items a.budgets
   pub short : told a ≤ 2 * a.table.size
   pub each : (j : ℕ) (x : DegreeSlot) → j < told a → IsTold a.request a.table.size a.degrees.items j (slice_index_or a.places.items j x)
 

@@ -9,7 +9,7 @@ use Rattle.dd_branch_degrees.specs.declared.assignment.Assignment.{Assignment}
 
 -- the degrees that are left have to take so much of the budget beyond their least
 abbrev pub HasBudget : Assignment → ℕ → Type 0
-HasBudget a left = spent_by a + left + slice_index a.rests.least (told a) ≡ 6 * a.table.size
+HasBudget a left = spent_by a + left + slice_index a.budgets.least (told a) ≡ 6 * a.table.size
 
 -- What the next degree may have of the budget beyond its least, as bits, where so much is left: no more than that, and a share of
 -- its place. That of each member is one of them.
@@ -23,8 +23,8 @@ pub record HasForced (old new : Assignment) : Type 0 where
   pub longer : told old ≤ told new
   pub under : (s : Symbol) → IsMemberUnder old (prefix_of old) s ↔ IsMemberUnder new (prefix_of new) s
   pub spent : spent_by new ≡ spent_by old
-  pub most : slice_index new.rests.most (told new) ≡ slice_index old.rests.most (told old)
-  pub least : slice_index new.rests.least (told new) ≡ slice_index old.rests.least (told old)
+  pub most : slice_index new.budgets.most (told new) ≡ slice_index old.budgets.most (told old)
+  pub least : slice_index new.budgets.least (told new) ≡ slice_index old.budgets.least (told old)
 
 -- More degrees were told, and no member has others.
 pub record HasTold (old new : Assignment) : Type 0 where
@@ -38,5 +38,5 @@ pub record HasEntered (old : Assignment) (degree : ℕ) (new : Assignment) : Typ
   pub longer : told old < told new
   pub under : (s : Symbol) → IsMemberUnder old (prefix_of old ++ degree ∷ []) s ↔ IsMemberUnder new (prefix_of new) s
   pub spent : spent_by new ≡ spent_by old + twelfths (next_place old) degree
-  pub most : slice_index new.rests.most (told new) ≡ slice_index old.rests.most (told old + 1)
-  pub least : slice_index new.rests.least (told new) ≡ slice_index old.rests.least (told old + 1)
+  pub most : slice_index new.budgets.most (told new) ≡ slice_index old.budgets.most (told old + 1)
+  pub least : slice_index new.budgets.least (told new) ≡ slice_index old.budgets.least (told old + 1)

@@ -1,7 +1,7 @@
 pub mod Choice
 pub mod Place
 pub mod Budget
-pub mod Rests
+pub mod LaterBudgets
 pub mod Assignment
 pub mod Entered
 pub mod Members

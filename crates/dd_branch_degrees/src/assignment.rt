@@ -16,9 +16,9 @@ ghost use Rattle.dd_branch_degrees.specs.Place.{ArePlaces};
 ghost use Rattle.dd_branch_degrees.specs.Automorphism.{AreAutomorphisms};
 ghost use Rattle.dd_branch_degrees.specs.Entered.{AreFitting, HasBudget, HasEntered, HasForced, HasTold};
 
+use crate::later_budgets::LaterBudgets;
 use crate::minimality::is_minimal;
 use crate::places::DegreeSlot;
-use crate::rests::Rests;
 use crate::ties::Ties;
 use arrayvec::ArrayVec;
 use dd_member_lists::SymbolList;
@@ -40,7 +40,7 @@ pub(crate) struct Assignment {
     /// What the table decides of each degree.
     pub(crate) places: ArrayVec<DegreeSlot, 72>,
     /// What the degrees from each place on will have of the budget.
-    rests: Rests,
+    budgets: LaterBudgets,
     /// The degrees that are set.
     pub(crate) degrees: ArrayVec<u8, 72>,
     /// How many symbols the list had when the table came to which the members go.
@@ -75,7 +75,7 @@ impl Assignment {
             request: *q,
             table,
             ties,
-            rests: Rests::of(&places),
+            budgets: LaterBudgets::of(&places),
             places,
             degrees: ArrayVec::new(),
             first,
@@ -108,8 +108,8 @@ impl Assignment {
             (λ left. HasBudget self.now left) }
     {
         let whole = 6 * self.size() as u16;
-        let least = self.rests.least[0];
-        if least > whole || self.rests.most[0] < whole {
+        let least = self.budgets.least[0];
+        if least > whole || self.budgets.most[0] < whole {
             return None;
         }
         Some(whole - least)
@@ -125,7 +125,7 @@ impl Assignment {
         ensures { AreFitting self.now left result }
     {
         let shares = self.next_place().shares;
-        self.rests.fitting(self.degrees.len() + 1, shares, left)
+        self.budgets.fitting(self.degrees.len() + 1, shares, left)
     }
 
     /// Sets the degrees that follow from those that are set, up to the least chamber of another

@@ -18,9 +18,9 @@
 //!   2 for each side. What a branching number takes beyond that is its share. The shares that a
 //!   cell may have are bits of a word (`DegreeSlot`).
 //! - **What later cells can spend** beyond their least is kept as bits too, for amounts below 64.
-//!   Each cell has one set, made once a table from the last cell to the first (`Rests`). So one
-//!   shift and one AND give all shares that fit. This is exact near the end, where most assignments
-//!   would fail.
+//!   Each cell has one set, made once a table from the last cell to the first (`LaterBudgets`). So
+//!   one shift and one AND give all shares that fit. This is exact near the end, where most
+//!   assignments would fail.
 //! - **If only one share fits**, the search takes it and goes down without a branch (`go_down`). If
 //!   several do, it tries each.
 //! - **Degrees.** The degree of the least chamber of a cell is set, and at once the others of the
@@ -38,11 +38,11 @@
 
 mod assignment;
 mod automorphisms;
+mod later_budgets;
 mod limits;
 mod members;
 mod minimality;
 mod places;
-mod rests;
 mod table;
 mod ties;
 

@@ -7,9 +7,9 @@ use Rattle.dd_model.specs.Symbol.{Symbol, item, op}
 use Rattle.dd_model.proofs.Lists.{zero_at}
 use Rattle.std.proofs.lemmas.List.{length-replicate}
 use Rattle.dd_canon.specs.Traversal.{unnumbered, IsVisit, IsMeeting}
-use Rattle.dd_branch_tables.specs.Visit.{AreNumbered}
+use Rattle.dd_branch_tables.specs.FirstVisits.{AreNumbered}
 use Rattle.dd_branch_tables.specs.Beaten.{ReadsKnown, IsBeaten, Extends, AreMet}
-use Rattle.dd_branch_tables.specs.declared.traversal.Visit.{Visit}
+use Rattle.dd_branch_tables.specs.declared.traversal.FirstVisits.{FirstVisits}
 use Rattle.dd_branch_tables.proofs.Distinct.{distinct_from, all_from}
 use Rattle.dd_model.specs.Indices.{index_at}
 
@@ -31,7 +31,7 @@ visit_none n order number none blank =
     }
 
 -- a visit is one of the traversals of symbols with 36 chambers
-pub visit_of : (v : Visit) → IsVisit 36 v.order.items v.number
+pub visit_of : (v : FirstVisits) → IsVisit 36 v.order.items v.number
 visit_of v = record {
   numbers = v.are_numbered.numbers;
   within = v.are_numbered.within;

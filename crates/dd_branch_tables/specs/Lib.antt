@@ -12,6 +12,6 @@ pub mod Open
 pub mod Rows
 pub mod Kept
 pub mod Commuting
-pub mod Visit
+pub mod FirstVisits
 pub mod Stem
 pub mod Growth

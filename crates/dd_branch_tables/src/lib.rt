@@ -25,5 +25,5 @@ pub use prefix_search::PrefixSearch;
 pub use search_steps::{advance, begin, go_back};
 pub use starts::Starts;
 pub use stem::Stem;
-pub use traversal::{Standing, Visit, stand};
+pub use traversal::{FirstVisits, Standing, stand};
 pub use whole_stems::{involutions, is_least, ties};

@@ -4,7 +4,7 @@ ghost use Rattle.dd_front_jobs.specs.Under.{HasNothingUnder};
 
 use crate::sleepers::{NOWHERE, Sleepers};
 use crate::stem::Stem;
-use crate::traversal::{Standing, Visit};
+use crate::traversal::{FirstVisits, Standing};
 use std::marker::Model;
 
 /// Start chambers whose traversals may still read smaller than a prefix that grows. Each sleeps
@@ -13,7 +13,7 @@ use std::marker::Model;
 #[derive(Drop)]
 pub struct Starts {
     sleepers: Sleepers,
-    visit: Visit,
+    visit: FirstVisits,
 }
 
 impl Model for Starts {
@@ -27,7 +27,7 @@ impl Starts {
     pub fn new(size: u8) -> Starts {
         Starts {
             sleepers: Sleepers::new(size),
-            visit: Visit::new(),
+            visit: FirstVisits::new(),
         }
     }
 

@@ -9,7 +9,7 @@ ghost use Rattle.dd_front_jobs.specs.Under.{HasNothingUnder};
 use crate::chamber_set::ChamberSet;
 use crate::first_numbers::FirstNumbers;
 use crate::partial_table::{PartialTable, index_at};
-use crate::traversal::{Standing, Visit, stand};
+use crate::traversal::{FirstVisits, Standing, stand};
 use dd_model::Index;
 
 /// A prefix of the codes of tables of one size, with the partial table that follows from it. A
@@ -165,7 +165,7 @@ impl Stem {
 
     /// How the traversal from a chamber stands to the prefix. Where it reads smaller, nothing is
     /// under the prefix.
-    pub(crate) fn standing(&self, start: u8, visit: &mut Visit) -> Standing
+    pub(crate) fn standing(&self, start: u8, visit: &mut FirstVisits) -> Standing
         requires { IsStem self.now }
         ensures { result ≡ Standing.Smaller
             → HasNothingUnder Any (size_of self.now) (prefix_of self.now) }
@@ -178,7 +178,7 @@ impl Stem {
 
     /// Returns whether the traversal from some start gives a smaller code, so that nothing is under
     /// the prefix. A tie is none. Chamber 1 reads as the prefix itself, and is not tried.
-    pub fn is_beaten(&self, visit: &mut Visit) -> bool
+    pub fn is_beaten(&self, visit: &mut FirstVisits) -> bool
         requires { IsStem self.now }
         ensures { IsTrue result → HasNothingUnder Any (size_of self.now) (prefix_of self.now) }
     {
@@ -193,7 +193,7 @@ impl Stem {
 
     /// Puts a number at the end with what follows from it, unless nothing is under the longer
     /// prefix: commuting forbids it, or the traversal from some chamber gives a smaller code.
-    pub fn enter(&mut self, number: u8, visit: &mut Visit) -> bool
+    pub fn enter(&mut self, number: u8, visit: &mut FirstVisits) -> bool
         requires stem { IsStem self.old }
         requires room { length (prefix_of self.old) < 3 * size_of self.old }
         ensures stem { IsStem self.new }

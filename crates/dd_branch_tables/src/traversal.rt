@@ -5,7 +5,7 @@ ghost use Rattle.dd_branch_tables.specs.Beaten.{IsBeaten};
 ghost use Rattle.dd_branch_tables.specs.Open.{IsOpen};
 ghost use Rattle.dd_branch_tables.specs.Passed.{IsPassed};
 ghost use Rattle.dd_branch_tables.specs.Rows.{partial_of};
-ghost use Rattle.dd_branch_tables.specs.Visit.{AreNumbered};
+ghost use Rattle.dd_branch_tables.specs.FirstVisits.{AreNumbered};
 
 use crate::partial_table::PartialTable;
 use crate::sleepers::NOWHERE;
@@ -14,18 +14,18 @@ use arrayvec::ArrayVec;
 /// Chambers in the order in which a traversal meets them, and the number of each, 0 where it has
 /// none. It serves for one traversal after another, and no call allocates.
 #[derive(Drop)]
-pub struct Visit {
+pub struct FirstVisits {
     order: ArrayVec<u8, 36>,
     number: [u8; 36],
     ghost are_numbered: { AreNumbered order.items number },
 }
 
-impl Visit {
+impl FirstVisits {
     /// A visit that has met no chamber.
-    pub fn new() -> Visit {
+    pub fn new() -> FirstVisits {
         let order = ArrayVec::new();
         let number = [0; 36];
-        Visit { order, number }
+        FirstVisits { order, number }
     }
 
     /// A chamber without a number gets the next one.
@@ -82,7 +82,7 @@ pub enum Standing {
 /// The three images of a chamber, a row, stand side by side from its first place on. A search calls
 /// this for each start at each number that it puts in, so it is inlined.
 #[inline(always)]
-pub fn stand(rows: &PartialTable, prefix: &[u8], start: u8, visit: &mut Visit) -> Standing
+pub fn stand(rows: &PartialTable, prefix: &[u8], start: u8, visit: &mut FirstVisits) -> Standing
     requires start { (1 ≤ start) × (start ≤ (partial_of rows.now).size) }
     requires short { length prefix.now ≤ 3 * (partial_of rows.now).size }
     ensures open { (place : ℕ) → result ≡ Standing.Open place

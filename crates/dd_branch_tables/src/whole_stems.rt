@@ -9,7 +9,7 @@ ghost use Rattle.dd_branch_tables.specs.Table.{AreOfTable, HasLeastTable, HasTab
 ghost use Rattle.dd_branch_tables.specs.Ties.{AreTiesOf};
 
 use crate::stem::Stem;
-use crate::traversal::{Standing, Visit, stand};
+use crate::traversal::{FirstVisits, Standing, stand};
 use dd_model::Memory;
 use dd_symbol::Involutions;
 use std::alloc::Global;
@@ -17,7 +17,7 @@ use std::alloc::Global;
 /// Returns whether the images, which are all known, are those of a least table. The chambers come
 /// in the order of their first visits, all of them are met, and the traversal from no start reads
 /// smaller.
-pub fn is_least(stem: &Stem, visit: &mut Visit) -> bool
+pub fn is_least(stem: &Stem, visit: &mut FirstVisits) -> bool
     requires stem { IsStem stem.now }
     requires whole { length (prefix_of stem.now) ≡ 3 * size_of stem.now }
     ensures least { OnTrue result (HasLeastTable (size_of stem.now) (prefix_of stem.now)) }
@@ -49,7 +49,7 @@ pub fn ties(stem: &Stem, alloc: Global) -> Result<Option<Vec<u32>>, Memory>
         return Ok(None);
     }
     let mut ties = Vec::new(alloc);
-    let mut visit = Visit::new();
+    let mut visit = FirstVisits::new();
     for k in 1..stem.size() {
         match stand(stem.rows(), stem.prefix(), k + 1, &mut visit) {
             Standing::Smaller => return Ok(None),

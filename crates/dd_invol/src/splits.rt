@@ -6,13 +6,13 @@ ghost use Rattle.dd_invol.specs.Children.{IsStemOf};
 ghost use Rattle.dd_branch_tables.specs.Stem.{Any, IsStem, prefix_of, size_of};
 ghost use Rattle.dd_front_jobs.specs.Under.{HasNothingUnder};
 
-use dd_branch_tables::{Stem, Visit};
+use dd_branch_tables::{FirstVisits, Stem};
 use dd_front_jobs::{can_follow, child};
 use dd_model::{Job, Memory, Request};
 use std::alloc::Global;
 
 /// The stem of a job, unless it is sure that nothing is under it.
-pub(crate) fn stem_of(job: &Job, visit: &mut Visit) -> Option<Stem>
+pub(crate) fn stem_of(job: &Job, visit: &mut FirstVisits) -> Option<Stem>
     requires size { (1 ≤ job.now.size) × (job.now.size ≤ 36) }
     requires short { length job.now.prefix ≤ 3 * job.now.size }
     ensures { MatchOption result (HasNothingUnder Any job.now.size job.now.prefix)
@@ -29,7 +29,7 @@ pub(crate) fn stem_of(job: &Job, visit: &mut Visit) -> Option<Stem>
 }
 
 /// Returns whether something may be under a stem with one number more.
-fn may_grow(stem: &mut Stem, visit: &mut Visit, number: u8) -> bool
+fn may_grow(stem: &mut Stem, visit: &mut FirstVisits, number: u8) -> bool
     requires stem { IsStem stem.old }
     requires room { length (prefix_of stem.old) < 3 * size_of stem.old }
     ensures same { stem.new ≡ stem.old }
@@ -54,7 +54,7 @@ fn extensions(alloc: Global, q: &Request, job: &Job) -> Result<Vec<Job>, Memory>
     ensures { IfOk result (λ jobs. AreExtensions q.now job.now jobs.items) }
 {
     let mut jobs = Vec::new(alloc);
-    let mut visit = Visit::new();
+    let mut visit = FirstVisits::new();
     let Some(mut stem) = stem_of(job, &mut visit) else {
         return Ok(jobs);
     };

@@ -11,7 +11,7 @@ use crate::next_table::images_here;
 use crate::splits::stem_of;
 use crate::tables::Tables;
 use arrayvec::ArrayVec;
-use dd_branch_tables::{Levels, PrefixSearch, Visit, advance, begin, go_back};
+use dd_branch_tables::{FirstVisits, Levels, PrefixSearch, advance, begin, go_back};
 use dd_model::{Job, Request};
 
 /// A search that comes to the tables under a job one after the other, and the images of the table
@@ -64,7 +64,7 @@ impl TableSearch {
         ensures first { (result.seen.items ≡ [])
             ⊎ IsAhead request.now job.now [] result.seen.items }
     {
-        let mut visit = Visit::new();
+        let mut visit = FirstVisits::new();
         if let Some(stem) = stem_of(job, &mut visit) {
             return TableSearch::from_tables(Tables::from_stem(request, stem, visit));
         }

@@ -2,7 +2,7 @@ ghost use Rattle.std.specs.Prelude.{◌≡◌, ◌*◌, ◌≤◌, [], length};
 ghost use Rattle.std.specs.Bool.{OnTrue, OnFalse};
 ghost use Rattle.dd_front_jobs.specs.Under.{HasNothingUnder};
 
-use dd_branch_tables::{ChamberSet, PrefixSearch, Stem, Visit, is_least};
+use dd_branch_tables::{ChamberSet, FirstVisits, PrefixSearch, Stem, is_least};
 use dd_model::Request;
 use std::marker::Model;
 
@@ -12,7 +12,7 @@ use std::marker::Model;
 pub struct Tables {
     request: Request,
     stem: Stem,
-    visit: Visit,
+    visit: FirstVisits,
 }
 
 impl Model for Tables {
@@ -40,12 +40,12 @@ impl Tables {
         Tables {
             request: *request,
             stem: Stem::new(size),
-            visit: Visit::new(),
+            visit: FirstVisits::new(),
         }
     }
 
     /// The search from a stem on, with the room for its traversals.
-    pub(crate) fn from_stem(request: &Request, stem: Stem, visit: Visit) -> Tables
+    pub(crate) fn from_stem(request: &Request, stem: Stem, visit: FirstVisits) -> Tables
         ensures request { result.request ≡ request.now }
         ensures stem { result.stem ≡ stem }
     {

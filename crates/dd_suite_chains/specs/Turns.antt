@@ -3,8 +3,8 @@ use Rattle.std.specs.Prelude.{◌≡◌, ◌≢◌, ◌⊎◌, ℕ, ◌+◌, ◌
 use Rattle.dd_ports.specs.declared.memory_sink.MemorySink.{MemorySink}
 use Rattle.dd_suite_tasks.specs.declared.status.Status.{Status}
 use Rattle.dd_suite_tasks.specs.declared.status.Status.TheVariants.{Done}
-use Rattle.dd_suite_chains.specs.declared.turn.Turn.{Turn}
-use Rattle.dd_suite_chains.specs.declared.turn.Turn.TheVariants.{Last, Next}
+use Rattle.dd_suite_chains.specs.declared.after_run.AfterRun.{AfterRun}
+use Rattle.dd_suite_chains.specs.declared.after_run.AfterRun.TheVariants.{Last, Next}
 use Rattle.dd_suite_chains.specs.Runs.{Kept}
 use Rattle.dd_suite_chains.specs.Making.{RunsInto, IsPartOf, IsNextNumber}
 
@@ -27,6 +27,6 @@ pub record IsNextTurn (said : List (List ℕ)) (name : List ℕ) (from to : Kept
   pub is_next : IsNextNumber (Some text) next
   pub bytes : whole ≡ joined ++ part
 
-abbrev pub IsTurn : List (List ℕ) → List ℕ → Kept → Kept → List MemorySink → List MemorySink → ℕ → Option ℕ → List ℕ → List ℕ → Option ℕ → Turn → Type 0
+abbrev pub IsTurn : List (List ℕ) → List ℕ → Kept → Kept → List MemorySink → List MemorySink → ℕ → Option ℕ → List ℕ → List ℕ → Option ℕ → AfterRun → Type 0
 IsTurn said name from to olds news k number joined whole next (Last status) = IsLastTurn said name from to olds news k joined whole status
 IsTurn said name from to olds news k number joined whole next Next = IsNextTurn said name from to olds news k number joined whole next

@@ -6,9 +6,9 @@ ghost use Rattle.dd_suite_chains.specs.Runs.{kept_of};
 ghost use Rattle.dd_suite_chains.specs.Making.{RunsInto};
 ghost use Rattle.dd_suite_chains.specs.Turns.{IsTurn};
 
+use crate::after_run::AfterRun;
 use crate::parts::add_part;
 use crate::runs::{run_into, text_to_go_on};
-use crate::turn::Turn;
 use dd_catalogue_rounds::Workshop;
 use dd_model::Memory;
 use dd_ports::{Gate, MemorySink, MemoryStore};
@@ -38,7 +38,7 @@ impl Chain<'_> {
         store: &mut MemoryStore,
         sinks: &mut [MemorySink],
         k: usize,
-    ) -> Result<Turn, Memory>
+    ) -> Result<AfterRun, Memory>
         requires asked { (order : Order) × AskForRun (map rc_str_bytes self.old.words.now) order }
         requires inside { k < length sinks.old }
         ensures ran { (status : Status) × RunsInto (map rc_str_bytes self.old.words.now)
@@ -60,11 +60,11 @@ impl Chain<'_> {
                     output,
                     &mut self.joined,
                 )?;
-                Ok(Turn::Next)
+                Ok(AfterRun::Next)
             }
             None => {
                 self.joined.extend_from_slice(output)?;
-                Ok(Turn::Last(status))
+                Ok(AfterRun::Last(status))
             }
         }
     }

@@ -10,9 +10,9 @@ ghost use Rattle.dd_suite_chains.specs.Drives.{Drives};
 ghost use Rattle.dd_suite_chains.specs.Sentences.{IsItsText, IsItsFront, HasPaused, HasTooMany};
 ghost use Rattle.dd_suite_chains.specs.Sentences.{HoldsOutOfRange, HasRisen};
 
+use crate::after_run::AfterRun;
 use crate::chain::Chain;
 use crate::driven::Drive;
-use crate::turn::Turn;
 use crate::words::words_to_go_on;
 use dd_catalogue_rounds::Workshop;
 use dd_model::Memory;
@@ -95,14 +95,14 @@ fn make_runs<'a, R: Threads + Wait + Sync, G: Gate + Sync>(
     let count = sinks.len();
     for k in 0..count {
         match chain.run_next(workshop, name, store, sinks, k)? {
-            Turn::Last(status) => {
+            AfterRun::Last(status) => {
                 return Ok(Drive {
                     status,
                     runs: k as u32 + 1,
                     joined: chain.joined,
                 });
             }
-            Turn::Next => chain.words = resume,
+            AfterRun::Next => chain.words = resume,
         }
     }
     unreachable!()

@@ -2,12 +2,12 @@
 //! together.
 #![tactic(auto)]
 
+mod after_run;
 mod chain;
 mod driven;
 mod driver;
 mod parts;
 mod runs;
-mod turn;
 mod words;
 
 pub use driven::Drive;

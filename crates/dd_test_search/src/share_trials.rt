@@ -5,7 +5,7 @@ ghost use Rattle.dd_branch_bounds.specs.Kept.{AreSides};
 
 use crate::fixtures::asked;
 use dd_branch_bounds::{PathShares, TablePaths, parity_rules_out};
-use dd_branch_tables::{PartialTable, Stem, Visit};
+use dd_branch_tables::{FirstVisits, PartialTable, Stem};
 use dd_model::Allowed;
 use std::test::Fail;
 
@@ -183,7 +183,7 @@ fn odd_sizes_have_fixed_chambers(rt: HostRuntime) -> Result<(), Fail> {
 /// from others. The stem's last number was put in after a mark.
 fn count_nodes(
     stem: &mut Stem,
-    visit: &mut Visit,
+    visit: &mut FirstVisits,
     classes: &PathShares,
     before: &TablePaths,
     mark: usize,
@@ -226,7 +226,7 @@ fn nodes_of(tiles: u32, least: u32, size: u8) -> u64
     requires size { (1 ≤ size) × (size ≤ 36) }
 {
     let mut stem = Stem::new(size);
-    let mut visit = Visit::new();
+    let mut visit = FirstVisits::new();
     let classes = PathShares::of(&asked(36, tiles, least), size);
     let start = TablePaths::start(&classes);
     count_nodes(&mut stem, &mut visit, &classes, &start, 0)

@@ -3,7 +3,7 @@ ghost use Rattle.dd_branch_tables.specs.Stem.{IsStem};
 
 use crate::fixtures::{asked, job, opened, tables};
 use dd_branch_degrees::Table;
-use dd_branch_tables::{Stem, Visit};
+use dd_branch_tables::{FirstVisits, Stem};
 use dd_front_jobs::is_opening;
 use dd_invol::{Walk, children};
 use dd_model::{Index, Job, Request};
@@ -89,7 +89,7 @@ fn children_of_a_job(rt: HostRuntime) {
 }
 
 /// How many whole prefixes no test refuses.
-fn count_whole(stem: &mut Stem, visit: &mut Visit) -> u64
+fn count_whole(stem: &mut Stem, visit: &mut FirstVisits) -> u64
     requires stem { IsStem stem.old }
     ensures stem { stem.new ≡ stem.old }
 {
@@ -117,7 +117,7 @@ fn tables_of(size: u8) -> u64 {
         return 0;
     }
     let mut stem = Stem::new(size);
-    let mut visit = Visit::new();
+    let mut visit = FirstVisits::new();
     count_whole(&mut stem, &mut visit)
 }
 

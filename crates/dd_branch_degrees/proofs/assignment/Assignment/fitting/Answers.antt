@@ -1,9 +1,9 @@
 use Rattle.std.proofs.Common.{◌≡◌, ℕ, ◌+◌, ◌-◌, ◌*◌, ◌/◌, ◌≤◌, ◌<◌, refl, sym, ap, ◌∙◌, subst, arith}
 use Rattle.std.specs.Int.{bit_at}
 use Rattle.dd_branch_degrees.specs.Assignment.{next_place, spent_by, told}
-use Rattle.dd_branch_degrees.specs.Rests.{HasRest}
+use Rattle.dd_branch_degrees.specs.LaterBudgets.{HasLaterBudget}
 use Rattle.dd_branch_degrees.specs.declared.places.DegreeSlot.{DegreeSlot}
-use Rattle.dd_branch_degrees.proofs.Advancing.{budget_of_member, least_after, rests_small, share_allowed}
+use Rattle.dd_branch_degrees.proofs.Advancing.{budget_of_member, least_after, budgets_small, share_allowed}
 use Rattle.dd_branch_degrees.proofs.assignment.Assignment.fitting.Goals as goal
 use Rattle.dd_branch_degrees.proofs.assignment.Assignment.fitting.Goals.{After-len}
 
@@ -23,7 +23,7 @@ fitting-requires-clause-small c =
     let room = c.requires.room in
     let small = c.requires.ready.table.small in
     let budget = c.requires.budget in
-    let rest = (rests_small c.args.self.now c.requires.ready (c.len.result + 1) (omega (arith, len, room))).1 in
+    let rest = (budgets_small c.args.self.now c.requires.ready (c.len.result + 1) (omega (arith, len, room))).1 in
     omega (arith, rest, budget, small)
 
 pub returns : goal.returns
@@ -44,10 +44,10 @@ returns c =
           let enough = meets.enough in
           let rest : ℕ = left - e in
           let fits : e ≤ left = omega (arith, room, before, budget, beyond) in
-          let has : HasRest a.rests (told a + 1) rest = record {
+          let has : HasLaterBudget a.budgets (told a + 1) rest = record {
             most = omega (arith, enough, before, budget, beyond, fits);
             told = λ f mirror. meets.surplus rest f (omega (arith, before, budget, beyond, fits)) mirror;
           } in
           let bit = share_allowed a v e c.requires.ready c.requires.room c.requires.root s under next beyond in
-          c.fitting.ensures.all e rest (omega (arith, fits)) (ap (λ n. bit_at n e) shares ∙ bit) (subst (λ j. HasRest a.rests j rest) at has);
+          c.fitting.ensures.all e rest (omega (arith, fits)) (ap (λ n. bit_at n e) shares ∙ bit) (subst (λ j. HasLaterBudget a.budgets j rest) at has);
     }

@@ -22,9 +22,9 @@ of-requires-clause-sides c j x low =
     let s = sound_places c.args.q.now c.args.table c.args.places.items c.requires.table.symbol.table.involutions are j x (omega (arith, low, count)) in
     s.sides
 
-ready : (c : After-new) → IsAssignment (record { alloc = c.args.alloc; request = c.args.q.now; table = c.args.table; ties = c.args.ties; places = c.args.places; rests = c.of.result; degrees = c.new.result; first = c.args.first })
+ready : (c : After-new) → IsAssignment (record { alloc = c.args.alloc; request = c.args.q.now; table = c.args.table; ties = c.args.ties; places = c.args.places; budgets = c.of.result; degrees = c.new.result; first = c.args.first })
 ready c =
-    let a : Assignment = record { alloc = c.args.alloc; request = c.args.q.now; table = c.args.table; ties = c.args.ties; places = c.args.places; rests = c.of.result; degrees = c.new.result; first = c.args.first } in
+    let a : Assignment = record { alloc = c.args.alloc; request = c.args.q.now; table = c.args.table; ties = c.args.ties; places = c.args.places; budgets = c.of.result; degrees = c.new.result; first = c.args.first } in
     begun a c.requires.table c.requires.limits c.requires.ties c.requires.automorphisms c.requires.places
     c.of.ensures c.new.ensures
 
@@ -33,5 +33,5 @@ returns-clause-ready c = ready c
 
 pub returns-clause-root : goal.returns-clause-root
 returns-clause-root c =
-    let a : Assignment = record { alloc = c.args.alloc; request = c.args.q.now; table = c.args.table; ties = c.args.ties; places = c.args.places; rests = c.of.result; degrees = c.new.result; first = c.args.first } in
+    let a : Assignment = record { alloc = c.args.alloc; request = c.args.q.now; table = c.args.table; ties = c.args.ties; places = c.args.places; budgets = c.of.result; degrees = c.new.result; first = c.args.first } in
     at_root_first a (ready c) c.new.ensures

@@ -7,18 +7,18 @@ ghost use Rattle.dd_branch_bounds.specs.Classes.{joined_class};
 /// A path of 3 chambers has the class 3, and 67 if one of them is known to be fixed. Joined to a
 /// path of the class 2 it has the class 5, or 69. The classes 67 and 66 make 69, too.
 #[derive(Clone, Copy, Drop)]
-pub(crate) struct Class {
+pub(crate) struct PathClass {
     number: u8,
     ghost small: { number < 128 },
 }
 
-impl Class {
+impl PathClass {
     /// Returns the class of a path of `chambers` chambers with open ends.
-    pub(crate) fn of(chambers: u8) -> Class
+    pub(crate) fn of(chambers: u8) -> PathClass
         requires { chambers < 64 }
         ensures { result.number ≡ chambers }
     {
-        Class { number: chambers }
+        PathClass { number: chambers }
     }
 
     /// The number of chambers.
@@ -44,21 +44,21 @@ impl Class {
     }
 
     /// The class of two paths in one.
-    pub(crate) fn joined(self, other: Class) -> Class
+    pub(crate) fn joined(self, other: PathClass) -> PathClass
         requires { self.number % 64 + other.number % 64 < 64 }
         ensures { result.number ≡ joined_class self.number other.number }
     {
         let number = self.number + other.number;
-        Class {
+        PathClass {
             number: number - number / 128 * 64,
         }
     }
 
     /// The class of the path where an involution fixes one of its chambers.
-    pub(crate) fn capped(self) -> Class
+    pub(crate) fn capped(self) -> PathClass
         ensures { result.number ≡ 64 + self.number % 64 }
     {
-        Class {
+        PathClass {
             number: 64 + self.number % 64,
         }
     }

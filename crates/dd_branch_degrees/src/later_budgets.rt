@@ -1,6 +1,6 @@
 ghost use Rattle.std.specs.Prelude.{◌≡◌, ℕ, ◌+◌, ◌≤◌, ◌<◌, length, slice_index, slice_index_or};
 ghost use Rattle.std.specs.Int.{bit_at};
-ghost use Rattle.dd_branch_degrees.specs.Rests.{AreRests, HasRest, HasSurplusWith};
+ghost use Rattle.dd_branch_degrees.specs.LaterBudgets.{AreLaterBudgets, HasLaterBudget, HasSurplusWith};
 ghost use Rattle.dd_branch_degrees.specs.declared.places.DegreeSlot.{DegreeSlot as Known};
 
 use crate::places::DegreeSlot;
@@ -8,7 +8,7 @@ use arrayvec::ArrayVec;
 
 /// What the degrees from each place on have of the budget together, whatever they will be.
 #[derive(Drop)]
-pub(crate) struct Rests {
+pub(crate) struct LaterBudgets {
     /// At each place, the sum of `most` of it and of the later places.
     pub(crate) most: [u16; 73],
     /// At each place, what it and the later places have at least: 2 for each side, that with the
@@ -38,14 +38,14 @@ fn surplus_with(place: &DegreeSlot, later: u64) -> u64
     all
 }
 
-impl Rests {
+impl LaterBudgets {
     /// The sums over some places.
-    pub(crate) fn of(places: &ArrayVec<DegreeSlot, 72>) -> Rests
+    pub(crate) fn of(places: &ArrayVec<DegreeSlot, 72>) -> LaterBudgets
         requires most { (j : ℕ) (x : Known) → j < length places.now.items
             → (slice_index_or places.now.items j x).most ≤ 24 }
         requires sides { (j : ℕ) (x : Known) → j < length places.now.items
             → (slice_index_or places.now.items j x).sides ≤ 2 }
-        ensures { AreRests places.now.items result }
+        ensures { AreLaterBudgets places.now.items result }
     {
         let places = places.as_slice();
         let mut most = [0; 73];
@@ -59,7 +59,7 @@ impl Rests {
             least[place] = least[place + 1] + u16::from(2 * places[place].sides);
             surplus[place] = surplus_with(&places[place], surplus[place + 1]);
         }
-        Rests {
+        LaterBudgets {
             most,
             least,
             surplus,
@@ -77,7 +77,7 @@ impl Rests {
         requires small { left + slice_index self.now.least later ≤ 4096 }
         ensures within { (e : ℕ) → bit_at result e ≡ 1 → (bit_at shares e ≡ 1) × (e ≤ left) }
         ensures all { (e rest : ℕ) → e + rest ≡ left → bit_at shares e ≡ 1
-            → HasRest self.now later rest → bit_at result e ≡ 1 }
+            → HasLaterBudget self.now later rest → bit_at result e ≡ 1 }
     {
         let shares = u64::from(shares);
         if left < 64 {

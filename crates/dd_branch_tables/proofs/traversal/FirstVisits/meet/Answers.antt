@@ -1,6 +1,6 @@
 use Rattle.dd_canon.proofs.Meetings.{meeting_new}
 use Rattle.dd_branch_tables.proofs.Traversing.{visit_of}
-use Rattle.dd_branch_tables.proofs.traversal.Visit.meet.Goals as goal
+use Rattle.dd_branch_tables.proofs.traversal.FirstVisits.meet.Goals as goal
 
 pub returns : goal.returns
 returns c =

@@ -1,6 +1,6 @@
 use Rattle.std.proofs.Common.{◌≡◌, ℕ, ◌+◌}
 use Rattle.std.specs.Int.{bit_at}
-use Rattle.dd_branch_degrees.proofs.rests.surplus_with.Given as goal
+use Rattle.dd_branch_degrees.proofs.later_budgets.surplus_with.Given as goal
 
 abbrev pub invariant-loop-shares : goal.invariant-loop-shares
 invariant-loop-shares l = record {

@@ -1,6 +1,6 @@
 use Rattle.std.proofs.Common.{length, refl, ap}
 use Rattle.dd_branch_tables.proofs.Traversing.{none_numbered, numbered_of, visit_none}
-use Rattle.dd_branch_tables.proofs.traversal.Visit.begin.Goals as goal
+use Rattle.dd_branch_tables.proofs.traversal.FirstVisits.begin.Goals as goal
 
 pub invariant_of-self : goal.invariant_of-self
 invariant_of-self c = record { are_numbered = numbered_of _ _ (visit_none 36 _ _ c.new-self.ensures refl) }

@@ -3,7 +3,7 @@ use Rattle.std.proofs.lemmas.Bool.{cases_lt}
 use Rattle.std.proofs.lemmas.Nat.Bits.{bit_at_above}
 use Rattle.std.specs.Int.{bit_at}
 use Rattle.dd_branch_degrees.proofs.Bits.{bit_in_both, bit_lower, bit_of_both, none_before, same_from}
-use Rattle.dd_branch_degrees.proofs.rests.Rests.fitting.Goals as goal
+use Rattle.dd_branch_degrees.proofs.later_budgets.LaterBudgets.fitting.Goals as goal
 
 pub returns-then-left-lt64-clause-within : goal.returns-then-left-lt64-clause-within
 returns-then-left-lt64-clause-within c e told =

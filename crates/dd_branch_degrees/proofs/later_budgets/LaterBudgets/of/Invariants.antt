@@ -1,8 +1,8 @@
 use Rattle.std.proofs.Common.{◌≡◌, ℕ, ◌+◌, ◌-◌, ◌*◌, ◌<◌, ◌≤◌, length, get_or}
 use Rattle.std.specs.Int.{bit_at}
-use Rattle.dd_branch_degrees.specs.Rests.{HasSurplusWith}
+use Rattle.dd_branch_degrees.specs.LaterBudgets.{HasSurplusWith}
 use Rattle.dd_branch_degrees.specs.declared.places.DegreeSlot.{DegreeSlot}
-use Rattle.dd_branch_degrees.proofs.rests.Rests.of.Given as goal
+use Rattle.dd_branch_degrees.proofs.later_budgets.LaterBudgets.of.Given as goal
 
 abbrev pub invariant-loop-place : goal.invariant-loop-place
 invariant-loop-place l = record {

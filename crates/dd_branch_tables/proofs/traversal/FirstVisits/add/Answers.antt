@@ -3,7 +3,7 @@ use Rattle.std.proofs.lemmas.List.{length_push}
 use Rattle.dd_canon.specs.Traversal.{IsVisit}
 use Rattle.dd_canon.proofs.Meetings.{met_visit}
 use Rattle.dd_branch_tables.proofs.Traversing.{numbered_of, visit_of}
-use Rattle.dd_branch_tables.proofs.traversal.Visit.add.Goals as goal
+use Rattle.dd_branch_tables.proofs.traversal.FirstVisits.add.Goals as goal
 
 pub invariant_of-self : goal.invariant_of-self
 invariant_of-self c =

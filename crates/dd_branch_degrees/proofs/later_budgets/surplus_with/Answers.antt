@@ -4,7 +4,7 @@ use Rattle.std.proofs.lemmas.Nat.Bits.{bit_at-zero}
 use Rattle.std.specs.Int.{bit_at, trailing_zeros}
 use Rattle.dd_model.proofs.LowestBits.{dropped_other, lowest_bit}
 use Rattle.dd_branch_degrees.proofs.Bits.{bit_lower, bit_or_left, bit_or_right}
-use Rattle.dd_branch_degrees.proofs.rests.surplus_with.Goals as goal
+use Rattle.dd_branch_degrees.proofs.later_budgets.surplus_with.Goals as goal
 
 pub returns-then-place-eq0 : goal.returns-then-place-eq0
 returns-then-place-eq0 c share e f none told there sum =

@@ -3,7 +3,7 @@ use Rattle.std.proofs.lemmas.List.{get_or-set_same, length-set}
 use Rattle.std.specs.Int.{bit_at}
 use Rattle.dd_branch_degrees.specs.declared.places.DegreeSlot.{DegreeSlot}
 use Rattle.dd_branch_degrees.proofs.RestSums.{none_yet, one_more, end_kept, still_none, still_small, surplus_more}
-use Rattle.dd_branch_degrees.proofs.rests.Rests.of.Goals as goal
+use Rattle.dd_branch_degrees.proofs.later_budgets.LaterBudgets.of.Goals as goal
 
 pub loop-place-init : goal.loop-place-init
 loop-place-init c = record {
