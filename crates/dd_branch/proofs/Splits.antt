@@ -13,12 +13,11 @@ use Rattle.dd_front_jobs.specs.Under.{HasNothingUnder}
 use Rattle.dd_branch_tables.specs.Stem.{Any, prefix_of, size_of}
 use Rattle.dd_branch_tables.proofs.Follows.{member_orderly}
 use Rattle.dd_branch_tables.proofs.Stems.{any_under}
-use Rattle.dd_branch.specs.Descent.{Descending, IsDescent}
+use Rattle.dd_branch.specs.Descent.{Descending}
 use Rattle.dd_branch.proofs.Descents.{dead_job, no_member_of_job}
 
 -- a search that has come to the prefix of a job
 pub record HasReached (q : Request) (job : Job) (d : Descending) : Type 0 where
-  pub is : IsDescent d
   pub request : d.request ≡ q
   pub size : size_of d.stem ≡ job.size
   pub prefix : prefix_of d.stem ≡ job.prefix

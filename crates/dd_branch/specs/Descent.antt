@@ -1,5 +1,5 @@
 -- A search that goes down from a prefix to longer ones.
-use Rattle.std.specs.Prelude.{◌≡◌, ℕ, zero, suc, ◌-◌, ◌*◌, ◌≤◌, List, [], ◌∷◌, ◌++◌, length, take}
+use Rattle.std.specs.Prelude.{◌≡◌, ℕ, zero, suc, ◌-◌, ◌*◌, ◌<◌, ◌≤◌, List, [], ◌∷◌, ◌++◌, length, take}
 use Rattle.std.specs.List.{slice_get}
 use Rattle.std.specs.declared.option.Option.{Option}
 use Rattle.std.specs.declared.option.Option.TheVariants.{None, Some}
@@ -11,7 +11,9 @@ use Rattle.dd_branch_tables.specs.Search.{SearchLaws, GoesOn}
 use Rattle.dd_branch_tables.specs.Stem.{IsStem, prefix_of, size_of, cut_to}
 use Rattle.dd_branch_tables.specs.declared.stem.Stem.{Stem}
 use Rattle.dd_branch_bounds.specs.Kept.{Shares, AreKept, with_sides}
+use Rattle.dd_branch_bounds.specs.declared.path_shares.PathShares.{PathShares}
 use Rattle.dd_branch_bounds.specs.declared.table_paths.TablePaths.{TablePaths}
+use Rattle.dd_branch.specs.Levels.{Leveled}
 use Rattle.dd_branch.specs.declared.undo_point.UndoPoint.{UndoPoint}
 
 -- what is asked, how far the search has come, the shares of its table, and what each number put in
@@ -20,6 +22,15 @@ pub record Descending : Type 0 where
   pub stem : Stem
   pub shares : Shares
   pub levels : List UndoPoint
+
+-- what is asked, a prefix with its table, and the levels with the paths of the table
+abbrev pub descending : Request → Stem → PathShares → Leveled → Descending
+descending request stem classes levels = record {
+  request = request;
+  stem = stem;
+  shares = record { classes = classes; sides = levels.sides };
+  levels = levels.before;
+}
 
 -- the search with a level more
 abbrev pub with_level : Descending → UndoPoint → Descending
@@ -55,9 +66,10 @@ abbrev pub gone_back : ℕ → Descending → Descending
 gone_back zero d = d
 gone_back (suc k) d = gone_back k (shorter d)
 
--- At each level that it has on the way back it is a search, and at the first one its prefix is empty.
+-- It is a search, and so it is at each level that it has on the way back. At the first one its prefix is empty.
 pub record GoesBack (d : Descending) : Type 0 where
-  pub levels : (k : ℕ) → k ≤ length d.levels → IsDescent (gone_back k d)
+  pub is : IsDescent d
+  pub levels : (k : ℕ) → k < length d.levels → IsDescent (gone_back k (shorter d))
   pub empty : prefix_of (gone_back (length d.levels) d).stem ≡ []
 
 -- what the search says of its states
@@ -70,7 +82,7 @@ descent_laws = record {
   end = λ n. 3 * n;
   depth = λ d. length d.levels;
   undone = λ d _. shorter d;
-  valid = λ d. IsDescent d;
+  valid = λ _. Unit {0};
 }
 
 -- the search with a number more at the end of its prefix, and with what follows from it

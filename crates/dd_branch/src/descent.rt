@@ -31,16 +31,13 @@ pub struct Descent {
 }
 
 impl Model for Descent {
-    ghost use Rattle.dd_branch.specs.Descent.{Descending};
+    ghost use Rattle.dd_branch.specs.Descent.{Descending, GoesBack, descending};
 
     ghost Value = { Descending };
 
-    ghost view = { λ a. record {
-      request = a.request;
-      stem = a.stem;
-      shares = record { classes = a.classes; sides = a.levels.sides };
-      levels = a.levels.before;
-    } };
+    ghost view = { λ a. descending a.request a.stem a.classes a.levels };
+
+    ghost invariant = { λ a. GoesBack (descending a.request a.stem a.classes a.levels) };
 }
 
 /// Takes in the numbers that are known after the prefix, where that is asked.
@@ -58,7 +55,7 @@ fn absorb(stem: &mut Stem, with_known: bool)
 impl Descent {
     ghost use Rattle.dd_branch_tables.specs.Rows.{depth_of};
     ghost use Rattle.dd_branch_tables.specs.Stem.{prefix_of, size_of};
-    ghost use Rattle.dd_branch.specs.Descent.{IsDescent, HasDescended, shorter, with_paths};
+    ghost use Rattle.dd_branch.specs.Descent.{HasDescended, shorter, with_paths};
     ghost use Rattle.dd_branch_bounds.specs.declared.table_paths.TablePaths.{TablePaths};
 
     /// The search from the empty prefix, with the shares that the request allows to tables of the
@@ -72,7 +69,6 @@ impl Descent {
         requires valid { IsValid request.now }
         requires asked { classes.now.request ≡ request.now }
         requires size { (1 ≤ size) × (size ≤ 36) }
-        ensures descent { IfOk result (λ descent. IsDescent descent) }
         ensures request { IfOk result (λ descent. descent.request ≡ request.now) }
         ensures size { IfOk result (λ descent. size_of descent.stem ≡ size) }
         ensures empty { IfOk result (λ descent. prefix_of descent.stem ≡ []) }
@@ -92,14 +88,16 @@ impl Descent {
 
     /// The number of chambers.
     pub(crate) fn size(&self) -> u8
-        ensures { result ≡ size_of self.now.stem }
+        ensures size { result ≡ size_of self.now.stem }
+        ensures few { result ≤ 36 }
     {
         self.stem.size()
     }
 
     /// How many images are known in the table.
     pub fn known(&self) -> usize
-        ensures { result ≡ depth_of self.now.stem.rows }
+        ensures known { result ≡ depth_of self.now.stem.rows }
+        ensures short { length (prefix_of self.now.stem) ≤ 3 * size_of self.now.stem }
     {
         self.stem.mark()
     }
@@ -107,8 +105,7 @@ impl Descent {
     /// Returns whether the shares show, before a number is put in, that no member is under the
     /// prefix with it.
     fn shares_refuse(&self, number: u8) -> bool
-        requires descent { IsDescent self.now }
-        requires room { length (prefix_of self.now.stem) < 3 * size_of self.now.stem }
+        requires { length (prefix_of self.now.stem) < 3 * size_of self.now.stem }
         ensures { IsTrue result
             → HasNothingUnder (IsMember self.now.request) (size_of self.now.stem)
             (prefix_of self.now.stem ++ number ∷ []) }
@@ -125,11 +122,9 @@ impl Descent {
     /// true, puts all numbers that are known after it too. Returns false if commuting forbids the
     /// number, or if the next chamber is then one that was not met.
     fn put(&mut self, number: u8, with_known: bool, numbers: usize, rows: usize) -> bool
-        requires descent { IsDescent self.old }
         requires numbers { numbers ≡ length (prefix_of self.old.stem) }
         requires rows { rows ≡ depth_of self.old.stem.rows }
         requires room { length (prefix_of self.old.stem) < 3 * size_of self.old.stem }
-        ensures descent { OnTrue result (IsDescent self.new) }
         ensures alive { OnTrue result (HasDescended number self.old self.new) }
         ensures alone { OnTrue result (IsFalse with_known
             → prefix_of self.new.stem ≡ prefix_of self.old.stem ++ number ∷ []) }
@@ -157,8 +152,6 @@ impl Descent {
     /// Joins the paths that what was put into the table after a mark joins. True where it is sure
     /// that no member is under the prefix.
     fn learn(&mut self, rows: usize) -> bool
-        requires { IsDescent self.old }
-        ensures descent { IsDescent self.new }
         ensures paths { self.new ≡ with_paths self.old self.new.shares.sides }
         ensures dead { IsTrue result
             → HasNothingUnder (IsMember self.old.request) (size_of self.old.stem)
@@ -171,7 +164,6 @@ impl Descent {
     /// `numbers` numbers and `rows` images. There are three reasons: its size is odd and s0 moves
     /// chamber 1, the shares are too small, or another numbering has a smaller code.
     fn is_cut(&mut self, numbers: usize, rows: usize) -> bool
-        requires { IsDescent self.old }
         ensures same { self.new ≡ self.old }
         ensures dead { IsTrue result
             → HasNothingUnder (IsMember self.old.request) (size_of self.old.stem)
@@ -188,8 +180,6 @@ impl Descent {
     /// Joins the paths that have met since there were `numbers` numbers and `rows` images. Returns
     /// true if it is sure that no member is under the prefix.
     fn is_dead(&mut self, numbers: usize, rows: usize) -> bool
-        requires { IsDescent self.old }
-        ensures descent { IsDescent self.new }
         ensures paths { self.new ≡ with_paths self.old self.new.shares.sides }
         ensures dead { IsTrue result
             → HasNothingUnder (IsMember self.old.request) (size_of self.old.stem)
@@ -212,9 +202,7 @@ impl Descent {
     /// Puts a number at the end of the prefix, and where that is asked all that are known after it,
     /// unless it is sure that no member is under the longer prefix.
     pub(crate) fn descend(&mut self, number: u8, with_known: bool) -> bool
-        requires descent { IsDescent self.old }
-        requires room { length (prefix_of self.old.stem) < 3 * size_of self.old.stem }
-        ensures descent { IsDescent self.new }
+        requires { length (prefix_of self.old.stem) < 3 * size_of self.old.stem }
         ensures alive { OnTrue result (HasDescended number self.old self.new) }
         ensures alone { OnTrue result (IsFalse with_known
             → prefix_of self.new.stem ≡ prefix_of self.old.stem ++ number ∷ []) }
@@ -239,7 +227,6 @@ impl Descent {
 
     /// Returns whether a member may be under the prefix with one number more.
     pub fn may_grow(&mut self, number: u8) -> bool
-        requires descent { IsDescent self.old }
         requires room { length (prefix_of self.old.stem) < 3 * size_of self.old.stem }
         requires small { number ≤ 216 }
         ensures same { self.new ≡ self.old }

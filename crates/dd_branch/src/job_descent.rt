@@ -15,12 +15,9 @@ use dd_model::{Job, Memory, Prefix};
 
 impl Descent {
     ghost use Rattle.dd_branch_tables.specs.Stem.{prefix_of, size_of};
-    ghost use Rattle.dd_branch.specs.Descent.{GoesBack, shorter};
 
     /// Goes back until its prefix begins another one.
     pub(crate) fn go_back(&mut self, prefix: &[u8])
-        requires { GoesBack self.old }
-        ensures back { GoesBack self.new }
         ensures request { self.new.request ≡ self.old.request }
         ensures size { size_of self.new.stem ≡ size_of self.old.stem }
         ensures begins { Begins (prefix_of self.new.stem) prefix.now }
@@ -34,9 +31,7 @@ impl Descent {
     /// numbers, and on number by number, unless it is sure that no member is under the prefix. It
     /// then stands before the number after which that is sure.
     pub fn reach(&mut self, prefix: &[u8]) -> bool
-        requires back { GoesBack self.old }
-        requires short { length prefix.now ≤ 3 * size_of self.old.stem }
-        ensures back { GoesBack self.new }
+        requires { length prefix.now ≤ 3 * size_of self.old.stem }
         ensures request { self.new.request ≡ self.old.request }
         ensures size { size_of self.new.stem ≡ size_of self.old.stem }
         ensures prefix { OnTrue result (prefix_of self.new.stem ≡ prefix.now) }
@@ -59,9 +54,7 @@ impl Descent {
     /// call of its own, so that the search has the processor's registers to itself.
     #[inline(never)]
     pub(crate) fn add_under(&mut self, prefix: &[u8], list: &mut SymbolList) -> Result<bool, Memory>
-        requires back { GoesBack self.old }
-        requires short { length prefix.now ≤ 3 * size_of self.old.stem }
-        ensures back { OnOk result (GoesBack self.new) }
+        requires { length prefix.now ≤ 3 * size_of self.old.stem }
         ensures request { OnOk result (self.new.request ≡ self.old.request) }
         ensures size { OnOk result (size_of self.new.stem ≡ size_of self.old.stem) }
         ensures list { OnOk result (Appends
@@ -95,10 +88,8 @@ impl Descent {
     /// The jobs with one number more than a job under which a member may be. It looks one number
     /// further for each of them.
     pub(crate) fn extensions(&mut self, job: &Job) -> Result<Vec<Job>, Memory>
-        requires back { GoesBack self.old }
         requires size { size_of self.old.stem ≡ job.now.size }
         requires shorter { length job.now.prefix < 3 * job.now.size }
-        ensures back { OnOk result (GoesBack self.new) }
         ensures request { OnOk result (self.new.request ≡ self.old.request) }
         ensures jobs { IfOk result
             (λ jobs. AreExtensions self.old.request job.now jobs.items) }
@@ -107,7 +98,7 @@ impl Descent {
         if !self.reach(job.prefix.as_slice()) {
             return Ok(jobs);
         }
-        for k in 0..job.size as u8 {
+        for k in 0..self.size() {
             let number = k + 1;
             if self.may_grow(number) {
                 jobs.push(child(self.alloc, job, number)?)?;

@@ -5,7 +5,6 @@ ghost use Rattle.dd_model.specs.Jobs.{IsJobOf, AreExtensions, AreMembersUnder};
 ghost use Rattle.dd_model.specs.Wanted.{IsMember};
 ghost use Rattle.dd_front_jobs.specs.Under.{AreUnder, Appends, HasNothingUnder};
 ghost use Rattle.dd_branch_tables.specs.Stem.{size_of};
-ghost use Rattle.dd_branch.specs.Descent.{GoesBack};
 
 use crate::descent::Descent;
 use dd_branch_bounds::PathShares;
@@ -59,7 +58,6 @@ impl Search {
     fn begin(&self, alloc: Global, size: u8) -> Result<Box<Descent>, Memory>
         requires valid { IsValid self.now }
         requires size { (1 ≤ size) × (size ≤ 36) }
-        ensures back { IfOk result (λ descent. GoesBack descent.value) }
         ensures request { IfOk result (λ descent. descent.value.request ≡ self.now) }
         ensures size { IfOk result (λ descent. size_of descent.value.stem ≡ size) }
     {
@@ -72,7 +70,6 @@ impl Search {
         requires valid { IsValid self.old }
         requires size { (1 ≤ size) × (size ≤ 36) }
         ensures same { self.new ≡ self.old }
-        ensures back { IfOk result (λ descent. GoesBack descent.value) }
         ensures request { IfOk result (λ descent. descent.value.request ≡ self.old) }
         ensures size { IfOk result (λ descent. size_of descent.value.stem ≡ size) }
     {

@@ -1,5 +1,4 @@
 ghost use Rattle.std.specs.Prelude.{◌≡◌, ◌≤◌};
-ghost use Rattle.dd_branch.specs.Descent.{IsDescent};
 
 use crate::codes::have_codes;
 use crate::fixtures::job;
@@ -97,7 +96,6 @@ fn a_job_is_split(rt: HostRuntime) {
 /// How many numbers a search puts in after its prefix, without those that follow from others and
 /// those after which it comes to a chamber that was not met.
 fn count_nodes(descent: &mut Descent) -> u64
-    requires { IsDescent descent.old }
     ensures { descent.new ≡ descent.old }
 {
     if descent.is_whole() {

@@ -3,11 +3,7 @@ use Rattle.dd_branch_tables.specs.Stem.{size_of}
 use Rattle.dd_branch_tables.proofs.Prefixes.{appends_none, none_under}
 use Rattle.dd_front_jobs.specs.Under.{AreUnder}
 use Rattle.dd_branch.proofs.Descents.{added_members}
-use Rattle.dd_branch.proofs.GoingBack.{is_descent}
 use Rattle.dd_branch.proofs.descent.Descent.add_under.Goals as goal
-
-pub find-requires-clause-valid : goal.find-requires-clause-valid
-find-requires-clause-valid c = is_descent c.reach.new.self c.if-not-reach.ensures.back
 
 pub returns-then-not-reach-clause-list : goal.returns-then-not-reach-clause-list
 returns-then-not-reach-clause-list c =

@@ -1,14 +1,8 @@
-use Rattle.std.proofs.Common.{sym, ap, ◌∙◌, subst}
+use Rattle.std.proofs.Common.{sym, subst}
 use Rattle.dd_model.specs.Wanted.{IsMember}
 use Rattle.dd_branch_tables.specs.Stem.{prefix_of, size_of}
 use Rattle.dd_front_jobs.specs.Under.{IsUnder}
-use Rattle.dd_branch.specs.Descent.{IsDescent, shorter}
 use Rattle.dd_branch.proofs.descent.Descent.descend.Goals as goal
-
-pub returns-then-is_dead-clause-descent : goal.returns-then-is_dead-clause-descent
-returns-then-is_dead-clause-descent c =
-    subst IsDescent
-    (sym (c.drop_level.ensures ∙ ap shorter c.is_dead.ensures.paths ∙ c.if-not-put.ensures.undone c.is_dead.new.self.shares.sides)) c.requires.descent
 
 pub returns-then-is_dead-clause-dead : goal.returns-then-is_dead-clause-dead
 returns-then-is_dead-clause-dead c s under =

@@ -1,9 +1,7 @@
 use Rattle.std.proofs.Common.{◌≡◌, ◌+◌, ◌++◌, ◌∷◌, [], refl, sym, ap, ◌∙◌, subst, arith}
 use Rattle.dd_model.specs.Jobs.{AreExtensions}
 use Rattle.dd_branch_tables.proofs.Extensions.{AreExtensionsBelow, extensions_first, extensions_more, extensions_skip, extensions_all}
-use Rattle.dd_branch.specs.Descent.{GoesBack}
 use Rattle.dd_branch.proofs.Descents.{dead_job}
-use Rattle.dd_branch.proofs.GoingBack.{is_descent}
 use Rattle.dd_branch.proofs.Splits.{HasReached, extensions_dead, none_extended}
 use Rattle.dd_branch.proofs.descent.Descent.extensions.Goals as goal
 use Rattle.dd_branch.proofs.descent.Descent.extensions.Goals.{then-may_grow+in_ok-child+in_ok-push, else-may_grow}
@@ -22,8 +20,7 @@ loop-k-init c =
     let told = c.if-not-reach.ensures in
     record {
       jobs = subst (AreExtensionsBelow q job 1) (sym c.new-jobs.ensures.items) (extensions_first q job c.requires.shorter);
-      back = told.back;
-      reached = record { is = is_descent c.reach.new.self told.back; request = told.request; size = told.size ∙ c.requires.size; prefix = told.prefix ∙ c.as_slice.ensures };
+      reached = record { request = told.request; size = told.size ∙ c.requires.size; prefix = told.prefix ∙ c.as_slice.ensures };
     }
 
 pub loop-k-preserved : goal.loop-k-preserved
@@ -32,15 +29,14 @@ loop-k-preserved c =
     let job = c.args.job.now in
     let k = c.loop-k.k + 1 in
     let i = c.loop-k.invariant in
-    let back = subst GoesBack (sym c.may_grow.ensures.same) i.back in
     let at = subst (HasReached q job) (sym c.may_grow.ensures.same) i.reached in
     elim c.if-may_grow.branch [
       | then-may_grow+in_ok-child+in_ok-push w ↦
           let pushed = ap (λ l. l.items) w.jobs-is ∙ w.in_ok-push.ensures.items ∙ ap (λ j. c.loop-k.jobs.items ++ j ∷ []) w.in_ok-child.ensures in
-          record { jobs = subst (AreExtensionsBelow q job (k + 1)) (sym pushed) (extensions_more q job k c.loop-k.jobs.items i.jobs); back = back; reached = at }
+          record { jobs = subst (AreExtensionsBelow q job (k + 1)) (sym pushed) (extensions_more q job k c.loop-k.jobs.items i.jobs); reached = at }
       | else-may_grow w ↦
           let none = none_extended q job c.loop-k.self k i.reached w.if-may_grow.ensures.dead in
-          record { jobs = subst (λ l. AreExtensionsBelow q job (k + 1) l.items) (sym w.jobs-is) (extensions_skip q job k c.loop-k.jobs.items none i.jobs); back = back; reached = at }
+          record { jobs = subst (λ l. AreExtensionsBelow q job (k + 1) l.items) (sym w.jobs-is) (extensions_skip q job k c.loop-k.jobs.items none i.jobs); reached = at }
     ]
 
 pub returns-clause-jobs : goal.returns-clause-jobs

@@ -1,11 +1,9 @@
 use Rattle.std.proofs.Common.{◌≡◌, length}
 use Rattle.dd_branch_tables.specs.Stem.{size_of}
-use Rattle.dd_branch.specs.Descent.{GoesBack}
 use Rattle.dd_branch.proofs.descent.Descent.go_back.Given as goal
 
 abbrev pub invariant-loop-self : goal.invariant-loop-self
 invariant-loop-self l = record {
-  back : GoesBack l.self;
   request : l.self.request ≡ l.fn.self.request;
   size : size_of l.self.stem ≡ size_of l.fn.self.stem;
 }

@@ -7,7 +7,6 @@ use Rattle.dd_front_jobs.proofs.Growth.{begins_take}
 use Rattle.dd_front_jobs.specs.Under.{HasNothingUnder}
 use Rattle.dd_branch.specs.Descent.{Descending}
 use Rattle.dd_branch.proofs.Descents.{no_member_under_front}
-use Rattle.dd_branch.proofs.GoingBack.{goes_back_longer, is_descent}
 use Rattle.dd_branch.proofs.descent.Descent.reach.Goals as goal
 
 pub loop-place-init : goal.loop-place-init
@@ -16,7 +15,6 @@ loop-place-init c =
     let xs = c.args.prefix.now in
     let same : length c.prefix-place.result.now ≡ length (prefix_of c.go_back.new.self.stem) = ap length c.prefix-place.ensures ∙ ap (λ (d : Descending). length (prefix_of d.stem)) c.self.view_is in
     record {
-      back = told.back;
       request = told.request;
       size = told.size;
       prefix = sym (ap (λ n. take n xs) same ∙ begins_take (prefix_of c.go_back.new.self.stem) xs told.begins);
@@ -54,9 +52,6 @@ returns-then-not-descend-clause-front c =
     subst (λ m. HasNothingUnder (IsMember now.request) (size_of now.stem) (take (m + 1) xs)) (sym long)
     (dead_front now.request d k (size_of now.stem) xs low i.prefix i.request i.size c.if-not-descend.ensures.dead)
 
-pub descend-requires-clause-descent : goal.descend-requires-clause-descent
-descend-requires-clause-descent c = is_descent c.loop-place.self c.loop-place.invariant.back
-
 pub loop-place-preserved : goal.loop-place-preserved
 loop-place-preserved c =
     let k = c.loop-place.place in
@@ -64,7 +59,6 @@ loop-place-preserved c =
     let i = c.loop-place.invariant in
     let told = c.if-not-descend.ensures in
     record {
-      back = goes_back_longer c.loop-place.self c.descend.new.self told.descent told.some told.undone i.back;
       request = told.alive.same_request ∙ i.request;
       size = told.alive.same_size ∙ i.size;
       prefix = told.alone refl ∙ ap (λ ys. ys ++ get_or xs k 0 ∷ []) i.prefix ∙ sym (take_more xs k 0 (omega arith));
