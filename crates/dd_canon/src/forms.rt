@@ -1,4 +1,4 @@
-ghost use Rattle.std.specs.Prelude.{◌≡◌, ◌+◌, ◌*◌, ◌≤◌, ◌<◌, ◌↔◌, IsTrue, IfOk};
+ghost use Rattle.std.specs.Prelude.{◌+◌, ◌*◌, ◌≤◌, ◌↔◌, IsTrue, IfOk};
 ghost use Rattle.dd_model.specs.Code.{Least, IsLeastForm};
 ghost use Rattle.dd_model.specs.Isomorphic.{IsIsomorphism};
 
@@ -7,8 +7,7 @@ use crate::steps::{Steps, Uncounted};
 use dd_model::Memory;
 use dd_symbol::{Connected, cmp_code};
 use std::alloc::Global;
-use std::marker::Brand;
-use std::sync::ledger::{Blank, Ledger};
+use std::sync::ledger::Ledger;
 
 /// Returns the least form of a symbol of n chambers, in at most 5 n n comparisons of code numbers.
 /// A symbol whose traversals tie only along automorphisms takes some n log n of them.
@@ -24,22 +23,12 @@ pub fn least<L: Ledger>(
     Ok(best.form)
 }
 
-/// The least form, where the comparisons are counted from a blank on.
-fn least_from<L: Ledger>(alloc: Global, s: &Connected, blank: Blank) -> Result<Connected, Memory>
-    requires name { blank.name ≡ L.name }
-    requires parts { blank.parts ≡ L.parts }
-    requires some { 0 < blank.parts }
-    ensures { IfOk result (λ form. IsLeastForm s.now form) }
-{
-    let mut steps = Steps::<L>::begin(blank);
-    least(alloc, s, &mut steps)
-}
-
-/// The least form, for a caller that counts no comparisons.
+/// Returns the least form of a symbol, for a caller that counts no comparisons.
 pub fn least_form(alloc: Global, s: &Connected) -> Result<Connected, Memory>
     ensures { IfOk result (λ form. IsLeastForm s.now form) }
 {
-    least_from::<Brand>(alloc, s, Blank::new(1))
+    let best = best_numbering(alloc, s, &mut Uncounted)?;
+    Ok(best.form)
 }
 
 /// Returns the least form of a symbol with a known automorphism, given as the image of each

@@ -11,6 +11,10 @@ use Rattle.dd_check.proofs.ChainParts.{one_held}
 use Rattle.dd_suite_tasks.proofs.HeldTexts.{some_injective}
 use Rattle.dd_suite_chains.specs.Making.{IsPartOf}
 
+-- a run with another number is not the one of this number
+pub other_number : (number : Option ℕ) (n run : ℕ) → number ≡ Some n → (n ≡ run → ⊥) → number ≡ Some run → ⊥
+other_number number n run is other e = other (let both : Some n ≡ Some run = sym is ∙ e in cc)
+
 -- a text with a fault is no checkpoint text
 pub no_check : (text : List ℕ) (fault : CheckFault) → HasFault text fault → (c : Checkpoint) → Holds None (Some text) c → ⊥
 no_check text fault faulty c is = no_fault text c fault (subst (λ t. IsCheckpointText t c) (some_injective is.text text (sym is.held_is)) is.accepted) faulty

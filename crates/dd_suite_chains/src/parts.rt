@@ -31,16 +31,6 @@ fn check_of(alloc: Global, text: &[u8]) -> Result<Option<Checkpoint>, Memory>
     }
 }
 
-/// Returns whether this is the number.
-fn is_number(number: Option<u64>, run: u64) -> bool
-    ensures { IsTrue result ↔ (number ≡ Some run) }
-{
-    match number {
-        Some(number) => number == run,
-        None => false,
-    }
-}
-
 /// Appends what a run gives that is not the last. This is as many bytes of its output as its
 /// checkpoint says, if the text under the name has the run's number, and nothing otherwise. Returns
 /// the number of the run that resumes from the text, if it is a checkpoint text.
@@ -60,10 +50,9 @@ pub(crate) fn add_part(
         return Ok(None);
     };
     let run = u64::from(check.run);
-    let part = if is_number(number, run) {
-        first_bytes(output, check.bytes)
-    } else {
-        &[]
+    let part = match number {
+        Some(number) if number == run => first_bytes(output, check.bytes),
+        _ => &[],
     };
     joined.extend_from_slice(part)?;
     Ok(Some(run + 1))
