@@ -10,5 +10,6 @@ pub mod FileTexts
 pub mod CanonTexts
 pub mod MergedTexts
 mod LinesInParts
+mod SymbolStops
 pub mod LineLengths
 pub mod ShardTexts

@@ -113,15 +113,8 @@ pub(crate) fn drawings_of(
 {
     let mut text = Vec::new(alloc);
     for (before, symbol) in symbols.iter().enumerate() {
-        match put_drawing(&mut text, shape, symbol) {
-            Ok(()) => {}
-            Err(Stop::Refused(why)) => {
-                return Err(Stop::Refused(SymbolRefusal {
-                    symbol: before + 1,
-                    why,
-                }));
-            }
-            Err(Stop::Memory) => return Err(Stop::Memory),
+        if let Err(stop) = put_drawing(&mut text, shape, symbol) {
+            return Err(stop.at(before + 1));
         }
     }
     Ok(text)

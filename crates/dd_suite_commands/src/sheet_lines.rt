@@ -23,15 +23,8 @@ pub(crate) fn sheet_lines_of(
 {
     let mut text = Vec::new(alloc);
     for (before, symbol) in symbols.iter().enumerate() {
-        match put_sheets(&mut text, before + 1, symbol) {
-            Ok(()) => {}
-            Err(Stop::Refused(why)) => {
-                return Err(Stop::Refused(SymbolRefusal {
-                    symbol: before + 1,
-                    why,
-                }));
-            }
-            Err(Stop::Memory) => return Err(Stop::Memory),
+        if let Err(stop) = put_sheets(&mut text, before + 1, symbol) {
+            return Err(stop.at(before + 1));
         }
     }
     Ok(text)

@@ -1,3 +1,4 @@
+use crate::refusals::{SymbolFault, SymbolRefusal};
 use dd_model::Memory;
 use std::alloc::AllocFailed;
 
@@ -29,5 +30,20 @@ impl<T, U: Drop> From<AllocFailed<U>> for Stop<T> {
 
     fn from(_: AllocFailed<U>) -> Self {
         Stop::Memory
+    }
+}
+
+impl Stop<SymbolFault> {
+    ghost use Rattle.dd_suite_commands.specs.Stops.{at_symbol};
+    ghost use Rattle.std.specs.Prelude.{◌≡◌};
+
+    /// Returns why nothing was made of the symbol with this number in its file.
+    pub(crate) fn at(self, symbol: usize) -> Stop<SymbolRefusal>
+        ensures { result ≡ at_symbol symbol self }
+    {
+        match self {
+            Stop::Refused(why) => Stop::Refused(SymbolRefusal { symbol, why }),
+            Stop::Memory => Stop::Memory,
+        }
     }
 }

@@ -72,13 +72,7 @@ fn each_made(
     for (before, symbol) in symbols.iter().enumerate() {
         match made_of_one(alloc, command, symbol) {
             Ok(one) => made.push(one)?,
-            Err(Stop::Refused(why)) => {
-                return Err(Stop::Refused(SymbolRefusal {
-                    symbol: before + 1,
-                    why,
-                }));
-            }
-            Err(Stop::Memory) => return Err(Stop::Memory),
+            Err(stop) => return Err(stop.at(before + 1)),
         }
     }
     Ok(made)
