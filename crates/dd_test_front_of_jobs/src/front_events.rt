@@ -30,9 +30,9 @@ fn job_out(front: &Front, number: u64) -> Result<Option<Job>, Memory>
     Ok(None)
 }
 
-// Each of these does an event where it is allowed, and answers whether it was.
+// Each of these functions does an event if it is allowed, and returns whether it was.
 
-fn take(front: &mut Front, entry: u64) -> Result<bool, Memory> {
+pub(crate) fn take(front: &mut Front, entry: u64) -> Result<bool, Memory> {
     let event = Event::Take { worker: 1, entry };
     if !front.allowed(&event) {
         return Ok(false);
@@ -50,7 +50,7 @@ fn look(front: &mut Front) -> Result<bool, Memory> {
     Ok(true)
 }
 
-fn give_back(front: &mut Front, entry: u64) -> Result<bool, Memory> {
+pub(crate) fn give_back(front: &mut Front, entry: u64) -> Result<bool, Memory> {
     let event = Event::Back { worker: 1, entry };
     if !front.allowed(&event) {
         return Ok(false);

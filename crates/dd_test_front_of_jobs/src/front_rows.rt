@@ -1,8 +1,8 @@
-use crate::front_events::is_job_of;
+use crate::front_events::{give_back, is_job_of, take};
 use dd_branch::Search;
 use dd_front::{Event, Finder, Front, Members};
 use dd_member_lists::SymbolList;
-use dd_model::{Job, Memory, Position, Prefix, Request};
+use dd_model::{Job, Position, Prefix, Request};
 use std::alloc::Global;
 use std::process::Abort;
 
@@ -19,26 +19,6 @@ fn opened<R: Abort>(rt: &R, alloc: Global) -> Front {
     let mut jobs = Vec::new(alloc);
     jobs.push(whole_job(rt, alloc)).expect(rt, "room for a job");
     Front::open(alloc, request, jobs, Position::End, 5).expect(rt, "a front")
-}
-
-/// Returns whether the event is allowed; then it is done.
-fn take(front: &mut Front, entry: u64) -> Result<bool, Memory> {
-    let event = Event::Take { worker: 1, entry };
-    if !front.allowed(&event) {
-        return Ok(false);
-    }
-    front.step(event)?;
-    Ok(true)
-}
-
-/// Returns whether the event is allowed; then it is done.
-fn give_back(front: &mut Front, entry: u64) -> Result<bool, Memory> {
-    let event = Event::Back { worker: 1, entry };
-    if !front.allowed(&event) {
-        return Ok(false);
-    }
-    front.step(event)?;
-    Ok(true)
 }
 
 fn take_once<R: Abort>(rt: &R, front: &mut Front) {

@@ -1,4 +1,4 @@
-use crate::running::written;
+use crate::fixtures::written;
 use dd_model::{Allowed, Request};
 use dd_plain::plain_catalogue;
 use dd_symbol::Connected;

@@ -1,4 +1,4 @@
-use crate::running::{Faults, run_words, sink_failing_at, store_of, written};
+use crate::fixtures::{Faults, run_words, sink_failing_at, store_of, written};
 use dd_check::read_checkpoint;
 use dd_ports::{MemoryStore, SureSink};
 use dd_suite_tasks::Status;

@@ -2,7 +2,7 @@ ghost use Rattle.std.specs.Prelude.{IfSome, map};
 ghost use Rattle.std.specs.Rc.{rc_str_bytes};
 ghost use Rattle.dd_suite_chains.specs.Words.{AskToKeep};
 
-use crate::running::{Faults, sink_failing_at, store_of, words_of};
+use crate::fixtures::{Faults, sink_failing_at, store_of, words_of};
 use dd_ports::{OpenGate, SureSink, SureStore};
 use dd_suite::run;
 use dd_suite_chains::{Drive, drive};

@@ -9,10 +9,10 @@ mod chain_tests;
 #[cfg(test)]
 mod drive_trials;
 #[cfg(test)]
+mod fixtures;
+#[cfg(test)]
+mod message_tests;
+#[cfg(test)]
 mod round_tests;
 #[cfg(test)]
 mod run_tests;
-#[cfg(test)]
-mod running;
-#[cfg(test)]
-mod telling_tests;

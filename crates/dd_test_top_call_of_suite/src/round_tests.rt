@@ -1,4 +1,4 @@
-use crate::running::words_of;
+use crate::fixtures::words_of;
 use dd_ports::{Gate, SureSink, SureStore};
 use dd_suite::run;
 use dd_suite_tasks::Status;

@@ -1,4 +1,4 @@
-use crate::running::{run_to_end, run_words, sink_failing_at, store_with};
+use crate::fixtures::{run_to_end, run_words, sink_failing_at, store_with};
 use dd_ports::{MemorySink, MemoryStore, Store, SureSink, SureStore};
 use dd_suite_tasks::Status;
 use std::alloc::Global;

@@ -1,4 +1,4 @@
-use crate::running::sink_failing_at;
+use crate::fixtures::sink_failing_at;
 use dd_check::{CheckFault, ShardFault};
 use dd_ports::{SinkFault, SureSink};
 use dd_suite_tasks::{Ending, tell};

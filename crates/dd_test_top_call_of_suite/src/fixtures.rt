@@ -19,6 +19,7 @@ pub(crate) struct Faults {
     pub(crate) write: u64,
 }
 
+/// Returns the words of a command.
 pub(crate) fn words_of<R: Abort>(rt: &R, alloc: Global, texts: &[&str]) -> Vec<RcStr> {
     let mut words = Vec::new(alloc);
     for text in texts {
