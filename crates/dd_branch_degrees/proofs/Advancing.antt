@@ -15,9 +15,8 @@ use Rattle.dd_branch_tables.proofs.Prefixes.{extended, shortened as prefix_short
 use Rattle.dd_cells.proofs.ReciprocalSums.{quotient_is}
 use Rattle.dd_branch_degrees.specs.Budget.{no_place, spent, twelfths}
 use Rattle.dd_branch_degrees.specs.Choice.{HasBranching, HasShares, IsChoice}
-use Rattle.dd_branch_degrees.specs.Assignment.{IsAssignment, IsAtRoot, IsMemberUnder, IsTold, degree_at, next_place, prefix_of, shortened, spent_by, told}
+use Rattle.dd_branch_degrees.specs.Assignment.{Assigned, IsAssignment, IsAtRoot, IsMemberUnder, IsTold, degree_at, next_place, prefix_of, shortened, spent_by, told}
 use Rattle.dd_branch_degrees.specs.Entered.{HasBudget, HasEntered, HasForced}
-use Rattle.dd_branch_degrees.specs.declared.assignment.Assignment.{Assignment}
 use Rattle.dd_branch_degrees.specs.declared.places.DegreeSlot.{DegreeSlot}
 use Rattle.dd_branch_degrees.proofs.Assigned.{length-prefix, next_degree, same_of_under, told_degree}
 use Rattle.dd_branch_degrees.proofs.Budgets.{AllAreChosen, flat_if_spent, spent_as_told, spent_at_least, spent_at_most, spent_next, spent_same}
@@ -25,21 +24,25 @@ use Rattle.dd_branch_degrees.proofs.Chosen.{IsSound, all_bounded, constant_at, s
 use Rattle.dd_branch_degrees.proofs.Choices.{IsValue, choice_told, share_told, value_of}
 
 -- the assignment with other degrees
-abbrev pub with_list : Assignment → List ℕ → Assignment
-with_list a xs = record { alloc = a.alloc; request = a.request; table = a.table; ties = a.ties; places = a.places; budgets = a.budgets; degrees = record { items = xs }; first = a.first }
+abbrev pub with_list : Assigned → List ℕ → Assigned
+with_list a xs = record a { degrees = record { items = xs } }
 
 -- the assignment with one more
-abbrev pub with_degree : Assignment → ℕ → Assignment
+abbrev pub with_degree : Assigned → ℕ → Assigned
 with_degree a m = with_list a (a.degrees.items ++ m ∷ [])
 
-pub sound_next : (a : Assignment) → IsAssignment a → (j : ℕ) (x : DegreeSlot) → j < 2 * a.table.size → IsSound j (get_or a.places.items j x)
+-- that of some fields, after a degree was put behind theirs
+pub pushed : {f a : Assigned} {xs : List ℕ} (m : ℕ) → f ≡ a → xs ≡ f.degrees.items ++ m ∷ [] → with_list f xs ≡ with_degree a m
+pushed {f = f} m same more = ap (with_list f) more ∙ ap (λ x. with_degree x m) same
+
+pub sound_next : (a : Assigned) → IsAssignment a → (j : ℕ) (x : DegreeSlot) → j < 2 * a.table.size → IsSound j (get_or a.places.items j x)
 sound_next a is = sound_places a.request a.table a.places.items is.table.symbol.table.involutions is.places
 
 below : (k n : ℕ) → k ≤ n → k ≢ n → k < n
 below k n low other = ⊎_elim (λ less. less) (λ more. absurd (other (omega (arith, low, more)))) (cases_lt k n)
 
 -- what is left is small
-rest_small : (a : Assignment) → IsAssignment a → (d j : ℕ) → j + d ≡ 2 * a.table.size → (get_or a.budgets.most j 0 ≤ d * 24) × (get_or a.budgets.least j 0 ≤ d * 24)
+rest_small : (a : Assigned) → IsAssignment a → (d j : ℕ) → j + d ≡ 2 * a.table.size → (get_or a.budgets.most j 0 ≤ d * 24) × (get_or a.budgets.least j 0 ≤ d * 24)
 rest_small a is zero j end =
     let count = is.places.count in
     let at : length a.places.items ≡ j = omega (arith, end, count) in
@@ -58,7 +61,7 @@ rest_small a is (suc d) j end =
     let b_least = before.1 in
     (omega (arith, most, up, few, b_most), omega (arith, least, few, b_least))
 
-pub budgets_small : (a : Assignment) → IsAssignment a → (j : ℕ) → j ≤ 2 * a.table.size → (get_or a.budgets.most j 0 ≤ 1728) × (get_or a.budgets.least j 0 ≤ 1728)
+pub budgets_small : (a : Assigned) → IsAssignment a → (j : ℕ) → j ≤ 2 * a.table.size → (get_or a.budgets.most j 0 ≤ 1728) × (get_or a.budgets.least j 0 ≤ 1728)
 budgets_small a is j low =
     let small = rest_small a is (2 * a.table.size - j) j (omega (arith, low)) in
     let few = is.table.small in
@@ -67,7 +70,7 @@ budgets_small a is j low =
     (omega (arith, most, few, low), omega (arith, least, few, low))
 
 -- what is told stays told
-pub more_told : (a : Assignment) (m : ℕ) → IsAssignment a → told a < 2 * a.table.size → ((x : DegreeSlot) → IsTold a.request a.table.size (a.degrees.items ++ m ∷ []) (told a) (get_or a.places.items (told a) x)) → IsAssignment (with_degree a m)
+pub more_told : (a : Assigned) (m : ℕ) → IsAssignment a → told a < 2 * a.table.size → ((x : DegreeSlot) → IsTold a.request a.table.size (a.degrees.items ++ m ∷ []) (told a) (get_or a.places.items (told a) x)) → IsAssignment (with_degree a m)
 more_told a m is room last =
     let ds = a.degrees.items in
     let long : length (ds ++ m ∷ []) ≡ told a + 1 = length_push ds m in
@@ -98,7 +101,7 @@ more_told a m is room last =
     }
 
 -- a degree that follows from an earlier one
-pub forced_told : (a : Assignment) (m : ℕ) → IsAssignment a → told a < 2 * a.table.size → (next_place a).root ≢ told a → m ≡ get_or a.degrees.items (next_place a).root 0 → IsAssignment (with_degree a m)
+pub forced_told : (a : Assigned) (m : ℕ) → IsAssignment a → told a < 2 * a.table.size → (next_place a).root ≢ told a → m ≡ get_or a.degrees.items (next_place a).root 0 → IsAssignment (with_degree a m)
 forced_told a m is room other copied =
     let ds = a.degrees.items in
     more_told a m is room (λ x.
@@ -115,7 +118,7 @@ forced_told a m is room other copied =
     })
 
 -- a choice at the least chamber of a cell
-pub chosen_told : (a : Assignment) (m : ℕ) → IsAssignment a → told a < 2 * a.table.size → IsAtRoot a → (told a < a.table.size → IsChoice a.request.faces (next_place a).turns m) → (a.table.size ≤ told a → IsChoice a.request.degrees (next_place a).turns m) → IsAssignment (with_degree a m)
+pub chosen_told : (a : Assigned) (m : ℕ) → IsAssignment a → told a < 2 * a.table.size → IsAtRoot a → (told a < a.table.size → IsChoice a.request.faces (next_place a).turns m) → (a.table.size ≤ told a → IsChoice a.request.degrees (next_place a).turns m) → IsAssignment (with_degree a m)
 chosen_told a m is room at_root tile vertex =
     let ds = a.degrees.items in
     more_told a m is room (λ x.
@@ -133,10 +136,10 @@ chosen_told a m is room at_root tile vertex =
 
 -- ## What changes by a degree
 
-pub prefix_more : (a : Assignment) (m : ℕ) → prefix_of (with_degree a m) ≡ prefix_of a ++ m ∷ []
+pub prefix_more : (a : Assigned) (m : ℕ) → prefix_of (with_degree a m) ≡ prefix_of a ++ m ∷ []
 prefix_more a m = sym (append_assoc (take (3 * a.table.size) (code a.table)) a.degrees.items (m ∷ []))
 
-pub spent_more : (a : Assignment) (m : ℕ) → spent_by (with_degree a m) ≡ spent_by a + twelfths (next_place a) m
+pub spent_more : (a : Assigned) (m : ℕ) → spent_by (with_degree a m) ≡ spent_by a + twelfths (next_place a) m
 spent_more a m =
     let ds = a.degrees.items in
     let places = a.places.items in
@@ -147,15 +150,15 @@ spent_more a m =
     let last : twelfths (next_place a) (f (told a)) ≡ twelfths (next_place a) m = ap (twelfths (next_place a)) (get_or_push ds m 0 (told a) refl) in
     omega (arith, whole, before, last)
 
-pub back_again : (a : Assignment) → shortened a (told a) ≡ a
+pub back_again : (a : Assigned) → shortened a (told a) ≡ a
 back_again a = ap (with_list a) (take-length a.degrees.items)
 
-pub back_by_one : (a : Assignment) (m : ℕ) → shortened (with_degree a m) (told a) ≡ a
+pub back_by_one : (a : Assigned) (m : ℕ) → shortened (with_degree a m) (told a) ≡ a
 back_by_one a m = ap (with_list a) (take-append_seam a.degrees.items (m ∷ []))
 
 -- ## Degrees that follow
 
-pub forced_none : (a : Assignment) → HasForced a a
+pub forced_none : (a : Assigned) → HasForced a a
 forced_none a = record {
   back = back_again a;
   longer = omega arith;
@@ -166,7 +169,7 @@ forced_none a = record {
 }
 
 -- a place that is no least chamber's adds nothing
-adds_nothing : (a : Assignment) (m : ℕ) → IsAssignment a → told a < 2 * a.table.size → (next_place a).root ≢ told a
+adds_nothing : (a : Assigned) (m : ℕ) → IsAssignment a → told a < 2 * a.table.size → (next_place a).root ≢ told a
     → (twelfths (next_place a) m ≡ 0) × ((next_place a).most ≡ 0) × ((next_place a).sides ≡ 0)
 adds_nothing a m is room other =
     let sound = sound_next a is (told a) no_place room in
@@ -175,9 +178,9 @@ adds_nothing a m is room other =
     (ap (λ n. n * (12 / (m / (next_place a).turns))) none ∙ omega arith, omega (arith, none, most), none)
 
 -- the next degree of each member is that of the least chamber of the cell
-forced_number : (a : Assignment) → IsAssignment a → told a < 2 * a.table.size → (next_place a).root ≢ told a → (s : Symbol) → IsMemberUnder a (prefix_of a) s → next_number (prefix_of a) s ≡ get_or a.degrees.items (next_place a).root 0
+forced_number : (a : Assigned) → IsAssignment a → told a < 2 * a.table.size → (next_place a).root ≢ told a → (s : Symbol) → IsMemberUnder a (prefix_of a) s → next_number (prefix_of a) s ≡ get_or a.degrees.items (next_place a).root 0
 forced_number a is room other s under =
-    let same = same_of_under a is s under in
+    let same = same_of_under a is.table.symbol.table s under in
     let wanted = under.wanted.wanted in
     let all = wanted_chosen a.request a.table s a.places.items is.places wanted same in
     let size = under.size in
@@ -190,7 +193,7 @@ forced_number a is room other s under =
     (cases_lt (told a) s.size) in
     next_degree a is s under ∙ constant ∙ told_degree a is s under (next_place a).root strict
 
-pub forced_more : (a b : Assignment) (m : ℕ) → IsAssignment b → HasForced a b → told b < 2 * b.table.size → (next_place b).root ≢ told b → m ≡ get_or b.degrees.items (next_place b).root 0 → HasForced a (with_degree b m)
+pub forced_more : (a b : Assigned) (m : ℕ) → IsAssignment b → HasForced a b → told b < 2 * b.table.size → (next_place b).root ≢ told b → m ≡ get_or b.degrees.items (next_place b).root 0 → HasForced a (with_degree b m)
 forced_more a b m is old room other copied =
     let none = adds_nothing b m is room other in
     let long : length (b.degrees.items ++ m ∷ []) ≡ told b + 1 = length_push b.degrees.items m in
@@ -223,12 +226,12 @@ forced_more a b m is old room other copied =
       least = omega (arith, at_least, least, none_least, old_least);
     }
 
-pub at_root_at_end : (a : Assignment) → 2 * a.table.size ≤ told a → IsAtRoot a
+pub at_root_at_end : (a : Assigned) → 2 * a.table.size ≤ told a → IsAtRoot a
 at_root_at_end a end room = absurd (omega (arith, end, room))
 
 -- ## A choice
 
-pub entered : (a b : Assignment) (m : ℕ) → IsAssignment a → told a < 2 * a.table.size → HasForced (with_degree a m) b → HasEntered a m b
+pub entered : (a b : Assigned) (m : ℕ) → IsAssignment a → told a < 2 * a.table.size → HasForced (with_degree a m) b → HasEntered a m b
 entered a b m is room forced =
     let long : length (a.degrees.items ++ m ∷ []) ≡ told a + 1 = length_push a.degrees.items m in
     let longer = forced.longer in
@@ -239,8 +242,8 @@ entered a b m is room forced =
     record {
       back =
           let once : take (told a) b.degrees.items ≡ take (told a) (a.degrees.items ++ m ∷ []) =
-          sym (take-take (told a) (length (a.degrees.items ++ m ∷ [])) b.degrees.items (omega (arith, long))) ∙ ap (λ (x : Assignment). take (told a) x.degrees.items) forced.back in
-          ap (with_list b) once ∙ ap (λ (x : Assignment). with_list x (take (told a) (a.degrees.items ++ m ∷ []))) forced.back ∙ back_by_one a m;
+          sym (take-take (told a) (length (a.degrees.items ++ m ∷ [])) b.degrees.items (omega (arith, long))) ∙ ap (λ (x : Assigned). take (told a) x.degrees.items) forced.back in
+          ap (with_list b) once ∙ ap (λ (x : Assigned). with_list x (take (told a) (a.degrees.items ++ m ∷ []))) forced.back ∙ back_by_one a m;
       longer = omega (arith, long, longer);
       under = λ s. (
         (λ u. (forced.under s).0 (subst (λ xs. IsMemberUnder a xs s) (sym (prefix_more a m)) u)),
@@ -252,13 +255,13 @@ entered a b m is room forced =
     }
 
 -- the part of a branching value
-pub part_of_value : (a : Assignment) (v : ℕ) → IsAssignment a → told a < 2 * a.table.size → twelfths (next_place a) (v * (next_place a).turns) ≡ (next_place a).sides * (12 / v)
+pub part_of_value : (a : Assigned) (v : ℕ) → IsAssignment a → told a < 2 * a.table.size → twelfths (next_place a) (v * (next_place a).turns) ≡ (next_place a).sides * (12 / v)
 part_of_value a v is room =
     let some = (sound_next a is (told a) no_place room).some in
     ap (λ w. (next_place a).sides * (12 / w)) (quotient_is v (next_place a).turns (v * (next_place a).turns) some refl)
 
 -- what the later degrees have at least
-pub least_after : (a : Assignment) → IsAssignment a → told a < 2 * a.table.size → get_or a.budgets.least (told a) 0 ≡ get_or a.budgets.least (told a + 1) 0 + 2 * (next_place a).sides
+pub least_after : (a : Assigned) → IsAssignment a → told a < 2 * a.table.size → get_or a.budgets.least (told a) 0 ≡ get_or a.budgets.least (told a + 1) 0 + 2 * (next_place a).sides
 least_after a is room = let count = is.places.count in is.budgets.each_least (told a) no_place (omega (arith, room, count))
 
 -- the degree that a place has with a share
@@ -266,14 +269,14 @@ abbrev pub IsDegreeWith : DegreeSlot → ℕ → ℕ → Type 0
 IsDegreeWith x e m = (v : ℕ) → IsCrystallographic v → e + 2 * x.sides ≡ x.sides * (12 / v) → m ≡ v * x.turns
 
 -- its part is the share, beyond the least
-pub part_of_degree : (a : Assignment) (e m : ℕ) → IsAssignment a → told a < 2 * a.table.size → HasBranching (next_place a).sides e → IsDegreeWith (next_place a) e m → twelfths (next_place a) m ≡ e + 2 * (next_place a).sides
+pub part_of_degree : (a : Assigned) (e m : ℕ) → IsAssignment a → told a < 2 * a.table.size → HasBranching (next_place a).sides e → IsDegreeWith (next_place a) e m → twelfths (next_place a) m ≡ e + 2 * (next_place a).sides
 part_of_degree a e m is room has with =
     ap (twelfths (next_place a)) (with has.value has.crystallographic has.beyond) ∙ part_of_value a has.value is room ∙ sym has.beyond
 
 -- the budget that is left
-pub budget_more : (a b : Assignment) (m left e : ℕ) → IsAssignment a → told a < 2 * a.table.size → HasBudget a left → twelfths (next_place a) m ≡ e + 2 * (next_place a).sides → HasEntered a m b → e ≤ left → HasBudget b (left - e)
+pub budget_more : (a b : Assigned) (m left e : ℕ) → IsAssignment a → told a < 2 * a.table.size → HasBudget a left → twelfths (next_place a) m ≡ e + 2 * (next_place a).sides → HasEntered a m b → e ≤ left → HasBudget b (left - e)
 budget_more a b m left e is room budget part entered fits =
-    let size = ap (λ (x : Assignment). x.table.size) entered.back in
+    let size = ap (λ (x : Assigned). x.table.size) entered.back in
     let spends = entered.spent in
     let least = entered.least in
     let before = least_after a is room in
@@ -282,17 +285,17 @@ budget_more a b m left e is room budget part entered fits =
 -- ## What no member has
 
 -- a member under an assignment spends the budget
-pub record Spends (a : Assignment) (s : Symbol) : Type 0 where
+pub record Spends (a : Assigned) (s : Symbol) : Type 0 where
   pub chosen : AllAreChosen a.request a.table s a.places.items
   pub upto : spent a.places.items (degree_at s) 0 (told a) ≡ spent_by a
   pub most : (k : ℕ) → k ≤ 2 * a.table.size → 6 * a.table.size ≤ spent a.places.items (degree_at s) 0 k + get_or a.budgets.most k 0
   pub least : (k : ℕ) → k ≤ 2 * a.table.size → spent a.places.items (degree_at s) 0 k + get_or a.budgets.least k 0 ≤ 6 * a.table.size
   pub surplus : (k e p : ℕ) → k ≤ 2 * a.table.size → spent a.places.items (degree_at s) 0 k + get_or a.budgets.least k 0 + e ≡ 6 * a.table.size → p + e ≡ 63 → bit_at (get_or a.budgets.surplus k 0) p ≡ 1
 
-pub spends : (a : Assignment) → IsAssignment a → (s : Symbol) → IsMemberUnder a (prefix_of a) s → Spends a s
+pub spends : (a : Assigned) → IsAssignment a → (s : Symbol) → IsMemberUnder a (prefix_of a) s → Spends a s
 spends a is s under =
     let places = a.places.items in
-    let same = same_of_under a is s under in
+    let same = same_of_under a is.table.symbol.table s under in
     let wanted = under.wanted.wanted in
     let all = wanted_chosen a.request a.table s places is.places wanted same in
     let bounded = all_bounded a.request a.table s places is.places same all in
@@ -308,7 +311,7 @@ spends a is s under =
     }
 
 -- the next degree of a member is a choice
-pub next_choice : (a : Assignment) → IsAssignment a → told a < 2 * a.table.size → (s : Symbol) → IsMemberUnder a (prefix_of a) s → (P : Type 0)
+pub next_choice : (a : Assigned) → IsAssignment a → told a < 2 * a.table.size → (s : Symbol) → IsMemberUnder a (prefix_of a) s → (P : Type 0)
     → (told a < a.table.size → IsChoice a.request.faces (next_place a).turns (next_number (prefix_of a) s) → P)
     → (a.table.size ≤ told a → IsChoice a.request.degrees (next_place a).turns (next_number (prefix_of a) s) → P) → P
 next_choice a is room s under P tile vertex =
@@ -321,13 +324,13 @@ next_choice a is room s under P tile vertex =
     (cases_lt (told a) a.table.size)
 
 -- the later degrees may have what is left of the budget
-pub record MeetsBudget (a : Assignment) (n : ℕ) : Type 0 where
+pub record MeetsBudget (a : Assigned) (n : ℕ) : Type 0 where
   pub enough : 6 * a.table.size ≤ n + get_or a.budgets.most (told a + 1) 0
   pub room : n + get_or a.budgets.least (told a + 1) 0 ≤ 6 * a.table.size
   pub surplus : (e p : ℕ) → n + get_or a.budgets.least (told a + 1) 0 + e ≡ 6 * a.table.size → p + e ≡ 63 → bit_at (get_or a.budgets.surplus (told a + 1) 0) p ≡ 1
 
 -- with the branching value of a member it is so
-pub budget_of_member : (a : Assignment) (v n : ℕ) → IsAssignment a → told a < 2 * a.table.size → n ≡ spent_by a + (next_place a).sides * (12 / v) → (s : Symbol) → IsMemberUnder a (prefix_of a) s → next_number (prefix_of a) s ≡ v * (next_place a).turns
+pub budget_of_member : (a : Assigned) (v n : ℕ) → IsAssignment a → told a < 2 * a.table.size → n ≡ spent_by a + (next_place a).sides * (12 / v) → (s : Symbol) → IsMemberUnder a (prefix_of a) s → next_number (prefix_of a) s ≡ v * (next_place a).turns
     → MeetsBudget a n
 budget_of_member a v n is room so_far s under next =
     let has = spends a is s under in
@@ -357,27 +360,27 @@ same_value set r v m some c is = cancel c.value v r some (sym c.product ∙ is)
 
 -- ## Shares
 
-pub degree_small : (a : Assignment) (v : ℕ) → IsAssignment a → told a < 2 * a.table.size → v ≤ 6 → v * (next_place a).turns ≤ 216
+pub degree_small : (a : Assigned) (v : ℕ) → IsAssignment a → told a < 2 * a.table.size → v ≤ 6 → v * (next_place a).turns ≤ 216
 degree_small a v is room high =
     let few = (sound_next a is (told a) no_place room).few in
     let up : v * (next_place a).turns ≤ 6 * (next_place a).turns = mul-le-mul_right (next_place a).turns high in
     omega (arith, up, few)
 
 -- the shares of the next place
-pub some_sides : (a : Assignment) → IsAssignment a → told a < 2 * a.table.size → IsAtRoot a → 1 ≤ (next_place a).sides
+pub some_sides : (a : Assigned) → IsAssignment a → told a < 2 * a.table.size → IsAtRoot a → 1 ≤ (next_place a).sides
 some_sides a is room root = (sound_next a is (told a) no_place room).leads (root room)
 
-pub tile_shares : (a : Assignment) → IsAssignment a → told a < a.table.size → 1 ≤ (next_place a).sides → HasShares a.request.faces (next_place a).turns (next_place a).sides (next_place a).shares
+pub tile_shares : (a : Assigned) → IsAssignment a → told a < a.table.size → 1 ≤ (next_place a).sides → HasShares a.request.faces (next_place a).turns (next_place a).sides (next_place a).shares
 tile_shares a is low = (is.places.tiles (told a) no_place low).shares
 
-pub vertex_shares : (a : Assignment) → IsAssignment a → told a < 2 * a.table.size → a.table.size ≤ told a → 1 ≤ (next_place a).sides → HasShares a.request.degrees (next_place a).turns (next_place a).sides (next_place a).shares
+pub vertex_shares : (a : Assigned) → IsAssignment a → told a < 2 * a.table.size → a.table.size ≤ told a → 1 ≤ (next_place a).sides → HasShares a.request.degrees (next_place a).turns (next_place a).sides (next_place a).shares
 vertex_shares a is room high =
     let at : a.table.size + (told a - a.table.size) ≡ told a = omega (arith, high) in
     subst (λ j. let x = get_or a.places.items j no_place in 1 ≤ x.sides → HasShares a.request.degrees x.turns x.sides x.shares) at
     (is.places.vertices (told a - a.table.size) no_place (omega (arith, high, room))).shares
 
 -- the share of a member is one of them
-pub share_allowed : (a : Assignment) (v e : ℕ) → IsAssignment a → told a < 2 * a.table.size → IsAtRoot a → (s : Symbol) → IsMemberUnder a (prefix_of a) s → next_number (prefix_of a) s ≡ v * (next_place a).turns
+pub share_allowed : (a : Assigned) (v e : ℕ) → IsAssignment a → told a < 2 * a.table.size → IsAtRoot a → (s : Symbol) → IsMemberUnder a (prefix_of a) s → next_number (prefix_of a) s ≡ v * (next_place a).turns
     → e + 2 * (next_place a).sides ≡ (next_place a).sides * (12 / v) → bit_at (next_place a).shares e ≡ 1
 share_allowed a v e is room root s under next beyond =
     let x = next_place a in
@@ -389,19 +392,19 @@ share_allowed a v e is room root s under next beyond =
     (λ high c. share_told a.request.degrees x.turns x.sides x.shares m e (vertex_shares a is room high sides) c (beyond ∙ ap (λ w. x.sides * (12 / w)) (sym (same_value a.request.degrees x.turns v m some c next))))
 
 -- each of them has a branching value
-pub branching_of : (a : Assignment) (e : ℕ) → IsAssignment a → told a < 2 * a.table.size → IsAtRoot a → bit_at (next_place a).shares e ≡ 1 → HasBranching (next_place a).sides e
+pub branching_of : (a : Assigned) (e : ℕ) → IsAssignment a → told a < 2 * a.table.size → IsAtRoot a → bit_at (next_place a).shares e ≡ 1 → HasBranching (next_place a).sides e
 branching_of a e is room root told_ =
     let sides = some_sides a is room root in
     ⊎_elim (λ low. ((tile_shares a is low sides).told e told_).branching) (λ high. ((vertex_shares a is room high sides).told e told_).branching) (cases_lt (told a) a.table.size)
 
 -- and its degree is a choice
-pub tile_choice : (a : Assignment) (e m : ℕ) → IsAssignment a → told a < 2 * a.table.size → IsAtRoot a → bit_at (next_place a).shares e ≡ 1 → IsDegreeWith (next_place a) e m → told a < a.table.size → IsChoice a.request.faces (next_place a).turns m
+pub tile_choice : (a : Assigned) (e m : ℕ) → IsAssignment a → told a < 2 * a.table.size → IsAtRoot a → bit_at (next_place a).shares e ≡ 1 → IsDegreeWith (next_place a) e m → told a < a.table.size → IsChoice a.request.faces (next_place a).turns m
 tile_choice a e m is room root told_ with low =
     let share = (tile_shares a is low (some_sides a is room root)).told e told_ in
     let has = share.branching in
     subst (IsChoice a.request.faces (next_place a).turns) (sym (with has.value has.crystallographic has.beyond)) (choice_told a.request.faces (next_place a).turns (next_place a).sides e share)
 
-pub vertex_choice : (a : Assignment) (e m : ℕ) → IsAssignment a → told a < 2 * a.table.size → IsAtRoot a → bit_at (next_place a).shares e ≡ 1 → IsDegreeWith (next_place a) e m → a.table.size ≤ told a → IsChoice a.request.degrees (next_place a).turns m
+pub vertex_choice : (a : Assigned) (e m : ℕ) → IsAssignment a → told a < 2 * a.table.size → IsAtRoot a → bit_at (next_place a).shares e ≡ 1 → IsDegreeWith (next_place a) e m → a.table.size ≤ told a → IsChoice a.request.degrees (next_place a).turns m
 vertex_choice a e m is room root told_ with high =
     let share = (vertex_shares a is room high (some_sides a is room root)).told e told_ in
     let has = share.branching in
@@ -410,19 +413,19 @@ vertex_choice a e m is room root told_ with high =
 -- ## The next degree of a member
 
 -- what the next degree of a member is
-pub record IsNext (a : Assignment) (m : ℕ) : Type 0 where
+pub record IsNext (a : Assigned) (m : ℕ) : Type 0 where
   pub value : ℕ
   pub is_value : IsValue value
   pub product : m ≡ value * (next_place a).turns
 
-pub next_value : (a : Assignment) → IsAssignment a → told a < 2 * a.table.size → (s : Symbol) → IsMemberUnder a (prefix_of a) s → IsNext a (next_number (prefix_of a) s)
+pub next_value : (a : Assigned) → IsAssignment a → told a < 2 * a.table.size → (s : Symbol) → IsMemberUnder a (prefix_of a) s → IsNext a (next_number (prefix_of a) s)
 next_value a is room s under =
     next_choice a is room s under (IsNext a (next_number (prefix_of a) s))
     (λ low c. record { value = c.value; is_value = value_of c.value c.crystallographic; product = c.product })
     (λ high c. record { value = c.value; is_value = value_of c.value c.crystallographic; product = c.product })
 
 -- what was found after a degree was told
-pub found_entered : (a b : Assignment) (m : ℕ) → HasEntered a m b → (old new : List Symbol) → Appends (AreUnder (IsMember b.request) b.table.size (prefix_of b)) old new → Appends (AreUnder (IsMember a.request) a.table.size (prefix_of a ++ m ∷ [])) old new
+pub found_entered : (a b : Assigned) (m : ℕ) → HasEntered a m b → (old new : List Symbol) → Appends (AreUnder (IsMember b.request) b.table.size (prefix_of b)) old new → Appends (AreUnder (IsMember a.request) a.table.size (prefix_of a ++ m ∷ [])) old new
 found_entered a b m entered old new more = record {
   list = more.list;
   grown = more.grown;

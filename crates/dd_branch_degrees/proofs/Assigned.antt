@@ -8,8 +8,7 @@ use Rattle.dd_model.proofs.Ascending.{begins_at, begins_append, begins_through}
 use Rattle.dd_model.proofs.Codes.{length-code, length-flat_images}
 use Rattle.dd_front_jobs.specs.Under.{next_number}
 use Rattle.dd_branch_tables.proofs.TableFronts.{front_same, begins_with_take}
-use Rattle.dd_branch_degrees.specs.Assignment.{IsAssignment, IsMemberUnder, degree_at, prefix_of, told}
-use Rattle.dd_branch_degrees.specs.declared.assignment.Assignment.{Assignment}
+use Rattle.dd_branch_degrees.specs.Assignment.{Assigned, IsAssignment, IsMemberUnder, degree_at, prefix_of, told}
 
 -- the degrees come after the images
 code_degree : (s : Symbol) (n j : ℕ) → s.size ≡ n → get_or (code s) (3 * n + j) 0 ≡ degree_at s j
@@ -23,11 +22,11 @@ code_degree s n j size =
 pub length-front : (t : Symbol) → IsTable t → length (take (3 * t.size) (code t)) ≡ 3 * t.size
 length-front t is = let whole = length-code t is in length-take-le (3 * t.size) (code t) (omega (arith, whole))
 
-pub length-prefix : (a : Assignment) → IsAssignment a → length (prefix_of a) ≡ 3 * a.table.size + told a
+pub length-prefix : (a : Assigned) → IsAssignment a → length (prefix_of a) ≡ 3 * a.table.size + told a
 length-prefix a is = length-append (take (3 * a.table.size) (code a.table)) a.degrees.items ∙ ap (λ n. n + told a) (length-front a.table is.table.symbol.table)
 
 -- a degree that is told
-pub told_degree : (a : Assignment) → IsAssignment a → (s : Symbol) → IsMemberUnder a (prefix_of a) s → (j : ℕ) → j < told a → degree_at s j ≡ get_or a.degrees.items j 0
+pub told_degree : (a : Assigned) → IsAssignment a → (s : Symbol) → IsMemberUnder a (prefix_of a) s → (j : ℕ) → j < told a → degree_at s j ≡ get_or a.degrees.items j 0
 told_degree a is s under j low =
     let n = a.table.size in
     let long = length-prefix a is in
@@ -37,14 +36,13 @@ told_degree a is s under j low =
     ∙ ap (λ k. get_or a.degrees.items k 0) back
 
 -- and the next one
-pub next_degree : (a : Assignment) → IsAssignment a → (s : Symbol) → IsMemberUnder a (prefix_of a) s → next_number (prefix_of a) s ≡ degree_at s (told a)
+pub next_degree : (a : Assigned) → IsAssignment a → (s : Symbol) → IsMemberUnder a (prefix_of a) s → next_number (prefix_of a) s ≡ degree_at s (told a)
 next_degree a is s under = ap (λ k. get_or (code s) k 0) (length-prefix a is) ∙ code_degree s a.table.size (told a) under.size
 
 -- each member under an assignment has the involutions of its table
-pub same_of_under : (a : Assignment) → IsAssignment a → (s : Symbol) → IsMemberUnder a (prefix_of a) s → HaveSameInvolutions a.table s
-same_of_under a is s under =
+pub same_of_under : (a : Assigned) → IsTable a.table → (s : Symbol) → IsMemberUnder a (prefix_of a) s → HaveSameInvolutions a.table s
+same_of_under a table s under =
     let t = a.table in
-    let table = is.table.symbol.table in
     let front = take (3 * t.size) (code t) in
     let whole = length-code t table in
     front_same s t front under.orderly.table table under.size (length-front t table) (begins_with_take (3 * t.size) (code t) (omega (arith, whole)))

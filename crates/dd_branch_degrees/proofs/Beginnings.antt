@@ -23,12 +23,11 @@ use Rattle.dd_branch_tables.proofs.TiedTables.{table_of_least}
 use Rattle.dd_model.proofs.SameInvolutions.{same-sym}
 use Rattle.dd_branch_tables.proofs.TableFronts.{front_begins, begins_with_take}
 use Rattle.dd_branch_degrees.specs.Automorphism.{AreAutomorphisms}
-use Rattle.dd_branch_degrees.specs.Assignment.{HasLimits, IsAssignment, IsAtRoot, IsMemberUnder, prefix_of, told}
+use Rattle.dd_branch_degrees.specs.Assignment.{Assigned, HasLimits, IsAssignment, IsAtRoot, IsMemberUnder, prefix_of, told}
 use Rattle.dd_branch_degrees.specs.Budget.{no_place}
 use Rattle.dd_branch_degrees.specs.Members.{AreMembersWith}
 use Rattle.dd_branch_degrees.specs.Place.{ArePlaces, HasPlaces, IsPlaceOf}
 use Rattle.dd_branch_degrees.specs.LaterBudgets.{AreLaterBudgets}
-use Rattle.dd_branch_degrees.specs.declared.assignment.Assignment.{Assignment}
 use Rattle.dd_branch_degrees.specs.declared.places.DegreeSlot.{DegreeSlot}
 use Rattle.dd_branch_degrees.proofs.Advancing.{sound_next}
 use Rattle.dd_branch_degrees.proofs.Assigned.{length-front, same_of_under}
@@ -62,7 +61,7 @@ both_places q t none mid new empty tiles vertices =
 
 -- ## The beginning
 
-pub begun : (a : Assignment) → IsBareTable a.table → HasLimits a.request a.table → AreTies a.table a.ties.starts.items → IfSome a.ties.automorphisms (λ all. AreAutomorphisms a.table a.ties.starts.items all.items) → ArePlaces a.request a.table a.places.items → AreLaterBudgets a.places.items a.budgets → a.degrees.items ≡ [] → IsAssignment a
+pub begun : (a : Assigned) → IsBareTable a.table → HasLimits a.request a.table → AreTies a.table a.ties.starts.items → IfSome a.ties.automorphisms (λ all. AreAutomorphisms a.table a.ties.starts.items all.items) → ArePlaces a.request a.table a.places.items → AreLaterBudgets a.places.items a.budgets → a.degrees.items ≡ [] → IsAssignment a
 begun a table limits ties automorphisms places budgets empty =
     let none : told a ≡ 0 = ap length empty in
     record {
@@ -77,7 +76,7 @@ begun a table limits ties automorphisms places budgets empty =
     }
 
 -- the first degree is that of the least chamber of a cell
-pub at_root_first : (a : Assignment) → IsAssignment a → a.degrees.items ≡ [] → IsAtRoot a
+pub at_root_first : (a : Assigned) → IsAssignment a → a.degrees.items ≡ [] → IsAtRoot a
 at_root_first a is empty room =
     let none : told a ≡ 0 = ap length empty in
     let earlier = (sound_next a is (told a) no_place room).earlier in
@@ -86,16 +85,16 @@ at_root_first a is empty room =
 -- ## The end
 
 -- What is under the images of a table are the members with its involutions.
-pub members_with : (q : Request) (t : Symbol) (a : Assignment) → IsAssignment a → a.request ≡ q → a.table ≡ t → a.degrees.items ≡ [] → (old new : List Symbol) → Appends (AreUnder (IsMember a.request) a.table.size (prefix_of a)) old new
+pub members_with : (q : Request) (t : Symbol) (a : Assigned) → IsBareTable a.table → a.request ≡ q → a.table ≡ t → a.degrees.items ≡ [] → (old new : List Symbol) → Appends (AreUnder (IsMember a.request) a.table.size (prefix_of a)) old new
     → Appends (AreMembersWith q t) old new
-members_with q t a is request table empty old new more =
+members_with q t a bare request table empty old new more =
     subst (λ r. Appends (AreMembersWith r t) old new) request (subst (λ u. Appends (AreMembersWith a.request u) old new) table (record {
       list = more.list;
       grown = more.grown;
       holds = record {
         ascending = more.holds.ascending;
         members = λ s. (
-          (λ there. let under = (more.holds.members s).0 there in (under.wanted, same_of_under a is s under)),
+          (λ there. let under = (more.holds.members s).0 there in (under.wanted, same_of_under a bare.symbol.table s under)),
           (λ both. (more.holds.members s).1 (under_of s both.0 both.1)),
         );
       };
@@ -107,15 +106,14 @@ members_with q t a is request table empty old new more =
     under_of : (s : Symbol) → IsMember a.request s → HaveSameInvolutions a.table s → IsMemberUnder a (prefix_of a) s
     under_of s member same =
         let orderly = member_orderly a.request s member in
-        let bare = is.table.symbol.table in
-        let whole = length-code a.table bare in
+        let whole = length-code a.table bare.symbol.table in
         let only : prefix_of a ≡ front = ap (λ xs. front ++ xs) empty ∙ append-nil front in
         record {
           wanted = member;
           orderly = orderly;
           size = same.size;
           begins = subst (λ xs. Begins xs (code s)) (sym only)
-              (front_begins s a.table front orderly.table (length-front a.table bare) (begins_with_take (3 * a.table.size) (code a.table) (omega (arith, whole))) same);
+              (front_begins s a.table front orderly.table (length-front a.table bare.symbol.table) (begins_with_take (3 * a.table.size) (code a.table) (omega (arith, whole))) same);
         }
 
 -- where a table has not the limits there is no member

@@ -14,19 +14,18 @@ use Rattle.dd_model.proofs.LowestBits.{dropped_other, lowest_bit}
 use Rattle.dd_branch_tables.proofs.Prefixes.{appends_all, appends_first, appends_next, extended, shortened as prefix_shortened}
 use Rattle.dd_branch_degrees.specs.Budget.{no_place}
 use Rattle.dd_branch_degrees.specs.Choice.{HasBranching}
-use Rattle.dd_branch_degrees.specs.Assignment.{IsAssignment, IsAtRoot, IsMemberUnder, next_place, prefix_of, shortened, told}
+use Rattle.dd_branch_degrees.specs.Assignment.{Assigned, IsAssignment, IsAtRoot, IsMemberUnder, next_place, prefix_of, shortened, told}
 use Rattle.dd_branch_degrees.specs.Entered.{AreFitting, HasBudget, HasEntered, HasTold}
-use Rattle.dd_branch_degrees.specs.declared.assignment.Assignment.{Assignment}
 use Rattle.dd_branch_degrees.proofs.Advancing.{IsDegreeWith, IsNext, branching_of, degree_small, next_value, some_sides, sound_next, spends, with_list}
 use Rattle.dd_branch_degrees.proofs.Assigned.{length-prefix}
 use Rattle.dd_branch_degrees.proofs.Bits.{highest_set, none_from_highest, none_higher, without_highest}
 use Rattle.dd_branch_degrees.proofs.Choices.{is_crystallographic, part_falls, share_exists, value_of}
 
 -- what a loop over them tests
-pub room_below : (a : Assignment) (own whole : ℕ) → IsAssignment a → own < whole → own ≡ told a → whole ≡ length a.places.items → told a < 2 * a.table.size
+pub room_below : (a : Assigned) (own whole : ℕ) → IsAssignment a → own < whole → own ≡ told a → whole ≡ length a.places.items → told a < 2 * a.table.size
 room_below a own whole is test mine all = let count = is.places.count in omega (arith, count, test, mine, all)
 
-pub whole_here : (a : Assignment) (own whole : ℕ) → IsAssignment a → whole ≤ own → own ≡ told a → whole ≡ length a.places.items → told a ≡ 2 * a.table.size
+pub whole_here : (a : Assigned) (own whole : ℕ) → IsAssignment a → whole ≤ own → own ≡ told a → whole ≡ length a.places.items → told a ≡ 2 * a.table.size
 whole_here a own whole is test mine all = let short = is.short in let count = is.places.count in omega (arith, short, count, test, mine, all)
 
 -- ## Parts
@@ -47,17 +46,17 @@ times_smaller sides a b some up = let more : sides * (a + 1) ≤ sides * b = mul
 -- ## The one share that fits
 
 -- a share of the next place, and no more than is left
-pub record IsFitting (a : Assignment) (left e : ℕ) : Type 0 where
+pub record IsFitting (a : Assigned) (left e : ℕ) : Type 0 where
   pub told_ : bit_at (next_place a).shares e ≡ 1
   pub branching : HasBranching (next_place a).sides e
   pub fits : e ≤ left
 
-pub share_fits : (a : Assignment) (left fitting e : ℕ) → IsAssignment a → told a < 2 * a.table.size → IsAtRoot a → AreFitting a left fitting → bit_at fitting e ≡ 1 → IsFitting a left e
+pub share_fits : (a : Assigned) (left fitting e : ℕ) → IsAssignment a → told a < 2 * a.table.size → IsAtRoot a → AreFitting a left fitting → bit_at fitting e ≡ 1 → IsFitting a left e
 share_fits a left fitting e is room root are there =
     let within = are.within e there in
     record { told_ = within.0; branching = branching_of a e is room root within.0; fits = within.1 }
 
-pub first_fits : (a : Assignment) (left fitting : ℕ) → IsAssignment a → told a < 2 * a.table.size → IsAtRoot a → AreFitting a left fitting → fitting ≢ 0 → fitting < 2 ^ 64 → IsFitting a left (trailing_zeros w64 fitting)
+pub first_fits : (a : Assigned) (left fitting : ℕ) → IsAssignment a → told a < 2 * a.table.size → IsAtRoot a → AreFitting a left fitting → fitting ≢ 0 → fitting < 2 ^ 64 → IsFitting a left (trailing_zeros w64 fitting)
 first_fits a left fitting is room root are some wide = share_fits a left fitting (trailing_zeros w64 fitting) is room root are (lowest_bit fitting (omega (arith, some)) wide).set_
 
 -- a number without a second bit
@@ -69,7 +68,7 @@ single_bit n some wide none i there =
     omega (arith, gone, there))) (cases_eq i k)
 
 -- each member has it
-pub only_share : (a : Assignment) (left fitting e m : ℕ) → IsAssignment a → told a < 2 * a.table.size → AreFitting a left fitting → ((i : ℕ) → bit_at fitting i ≡ 1 → i ≡ e) → IsDegreeWith (next_place a) e m
+pub only_share : (a : Assigned) (left fitting e m : ℕ) → IsAssignment a → told a < 2 * a.table.size → AreFitting a left fitting → ((i : ℕ) → bit_at fitting i ≡ 1 → i ≡ e) → IsDegreeWith (next_place a) e m
     → (s : Symbol) → IsMemberUnder a (prefix_of a) s → next_number (prefix_of a) s ≡ m
 only_share a left fitting e m is room are single with s under =
     let x = next_place a in
@@ -84,7 +83,7 @@ only_share a left fitting e m is room are single with s under =
 
 -- ## One cell after another
 
-pub told_more : (a b c : Assignment) (m : ℕ) → IsAssignment b → told b < 2 * b.table.size → HasTold a b → HasEntered b m c
+pub told_more : (a b c : Assigned) (m : ℕ) → IsAssignment b → told b < 2 * b.table.size → HasTold a b → HasEntered b m c
     → ((s : Symbol) → IsMemberUnder b (prefix_of b) s → next_number (prefix_of b) s ≡ m) → HasTold a c
 told_more a b c m is room old entered next =
     let longer = old.longer in
@@ -93,8 +92,8 @@ told_more a b c m is room old entered next =
     record {
       back =
           let once : take (told a) c.degrees.items ≡ take (told a) b.degrees.items =
-          sym (take-take (told a) (told b) c.degrees.items longer) ∙ ap (λ (x : Assignment). take (told a) x.degrees.items) entered.back in
-          ap (with_list c) once ∙ ap (λ (x : Assignment). with_list x (take (told a) b.degrees.items)) entered.back ∙ old.back;
+          sym (take-take (told a) (told b) c.degrees.items longer) ∙ ap (λ (x : Assigned). take (told a) x.degrees.items) entered.back in
+          ap (with_list c) once ∙ ap (λ (x : Assigned). with_list x (take (told a) b.degrees.items)) entered.back ∙ old.back;
       longer = omega (arith, longer, more);
       under = λ s. (
         (λ u.
@@ -106,11 +105,11 @@ told_more a b c m is room old entered next =
 
 -- ## The end
 
-least_at_end : (a : Assignment) → IsAssignment a → told a ≡ 2 * a.table.size → get_or a.budgets.least (told a) 0 ≡ 0
+least_at_end : (a : Assigned) → IsAssignment a → told a ≡ 2 * a.table.size → get_or a.budgets.least (told a) 0 ≡ 0
 least_at_end a is whole = let count = is.places.count in ap (λ j. get_or a.budgets.least j 0) (whole ∙ sym count) ∙ is.budgets.no_least
 
 -- where all degrees are told and something is left, there is no member
-pub none_at_end : (a : Assignment) (left : ℕ) → IsAssignment a → told a ≡ 2 * a.table.size → HasBudget a left → (left ≡ 0 → ⊥) → (s : Symbol) → IsMemberUnder a (prefix_of a) s → ⊥
+pub none_at_end : (a : Assigned) (left : ℕ) → IsAssignment a → told a ≡ 2 * a.table.size → HasBudget a left → (left ≡ 0 → ⊥) → (s : Symbol) → IsMemberUnder a (prefix_of a) s → ⊥
 none_at_end a left is whole budget some s under =
     let has = spends a is s under in
     let count = is.places.count in
@@ -121,7 +120,7 @@ none_at_end a left is whole budget some s under =
     some (omega (arith, most, none, upto, least, budget))
 
 -- what was found then
-pub found_told : (a b : Assignment) → HasTold a b → (old new : List Symbol) → Appends (AreUnder (IsMember b.request) b.table.size (prefix_of b)) old new → Appends (AreUnder (IsMember a.request) a.table.size (prefix_of a)) old new
+pub found_told : (a b : Assigned) → HasTold a b → (old new : List Symbol) → Appends (AreUnder (IsMember b.request) b.table.size (prefix_of b)) old new → Appends (AreUnder (IsMember a.request) a.table.size (prefix_of a)) old new
 found_told a b has old new more = record {
   list = more.list;
   grown = more.grown;
@@ -137,22 +136,22 @@ found_told a b has old new more = record {
 -- ## From a degree to the end
 
 -- back from what was told after a degree
-pub back_through : (a b c : Assignment) (m : ℕ) → HasEntered a m b → HasTold b c → shortened c (told a) ≡ a
+pub back_through : (a b c : Assigned) (m : ℕ) → HasEntered a m b → HasTold b c → shortened c (told a) ≡ a
 back_through a b c m entered has =
     let longer = entered.longer in
     let once : take (told a) c.degrees.items ≡ take (told a) b.degrees.items =
-    sym (take-take (told a) (told b) c.degrees.items (omega (arith, longer))) ∙ ap (λ (x : Assignment). take (told a) x.degrees.items) has.back in
-    ap (with_list c) once ∙ ap (λ (x : Assignment). with_list x (take (told a) b.degrees.items)) has.back ∙ entered.back
+    sym (take-take (told a) (told b) c.degrees.items (omega (arith, longer))) ∙ ap (λ (x : Assigned). take (told a) x.degrees.items) has.back in
+    ap (with_list c) once ∙ ap (λ (x : Assigned). with_list x (take (told a) b.degrees.items)) has.back ∙ entered.back
 
 -- What was found of the members under a prefix is what comes before a number: none of it has a share that is left.
-pub record HasTried (a : Assignment) (rest : ℕ) (old new : List Symbol) : Type 0 where
+pub record HasTried (a : Assigned) (rest : ℕ) (old new : List Symbol) : Type 0 where
   pub bound : ℕ
   pub found : Appends (AreUnderBefore (IsMember a.request) a.table.size (prefix_of a) bound) old new
   pub later : (v e : ℕ) → bit_at rest e ≡ 1 → IsCrystallographic v → e + 2 * (next_place a).sides ≡ (next_place a).sides * (12 / v) → bound ≤ v * (next_place a).turns
   pub others : (s : Symbol) → IsMemberUnder a (prefix_of a) s → (v e : ℕ) → next_number (prefix_of a) s ≡ v * (next_place a).turns → IsCrystallographic v → e + 2 * (next_place a).sides ≡ (next_place a).sides * (12 / v) → bit_at rest e ≡ 0
       → next_number (prefix_of a) s < bound
 
-pub none_tried : (a : Assignment) (left fitting : ℕ) → AreFitting a left fitting → (old : List Symbol) → HasTried a fitting old old
+pub none_tried : (a : Assigned) (left fitting : ℕ) → AreFitting a left fitting → (old : List Symbol) → HasTried a fitting old old
 none_tried a left fitting are old = record {
   bound = 0;
   found = appends_first (IsMember a.request) a.table.size (prefix_of a) old;
@@ -169,7 +168,7 @@ smaller_value sides v w e k some cv cw is other low = ⊎_elim
     (λ high. high)
     (cases_lt w v)
 
-pub all_tried : (a : Assignment) (rest : ℕ) → IsAssignment a → told a < 2 * a.table.size → rest ≡ 0 → (old new : List Symbol) → HasTried a rest old new → Appends (AreUnder (IsMember a.request) a.table.size (prefix_of a)) old new
+pub all_tried : (a : Assigned) (rest : ℕ) → IsAssignment a → told a < 2 * a.table.size → rest ≡ 0 → (old new : List Symbol) → HasTried a rest old new → Appends (AreUnder (IsMember a.request) a.table.size (prefix_of a)) old new
 all_tried a rest is room none old new has =
     appends_all (IsMember a.request) a.table.size (prefix_of a) has.bound old new
     (λ s under.
@@ -181,7 +180,7 @@ all_tried a rest is room none old new has =
     has.found
 
 -- what is found with the greatest share that is left
-pub share_tried : (a : Assignment) (rest k m : ℕ) → IsAssignment a → told a < 2 * a.table.size → IsAtRoot a → 2 ^ k ≤ rest → rest < 2 * 2 ^ k → (has : HasBranching (next_place a).sides k) → m ≡ has.value * (next_place a).turns
+pub share_tried : (a : Assigned) (rest k m : ℕ) → IsAssignment a → told a < 2 * a.table.size → IsAtRoot a → 2 ^ k ≤ rest → rest < 2 * 2 ^ k → (has : HasBranching (next_place a).sides k) → m ≡ has.value * (next_place a).turns
     → (old mid new : List Symbol) → HasTried a rest old mid → Appends (AreUnder (IsMember a.request) a.table.size (prefix_of a ++ m ∷ [])) mid new → HasTried a (rest - 2 ^ k) old new
 share_tried a rest k m is room root low high has at old mid new tried found =
     let x = next_place a in

@@ -20,22 +20,21 @@ use Rattle.dd_symbol.proofs.TableLemmas.{with_same}
 use Rattle.dd_canon.specs.Ties.{IsLeastFrom}
 use Rattle.dd_branch_tables.proofs.TiedTables.{least_of_ties}
 use Rattle.dd_branch_tables.proofs.Follows.{member_orderly}
-use Rattle.dd_branch_degrees.specs.Assignment.{IsAssignment, IsMemberUnder, degree_at, prefix_of, spent_by, told}
+use Rattle.dd_branch_degrees.specs.Assignment.{Assigned, IsAssignment, IsMemberUnder, degree_at, prefix_of, spent_by, told}
 use Rattle.dd_branch_degrees.specs.Budget.{no_place, spent}
-use Rattle.dd_branch_degrees.specs.declared.assignment.Assignment.{Assignment}
 use Rattle.dd_branch_degrees.proofs.Assigned.{same_of_under, told_degree}
 use Rattle.dd_branch_degrees.proofs.Budgets.{flat_if_spent}
 use Rattle.dd_branch_degrees.proofs.Chosen.{AreDegrees, ArePlacesOf, AreToldOf, choice_everywhere, small_of_degrees, tile_at, tile_place, vertex_at, vertex_place, wanted_of_degrees}
 
 -- the symbol
-abbrev pub leaf : Assignment → Symbol
+abbrev pub leaf : Assigned → Symbol
 leaf a = with_degrees a.table (take a.table.size a.degrees.items) (drop a.table.size a.degrees.items)
 
 -- the degrees, one list after the other
-degrees_are : (a : Assignment) → (leaf a).m01 ++ (leaf a).m12 ≡ a.degrees.items
+degrees_are : (a : Assigned) → (leaf a).m01 ++ (leaf a).m12 ≡ a.degrees.items
 degrees_are a = take-append-drop a.table.size a.degrees.items
 
-leaf_table : (a : Assignment) → IsAssignment a → told a ≡ 2 * a.table.size → IsTable (leaf a)
+leaf_table : (a : Assigned) → IsAssignment a → told a ≡ 2 * a.table.size → IsTable (leaf a)
 leaf_table a is whole =
     let table = is.table.symbol.table in
     record {
@@ -46,7 +45,7 @@ leaf_table a is whole =
       involutions = involutions-same a.table (leaf a) (with_same a.table (leaf a).m01 (leaf a).m12) table.involutions;
     }
 
-pub leaf_degrees : (a : Assignment) → IsAssignment a → told a ≡ 2 * a.table.size → AreDegrees a.request a.table (leaf a) a.places.items
+pub leaf_degrees : (a : Assigned) → IsAssignment a → told a ≡ 2 * a.table.size → AreDegrees a.request a.table (leaf a) a.places.items
 leaf_degrees a is whole =
     let n = a.table.size in
     let ds = a.degrees.items in
@@ -85,11 +84,11 @@ leaf_degrees a is whole =
       vertices = vertices;
     }
 
-pub leaf_small : (a : Assignment) → IsAssignment a → told a ≡ 2 * a.table.size → IsSmallSymbol (leaf a)
+pub leaf_small : (a : Assigned) → IsAssignment a → told a ≡ 2 * a.table.size → IsSmallSymbol (leaf a)
 leaf_small a is whole = small_of_degrees a.request a.table (leaf a) a.places.items is.table (leaf_degrees a is whole)
 
 -- the code of the leaf is the whole prefix
-code_of_leaf : (a : Assignment) → IsAssignment a → told a ≡ 2 * a.table.size → code (leaf a) ≡ prefix_of a
+code_of_leaf : (a : Assigned) → IsAssignment a → told a ≡ 2 * a.table.size → code (leaf a) ≡ prefix_of a
 code_of_leaf a is whole =
     let t = a.table in
     let front : take (3 * t.size) (code t) ≡ all_images t =
@@ -97,7 +96,7 @@ code_of_leaf a is whole =
     append_assoc (all_images t) (leaf a).m01 (leaf a).m12 ∙ ap (λ xs. all_images t ++ xs) (degrees_are a) ∙ ap (λ xs. xs ++ a.degrees.items) (sym front)
 
 -- the leaf is the member under the prefix, if it is minimal where that is asked for, and least
-pub leaf_is_member : (a : Assignment) → IsAssignment a → told a ≡ 2 * a.table.size → spent_by a ≡ 6 * a.table.size → (IsTrue a.request.minimal → Minimal (leaf a)) → Least (leaf a) → IsMemberUnder a (prefix_of a) (leaf a)
+pub leaf_is_member : (a : Assigned) → IsAssignment a → told a ≡ 2 * a.table.size → spent_by a ≡ 6 * a.table.size → (IsTrue a.request.minimal → Minimal (leaf a)) → Least (leaf a) → IsMemberUnder a (prefix_of a) (leaf a)
 leaf_is_member a is whole flat minimal least =
     let n = a.table.size in
     let places = a.places.items in
@@ -114,11 +113,11 @@ leaf_is_member a is whole flat minimal least =
     }
 
 -- and there is no other
-pub under_leaf : (a : Assignment) → IsAssignment a → told a ≡ 2 * a.table.size → (s : Symbol) → IsMemberUnder a (prefix_of a) s → s ≡ leaf a
+pub under_leaf : (a : Assigned) → IsAssignment a → told a ≡ 2 * a.table.size → (s : Symbol) → IsMemberUnder a (prefix_of a) s → s ≡ leaf a
 under_leaf a is whole s under =
     let n = a.table.size in
     let ds = a.degrees.items in
-    let same = same_of_under a is s under in
+    let same = same_of_under a is.table.symbol.table s under in
     let table = under.orderly.table in
     let size = under.size in
     let long01 = table.m01_length in
@@ -134,13 +133,14 @@ under_leaf a is whole s under =
     λ i. record { size = same.size i; s0 = same.s0 i; s1 = same.s1 i; s2 = same.s2 i; m01 = m01 i; m12 = m12 i }
 
 -- the symbol of the two parts of the degrees
-pub leaf_is : (a : Assignment) (all m01 m12 : List ℕ) (n : ℕ) → all ≡ a.degrees.items → n ≡ a.table.size → m01 ≡ take n all → m12 ≡ drop n all → with_degrees a.table m01 m12 ≡ leaf a
-leaf_is a all m01 m12 n own size tiles vertices =
+pub leaf_is : {f a : Assigned} (all m01 m12 : List ℕ) (n : ℕ) → f ≡ a → all ≡ f.degrees.items → n ≡ a.table.size → m01 ≡ take n all → m12 ≡ drop n all → with_degrees a.table m01 m12 ≡ leaf a
+leaf_is {a = a} all m01 m12 n same items size tiles vertices =
+    let own = items ∙ ap (λ (x : Assigned). x.degrees.items) same in
     ap (λ xs. with_degrees a.table xs m12) (tiles ∙ ap (take n) own ∙ ap (λ k. take k a.degrees.items) size)
     ∙ ap (with_degrees a.table (take a.table.size a.degrees.items)) (vertices ∙ ap (drop n) own ∙ ap (λ k. drop k a.degrees.items) size)
 
 -- the member under a whole prefix is the only one
-pub appends_leaf : (a : Assignment) → IsAssignment a → told a ≡ 2 * a.table.size → (old new : List Symbol) (c : Symbol) → IsMemberUnder a (prefix_of a) c → new ≡ old ++ c ∷ [] → Appends (AreUnder (IsMember a.request) a.table.size (prefix_of a)) old new
+pub appends_leaf : (a : Assigned) → IsAssignment a → told a ≡ 2 * a.table.size → (old new : List Symbol) (c : Symbol) → IsMemberUnder a (prefix_of a) c → new ≡ old ++ c ∷ [] → Appends (AreUnder (IsMember a.request) a.table.size (prefix_of a)) old new
 appends_leaf a is whole old new c under longer = record {
   list = c ∷ [];
   grown = longer;
@@ -156,7 +156,7 @@ appends_leaf a is whole old new c under longer = record {
 }
 
 -- the leaf is least where no numbering from a tie of the table is smaller
-pub leaf_least : (a : Assignment) → IsAssignment a → told a ≡ 2 * a.table.size → IsLeastFrom (leaf a) a.ties.starts.items → Least (leaf a)
+pub leaf_least : (a : Assigned) → IsAssignment a → told a ≡ 2 * a.table.size → IsLeastFrom (leaf a) a.ties.starts.items → Least (leaf a)
 leaf_least a is whole least =
     let bare = is.table in
     let same = with_same a.table (leaf a).m01 (leaf a).m12 in

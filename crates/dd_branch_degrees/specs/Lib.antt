@@ -3,6 +3,7 @@ pub mod Place
 pub mod Budget
 pub mod LaterBudgets
 pub mod Assignment
+pub mod Kept
 pub mod Entered
 pub mod Members
 pub mod Automorphism

@@ -11,7 +11,7 @@ ghost use Rattle.dd_branch_tables.specs.Table.{IsBareTable};
 ghost use Rattle.dd_front_jobs.specs.Under.{next_number, AreUnder, Appends};
 ghost use Rattle.dd_branch_tables.specs.Growth.{HasGrown};
 ghost use Rattle.dd_branch_degrees.specs.Choice.{IsChoice};
-ghost use Rattle.dd_branch_degrees.specs.Assignment.{HasLast, HasLimits, IsAssignment, IsAtRoot, IsMemberUnder, next_place, prefix_of, spent_by, told};
+ghost use Rattle.dd_branch_degrees.specs.Assignment.{HasLast, HasLimits, IsAtRoot, IsMemberUnder, next_place, prefix_of, spent_by, told};
 ghost use Rattle.dd_branch_degrees.specs.Place.{ArePlaces};
 ghost use Rattle.dd_branch_degrees.specs.Automorphism.{AreAutomorphisms};
 ghost use Rattle.dd_branch_degrees.specs.Entered.{AreFitting, HasBudget, HasEntered, HasForced, HasTold};
@@ -25,6 +25,7 @@ use dd_member_lists::SymbolList;
 use dd_model::{Memory, Request};
 use dd_symbol::Connected;
 use std::alloc::Global;
+use std::marker::Model;
 
 /// A search for the degrees of a table, of which those of the first places are set. A degree is set
 /// at the least chamber of a cell, and at once at the others that follow. All are taken away again
@@ -47,6 +48,18 @@ pub(crate) struct Assignment {
     pub(crate) first: usize,
 }
 
+impl Model for Assignment {
+    ghost use Rattle.dd_branch_degrees.specs.Assignment.{Assigned, IsAssignment};
+
+    ghost Value = { Assigned };
+
+    ghost use Rattle.dd_branch_degrees.specs.Kept.{assigned_of};
+
+    ghost view = { assigned_of };
+
+    ghost invariant = { λ a. IsAssignment (assigned_of a) };
+}
+
 impl Assignment {
     /// The search from a table of which no degree is set.
     pub(crate) fn new(
@@ -63,7 +76,6 @@ impl Assignment {
         requires automorphisms { IfSome ties.automorphisms (λ all.
             AreAutomorphisms table ties.starts.items all.items) }
         requires places { ArePlaces q.now table places.items }
-        ensures ready { IsAssignment result }
         ensures root { IsAtRoot result }
         ensures request { result.request ≡ q.now }
         ensures table { result.table ≡ table }
@@ -91,8 +103,7 @@ impl Assignment {
 
     /// What is known of the next degree.
     pub(crate) fn next_place(&self) -> DegreeSlot
-        requires ready { IsAssignment self.now }
-        requires room { told self.now < 2 * self.now.table.size }
+        requires { told self.now < 2 * self.now.table.size }
         ensures { result ≡ next_place self.now }
     {
         self.places.as_slice()[self.degrees.len()]
@@ -101,14 +112,14 @@ impl Assignment {
     /// Returns what all degrees have to take of the budget beyond their least, if none is set.
     /// Returns None if they cannot spend it.
     pub(crate) fn whole_budget(&self) -> Option<u16>
-        requires ready { IsAssignment self.now }
-        requires none { self.now.degrees.items ≡ [] }
-        ensures { MatchOption result
+        requires { self.now.degrees.items ≡ [] }
+        ensures room { told self.now < 2 * self.now.table.size }
+        ensures left { MatchOption result
             ((s : Tiling) → IsMemberUnder self.now (prefix_of self.now) s → ⊥)
             (λ left. HasBudget self.now left) }
     {
-        let whole = 6 * self.size() as u16;
         let least = self.budgets.least[0];
+        let whole = 6 * self.size() as u16;
         if least > whole || self.budgets.most[0] < whole {
             return None;
         }
@@ -118,7 +129,6 @@ impl Assignment {
     /// What the next degree may have of the budget beyond its least, as bits, where so much is
     /// left: its set allows it, and the later degrees may have the rest.
     pub(crate) fn fitting(&self, left: u16) -> u64
-        requires ready { IsAssignment self.now }
         requires room { told self.now < 2 * self.now.table.size }
         requires root { IsAtRoot self.now }
         requires budget { HasBudget self.now left }
@@ -131,8 +141,6 @@ impl Assignment {
     /// Sets the degrees that follow from those that are set, up to the least chamber of another
     /// cell.
     fn force(&mut self)
-        requires { IsAssignment self.old }
-        ensures ready { IsAssignment self.new }
         ensures root { IsAtRoot self.new }
         ensures forced { HasForced self.old self.new }
     {
@@ -148,14 +156,12 @@ impl Assignment {
 
     /// Sets the degree of the least chamber of a cell, and the degrees that follow.
     pub(crate) fn enter(&mut self, degree: u8)
-        requires ready { IsAssignment self.old }
         requires room { told self.old < 2 * self.old.table.size }
         requires root { IsAtRoot self.old }
         requires tile { told self.old < self.old.table.size
             → IsChoice self.old.request.faces (next_place self.old).turns degree }
         requires vertex { self.old.table.size ≤ told self.old
             → IsChoice self.old.request.degrees (next_place self.old).turns degree }
-        ensures ready { IsAssignment self.new }
         ensures root { IsAtRoot self.new }
         ensures entered { HasEntered self.old degree self.new }
     {
@@ -167,8 +173,7 @@ impl Assignment {
     /// conditions hold: only its leastness and what is asked of minimality are open. Most tables
     /// have no ties, and then no symbol is made.
     fn is_asked(&self, m01: &[u8], m12: &[u8]) -> Result<bool, Memory>
-        requires ready { IsAssignment self.now }
-        requires small { IsSmallSymbol (with_degrees self.now.table m01.now m12.now) }
+        requires { IsSmallSymbol (with_degrees self.now.table m01.now m12.now) }
         ensures { IfOk result (λ yes. IsTrue yes
             ↔ (IsLeastFrom (with_degrees self.now.table m01.now m12.now) self.now.ties.starts.items
             × (IsTrue self.now.request.minimal
@@ -203,7 +208,6 @@ impl Assignment {
 
     /// Adds the member with the degrees that are set, if there is one.
     fn add_member(&self, list: &mut SymbolList) -> Result<(), Memory>
-        requires ready { IsAssignment self.now }
         requires whole { told self.now ≡ 2 * self.now.table.size }
         requires flat { spent_by self.now ≡ 6 * self.now.table.size }
         requires last { HasLast self.now list.old }
@@ -222,10 +226,8 @@ impl Assignment {
     /// Sets degrees as long as exactly one share fits. Returns what is then left of the budget, and
     /// the shares of the next degree that fit, if there is one.
     pub(crate) fn go_down(&mut self, left: u16) -> (u16, u64)
-        requires ready { IsAssignment self.old }
         requires root { IsAtRoot self.old }
         requires budget { HasBudget self.old left }
-        ensures ready { IsAssignment self.new }
         ensures root { IsAtRoot self.new }
         ensures told { HasTold self.old self.new }
         ensures budget { HasBudget self.new result.0 }
@@ -255,7 +257,6 @@ impl Assignment {
         left: u16,
         list: &mut SymbolList,
     ) -> Result<(), Memory>
-        requires ready { IsAssignment self.old }
         requires room { told self.old < 2 * self.old.table.size }
         requires root { IsAtRoot self.old }
         requires budget { HasBudget self.old left }
@@ -288,7 +289,6 @@ impl Assignment {
 
     /// Adds all members with the involutions of the table, of which no degree is set.
     pub(crate) fn add_all(&mut self, list: &mut SymbolList) -> Result<(), Memory>
-        requires ready { IsAssignment self.old }
         requires root { IsAtRoot self.old }
         requires none { self.old.degrees.items ≡ [] }
         requires first { self.old.first ≡ length list.old }

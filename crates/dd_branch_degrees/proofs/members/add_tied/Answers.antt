@@ -1,6 +1,7 @@
 use Rattle.std.proofs.Common.{sym, ◌∙◌, subst}
 use Rattle.std.proofs.lemmas.Result.{on_ok_weaker}
 use Rattle.dd_model.specs.Symbol.{Symbol, IsChamber}
+use Rattle.dd_branch_tables.specs.Table.{IsBareTable}
 use Rattle.dd_branch_degrees.specs.Assignment.{HasLimits}
 use Rattle.dd_branch_degrees.specs.Place.{ArePlaces}
 use Rattle.dd_branch_degrees.proofs.Beginnings.{members_with, none_without_limits}
@@ -21,6 +22,7 @@ of-requires-clause-starts c d there =
 
 pub returns-clause-list : goal.returns-clause-list
 returns-clause-list c =
+    let same = c.new.ensures.table ∙ c.into_symbol-table.ensures.same in
     on_ok_weaker c.add_all.result
-    (members_with c.args.q.now c.args.t c.new.result c.new.ensures.ready c.new.ensures.request (c.new.ensures.table ∙ c.into_symbol-table.ensures.same) c.new.ensures.none c.args.list.now c.add_all.new.list)
+    (members_with c.args.q.now c.args.t c.new.result (subst IsBareTable (sym same) c.into_symbol-table.ensures.table) c.new.ensures.request same c.new.ensures.none c.args.list.now c.add_all.new.list)
     c.add_all.ensures.list
